@@ -1,0 +1,5 @@
+pub mod Keeps
+pub mod Name
+pub mod Path
+pub mod Tree
+pub mod TreeError

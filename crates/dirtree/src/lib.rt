@@ -1,0 +1,12 @@
+//! A tree of named directories under numbers that are never used again.
+#![tactic(auto)]
+
+pub mod name;
+mod node;
+pub mod path;
+pub mod tree;
+pub mod tree_error;
+
+pub use name::is_name;
+pub use tree::{Tree, TreeRow};
+pub use tree_error::TreeError;

@@ -1,0 +1,70 @@
+//! Why a tree refused a call.
+ghost use Rattle.std.specs.Prelude.{◌≡◌};
+ghost use Rattle.dirtree.specs.declared.tree_error.TreeError.TheVariants.{Memory};
+ghost use Rattle.dirtree.specs.TreeError.{words};
+
+use std::alloc::{AllocError, AllocFailed};
+use std::error::Error;
+use std::fmt;
+
+/// Why a tree refused a call, which left it as it was.
+///
+/// It prints as its number and its name. A number never changes its meaning and is never used again.
+#[derive(Clone, Copy, Debug, PartialEq, Eq, Hash)]
+pub enum TreeError {
+    /// The allocator refused a growth.
+    Memory,
+    /// There is no such directory.
+    NoDir,
+    /// The parent has a child of that name.
+    Exists,
+    /// The text is no name, or no path.
+    BadName,
+    /// The directory has a child.
+    NotEmpty,
+    /// The root can't be removed.
+    IsRoot,
+    /// All numbers were given.
+    TreeFull,
+}
+
+impl TreeError {
+    /// Its number and name, as they are printed.
+    pub fn text(self) -> &'static str
+        ensures { result.now ≡ words self }
+    {
+        match self {
+            TreeError::Memory => "0 Memory",
+            TreeError::NoDir => "6 NoDir",
+            TreeError::Exists => "7 Exists",
+            TreeError::BadName => "8 BadName",
+            TreeError::NotEmpty => "9 NotEmpty",
+            TreeError::IsRoot => "10 IsRoot",
+            TreeError::TreeFull => "11 TreeFull",
+        }
+    }
+}
+
+impl fmt::Display for TreeError {
+    fn fmt<W: fmt::Write>(&self, f: &mut fmt::Formatter<W>) -> fmt::Result {
+        f.write_str(self.text())
+    }
+}
+
+impl Error for TreeError {}
+
+impl From<AllocError> for TreeError {
+    ghost from_gives = { λ _ e. e ≡ Memory };
+
+    fn from(_e: AllocError) -> TreeError {
+        TreeError::Memory
+    }
+}
+
+impl<T: Drop> From<AllocFailed<T>> for TreeError {
+    ghost from_gives = { λ _ e. e ≡ Memory };
+
+    fn from(_e: AllocFailed<T>) -> TreeError {
+        TreeError::Memory
+    }
+}
