@@ -53,7 +53,7 @@ fn first_fault(rows: &[ProblemRow], ranks: RankSet) -> Option<ProblemError>
     if rows.len() > Problem::MAX_ROWS {
         return Some(ProblemError::TooMany);
     }
-    if ranks.len() == 0 {
+    if ranks.is_empty() {
         return Some(ProblemError::NoRanks);
     }
     for (i, row) in rows.iter().enumerate() {
