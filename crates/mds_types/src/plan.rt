@@ -43,3 +43,45 @@ impl Plan {
         })
     }
 }
+
+#[cfg(test)]
+mod tests {
+    use super::*;
+    use crate::cut_proof::Row;
+    use crate::dir::Dir;
+    use crate::order::Order;
+    use std::test::Fail;
+
+    #[test]
+    fn copies(rt: HostRuntime) -> Result<(), Fail> {
+        let row = Row {
+            cuts: 1,
+            rest: 2,
+            price: 3,
+            cut: true,
+        };
+        let mut rank = ArrayVec::new();
+        rank.push(Rank::default());
+        let plan = Plan {
+            part: vec![in rt.alloc(); 0, 1]?,
+            rank,
+            greatest: 9,
+            moved: 8,
+            cut: CutProof::Table(vec![in rt.alloc(); row, row]?),
+            dual: DualProof {
+                part_price: vec![in rt.alloc(); 7]?,
+                rank_price: vec![in rt.alloc(); -6, 0]?,
+            },
+        };
+        assert_eq!(rt; plan.copied(rt.alloc())?, plan);
+        assert_eq!(rt; CutProof::Heavy(4).copied(rt.alloc())?, CutProof::Heavy(4));
+        assert_eq!(rt; CutProof::Zero.copied(rt.alloc())?, CutProof::Zero);
+        let order = Order {
+            from: Rank::default(),
+            to: Rank::default(),
+            dirs: vec![in rt.alloc(); Dir::ROOT, Dir::new(5)]?,
+        };
+        assert_eq!(rt; order.copied(rt.alloc())?, order);
+        Ok(())
+    }
+}

@@ -130,3 +130,76 @@ impl Problem {
         })
     }
 }
+
+#[cfg(test)]
+mod tests {
+    use super::*;
+    use std::test::Fail;
+
+    fn rows(
+        alloc: Global,
+        parents_and_heats: &[(u32, u64)],
+    ) -> Result<Vec<ProblemRow>, AllocError> {
+        let mut rows = Vec::new(alloc);
+        for (parent, heat) in parents_and_heats {
+            rows.push(ProblemRow {
+                parent: *parent,
+                heat: *heat,
+                inodes: 1,
+                now: Rank::default(),
+            })?;
+        }
+        Ok(rows)
+    }
+
+    #[test]
+    fn refuses_the_least_faulty_row(rt: HostRuntime) -> Result<(), Fail> {
+        let hot = HEAT_LIMIT + 1;
+        let both = RankSet::from_bits(3);
+        // (parents and heats, ranks, the refusal)
+        let table: [(&[(u32, u64)], RankSet, &str); 6] = [
+            (&[(0, 1), (0, 1), (2, 1)], both, "2 BadParent 2"),
+            (&[(0, 1), (1, hot)], both, "2 BadParent 1"),
+            (&[(0, 1), (0, hot)], both, "3 TooHot 1"),
+            (&[(1, 1), (0, 1)], both, "2 BadParent 0"),
+            (&[(0, hot), (9, 1)], both, "3 TooHot 0"),
+            (&[(1, hot)], RankSet::from_bits(0), "5 NoRanks"),
+        ];
+        for (parents_and_heats, ranks, refusal) in table {
+            let given = rows(rt.alloc(), parents_and_heats)?;
+            match Problem::new(given, ranks) {
+                Ok(_) => panic!(rt; "accepted what is {refusal}"),
+                Err((error, back)) => {
+                    assert_eq!(rt; error.to_string(rt.alloc())?.as_str(), refusal);
+                    assert_eq!(rt; back.len(), parents_and_heats.len(), "{refusal}");
+                }
+            }
+        }
+        Ok(())
+    }
+
+    #[test]
+    fn refuses_too_many_rows(rt: HostRuntime) -> Result<(), Fail> {
+        let row = rows(rt.alloc(), &[(0, 0)])?;
+        let mut many = vec![in rt.alloc(); row[0]; 65536]?;
+        assert!(rt; Problem::new(many.clone()?, RankSet::from_bits(1)).is_ok());
+        many.push(row[0])?;
+        match Problem::new(many, RankSet::from_bits(0)) {
+            Ok(_) => panic!(rt; "accepted too many rows"),
+            Err((error, _)) => assert_eq!(rt; error.to_string(rt.alloc())?.as_str(), "4 TooMany"),
+        }
+        Ok(())
+    }
+
+    #[test]
+    fn copies(rt: HostRuntime) -> Result<(), Fail> {
+        let given = rows(rt.alloc(), &[(0, 5), (0, 7)])?;
+        let Ok(problem) = Problem::new(given, RankSet::from_bits(6)) else {
+            panic!(rt; "refused a problem")
+        };
+        let copy = problem.copied(rt.alloc())?;
+        assert_eq!(rt; copy.rows(), problem.rows());
+        assert_eq!(rt; copy.ranks(), problem.ranks());
+        Ok(())
+    }
+}
