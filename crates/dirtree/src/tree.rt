@@ -1,5 +1,5 @@
 //! The tree of directories.
-ghost use Rattle.std.specs.Prelude.{◌≡◌, ℕ, ◌+◌, ◌<◌, ◌≤◌, ◌∷◌, [], Some, None, Ok, Err, true, length, map, IfOk, IfErr, IfSome, OnErr, OnOk, IsTrue, ◌↔◌, IsOkUnless};
+ghost use Rattle.std.specs.Prelude.{◌≡◌, ℕ, ◌+◌, ◌<◌, ◌≤◌, ◌∷◌, [], Some, None, Ok, Err, true, OnSome, length, map, IfOk, IfErr, IfSome, OnErr, OnOk, IsTrue, ◌↔◌, IsOkUnless};
 ghost use Rattle.std.specs.Option.{option_map};
 
 use crate::name::is_name;
@@ -81,6 +81,7 @@ impl Tree {
         ensures tree { IsTree self.now.entries }
         ensures above { IfSome result (λ n. 0 < dir → n.now.parent < dir) }
         ensures parent { IfSome result (λ n. is_there self.now.entries n.now.parent ≡ true) }
+        ensures below { OnSome result (dir < self.now.limit) }
     {
         let _ = &self.limit;
         match self.nodes.get(dir.number() as usize) {
@@ -91,14 +92,17 @@ impl Tree {
 
     /// Whether there is such a directory.
     pub fn contains(&self, dir: Dir) -> bool
-        ensures { result ≡ is_there self.now.entries dir }
+        ensures there { result ≡ is_there self.now.entries dir }
+        ensures below { IsTrue result → dir < self.now.limit }
     {
         self.node(dir).is_some()
     }
 
     /// The directory with its parent and its inodes, if it is there.
     pub fn row(&self, dir: Dir) -> Option<TreeRow>
-        ensures { result ≡ row_at self.now.entries dir }
+        ensures row { result ≡ row_at self.now.entries dir }
+        ensures tree { IsTree self.now.entries }
+        ensures below { OnSome result (dir < self.now.limit) }
     {
         match self.node(dir) {
             Some(node) => Some(TreeRow {

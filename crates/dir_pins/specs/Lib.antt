@@ -1,0 +1,2 @@
+pub mod PinError
+pub mod Pins

@@ -1,0 +1,136 @@
+//! The pins that were set, by the numbers of the directories.
+ghost use Rattle.std.specs.Prelude.{◌≡◌, ℕ, ◌+◌, ◌<◌, ◌≤◌, Some, None, Ok, Err, length, true, false, negsuc, ◌≢◌, IsOk, IfOk, IfErr, OnOk, OnErr, slice_set, slice_index_or, is_some};
+ghost use Rattle.dirtree.specs.Tree.{is_there};
+
+use crate::pin_error::PinError;
+use dirtree::Tree;
+use mds_types::{Dir, Rank};
+use std::alloc::{AllocError, Global};
+use std::marker::Model;
+
+/// The pins of a tree's directories on active ranks.
+#[derive(Drop)]
+pub struct Pins {
+    active: u8,
+    own: Vec<Option<Rank>>,
+}
+
+impl Model for Pins {
+    ghost use Rattle.std.specs.Prelude.{◌≤◌};
+    ghost use Rattle.dir_pins.specs.Pins.{PinTable};
+
+    ghost Value = { PinTable };
+
+    ghost view = { λ pins. record { active = pins.active; own = pins.own.items } };
+
+    ghost invariant = { λ pins. pins.active ≤ 64 };
+}
+
+impl Pins {
+    ghost use Rattle.dir_pins.specs.Pins.{is_pin, is_unpinned, no_pins, pin_refusal, pin_value, nearest_pin, unpinned, with_pin};
+
+    /// No pin, with room for the numbers below `limit`, and the ranks below `active` to pin on.
+    pub fn new(alloc: Global, limit: u32, active: u8) -> Result<Pins, AllocError>
+        requires low { 1 ≤ limit }
+        requires high { limit ≤ 65536 }
+        requires some { 1 ≤ active }
+        requires few { active ≤ 64 }
+        ensures { IfOk result (λ pins. pins ≡ no_pins limit active) }
+    {
+        let own = vec![in alloc; None; limit as usize]?;
+        Ok(Pins { active, own })
+    }
+
+    /// Pins a directory on a rank, or takes its own pin away where the value is -1. It takes no memory.
+    pub fn set(&mut self, tree: &Tree, dir: Dir, pin: i32) -> Result<(), PinError>
+        requires { tree.now.limit ≤ length self.old.own }
+        ensures set { OnOk result (self.new ≡ with_pin self.old dir pin) }
+        ensures unchanged { OnErr result (self.new ≡ self.old) }
+        ensures refused { IfErr result (λ e. pin_refusal self.old.active tree.now.entries dir pin ≡ Some e) }
+        ensures allowed { OnOk result (pin_refusal self.old.active tree.now.entries dir pin ≡ None) }
+    {
+        if !tree.contains(dir) {
+            return Err(PinError::NoDir);
+        }
+        let rank = if pin == -1 {
+            None
+        } else {
+            Some(self.active_rank(pin)?)
+        };
+        self.own[dir.number() as usize] = rank;
+        Ok(())
+    }
+
+    /// The active rank that a value names.
+    fn active_rank(&self, pin: i32) -> Result<Rank, PinError>
+        requires { pin ≢ negsuc 0 }
+        ensures rank { IfOk result (λ rank. pin_value pin ≡ Some rank) }
+        ensures active { OnOk result (is_pin self.now.active pin ≡ true) }
+        ensures refused { IfErr result (λ e. (is_pin self.now.active pin ≡ false) × (e ≡ PinError.NoRank)) }
+    {
+        match u8::try_from(pin) {
+            Ok(number) if number < self.active => match Rank::new(number) {
+                Some(rank) => Ok(rank),
+                None => unreachable!(),
+            },
+            _ => Err(PinError::NoRank),
+        }
+    }
+
+    /// The pin that holds a directory: its own, or that of the nearest directory above it that has one.
+    pub fn pin_of(&self, tree: &Tree, dir: Dir) -> Result<Option<Rank>, PinError>
+        requires { tree.now.limit ≤ length self.now.own }
+        ensures pin { IfOk result (λ pin. pin ≡ nearest_pin tree.now.entries self.now.own dir) }
+        ensures gone { is_there tree.now.entries dir ≡ false → result ≡ Err PinError.NoDir }
+        ensures there { is_there tree.now.entries dir ≡ true → IsOk result }
+    {
+        let mut at = dir;
+        loop {
+            let Some(row) = tree.row(at) else {
+                return Err(PinError::NoDir);
+            };
+            if let Some(rank) = self.own[at.number() as usize] {
+                return Ok(Some(rank));
+            }
+            if at == Dir::ROOT {
+                return Ok(None);
+            }
+            at = row.parent;
+        }
+    }
+
+    /// Whether a directory is there and no pin holds it, where that is known of all with smaller numbers.
+    fn is_unpinned(&self, tree: &Tree, known: &[bool], dir: Dir) -> bool
+        requires room { tree.now.limit ≤ length self.now.own }
+        requires size { length known.now ≡ length tree.now.entries }
+        requires inside { dir < length tree.now.entries }
+        requires below { (d : ℕ) → d < dir → slice_index_or known.now d false ≡ is_unpinned tree.now.entries self.now.own d }
+        ensures { result ≡ is_unpinned tree.now.entries self.now.own dir }
+    {
+        let Some(row) = tree.row(dir) else {
+            return false;
+        };
+        if self.own[dir.number() as usize].is_some() {
+            return false;
+        }
+        dir == Dir::ROOT || known[row.parent.number() as usize]
+    }
+
+    /// The directories that no pin holds, by rising numbers: one pass, since a parent's number is smaller.
+    pub fn unpinned(&self, alloc: Global, tree: &Tree) -> Result<Vec<Dir>, AllocError>
+        requires { tree.now.limit ≤ length self.now.own }
+        ensures { IfOk result (λ dirs. dirs.items ≡ unpinned tree.now.entries self.now.own) }
+    {
+        let mut known = vec![in alloc; false; tree.numbers() as usize]?;
+        let mut dirs = Vec::new(alloc);
+        for number in 0..tree.numbers() {
+            let dir = Dir::new(number);
+            let is_free = self.is_unpinned(tree, &known, dir);
+            known[number as usize] = is_free;
+            if is_free {
+                dirs.push(dir)?;
+            }
+        }
+        Ok(dirs)
+    }
+}
