@@ -1,0 +1,95 @@
+-- How the lines of a script spell commands.
+use Rattle.std.specs.Prelude.{◌≡◌, ℕ, ℤ, pos, negsuc, ◌+◌, ◌*◌, ◌-◌, Bool, true, false, not, ◌&&◌, ◌||◌, if◌then◌else◌, ◌==◌, nat_lt, nat_le, List, [], ◌∷◌, length, filter, codes, Option, Some, None}
+use Rattle.std.specs.List.{slice_split, list_all}
+use Rattle.std.specs.Option.{option_map}
+use Rattle.std.specs.Str.{bytes_eq, all_ascii_digits}
+
+-- a space, a tab or a carriage return
+abbrev pub is_blank : ℕ → Bool
+is_blank b = (b == 32) || ((b == 9) || (b == 13))
+
+-- a byte that a line other than a comment may hold
+abbrev pub is_plain : ℕ → Bool
+is_plain b = is_blank b || (nat_lt 32 b && nat_lt b 127)
+
+abbrev pub is_empty : List ℕ → Bool
+is_empty [] = true
+is_empty (b ∷ bytes) = false
+
+-- the parts between blanks that aren't empty
+abbrev pub fields : List ℕ → List (List ℕ)
+fields line = filter (λ part. not (is_empty part)) (slice_split is_blank line)
+
+-- without fields, or a comment
+abbrev pub is_skipped : List (List ℕ) → Bool
+is_skipped [] = true
+is_skipped ([] ∷ more) = false
+is_skipped ((b ∷ bytes) ∷ more) = b == 35
+
+-- the number that digits spell behind the ones that spell n
+abbrev pub value_from : ℕ → List ℕ → ℕ
+value_from n [] = n
+value_from n (b ∷ digits) = value_from (10 * n + (b - 48)) digits
+
+-- the number of a field of digits, from low to high
+abbrev pub number : ℕ → ℕ → List ℕ → Option ℕ
+number low high field =
+    if not (is_empty field) && (all_ascii_digits field && (nat_le low (value_from 0 field) && nat_le (value_from 0 field) high)) then Some (value_from 0 field) else None
+
+-- the value of an export pin, with -1 for none
+abbrev pub pin_value : List ℕ → Option ℤ
+pin_value field = if bytes_eq field (codes "-1") then Some (negsuc 0) else option_map (λ n. pos n) (number 0 2147483647 field)
+
+-- a path is given by its bytes
+pub data Command : Type 0 where
+  Ranks : ℕ → Command
+  MakeDir : List ℕ → ℕ → Command
+  Pin : List ℕ → ℤ → Command
+  Load : List ℕ → ℕ → Command
+  Go : Command
+  Cost : List (List ℕ) → Command
+
+-- what a word and the fields behind it spell
+abbrev pub ranks : List (List ℕ) → Option Command
+ranks (n ∷ []) = option_map Ranks (number 1 64 n)
+ranks fields = None
+
+abbrev pub make_dir : List (List ℕ) → Option Command
+make_dir (path ∷ n ∷ []) = option_map (MakeDir path) (number 0 4294967295 n)
+make_dir fields = None
+
+abbrev pub pin : List (List ℕ) → Option Command
+pin (path ∷ value ∷ []) = option_map (Pin path) (pin_value value)
+pin fields = None
+
+abbrev pub load : List (List ℕ) → Option Command
+load (path ∷ n ∷ []) = option_map (Load path) (number 1 1000000 n)
+load fields = None
+
+abbrev pub go : List (List ℕ) → Option Command
+go [] = Some Go
+go fields = None
+
+abbrev pub command : List (List ℕ) → Option Command
+command [] = None
+command (word ∷ rest) =
+    if bytes_eq word (codes "ranks") then ranks rest
+    else if bytes_eq word (codes "dir") then make_dir rest
+    else if bytes_eq word (codes "pin") then pin rest
+    else if bytes_eq word (codes "load") then load rest
+    else if bytes_eq word (codes "go") then go rest
+    else if bytes_eq word (codes "cost") then Some (Cost rest)
+    else None
+
+-- what a line asks for
+pub data Asked : Type 0 where
+  Nothing : Asked
+  Syntax : Asked
+  Asks : Command → Asked
+
+abbrev pub asked_by : Option Command → Asked
+asked_by None = Syntax
+asked_by (Some c) = Asks c
+
+abbrev pub asked : List ℕ → Asked
+asked line = if is_skipped (fields line) then Nothing else if list_all is_plain line then asked_by (command (fields line)) else Syntax

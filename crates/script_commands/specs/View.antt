@@ -1,0 +1,20 @@
+-- What the code's commands say, without where their paths lie in memory.
+use Rattle.std.specs.Prelude.{ℕ, List, map}
+use Rattle.script_commands.specs.Commands as line
+use Rattle.script_commands.specs.declared.command.Command.{Command}
+use Rattle.script_commands.specs.declared.command.Command.TheVariants as made
+use Rattle.script_commands.specs.declared.line.Asked.{Asked}
+use Rattle.script_commands.specs.declared.line.Asked.TheVariants as found
+
+abbrev pub view : Command → line.Command
+view (made.Ranks n) = line.Ranks n
+view (made.MakeDir path n) = line.MakeDir path.now n
+view (made.Pin path value) = line.Pin path.now value
+view (made.Load path n) = line.Load path.now n
+view made.Go = line.Go
+view (made.Cost paths) = line.Cost (map (λ p. p.now) paths.items)
+
+abbrev pub asked_view : Asked → line.Asked
+asked_view found.Nothing = line.Nothing
+asked_view found.Syntax = line.Syntax
+asked_view (found.Asks c) = line.Asks (view c)

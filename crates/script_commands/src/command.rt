@@ -1,0 +1,127 @@
+//! The commands, each with what its word asks of the fields behind it.
+ghost use Rattle.std.specs.Prelude.{◌≡◌, ◌∷◌, map, IfOk, true};
+ghost use Rattle.std.specs.List.{list_all};
+ghost use Rattle.std.specs.Option.{option_map};
+ghost use Rattle.script_commands.specs.Commands.{is_plain, ranks, make_dir, pin, load, go, command};
+ghost use Rattle.script_commands.specs.View.{view};
+
+use crate::fields::text;
+use crate::number::{number, pin_value};
+use std::alloc::{AllocError, Global};
+
+/// A command, with the paths as they stand in the line.
+#[derive(Debug, Drop)]
+pub enum Command<'a> {
+    /// How many ranks are active, 1 to 64.
+    Ranks(u8),
+    /// A directory to make, and its inodes.
+    MakeDir(&'a str, u32),
+    /// An export pin: a rank, or -1 to take the directory's own pin away.
+    Pin(&'a str, i32),
+    /// One request that waits, with its hits, 1 to 1000000.
+    Load(&'a str, u32),
+    /// The waiting requests are served.
+    Go,
+    /// The cost of the division at these tops.
+    Cost(Vec<&'a str>),
+}
+
+fn ranks<'a>(rest: &[&'a [u8]]) -> Option<Command<'a>>
+    ensures { option_map view result ≡ ranks (map (λ field. field.now) rest.now) }
+{
+    match rest {
+        [n] => match number(n, 1, 64) {
+            Some(n) => Some(Command::Ranks(n as u8)),
+            None => None,
+        },
+        _ => None,
+    }
+}
+
+fn make_dir<'a>(rest: &[&'a [u8]]) -> Option<Command<'a>>
+    requires { list_all (list_all is_plain) (map (λ field. field.now) rest.now) ≡ true }
+    ensures { option_map view result ≡ make_dir (map (λ field. field.now) rest.now) }
+{
+    match rest {
+        [path, n] => match (text(path), number(n, 0, u32::MAX)) {
+            (Some(path), Some(n)) => Some(Command::MakeDir(path, n)),
+            _ => None,
+        },
+        _ => None,
+    }
+}
+
+fn pin<'a>(rest: &[&'a [u8]]) -> Option<Command<'a>>
+    requires { list_all (list_all is_plain) (map (λ field. field.now) rest.now) ≡ true }
+    ensures { option_map view result ≡ pin (map (λ field. field.now) rest.now) }
+{
+    match rest {
+        [path, value] => match (text(path), pin_value(value)) {
+            (Some(path), Some(value)) => Some(Command::Pin(path, value)),
+            _ => None,
+        },
+        _ => None,
+    }
+}
+
+fn load<'a>(rest: &[&'a [u8]]) -> Option<Command<'a>>
+    requires { list_all (list_all is_plain) (map (λ field. field.now) rest.now) ≡ true }
+    ensures { option_map view result ≡ load (map (λ field. field.now) rest.now) }
+{
+    match rest {
+        [path, n] => match (text(path), number(n, 1, 1_000_000)) {
+            (Some(path), Some(n)) => Some(Command::Load(path, n)),
+            _ => None,
+        },
+        _ => None,
+    }
+}
+
+fn go<'a>(rest: &[&'a [u8]]) -> Option<Command<'a>>
+    ensures { option_map view result ≡ go (map (λ field. field.now) rest.now) }
+{
+    match rest {
+        [] => Some(Command::Go),
+        _ => None,
+    }
+}
+
+fn texts<'a>(alloc: Global, rest: &[&'a [u8]]) -> Result<Vec<&'a str>, AllocError>
+    requires { list_all (list_all is_plain) (map (λ field. field.now) rest.now) ≡ true }
+    ensures { IfOk result (λ paths. map (λ path. path.now) paths.items ≡ map (λ field. field.now) rest.now) }
+{
+    let mut paths = Vec::with_capacity(alloc, rest.len())?;
+    for field in rest {
+        let Some(path) = text(field) else {
+            unreachable!()
+        };
+        paths.push(path)?;
+    }
+    Ok(paths)
+}
+
+/// The command that a word and the fields behind it spell, if they spell one.
+pub fn find_command<'a>(
+    alloc: Global,
+    word: &[u8],
+    rest: &[&'a [u8]],
+) -> Result<Option<Command<'a>>, AllocError>
+    requires { list_all (list_all is_plain) (map (λ field. field.now) rest.now) ≡ true }
+    ensures { IfOk result (λ found. option_map view found ≡ command (word.now ∷ map (λ field. field.now) rest.now)) }
+{
+    if word == b"ranks".as_slice() {
+        Ok(ranks(rest))
+    } else if word == b"dir".as_slice() {
+        Ok(make_dir(rest))
+    } else if word == b"pin".as_slice() {
+        Ok(pin(rest))
+    } else if word == b"load".as_slice() {
+        Ok(load(rest))
+    } else if word == b"go".as_slice() {
+        Ok(go(rest))
+    } else if word == b"cost".as_slice() {
+        Ok(Some(Command::Cost(texts(alloc, rest)?)))
+    } else {
+        Ok(None)
+    }
+}
