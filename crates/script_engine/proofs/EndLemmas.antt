@@ -1,0 +1,97 @@
+-- How a run ends.
+use Rattle.std.proofs.Common.{◌≡◌, ◌≢◌, ℕ, Bool, true, false, not, ◌&&◌, List, [], ◌∷◌, ◌++◌, take, Option, Some, None, IfSome, sym, ap, subst, ◌∙◌, append_assoc, append-nil}
+use Rattle.std.specs.Io.KnownBytes.{Appends, Consumes, IsAtEnd}
+use Rattle.std.proofs.KnownBytes.{Appends-trans, Consumes-trans, Consumes-whole}
+use Rattle.std.specs.List.{AllByRecursion}
+use Rattle.script_engine.specs.Known.{AppendsFront}
+use Rattle.script_engine.specs.Lines.{lines_of, whole_lines, IsLine, ended}
+use Rattle.script_engine.specs.Answers.{Answer, Takes, Run, text_of, all_accepted}
+use Rattle.script_engine.specs.Progress.{Stands, Broken, Ends, Cut}
+use Rattle.script_engine.specs.declared.progress.Progress.{Progress}
+use Rattle.script_engine.proofs.LineLemmas.{lines_of_ended, lines_of_line, whole_lines_ended, no_whole_line}
+use Rattle.script_engine.proofs.KnownLemmas.{front_after}
+use Rattle.script_engine.proofs.RunLemmas.{run_over, all_accepted_push}
+use Rattle.script_engine.proofs.ProgressLemmas.{one_more, one_text}
+
+lines_all : (bytes : List ℕ) (lines : List (List ℕ)) (rest : List ℕ) → bytes ≡ ended lines ++ rest → AllByRecursion IsLine lines → rest ≡ [] → lines_of bytes ≡ lines
+lines_all bytes lines rest e all none = ap lines_of e ∙ lines_of_ended lines rest all ∙ ap (λ (r : List ℕ). lines ++ lines_of r) none ∙ append-nil lines
+
+lines_last : (bytes : List ℕ) (lines : List (List ℕ)) (rest : List ℕ) → bytes ≡ ended lines ++ rest → AllByRecursion IsLine lines → IsLine rest → rest ≢ [] → lines_of bytes ≡ lines ++ rest ∷ []
+lines_last bytes lines rest e all is some = ap lines_of e ∙ lines_of_ended lines rest all ∙ ap (λ (ls : List (List ℕ)). lines ++ ls) (lines_of_line rest is some)
+
+lines_whole : (bytes : List ℕ) (lines : List (List ℕ)) (rest : List ℕ) → bytes ≡ ended lines ++ rest → AllByRecursion IsLine lines → IsLine rest → whole_lines bytes ≡ lines
+lines_whole bytes lines rest e all is = ap whole_lines e ∙ whole_lines_ended lines rest all ∙ ap (λ (ls : List (List ℕ)). lines ++ ls) (no_whole_line rest is) ∙ append-nil lines
+
+-- a read at the end gives nothing
+pub read_none : (a b c : Option (List ℕ)) (bytes buffer : List ℕ) (n : ℕ) → Consumes a b bytes → Consumes b c (take n buffer) → n ≡ 0 → Consumes a c bytes
+read_none a b c bytes buffer n before now none =
+    subst (λ (t : List ℕ). Consumes a c t) (append-nil bytes) (Consumes-trans a b c bytes [] before (subst (λ (k : ℕ). Consumes b c (take k buffer)) none now))
+
+module _ {S : Type 0} (answers : S → ℕ → List ℕ → Answer → S → Type 0) (strict : Bool) (start : S) where
+  -- no line has begun at the end of the input
+  pub ends_clean : (bytes text : List ℕ) (now : S) (p : Progress) (s : Stands answers strict start bytes text now p) → s.rest ≡ [] → Ends answers strict start bytes text [] now p.accepted
+  ends_clean bytes text now p s none = record {
+    replies = s.replies;
+    run = subst (λ (ls : List (List ℕ)). Run answers strict start 1 ls s.replies now) (sym (lines_all bytes s.lines s.rest s.split s.are_lines none)) s.run;
+    good = s.good;
+    written = append-nil text ∙ s.written;
+  }
+
+  -- a last line is answered that no newline ends
+  pub ends_last : (bytes text : List ℕ) (now new : S) (p : Progress) (accepted : Bool) (a : Answer) (s : Stands answers strict start bytes text now p) → (strict && not p.accepted) ≡ false → s.rest ≢ [] → Takes answers now p.number s.rest a new → accepted ≡ (p.accepted && a.accepted) → Ends answers strict start bytes text a.text new accepted
+  ends_last bytes text now new p accepted a s going some takes good = record {
+    replies = s.replies ++ a ∷ [];
+    run = subst (λ (ls : List (List ℕ)). Run answers strict start 1 ls (s.replies ++ a ∷ []) new) (sym (lines_last bytes s.lines s.rest s.split s.are_lines s.is_line some)) (one_more answers strict start bytes text now new p a s going takes);
+    good = good ∙ ap (λ (v : Bool). v && a.accepted) s.good ∙ sym (all_accepted_push s.replies a);
+    written = one_text answers strict start bytes text now p a s;
+  }
+
+  pub cut_last : (bytes text : List ℕ) (now new : S) (p : Progress) (a : Answer) (s : Stands answers strict start bytes text now p) → (strict && not p.accepted) ≡ false → s.rest ≢ [] → Takes answers now p.number s.rest a new → Cut answers strict start bytes text a.text
+  cut_last bytes text now new p a s going some takes = record {
+    lines = s.lines ++ s.rest ∷ [];
+    unread = [];
+    replies = s.replies ++ a ∷ [];
+    now = new;
+    split = lines_last bytes s.lines s.rest s.split s.are_lines s.is_line some ∙ sym (append-nil (s.lines ++ s.rest ∷ []));
+    run = one_more answers strict start bytes text now new p a s going takes;
+    written = one_text answers strict start bytes text now p a s;
+  }
+
+  pub cut_broken : (bytes text tail : List ℕ) → Broken answers strict start bytes text tail → Cut answers strict start bytes text tail
+  cut_broken bytes text tail b = record {
+    lines = b.lines;
+    unread = lines_of b.rest;
+    replies = b.replies;
+    now = b.now;
+    split = ap lines_of b.split ∙ lines_of_ended b.lines b.rest b.are_lines;
+    run = b.run;
+    written = b.written;
+  }
+
+  -- all input was read
+  pub done_at_end : (a b u v w : Option (List ℕ)) (bytes text more : List ℕ) (new : S) (accepted : Bool) → Ends answers strict start bytes text more new accepted → Consumes a b bytes → IsAtEnd b → Appends u v text → Appends v w more → IfSome a (λ input. (replies : List Answer) × Run answers strict start 1 (lines_of input) replies new × (accepted ≡ all_accepted replies) × Appends u w (text_of replies))
+  done_at_end a b u v w bytes text more new accepted e consumed over first second =
+      Consumes-whole a b bytes (λ input. (replies : List Answer) × Run answers strict start 1 (lines_of input) replies new × (accepted ≡ all_accepted replies) × Appends u w (text_of replies)) consumed over
+      (e.replies, e.run, e.good, subst (λ (t : List ℕ). Appends u w t) e.written (Appends-trans u v w text more first second))
+
+  -- a strict run ends before all input was read
+  pub done_early : (a b u w : Option (List ℕ)) (bytes text : List ℕ) (now : S) (p : Progress) → Stands answers strict start bytes text now p → (strict && not p.accepted) ≡ true → p.accepted ≡ false → Consumes a b bytes → Appends u w text → IfSome a (λ input. (replies : List Answer) × Run answers strict start 1 (lines_of input) replies now × (false ≡ all_accepted replies) × Appends u w (text_of replies))
+  done_early None b u w bytes text now p s over bad consumed written = tt
+  done_early (Some input) None u w bytes text now p s over bad consumed written = absurd consumed
+  done_early (Some input) (Some left) u w bytes text now p s over bad consumed written =
+      let cut : lines_of input ≡ s.lines ++ lines_of (s.rest ++ left) = ap lines_of (consumed ∙ ap (λ (t : List ℕ). t ++ left) s.split ∙ append_assoc (ended s.lines) s.rest left) ∙ lines_of_ended s.lines (s.rest ++ left) s.are_lines in (
+        s.replies,
+        subst (λ (ls : List (List ℕ)). Run answers strict start 1 ls s.replies now) (sym cut) (run_over answers strict start now 1 s.lines (lines_of (s.rest ++ left)) s.replies s.run (ap (λ (v : Bool). strict && not v) (sym s.good) ∙ over)),
+        sym bad ∙ s.good,
+        subst (λ (t : List ℕ). Appends u w t) s.written written,
+      )
+
+  -- a read failed
+  pub read_fails : (a b u w : Option (List ℕ)) (bytes text : List ℕ) (now : S) (p : Progress) → Stands answers strict start bytes text now p → Consumes a b bytes → Appends u w text → (bytes : List ℕ) × (replies : List Answer) × Consumes a b bytes × Run answers strict start 1 (whole_lines bytes) replies now × Appends u w (text_of replies)
+  read_fails a b u w bytes text now p s consumed written =
+      (bytes, s.replies, consumed, subst (λ (ls : List (List ℕ)). Run answers strict start 1 ls s.replies now) (sym (lines_whole bytes s.lines s.rest s.split s.are_lines s.is_line)) s.run, subst (λ (t : List ℕ). Appends u w t) s.written written)
+
+  -- a write failed
+  pub write_fails : (a b u v w : Option (List ℕ)) (bytes text tail : List ℕ) → Cut answers strict start bytes text tail → Consumes a b bytes → Appends u v text → AppendsFront v w tail → (bytes : List ℕ) × (lines : List (List ℕ)) × (more : List (List ℕ)) × (replies : List Answer) × (last : S) × Consumes a b bytes × (lines_of bytes ≡ lines ++ more) × Run answers strict start 1 lines replies last × AppendsFront u w (text_of replies)
+  write_fails a b u v w bytes text tail c consumed first part =
+      (bytes, c.lines, c.unread, c.replies, c.now, consumed, c.split, c.run, subst (λ (t : List ℕ). AppendsFront u w t) c.written (front_after u v w text tail first part))

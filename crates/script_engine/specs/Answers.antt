@@ -1,0 +1,38 @@
+-- What is written for the lines of a script, one after another.
+use Rattle.std.specs.Prelude.{◌≡◌, ℕ, ◌+◌, Bool, true, false, not, ◌&&◌, MatchBool, List, [], ◌∷◌, ◌++◌, ◌⊎◌, codes, decimal}
+
+-- what is written for a line, whether the line was accepted, and whether memory sufficed for it
+pub record Answer : Type 0 where
+  pub text : List ℕ
+  pub accepted : Bool
+  pub ample : Bool
+
+-- what a faulty line is answered
+abbrev pub fault_text : ℕ → List ℕ → List ℕ
+fault_text number why = codes "line " ++ decimal number ++ codes ": " ++ why ++ 10 ∷ []
+
+-- the answer to a line whose bytes found no room
+abbrev pub no_room : ℕ → Answer
+no_room number = record { text = fault_text number (codes "refused 0 Memory"); accepted = false; ample = false }
+
+abbrev pub text_of : List Answer → List ℕ
+text_of [] = []
+text_of (a ∷ more) = a.text ++ text_of more
+
+abbrev pub all_accepted : List Answer → Bool
+all_accepted [] = true
+all_accepted (a ∷ more) = a.accepted && all_accepted more
+
+module _ {S : Type 0} (answers : S → ℕ → List ℕ → Answer → S → Type 0) where
+  -- The line with this number is answered as its command says, or refused since there was no room for it.
+  abbrev pub Takes : S → ℕ → List ℕ → Answer → S → Type 0
+  Takes old number line a new = answers old number line a new ⊎ ((a ≡ no_room number) × (new ≡ old))
+
+  -- The lines, the first of them with this number, are answered in turn. A strict run ends at the first that is not
+  -- accepted, whatever lines follow it.
+  unfoldable pub Run : Bool → S → ℕ → List (List ℕ) → List Answer → S → Type 0
+  Run strict old number [] [] new = new ≡ old
+  Run strict old number [] (a ∷ more) new = ⊥
+  Run strict old number (line ∷ lines) [] new = ⊥
+  Run strict old number (line ∷ lines) (a ∷ more) new =
+      (mid : S) × Takes old number line a mid × MatchBool (strict && not a.accepted) ((more ≡ []) × (new ≡ mid)) (Run strict mid (number + 1) lines more new)

@@ -1,0 +1,15 @@
+//! Reads a script in pieces of any size, and has each of its lines answered by what the caller provides.
+//!
+//! `run_script` knows nothing of commands. It parts the bytes into lines, counts them, hands each to
+//! an `Interpreter`, stops early where the run is strict, and says what stands after a device failed.
+#![tactic(auto)]
+
+mod driver;
+mod interpreter;
+pub mod laws;
+mod progress;
+mod writes;
+
+pub use driver::{RunError, run_script};
+pub use interpreter::Interpreter;
+pub use writes::{WriteFailed, write_fault, write_whole};
