@@ -13,7 +13,7 @@ use Rattle.dirtree.specs.Keeps.{IsIndexed, Key, key, key_of, key_at}
 use Rattle.dirtree.proofs.Nodes.{there_by_key}
 
 -- where a number stands among the entries and one more
-places : (es : List (Option Entry)) (e : Option Entry) (d : ℕ) → ((d < length es) × (entry_at (es ++ e ∷ []) d ≡ entry_at es d)) ⊎ (((d ≡ length es) × (entry_at (es ++ e ∷ []) d ≡ e)) ⊎ ((length es < d) × (entry_at (es ++ e ∷ []) d ≡ None)))
+pub places : (es : List (Option Entry)) (e : Option Entry) (d : ℕ) → ((d < length es) × (entry_at (es ++ e ∷ []) d ≡ entry_at es d)) ⊎ (((d ≡ length es) × (entry_at (es ++ e ∷ []) d ≡ e)) ⊎ ((length es < d) × (entry_at (es ++ e ∷ []) d ≡ None)))
 places es e d = grind (arith, common_steps)
 
 outside : (es : List (Option Entry)) (d : ℕ) → length es ≤ d → entry_at es d ≡ None
@@ -53,7 +53,7 @@ none_some h = cc
 only : {X : Type 0} {x y : X} → Some x ≡ Some y → x ≡ y
 only h = cc
 
-emptied : (es : List (Option Entry)) (d c : ℕ) → c ≡ d → entry_at (set es d None) c ≡ None
+pub emptied : (es : List (Option Entry)) (d c : ℕ) → c ≡ d → entry_at (set es d None) c ≡ None
 emptied [] d c e = refl
 emptied (x ∷ es) zero c e = rw e refl
 emptied (x ∷ es) (suc d) c e = rw e (emptied es d d refl)

@@ -1,6 +1,9 @@
 pub mod Changes
+pub mod Children
 pub mod Names
 pub mod Nodes
+pub mod PathRoundTrip
 pub mod Paths
 pub mod Sound
+pub mod TreeFacts
 pub mod Walks

@@ -16,18 +16,18 @@ named_entry e p name h =
     let parts : (nat_eq e.parent p ≡ true) × (bytes_eq e.name name ≡ true) = and_parts (nat_eq e.parent p) (bytes_eq e.name name) h in
     ((Decides-eqb e.parent p).0 parts.0, (bytes_eq-Decides e.name name).0 parts.1)
 
-named_key : (e : Option Entry) (p : ℕ) (name : List ℕ) → is_named_child p name e ≡ true → option_map key_of e ≡ Some (key p name)
+pub named_key : (e : Option Entry) (p : ℕ) (name : List ℕ) → is_named_child p name e ≡ true → option_map key_of e ≡ Some (key p name)
 named_key None p name h = cc
 named_key (Some e) p name h = let parts = named_entry e p name h in rw (parts.0, parts.1) refl
 
-key_named : (e : Option Entry) (p : ℕ) (name : List ℕ) → option_map key_of e ≡ Some (key p name) → is_named_child p name e ≡ true
+pub key_named : (e : Option Entry) (p : ℕ) (name : List ℕ) → option_map key_of e ≡ Some (key p name) → is_named_child p name e ≡ true
 key_named None p name h = cc
 key_named (Some e) p name h =
     let same : key_of e ≡ key p name = cc in
     and_from (nat_eq e.parent p) (bytes_eq e.name name) ((Decides-eqb e.parent p).1 (ap (λ (k : Key). k.parent) same)) ((bytes_eq-Decides e.name name).1 (ap (λ (k : Key). k.name) same))
 
 -- the number that the search finds
-found_from : (first : ℕ) (entries : List (Option Entry)) (p c : ℕ) (name : List ℕ) → child_from first entries p name ≡ Some c → (first ≤ c) × (is_named_child p name (get_or entries (c - first) None) ≡ true)
+pub found_from : (first : ℕ) (entries : List (Option Entry)) (p c : ℕ) (name : List ℕ) → child_from first entries p name ≡ Some c → (first ≤ c) × (is_named_child p name (get_or entries (c - first) None) ≡ true)
 found_from first [] p c name h = cc
 found_from first (e ∷ entries) p c name h =
     elim (is_named_child p name e) as (λ b. is_named_child p name e ≡ b → cond b (Some first) (child_from (suc first) entries p name) ≡ Some c → (first ≤ c) × (is_named_child p name (get_or (e ∷ entries) (c - first) None) ≡ true)) [
@@ -40,7 +40,7 @@ missed_step : (first p i : ℕ) (name : List ℕ) (e : Option Entry) (entries : 
 missed_step first p zero name e entries more is there = is
 missed_step first p (suc i) name e entries more is there = more i there
 
-missed_from : (first : ℕ) (entries : List (Option Entry)) (p i : ℕ) (name : List ℕ) → child_from first entries p name ≡ None → is_named_child p name (get_or entries i None) ≡ false
+pub missed_from : (first : ℕ) (entries : List (Option Entry)) (p i : ℕ) (name : List ℕ) → child_from first entries p name ≡ None → is_named_child p name (get_or entries i None) ≡ false
 missed_from first [] p i name h = refl
 missed_from first (e ∷ entries) p i name h =
     elim (is_named_child p name e) as (λ b. is_named_child p name e ≡ b → cond b (Some first) (child_from (suc first) entries p name) ≡ None → is_named_child p name (get_or (e ∷ entries) i None) ≡ false) [
@@ -48,7 +48,7 @@ missed_from first (e ∷ entries) p i name h =
       | false ↦ λ is there. missed_step first p i name e entries (λ j none. missed_from (suc first) entries p j name none) is there
     ] refl h
 
-after_first : (entries : List (Option Entry)) (c : ℕ) → 0 < c → get_or (drop 1 entries) (c - 1) None ≡ entry_at entries c
+pub after_first : (entries : List (Option Entry)) (c : ℕ) → 0 < c → get_or (drop 1 entries) (c - 1) None ≡ entry_at entries c
 after_first entries c some =
     let at : 1 + (c - 1) ≡ c = omega arith in
     get_or-drop 1 entries (c - 1) None ∙ ap (λ i. get_or entries i None) at

@@ -178,7 +178,7 @@ map_taken [] d = refl
 map_taken (n ∷ nodes) zero = refl
 map_taken (n ∷ nodes) (suc d) = ap (λ (es : List (Option Entry)). option_map entry_of n ∷ es) (map_taken nodes d)
 
-no_names : (o : Option ℕ) → ((child : ℕ) → o ≡ Some child → ⊥) → o ≡ None
+pub no_names : (o : Option ℕ) → ((child : ℕ) → o ≡ Some child → ⊥) → o ≡ None
 no_names None h = refl
 no_names (Some child) h = absurd (h child refl)
 

@@ -63,6 +63,13 @@ child_from first (e ∷ entries) parent name = if is_named_child parent name e t
 abbrev pub child_of : List (Option Entry) → ℕ → List ℕ → Option ℕ
 child_of entries parent name = child_from 1 (drop 1 entries) parent name
 
+-- c is the child of this directory with this name
+pub record IsChild (entries : List (Option Entry)) (parent : ℕ) (name : List ℕ) (c : ℕ) : Type 0 where
+  pub some : 0 < c
+  pub there : is_there entries c ≡ true
+  pub parent_is : parent_of entries c ≡ parent
+  pub name_is : name_of entries c ≡ name
+
 abbrev pub has_child : List (Option Entry) → ℕ → Bool
 has_child entries d = list_any (λ e. option_map_or (λ child. child.parent == d) e false) (drop 1 entries)
 

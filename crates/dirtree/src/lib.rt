@@ -1,6 +1,7 @@
 //! A tree of named directories under numbers that are never used again.
 #![tactic(auto)]
 
+pub mod laws;
 pub mod name;
 mod node;
 pub mod path;
