@@ -269,3 +269,10 @@ rows_more nodes i slot below read =
     let last : entries_of (take (i + 1) nodes) ≡ entries_of (take i nodes) ++ option_map entry_of slot ∷ [] = map_more (option_map entry_of) nodes i slot below ∙ ap (λ (n : Option Node). entries_of (take i nodes) ++ option_map entry_of n ∷ []) (sym read) in
     let place : 0 + length (entries_of (take i nodes)) ≡ i = zero-add (length (entries_of (take i nodes))) ∙ length-entries (take i nodes) ∙ (let short : length (take i nodes) ≡ i = grind (arith, common_steps) in short) in
     ap (rows_from 0) last ∙ rows_after 0 (entries_of (take i nodes)) (option_map entry_of slot) ∙ ap (λ (k : ℕ). rows_from 0 (entries_of (take i nodes)) ++ rows_from k (option_map entry_of slot ∷ [])) place
+
+-- what an index names is a directory below the limit
+pub indexed_below : (limit : ℕ) (nodes : List (Option Node)) (p d : ℕ) (name : List ℕ) → IsSound limit nodes → indexed_at nodes p name ≡ Some d → d < limit
+indexed_below limit nodes p d name sound h =
+    let at = sound.index.finds p d name h in
+    let few : d < length (entries_of nodes) = inside (entries_of nodes) d (there_by_key (entries_of nodes) d (key p name) at.1) in
+    omega (arith, few, length-entries nodes, sound.within)

@@ -1,5 +1,5 @@
 //! Paths of directories, and where they lead.
-ghost use Rattle.std.specs.Prelude.{◌≡◌, ◌==◌, ◌∷◌, [], ℕ, List, Err, IfOk, IsOkUnless, OnOk, map, string_bytes, true, false};
+ghost use Rattle.std.specs.Prelude.{◌≡◌, ◌<◌, ◌==◌, ◌∷◌, [], ℕ, List, Err, IfOk, IsOkUnless, OnOk, map, string_bytes, true, false};
 ghost use Rattle.std.specs.List.{slice_split};
 ghost use Rattle.dirtree.specs.Path.{find, names_up, path_of, walk};
 ghost use Rattle.dirtree.specs.Tree.{is_there};
@@ -15,19 +15,22 @@ impl Tree {
     ///
     /// The names are read from left to right, and the first that is no name, or isn't there, decides.
     pub fn find(&self, path: &str) -> Result<Dir, TreeError>
-        ensures { result ≡ find self.now.entries path.now }
+        ensures dir { result ≡ find self.now.entries path.now }
+        ensures below { IfOk result (λ dir. dir < self.now.limit) }
     {
         let Some(names) = path.strip_prefix('/') else {
             return Err(TreeError::BadName);
         };
         if names.is_empty() {
+            let _ = self.numbers();
             return Ok(Dir::ROOT);
         }
         self.walk(names)
     }
 
     fn walk(&self, names: &str) -> Result<Dir, TreeError>
-        ensures { result ≡ walk self.now.entries 0 (slice_split (λ c. c == 47) names.now) }
+        ensures dir { result ≡ walk self.now.entries 0 (slice_split (λ c. c == 47) names.now) }
+        ensures below { IfOk result (λ dir. dir < self.now.limit) }
     {
         let mut at = Dir::ROOT;
         let mut rest = names;
@@ -39,7 +42,8 @@ impl Tree {
     }
 
     fn step(&self, from: Dir, name: &str) -> Result<Dir, TreeError>
-        ensures { result ≡ walk self.now.entries from (name.now ∷ []) }
+        ensures child { result ≡ walk self.now.entries from (name.now ∷ []) }
+        ensures below { IfOk result (λ child. child < self.now.limit) }
     {
         if !is_name(name) {
             return Err(TreeError::BadName);

@@ -116,7 +116,8 @@ impl Tree {
 
     /// The child of this name, by one look-up in the parent's index.
     pub(crate) fn child(&self, parent: Dir, name: &str) -> Option<Dir>
-        ensures { result ≡ child_of self.now.entries parent name.now }
+        ensures child { result ≡ child_of self.now.entries parent name.now }
+        ensures below { IfSome result (λ child. child < self.now.limit) }
     {
         let _ = &self.limit;
         match indexed(&self.nodes, parent.number() as usize, name) {

@@ -1,0 +1,32 @@
+-- Why a line is faulty, in the words that are printed.
+use Rattle.std.specs.Prelude.{◌≡◌, ℕ, List, ◌++◌, ◌⊎◌, codes, Result, Ok, Err}
+use Rattle.dirtree.specs.declared.tree_error.TreeError.{TreeError}
+use Rattle.dirtree.specs.declared.tree_error.TreeError.TheVariants as tree
+use Rattle.dirtree.specs.TreeError as tree_words
+use Rattle.dir_pins.specs.declared.pin_error.PinError.{PinError}
+use Rattle.dir_pins.specs.PinError as pin_words
+use Rattle.script_session.specs.declared.fault.Fault.{Fault}
+use Rattle.script_session.specs.declared.fault.Fault.TheVariants.{Syntax, NoRanks, RanksAgain, Memory, Tree, Pin, Pinned}
+
+abbrev pub words : Fault → List ℕ
+words Syntax = codes "syntax"
+words NoRanks = codes "no ranks"
+words RanksAgain = codes "ranks again"
+words Memory = codes "refused 0 Memory"
+words (Tree e) = codes "refused " ++ tree_words.words e
+words (Pin e) = codes "refused " ++ pin_words.words e
+words Pinned = codes "refused 35 Pinned"
+
+-- want of memory is one fault, wherever it comes from
+abbrev pub tree_fault : TreeError → Fault
+tree_fault tree.Memory = Memory
+tree_fault tree.NoDir = Tree tree.NoDir
+tree_fault tree.Exists = Tree tree.Exists
+tree_fault tree.BadName = Tree tree.BadName
+tree_fault tree.NotEmpty = Tree tree.NotEmpty
+tree_fault tree.IsRoot = Tree tree.IsRoot
+tree_fault tree.TreeFull = Tree tree.TreeFull
+
+-- the fault is the one that is due, or want of memory
+abbrev pub IsDue : {A : Type 0} → Result A Fault → Fault → Type 0
+IsDue due fault = (due ≡ Err fault) ⊎ (fault ≡ Memory)

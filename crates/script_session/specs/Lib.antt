@@ -1,0 +1,4 @@
+pub mod Board
+pub mod Commands
+pub mod Fault
+pub mod Session

@@ -1,0 +1,52 @@
+//! Why a line is faulty.
+ghost use Rattle.std.specs.Prelude.{◌≡◌};
+ghost use Rattle.script_session.specs.declared.fault.Fault.TheVariants.{Memory};
+ghost use Rattle.script_session.specs.Fault.{tree_fault};
+
+use dir_pins::PinError;
+use dirtree::TreeError;
+use std::alloc::{AllocError, AllocFailed};
+
+/// Why a line is faulty. It left everything as it was.
+#[derive(Clone, Copy, Debug, PartialEq, Eq)]
+pub enum Fault {
+    /// No command is spelled so.
+    Syntax,
+    /// `ranks` was not accepted yet.
+    NoRanks,
+    /// `ranks` was accepted already.
+    RanksAgain,
+    /// The allocator refused a growth.
+    Memory,
+    Tree(TreeError),
+    Pin(PinError),
+    /// A pin holds a directory that is named as a top.
+    Pinned,
+}
+
+impl From<AllocError> for Fault {
+    ghost from_gives = { λ _ e. e ≡ Memory };
+
+    fn from(_e: AllocError) -> Fault {
+        Fault::Memory
+    }
+}
+
+impl<T: Drop> From<AllocFailed<T>> for Fault {
+    ghost from_gives = { λ _ e. e ≡ Memory };
+
+    fn from(_e: AllocFailed<T>) -> Fault {
+        Fault::Memory
+    }
+}
+
+impl From<TreeError> for Fault {
+    ghost from_gives = { λ refusal e. e ≡ tree_fault refusal };
+
+    fn from(e: TreeError) -> Fault {
+        match e {
+            TreeError::Memory => Fault::Memory,
+            e => Fault::Tree(e),
+        }
+    }
+}
