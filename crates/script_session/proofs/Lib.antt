@@ -1,1 +1,2 @@
-
+pub mod BoardLemmas
+pub mod SlashLemmas

@@ -1,0 +1,4 @@
+use Rattle.script_session.proofs.report.write_fault.Goals as goal
+
+pub returns-in-Memory-clause-err : goal.returns-in-Memory-clause-err
+returns-in-Memory-clause-err g c = rw c.in-Memory.is c.write_refusal.ensures.err
