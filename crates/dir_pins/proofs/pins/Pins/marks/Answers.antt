@@ -1,4 +1,4 @@
-use Rattle.std.proofs.Common.{◌≡◌, ◌<◌, ◌∙◌, ℕ, ◌+◌, List, Option, Bool, true, false, refl, arith, length, get_or, set, length-set}
+use Rattle.std.proofs.Common.{◌≡◌, ◌<◌, ◌∙◌, ℕ, List, Option, refl, arith, length, length-set}
 use Rattle.dirtree.specs.Tree.{Entry}
 use Rattle.dir_pins.specs.Pins.{is_unpinned}
 use Rattle.dir_pins.proofs.NearestPin.{known_more}

@@ -1,4 +1,4 @@
-use Rattle.std.proofs.Common.{◌≡◌, ◌<◌, ◌≤◌, ℕ, length, false}
+use Rattle.std.proofs.Common.{◌≡◌, ◌<◌, ℕ, length, false}
 use Rattle.std.specs.Prelude.{slice_index_or}
 use Rattle.dir_pins.specs.Pins.{is_unpinned}
 use Rattle.dir_pins.proofs.pins.Pins.marks.Given as goal
