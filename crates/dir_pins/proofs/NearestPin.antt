@@ -77,3 +77,7 @@ known_more known test n v inside is before d h = elim (cases_eq d n) [
   | inl here ↦ rw here (get_or-set_same known n v false inside ∙ is)
   | inr other ↦ get_or-set_other known n d v false other ∙ before d (omega (arith, h, other))
 ]
+
+-- the mark that was read
+pub read_mark : (marks : List Bool) (n : ℕ) (v : Bool) → n < length marks → v ≡ get_or marks n v → v ≡ get_or marks n false
+read_mark marks n v inside is = grind (arith, common_steps)

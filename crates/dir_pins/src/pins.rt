@@ -116,19 +116,30 @@ impl Pins {
         dir == Dir::ROOT || known[row.parent.number() as usize]
     }
 
-    /// The directories that no pin holds, by rising numbers: one pass, since a parent's number is smaller.
+    /// For each number, whether its directory is there and no pin holds it: one pass, since a parent's number is smaller.
+    pub fn marks(&self, alloc: Global, tree: &Tree) -> Result<Vec<bool>, AllocError>
+        requires { tree.now.limit ≤ length self.now.own }
+        ensures size { IfOk result (λ marks. length marks.items ≡ length tree.now.entries) }
+        ensures unpinned { IfOk result (λ marks. (d : ℕ) → d < length tree.now.entries → slice_index_or marks.items d false ≡ is_unpinned tree.now.entries self.now.own d) }
+    {
+        let mut known = vec![in alloc; false; tree.numbers() as usize]?;
+        for number in 0..tree.numbers() {
+            let is_free = self.is_unpinned(tree, &known, Dir::new(number));
+            known[number as usize] = is_free;
+        }
+        Ok(known)
+    }
+
+    /// The directories that no pin holds, by rising numbers.
     pub fn unpinned(&self, alloc: Global, tree: &Tree) -> Result<Vec<Dir>, AllocError>
         requires { tree.now.limit ≤ length self.now.own }
         ensures { IfOk result (λ dirs. dirs.items ≡ unpinned tree.now.entries self.now.own) }
     {
-        let mut known = vec![in alloc; false; tree.numbers() as usize]?;
+        let marks = self.marks(alloc, tree)?;
         let mut dirs = Vec::new(alloc);
         for number in 0..tree.numbers() {
-            let dir = Dir::new(number);
-            let is_free = self.is_unpinned(tree, &known, dir);
-            known[number as usize] = is_free;
-            if is_free {
-                dirs.push(dir)?;
+            if marks[number as usize] {
+                dirs.push(Dir::new(number))?;
             }
         }
         Ok(dirs)

@@ -1,0 +1,6 @@
+//! The division of a tree into parts below chosen tops, with the heat and the inodes of each part.
+#![tactic(auto)]
+
+mod division;
+
+pub use division::{Part, greatest_heat, parts};
