@@ -27,6 +27,10 @@ pub read_none : (a b c : Option (List ℕ)) (bytes buffer : List ℕ) (n : ℕ) 
 read_none a b c bytes buffer n before now none =
     subst (λ (t : List ℕ). Consumes a c t) (append-nil bytes) (Consumes-trans a b c bytes [] before (subst (λ (k : ℕ). Consumes b c (take k buffer)) none now))
 
+still_strict : (s : Bool) → s ≡ true → (s && not false) ≡ false → ⊥
+still_strict true is e = cc
+still_strict false is e = cc
+
 module _ {S : Type 0} (answers : S → ℕ → List ℕ → Answer → S → Type 0) (strict : Bool) (start : S) where
   -- no line has begun at the end of the input
   pub ends_clean : (bytes text : List ℕ) (now : S) (p : Progress) (s : Stands answers strict start bytes text now p) → s.rest ≡ [] → Ends answers strict start bytes text [] now p.accepted
@@ -82,6 +86,24 @@ module _ {S : Type 0} (answers : S → ℕ → List ℕ → Answer → S → Typ
       let cut : lines_of input ≡ s.lines ++ lines_of (s.rest ++ left) = ap lines_of (consumed ∙ ap (λ (t : List ℕ). t ++ left) s.split ∙ append_assoc (ended s.lines) s.rest left) ∙ lines_of_ended s.lines (s.rest ++ left) s.are_lines in (
         s.replies,
         subst (λ (ls : List (List ℕ)). Run answers strict start 1 ls s.replies now) (sym cut) (run_over answers strict start now 1 s.lines (lines_of (s.rest ++ left)) s.replies s.run (ap (λ (v : Bool). strict && not v) (sym s.good) ∙ over)),
+        sym bad ∙ s.good,
+        subst (λ (t : List ℕ). Appends u w t) s.written written,
+      )
+
+  -- all bytes that came are answered, the reader's last of them
+  pub consumed_at_end : (a b u v w : Option (List ℕ)) (bytes text more : List ℕ) (new : S) (accepted : Bool) → Ends answers strict start bytes text more new accepted → Consumes a b bytes → IsAtEnd b → Appends u v text → Appends v w more → (bytes : List ℕ) × (replies : List Answer) × Consumes a b bytes × ((strict && not accepted) ≡ false → IsAtEnd b) × Run answers strict start 1 (lines_of bytes) replies new × (accepted ≡ all_accepted replies) × Appends u w (text_of replies)
+  consumed_at_end a b u v w bytes text more new accepted e consumed over first second =
+      (bytes, e.replies, consumed, λ going. over, e.run, e.good, subst (λ (t : List ℕ). Appends u w t) e.written (Appends-trans u v w text more first second))
+
+  -- all bytes that came are answered up to the line with which a strict run ends
+  pub consumed_early : (a b u w : Option (List ℕ)) (bytes text : List ℕ) (now : S) (p : Progress) → Stands answers strict start bytes text now p → strict ≡ true → (strict && not p.accepted) ≡ true → p.accepted ≡ false → Consumes a b bytes → Appends u w text → (bytes : List ℕ) × (replies : List Answer) × Consumes a b bytes × ((strict && not false) ≡ false → IsAtEnd b) × Run answers strict start 1 (lines_of bytes) replies now × (false ≡ all_accepted replies) × Appends u w (text_of replies)
+  consumed_early a b u w bytes text now p s is over bad consumed written =
+      let cut : lines_of bytes ≡ s.lines ++ lines_of s.rest = ap lines_of s.split ∙ lines_of_ended s.lines s.rest s.are_lines in (
+        bytes,
+        s.replies,
+        consumed,
+        λ going. absurd (still_strict strict is going),
+        subst (λ (ls : List (List ℕ)). Run answers strict start 1 ls s.replies now) (sym cut) (run_over answers strict start now 1 s.lines (lines_of s.rest) s.replies s.run (ap (λ (v : Bool). strict && not v) (sym s.good) ∙ over)),
         sym bad ∙ s.good,
         subst (λ (t : List ℕ). Appends u w t) s.written written,
       )

@@ -1,25 +1,36 @@
 //! Reads a script to its end, and has each line answered.
-ghost use Rattle.std.specs.Prelude.{◌≡◌, ℕ, ◌+◌, ◌^◌, ◌++◌, List, IfOk, IfSome, IsErrOf};
-ghost use Rattle.std.specs.Io.KnownBytes.{Appends, Consumes};
+ghost use Rattle.std.specs.Prelude.{◌≡◌, ℕ, ◌+◌, ◌^◌, ◌++◌, List, IfOk, IfSome, IsErrOf, false, not, ◌&&◌};
+ghost use Rattle.std.specs.Io.KnownBytes.{Appends, Consumes, IsAtEnd};
 ghost use Rattle.script_engine.specs.Known.{AppendsFront};
 ghost use Rattle.script_engine.specs.Answers.{Answer, Run, text_of, all_accepted};
 ghost use Rattle.script_engine.specs.Lines.{lines_of, whole_lines};
 
 use crate::interpreter::Interpreter;
-use crate::progress::{Progress, finish, take_piece};
+use crate::progress::Progress;
 use std::alloc::Global;
 use std::io::{Read, Write};
+use thiserror::Error;
 
-/// A device failed. Where reads come to no end, that is a read that failed.
-#[derive(Clone, Copy, Debug, PartialEq, Eq)]
+/// A device failed.
+#[derive(Clone, Copy, Debug, PartialEq, Eq, Hash, Error)]
 pub enum RunError {
+    /// A read failed, or reads came to no end.
+    #[error("read failed")]
     Read,
+    /// A write failed, or took no byte.
+    #[error("write failed")]
     Write,
 }
 
-const MAX_READS: u64 = 1 << 40;
+/// How many reads a run makes at most. Where so many reads came to no end, the next counts as one that failed,
+/// and all bytes that came were carried out.
+pub const READ_LIMIT: u64 = 1 << 40;
 
 /// Reads a script to its end, and has each of its lines answered. Says whether each was accepted.
+///
+/// A strict run ends after the first line that isn't accepted. What was read behind that line is lost.
+/// An answer that is an `Err` of the reader or the writer ends the run, an interrupted call too.
+/// A line that finds no room in memory is answered `line L: refused 0 Memory`, and the run goes on.
 pub fn run_script<I: Interpreter, R: Read, W: Write>(
     alloc: Global,
     interpreter: &mut I,
@@ -31,6 +42,13 @@ pub fn run_script<I: Interpreter, R: Read, W: Write>(
         × Run I.answers strict interpreter.old 1 (lines_of input) replies interpreter.new
         × (accepted ≡ all_accepted replies)
         × Appends (W.contents writer.old) (W.contents writer.new) (text_of replies))) }
+    // The same for the bytes that came, of a reader too that doesn't tell them beforehand.
+    ensures consumed { IfOk result (λ accepted. (bytes : List ℕ) × (replies : List Answer)
+        × Consumes (R.remaining reader.old) (R.remaining reader.new) bytes
+        × ((strict && not accepted) ≡ false → IsAtEnd (R.remaining reader.new))
+        × Run I.answers strict interpreter.old 1 (lines_of bytes) replies interpreter.new
+        × (accepted ≡ all_accepted replies)
+        × Appends (W.contents writer.old) (W.contents writer.new) (text_of replies)) }
     // Where a read fails, the lines that were whole were answered.
     ensures read { IsErrOf result RunError.Read → (bytes : List ℕ) × (replies : List Answer)
         × Consumes (R.remaining reader.old) (R.remaining reader.new) bytes
@@ -50,18 +68,18 @@ pub fn run_script<I: Interpreter, R: Read, W: Write>(
         number: 1,
         accepted: true,
     };
-    for _ in 0..MAX_READS {
+    for _ in 0..READ_LIMIT {
         let Ok(count) = reader.read(&mut buffer) else {
             return Err(RunError::Read);
         };
         if count == 0 {
-            let Ok(accepted) = finish(&mut progress, alloc, interpreter, writer) else {
+            let Ok(accepted) = progress.finish(alloc, interpreter, writer) else {
                 return Err(RunError::Write);
             };
             return Ok(accepted);
         }
         let piece = &buffer[..count];
-        let Ok(()) = take_piece(&mut progress, alloc, interpreter, writer, strict, piece) else {
+        let Ok(()) = progress.take_piece(alloc, interpreter, writer, strict, piece) else {
             return Err(RunError::Write);
         };
         if strict && !progress.accepted {
@@ -70,3 +88,6 @@ pub fn run_script<I: Interpreter, R: Read, W: Write>(
     }
     Err(RunError::Read)
 }
+
+#[cfg(test)]
+mod tests;

@@ -4,7 +4,7 @@ use Rattle.std.proofs.lemmas.Result.{err_from_is_err_and}
 use Rattle.script_engine.specs.Progress.{Broken}
 use Rattle.script_engine.proofs.KnownLemmas.{front_after}
 use Rattle.script_engine.proofs.ProgressLemmas.{moved, broken_more, broken_after, piece_more, piece_all, piece_rest}
-use Rattle.script_engine.proofs.progress.take_piece.Goals as goal
+use Rattle.script_engine.proofs.progress.Progress.take_piece.Goals as goal
 
 pub loop-byte-preserved : goal.loop-byte-preserved
 loop-byte-preserved g c =
