@@ -276,3 +276,6 @@ indexed_below limit nodes p d name sound h =
     let at = sound.index.finds p d name h in
     let few : d < length (entries_of nodes) = inside (entries_of nodes) d (there_by_key (entries_of nodes) d (key p name) at.1) in
     omega (arith, few, length-entries nodes, sound.within)
+
+pub indexed_there : (limit : ℕ) (nodes : List (Option Node)) (p d : ℕ) (name : List ℕ) → IsSound limit nodes → indexed_at nodes p name ≡ Some d → is_there (entries_of nodes) d ≡ true
+indexed_there limit nodes p d name sound h = there_by_key (entries_of nodes) d (key p name) (sound.index.finds p d name h).1

@@ -17,6 +17,7 @@ impl Tree {
     pub fn find(&self, path: &str) -> Result<Dir, TreeError>
         ensures dir { result ≡ find self.now.entries path.now }
         ensures below { IfOk result (λ dir. dir < self.now.limit) }
+        ensures there { IfOk result (λ dir. is_there self.now.entries dir ≡ true) }
     {
         let Some(names) = path.strip_prefix('/') else {
             return Err(TreeError::BadName);
@@ -31,6 +32,7 @@ impl Tree {
     fn walk(&self, names: &str) -> Result<Dir, TreeError>
         ensures dir { result ≡ walk self.now.entries 0 (slice_split (λ c. c == 47) names.now) }
         ensures below { IfOk result (λ dir. dir < self.now.limit) }
+        ensures there { IfOk result (λ dir. is_there self.now.entries dir ≡ true) }
     {
         let mut at = Dir::ROOT;
         let mut rest = names;
@@ -44,6 +46,7 @@ impl Tree {
     fn step(&self, from: Dir, name: &str) -> Result<Dir, TreeError>
         ensures child { result ≡ walk self.now.entries from (name.now ∷ []) }
         ensures below { IfOk result (λ child. child < self.now.limit) }
+        ensures there { IfOk result (λ child. is_there self.now.entries child ≡ true) }
     {
         if !is_name(name) {
             return Err(TreeError::BadName);

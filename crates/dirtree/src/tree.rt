@@ -118,6 +118,7 @@ impl Tree {
     pub(crate) fn child(&self, parent: Dir, name: &str) -> Option<Dir>
         ensures child { result ≡ child_of self.now.entries parent name.now }
         ensures below { IfSome result (λ child. child < self.now.limit) }
+        ensures there { IfSome result (λ child. is_there self.now.entries child ≡ true) }
     {
         let _ = &self.limit;
         match indexed(&self.nodes, parent.number() as usize, name) {

@@ -1,4 +1,5 @@
 pub mod Board
 pub mod Commands
+pub mod Cost
 pub mod Fault
 pub mod Session

@@ -8,7 +8,8 @@ use Rattle.script_session.specs.declared.fault.Fault.TheVariants.{Syntax, NoRank
 use Rattle.script_session.specs.declared.session.Session.{Session}
 use Rattle.script_session.specs.Board.{BoardData, empty_board}
 use Rattle.script_session.specs.Fault.{words}
-use Rattle.script_session.specs.Commands.{make_dir, set_pin, load, go, ◌>>=◌}
+use Rattle.script_session.specs.Commands.{make_dir, set_pin, load, go}
+use Rattle.script_session.specs.Cost.{cost}
 
 -- what a command prints, and the board after it
 abbrev pub Outcome : Type 0
@@ -18,13 +19,17 @@ abbrev pub silent : Result BoardData Fault → Outcome
 silent (Ok b) = Ok ([], b)
 silent (Err e) = Err e
 
+abbrev pub printed : BoardData → Result (List ℕ) Fault → Outcome
+printed b (Ok text) = Ok (text, b)
+printed b (Err e) = Err e
+
 abbrev pub on_board : BoardData → Command → Outcome
 on_board b (line.Ranks n) = Err RanksAgain
 on_board b (line.MakeDir path inodes) = silent (make_dir b path inodes)
 on_board b (line.Pin path value) = silent (set_pin b path value)
 on_board b (line.Load path hits) = silent (load b path hits)
 on_board b line.Go = Ok ([], go b)
-on_board b (line.Cost paths) = Ok ([], b)
+on_board b (line.Cost paths) = printed b (cost b paths)
 
 abbrev pub before_ranks : ℕ → Command → Outcome
 before_ranks limit (line.Ranks n) = Ok ([], empty_board limit n)
@@ -33,6 +38,10 @@ before_ranks limit command = Err NoRanks
 abbrev pub outcome_at : ℕ → Option BoardData → Command → Outcome
 outcome_at limit None command = before_ranks limit command
 outcome_at limit (Some b) command = on_board b command
+
+-- the text that a session gave for a command, and the board that it has then
+abbrev pub IsDone : Outcome → List ℕ → Session → Type 0
+IsDone due text new = (b : BoardData) × (due ≡ Ok (text, b)) × (new.board ≡ Some b)
 
 abbrev pub fault_answer : ℕ → Fault → Answer
 fault_answer number fault = record { text = fault_text number (words fault); accepted = false; ample = true }

@@ -1,13 +1,18 @@
 //! The tree with its pins, its heats, and the requests that wait.
-ghost use Rattle.std.specs.Prelude.{◌≡◌, ◌<◌, ◌≤◌, All, IfErr, IfOk, OnErr, OnOk, Ok, fold};
+ghost use Rattle.std.specs.Prelude.{◌≡◌, ◌<◌, ◌≤◌, All, ℕ, List, IfErr, IfOk, OnErr, OnOk, Ok, fold, length, slice_index_or, string_bytes, true, false};
+ghost use Rattle.dirtree.specs.Path.{path_of};
+ghost use Rattle.dirtree.specs.Tree.{is_there};
+ghost use Rattle.dir_pins.specs.Pins.{nearest_pin};
+ghost use Rattle.division_cost.specs.Parts.{Marks, parts};
 ghost use Rattle.script_session.specs.Commands.{deposit};
 
 use crate::fault::Fault;
 use crate::load::Load;
 use dir_pins::Pins;
 use dirtree::{Tree, TreeError};
+use division_cost::Part;
 use heat_decay::Heat;
-use mds_types::Dir;
+use mds_types::{Dir, Rank};
 use std::alloc::{AllocError, Global};
 use std::marker::Model;
 
@@ -51,9 +56,50 @@ impl Board {
         })
     }
 
-    fn find(&self, path: &str) -> Result<Dir, Fault>
+    /// How many directory numbers were given.
+    pub(crate) fn numbers(&self) -> u32
+        ensures count { result ≡ length self.now.directories.entries }
+        ensures some { 1 ≤ result }
+    {
+        self.tree.numbers()
+    }
+
+    /// The path of a directory that is there.
+    pub(crate) fn path(&self, alloc: Global, dir: Dir) -> Result<String, AllocError>
+        requires { is_there self.now.directories.entries dir ≡ true }
+        ensures { IfOk result (λ path. string_bytes path ≡ path_of self.now.directories.entries dir) }
+    {
+        match self.tree.path(alloc, dir) {
+            Ok(path) => Ok(path),
+            Err(_) => Err(AllocError),
+        }
+    }
+
+    /// The pin that holds a directory that is there.
+    pub(crate) fn pin_of(&self, dir: Dir) -> Option<Rank>
+        requires { is_there self.now.directories.entries dir ≡ true }
+        ensures { result ≡ nearest_pin self.now.directories.entries self.now.pins.own dir }
+    {
+        match self.pins.pin_of(&self.tree, dir) {
+            Ok(pin) => pin,
+            Err(_) => unreachable!(),
+        }
+    }
+
+    /// The parts below these tops.
+    pub(crate) fn parts(&self, alloc: Global, is_top: &[bool]) -> Result<Vec<Part>, AllocError>
+        requires size { length is_top.now ≡ length self.now.directories.entries }
+        requires root { slice_index_or is_top.now 0 false ≡ true }
+        ensures parts { (tops : List ℕ) → Marks is_top.now tops → IfOk result (λ found. found.items ≡ parts self.now.directories.entries self.now.pins.own self.now.heats.heats tops) }
+    {
+        division_cost::parts(alloc, &self.tree, &self.pins, &self.heat, is_top)
+    }
+
+    /// The directory that a path names.
+    pub(crate) fn find(&self, path: &str) -> Result<Dir, Fault>
         ensures dir { result ≡ find self.now path.now }
         ensures below { IfOk result (λ dir. dir < self.now.directories.limit) }
+        ensures there { IfOk result (λ dir. is_there self.now.directories.entries dir ≡ true) }
     {
         match self.tree.find(path) {
             Ok(dir) => Ok(dir),

@@ -2,6 +2,7 @@
 #![tactic(auto)]
 
 pub mod board;
+mod cost;
 pub mod fault;
 pub mod load;
 pub mod report;

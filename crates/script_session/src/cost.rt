@@ -1,0 +1,82 @@
+//! The command `cost`: the heat and the inodes of each part of a division.
+ghost use Rattle.std.specs.Prelude.{◌≡◌, ◌<◌, ℕ, List, All, IfErr, IfOk, Ok, length, map, slice_index_or, string_bytes, true, false};
+ghost use Rattle.dirtree.specs.Tree.{is_there};
+ghost use Rattle.division_cost.specs.Parts.{Marks};
+ghost use Rattle.script_session.specs.Cost.{AreThere, cost, cost_line, cost_text, part_line, top, tops};
+ghost use Rattle.script_session.specs.Fault.{IsDue};
+
+use crate::board::Board;
+use crate::fault::Fault;
+use division_cost::{Part, greatest_heat, parts};
+use mds_types::Dir;
+use std::alloc::{AllocError, Global};
+
+impl Board {
+    /// The lines that say what the division at these tops costs. The root is a top too.
+    pub fn cost(&self, alloc: Global, paths: &[&str]) -> Result<String, Fault>
+        ensures done { IfOk result (λ text. cost self.now (map (λ path. path.now) paths.now) ≡ Ok (string_bytes text)) }
+        ensures fault { IfErr result (IsDue (cost self.now (map (λ path. path.now) paths.now))) }
+    {
+        let is_top = self.tops(alloc, paths)?;
+        let parts = self.parts(alloc, &is_top)?;
+        let text = self.cost_text(alloc, &parts)?;
+        Ok(text)
+    }
+
+    /// The directory that a path names, which no pin may hold.
+    fn top(&self, path: &str) -> Result<Dir, Fault>
+        ensures top { result ≡ top self.now path.now }
+        ensures inside { IfOk result (λ dir. dir < length self.now.directories.entries) }
+    {
+        let dir = self.find(path)?;
+        match self.pin_of(dir) {
+            None => Ok(dir),
+            Some(_) => Err(Fault::Pinned),
+        }
+    }
+
+    /// For each number, whether it is a top.
+    fn tops(&self, alloc: Global, paths: &[&str]) -> Result<Vec<bool>, Fault>
+        ensures size { IfOk result (λ is_top. length is_top.items ≡ length self.now.directories.entries) }
+        ensures tops { IfOk result (λ is_top. (ts : List ℕ) × (tops self.now (map (λ path. path.now) paths.now) ≡ Ok ts) × Marks is_top.items ts) }
+        ensures fault { IfErr result (IsDue (tops self.now (map (λ path. path.now) paths.now))) }
+    {
+        let mut is_top = vec![in alloc; false; self.numbers() as usize]?;
+        is_top[0] = true;
+        for path in paths {
+            let dir = self.top(path)?;
+            is_top[dir.number() as usize] = true;
+        }
+        Ok(is_top)
+    }
+
+    fn cost_text(&self, alloc: Global, parts: &[Part]) -> Result<String, AllocError>
+        requires { AreThere self.now parts.now }
+        ensures { IfOk result (λ text. string_bytes text ≡ cost_text self.now parts.now) }
+    {
+        let mut text = cost_line(alloc, parts)?;
+        for part in parts {
+            let line = self.part_line(alloc, *part)?;
+            text.push_str(&line)?;
+        }
+        Ok(text)
+    }
+
+    fn part_line(&self, alloc: Global, part: Part) -> Result<String, AllocError>
+        requires { is_there self.now.directories.entries part.top ≡ true }
+        ensures { IfOk result (λ line. string_bytes line ≡ part_line self.now part) }
+    {
+        let path = self.path(alloc, part.top)?;
+        let heat = part.heat;
+        let inodes = part.inodes;
+        format!(in alloc; "part {path} heat {heat} inodes {inodes}\n")
+    }
+}
+
+fn cost_line(alloc: Global, parts: &[Part]) -> Result<String, AllocError>
+    ensures { IfOk result (λ line. string_bytes line ≡ cost_line parts.now) }
+{
+    let greatest = greatest_heat(parts);
+    let count = parts.len();
+    format!(in alloc; "cost greatest {greatest} parts {count}\n")
+}
