@@ -26,16 +26,16 @@ onto_first_plain b (part ∷ parts) plain all = and_from _ _ (and_from _ _ plain
 split_plain : (line : List ℕ) → list_all is_plain line ≡ true → list_all (list_all is_plain) (slice_split is_blank line) ≡ true
 split_plain [] e = refl
 split_plain (b ∷ line) e = elim (is_blank b) as (λ v. list_all (list_all is_plain) (cond v ([] ∷ slice_split is_blank line) (onto_first b (slice_split is_blank line))) ≡ true) [
-    | true ↦ split_plain line (and_parts _ _ e).1
-    | false ↦ onto_first_plain b (slice_split is_blank line) (and_parts _ _ e).0 (split_plain line (and_parts _ _ e).1)
-  ]
+  | true ↦ split_plain line (and_parts _ _ e).1
+  | false ↦ onto_first_plain b (slice_split is_blank line) (and_parts _ _ e).0 (split_plain line (and_parts _ _ e).1)
+]
 
 filter_plain : (test : List ℕ → Bool) (parts : List (List ℕ)) → list_all (list_all is_plain) parts ≡ true → list_all (list_all is_plain) (filter test parts) ≡ true
 filter_plain test [] e = refl
 filter_plain test (part ∷ parts) e = elim (test part) as (λ v. list_all (list_all is_plain) (cond v (part ∷ filter test parts) (filter test parts)) ≡ true) [
-    | true ↦ and_from _ _ (and_parts _ _ e).0 (filter_plain test parts (and_parts _ _ e).1)
-    | false ↦ filter_plain test parts (and_parts _ _ e).1
-  ]
+  | true ↦ and_from _ _ (and_parts _ _ e).0 (filter_plain test parts (and_parts _ _ e).1)
+  | false ↦ filter_plain test parts (and_parts _ _ e).1
+]
 
 -- the fields of a plain line are plain
 pub fields_plain : (line : List ℕ) → list_all is_plain line ≡ true → list_all (list_all is_plain) (fields line) ≡ true

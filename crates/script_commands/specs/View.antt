@@ -7,7 +7,7 @@ use Rattle.script_commands.specs.declared.line.Asked.{Asked}
 use Rattle.script_commands.specs.declared.line.Asked.TheVariants as found
 
 abbrev pub view : Command → line.Command
-view (made.Ranks n) = line.Ranks n
+view (made.Ranks n) = line.Ranks n.number
 view (made.MakeDir path n) = line.MakeDir path.now n
 view (made.Pin path value) = line.Pin path.now value
 view (made.Load path n) = line.Load path.now n

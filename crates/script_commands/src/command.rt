@@ -7,13 +7,13 @@ ghost use Rattle.script_commands.specs.View.{view};
 
 use crate::fields::text;
 use crate::number::{number, pin_value};
+use crate::rank_count::RankCount;
 use std::alloc::{AllocError, Global};
 
 /// A command, with the paths as they stand in the line.
 #[derive(Debug, Drop)]
 pub enum Command<'a> {
-    /// How many ranks are active, 1 to 64.
-    Ranks(u8),
+    Ranks(RankCount),
     /// A directory to make, and its inodes.
     MakeDir(&'a str, u32),
     /// An export pin: a rank, or -1 to take the directory's own pin away.
@@ -31,7 +31,7 @@ fn ranks<'a>(rest: &[&'a [u8]]) -> Option<Command<'a>>
 {
     match rest {
         [n] => match number(n, 1, 64) {
-            Some(n) => Some(Command::Ranks(n as u8)),
+            Some(n) => Some(Command::Ranks(RankCount { number: n as u8 })),
             None => None,
         },
         _ => None,

@@ -5,7 +5,8 @@ pub mod command;
 mod fields;
 pub mod line;
 mod number;
+pub mod rank_count;
 
 pub use command::Command;
-pub use line::Asked;
-pub use line::read_line;
+pub use line::{Asked, read_line};
+pub use rank_count::RankCount;

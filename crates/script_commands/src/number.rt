@@ -12,6 +12,7 @@ fn begins_with_plus(bytes: &[u8]) -> bool
 fn number_of(field: &str, low: u32, high: u32) -> Option<u32>
     ensures value { result ≡ number low high field.now }
     ensures bound { IfSome result (λ n. n ≤ high) }
+    ensures least { IfSome result (λ n. low ≤ n) }
 {
     if begins_with_plus(field.as_bytes()) {
         return None;
@@ -26,6 +27,7 @@ fn number_of(field: &str, low: u32, high: u32) -> Option<u32>
 pub fn number(field: &[u8], low: u32, high: u32) -> Option<u32>
     ensures value { result ≡ number low high field.now }
     ensures bound { IfSome result (λ n. n ≤ high) }
+    ensures least { IfSome result (λ n. low ≤ n) }
 {
     match str::from_utf8(field) {
         Ok(text) => number_of(text, low, high),

@@ -1,2 +1,4 @@
 pub mod BoardLemmas
+pub mod CostLemmas
+pub mod SessionLemmas
 pub mod SlashLemmas

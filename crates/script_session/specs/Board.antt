@@ -14,11 +14,11 @@ pub record BoardData : Type 0 where
 -- the root alone, without pin, heat or request
 abbrev pub empty_board : ℕ → ℕ → BoardData
 empty_board limit active = record {
-    directories = record { limit = limit; entries = Some root ∷ [] };
-    pins = no_pins limit active;
-    heats = record { limit = limit; ticks = 0; heats = replicate limit 0 };
-    loads = []
-  }
+  directories = record { limit = limit; entries = Some root ∷ [] };
+  pins = no_pins limit active;
+  heats = record { limit = limit; ticks = 0; heats = replicate limit 0 };
+  loads = [];
+}
 
 -- the parts of a board speak of the same numbers
 pub record IsBoard (board : BoardData) : Type 0 where

@@ -43,22 +43,35 @@ outcome_at limit (Some b) command = on_board b command
 abbrev pub IsDone : Outcome → List ℕ → Session → Type 0
 IsDone due text new = (b : BoardData) × (due ≡ Ok (text, b)) × (new.board ≡ Some b)
 
+-- what a line prints, and the session after it
+abbrev pub LineOutcome : Type 0
+LineOutcome = Result (List ℕ × Session) Fault
+
+abbrev pub held : Session → Outcome → LineOutcome
+held s (Ok done) = Ok (done.0, record s { board = Some done.1 })
+held s (Err fault) = Err fault
+
+abbrev pub asked_outcome : Session → Asked → LineOutcome
+asked_outcome s line.Nothing = Ok ([], s)
+asked_outcome s line.Syntax = Err Syntax
+asked_outcome s (line.Asks command) = held s (outcome_at s.limit s.board command)
+
+abbrev pub line_outcome : Session → List ℕ → LineOutcome
+line_outcome s bytes = asked_outcome s (asked bytes)
+
+abbrev pub accepted_answer : List ℕ → Answer
+accepted_answer text = record { text = text; accepted = true; ample = true }
+
 abbrev pub fault_answer : ℕ → Fault → Answer
 fault_answer number fault = record { text = fault_text number (words fault); accepted = false; ample = true }
 
--- a command is answered so where memory suffices
-abbrev pub told : Session → ℕ → Outcome → Answer × Session
-told s number (Ok done) = (record { text = done.0; accepted = true; ample = true }, record s { board = Some done.1 })
+abbrev pub told : Session → ℕ → LineOutcome → Answer × Session
+told s number (Ok done) = (accepted_answer done.0, done.1)
 told s number (Err fault) = (fault_answer number fault, s)
-
-abbrev pub said : Session → ℕ → Asked → Answer × Session
-said s number line.Nothing = (record { text = []; accepted = true; ample = true }, s)
-said s number line.Syntax = (fault_answer number Syntax, s)
-said s number (line.Asks command) = told s number (outcome_at s.limit s.board command)
 
 -- the answer to a line where memory suffices, and the session after it
 abbrev pub answer_to : Session → ℕ → List ℕ → Answer × Session
-answer_to s number bytes = said s number (asked bytes)
+answer_to s number bytes = told s number (line_outcome s bytes)
 
 abbrev pub out_of_memory : ℕ → Answer
 out_of_memory number = record { text = fault_text number (words Memory); accepted = false; ample = false }
@@ -66,5 +79,9 @@ out_of_memory number = record { text = fault_text number (words Memory); accepte
 -- A line is answered so. Where memory is refused nothing has changed.
 abbrev pub answers : Session → ℕ → List ℕ → Answer → Session → Type 0
 answers old number bytes a new =
-    ((a ≡ (answer_to old number bytes).0) × (new ≡ (answer_to old number bytes).1))
+    ((a, new) ≡ answer_to old number bytes)
     ⊎ ((a ≡ out_of_memory number) × (new ≡ old))
+
+-- the session at the beginning of a script
+abbrev pub IsBeginning : ℕ → Session → Type 0
+IsBeginning limit s = (s.limit ≡ limit) × (s.board ≡ None)

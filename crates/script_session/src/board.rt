@@ -129,7 +129,13 @@ impl Board {
         self.find(above)
     }
 
-    fn make_child(&mut self, alloc: Global, parent: Dir, name: &str, inodes: u32) -> Result<(), Fault>
+    fn make_child(
+        &mut self,
+        alloc: Global,
+        parent: Dir,
+        name: &str,
+        inodes: u32,
+    ) -> Result<(), Fault>
         ensures done { OnOk result (make_child self.old parent name.now inodes ≡ Ok self.new) }
         ensures fault { IfErr result (IsDue (make_child self.old parent name.now inodes)) }
         ensures unchanged { OnErr result (self.new ≡ self.old) }

@@ -1,5 +1,5 @@
 //! The command `cost`: the heat and the inodes of each part of a division.
-ghost use Rattle.std.specs.Prelude.{◌≡◌, ◌<◌, ℕ, List, All, IfErr, IfOk, Ok, length, map, slice_index_or, string_bytes, true, false};
+ghost use Rattle.std.specs.Prelude.{◌≡◌, ◌<◌, ◌≤◌, ℕ, List, All, IfErr, IfOk, Ok, length, map, slice_index_or, string_bytes, true, false};
 ghost use Rattle.dirtree.specs.Tree.{is_there};
 ghost use Rattle.division_cost.specs.Parts.{Marks};
 ghost use Rattle.script_session.specs.Cost.{AreThere, cost, cost_line, cost_text, part_line, top, tops};
@@ -38,6 +38,7 @@ impl Board {
     /// For each number, whether it is a top.
     fn tops(&self, alloc: Global, paths: &[&str]) -> Result<Vec<bool>, Fault>
         ensures size { IfOk result (λ is_top. length is_top.items ≡ length self.now.directories.entries) }
+        ensures some { IfOk result (λ is_top. 1 ≤ length is_top.items) }
         ensures tops { IfOk result (λ is_top. (ts : List ℕ) × (tops self.now (map (λ path. path.now) paths.now) ≡ Ok ts) × Marks is_top.items ts) }
         ensures fault { IfErr result (IsDue (tops self.now (map (λ path. path.now) paths.now))) }
     {

@@ -6,7 +6,7 @@ use Rattle.script_session.proofs.board.Board.go.Goals as goal
 
 pub invariant_of-self : goal.invariant_of-self
 invariant_of-self c = record {
-    pins_limit = c.self.invariant.pins_limit;
-    heats_limit = ap (λ (h : Heats). h.limit) c.serve.ensures ∙ fold-limit c.self.inside.heat c.deref.result.now ∙ c.self.invariant.heats_limit;
-    loads_inside = rw c.clear.ensures.items (search rules);
-  }
+  pins_limit = c.self.invariant.pins_limit;
+  heats_limit = ap (λ (h : Heats). h.limit) c.serve.ensures ∙ fold-limit c.self.inside.heat c.deref.result.now ∙ c.self.invariant.heats_limit;
+  loads_inside = rw c.clear.ensures.items (search rules);
+}
