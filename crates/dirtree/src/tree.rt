@@ -225,3 +225,6 @@ impl Tree {
         Ok(rows)
     }
 }
+
+#[cfg(test)]
+mod tests;
