@@ -134,3 +134,6 @@ impl Pins {
         Ok(dirs)
     }
 }
+
+#[cfg(test)]
+mod tests;
