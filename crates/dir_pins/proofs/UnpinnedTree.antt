@@ -1,9 +1,9 @@
 -- The unpinned directories, from one up to the root.
-use Rattle.std.proofs.Common.{◌≡◌, ℕ, zero, suc, ◌<◌, ◌≤◌, ◌+◌, List, [], ◌∷◌, ◌++◌, length, sym, ap, ◌∙◌, refl, subst, arith, Bool, true, false, ◌&&◌, Option, Some, None, ◌⊎◌, inl, inr, add-one, cond}
+use Rattle.std.proofs.Common.{◌≡◌, ℕ, zero, suc, ◌<◌, ◌≤◌, ◌+◌, List, [], ◌∷◌, ◌++◌, length, sym, ap, ◌∙◌, refl, subst, arith, Bool, true, false, ◌&&◌, Option, Some, None, ◌⊎◌, inl, inr}
 use Rattle.std.specs.Prelude.{Contains, is_none, filter}
 use Rattle.std.proofs.lemmas.Bool.{and_parts, and_right, cases_eq}
 use Rattle.std.proofs.lemmas.List.Elements.{All-contains, Contains-append_cases, Contains-append_left, Contains-push, Contains-push_cases, filter-append, filter_passes}
-use Rattle.dirtree.specs.Tree.{Entry, IsTree, is_there, parent_of, up, walk_up}
+use Rattle.dirtree.specs.Tree.{Entry, IsTree, is_there, parent_of, up}
 use Rattle.dirtree.proofs.Changes.{inside}
 use Rattle.dirtree.proofs.Walks.{above}
 use Rattle.dir_pins.specs.Pins.{IsAbove, IsNoneOrTree, below, is_unpinned, nearer, nearest_pin, own_pin, unpinned}
