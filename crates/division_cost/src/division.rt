@@ -100,7 +100,8 @@ fn totals(
     let nothing = Total { heat: 0, inodes: 0 };
     let mut totals = vec![in alloc; nothing; tree.numbers() as usize]?;
     for member in 0..tree.numbers() {
-        if marks[member as usize] {
+        let is_free = marks[member as usize];
+        if is_free {
             let dir = Dir::new(member);
             let top = tops[member as usize].number() as usize;
             let before = totals[top];

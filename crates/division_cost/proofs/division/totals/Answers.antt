@@ -6,7 +6,7 @@ use Rattle.division_cost.specs.declared.division.Total.{Total}
 use Rattle.division_cost.specs.Parts.{nothing}
 use Rattle.division_cost.proofs.Passes.{bounded_more, counted_more, counted_same, plus, plus-same, read}
 use Rattle.division_cost.proofs.division.totals.Goals as goal
-use Rattle.division_cost.proofs.division.totals.Goals.{then-marks-member, else-marks-member}
+use Rattle.division_cost.proofs.division.totals.Goals.{then-is_free, else-is_free}
 
 pub loop-member-preserved : goal.loop-member-preserved
 loop-member-preserved c =
@@ -18,8 +18,8 @@ loop-member-preserved c =
     let totals : List Total = c.loop-member.totals.items in
     let inside : n < length es = omega (arith, c.loop-member-test.true, c.numbers-member-end.ensures.value) in
     let at_tops : n < length tops = omega (arith, inside, c.requires.tops) in
-    elim c.if-marks-member.branch [
-      | then-marks-member w ↦
+    elim c.if-is_free.branch [
+      | then-is_free w ↦
           let top : ℕ = w.number-top.result in
           let more : Total = w.with.result in
           let at : get_or tops n 0 ≡ top = sym (w.number-top.ensures ∙ read tops n w.index-tops-member.result 0 at_tops w.index-tops-member.is) in
@@ -36,13 +36,13 @@ loop-member-preserved c =
             size = simp length-set c.loop-member.invariant.size;
             heat = bounded_more (λ sum. sum.heat) totals (length es) (2 ^ 40) (n * 2 ^ 40) ((n + 1) * 2 ^ 40) top more place within (omega (arith, was_heat, heat_before, w.heat.ensures.limited)) (omega arith) c.loop-member.invariant.heat;
             inodes = bounded_more (λ sum. sum.inodes) totals (length es) (2 ^ 32) (n * 2 ^ 32) ((n + 1) * 2 ^ 32) top more place within (omega (arith, was_inodes, inodes_before, w.inodes.ensures.small)) (omega arith) c.loop-member.invariant.inodes;
-            counted = counted_more es heats marks tops totals (length es) n top more w.if-marks-member.true at place within is c.loop-member.invariant.counted;
+            counted = counted_more es heats marks tops totals (length es) n top more w.if-is_free.true at place within is c.loop-member.invariant.counted;
           })
-      | else-marks-member w ↦
+      | else-is_free w ↦
           rw w.totals-is (record {
             size = c.loop-member.invariant.size;
             heat = λ t h. omega (arith, c.loop-member.invariant.heat t h);
             inodes = λ t h. omega (arith, c.loop-member.invariant.inodes t h);
-            counted = λ t h. c.loop-member.invariant.counted t h ∙ sym (counted_same es heats marks tops n t (and_left (get_or marks n false) _ w.if-marks-member.false));
+            counted = λ t h. c.loop-member.invariant.counted t h ∙ sym (counted_same es heats marks tops n t (and_left (get_or marks n false) _ w.if-is_free.false));
           })
     ]
