@@ -1,17 +1,16 @@
 -- The parts are connected, and divide what no pin holds.
-use Rattle.std.proofs.Common.{◌≡◌, ◌≢◌, ℕ, zero, suc, ◌<◌, ◌≤◌, ◌+◌, List, [], ◌∷◌, ◌++◌, length, map, max, sym, ap, ◌∙◌, refl, subst, arith, Bool, true, false, eqb, ◌&&◌, Option, Some, None, get_or, inl, inr}
+use Rattle.std.proofs.Common.{◌≡◌, ◌≢◌, ℕ, zero, suc, ◌<◌, ◌≤◌, ◌+◌, List, [], ◌∷◌, ◌++◌, length, sym, ap, ◌∙◌, refl, subst, arith, true, false, eqb, Option, Some, None, get_or, inl, inr}
 use Rattle.std.specs.Prelude.{filter, is_none}
 use Rattle.std.specs.List.{Contains}
 use Rattle.std.proofs.lemmas.Bool.{and_from, and_parts, cases_Bool, cases_eq, cases_lt, cases_order, eq-eqb, eqb-true, false≢true}
-use Rattle.std.proofs.lemmas.Grind.{common_steps}
-use Rattle.dirtree.specs.Tree.{Entry, IsTree, entry_at, is_there, parent_of}
+use Rattle.dirtree.specs.Tree.{Entry, IsTree, is_there, parent_of}
 use Rattle.dirtree.proofs.Changes.{inside}
 use Rattle.dirtree.proofs.Walks.{above}
 use Rattle.dir_pins.specs.Pins.{below, is_unpinned, nearest_pin, own_pin}
 use Rattle.dir_pins.proofs.NearestPin.{pinned, unpinned_by_parent}
 use Rattle.division_cost.specs.declared.division.Part.{Part}
 use Rattle.division_cost.specs.Parts.{greatest, is_free_top, is_member, is_top, members, part_at, parts, top_of}
-use Rattle.division_cost.specs.Division.{InPart, IsChain, IsConnected, IsDivision, IsEdge, IsGreatest}
+use Rattle.division_cost.specs.Division.{InPart, IsChain, IsDivision, IsEdge, IsGreatest}
 use Rattle.division_cost.proofs.Elements.{Contains-map, Contains-mapped, kept_below, passes_below}
 use Rattle.division_cost.proofs.Passes.{top_of-other, top_of-top}
 
@@ -133,8 +132,8 @@ module _ (es : List (Option Entry)) (own : List (Option ℕ)) (tops : List ℕ) 
       connected = λ p h c d mc md. joined (c + d) p.top c d (omega arith) (from_members p.top c mc) (from_members p.top d md);
       top = λ p h. (and_parts (is_unpinned es own p.top) (is_top tops p.top) (is_part p h).0).1;
       has_top = λ p h.
-        let both = and_parts (is_unpinned es own p.top) (is_top tops p.top) (is_part p h).0 in
-        in_members p.top p.top (member p.top p.top both.0 (top_of-top es tops p.top both.1));
+          let both = and_parts (is_unpinned es own p.top) (is_top tops p.top) (is_part p h).0 in
+          in_members p.top p.top (member p.top p.top both.0 (top_of-top es tops p.top both.1));
       heat = λ p h. sym (ap (λ (q : Part). q.heat) (is_part p h).1);
       inodes = λ p h. sym (ap (λ (q : Part). q.inodes) (is_part p h).1);
     }

@@ -23,12 +23,18 @@ fn counts_the_parts_of_two_directories(rt: HostRuntime) -> Result<(), Fail> {
 
     pins.set(&tree, b, 1)?;
     let found = parts(alloc, &tree, &pins, &heat, &[true, true, false])?;
-    assert_eq!(rt; found.as_slice(), [part(Dir::ROOT, 0, 1), part(a, 4, 10)].as_slice());
+    assert_eq!(rt;
+        found.as_slice(),
+        [part(Dir::ROOT, 0, 1), part(a, 4, 10)].as_slice()
+    );
     assert_eq!(rt; greatest_heat(&found), 4);
 
     // a top that a pin holds has no part
     let found = parts(alloc, &tree, &pins, &heat, &[true, true, true])?;
-    assert_eq!(rt; found.as_slice(), [part(Dir::ROOT, 0, 1), part(a, 4, 10)].as_slice());
+    assert_eq!(rt;
+        found.as_slice(),
+        [part(Dir::ROOT, 0, 1), part(a, 4, 10)].as_slice()
+    );
 
     pins.set(&tree, Dir::ROOT, 0)?;
     let found = parts(alloc, &tree, &pins, &heat, &[true, true, false])?;
@@ -54,12 +60,30 @@ fn counts_a_directory_to_its_nearest_top(rt: HostRuntime) -> Result<(), Fail> {
     tree.remove(b)?;
     let pins = Pins::new(alloc, 5, 2)?;
 
-    let found = parts(alloc, &tree, &pins, &heat, &[true, false, true, true, false])?;
-    assert_eq!(rt; found.as_slice(), [part(Dir::ROOT, 4, 11), part(c, 3, 12)].as_slice());
+    let found = parts(
+        alloc,
+        &tree,
+        &pins,
+        &heat,
+        &[true, false, true, true, false],
+    )?;
+    assert_eq!(rt;
+        found.as_slice(),
+        [part(Dir::ROOT, 4, 11), part(c, 3, 12)].as_slice()
+    );
     assert_eq!(rt; greatest_heat(&found), 4);
 
-    let found = parts(alloc, &tree, &pins, &heat, &[true, true, false, false, true])?;
-    assert_eq!(rt; found.as_slice(), [part(Dir::ROOT, 0, 1), part(a, 5, 17), part(d, 2, 5)].as_slice());
+    let found = parts(
+        alloc,
+        &tree,
+        &pins,
+        &heat,
+        &[true, true, false, false, true],
+    )?;
+    assert_eq!(rt;
+        found.as_slice(),
+        [part(Dir::ROOT, 0, 1), part(a, 5, 17), part(d, 2, 5)].as_slice()
+    );
     assert_eq!(rt; greatest_heat(&found), 5);
     Ok(())
 }
