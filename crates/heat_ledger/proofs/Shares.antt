@@ -67,13 +67,13 @@ join_fits limit v w n m hits hits' pending pending' begun begun' s t l =
     let both = join_kept limit v w n m hits hits' pending pending' begun begun' s t l in (
       both.light,
       λ d.
-      let fit = hits_fit limit (both_of v w) (n + m) (sums hits hits') (sums pending pending') (sums begun begun') both d in
-      let a = at_sums hits hits' d in let b = at_sums pending pending' d in
-      let x = s.begins d in let y = t.begins d in
-      let e = at_sums v.amounts w.amounts (begun_slot d) in
-      let back = l.backed (begun_slot d) in
-      let parts = l.parts in
-      (omega (arith, fit.0), omega (arith, fit.1), omega arith),
+          let fit = hits_fit limit (both_of v w) (n + m) (sums hits hits') (sums pending pending') (sums begun begun') both d in
+          let a = at_sums hits hits' d in let b = at_sums pending pending' d in
+          let x = s.begins d in let y = t.begins d in
+          let e = at_sums v.amounts w.amounts (begun_slot d) in
+          let back = l.backed (begun_slot d) in
+          let parts = l.parts in
+          (omega (arith, fit.0), omega (arith, fit.1), omega arith),
     )
 
 pub deposit_share : (limit : ℕ) (v : Hand) (weight : ℕ) (hits pending begun : List ℕ) → IsShare limit v weight hits pending begun

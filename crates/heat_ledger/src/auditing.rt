@@ -59,11 +59,7 @@ fn give_back(
 }
 
 /// Takes the shares' seats to the keeper's, learns what they have together, and gives each back.
-pub(crate) fn audit_all<J: Naming>(
-    desk: &Floor,
-    keeper: &mut Place,
-    shares: &mut Vec<Share<J>>,
-)
+pub(crate) fn audit_all<J: Naming>(desk: &Floor, keeper: &mut Place, shares: &mut Vec<Share<J>>)
     requires name { desk.now.table_id ≡ J.ledger }
     requires seated { IsSeated J.ledger keeper.old }
     requires keeper { keeper.old.me.0.keeps ≡ true }

@@ -3,8 +3,8 @@
 use crate::auditing::audit_all;
 use crate::closing::{gather, missing, none_left};
 use crate::missing::Missing;
-use crate::opening::{Room, deal, lay_out};
 use crate::opened::Opened;
+use crate::opening::{Room, deal, lay_out};
 use crate::row::Row;
 use crate::share::{HIT_LIMIT, Share};
 use crate::tally::{Desk, Place, grant, issue, learn, reissue};

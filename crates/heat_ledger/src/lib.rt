@@ -17,6 +17,8 @@ mod opening;
 mod row;
 mod share;
 mod tally;
+#[cfg(test)]
+mod tests;
 
 pub use book::Book;
 pub use hit_error::HitError;

@@ -140,13 +140,7 @@ impl Row {
 }
 
 // Marks a directory that has no count yet.
-fn note(
-    counts: &Vec<u64>,
-    touched: &mut Vec<u32>,
-    marks: &mut usize,
-    every: &mut bool,
-    dir: u32,
-)
+fn note(counts: &Vec<u64>, touched: &mut Vec<u32>, marks: &mut usize, every: &mut bool, dir: u32)
     requires tracked { IsTracked counts.now.items touched.old.items marks.old every.old }
     requires inside { dir < length counts.now.items }
     ensures tracked { IsTracked counts.now.items touched.new.items marks.new every.new }
@@ -233,13 +227,7 @@ fn is_zero_at(counts: &Vec<u64>, touched: &Vec<u32>, marks: usize) -> bool
 }
 
 // Moves the counts of the directories that may have one.
-fn move_all(
-    into: &mut Vec<u64>,
-    from: &mut Vec<u64>,
-    touched: &Vec<u32>,
-    marks: usize,
-    every: bool,
-)
+fn move_all(into: &mut Vec<u64>, from: &mut Vec<u64>, touched: &Vec<u32>, marks: usize, every: bool)
     requires lengths { length from.old.items ≡ length into.old.items }
     requires fits { (dir : ℕ) → at into.old.items dir + at from.old.items dir < 2 ^ 64 }
     requires tracked { IsTracked from.old.items touched.now.items marks every }

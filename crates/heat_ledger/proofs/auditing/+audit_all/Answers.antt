@@ -50,4 +50,4 @@ returns-clause-audited g t c =
     let order : c.args.shares.now.items ≡ c.pop.new.self.items ++ c.in-Some.share ∷ [] = search rules in
     let e = c.give_back-seat.ensures in
     audited_more g.J.Naming.limit c.args.keeper.now.me.0 s.seat.me.0 c.take_back.new.keeper.me.0 c.audit_all.new.keeper.me.0 c.give_back-seat.new.keeper.me.0 c.args.shares.now.items c.pop.new.self.items _ c.share.invariant.2 both c.audit_all.ensures.audited
-        (rw c.share.view_is order) e.keeper.0 e.keeper.1 e.amounts e.totals
+    (rw c.share.view_is order) e.keeper.0 e.keeper.1 e.amounts e.totals

@@ -14,7 +14,7 @@ reissue-requires-clause-amounts g c k = at_sums c.share.inside.seat.me.0.amounts
 pub reissue-requires-clause-backed : goal.reissue-requires-clause-backed
 reissue-requires-clause-backed g c k under was =
     begin_backed g.J.Naming.limit c.share.inside.seat.me.0 c.self.inside.seat.me.0 c.share.inside.weight c.self.inside.shares c.share.inside.hits c.share.inside.pending c.share.inside.begun c.self.inside.counted.items c.self.inside.begun.items c.args.dir
-        c.share.invariant.2 c.self.invariant.2 (subst (λ (b : BookData). at b.begun c.args.dir < most) (sym c.self.view_is) c.requires.room) k under was
+    c.share.invariant.2 c.self.invariant.2 (subst (λ (b : BookData). at b.begun c.args.dir < most) (sym c.self.view_is) c.requires.room) k under was
 
 pub raise-requires-clause-fits : goal.raise-requires-clause-fits
 raise-requires-clause-fits g c =
@@ -25,8 +25,7 @@ invariant_of-self g c =
     let b = c.self.inside in
     let e = c.reissue.ensures in
     let inside : c.number-row.result < length b.begun.items = omega (arith, c.number-row.ensures, c.requires.inside, c.self.invariant.2.as_begun) in
-    let found : c.index_mut.result.now ≡ at b.begun.items c.number-row.result = c.index_mut.ensures.value ∙ at_within b.begun.items c.number-row.result c.index_mut.result.now inside in
-    (
+    let found : c.index_mut.result.now ≡ at b.begun.items c.number-row.result = c.index_mut.ensures.value ∙ at_within b.begun.items c.number-row.result c.index_mut.result.now inside in (
       search rules,
       search rules,
       begin_book_at g.J.Naming.limit b.seat.me.0 c.reissue.new.keeper.me.0 b.shares c.args.dir c.number-row.result c.index_mut.result.now b.counted.items b.begun.items c.self.invariant.2 e.keeper.0 e.keeper.1 e.keeper.3 e.totals c.requires.inside c.number-row.ensures
@@ -39,8 +38,7 @@ pub invariant_of-share : goal.invariant_of-share
 invariant_of-share g c =
     let s = c.share.inside in
     let d = c.args.dir in
-    let met : holding s.seat.me.0.parts (sums s.seat.me.0.amounts (unit (begun_slot d))) ≡ c.reissue.new.seat.me.0 = search rules in
-    (
+    let met : holding s.seat.me.0.parts (sums s.seat.me.0.amounts (unit (begun_slot d))) ≡ c.reissue.new.seat.me.0 = search rules in (
       search rules,
       search rules,
       subst (λ (l : List ℕ). IsShare g.J.Naming.limit c.reissue.new.seat.me.0 s.weight s.hits s.pending l) (sym c.raise.ensures)

@@ -18,8 +18,7 @@ pub invariant_of-self : goal.invariant_of-self
 invariant_of-self g c =
     let b = c.self.inside in
     let p = c.share.inside.pending in
-    let e = c.reissue.ensures in
-    (
+    let e = c.reissue.ensures in (
       search rules,
       search rules,
       subst (λ (l : List ℕ). IsBook g.J.Naming.limit c.reissue.new.keeper.me.0 b.shares l b.begun.items) (sym c.move_into.ensures.into)
@@ -32,8 +31,7 @@ pub invariant_of-share : goal.invariant_of-share
 invariant_of-share g c =
     let s = c.share.inside in
     let met : holding s.seat.me.0.parts (sums s.seat.me.0.amounts (spread s.pending)) ≡ c.reissue.new.seat.me.0 = search rules in
-    let zero : replicate g.J.Naming.limit 0 ≡ c.move_into.new.self = ap (λ (n : ℕ). replicate n 0) (sym c.share.invariant.2.as_pending) ∙ sym c.move_into.ensures.zero in
-    (
+    let zero : replicate g.J.Naming.limit 0 ≡ c.move_into.new.self = ap (λ (n : ℕ). replicate n 0) (sym c.share.invariant.2.as_pending) ∙ sym c.move_into.ensures.zero in (
       search rules,
       search rules,
       subst (λ (l : List ℕ). IsShare g.J.Naming.limit c.reissue.new.seat.me.0 s.weight s.hits l s.begun) zero
