@@ -196,8 +196,8 @@ impl<J: Naming> Known<J> {
         self.count == other.count
     }
 
-    /// This beginning with one operation more. Only the writer has the word, so it is `None` for no
-    /// writer; that nobody else appended is found out by the step itself.
+    /// This beginning with one operation more, or `None` where the list is longer already. That
+    /// doesn't happen to the one writer, which has the word to itself.
     pub(crate) fn with(&self, count: &Count<J>, change: &Change) -> Option<Known<J>>
         requires { length self.now < 2 ^ 62 }
         ensures { IfSome result (λ known. known ≡ self.now ++ change.now ∷ []) }
@@ -205,8 +205,9 @@ impl<J: Naming> Known<J> {
         let expected = self.count;
         let mut seen = self.seen.again();
         let mut pen = seen.no_pen();
-        let mut offer: Offer<Change, u64, Counted, Nothing> = seen
-            .plain::<Nothing, Change, Append>(change);
+        let mut offer: Offer<Change, u64, Counted, Nothing> = seen.plain::<Nothing, Change, Append>(
+            change,
+        );
         let found = count
             .count
             .compare_exchange::<Append, Nothing>(

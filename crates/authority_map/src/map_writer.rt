@@ -141,7 +141,10 @@ impl<J: Naming, R: Wait + Drop> WriterOf<J, Table<J>, Entry<J>, R> {
 
     /// Ends the map: readers find it closed from now on. It waits for readers that are still in it.
     pub fn end(self) {
-        let WriterOf { copies, queue: _queue } = self;
+        let WriterOf {
+            copies,
+            queue: _queue,
+        } = self;
         copies.take();
     }
 }

@@ -108,12 +108,8 @@ impl<J: Naming> Queue<J> {
         ensures order { changes (pending copies.new) ++ self.new.waiting ≡ changes (pending copies.old) ++ self.old.waiting }
         ensures fewer { IsTrue result → length self.new.waiting + 1 ≡ length self.old.waiting }
     {
-        let Some(entry) = next_entry(
-            &mut self.ready,
-            &self.count,
-            &self.end,
-            &mut self.waiting,
-        ) else {
+        let Some(entry) = next_entry(&mut self.ready, &self.count, &self.end, &mut self.waiting)
+        else {
             return false;
         };
         let after = entry.after.copied();

@@ -6,10 +6,10 @@ ghost use Rattle.authority_map.specs.Cells.{AreCells, cell_of};
 use crate::change::{Change, What};
 use crate::history::Known;
 use crate::queue::Entry;
-use naming::Naming;
-use mds_types::{Dir, Rank};
-use std::alloc::{AllocError, Global};
 use left_right::Absorb;
+use mds_types::{Dir, Rank};
+use naming::Naming;
+use std::alloc::{AllocError, Global};
 
 #[derive(Drop)]
 pub struct Table<J: Naming> {
