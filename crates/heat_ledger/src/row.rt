@@ -186,8 +186,8 @@ fn add_list(into: &mut Vec<u64>, from: &Vec<u64>)
     ensures sums { (k : ℕ) → at into.new.items k ≡ at into.old.items k + at from.now.items k }
     ensures length { length into.new.items ≡ length into.old.items }
 {
-    for i in 0..into.len() {
-        into[i] += from[i];
+    for k in 0..into.len() {
+        into[k] += from[k];
     }
 }
 
