@@ -17,8 +17,8 @@ mod map_reader;
 mod map_writer;
 mod queue;
 mod table;
-// #[cfg(test)]
-// mod tests;
+#[cfg(test)]
+mod tests;
 
 pub use found::Found;
 pub use history::Opened;
