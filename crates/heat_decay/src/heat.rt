@@ -39,8 +39,8 @@ impl Model for Heat {
 }
 
 impl Heat {
-    ghost use Rattle.std.specs.Prelude.{◌≡◌, ◌+◌, ◌<◌, ◌≤◌, ◌↔◌, IfOk, IsErr, OnOk, OnErr, map, replicate, slice_index, slice_set};
-    ghost use Rattle.heat_decay.specs.Heat.{Heats, after_deposit, after_tick};
+    ghost use Rattle.std.specs.Prelude.{◌≡◌, ◌<◌, ◌≤◌, ◌↔◌, IfOk, IsErr, OnOk, OnErr, replicate};
+    ghost use Rattle.heat_decay.specs.Heat.{Heats, after_deposit, heat_of, ticked, with_heat};
 
     /// No directory has heat. It takes all memory that the heats will need.
     pub fn new(alloc: Global, limit: u32) -> Result<Heat, AllocError>
@@ -57,7 +57,7 @@ impl Heat {
     /// Deposits hits on a directory.
     pub fn add(&mut self, dir: Dir, hits: u64)
         requires { dir < self.old.limit }
-        ensures { self.new ≡ record self.old { heats = slice_set self.old.heats dir (after_deposit (slice_index self.old.heats dir) hits) } }
+        ensures { self.new ≡ with_heat self.old dir (after_deposit (heat_of self.old dir) hits) }
     {
         let heat = &mut self.heats[dir.number() as usize];
         *heat = heat.saturating_add(hits).min(HEAT_LIMIT);
@@ -65,7 +65,7 @@ impl Heat {
 
     /// Halves all heats.
     pub fn tick(&mut self) -> Result<(), TicksFull>
-        ensures ok { OnOk result (self.new ≡ record self.old { ticks = self.old.ticks + 1; heats = map after_tick self.old.heats }) }
+        ensures ok { OnOk result (self.new ≡ ticked self.old) }
         ensures full { IsErr result ↔ (TICK_LIMIT ≤ self.old.ticks) }
         ensures err { OnErr result (self.new ≡ self.old) }
     {
@@ -80,7 +80,7 @@ impl Heat {
     /// Makes a directory cold, as one that was just made.
     pub fn clear(&mut self, dir: Dir)
         requires { dir < self.old.limit }
-        ensures { self.new ≡ record self.old { heats = slice_set self.old.heats dir 0 } }
+        ensures { self.new ≡ with_heat self.old dir 0 }
     {
         self.heats[dir.number() as usize] = 0;
     }
@@ -88,7 +88,7 @@ impl Heat {
     /// The heat of a directory, in accesses.
     pub fn heat(&self, dir: Dir) -> u64
         requires { dir < self.now.limit }
-        ensures value { result ≡ slice_index self.now.heats dir }
+        ensures value { result ≡ heat_of self.now dir }
         ensures limited { result ≤ HEAT_LIMIT }
     {
         let row = dir.number() as usize;
