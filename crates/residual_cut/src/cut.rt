@@ -2,35 +2,37 @@
 
 ghost use Rattle.std.specs.Prelude.{◌≡◌, ◌<◌, ◌≤◌, ◌+◌, ◌-◌, ◌^◌, ℕ, true, false, length, IfOk, IfErr, IfNone, IfSome, if◌then◌else◌};
 ghost use Rattle.mds_types.specs.Problem.{IsForest, heat_at};
-ghost use Rattle.mds_types.specs.Division.{HasFew, NeedsMore};
 ghost use Rattle.residual_cut.specs.Links.{IsLinked};
 ghost use Rattle.residual_cut.specs.Cut.{IsCut, IsFirstHot};
 ghost use Rattle.residual_cut.specs.CutError.{IfHeavy, is_memory};
 
 use crate::links::{Links, link};
 use crate::numbering::parts;
-use crate::walk::cut_rows;
+use crate::walk::{cut_table, first_table};
 use mds_types::{Problem, ProblemRow, Row};
 use std::alloc::{AllocError, Global};
 use thiserror::Error;
 
-/// A division into the fewest connected parts within a bound, and the table that shows that none has fewer.
-#[derive(Drop)]
+/// A division into the fewest connected parts within a bound, and the table that shows that none
+/// has fewer.
+#[derive(Debug, PartialEq, Drop)]
 pub struct Cut {
-    /// The part of each row.
+    /// `part[i]` is the part of row i. Parts are numbered by rising top row.
     pub part: Vec<u32>,
     /// How many parts there are.
     pub count: u32,
-    /// The table against the bound.
+    /// The table against the bound, a row for each row of the problem.
     pub rows: Vec<Row>,
 }
 
 /// Why there is no cut.
-#[derive(Clone, Copy, PartialEq, Eq, Debug)]
+#[derive(Clone, Copy, Debug, PartialEq, Eq, Hash, Error)]
 pub enum CutError {
-    /// There is no memory.
+    /// The allocator refused a growth.
+    #[error("0 Memory")]
     Memory,
-    /// This row alone is hotter than the bound.
+    /// This row, the least such, is hotter than the bound.
+    #[error("16 Heavy {0}")]
     Heavy(u32),
 }
 
@@ -59,7 +61,30 @@ fn first_hot(rows: &[ProblemRow], bound: u64) -> Option<u32>
     None
 }
 
-/// Cuts the rows, none of which is hotter than the bound.
+/// Cuts rows that are linked and none of which is hotter than the bound.
+pub fn cut_linked(
+    alloc: Global,
+    rows: &[ProblemRow],
+    links: &Links,
+    bound: u64,
+) -> Result<Cut, AllocError>
+    requires forest { IsForest rows.now }
+    requires some { 0 < length rows.now }
+    requires linked { IsLinked rows.now links.now.first.items links.now.next.items 1 }
+    requires cool { (i : ℕ) → i < length rows.now → heat_at rows.now i ≤ bound }
+    ensures { IfOk result (IsCut rows.now bound) }
+{
+    let mut table = first_table(alloc, rows)?;
+    cut_table(alloc, rows, links, &mut table, bound, rows.len() as u32 + 1)?;
+    let (part, count) = parts(alloc, rows, &table)?;
+    Ok(Cut {
+        part,
+        count,
+        rows: table,
+    })
+}
+
+/// Cuts rows none of which is hotter than the bound.
 pub fn cut_cool(alloc: Global, rows: &[ProblemRow], bound: u64) -> Result<Cut, AllocError>
     requires forest { IsForest rows.now }
     requires cool { (i : ℕ) → i < length rows.now → heat_at rows.now i ≤ bound }
@@ -73,15 +98,7 @@ pub fn cut_cool(alloc: Global, rows: &[ProblemRow], bound: u64) -> Result<Cut, A
         });
     }
     let links = link(alloc, rows)?;
-    let Some(table) = cut_rows(alloc, rows, &links, bound, rows.len() as u32 + 1)? else {
-        unreachable!()
-    };
-    let (part, count) = parts(alloc, rows, &table)?;
-    Ok(Cut {
-        part,
-        count,
-        rows: table,
-    })
+    cut_linked(alloc, rows, &links, bound)
 }
 
 /// Divides the rows into the fewest connected parts whose heat is at most the bound. Parts are numbered by rising top row.
@@ -104,27 +121,4 @@ pub fn cut_at(
     let cut = cut_cool(alloc, rows, bound)?;
     *passes += 1;
     Ok(cut)
-}
-
-/// Whether the rows, none of which is hotter than the bound, can be divided into at most `ranks` parts within the bound. It
-/// ends as soon as too many rows are cut, and counts as a pass.
-pub fn fits(
-    alloc: Global,
-    rows: &[ProblemRow],
-    links: &Links,
-    bound: u64,
-    ranks: u32,
-) -> Result<bool, AllocError>
-    requires forest { IsForest rows.now }
-    requires some { 0 < length rows.now }
-    requires linked { IsLinked rows.now links.now.first.items links.now.next.items 1 }
-    requires cool { (v : ℕ) → v < length rows.now → heat_at rows.now v ≤ bound }
-    requires ranks { 0 < ranks }
-    ensures few { IfOk result (λ yes. yes ≡ true → HasFew rows.now ranks bound) }
-    ensures more { IfOk result (λ yes. yes ≡ false → NeedsMore rows.now ranks bound) }
-{
-    if let Some(_) = cut_rows(alloc, rows, links, bound, ranks)? {
-        return Ok(true);
-    }
-    Ok(false)
 }
