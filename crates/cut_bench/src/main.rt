@@ -1,7 +1,7 @@
 //! Times the cut and the search on trees of 65,536 rows.
 //!
 //! Without an argument it prints nothing. With `times` it prints a line for each shape and number
-//! of ranks, in microseconds, the least of several runs: the whole search, then the cut at the
+//! of ranks, in microseconds of processor time, the least of several runs: the whole search, then the cut at the
 //! least bound, and the cut just below it. With `rows SHAPE RANKS` it prints the problem, one row a
 //! line, so that other programs can be timed on it.
 #![tactic(auto)]
@@ -14,10 +14,15 @@ use minmax_search::search;
 use residual_cut::cut_at;
 use std::io;
 use std::io::Write;
-use std::time::Instant;
+use std::time::{CpuClock, Duration};
 
 /// How often each call is timed.
 const RUNS: u32 = 15;
+
+/// The processor time from one reading of the clock to a later one.
+fn micros(from: Duration, to: Duration) -> u128 {
+    to.saturating_sub(from).as_micros()
+}
 
 /// The least time of the search, and what it found.
 fn time_search(rt: &HostRuntime, problem: &Problem) -> io::Result<(u128, u64, u32)> {
@@ -25,9 +30,9 @@ fn time_search(rt: &HostRuntime, problem: &Problem) -> io::Result<(u128, u64, u3
     let mut greatest = 0;
     let mut passes = 0;
     for _ in 0..RUNS {
-        let start = Instant::now(rt)?;
+        let start = rt.thread_cpu_time()?;
         let found = search(problem, rt.alloc())?;
-        least = start.elapsed(rt)?.as_micros().min(least);
+        least = micros(start, rt.thread_cpu_time()?).min(least);
         greatest = found.greatest;
         passes = found.passes;
     }
@@ -40,9 +45,9 @@ fn time_cut(rt: &HostRuntime, problem: &Problem, bound: u64) -> io::Result<(u128
     let mut parts = 0;
     for _ in 0..RUNS {
         let mut passes = 0;
-        let start = Instant::now(rt)?;
+        let start = rt.thread_cpu_time()?;
         if let Ok(cut) = cut_at(problem, rt.alloc(), bound, &mut passes) {
-            least = start.elapsed(rt)?.as_micros().min(least);
+            least = micros(start, rt.thread_cpu_time()?).min(least);
             parts = cut.count;
         }
     }

@@ -73,9 +73,9 @@ pub struct CutOff {
     pub above: u64,
 }
 
-/// Cuts children from row `i`, the largest rest first, until what is left there is within the bound
-/// or `most` are cut.
-pub fn cut_children(
+/// Cuts children from row `i`, which is hotter than the bound, the largest rest first, until what is
+/// left there is within the bound or `most` are cut.
+fn cut_hottest(
     alloc: Global,
     rows: &[ProblemRow],
     links: &Links,
@@ -104,9 +104,6 @@ pub fn cut_children(
         count: 0,
         above: u64::MAX,
     };
-    if table[i].rest <= bound {
-        return Ok(off);
-    }
     let mut heap = BinaryHeap::from(children(alloc, rows, links, table, i)?);
     for cut in 0..most {
         if table[i].rest <= bound {
@@ -122,4 +119,40 @@ pub fn cut_children(
         cut_child(table, i, child);
     }
     Ok(off)
+}
+
+/// Cuts children from row `i`, the largest rest first, until what is left there is within the bound
+/// or `most` are cut. Most rows are within the bound as they are.
+pub fn cut_children(
+    alloc: Global,
+    rows: &[ProblemRow],
+    links: &Links,
+    table: &mut [Row],
+    i: usize,
+    bound: u64,
+    most: u32,
+) -> Result<CutOff, AllocError>
+    requires forest { IsForest rows.now }
+    requires inside { i < length rows.now }
+    requires linked { IsLinked rows.now links.now.first.items links.now.next.items 1 }
+    requires cool { (v : ℕ) → v < length rows.now → heat_at rows.now v ≤ bound }
+    requires walked { IsWalked rows.now table.old bound (i + 1) (i + 1) }
+    ensures walked { IfOk result (λ _. IsWalked rows.now table.new bound (i + 1) i) }
+    ensures done { IfOk result (λ off. off.count < most → rest_at table.new i ≤ bound) }
+    ensures counted { IfOk result (λ off. count_below (length rows.now) (is_cut_at table.new)
+        ≡ count_below (length rows.now) (is_cut_at table.old) + off.count) }
+    ensures some { IfOk result (λ off. off.count ≤ most) }
+    ensures above { IfOk result (λ off. 0 < off.count →
+        (bound < off.above) × (off.above ≡ rest_at table.new i + price_at table.new i)) }
+    ensures none { IfOk result (λ off. off.count ≡ 0 → (table.new ≡ table.old) × (off.above ≡ 2 ^ 64 - 1)) }
+    ensures fits { IfOk result (λ off. off.above < 2 ^ 64) }
+    ensures others { IfOk result (λ _. IsSameBut rows.now table.old table.new i) }
+{
+    if table[i].rest <= bound {
+        return Ok(CutOff {
+            count: 0,
+            above: u64::MAX,
+        });
+    }
+    cut_hottest(alloc, rows, links, table, i, bound, most)
 }

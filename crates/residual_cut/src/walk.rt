@@ -49,11 +49,12 @@ fn give_to_parent(table: &mut [Row], parent: usize, i: usize)
     requires cuts { cuts_at table.old parent + cuts_at table.old i < 2 ^ 32 }
     ensures { IsGivenRow table.old table.new parent i }
 {
-    let child = table[i];
+    let cuts = table[i].cuts;
+    let rest = table[i].rest;
     let row = &mut table[parent];
-    row.cuts += child.cuts;
-    row.rest += child.rest;
-    row.price = row.price.max(child.rest);
+    row.cuts += cuts;
+    row.rest += rest;
+    row.price = row.price.max(rest);
 }
 
 /// How a walk over the rows has ended.
