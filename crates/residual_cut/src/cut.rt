@@ -122,3 +122,122 @@ pub fn cut_at(
     *passes += 1;
     Ok(cut)
 }
+
+#[cfg(test)]
+mod tests {
+    use super::*;
+    use exhaustive::{Random, fewest_parts};
+    use mds_types::{Rank, RankSet};
+    use std::process::Abort;
+    use std::test::Fail;
+
+    fn problem(rt: &impl Abort, rows: Vec<ProblemRow>) -> Problem {
+        match Problem::new(rows, RankSet::from_bits(1)) {
+            Ok(problem) => problem,
+            Err(_) => panic!(rt; "refused the rows"),
+        }
+    }
+
+    fn rows(alloc: Global, table: &[(u32, u64)]) -> Result<Vec<ProblemRow>, AllocError> {
+        let mut rows = Vec::new(alloc);
+        for (parent, heat) in table {
+            rows.push(ProblemRow {
+                parent: *parent,
+                heat: *heat,
+                inodes: 1,
+                now: Rank::default(),
+            })?;
+        }
+        Ok(rows)
+    }
+
+    #[test]
+    fn cuts_the_hottest_pieces(rt: HostRuntime) -> Result<(), Fail> {
+        let given = rows(rt.alloc(), &[(0, 2), (0, 5), (0, 4), (0, 3)])?;
+        let problem = problem(&rt, given);
+        let mut passes = 0;
+        let cut = cut_at(&problem, rt.alloc(), 7, &mut passes)?;
+        assert_eq!(rt; cut.count, 3);
+        assert_eq!(rt; cut.part.as_slice(), [0, 1, 2, 0].as_slice());
+        let root = Row {
+            cuts: 2,
+            rest: 5,
+            price: 4,
+            cut: false,
+        };
+        assert_eq!(rt; cut.rows.first(), Some(&root));
+        let heavy = cut_at(&problem, rt.alloc(), 4, &mut passes);
+        assert_eq!(rt; heavy.err(), Some(CutError::Heavy(1)));
+        assert_eq!(rt; passes, 2);
+        assert_eq!(rt; CutError::Heavy(1).to_string(rt.alloc())?.as_str(), "16 Heavy 1");
+        assert_eq!(rt; CutError::Memory.to_string(rt.alloc())?.as_str(), "0 Memory");
+        Ok(())
+    }
+
+    #[test]
+    fn cuts_the_smaller_row_among_equals(rt: HostRuntime) -> Result<(), Fail> {
+        let given = rows(rt.alloc(), &[(0, 1), (0, 3), (0, 5), (0, 5), (0, 4)])?;
+        let problem = problem(&rt, given);
+        let mut passes = 0;
+        let one = cut_at(&problem, rt.alloc(), 13, &mut passes)?;
+        assert_eq!(rt; one.part.as_slice(), [0, 0, 1, 0, 0].as_slice());
+        let two = cut_at(&problem, rt.alloc(), 8, &mut passes)?;
+        assert_eq!(rt; two.part.as_slice(), [0, 0, 1, 2, 0].as_slice());
+        Ok(())
+    }
+
+    #[test]
+    fn cuts_no_rows(rt: HostRuntime) -> Result<(), Fail> {
+        let problem = problem(&rt, Vec::new(rt.alloc()));
+        let mut passes = 7;
+        let cut = cut_at(&problem, rt.alloc(), 0, &mut passes)?;
+        assert_eq!(rt; cut.count, 0);
+        assert_eq!(rt; passes, 8);
+        Ok(())
+    }
+
+    #[test]
+    fn cuts_a_long_chain(rt: HostRuntime) -> Result<(), Fail> {
+        let mut chain = Vec::new(rt.alloc());
+        for i in 0..65536u32 {
+            chain.push(ProblemRow {
+                parent: i.saturating_sub(1),
+                heat: 1,
+                inodes: 1,
+                now: Rank::default(),
+            })?;
+        }
+        let problem = problem(&rt, chain);
+        let mut passes = 0;
+        // (bound, parts)
+        for (bound, count) in [(1023, 65), (1024, 64), (1, 65536), (65536, 1), (u64::MAX, 1)] {
+            let cut = cut_at(&problem, rt.alloc(), bound, &mut passes)?;
+            assert_eq!(rt; cut.count, count, "within {bound}");
+        }
+        Ok(())
+    }
+
+    #[test]
+    fn no_division_of_small_trees_has_fewer_parts(rt: HostRuntime) -> Result<(), Fail> {
+        let mut random = Random::new(7);
+        for _ in 0..60 {
+            let count = 1 + random.below(6) as u32;
+            let given = random.rows(rt.alloc(), count, 9)?;
+            let bound = random.below(20);
+            assert!(rt; given.len() <= 8);
+            let fewest = fewest_parts(&given, bound);
+            let heavy = given.iter().position(|row| row.heat > bound);
+            let shown = given.clone()?;
+            let mut passes = 0;
+            match cut_at(&problem(&rt, given), rt.alloc(), bound, &mut passes) {
+                Ok(cut) => assert_eq!(rt; Some(cut.count as usize), fewest, "{shown:?} within {bound}"),
+                Err(CutError::Heavy(row)) => {
+                    assert_eq!(rt; Some(row as usize), heavy, "{shown:?} within {bound}");
+                    assert_eq!(rt; fewest, None, "{shown:?} within {bound}");
+                }
+                Err(CutError::Memory) => panic!(rt; "no memory"),
+            }
+        }
+        Ok(())
+    }
+}
