@@ -75,6 +75,7 @@ pub struct CutOff {
 
 /// Cuts children from row `i`, which is hotter than the bound, the largest rest first, until what is
 /// left there is within the bound or `most` are cut.
+#[inline(never)]
 fn cut_hottest(
     alloc: Global,
     rows: &[ProblemRow],
@@ -123,6 +124,7 @@ fn cut_hottest(
 
 /// Cuts children from row `i`, the largest rest first, until what is left there is within the bound
 /// or `most` are cut. Most rows are within the bound as they are.
+#[inline(always)]
 pub fn cut_children(
     alloc: Global,
     rows: &[ProblemRow],
