@@ -208,9 +208,9 @@ mod tests {
             })?;
         }
         let problem = problem(&rt, chain);
-        let mut passes = 0;
         // (bound, parts)
         for (bound, count) in [(1023, 65), (1024, 64), (1, 65536), (65536, 1), (u64::MAX, 1)] {
+            let mut passes = 0;
             let cut = cut_at(&problem, rt.alloc(), bound, &mut passes)?;
             assert_eq!(rt; cut.count, count, "within {bound}");
         }
