@@ -91,7 +91,7 @@ mod tests {
             entry(2, 5, 4, false),
             entry(0, 5, 0, true),
             entry(0, 4, 0, true),
-            entry(0, 3, 0, false)
+            entry(0, 3, 0, false),
         ]?;
         assert_eq!(rt; two.proof, CutProof::Table(table));
         let three = search(&problem(&rt, rows, 3), rt.alloc())?;
@@ -105,7 +105,10 @@ mod tests {
         let none = search(&problem(&rt, Vec::new(rt.alloc()), 2), rt.alloc())?;
         assert_eq!(rt; (none.greatest, none.cut.count), (0, 0));
         assert_eq!(rt; none.proof, CutProof::Zero);
-        let cold = search(&problem(&rt, vec![in rt.alloc(); row(0, 0), row(0, 0)]?, 2), rt.alloc())?;
+        let cold = search(
+            &problem(&rt, vec![in rt.alloc(); row(0, 0), row(0, 0)]?, 2),
+            rt.alloc(),
+        )?;
         assert_eq!(rt; (cold.greatest, cold.cut.count), (0, 1));
         assert_eq!(rt; cold.proof, CutProof::Zero);
         Ok(())
@@ -122,7 +125,7 @@ mod tests {
         let long = search(&problem(&rt, chain, 64), rt.alloc())?;
         assert_eq!(rt; (long.greatest, long.cut.count), (1024, 64));
         assert!(rt; long.passes <= 60, "{} passes", long.passes);
-        match long.proof {
+        match &long.proof {
             CutProof::Table(table) => {
                 assert_eq!(rt; table.first().map(|row| row.cuts), Some(64));
             }
@@ -131,7 +134,7 @@ mod tests {
         let wide = search(&problem(&rt, star, 64), rt.alloc())?;
         assert_eq!(rt; wide.greatest, 71987225293750272);
         assert!(rt; wide.passes <= 60, "{} passes", wide.passes);
-        assert!(rt; matches!(wide.proof, CutProof::Table(_)));
+        assert!(rt; matches!(&wide.proof, CutProof::Table(_)));
         Ok(())
     }
 

@@ -169,8 +169,14 @@ mod tests {
         let heavy = cut_at(&problem, rt.alloc(), 4, &mut passes);
         assert_eq!(rt; heavy.err(), Some(CutError::Heavy(1)));
         assert_eq!(rt; passes, 2);
-        assert_eq!(rt; CutError::Heavy(1).to_string(rt.alloc())?.as_str(), "16 Heavy 1");
-        assert_eq!(rt; CutError::Memory.to_string(rt.alloc())?.as_str(), "0 Memory");
+        assert_eq!(rt;
+            CutError::Heavy(1).to_string(rt.alloc())?.as_str(),
+            "16 Heavy 1"
+        );
+        assert_eq!(rt;
+            CutError::Memory.to_string(rt.alloc())?.as_str(),
+            "0 Memory"
+        );
         Ok(())
     }
 
@@ -209,7 +215,13 @@ mod tests {
         }
         let problem = problem(&rt, chain);
         // (bound, parts)
-        for (bound, count) in [(1023, 65), (1024, 64), (1, 65536), (65536, 1), (u64::MAX, 1)] {
+        for (bound, count) in [
+            (1023, 65),
+            (1024, 64),
+            (1, 65536),
+            (65536, 1),
+            (u64::MAX, 1),
+        ] {
             let mut passes = 0;
             let cut = cut_at(&problem, rt.alloc(), bound, &mut passes)?;
             assert_eq!(rt; cut.count, count, "within {bound}");
@@ -230,7 +242,11 @@ mod tests {
             let shown = given.clone()?;
             let mut passes = 0;
             match cut_at(&problem(&rt, given), rt.alloc(), bound, &mut passes) {
-                Ok(cut) => assert_eq!(rt; Some(cut.count as usize), fewest, "{shown:?} within {bound}"),
+                Ok(cut) => assert_eq!(rt;
+                    Some(cut.count as usize),
+                    fewest,
+                    "{shown:?} within {bound}"
+                ),
                 Err(CutError::Heavy(row)) => {
                     assert_eq!(rt; Some(row as usize), heavy, "{shown:?} within {bound}");
                     assert_eq!(rt; fewest, None, "{shown:?} within {bound}");

@@ -150,11 +150,11 @@ pub fn cut_children(
     ensures fits { IfOk result (λ off. off.above < 2 ^ 64) }
     ensures others { IfOk result (λ _. IsSameBut rows.now table.old table.new i) }
 {
-    if table[i].rest <= bound {
-        return Ok(CutOff {
-            count: 0,
-            above: u64::MAX,
-        });
+    if table[i].rest > bound {
+        return cut_hottest(alloc, rows, links, table, i, bound, most);
     }
-    cut_hottest(alloc, rows, links, table, i, bound, most)
+    Ok(CutOff {
+        count: 0,
+        above: u64::MAX,
+    })
 }
