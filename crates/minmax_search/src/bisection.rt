@@ -124,7 +124,8 @@ mod tests {
         }
         let long = search(&problem(&rt, chain, 64), rt.alloc())?;
         assert_eq!(rt; (long.greatest, long.cut.count), (1024, 64));
-        assert!(rt; long.passes <= 60, "{} passes", long.passes);
+        // at least the cut, the table below it and one walk that failed
+        assert!(rt; (3..=60).contains(&long.passes), "{} passes", long.passes);
         match &long.proof {
             CutProof::Table(table) => {
                 assert_eq!(rt; table.first().map(|row| row.cuts), Some(64));
@@ -133,7 +134,7 @@ mod tests {
         }
         let wide = search(&problem(&rt, star, 64), rt.alloc())?;
         assert_eq!(rt; wide.greatest, 71987225293750272);
-        assert!(rt; wide.passes <= 60, "{} passes", wide.passes);
+        assert!(rt; (3..=60).contains(&wide.passes), "{} passes", wide.passes);
         assert!(rt; matches!(&wide.proof, CutProof::Table(_)));
         Ok(())
     }

@@ -1,3 +1,7 @@
+//! Cuts the hottest children of a row that is hotter than the bound.
+//!
+//! The children come out of a heap, so that only as many are put in order as are cut.
+
 ghost use Rattle.std.specs.Prelude.{◌≡◌, ◌<◌, ◌≤◌, ◌+◌, ◌-◌, ◌^◌, ◌≢◌, ℕ, true, false, length, slice_index_or, IfOk};
 ghost use Rattle.std.specs.BinaryHeap.{heap_items, IsHeap};
 ghost use Rattle.mds_types.specs.CutTable.{cuts_at, rest_at, price_at, is_cut_at, is_child, no_cut};
