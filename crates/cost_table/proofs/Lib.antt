@@ -1,0 +1,3 @@
+pub mod InodeLemmas
+pub mod PlaceLemmas
+pub mod WrittenLemmas
