@@ -19,4 +19,4 @@ pub use order::Order;
 pub use plan::Plan;
 pub use problem::{Problem, ProblemError, ProblemRow};
 pub use rank::Rank;
-pub use rank_set::RankSet;
+pub use rank_set::{BadMask, RankSet};

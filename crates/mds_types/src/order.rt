@@ -2,9 +2,10 @@
 
 use crate::dir::Dir;
 use crate::rank::Rank;
+use std::alloc::{AllocError, Global};
 
 /// One move: directories of one rank that are to go to another.
-#[derive(Debug, Drop)]
+#[derive(Debug, PartialEq, Drop)]
 pub struct Order {
     /// The rank that has the directories.
     pub from: Rank,
@@ -12,4 +13,20 @@ pub struct Order {
     pub to: Rank,
     /// The directories, each once.
     pub dirs: Vec<Dir>,
+}
+
+impl Order {
+    ghost use Rattle.std.specs.Prelude.{IfOk};
+    ghost use Rattle.mds_types.specs.Copies.{IsSameOrder};
+
+    /// An equal order.
+    pub fn copied(&self, alloc: Global) -> Result<Self, AllocError>
+        ensures { IfOk result (IsSameOrder self.now) }
+    {
+        Ok(Order {
+            from: self.from,
+            to: self.to,
+            dirs: self.dirs.as_slice().to_vec(alloc)?,
+        })
+    }
 }

@@ -1,22 +1,33 @@
 //! The directories that are to be divided among the ranks.
+//!
+//! A problem is a rooted tree within the limits, given as rows with parents before children. That
+//! is the invariant of its type, and what every theorem on divisions and placings rests on.
 ghost use Rattle.std.specs.Prelude.{length, IfNone, IfSome};
 ghost use Rattle.mds_types.specs.Problem.{IsFirstFault, IsSoundBefore};
 
+use crate::limits::{DIR_LIMIT, HEAT_LIMIT};
 use crate::rank::Rank;
 use crate::rank_set::RankSet;
+use std::alloc::{AllocError, Global};
 use std::marker::Model;
+use thiserror::Error;
 
-/// A directory that is to be placed: the row of its parent, its heat, its inodes and the rank that has it now.
-#[derive(Clone, Copy)]
+/// A directory that is to be placed.
+#[derive(Clone, Copy, Debug, PartialEq, Eq)]
 pub struct ProblemRow {
+    /// The row of its parent, which is a smaller one; row 0 names itself.
     pub parent: u32,
+    /// Its heat, in accesses.
     pub heat: u64,
+    /// Its inodes.
     pub inodes: u32,
+    /// The rank that has it now.
     pub now: Rank,
 }
 
 /// The directories that are to be divided, parents before children, and the ranks that may have them.
-#[derive(Drop)]
+/// To a contract it is these rows and the bit map of the ranks.
+#[derive(Debug, Drop)]
 pub struct Problem {
     rows: Vec<ProblemRow>,
     ranks: RankSet,
@@ -33,16 +44,20 @@ impl Model for Problem {
 }
 
 /// What is wrong with the rows or the ranks of a problem.
-#[derive(Clone, Copy, PartialEq, Eq, Debug)]
+#[derive(Clone, Copy, Debug, PartialEq, Eq, Hash, Error)]
 pub enum ProblemError {
-    /// There are more than 65,536 rows.
+    /// This row doesn't name a smaller row, or row 0 doesn't name itself.
+    #[error("2 BadParent {0}")]
+    BadParent(u32),
+    /// This row is hotter than `HEAT_LIMIT`.
+    #[error("3 TooHot {0}")]
+    TooHot(u32),
+    /// There are more rows than `DIR_LIMIT`.
+    #[error("4 TooMany")]
     TooMany,
     /// The set of ranks is empty.
+    #[error("5 NoRanks")]
     NoRanks,
-    /// This row doesn't name a smaller row, or row 0 doesn't name itself.
-    BadParent(u32),
-    /// This row is hotter than 2^40.
-    TooHot(u32),
 }
 
 /// The first thing that is wrong, if anything is.
@@ -50,10 +65,10 @@ fn first_fault(rows: &[ProblemRow], ranks: RankSet) -> Option<ProblemError>
     ensures fault { IfSome result (IsFirstFault rows.now ranks) }
     ensures sound { IfNone result (IsSoundBefore rows.now ranks (length rows.now)) }
 {
-    if rows.len() > Problem::MAX_ROWS {
+    if rows.len() > DIR_LIMIT as usize {
         return Some(ProblemError::TooMany);
     }
-    if ranks.len() == 0 {
+    if ranks.is_empty() {
         return Some(ProblemError::NoRanks);
     }
     for (i, row) in rows.iter().enumerate() {
@@ -61,7 +76,7 @@ fn first_fault(rows: &[ProblemRow], ranks: RankSet) -> Option<ProblemError>
         if row.parent >= i.max(1) {
             return Some(ProblemError::BadParent(i));
         }
-        if row.heat > Problem::MAX_HEAT {
+        if row.heat > HEAT_LIMIT {
             return Some(ProblemError::TooHot(i));
         }
     }
@@ -73,13 +88,8 @@ impl Problem {
     ghost use Rattle.mds_types.specs.Problem.{IsFirstFault, IsForest};
     ghost use Rattle.mds_types.specs.RankSet.{rank_count};
 
-    /// The most rows that a problem may have.
-    pub const MAX_ROWS: usize = 65536;
-
-    /// The most heat that a row may have.
-    pub const MAX_HEAT: u64 = 1 << 40;
-
     /// The problem with these rows and ranks. Where something is wrong, the rows are handed back.
+    /// It takes no memory.
     pub fn new(
         rows: Vec<ProblemRow>,
         ranks: RankSet,
@@ -108,5 +118,88 @@ impl Problem {
         ensures ranked { 0 < rank_count result }
     {
         self.ranks
+    }
+
+    /// An equal problem.
+    pub fn copied(&self, alloc: Global) -> Result<Self, AllocError>
+        ensures { IfOk result (λ copy. copy ≡ self.now) }
+    {
+        Ok(Problem {
+            rows: self.rows.as_slice().to_vec(alloc)?,
+            ranks: self.ranks,
+        })
+    }
+}
+
+#[cfg(test)]
+mod tests {
+    use super::*;
+    use std::test::Fail;
+
+    fn rows(
+        alloc: Global,
+        parents_and_heats: &[(u32, u64)],
+    ) -> Result<Vec<ProblemRow>, AllocError> {
+        let mut rows = Vec::new(alloc);
+        for (parent, heat) in parents_and_heats {
+            rows.push(ProblemRow {
+                parent: *parent,
+                heat: *heat,
+                inodes: 1,
+                now: Rank::default(),
+            })?;
+        }
+        Ok(rows)
+    }
+
+    #[test]
+    fn refuses_the_least_faulty_row(rt: HostRuntime) -> Result<(), Fail> {
+        let hot = HEAT_LIMIT + 1;
+        let both = RankSet::from_bits(3);
+        // (parents and heats, ranks, the refusal)
+        let table: [(&[(u32, u64)], RankSet, &str); 6] = [
+            (&[(0, 1), (0, 1), (2, 1)], both, "2 BadParent 2"),
+            (&[(0, 1), (1, hot)], both, "2 BadParent 1"),
+            (&[(0, 1), (0, hot)], both, "3 TooHot 1"),
+            (&[(1, 1), (0, 1)], both, "2 BadParent 0"),
+            (&[(0, hot), (9, 1)], both, "3 TooHot 0"),
+            (&[(1, hot)], RankSet::from_bits(0), "5 NoRanks"),
+        ];
+        for (parents_and_heats, ranks, refusal) in table {
+            let given = rows(rt.alloc(), parents_and_heats)?;
+            match Problem::new(given, ranks) {
+                Ok(_) => panic!(rt; "accepted what is {refusal}"),
+                Err((error, back)) => {
+                    assert_eq!(rt; error.to_string(rt.alloc())?.as_str(), refusal);
+                    assert_eq!(rt; back.len(), parents_and_heats.len(), "{refusal}");
+                }
+            }
+        }
+        Ok(())
+    }
+
+    #[test]
+    fn refuses_too_many_rows(rt: HostRuntime) -> Result<(), Fail> {
+        let row = rows(rt.alloc(), &[(0, 0)])?;
+        let mut many = vec![in rt.alloc(); row[0]; 65536]?;
+        assert!(rt; Problem::new(many.clone()?, RankSet::from_bits(1)).is_ok());
+        many.push(row[0])?;
+        match Problem::new(many, RankSet::from_bits(0)) {
+            Ok(_) => panic!(rt; "accepted too many rows"),
+            Err((error, _)) => assert_eq!(rt; error.to_string(rt.alloc())?.as_str(), "4 TooMany"),
+        }
+        Ok(())
+    }
+
+    #[test]
+    fn copies(rt: HostRuntime) -> Result<(), Fail> {
+        let given = rows(rt.alloc(), &[(0, 5), (0, 7)])?;
+        let Ok(problem) = Problem::new(given, RankSet::from_bits(6)) else {
+            panic!(rt; "refused a problem")
+        };
+        let copy = problem.copied(rt.alloc())?;
+        assert_eq!(rt; copy.rows(), problem.rows());
+        assert_eq!(rt; copy.ranks(), problem.ranks());
+        Ok(())
     }
 }

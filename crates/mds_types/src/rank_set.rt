@@ -1,10 +1,17 @@
 //! Sets of metadata ranks, as `bal_rank_mask` gives them: a bit map with one bit a rank.
+//!
+//! A mask is written `-1`, for all ranks, or `0x` and 1 to 16 hexadecimal digits. (The CephFS
+//! documentation, "Configuring multiple active MDS daemons".)
+ghost use Rattle.std.specs.Prelude.{ℕ, IfNone, IfSome};
+ghost use Rattle.mds_types.specs.Mask.{IsHexNumber};
 
+use crate::limits::RANK_LIMIT;
 use crate::rank::Rank;
 use std::marker::Model;
+use thiserror::Error;
 
-/// A set of ranks.
-#[derive(Clone, Copy, PartialEq, Eq)]
+/// A set of ranks. To a contract it is a number whose bit r is 1 where rank r is in the set.
+#[derive(Clone, Copy, Debug, PartialEq, Eq, Hash)]
 pub struct RankSet {
     bits: u64,
 }
@@ -19,15 +26,57 @@ impl Model for RankSet {
     ghost inverse = { λ n. record { bits = n } };
 }
 
+/// The text is not a mask.
+#[derive(Clone, Copy, Debug, PartialEq, Eq, Hash, Error)]
+#[error("1 BadMask")]
+pub struct BadMask;
+
+/// The number that 1 to 16 hexadecimal digits write.
+fn from_hex(digits: &str) -> Option<u64>
+    ensures number { IfSome result (λ bits. IsHexNumber digits.now bits) }
+    ensures refused { IfNone result ((bits : ℕ) → ¬ (IsHexNumber digits.now bits)) }
+{
+    if digits.len() > 16 || digits.starts_with('+') {
+        return None;
+    }
+    u64::from_str_radix(digits, 16).ok()
+}
+
 impl RankSet {
-    ghost use Rattle.std.specs.Prelude.{◌≡◌, ◌<◌, ◌↔◌, IsTrue, true};
+    ghost use Rattle.std.specs.Prelude.{◌≡◌, ◌<◌, ◌≤◌, ◌↔◌, ◌&&◌, IfErr, IfOk, IsTrue, nat_lt, true};
     ghost use Rattle.mds_types.specs.RankSet.{has_rank, rank_count};
+    ghost use Rattle.mds_types.specs.Mask.{IsMask};
 
     /// The set of the ranks whose bit is 1.
     pub fn from_bits(bits: u64) -> RankSet
         ensures { result ≡ bits }
     {
         RankSet { bits }
+    }
+
+    /// The set that a mask writes.
+    pub fn parse(text: &str) -> Result<RankSet, BadMask>
+        ensures ok { IfOk result (IsMask text.now) }
+        ensures err { IfErr result (λ _. (bits : ℕ) → ¬ (IsMask text.now bits)) }
+    {
+        if text == "-1" {
+            return Ok(RankSet { bits: u64::MAX });
+        }
+        let digits = text.strip_prefix("0x").ok_or(BadMask)?;
+        let bits = from_hex(digits).ok_or(BadMask)?;
+        Ok(RankSet { bits })
+    }
+
+    /// The ranks of the set below `active`.
+    pub fn among(self, active: u8) -> RankSet
+        ensures { (rank : ℕ) → has_rank result rank ≡ (nat_lt rank active && has_rank self rank) }
+    {
+        if active >= RANK_LIMIT {
+            return self;
+        }
+        RankSet {
+            bits: self.bits & ((1 << active) - 1),
+        }
     }
 
     /// Whether the set has this rank.
@@ -44,9 +93,10 @@ impl RankSet {
         (self.bits >> number) & 1 == 1
     }
 
-    /// How many ranks the set has.
-    pub fn len(self) -> u32
-        ensures { result ≡ rank_count self }
+    /// How many ranks the set has, at most 64.
+    pub fn len(self) -> u8
+        ensures count { result ≡ rank_count self }
+        ensures few { result ≤ 64 }
     {
         let mut count = 0;
         for number in 0..64 {
@@ -55,5 +105,67 @@ impl RankSet {
             }
         }
         count
+    }
+
+    /// Whether the set has no rank.
+    pub fn is_empty(self) -> bool
+        ensures { IsTrue result ↔ (rank_count self ≡ 0) }
+    {
+        self.len() == 0
+    }
+}
+
+#[cfg(test)]
+mod tests {
+    use super::*;
+    use std::test::Fail;
+
+    #[test]
+    fn reads_masks(rt: HostRuntime) {
+        // (mask, its bits)
+        let table = [
+            ("-1", Some(0xFFFF_FFFF_FFFF_FFFF)),
+            ("0x3", Some(3)),
+            ("0x0", Some(0)),
+            ("0xaBcDeF", Some(0xAB_CDEF)),
+            ("0x8000000000000000", Some(1 << 63)),
+            ("0x00000000000000001", None),
+            ("0x", None),
+            ("0x+1", None),
+            ("0x-1", None),
+            ("0xg", None),
+            ("0X1", None),
+            ("1", None),
+            ("-2", None),
+            ("-1 ", None),
+            ("", None),
+        ];
+        for (mask, bits) in table {
+            let read = RankSet::parse(mask).ok();
+            assert_eq!(rt; read, bits.map(RankSet::from_bits), "{mask}");
+        }
+    }
+
+    #[test]
+    fn keeps_active_ranks(rt: HostRuntime) -> Result<(), Fail> {
+        let set = RankSet::from_bits(0x8000_0000_0000_000D);
+        // (active ranks, bits that are left, their number)
+        let table = [
+            (0, 0, 0),
+            (1, 1, 1),
+            (3, 5, 2),
+            (63, 13, 3),
+            (64, 0x8000_0000_0000_000D, 4),
+        ];
+        for (active, bits, count) in table {
+            let kept = set.among(active);
+            assert_eq!(rt; kept, RankSet::from_bits(bits), "{active} active");
+            assert_eq!(rt; kept.len(), count, "{active} active");
+            assert_eq!(rt; kept.is_empty(), count == 0, "{active} active");
+        }
+        assert!(rt; set.has(Rank::new(63).ok_or("rank 63")?));
+        assert!(rt; !set.has(Rank::new(1).ok_or("rank 1")?));
+        assert_eq!(rt; BadMask.to_string(rt.alloc())?.as_str(), "1 BadMask");
+        Ok(())
     }
 }

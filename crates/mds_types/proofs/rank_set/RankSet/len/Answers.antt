@@ -18,5 +18,5 @@ loop-number-preserved c =
           omega (arith, step))
     ]
 
-pub returns : goal.returns
-returns c = rank_count_all c.args.self c.loop-number.number c.loop-number.count (omega arith) c.loop-number.invariant.0
+pub returns-clause-count : goal.returns-clause-count
+returns-clause-count c = rank_count_all c.args.self c.loop-number.number c.loop-number.count (omega arith) c.loop-number.invariant.0
