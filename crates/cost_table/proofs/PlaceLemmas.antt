@@ -4,7 +4,7 @@ use Rattle.std.proofs.lemmas.Nat.{same_from_place, row_fits}
 use Rattle.std.proofs.lemmas.Bool.{cases_eq, cases_order}
 use Rattle.mds_types.specs.RankSet.{has_rank, rank_count}
 use Rattle.mds_types.specs.Sums.{count_below}
-use Rattle.mds_types.proofs.SumsLemmas.{sum_below-fewer}
+use Rattle.mds_types.proofs.SumsLemmas.{sum_below-fewer, count_below-le}
 use Rattle.mds_types.proofs.RankSetLemmas.{count_below_more}
 use Rattle.mds_types.proofs.PlacingLemmas.{has_rank-lt}
 use Rattle.cost_table.specs.Costs.{rank_place, cell_at}
@@ -23,6 +23,10 @@ place_before ranks r s has before =
 pub place_inside : (ranks r : ℕ) → has_rank ranks r ≡ true → rank_place ranks r < rank_count ranks
 unfolding rank_count
 place_inside ranks r has = place_before ranks r 64 has (has_rank-lt ranks r has)
+
+pub rank_count-le : (ranks : ℕ) → rank_count ranks ≤ 64
+unfolding rank_count
+rank_count-le ranks = count_below-le 64 (has_rank ranks)
 
 -- two ranks of the set with one place are one
 pub place_same :
@@ -68,3 +72,10 @@ pub row_inside : (ranks part count size : ℕ) → part < count → size ≡ cou
     → part * rank_count ranks + rank_count ranks ≤ size
 row_inside ranks part count size l size_is =
     rw size_is (row_fits part (rank_count ranks) count (rank_count ranks) l (omega arith))
+
+-- where a cell of a part stands
+pub cell_inside :
+    (ranks part count size r : ℕ) → part < count → size ≡ count * rank_count ranks → has_rank ranks r ≡ true
+    → part * rank_count ranks + rank_place ranks r < size
+cell_inside ranks part count size r l size_is has =
+    omega (arith, row_inside ranks part count size l size_is, place_inside ranks r has)

@@ -23,6 +23,10 @@ rank_place ranks r = count_below r (has_rank ranks)
 abbrev pub cell_at : ℕ → List ℕ → ℕ → ℕ → ℕ
 cell_at ranks cells part r = slice_index cells (part * rank_count ranks + rank_place ranks r)
 
+-- what parts move at the ranks that are chosen for them
+abbrev pub chosen_cost : ℕ → List ℕ → ℕ → (ℕ → ℕ) → ℕ
+chosen_cost ranks cells k rank = sum_below k (λ part. cell_at ranks cells part (rank part))
+
 -- what each of these parts moves at each rank of the set
 pub record AreCosts (rows : List ProblemRow) (label : ℕ → ℕ) (count ranks : ℕ) (cells : List ℕ) : Type 0 where
   pub size : length cells ≡ count * rank_count ranks

@@ -3,19 +3,10 @@ ghost use Rattle.std.specs.Prelude.{◌≡◌, ◌≢◌, ◌<◌, ◌≤◌, �
 ghost use Rattle.mds_types.specs.RankSet.{has_rank, rank_count};
 ghost use Rattle.cost_table.specs.Costs.{cell_at, part_total, AreCosts};
 
+use crate::chosen::has_number;
 use crate::inodes::{sums, total};
-use mds_types::{ProblemRow, Rank, RankSet};
+use mds_types::{ProblemRow, RankSet};
 use std::alloc::{AllocError, Global};
-
-/// Whether the set has the rank of this number.
-fn has_number(ranks: RankSet, number: u8) -> bool
-    ensures { result ≡ has_rank ranks number }
-{
-    match Rank::new(number) {
-        Some(rank) => ranks.has(rank),
-        None => false,
-    }
-}
 
 /// Writes the costs of a part: the part's inodes, less those that the rank has now.
 fn fill_part(cells: &mut [u64], sums: &[u64], part: usize, total: u64, ranks: RankSet)
@@ -30,7 +21,7 @@ fn fill_part(cells: &mut [u64], sums: &[u64], part: usize, total: u64, ranks: Ra
         cell_at ranks cells.new p r ≡ cell_at ranks cells.old p r }
     ensures small { All (λ cell. cell ≤ 2 ^ 48) cells.new }
 {
-    let mut place = part * ranks.len() as usize;
+    let mut place = part * usize::from(ranks.len());
     for number in 0..64 {
         if has_number(ranks, number) {
             cells[place] = total - sums[part * 64 + usize::from(number)];
@@ -71,7 +62,7 @@ pub fn costs(
     ensures { IfOk result (λ cells. AreCosts rows.now (slice_index part.now) count ranks cells.items) }
 {
     let sums = sums(alloc, rows, part, count)?;
-    let mut cells = vec![in alloc; 0; count as usize * ranks.len() as usize]?;
+    let mut cells = vec![in alloc; 0; count as usize * usize::from(ranks.len())]?;
     fill(&mut cells, &sums, count as usize, ranks);
     Ok(cells)
 }

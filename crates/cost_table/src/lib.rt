@@ -2,7 +2,8 @@
 #![tactic(auto)]
 
 mod cells;
+mod chosen;
 mod inodes;
 
 pub use cells::costs;
-pub use inodes::sums;
+pub use chosen::{chosen_sum, place_of};

@@ -38,9 +38,9 @@ loop-number-preserved c =
           let inside : c.loop-number.place < length c.loop-number.cells =
           omega (arith, place_inside c.args.ranks c.loop-number.number has, c.loop-number.invariant.place_is, c.requires.row) in
           let place_is = c.loop-number.invariant.place_is in
-          let value = c.args.total - get_or c.args.sums.now (c.args.part * 64 + w.from.result) 0 in
+          let value = c.args.total - get_or c.args.sums.now (c.args.part * 64 + w.from-then-has_number.result) 0 in
           let value_is : value ≡ c.args.total - slice_index c.args.sums.now (c.args.part * 64 + c.loop-number.number) =
-          ap (λ (x : ℕ). c.args.total - slice_index c.args.sums.now (c.args.part * 64 + x)) w.from.ensures in
+          ap (λ (x : ℕ). c.args.total - slice_index c.args.sums.now (c.args.part * 64 + x)) w.from-then-has_number.ensures in
           let cells : List ℕ = set c.loop-number.cells c.loop-number.place value in
           let step = rw has at more in
           rw w.cells-is (record {
