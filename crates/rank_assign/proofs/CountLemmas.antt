@@ -6,17 +6,21 @@ use Rattle.mds_types.proofs.SumsLemmas.{sum_below-same, sum_below-distinct, sum_
 
 -- where one term is larger by 1, so is the sum
 pub sum_below_one_more :
-    (n b : ℕ) (f g : ℕ → ℕ) → b < n → g b ≡ f b + 1 → ((j : ℕ) → j ≢ b → g j ≡ f j) → sum_below n g ≡ sum_below n f + 1
+    (n b : ℕ) (f g : ℕ → ℕ) → b < n → g b ≡ f b + 1 → ((j : ℕ) → j < n → j ≢ b → g j ≡ f j) → sum_below n g ≡ sum_below n f + 1
 sum_below_one_more zero b f g l here other = absurd (omega arith)
 sum_below_one_more (suc n) b f g l here other =
     ⊎_elim
     (λ (last : b ≡ n).
-    let rest : sum_below n g ≡ sum_below n f = sum_below-same n g f (λ j lj. other j (λ same. omega arith)) in
+    let rest : sum_below n g ≡ sum_below n f = sum_below-same n g f (λ j lj. other j (omega arith) (λ same. omega arith)) in
     let at_f : f b ≡ f n = ap f last in
     let at_g : g b ≡ g n = ap g last in
     omega arith)
     (λ (before : b ≢ n).
-    omega (arith, sum_below_one_more n b f g (omega arith) here other, other n (λ same. before (sym same))))
+    omega (
+      arith,
+      sum_below_one_more n b f g (omega arith) here (λ j lj. other j (omega arith)),
+      other n (omega arith) (λ same. before (sym same)),
+    ))
     (cases_eq b n)
 
 pub ones : (n : ℕ) → sum_below n (λ i. 1) ≡ n

@@ -36,14 +36,14 @@ pub record IsNext (r : ℕ) (near turn turn2 : ℕ → ℕ) (b t : ℕ) : Type 0
   pub unseen : turn b ≡ 0
   pub least : (j : ℕ) → j < r → turn j ≡ 0 → near b ≤ near j
   pub here : turn2 b ≡ t + 1
-  pub other : (j : ℕ) → j ≢ b → turn2 j ≡ turn j
+  pub other : (j : ℕ) → j < r → j ≢ b → turn2 j ≡ turn j
 
 counted_next : (r : ℕ) (near turn turn2 : ℕ → ℕ) (b t : ℕ) → IsNext r near turn turn2 b t
     → count_below r (λ j. ltb 0 (turn2 j)) ≡ count_below r (λ j. ltb 0 (turn j)) + 1
 counted_next r near turn turn2 b t next =
     sum_below_one_more r b (λ j. cond (ltb 0 (turn j)) 1 0) (λ j. cond (ltb 0 (turn2 j)) 1 0) next.inside
     (rw (le-ltb 0 (turn b) (omega (arith, next.unseen)), lt-ltb 0 (turn2 b) (omega (arith, next.here))) refl)
-    (λ j other. ap (λ x. cond (ltb 0 x) 1 0) (next.other j other))
+    (λ j l other. ap (λ x. cond (ltb 0 x) 1 0) (next.other j l other))
 
 pub reaching_step :
     (r : ℕ) (cell : ℕ → ℕ → ℕ) (u w owner : ℕ → ℕ) (s : ℕ) (near via turn near2 via2 turn2 : ℕ → ℕ) (b t : ℕ)
@@ -53,28 +53,29 @@ pub reaching_step :
     → IsReaching r cell u w owner s near2 via2 turn2 (t + 1)
 reaching_step r cell u w owner s near via turn near2 via2 turn2 b t old next has_owner below tried =
     let q = owner b - 1 in
-    let was_seen : (j : ℕ) → j ≢ b → 0 < turn2 j → 0 < turn j = λ j other seen. omega (arith, next.other j other) in
-    let was_unseen : (j : ℕ) → turn2 j ≡ 0 → turn j ≡ 0 = λ j unseen.
+    let was_seen : (j : ℕ) → j < r → j ≢ b → 0 < turn2 j → 0 < turn j = λ j l other seen.
+    omega (arith, next.other j l other) in
+    let was_unseen : (j : ℕ) → j < r → turn2 j ≡ 0 → turn j ≡ 0 = λ j l unseen.
     ⊎_elim (λ (same : j ≡ b). absurd (omega (arith, ap turn2 same, next.here)))
-    (λ (other : j ≢ b). omega (arith, next.other j other))
+    (λ (other : j ≢ b). omega (arith, next.other j l other))
     (cases_eq j b) in
     let stays : (j : ℕ) → j < r → 0 < turn2 j → near2 j ≡ near j = λ j l seen. omega (arith, (tried j l).kept_or_taken) in
     let no_longer : (j : ℕ) → j < r → near2 j ≤ near j = λ j l. omega (arith, (tried j l).kept_or_taken) in
     let lower : (j : ℕ) → j < r → turn2 j ≡ 0 → near b ≤ near2 j = λ j l unseen.
-    omega (arith, (tried j l).kept_or_taken, next.least j l (was_unseen j unseen), below j l) in
+    omega (arith, (tried j l).kept_or_taken, next.least j l (was_unseen j l unseen), below j l) in
     let seen_order : (i : ℕ) → i < r → 0 < turn2 i → near i ≤ near b = λ i l seen.
     ⊎_elim (λ (same : i ≡ b). omega (arith, ap near same))
-    (λ (other : i ≢ b). old.order i b l next.inside (was_seen i other seen) next.unseen)
+    (λ (other : i ≢ b). old.order i b l next.inside (was_seen i l other seen) next.unseen)
     (cases_eq i b) in
     record {
       recent = λ j l.
           ⊎_elim (λ (same : j ≡ b). omega (arith, ap turn2 same, next.here))
-          (λ (other : j ≢ b). omega (arith, next.other j other, old.recent j l))
+          (λ (other : j ≢ b). omega (arith, next.other j l other, old.recent j l))
           (cases_eq j b);
       counted = omega (arith, counted_next r near turn turn2 b t next, old.counted);
       owned = λ j l seen.
           ⊎_elim (λ (same : j ≡ b). omega (arith, ap owner same))
-          (λ (other : j ≢ b). old.owned j l (was_seen j other seen))
+          (λ (other : j ≢ b). old.owned j l (was_seen j l other seen))
           (cases_eq j b);
       order = λ i j li lj seen unseen.
           omega (arith, stays i li seen, seen_order i li seen, lower j lj unseen);
@@ -85,7 +86,13 @@ reaching_step r cell u w owner s near via turn near2 via2 turn2 b t old next has
           rw same
           (⊎_elim
           (λ (unseen : turn2 j < 1).
-          omega (arith, (tried j lj).kept_or_taken, stays b next.inside (omega (arith, next.here))))
+          let near_b : near2 b ≡ near b = stays b next.inside (omega (arith, next.here)) in
+          ⊎_elim
+          (λ (kept : (near2 j ≡ near j) × (via2 j ≡ via j) × (turn2 j ≡ 0 → near j + u q ≤ near b + cell q j + w j)).
+          omega (arith, near_b, kept.0, kept.2 (omega arith)))
+          (λ (taken : (turn2 j ≡ 0) × (near2 j + u q ≡ near b + cell q j + w j) × (via2 j ≡ b + 1) × (near2 j < near j)).
+          omega (arith, near_b, taken.1))
+          (tried j lj).kept_or_taken)
           (λ (seen_j : 1 ≤ turn2 j).
           omega (
             arith,
@@ -96,7 +103,7 @@ reaching_step r cell u w owner s near via turn near2 via2 turn2 b t old next has
           ))
           (cases_lt (turn2 j) 1)))
           (λ (other : i ≢ b).
-          omega (arith, no_longer j lj, stays i li seen, old.edge i j li lj (was_seen i other seen)))
+          omega (arith, no_longer j lj, stays i li seen, old.edge i j li lj (was_seen i li other seen)))
           (cases_eq i b);
       direct = λ j l first.
           ⊎_elim
@@ -110,7 +117,7 @@ reaching_step r cell u w owner s near via turn near2 via2 turn2 b t old next has
           (λ (kept : (near2 j ≡ near j) × (via2 j ≡ via j) × (turn2 j ≡ 0 → near j + u q ≤ near b + cell q j + w j)).
           let link = old.linked i j l (sym kept.1 ∙ over) in
           let apart : i ≢ b = λ same. omega (arith, ap turn same, link.seen, next.unseen) in
-          let turn_i : turn2 i ≡ turn i = next.other i apart in
+          let turn_i : turn2 i ≡ turn i = next.other i link.inside apart in
           let near_i : near2 i ≡ near i = stays i link.inside (omega (arith, link.seen)) in
           record {
             inside = link.inside;
@@ -118,7 +125,7 @@ reaching_step r cell u w owner s near via turn near2 via2 turn2 b t old next has
             owned = link.owned;
             before = λ seen.
                 ⊎_elim (λ (same : j ≡ b). omega (arith, ap turn2 same, next.here, old.recent i link.inside))
-                (λ (other : j ≢ b). omega (arith, next.other j other, link.before (was_seen j other seen)))
+                (λ (other : j ≢ b). omega (arith, next.other j l other, link.before (was_seen j l other seen)))
                 (cases_eq j b);
             nearer = omega (arith, kept.0, link.nearer);
             exact = omega (arith, kept.0, link.exact);
@@ -143,35 +150,36 @@ pub reached_end :
     → IsReaching r cell u w owner s near via turn t → IsNext r near turn turn2 e t → owner e ≡ 0
     → IsReached r cell u w owner s near via turn2 e
 reached_end r cell u w owner s near via turn turn2 e t old next free =
-    let was_seen : (j : ℕ) → j ≢ e → 0 < turn2 j → 0 < turn j = λ j other seen. omega (arith, next.other j other) in
+    let was_seen : (j : ℕ) → j < r → j ≢ e → 0 < turn2 j → 0 < turn j = λ j l other seen.
+    omega (arith, next.other j l other) in
     record {
       inside = next.inside;
       free = free;
       seen = omega (arith, next.here);
-      only = λ j l seen other. old.owned j l (was_seen j other seen);
+      only = λ j l seen other. old.owned j l (was_seen j l other seen);
       before = λ j l seen.
           ⊎_elim (λ (same : j ≡ e). omega (arith, ap near same))
-          (λ (other : j ≢ e). old.order j e l next.inside (was_seen j other seen) next.unseen)
+          (λ (other : j ≢ e). old.order j e l next.inside (was_seen j l other seen) next.unseen)
           (cases_eq j e);
       beyond = λ j l unseen.
           ⊎_elim (λ (same : j ≡ e). absurd (omega (arith, ap turn2 same, next.here)))
-          (λ (other : j ≢ e). next.least j l (omega (arith, next.other j other)))
+          (λ (other : j ≢ e). next.least j l (omega (arith, next.other j l other)))
           (cases_eq j e);
       first = old.first;
       edge = λ i j li lj seen has_owner.
-          old.edge i j li lj (was_seen i (λ same. omega (arith, ap owner same)) seen);
+          old.edge i j li lj (was_seen i li (λ same. omega (arith, ap owner same)) seen);
       direct = old.direct;
       linked = λ i j l over.
           (let link = old.linked i j l over in
           let apart : i ≢ e = λ same. omega (arith, ap turn same, link.seen, next.unseen) in
-          let turn_i : turn2 i ≡ turn i = next.other i apart in
+          let turn_i : turn2 i ≡ turn i = next.other i link.inside apart in
           record {
             inside = link.inside;
             seen = omega (arith, link.seen);
             owned = link.owned;
             before = λ seen.
                 ⊎_elim (λ (same : j ≡ e). omega (arith, ap turn2 same, next.here, old.recent i link.inside))
-                (λ (other : j ≢ e). omega (arith, next.other j other, link.before (was_seen j other seen)))
+                (λ (other : j ≢ e). omega (arith, next.other j l other, link.before (was_seen j l other seen)))
                 (cases_eq j e);
             nearer = link.nearer;
             exact = link.exact;
@@ -198,3 +206,28 @@ not_all_reached k r cell u w owner s near via turn all matching free =
       distinct_le r s (λ j. owner j - 1) (λ j l. omega (arith, has_owner j l, matching.owned j l))
           (λ i j li lj same. matching.once i j li lj (has_owner i li) (omega (arith, same, has_owner i li, has_owner j lj))),
     )
+
+-- the same over ways that are as long and go the same way
+pub reaching_same :
+    (r : ℕ) (cell : ℕ → ℕ → ℕ) (u w owner : ℕ → ℕ) (s : ℕ) (near via turn near2 via2 : ℕ → ℕ) (t : ℕ)
+    → ((j : ℕ) → near2 j ≡ near j) → ((j : ℕ) → via2 j ≡ via j)
+    → IsReaching r cell u w owner s near via turn t → IsReaching r cell u w owner s near2 via2 turn t
+reaching_same r cell u w owner s near via turn near2 via2 t nears vias old = record {
+  recent = old.recent;
+  counted = old.counted;
+  owned = old.owned;
+  order = λ i j li lj seen unseen. omega (arith, nears i, nears j, old.order i j li lj seen unseen);
+  first = λ j l. omega (arith, nears j, old.first j l);
+  edge = λ i j li lj seen. omega (arith, nears i, nears j, old.edge i j li lj seen);
+  direct = λ j l first. nears j ∙ old.direct j l (sym (vias j) ∙ first);
+  linked = λ i j l over.
+      (let link = old.linked i j l (sym (vias j) ∙ over) in
+      record {
+        inside = link.inside;
+        seen = link.seen;
+        owned = link.owned;
+        before = link.before;
+        nearer = omega (arith, nears i, nears j, link.nearer);
+        exact = omega (arith, nears i, nears j, link.exact);
+      });
+}

@@ -65,6 +65,15 @@ fn nearest(ways: &[Way]) -> usize
     nearest
 }
 
+/// Marks the rank at this place as reached.
+fn mark(ways: &mut [Way], place: usize, turn: u32)
+    requires { place < length ways.old }
+    ensures here { slice_index_or ways.new place no_way ≡ record (slice_index_or ways.old place no_way) { turn = turn } }
+    ensures other { (j : ℕ) → j ≢ place → slice_index_or ways.new j no_way ≡ slice_index_or ways.old j no_way }
+{
+    ways[place].turn = turn;
+}
+
 /// Takes another way where it is shorter and the rank hasn't been reached.
 fn improve(way: &mut Way, near: u64, via: u32)
     ensures { IsImproved way.old way.new near via }
@@ -122,7 +131,7 @@ pub fn reach(
     start(ways, cells, debts, part);
     for reached in 0..debts.len() {
         let place = nearest(ways);
-        ways[place].turn = reached as u32 + 1;
+        mark(ways, place, reached as u32 + 1);
         if owners[place] == 0 {
             return place;
         }
