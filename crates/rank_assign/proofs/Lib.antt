@@ -1,3 +1,5 @@
 pub mod CountLemmas
+pub mod HandLemmas
+pub mod RaiseLemmas
 pub mod ReachLemmas
 pub mod WayLemmas

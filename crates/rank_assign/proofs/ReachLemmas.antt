@@ -203,8 +203,8 @@ not_all_reached k r cell u w owner s near via turn all matching free =
     all.owned j l (ltb-true 0 (turn j) (all_pass r j (λ i. ltb 0 (turn i)) all.counted l)) in
     omega (
       arith,
-      distinct_le r s (λ j. owner j - 1) (λ j l. omega (arith, has_owner j l, matching.owned j l))
-          (λ i j li lj same. matching.once i j li lj (has_owner i li) (omega (arith, same, has_owner i li, has_owner j lj))),
+      distinct_le r s (λ j. owner j - 1) (λ j l. omega (arith, has_owner j l, matching.parts.owned j l))
+          (λ i j li lj same. matching.parts.once i j li lj (has_owner i li) (omega (arith, same, has_owner i li, has_owner j lj))),
     )
 
 -- the same over ways that are as long and go the same way

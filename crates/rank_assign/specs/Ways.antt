@@ -71,3 +71,28 @@ pub record IsReached (r : ℕ) (cell : ℕ → ℕ → ℕ) (u w owner : ℕ →
       → near j + u (owner i - 1) ≤ near i + cell (owner i - 1) j + w j
   pub direct : (j : ℕ) → j < r → via j ≡ 0 → near j ≡ cell s j + w j
   pub linked : (i j : ℕ) → j < r → via j ≡ i + 1 → IsLink r cell u w owner near turn i j
+
+-- ways lead back, over ranks that have parts, to a first step
+pub record IsPathStep (r : ℕ) (owner turn : ℕ → ℕ) (i j : ℕ) : Type 0 where
+  pub inside : i < r
+  pub seen : 0 < turn i
+  pub owned : 0 < owner i
+  pub before : turn i < turn j
+
+abbrev pub ArePaths : ℕ → (ℕ → ℕ) → (ℕ → ℕ) → (ℕ → ℕ) → Type 0
+ArePaths r owner via turn = (i j : ℕ) → j < r → 0 < turn j → via j ≡ i + 1 → IsPathStep r owner turn i j
+
+-- part p comes to rank j: from the rank before it on the way, or as the part s that is placed
+pub record IsHandedOn (owner via turn : ℕ → ℕ) (p j : ℕ) : Type 0 where
+  pub from : ℕ
+  pub way : via j ≡ from + 1
+  pub seen : 0 < turn j
+  pub had : owner from ≡ p + 1
+
+pub record IsHandedFirst (via turn : ℕ → ℕ) (s p j : ℕ) : Type 0 where
+  pub way : via j ≡ 0
+  pub seen : 0 < turn j
+  pub part : p ≡ s
+
+abbrev pub IsHandedTo : (ℕ → ℕ) → (ℕ → ℕ) → (ℕ → ℕ) → ℕ → ℕ → ℕ → Type 0
+IsHandedTo owner via turn s p j = (owner j ≡ p + 1) ⊎ (IsHandedOn owner via turn p j ⊎ IsHandedFirst via turn s p j)

@@ -41,7 +41,7 @@ loop-reached-preserved c =
     record { here = c.mark.ensures.here; other = c.mark.ensures.other } in
     let next = marked_next (length c.args.debts.now) c.loop-reached.ways c.mark.new.ways b t marked (omega arith)
     c.nearest-place.ensures.unseen (λ j l. c.nearest-place.ensures.least j (omega arith)) in
-    let few = c.requires.matching.owned b (omega arith) in
+    let few = c.requires.matching.parts.owned b (omega arith) in
     marked_step (length c.args.debts.now) (cell_at_place c.args.cells.now (length c.args.debts.now))
     (slice_index c.args.prices.now) (slice_index c.args.debts.now) (slice_index c.args.owners.now) c.args.part
     c.loop-reached.ways c.mark.new.ways c.relax.new.ways b t c.loop-reached.invariant marked next (omega arith)
