@@ -1,3 +1,4 @@
+pub mod AssignedLemmas
 pub mod CountLemmas
 pub mod HandLemmas
 pub mod RaiseLemmas
