@@ -12,3 +12,6 @@ mod ways;
 pub use assigned::{Assigned, assign};
 pub use moved_inodes::costs;
 pub use table::Costs;
+
+#[cfg(test)]
+mod tests;
