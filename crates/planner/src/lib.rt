@@ -1,0 +1,36 @@
+//! Solves problems: the best division into connected parts, and the best placing of the parts.
+#![tactic(auto)]
+
+ghost use Rattle.std.specs.Prelude.{IfOk};
+ghost use Rattle.mds_types.specs.Certificate.{IsBest, IsCertified};
+
+use mds_types::{Plan, Problem};
+use minmax_search::search;
+use rank_assign::{assign, costs};
+use std::alloc::{AllocError, Global};
+use std::thread::Threads;
+
+/// A plan that is best for the problem, with the proofs that show it.
+///
+/// It can fail for memory alone. The checker, `plan_checker::check`, says yes exactly where a plan
+/// is certified, so it accepts this one.
+pub fn solve<R: Threads + Sync>(
+    rt: &R,
+    alloc: Global,
+    problem: &Problem,
+) -> Result<Plan, AllocError>
+    ensures certified { IfOk result (IsCertified problem.now) }
+    ensures best { IfOk result (IsBest problem.now) }
+{
+    let found = search(problem, alloc)?;
+    let costs = costs(rt, alloc, problem, &found.cut.part, found.cut.count)?;
+    let assigned = assign(alloc, &costs)?;
+    Ok(Plan {
+        part: found.cut.part,
+        rank: assigned.ranks,
+        greatest: found.greatest,
+        moved: assigned.moved,
+        cut: found.proof,
+        dual: assigned.proof,
+    })
+}
