@@ -15,23 +15,6 @@ use Rattle.mds_types.proofs.SumsLemmas.{sum_below_more, sum_below-same}
 abbrev pub children_so_far : List ProblemRow → (ℕ → ℕ) → ℕ → ℕ → ℕ
 children_so_far rows amount i j = sum_below j (λ x. cond (is_child rows i x) (amount x) 0)
 
-part_of : (b : Bool) (x : ℕ) → cond b x 0 ≤ x
-part_of true x = omega arith
-part_of false x = omega arith
-
--- the sum of so many amounts
-pub children_so_far-le :
-    (rows : List ProblemRow) (amounts : List ℕ) (i j : ℕ) → All (λ amount. amount < 2 ^ 64) amounts → j ≤ length amounts
-    → children_so_far rows (slice_index amounts) i j ≤ j * 2 ^ 64
-children_so_far-le rows amounts i zero small le = omega arith
-children_so_far-le rows amounts i (suc j) small le =
-    omega (
-      arith,
-      children_so_far-le rows amounts i j small (omega arith),
-      small j 0 (omega arith),
-      part_of (is_child rows i j) (slice_index amounts j),
-    )
-
 -- row 0 is no child
 pub children_none : (rows : List ProblemRow) (amount : ℕ → ℕ) (i : ℕ) → children_so_far rows amount i 1 ≡ 0
 children_none rows amount i = refl
@@ -61,64 +44,12 @@ children_step rows amount sums i j p added old deep p_is added_is inside read be
     omega arith)
     (cases_eq i p)
 
--- a sum has room for one more amount
-pub children_fit :
-    (rows : List ProblemRow) (amounts sums : List ℕ) (j p old : ℕ) → IsForest rows → length amounts ≡ length rows
-    → length sums ≡ length rows → All (λ amount. amount < 2 ^ 64) amounts → 0 < j → j < length rows → p ≡ parent_at rows j
-    → old ≡ get_or sums p old
-    → ((i : ℕ) → i < length rows → slice_index sums i ≡ children_so_far rows (slice_index amounts) i j)
-    → old + get_or amounts j 0 < 2 ^ 128
-children_fit rows amounts sums j p old forest size sums_size small deep l p_is read sums_are =
-    let up = forest.above j deep l in
-    let inside : p < length rows = omega arith in
-    omega (
-      arith,
-      read ∙ get_or_default sums p old 0 (omega arith),
-      sums_are p inside,
-      small j 0 (omega arith),
-      forest.few,
-      children_so_far-le rows amounts p j small (omega arith),
-    )
-
--- and stays small
-pub children_small :
-    (rows : List ProblemRow) (amounts sums : List ℕ) → length rows ≤ 65536 → length amounts ≡ length rows
-    → length sums ≡ length rows → All (λ amount. amount < 2 ^ 64) amounts
-    → ((i : ℕ) → i < length rows → slice_index sums i ≡ children_so_far rows (slice_index amounts) i (length rows))
-    → All (λ sum. sum < 2 ^ 96) sums
-children_small rows amounts sums few size sums_size small are =
-    λ i d l. omega (
-      arith,
-      get_or_default sums i d 0 l,
-      are i (omega arith),
-      children_so_far-le rows amounts i (length rows) small (omega arith),
-    )
-
--- the sums of what the rows of a table add are those that a cut table names
-rests_are :
-    (rows : List ProblemRow) (table : List Row) (i : ℕ)
-    → sum_of_children rows i (slice_index (map kept_rest table))
-    ≡ sum_of_children rows i (λ j. cond (is_cut_at table j) 0 (rest_at table j))
-rests_are rows table i =
-    sum_below-same (length rows) (λ j. cond (is_child rows i j) (slice_index (map kept_rest table) j) 0)
-    (λ j. cond (is_child rows i j) (cond (is_cut_at table j) 0 (rest_at table j)) 0)
-    (λ j l. ap (λ x. cond (is_child rows i j) x 0) (get_or-map kept_rest table j no_cut))
-
-cuts_are :
-    (rows : List ProblemRow) (table : List Row) (i : ℕ)
-    → sum_of_children rows i (slice_index (map all_cuts table))
-    ≡ sum_of_children rows i (λ j. cuts_at table j + cond (is_cut_at table j) 1 0)
-cuts_are rows table i =
-    sum_below-same (length rows) (λ j. cond (is_child rows i j) (slice_index (map all_cuts table) j) 0)
-    (λ j. cond (is_child rows i j) (cuts_at table j + cond (is_cut_at table j) 1 0) 0)
-    (λ j l. ap (λ x. cond (is_child rows i j) x 0) (get_or-map all_cuts table j no_cut))
-
 -- the sums that the checker made
 pub record AreSums (rows : List ProblemRow) (table : List Row) (rests cuts : List ℕ) : Type 0 where
   pub rests_is : (i : ℕ) → i < length rows
-      → slice_index rests i ≡ sum_of_children rows i (slice_index (map kept_rest table))
+      → slice_index rests i ≡ sum_of_children rows i (λ j. cond (is_cut_at table j) 0 (rest_at table j))
   pub cuts_is : (i : ℕ) → i < length rows
-      → slice_index cuts i ≡ sum_of_children rows i (slice_index (map all_cuts table))
+      → slice_index cuts i ≡ sum_of_children rows i (λ j. cuts_at table j + cond (is_cut_at table j) 1 0)
 
 -- a cut table is one that holds row by row
 pub IsCutTable-from_checks :
@@ -137,9 +68,9 @@ IsCutTable-from_checks rows table rests cuts bound size root sums checked = reco
       subst P (eqb-true (parent_at rows j) i parts.1) ((checked j is.inside).1 (ltb-true 0 j parts.0))) in
       record {
         heat = row.heat;
-        rest_is = row.rest_is ∙ ap (λ x. heat_at rows i + x) (sums.rests_is i l ∙ rests_are rows table i);
+        rest_is = row.rest_is ∙ ap (λ x. heat_at rows i + x) (sums.rests_is i l);
         rest_within = row.rest_within;
-        cuts_is = row.cuts_is ∙ (sums.cuts_is i l ∙ cuts_are rows table i);
+        cuts_is = row.cuts_is ∙ sums.cuts_is i l;
         kept = λ j is. (child j false is).kept is.cut_is;
         cut = λ j is. (child j true is).cut is.cut_is;
         full = λ j is. (child j true is).full is.cut_is;
@@ -153,9 +84,9 @@ checks_from_IsCutTable rows table rests cuts bound forest sums is i l =
     let row = is.each i l in (
       record {
         heat = row.heat;
-        rest_is = row.rest_is ∙ ap (λ x. heat_at rows i + x) (sym (sums.rests_is i l ∙ rests_are rows table i));
+        rest_is = row.rest_is ∙ ap (λ x. heat_at rows i + x) (sym (sums.rests_is i l));
         rest_within = row.rest_within;
-        cuts_is = row.cuts_is ∙ sym (sums.cuts_is i l ∙ cuts_are rows table i);
+        cuts_is = row.cuts_is ∙ sym (sums.cuts_is i l);
       },
       λ deep.
           let up = forest.above i deep l in

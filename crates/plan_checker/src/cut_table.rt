@@ -7,19 +7,19 @@ ghost use Rattle.mds_types.specs.CutTable.{IsCutTable};
 ghost use Rattle.mds_types.specs.Problem.{IsForest};
 ghost use Rattle.plan_checker.specs.Table.{ChildHolds, IsChecked, RowHolds};
 
-use crate::sums::{cuts_with_own, kept_rests, sums_of_children};
+use crate::sums::sums_of_children;
 use mds_types::{ProblemRow, Row};
 use std::alloc::{AllocError, Global};
 
 /// Whether a table's row holds, given the sums over its children.
-fn row_holds(given: &ProblemRow, in_table: &Row, rests: u128, cuts: u128, bound: u64) -> bool
+fn row_holds(given: &ProblemRow, in_table: &Row, rests: u128, cuts: u64, bound: u64) -> bool
     requires { rests < 2 ^ 96 }
     ensures { IsTrue result ↔ RowHolds given.entry.now in_table.now rests cuts bound }
 {
     given.heat <= bound
         && in_table.rest <= bound
         && u128::from(in_table.rest) == u128::from(given.heat) + rests
-        && u128::from(in_table.cuts) == cuts
+        && u64::from(in_table.cuts) == cuts
 }
 
 /// Whether a table holds at a parent and its child.
@@ -39,7 +39,7 @@ fn holds_at(
     rows: &[ProblemRow],
     table: &[Row],
     rests: &[u128],
-    cuts: &[u128],
+    cuts: &[u64],
     bound: u64,
     i: usize,
 ) -> bool
@@ -68,10 +68,9 @@ pub fn is_cut_table(
     if table.len() != rows.len() || table.first().is_some_and(|root| root.cut) {
         return Ok(false);
     }
-    let rests = sums_of_children(alloc, rows, &kept_rests(alloc, table)?)?;
-    let cuts = sums_of_children(alloc, rows, &cuts_with_own(alloc, table)?)?;
+    let sums = sums_of_children(alloc, rows, table)?;
     for i in 0..rows.len() {
-        if !holds_at(rows, table, &rests, &cuts, bound, i) {
+        if !holds_at(rows, table, &sums.rests, &sums.cuts, bound, i) {
             return Ok(false);
         }
     }

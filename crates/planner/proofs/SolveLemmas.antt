@@ -11,6 +11,8 @@ use Rattle.mds_types.proofs.CertificateLemmas.{IsCertified-from, IsDivision-more
 use Rattle.mds_types.proofs.SumsLemmas.{max_below-le}
 use Rattle.minmax_search.specs.declared.found.Found.{Found}
 use Rattle.minmax_search.specs.Found.{IsFound}
+use Rattle.rank_assign.specs.Assigned.{CostData}
+use Rattle.rank_assign.specs.declared.assigned.Assigned.{Assigned}
 use Rattle.cost_table.specs.Costs.{cell_at, chosen_cost, AreCosts}
 use Rattle.cost_table.specs.Prices.{ArePrices}
 use Rattle.cost_table.proofs.PriceLemmas.{prices_over, dual_from_prices, moved-cells}
@@ -53,3 +55,34 @@ plan_certified problem plan cells division are costs moved prices =
     (dual_from_prices problem.rows problem.ranks k (plan_label plan) (plan_rank plan) plan.dual
     (prices_over problem.ranks k (cell_at problem.ranks cells) (cost problem.rows (plan_label plan)) (plan_rank plan) plan.dual are
     costs.costs prices))
+
+-- what the search and the assignment give is a certified plan
+pub solved :
+    (problem : ProblemData) (found : Found) (costs : CostData) (assigned : Assigned)
+    → IsFound problem.rows (rank_count problem.ranks) found → costs.count ≡ found.cut.count → costs.ranks ≡ problem.ranks
+    → AreCosts problem.rows (slice_index found.cut.part.items) found.cut.count problem.ranks costs.cells
+    → length assigned.ranks.items ≡ costs.count
+    → AreRanks costs.ranks costs.count (slice_index assigned.ranks.items)
+    → assigned.moved ≡ chosen_cost costs.ranks costs.cells costs.count (slice_index assigned.ranks.items)
+    → ArePrices costs.ranks costs.count (cell_at costs.ranks costs.cells) (slice_index assigned.ranks.items) assigned.proof
+    → IsCertified problem (record {
+      part = found.cut.part;
+      rank = assigned.ranks;
+      greatest = found.greatest;
+      moved = assigned.moved;
+      cut = found.proof;
+      dual = assigned.proof;
+    })
+solved problem found costs assigned is count_is ranks_is cells size are moved prices =
+    let k_is : length assigned.ranks.items ≡ found.cut.count = size ∙ count_is in
+    plan_certified problem
+    (record {
+      part = found.cut.part;
+      rank = assigned.ranks;
+      greatest = found.greatest;
+      moved = assigned.moved;
+      cut = found.proof;
+      dual = assigned.proof;
+    })
+    costs.cells (rw k_is (found_certified problem.rows (rank_count problem.ranks) found is)) (rw (size, ← ranks_is) are)
+    (rw k_is cells) (rw (size, ← ranks_is) moved) (rw (size, ← ranks_is) prices)

@@ -5,8 +5,8 @@ ghost use Rattle.std.specs.Prelude.{IfOk};
 ghost use Rattle.mds_types.specs.Certificate.{IsBest, IsCertified};
 
 use mds_types::{Plan, Problem};
-use minmax_search::search;
-use rank_assign::{assign, costs};
+use minmax_search::{Found, search};
+use rank_assign::{Assigned, assign, costs};
 use std::alloc::{AllocError, Global};
 use std::thread::Threads;
 
@@ -22,15 +22,18 @@ pub fn solve<R: Threads + Sync>(
     ensures certified { IfOk result (IsCertified problem.now) }
     ensures best { IfOk result (IsBest problem.now) }
 {
-    let found = search(problem, alloc)?;
-    let costs = costs(rt, alloc, problem, &found.cut.part, found.cut.count)?;
-    let assigned = assign(alloc, &costs)?;
+    let Found { cut, greatest, proof, passes: _ } = search(problem, alloc)?;
+    let costs = costs(rt, alloc, problem, &cut.part, cut.count)?;
+    let Assigned { ranks, moved, proof: dual } = assign(alloc, &costs)?;
     Ok(Plan {
-        part: found.cut.part,
-        rank: assigned.ranks,
-        greatest: found.greatest,
-        moved: assigned.moved,
-        cut: found.proof,
-        dual: assigned.proof,
+        part: cut.part,
+        rank: ranks,
+        greatest,
+        moved,
+        cut: proof,
+        dual,
     })
 }
+
+#[cfg(test)]
+mod tests;
