@@ -22,12 +22,21 @@ pub fn solve<R: Threads + Sync>(
     ensures certified { IfOk result (IsCertified problem.now) }
     ensures best { IfOk result (IsBest problem.now) }
 {
-    let Found { cut, greatest, proof, passes: _ } = search(problem, alloc)?;
+    let Found {
+        cut,
+        greatest,
+        proof,
+        passes: _,
+    } = search(problem, alloc)?;
     let rows = problem.rows().len();
     let ranks = u32::from(problem.ranks().len());
     prove!(cut.part.len() == rows && cut.count <= ranks);
     let costs = costs(rt, alloc, problem, &cut.part, cut.count)?;
-    let Assigned { ranks: rank, moved, proof: dual } = assign(alloc, &costs)?;
+    let Assigned {
+        ranks: rank,
+        moved,
+        proof: dual,
+    } = assign(alloc, &costs)?;
     Ok(Plan {
         part: cut.part,
         rank,

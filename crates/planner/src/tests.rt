@@ -14,7 +14,12 @@ fn problem(alloc: Global, given: &[Given], ranks: u64) -> Result<Problem, Fail> 
     let mut rows = Vec::new(alloc);
     for &(parent, heat, inodes, now) in given {
         let now = Rank::new(now).ok_or("no rank")?;
-        rows.push(ProblemRow { parent, heat, inodes, now })?;
+        rows.push(ProblemRow {
+            parent,
+            heat,
+            inodes,
+            now,
+        })?;
     }
     match Problem::new(rows, RankSet::from_bits(ranks)) {
         Ok(problem) => Ok(problem),
@@ -72,7 +77,15 @@ fn solves_small_trees(rt: HostRuntime) -> Result<(), Fail> {
             &[0, 0, 1, 1],
             &[0, 1],
         ),
-        (&[(0, 2, 1, 0), (0, 5, 10, 0)], 2, 7, 11, "table", &[0, 0], &[1]),
+        (
+            &[(0, 2, 1, 0), (0, 5, 10, 0)],
+            2,
+            7,
+            11,
+            "table",
+            &[0, 0],
+            &[1],
+        ),
         (&[], 5, 0, 0, "zero", &[], &[]),
     ];
     for (rows, ranks, greatest, moved, proof, part, rank) in table {
@@ -103,7 +116,11 @@ fn nothing_is_better(rt: HostRuntime) -> Result<(), Fail> {
         assert_eq!(rt; plan.part.len(), 6);
         let parts = plan.rank.len() as u32;
         assert!(rt; parts <= 3);
-        assert_eq!(rt; plan.greatest, least_greatest_heat(rows, 3), "round {round}");
+        assert_eq!(rt;
+            plan.greatest,
+            least_greatest_heat(rows, 3),
+            "round {round}"
+        );
         let trial = fewest_moved(rows, &plan.part, parts, problem.ranks());
         assert_eq!(rt; Some(plan.moved), trial, "round {round}");
         assert!(rt; check(alloc, &problem, &plan)?, "round {round}");

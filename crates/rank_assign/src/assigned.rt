@@ -48,10 +48,24 @@ fn placed_parts(alloc: Global, costs: &Costs) -> Result<Matching, AllocError>
     let mut owners = vec![in alloc; 0; width]?;
     let mut prices = vec![in alloc; 0; costs.count() as usize]?;
     let mut debts = vec![in alloc; 0; width]?;
-    let unreached = Way { near: 0, via: 0, turn: 0 };
+    let unreached = Way {
+        near: 0,
+        via: 0,
+        turn: 0,
+    };
     let mut ways = vec![in alloc; unreached; width]?;
-    place_parts(&mut owners, &mut prices, &mut debts, &mut ways, costs.cells());
-    Ok(Matching { owners, prices, debts })
+    place_parts(
+        &mut owners,
+        &mut prices,
+        &mut debts,
+        &mut ways,
+        costs.cells(),
+    );
+    Ok(Matching {
+        owners,
+        prices,
+        debts,
+    })
 }
 
 /// Gives a rank to its owner, where it has one.
@@ -149,5 +163,9 @@ pub fn assign(alloc: Global, costs: &Costs) -> Result<Assigned, AllocError>
     let set = costs.ranks();
     let ranks = ranks_of(&placed.owners, set, costs.count() as usize);
     let moved = chosen_sum(costs.cells(), set, ranks.as_slice());
-    Ok(Assigned { ranks, moved, proof })
+    Ok(Assigned {
+        ranks,
+        moved,
+        proof,
+    })
 }

@@ -43,7 +43,11 @@ impl Costs {
         let width = usize::from(ranks.len());
         let fits = count as usize <= width && cells.len() == count as usize * width;
         if fits && are_small(&cells) {
-            Some(Costs { count, ranks, cells })
+            Some(Costs {
+                count,
+                ranks,
+                cells,
+            })
         } else {
             None
         }
@@ -54,7 +58,11 @@ impl Costs {
         requires { IsCostData (record { count = count; ranks = ranks; cells = cells.items }) }
         ensures { result ≡ record { count = count; ranks = ranks; cells = cells.items } }
     {
-        Costs { count, ranks, cells }
+        Costs {
+            count,
+            ranks,
+            cells,
+        }
     }
 
     /// How many parts there are.

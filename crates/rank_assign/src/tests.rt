@@ -14,7 +14,12 @@ fn problem(alloc: Global, given: &[Given], ranks: u64) -> Result<Problem, Fail> 
     let mut rows = Vec::new(alloc);
     for &(parent, heat, inodes, now) in given {
         let now = Rank::new(now).ok_or("no rank")?;
-        rows.push(ProblemRow { parent, heat, inodes, now })?;
+        rows.push(ProblemRow {
+            parent,
+            heat,
+            inodes,
+            now,
+        })?;
     }
     match Problem::new(rows, RankSet::from_bits(ranks)) {
         Ok(problem) => Ok(problem),
@@ -49,7 +54,11 @@ fn places_two_parts_on_three_ranks(rt: HostRuntime) -> Result<(), Fail> {
 #[test]
 fn costs_the_parts_of_a_chain(rt: HostRuntime) -> Result<(), Fail> {
     let alloc = rt.alloc();
-    let chain = problem(alloc, &[(0, 0, 1, 0), (0, 3, 5, 0), (1, 3, 1, 0), (2, 3, 1, 0)], 3)?;
+    let chain = problem(
+        alloc,
+        &[(0, 0, 1, 0), (0, 3, 5, 0), (1, 3, 1, 0), (2, 3, 1, 0)],
+        3,
+    )?;
     assert_eq!(rt; chain.rows().len(), 4);
     assert_eq!(rt; chain.ranks().len(), 2);
     let costs = costs(&rt, alloc, &chain, &[0, 0, 1, 1], 2)?;
@@ -87,7 +96,9 @@ fn least_of(cells: &[u64]) -> u64
     for code in 0..64 {
         let (first, second, third) = (code / 16, code / 4 % 4, code % 4);
         if first != second && first != third && second != third {
-            let sum = cells[first].saturating_add(cells[4 + second]).saturating_add(cells[8 + third]);
+            let sum = cells[first]
+                .saturating_add(cells[4 + second])
+                .saturating_add(cells[8 + third]);
             least = sum.min(least);
         }
     }
@@ -105,7 +116,9 @@ fn no_choice_costs_less(rt: HostRuntime) -> Result<(), Fail> {
         }
         assert_eq!(rt; cells.len(), 12);
         let least = least_of(&cells);
-        let costs = Costs::new(3, RankSet::from_bits(0x8000_0000_0000_1011), cells).ok_or("no costs")?;
+        let costs = Costs::new(3, RankSet::from_bits(0x8000_0000_0000_1011), cells).ok_or(
+            "no costs",
+        )?;
         assert_eq!(rt; assign(alloc, &costs)?.moved, least, "round {round}");
     }
     Ok(())
@@ -120,7 +133,12 @@ fn no_placing_moves_less(rt: HostRuntime) -> Result<(), Fail> {
         let mut part = Vec::new(alloc);
         for _ in 0..8 {
             let now = Rank::new(random.below(6) as u8).ok_or("no rank")?;
-            rows.push(ProblemRow { parent: 0, heat: 0, inodes: random.below(9) as u32, now })?;
+            rows.push(ProblemRow {
+                parent: 0,
+                heat: 0,
+                inodes: random.below(9) as u32,
+                now,
+            })?;
             part.push(random.below(3) as u32)?;
         }
         let Ok(problem) = Problem::new(rows, RankSet::from_bits(0x17)) else {

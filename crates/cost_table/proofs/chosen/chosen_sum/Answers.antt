@@ -20,8 +20,12 @@ bounds-cells-p c =
     let index = place_at c.args.ranks c.loop-p.p c.from-width.result c.len.result c.place_of.result c.index-rank-p.result
     (slice_index c.args.rank.now c.loop-p.p) c.from-width.ensures c.len.ensures.count c.place_of.ensures
     (c.index-rank-p.is ∙ get_or_default c.args.rank.now c.loop-p.p c.index-rank-p.result 0 (omega arith)) in
-    omega (arith, index, cell_inside c.args.ranks c.loop-p.p (length c.args.rank.now) (length c.args.cells.now)
-    (slice_index c.args.rank.now c.loop-p.p) (omega arith) c.requires.size (c.requires.ranks.usable c.loop-p.p (omega arith)))
+    omega (
+      arith,
+      index,
+      cell_inside c.args.ranks c.loop-p.p (length c.args.rank.now) (length c.args.cells.now)
+          (slice_index c.args.rank.now c.loop-p.p) (omega arith) c.requires.size (c.requires.ranks.usable c.loop-p.p (omega arith)),
+    )
 
 pub overflow_add-sum : goal.overflow_add-sum
 overflow_add-sum c =

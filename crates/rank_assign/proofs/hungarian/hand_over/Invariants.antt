@@ -9,4 +9,4 @@ decreases-loop-place l = turn_at l.ways l.place
 abbrev pub invariant-loop-place : goal.invariant-loop-place
 invariant-loop-place l =
     IsHanding (length l.initial.owners) (slice_index l.initial.owners) (via_at l.ways) (turn_at l.ways) (slice_index l.owners) l.part
-        l.place
+    l.place

@@ -5,4 +5,4 @@ use Rattle.rank_assign.proofs.hungarian.place_parts.Given as goal
 abbrev pub invariant-loop-part : goal.invariant-loop-part
 invariant-loop-part l =
     IsMatching (length l.prices) (length l.debts) (cell_at_place l.cells (length l.debts)) (slice_index l.prices)
-        (slice_index l.debts) (slice_index l.owners) l.part
+    (slice_index l.debts) (slice_index l.owners) l.part

@@ -6,4 +6,4 @@ use Rattle.rank_assign.proofs.ways.reach.Given as goal
 abbrev pub invariant-loop-reached : goal.invariant-loop-reached
 invariant-loop-reached l =
     IsReaching (length l.debts) (cell_at_place l.cells (length l.debts)) (slice_index l.prices) (slice_index l.debts)
-        (slice_index l.owners) l.part (near_at l.ways) (via_at l.ways) (turn_at l.ways) l.reached
+    (slice_index l.owners) l.part (near_at l.ways) (via_at l.ways) (turn_at l.ways) l.reached
