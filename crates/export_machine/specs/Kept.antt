@@ -1,0 +1,86 @@
+-- What the tables of a cluster stand for, and what always holds of them.
+use Rattle.std.specs.Prelude.{◌≡◌, ◌≤◌, ◌<◌, ℕ, ◌+◌, suc, Bool, true, ◌&&◌, nat_lt, List, [], ◌∷◌, map, length, Option, None, Some, Result, Ok, Err, slice_get, slice_index_or, slice_set, vec_len, vec_capacity, if◌then◌else◌}
+use Rattle.export_machine.specs.Cluster.{Order, World}
+use Rattle.export_machine.specs.Authority.{authority, open_export, order_in, from_of}
+use Rattle.export_machine.specs.Step.{Event, running_on, is_child, receiver, repeats}
+use Rattle.export_machine.specs.View.{IsReached}
+use Rattle.export_machine.specs.declared.event.Event.{Event as Asked}
+use Rattle.export_machine.specs.declared.journal.JournalEntry.{JournalEntry}
+use Rattle.export_machine.specs.declared.message.Message.{Message}
+use Rattle.export_machine.specs.declared.step_error.StepError.{StepError}
+use Rattle.export_machine.specs.declared.records.Records.{Records}
+use Rattle.mds_types.specs.declared.order.Order.{Order as Moved}
+
+abbrev pub event_of : Asked → Event
+event_of (Asked.Made parent) = Event.Made parent
+event_of (Asked.Gone dir) = Event.Gone dir
+event_of (Asked.Begin rank dir) = Event.Begin rank dir
+event_of (Asked.End ticket) = Event.End ticket
+event_of (Asked.Start from to dirs) = Event.Start from to dirs.items
+event_of (Asked.Deliver message) = Event.Deliver message
+event_of (Asked.Froze export) = Event.Froze export
+event_of (Asked.Notify export) = Event.Notify export
+event_of (Asked.Abort export) = Event.Abort export
+
+abbrev pub order_of : Moved → Order
+order_of o = record { from = o.from; to = o.to; dirs = o.dirs.items }
+
+abbrev pub world_of : Records → World
+world_of r = record {
+  limit = r.limit;
+  ranks = r.ranks;
+  parents = r.parents.items;
+  journals = map (λ journal. journal.items) r.journals.items;
+  orders = map order_of r.orders.items;
+  exporters = r.exporters.items;
+  importers = r.importers.items;
+  sent = r.sent.items;
+  tickets = r.tickets.items;
+  named = r.named.items;
+  stopped = r.stopped.items;
+  events = r.events;
+}
+
+-- The tables by directory, which the journals and states determine.
+
+pub record Indexes : Type 0 where
+  pub owners : List (Option ℕ)  -- its authority
+  pub opened : List (Option ℕ)  -- the open export that it is in
+  pub running : List ℕ  -- how many requests run on it
+  pub children : List ℕ  -- how many children it has
+
+abbrev pub indexes_of : Records → Indexes
+indexes_of r = record { owners = r.owners.items; opened = r.opened.items; running = r.running.items; children = r.children.items }
+
+-- how many places of a list pass the test
+abbrev pub count_at : {A : Type 0} → (ℕ → A → Bool) → List A → ℕ
+count_at test [] = 0
+count_at test (a ∷ rest) = (if test 0 a then 1 else 0) + count_at (λ k. test (suc k)) rest
+
+abbrev pub children_of : World → ℕ → ℕ
+children_of w d = count_at (is_child d) w.parents
+
+pub record IsIndexed (w : World) (i : Indexes) : Type 0 where
+  pub owners : (d : ℕ) → slice_index_or i.owners d None ≡ authority w d
+  pub opened : (d : ℕ) → slice_index_or i.opened d None ≡ open_export w d
+  pub running : (d : ℕ) → slice_index_or i.running d 0 ≡ running_on w (d ∷ [])
+  pub children : (d : ℕ) → slice_index_or i.children d 0 ≡ children_of w d
+  pub owner_places : length i.owners ≡ length w.parents
+  pub opened_places : length i.opened ≡ length w.parents
+  pub running_places : length i.running ≡ length w.parents
+  pub children_places : length i.children ≡ length w.parents
+
+-- some list of events led here, no message or ticket without an event, and the tables by directory are right
+pub record IsKept (r : Records) : Type 0 where
+  pub reached : IsReached (world_of r)
+  pub indexed : IsIndexed (world_of r) (indexes_of r)
+  pub distinct : (x : ℕ) → repeats (order_in (world_of r).orders x).dirs ≡ true → ⊥
+  pub sent : vec_len r.sent ≤ r.events
+  pub tickets : vec_len r.tickets ≤ r.events
+  pub counted : r.events ≤ 1048576
+  pub within : length r.parents.items ≤ r.limit
+
+-- why a call is refused, if it is
+abbrev pub cause_of : {A : Type 0} → Result A StepError → Option StepError
+cause_of (Ok a) = None
+cause_of (Err error) = Some error

@@ -1,0 +1,24 @@
+//! What the two ranks of an export tell each other.
+
+/// A message about the export of this number.
+#[derive(Clone, Copy, Debug, PartialEq, Eq, Hash)]
+pub enum Message {
+    /// To the importer: do you know these directories?
+    Discover(u32),
+    /// To the exporter: yes.
+    DiscoverAck(u32),
+    /// To the importer: make ready.
+    Prep(u32),
+    /// To the exporter: ready.
+    PrepAck(u32),
+    /// To the importer: here are the directories.
+    Export(u32),
+    /// To the exporter: they are in my journal.
+    ExportAck(u32),
+    /// To the importer: they are yours.
+    Finish(u32),
+    /// To the importer: forget them.
+    Cancel(u32),
+    /// To the exporter: what became of the export?
+    Query(u32),
+}

@@ -1,0 +1,174 @@
+//! What a cluster keeps, and the reads of it.
+//!
+//! Beside the journals, states, messages and map there are four tables by directory, which the rest determines: its
+//! authority, the open export that it is in, how many requests run on it and how many children it has. So no read
+//! folds a journal and no event searches the exports.
+
+ghost use Rattle.std.specs.Prelude.{◌≡◌, ℕ, ◌<◌, ◌∷◌, [], length, Some, slice_get};
+ghost use Rattle.export_machine.specs.Authority.{is_present, authority, open_export, is_stopped, exporter_of, importer_of, from_of, to_of, order_in, frozen_by, serves, named_of};
+ghost use Rattle.export_machine.specs.Step.{running_on, receiver};
+ghost use Rattle.export_machine.specs.Kept.{world_of, children_of, IsKept};
+
+use crate::event::Request;
+use crate::exporter::ExporterState;
+use crate::importer::ImporterState;
+use crate::journal::JournalEntry;
+use crate::message::Message;
+use mds_types::{Dir, Order, Rank};
+
+/// Everything that a cluster knows. The lists of directories, ranks, exports, messages and tickets go by number.
+#[derive(Drop)]
+pub struct Records {
+    pub(crate) limit: u32,
+    pub(crate) ranks: u8,
+    pub(crate) parents: Vec<Option<Dir>>,
+    pub(crate) journals: Vec<Vec<JournalEntry>>,
+    pub(crate) orders: Vec<Order>,
+    pub(crate) exporters: Vec<ExporterState>,
+    pub(crate) importers: Vec<ImporterState>,
+    pub(crate) sent: Vec<Message>,
+    pub(crate) tickets: Vec<Option<Request>>,
+    pub(crate) named: Vec<Option<Rank>>,
+    pub(crate) stopped: Vec<bool>,
+    pub(crate) events: u32,
+    /// By directory: its authority.
+    pub(crate) owners: Vec<Option<Rank>>,
+    /// By directory: the open export that it is in.
+    pub(crate) opened: Vec<Option<u32>>,
+    /// By directory: how many requests run on it.
+    pub(crate) running: Vec<u32>,
+    /// By directory: how many children it has.
+    pub(crate) children: Vec<u32>,
+}
+
+impl Records {
+    pub(crate) fn is_present(&self, dir: Dir) -> bool
+        ensures { result ≡ is_present (world_of self.now) dir }
+    {
+        match self.parents.get(dir.number() as usize) {
+            Some(Some(_)) => true,
+            _ => false,
+        }
+    }
+
+    pub(crate) fn authority(&self, dir: Dir) -> Option<Rank>
+        requires { IsKept self.now }
+        ensures { result ≡ authority (world_of self.now) dir }
+    {
+        match self.owners.get(dir.number() as usize) {
+            Some(owner) => *owner,
+            None => None,
+        }
+    }
+
+    pub(crate) fn open_export(&self, dir: Dir) -> Option<u32>
+        requires { IsKept self.now }
+        ensures { result ≡ open_export (world_of self.now) dir }
+    {
+        match self.opened.get(dir.number() as usize) {
+            Some(export) => *export,
+            None => None,
+        }
+    }
+
+    pub(crate) fn running_on(&self, dir: Dir) -> u32
+        requires { IsKept self.now }
+        ensures { result ≡ running_on (world_of self.now) (dir ∷ []) }
+    {
+        match self.running.get(dir.number() as usize) {
+            Some(requests) => *requests,
+            None => 0,
+        }
+    }
+
+    pub(crate) fn children(&self, dir: Dir) -> u32
+        requires { IsKept self.now }
+        ensures { result ≡ children_of (world_of self.now) dir }
+    {
+        match self.children.get(dir.number() as usize) {
+            Some(children) => *children,
+            None => 0,
+        }
+    }
+
+    pub(crate) fn named(&self, dir: Dir) -> Option<Rank>
+        ensures { result ≡ named_of (world_of self.now) dir }
+    {
+        match self.named.get(dir.number() as usize) {
+            Some(rank) => *rank,
+            None => None,
+        }
+    }
+
+    pub(crate) fn is_stopped(&self, rank: Rank) -> bool
+        ensures { result ≡ is_stopped (world_of self.now) rank }
+    {
+        match self.stopped.get(rank.number() as usize) {
+            Some(stopped) => *stopped,
+            None => false,
+        }
+    }
+
+    pub(crate) fn exporter(&self, export: u32) -> ExporterState
+        ensures { result ≡ exporter_of (world_of self.now) export }
+    {
+        match self.exporters.get(export as usize) {
+            Some(state) => *state,
+            None => ExporterState::Aborted,
+        }
+    }
+
+    pub(crate) fn importer(&self, export: u32) -> ImporterState
+        ensures { result ≡ importer_of (world_of self.now) export }
+    {
+        match self.importers.get(export as usize) {
+            Some(state) => *state,
+            None => ImporterState::Unknown,
+        }
+    }
+
+    pub(crate) fn from(&self, export: u32) -> Rank
+        requires { export < length self.now.orders.items }
+        ensures { result ≡ from_of (world_of self.now) export }
+    {
+        self.orders[export as usize].from
+    }
+
+    pub(crate) fn to(&self, export: u32) -> Rank
+        requires { export < length self.now.orders.items }
+        ensures { result ≡ to_of (world_of self.now) export }
+    {
+        self.orders[export as usize].to
+    }
+
+    pub(crate) fn dirs(&self, export: u32) -> &[Dir]
+        requires { export < length self.now.orders.items }
+        ensures { result.now ≡ (order_in (world_of self.now).orders export).dirs }
+    {
+        &self.orders[export as usize].dirs
+    }
+
+    /// The export because of which the authority of a directory doesn't serve it.
+    pub(crate) fn frozen_by(&self, dir: Dir) -> Option<u32>
+        requires { IsKept self.now }
+        ensures { (rank : ℕ) → authority (world_of self.now) dir ≡ Some rank → result ≡ frozen_by (world_of self.now) rank dir }
+    {
+        match self.open_export(dir) {
+            Some(export) => match self.exporter(export) {
+                ExporterState::Discovering => None,
+                _ => Some(export),
+            },
+            None => None,
+        }
+    }
+
+    pub(crate) fn serves(&self, rank: Rank, dir: Dir) -> bool
+        requires { IsKept self.now }
+        ensures { result ≡ serves (world_of self.now) rank dir }
+    {
+        match self.authority(dir) {
+            Some(authority) => authority == rank && self.frozen_by(dir).is_none(),
+            None => false,
+        }
+    }
+}
