@@ -46,13 +46,13 @@ below n x h = grind arith
 unequal : (m n : ℕ) → n ≢ m → eqb m n ≡ false
 unequal m n h = grind arith
 
-not_false : (b : Bool) → not b ≡ false → b ≡ true
+pub not_false : (b : Bool) → not b ≡ false → b ≡ true
 not_false b h = grind arith
 
-freezing_is : (e : ExporterState) → is_freezing e ≡ true → e ≡ Freezing
+pub freezing_is : (e : ExporterState) → is_freezing e ≡ true → e ≡ Freezing
 freezing_is e h = grind arith
 
-logged_is : (e : ExporterState) → is_logged e ≡ true → e ≡ Logged
+pub logged_is : (e : ExporterState) → is_logged e ≡ true → e ≡ Logged
 logged_is e h = grind arith
 
 abbrev number_of : (Option Request → Bool) → List (Option Request) → ℕ
@@ -141,11 +141,11 @@ held_none : (o : Option ℕ) → held o ≡ None → o ≡ None
 held_none None h = refl
 held_none (Some x) h = absurd (cc)
 
-busy_none : (o : Option ℕ) → busy o ≡ None → o ≡ None
+pub busy_none : (o : Option ℕ) → busy o ≡ None → o ≡ None
 busy_none None h = refl
 busy_none (Some x) h = absurd (cc)
 
-served : (w : World) (r d : ℕ) (o : Option ℕ) → not_served w r d o ≡ None → (o ≡ Some r) × (frozen_by w r d ≡ None)
+pub served : (w : World) (r d : ℕ) (o : Option ℕ) → not_served w r d o ≡ None → (o ≡ Some r) × (frozen_by w r d ≡ None)
 served w r d None h = absurd (cc)
 served w r d (Some a) h = go (eqb a r) refl h
   where
@@ -231,7 +231,7 @@ module _ (w : World) (safe : Safe w) where
 
 -- A directory is made.
 
-held_free : (w : World) (d : ℕ) (o : Option ℕ) → held_at w d o ≡ None → (a : ℕ) × (o ≡ Some a) × (frozen_by w a d ≡ None)
+pub held_free : (w : World) (d : ℕ) (o : Option ℕ) → held_at w d o ≡ None → (a : ℕ) × (o ≡ Some a) × (frozen_by w a d ≡ None)
 held_free w d None h = absurd (cc)
 held_free w d (Some a) h = (a, refl, held_none (frozen_by w a d) h)
 
@@ -289,7 +289,7 @@ module _ (w : World) (safe : Safe w) where
 
 -- A directory goes.
 
-not_stopped : (w : World) (o : Option ℕ) → authority_stopped w o ≡ None → (a : ℕ) × (o ≡ Some a)
+pub not_stopped : (w : World) (o : Option ℕ) → authority_stopped w o ≡ None → (a : ℕ) × (o ≡ Some a)
 not_stopped w None h = absurd (cc)
 not_stopped w (Some a) h = (a, refl)
 
@@ -358,7 +358,7 @@ module _ (w : World) (safe : Safe w) where
 
 -- An export begins.
 
-is_here : (r : ℕ) (o : Option ℕ) → elsewhere r o ≡ None → o ≡ Some r
+pub is_here : (r : ℕ) (o : Option ℕ) → elsewhere r o ≡ None → o ≡ Some r
 is_here r None h = absurd (cc)
 is_here r (Some a) h = ap Some (same_number a r (not_false (eqb a r) (not_refused (not (eqb a r)) (StepError.Elsewhere a) h)))
 

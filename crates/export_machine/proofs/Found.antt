@@ -97,7 +97,7 @@ place_early Told from to h = absurd (cc)
 place_early Over from to h = refl
 
 module _ (w : World) (safe : Safe w) where
-  open_is : (d x : ℕ) → open_export w d ≡ Some x → (is_inside w x d ≡ true) × (is_over (phase_of w x) ≡ false)
+  pub open_is : (d x : ℕ) → open_export w d ≡ Some x → (is_inside w x d ≡ true) × (is_over (phase_of w x) ≡ false)
   unfolding open_export
   open_is d x e =
       let f : (x < length w.orders) × ((is_open w x && is_inside w x d) ≡ true) = first_some (length w.orders) (λ y. is_open w y && is_inside w y d) x e in

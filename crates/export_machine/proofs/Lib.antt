@@ -9,7 +9,6 @@ pub mod Events
 pub mod Stops
 pub mod Theorem
 pub mod Schedules
-pub mod Answer
 pub mod Authorities
 pub mod Tidy
 pub mod Walks
@@ -17,3 +16,7 @@ pub mod Reached
 pub mod Chains
 pub mod Owners
 pub mod Found
+pub mod Lists
+pub mod Indexing
+pub mod Accepted
+pub mod Marks

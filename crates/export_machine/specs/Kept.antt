@@ -1,5 +1,5 @@
 -- What the tables of a cluster stand for, and what always holds of them.
-use Rattle.std.specs.Prelude.{◌≡◌, ◌≤◌, ◌<◌, ℕ, ◌+◌, suc, Bool, true, ◌&&◌, nat_lt, List, [], ◌∷◌, map, length, Option, None, Some, Result, Ok, Err, slice_get, slice_index_or, slice_set, vec_len, vec_capacity, if◌then◌else◌}
+use Rattle.std.specs.Prelude.{◌≡◌, ◌≤◌, ◌<◌, ℕ, ◌+◌, suc, Bool, true, ◌&&◌, nat_lt, List, [], ◌∷◌, map, length, Option, None, Some, Result, Ok, Err, slice_get, slice_index_or, slice_set, vec_len, vec_capacity, Vec, if◌then◌else◌}
 use Rattle.export_machine.specs.Cluster.{Order, World}
 use Rattle.export_machine.specs.Authority.{authority, open_export, order_in, from_of}
 use Rattle.export_machine.specs.Step.{Event, running_on, is_child, receiver, repeats}
@@ -75,8 +75,8 @@ pub record IsKept (r : Records) : Type 0 where
   pub reached : IsReached (world_of r)
   pub indexed : IsIndexed (world_of r) (indexes_of r)
   pub distinct : (x : ℕ) → repeats (order_in (world_of r).orders x).dirs ≡ true → ⊥
-  pub sent : vec_len r.sent ≤ r.events
-  pub tickets : vec_len r.tickets ≤ r.events
+  pub sent : length r.sent.items ≤ r.events
+  pub tickets : length r.tickets.items ≤ r.events
   pub counted : r.events ≤ 1048576
   pub within : length r.parents.items ≤ r.limit
 
@@ -84,3 +84,49 @@ pub record IsKept (r : Records) : Type 0 where
 abbrev pub cause_of : {A : Type 0} → Result A StepError → Option StepError
 cause_of (Ok a) = None
 cause_of (Err error) = Some error
+
+abbrev pub lesser : Option ℕ → ℕ → ℕ
+lesser None dir = dir
+lesser (Some other) dir = if nat_lt other dir then other else dir
+
+-- Room: where the lists of an event have a place each, the event asks for no memory.
+
+abbrev pub has_spare : {T A : Type 0} → Vec T A → Bool
+has_spare v = nat_lt (vec_len v) (vec_capacity v)
+
+abbrev pub is_spare : {A : Type 0} → Option (Vec JournalEntry A) → Bool
+is_spare None = true
+is_spare (Some journal) = has_spare journal
+
+-- the journal of this rank has a place
+abbrev pub has_place : {A : Type 0} → List (Vec JournalEntry A) → ℕ → Bool
+has_place journals rank = is_spare (slice_get journals rank)
+
+abbrev pub has_places : {A : Type 0} → List (Vec JournalEntry A) → Option ℕ → Bool
+has_places journals None = true
+has_places journals (Some rank) = has_place journals rank
+
+abbrev pub receiver_of : World → Option Message → ℕ
+receiver_of w None = 0
+receiver_of w (Some message) = receiver w message
+
+abbrev pub has_dir_places : Records → Bool
+has_dir_places r =
+    has_spare r.parents && has_spare r.named && has_spare r.owners && has_spare r.opened && has_spare r.running && has_spare r.children
+
+abbrev pub has_export_places : Records → Bool
+has_export_places r = has_spare r.orders && has_spare r.exporters && has_spare r.importers && has_spare r.sent
+
+unfoldable pub has_room : Records → Event → Bool
+has_room r (Event.Made parent) = has_dir_places r && has_places r.journals.items (authority (world_of r) parent)
+has_room r (Event.Gone dir) = has_places r.journals.items (authority (world_of r) dir)
+has_room r (Event.Begin rank dir) = has_spare r.tickets
+has_room r (Event.End ticket) = true
+has_room r (Event.Start from to dirs) = has_export_places r
+has_room r (Event.Deliver message) = has_spare r.sent && has_place r.journals.items (receiver_of (world_of r) (slice_get r.sent.items message))
+has_room r (Event.Froze export) = has_spare r.sent
+has_room r (Event.Notify export) = has_spare r.sent && has_place r.journals.items (from_of (world_of r) export)
+has_room r (Event.Abort export) = has_spare r.sent
+has_room r (Event.Stop rank) = true
+has_room r (Event.Restart rank) = true
+has_room r (Event.Ask export) = has_spare r.sent

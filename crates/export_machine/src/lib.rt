@@ -9,9 +9,12 @@ pub mod exporter;
 pub mod importer;
 pub mod journal;
 pub mod message;
+mod changes;
+mod effects;
 mod records;
 mod refusals;
 pub mod step_error;
+
 
 pub use event::{Event, Reply, Request};
 pub use exporter::ExporterState;

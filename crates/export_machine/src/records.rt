@@ -5,8 +5,10 @@
 //! folds a journal and no event searches the exports.
 
 ghost use Rattle.std.specs.Prelude.{◌≡◌, ℕ, ◌<◌, ◌∷◌, [], length, Some, slice_get};
-ghost use Rattle.export_machine.specs.Authority.{is_present, authority, open_export, is_stopped, exporter_of, importer_of, from_of, to_of, order_in, frozen_by, serves, named_of};
-ghost use Rattle.export_machine.specs.Step.{running_on, receiver};
+ghost use Rattle.export_machine.specs.Authority.{is_present, authority, open_export, is_stopped, exporter_of, importer_of, from_of, to_of, order_in, frozen_by, serves, named_of, is_among};
+ghost use Rattle.export_machine.specs.Step.{running_on, repeats, parent_among, is_connected};
+ghost use Rattle.std.specs.List.{list_all};
+ghost use Rattle.export_machine.specs.Roots.{parent_of};
 ghost use Rattle.export_machine.specs.Kept.{world_of, children_of, IsKept};
 
 use crate::event::Request;
@@ -49,6 +51,12 @@ impl Records {
             Some(Some(_)) => true,
             _ => false,
         }
+    }
+
+    pub(crate) fn are_present(&self, dirs: &[Dir]) -> bool
+        ensures { result ≡ list_all (is_present (world_of self.now)) dirs.now }
+    {
+        dirs.iter().all(|dir| self.is_present(*dir))
     }
 
     pub(crate) fn authority(&self, dir: Dir) -> Option<Rank>
@@ -171,4 +179,60 @@ impl Records {
             None => false,
         }
     }
+
+    /// How many requests run on the directories of an export.
+    pub(crate) fn running_in(&self, export: u32) -> u32
+        requires kept { IsKept self.now }
+        requires near { export < length self.now.orders.items }
+        ensures { result ≡ running_on (world_of self.now) (order_in (world_of self.now).orders export).dirs }
+    {
+        let dirs = self.dirs(export);
+        let mut requests = 0;
+        for dir in dirs {
+            requests += self.running_on(*dir);
+        }
+        requests
+    }
+
+    fn parent(&self, dir: Dir) -> Option<Dir>
+        ensures { result ≡ parent_of (world_of self.now) dir }
+    {
+        match self.parents.get(dir.number() as usize) {
+            Some(parent) => *parent,
+            None => None,
+        }
+    }
+
+    fn has_parent_among(&self, dirs: &[Dir], dir: Dir) -> bool
+        ensures { result ≡ parent_among dirs.now dir (parent_of (world_of self.now) dir) }
+    {
+        match self.parent(dir) {
+            Some(parent) => is_among(dirs, parent) && parent.number() != dir.number(),
+            None => false,
+        }
+    }
+
+    /// Whether the directories are some, none twice, and hang together: only one of them has no parent among them.
+    pub(crate) fn is_connected(&self, dirs: &[Dir]) -> bool
+        ensures { result ≡ is_connected (world_of self.now) dirs.now }
+    {
+        !repeats(dirs) && dirs.iter().filter(|dir| !self.has_parent_among(dirs, **dir)).count() == 1
+    }
+}
+
+fn is_among(dirs: &[Dir], dir: Dir) -> bool
+    ensures { result ≡ is_among dirs.now dir }
+{
+    dirs.iter().any(|other| other.number() == dir.number())
+}
+
+fn repeats(dirs: &[Dir]) -> bool
+    ensures { result ≡ repeats dirs.now }
+{
+    for at in 0..dirs.len() {
+        if is_among(&dirs[at + 1..], dirs[at]) {
+            return true;
+        }
+    }
+    false
 }
