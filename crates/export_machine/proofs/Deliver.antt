@@ -21,7 +21,7 @@ discovered_pair e h = grind arith
 prepared_pair : (e : ExporterState) → together e Discovered ≡ true → together e Prepared ≡ true
 prepared_pair e h = grind arith
 
-ack_started : (i : ImporterState) (b : Bool) → together Exporting i ≡ true → (is_started i || is_imported i || b) ≡ true → (b ≡ true → i ≡ Dropped) → i ≡ Started
+pub ack_started : (i : ImporterState) (b : Bool) → together Exporting i ≡ true → (is_started i || is_imported i || b) ≡ true → (b ≡ true → i ≡ Dropped) → i ≡ Started
 ack_started Unknown b h k l = cc (l k)
 ack_started Discovered b h k l = cc (l k)
 ack_started Prepared b h k l = cc (l k)

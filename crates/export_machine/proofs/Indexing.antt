@@ -69,9 +69,9 @@ aborted_same xs x s h y = elim (same_or_other y x) [
 pub exporter_open : (w : World) (x : ℕ) (s : ExporterState) → is_aborted (exporter_of w x) ≡ is_aborted s → (d : ℕ) → open_export (exporter_to w x s) d ≡ open_export w d
 exporter_open w x s h = open_stays w (exporter_to w x s) refl (λ y. rw (aborted_same w.exporters x s h y) refl)
 
-entry_open : (w : World) (safe : Safe w) (r : ℕ) (e : JournalEntry) → r < length w.journals → ((y : ℕ) → is_same e (JournalEntry.Imported y) ≡ false) →
+pub entry_open : (w : World) (r : ℕ) (e : JournalEntry) → r < length w.journals → ((y : ℕ) → is_same e (JournalEntry.Imported y) ≡ false) →
     (d : ℕ) → open_export (journals w r e) d ≡ open_export w d
-entry_open w safe r e near h = open_stays w (journals w r e) refl (λ y. go y)
+entry_open w r e near h = open_stays w (journals w r e) refl (λ y. go y)
   where
     none : (a b c : Bool) → c ≡ false → (a || (b && c)) ≡ a
     none a b c k = grind arith

@@ -20,3 +20,5 @@ pub mod Lists
 pub mod Indexing
 pub mod Accepted
 pub mod Marks
+pub mod Rows
+pub mod Receiving

@@ -2,9 +2,10 @@
 use Rattle.std.specs.Prelude.{◌≡◌, ◌≤◌, ◌<◌, ℕ, ◌+◌, suc, Bool, true, ◌&&◌, nat_lt, List, [], ◌∷◌, map, length, Option, None, Some, Result, Ok, Err, slice_get, slice_index_or, slice_set, vec_len, vec_capacity, Vec, if◌then◌else◌}
 use Rattle.export_machine.specs.Cluster.{Order, World}
 use Rattle.export_machine.specs.Authority.{authority, open_export, order_in, from_of}
-use Rattle.export_machine.specs.Step.{Event, running_on, is_child, receiver, repeats}
+use Rattle.export_machine.specs.Step.{Event, running_on, is_child, receiver, repeats, comes}
 use Rattle.export_machine.specs.View.{IsReached}
 use Rattle.export_machine.specs.declared.event.Event.{Event as Asked}
+use Rattle.export_machine.specs.declared.event.Reply.{Reply}
 use Rattle.export_machine.specs.declared.journal.JournalEntry.{JournalEntry}
 use Rattle.export_machine.specs.declared.message.Message.{Message}
 use Rattle.export_machine.specs.declared.step_error.StepError.{StepError}
@@ -130,3 +131,28 @@ has_room r (Event.Abort export) = has_spare r.sent
 has_room r (Event.Stop rank) = true
 has_room r (Event.Restart rank) = true
 has_room r (Event.Ask export) = has_spare r.sent
+
+-- What a rank can rely on where a message comes, and what it then did.
+
+pub record CanReceive (r : Records) (message : Message) : Type 0 where
+  pub kept : IsKept r
+  pub sent : (number : ℕ) × (slice_get r.sent.items number ≡ Some message)
+  pub spare : has_spare r.sent ≡ true
+  pub place : has_place r.journals.items (receiver (world_of r) message) ≡ true
+  pub few : r.events < 1048576
+
+pub record IsReceived (old : Records) (message : Message) (reply : Reply) (new : Records) : Type 0 where
+  pub effect : comes (world_of old) message ≡ record { reply = reply; world = world_of new }
+  pub indexed : IsIndexed (world_of new) (indexes_of new)
+
+-- the export that a message is about
+abbrev pub about : Message → ℕ
+about (Message.Discover export) = export
+about (Message.DiscoverAck export) = export
+about (Message.Prep export) = export
+about (Message.PrepAck export) = export
+about (Message.Export export) = export
+about (Message.ExportAck export) = export
+about (Message.Finish export) = export
+about (Message.Cancel export) = export
+about (Message.Query export) = export

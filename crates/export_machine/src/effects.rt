@@ -8,10 +8,12 @@ ghost use Rattle.export_machine.specs.Kept.{world_of, indexes_of, has_room, IsKe
 
 use crate::event::{Reply, Request};
 use crate::exporter::ExporterState;
+use crate::importer::ImporterState;
+use crate::journal::JournalEntry;
 use crate::message::Message;
 use crate::records::Records;
-use crate::changes::{mark, send};
-use mds_types::{Dir, Rank};
+use crate::changes::{enter, mark, send};
+use mds_types::{Dir, Order, Rank};
 
 impl Records {
     /// A request begins.
@@ -66,5 +68,84 @@ impl Records {
         self.exporters[export as usize] = ExporterState::Aborted;
         mark(&mut self.opened, &self.orders[export as usize].dirs, None);
         send(&mut self.sent, Message::Cancel(export))
+    }
+
+    /// A directory is made below this parent. It has its parent's authority.
+    pub(crate) fn make(&mut self, parent: Dir) -> Reply
+        requires kept { IsKept self.old }
+        requires accepted { refusal (world_of self.old) (StepEvent.Made parent) ≡ None }
+        requires room { has_room self.old (StepEvent.Made parent) ≡ true }
+        ensures effect { happens (world_of self.old) (StepEvent.Made parent) ≡ record { reply = result; world = world_of self.new } }
+        ensures indexed { IsIndexed (world_of self.new) (indexes_of self.new) }
+    {
+        let dir = Dir::new(self.parents.len() as u32);
+        let Some(rank) = self.authority(parent) else {
+            return Reply::Ignored;
+        };
+        enter(&mut self.journals, rank, JournalEntry::Made(dir));
+        self.parents.push_reserved(Some(parent));
+        self.named.push_reserved(Some(rank));
+        self.owners.push_reserved(Some(rank));
+        self.opened.push_reserved(None);
+        self.running.push_reserved(0);
+        self.children.push_reserved(0);
+        self.children[parent.number() as usize] += 1;
+        Reply::Dir(dir)
+    }
+
+    /// A directory is removed.
+    pub(crate) fn remove(&mut self, dir: Dir) -> Reply
+        requires kept { IsKept self.old }
+        requires accepted { refusal (world_of self.old) (StepEvent.Gone dir) ≡ None }
+        requires room { has_room self.old (StepEvent.Gone dir) ≡ true }
+        ensures effect { happens (world_of self.old) (StepEvent.Gone dir) ≡ record { reply = result; world = world_of self.new } }
+        ensures indexed { IsIndexed (world_of self.new) (indexes_of self.new) }
+    {
+        let index = dir.number() as usize;
+        let Some(rank) = self.authority(dir) else {
+            return Reply::Ignored;
+        };
+        let Some(parent) = self.parents[index] else {
+            return Reply::Ignored;
+        };
+        enter(&mut self.journals, rank, JournalEntry::Gone(dir));
+        self.parents[index] = None;
+        self.named[index] = None;
+        self.owners[index] = None;
+        self.children[parent.number() as usize] -= 1;
+        Reply::Changed
+    }
+
+    /// An export starts.
+    pub(crate) fn start(&mut self, from: Rank, to: Rank, dirs: Vec<Dir>) -> Reply
+        requires kept { IsKept self.old }
+        requires accepted { refusal (world_of self.old) (StepEvent.Start from to dirs.items) ≡ None }
+        requires room { has_room self.old (StepEvent.Start from to dirs.items) ≡ true }
+        ensures effect { happens (world_of self.old) (StepEvent.Start from to dirs.items) ≡ record { reply = result; world = world_of self.new } }
+        ensures indexed { IsIndexed (world_of self.new) (indexes_of self.new) }
+    {
+        let export = self.orders.len() as u32;
+        let message = self.sent.len() as u32;
+        mark(&mut self.opened, &dirs, Some(export));
+        self.orders.push_reserved(Order { from, to, dirs });
+        self.exporters.push_reserved(ExporterState::Discovering);
+        self.importers.push_reserved(ImporterState::Unknown);
+        self.sent.push_reserved(Message::Discover(export));
+        Reply::Export(export, message)
+    }
+
+    /// The exporter makes the map name the importer.
+    pub(crate) fn notify(&mut self, export: u32) -> Reply
+        requires kept { IsKept self.old }
+        requires accepted { refusal (world_of self.old) (StepEvent.Notify export) ≡ None }
+        requires room { has_room self.old (StepEvent.Notify export) ≡ true }
+        ensures effect { happens (world_of self.old) (StepEvent.Notify export) ≡ record { reply = result; world = world_of self.new } }
+        ensures indexed { IsIndexed (world_of self.new) (indexes_of self.new) }
+    {
+        self.exporters[export as usize] = ExporterState::Done;
+        let order = &self.orders[export as usize];
+        enter(&mut self.journals, order.from, JournalEntry::Notified(export));
+        mark(&mut self.named, &order.dirs, Some(order.to));
+        send(&mut self.sent, Message::Finish(export))
     }
 }

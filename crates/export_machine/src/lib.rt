@@ -10,6 +10,7 @@ pub mod importer;
 pub mod journal;
 pub mod message;
 mod changes;
+mod deliveries;
 mod effects;
 mod records;
 mod refusals;
