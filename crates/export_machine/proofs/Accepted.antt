@@ -1,5 +1,5 @@
 -- What an accepted event can rely on.
-use Rattle.std.proofs.Common.{◌≡◌, ◌≢◌, ℕ, ◌<◌, ◌≤◌, Bool, true, false, ◌&&◌, ◌||◌, not, eqb, ltb, leb, cond, List, [], ◌∷◌, ◌++◌, length, get_or, set, map, Option, Some, None, refl, sym, ap, ◌∙◌, subst, inl, inr, ◌⊎◌, arith}
+use Rattle.std.proofs.Common.{◌≡◌, ◌≢◌, ℕ, zero, suc, ◌<◌, ◌≤◌, Bool, true, false, ◌&&◌, ◌||◌, not, eqb, ltb, leb, cond, List, [], ◌∷◌, ◌++◌, length, get_or, set, map, Option, Some, None, refl, sym, ap, ◌∙◌, subst, inl, inr, ◌⊎◌, arith}
 use Rattle.std.specs.Option.{is_some}
 use Rattle.std.specs.List.{slice_get, list_all}
 use Rattle.std.proofs.lemmas.Bool.{cases_lt}
@@ -105,3 +105,54 @@ end_near w t h = elim (cases_lt t (length w.tickets)) [ inl m ↦ m | inr m ↦ 
 pub begin_dir : (w : World) (r d : ℕ) → refusal w (Begin r d) ≡ None → d < length w.parents
 unfolding causes
 begin_dir w r d h = there_near w d (not_false (is_present w d) (not_refused _ _ (not_refused_causes w (Begin r d) h).1.1.0))
+
+pub deliver_near : (w : World) (m : ℕ) → refusal w (Deliver m) ≡ None → m < length w.sent
+unfolding causes
+deliver_near w m h = below (length w.sent) m (not_refused _ _ (not_refused_causes w (Deliver m) h).0)
+
+pub both_parts : (a b : Bool) → (a && b) ≡ true → (a ≡ true) × (b ≡ true)
+both_parts true true h = (refl, refl)
+both_parts true false h = absurd (cc)
+both_parts false b h = absurd (cc)
+
+pub item_at : {A : Type 0} (xs : List A) (k : ℕ) (a : A) → k < length xs → a ≡ get_or xs k a → slice_get xs k ≡ Some a
+item_at [] k a h e = absurd (omega arith)
+item_at (x ∷ xs) zero a h e = ap Some (sym e)
+item_at (x ∷ xs) (suc k) a h e = item_at xs k a (omega arith) e
+
+module _ (w : World) (p : ℕ) (h : refusal w (Event.Made p) ≡ None) where
+  pub made_parent : p < length w.parents
+  unfolding causes
+  made_parent = there_near w p (not_false (is_present w p) (not_refused _ _ (not_refused_causes w (Event.Made p) h).0))
+
+  pub made_few : length w.parents < w.limit
+  unfolding causes
+  made_few = below w.limit (length w.parents) (not_refused _ _ (not_refused_causes w (Event.Made p) h).1.0)
+
+  pub made_has : (a : ℕ) × (authority w p ≡ Some a) × (frozen_by w a p ≡ None)
+  unfolding causes
+  made_has = held_free w p (authority w p) (not_refused_causes w (Event.Made p) h).1.1.0
+
+module _ (w : World) (d : ℕ) (h : refusal w (Event.Gone d) ≡ None) where
+  pub gone_dir : d ≢ 0
+  unfolding causes
+  gone_dir = nonzero d (not_refused _ _ (not_refused_causes w (Event.Gone d) h).0)
+    where
+      nonzero : (n : ℕ) → eqb n 0 ≡ false → n ≢ 0
+      nonzero n e = grind arith
+
+  pub gone_there : is_present w d ≡ true
+  unfolding causes
+  gone_there = not_false (is_present w d) (not_refused _ _ (not_refused_causes w (Event.Gone d) h).1.0)
+
+  pub gone_closed : open_export w d ≡ None
+  unfolding causes
+  gone_closed = busy_none (open_export w d) (not_refused_causes w (Event.Gone d) h).1.1.1.0
+
+  pub gone_idle : not_yet (running_on w (d ∷ [])) ≡ None
+  unfolding causes
+  gone_idle = (not_refused_causes w (Event.Gone d) h).1.1.1.1.0
+
+  pub gone_has : (a : ℕ) × (authority w d ≡ Some a)
+  unfolding causes
+  gone_has = not_stopped w (authority w d) (not_refused_causes w (Event.Gone d) h).1.1.1.1.1.0

@@ -293,7 +293,7 @@ pub not_stopped : (w : World) (o : Option ℕ) → authority_stopped w o ≡ Non
 not_stopped w None h = absurd (cc)
 not_stopped w (Some a) h = (a, refl)
 
-elsewhere_dir : (d e : ℕ) → is_among (d ∷ []) e ≡ false → e ≢ d
+pub elsewhere_dir : (d e : ℕ) → is_among (d ∷ []) e ≡ false → e ≢ d
 elsewhere_dir d e h k = absurd (go (eqb d e) h (rw k (itself d)))
   where
     go : (b : Bool) → (b || false) ≡ false → b ≡ true → ⊥
@@ -362,7 +362,7 @@ pub is_here : (r : ℕ) (o : Option ℕ) → elsewhere r o ≡ None → o ≡ So
 is_here r None h = absurd (cc)
 is_here r (Some a) h = ap Some (same_number a r (not_false (eqb a r) (not_refused (not (eqb a r)) (StepError.Elsewhere a) h)))
 
-least_none : (w : World) (from : ℕ) (dirs : List ℕ) (n : ℕ) → least_fault w from dirs n ≡ None → (d : ℕ) → d < n → is_among dirs d ≡ true → cannot_leave w from d ≡ None
+pub least_none : (w : World) (from : ℕ) (dirs : List ℕ) (n : ℕ) → least_fault w from dirs n ≡ None → (d : ℕ) → d < n → is_among dirs d ≡ true → cannot_leave w from d ≡ None
 least_none w from dirs zero h d l i = absurd (omega arith)
 least_none w from dirs (suc n) h d l i = elim (cases_lt d n) [
   | inl m ↦ least_none w from dirs n (or_else_none (least_fault w from dirs n) (cond (is_among dirs n) (cannot_leave w from n) None) h).0 d m i
@@ -375,7 +375,7 @@ least_none w from dirs (suc n) h d l i = elim (cases_lt d n) [
     fault true o j k = k
     fault false o j k = absurd (cc)
 
-all_there : (w : World) (dirs : List ℕ) → list_all (is_present w) dirs ≡ true → (d : ℕ) → is_among dirs d ≡ true → is_present w d ≡ true
+pub all_there : (w : World) (dirs : List ℕ) → list_all (is_present w) dirs ≡ true → (d : ℕ) → is_among dirs d ≡ true → is_present w d ≡ true
 all_there w [] h d i = absurd (cc)
 all_there w (c ∷ cs) h d i = elim (or_true (eqb c d) (is_among cs d) i) [
   | inl e ↦ rw (← same_number c d e) (and_true (is_present w c) (list_all (is_present w) cs) h).0

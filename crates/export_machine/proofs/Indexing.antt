@@ -209,7 +209,7 @@ not_here d e n = go (eqb e d) refl
     go true h = absurd (n (same_number e d h))
     go false h = refl
 
-default : (xs : List ℕ) (k a b : ℕ) → k < length xs → get_or xs k a ≡ get_or xs k b
+pub default : (xs : List ℕ) (k a b : ℕ) → k < length xs → get_or xs k a ≡ get_or xs k b
 default [] k a b l = absurd (omega arith)
 default (x ∷ xs) zero a b l = refl
 default (x ∷ xs) (suc k) a b l = default xs k a b (omega arith)

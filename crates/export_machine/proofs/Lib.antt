@@ -22,3 +22,5 @@ pub mod Accepted
 pub mod Marks
 pub mod Rows
 pub mod Receiving
+pub mod Growing
+pub mod Starting
