@@ -24,3 +24,4 @@ pub mod Rows
 pub mod Receiving
 pub mod Growing
 pub mod Starting
+pub mod Bounds

@@ -1,11 +1,13 @@
 -- What the tables of a cluster stand for, and what always holds of them.
 use Rattle.std.specs.Prelude.{◌≡◌, ◌≤◌, ◌<◌, ℕ, ◌+◌, suc, Bool, true, ◌&&◌, nat_lt, List, [], ◌∷◌, map, length, Option, None, Some, Result, Ok, Err, slice_get, slice_index_or, slice_set, vec_len, vec_capacity, Vec, if◌then◌else◌}
 use Rattle.export_machine.specs.Cluster.{Order, World}
-use Rattle.export_machine.specs.Authority.{authority, open_export, order_in, from_of}
+use Rattle.export_machine.specs.Authority.{authority, open_export, order_in, from_of, exporter_of, importer_of}
 use Rattle.export_machine.specs.Step.{Event, running_on, is_child, receiver, repeats, comes}
 use Rattle.export_machine.specs.View.{IsReached}
 use Rattle.export_machine.specs.declared.event.Event.{Event as Asked}
 use Rattle.export_machine.specs.declared.event.Reply.{Reply}
+use Rattle.export_machine.specs.declared.exporter.ExporterState.{ExporterState}
+use Rattle.export_machine.specs.declared.importer.ImporterState.{ImporterState}
 use Rattle.export_machine.specs.declared.journal.JournalEntry.{JournalEntry}
 use Rattle.export_machine.specs.declared.message.Message.{Message}
 use Rattle.export_machine.specs.declared.step_error.StepError.{StepError}
@@ -107,9 +109,17 @@ abbrev pub has_places : {A : Type 0} → List (Vec JournalEntry A) → Option �
 has_places journals None = true
 has_places journals (Some rank) = has_place journals rank
 
-abbrev pub receiver_of : World → Option Message → ℕ
-receiver_of w None = 0
-receiver_of w (Some message) = receiver w message
+abbrev pub receiver_of : World → Option Message → Option ℕ
+receiver_of w None = None
+receiver_of w (Some message) = Some (receiver w message)
+
+-- the rank in whose journal this event may be entered
+unfoldable pub entered_at : World → Event → Option ℕ
+entered_at w (Event.Made parent) = authority w parent
+entered_at w (Event.Gone dir) = authority w dir
+entered_at w (Event.Deliver message) = receiver_of w (slice_get w.sent message)
+entered_at w (Event.Notify export) = Some (from_of w export)
+entered_at w _ = None
 
 abbrev pub has_dir_places : Records → Bool
 has_dir_places r =
@@ -118,19 +128,23 @@ has_dir_places r =
 abbrev pub has_export_places : Records → Bool
 has_export_places r = has_spare r.orders && has_spare r.exporters && has_spare r.importers && has_spare r.sent
 
+-- the lists of an event but for the journal
+abbrev pub has_list_places : Records → Event → Bool
+has_list_places r (Event.Made parent) = has_dir_places r
+has_list_places r (Event.Gone dir) = true
+has_list_places r (Event.Begin rank dir) = has_spare r.tickets
+has_list_places r (Event.End ticket) = true
+has_list_places r (Event.Start from to dirs) = has_export_places r
+has_list_places r (Event.Deliver message) = has_spare r.sent
+has_list_places r (Event.Froze export) = has_spare r.sent
+has_list_places r (Event.Notify export) = has_spare r.sent
+has_list_places r (Event.Abort export) = has_spare r.sent
+has_list_places r (Event.Stop rank) = true
+has_list_places r (Event.Restart rank) = true
+has_list_places r (Event.Ask export) = has_spare r.sent
+
 unfoldable pub has_room : Records → Event → Bool
-has_room r (Event.Made parent) = has_dir_places r && has_places r.journals.items (authority (world_of r) parent)
-has_room r (Event.Gone dir) = has_places r.journals.items (authority (world_of r) dir)
-has_room r (Event.Begin rank dir) = has_spare r.tickets
-has_room r (Event.End ticket) = true
-has_room r (Event.Start from to dirs) = has_export_places r
-has_room r (Event.Deliver message) = has_spare r.sent && has_place r.journals.items (receiver_of (world_of r) (slice_get r.sent.items message))
-has_room r (Event.Froze export) = has_spare r.sent
-has_room r (Event.Notify export) = has_spare r.sent && has_place r.journals.items (from_of (world_of r) export)
-has_room r (Event.Abort export) = has_spare r.sent
-has_room r (Event.Stop rank) = true
-has_room r (Event.Restart rank) = true
-has_room r (Event.Ask export) = has_spare r.sent
+has_room r e = has_places r.journals.items (entered_at (world_of r) e) && has_list_places r e
 
 -- What a rank can rely on where a message comes, and what it then did.
 
@@ -156,3 +170,60 @@ about (Message.ExportAck export) = export
 about (Message.Finish export) = export
 about (Message.Cancel export) = export
 about (Message.Query export) = export
+
+-- What a contract sees of a cluster.
+
+-- whether there is room for one more
+pub record Room : Type 0 where
+  pub dirs : Bool
+  pub exports : Bool
+  pub messages : Bool
+  pub tickets : Bool
+  pub entries : List Bool  -- by rank: in its journal
+
+pub record State : Type 0 where
+  pub world : World
+  pub room : Room
+
+abbrev pub state_of : Records → State
+state_of r = record {
+  world = world_of r;
+  room = record {
+    dirs = has_dir_places r;
+    exports = has_export_places r;
+    messages = has_spare r.sent;
+    tickets = has_spare r.tickets;
+    entries = map (λ journal. has_spare journal) r.journals.items;
+  };
+}
+
+abbrev pub is_ready_entry : Room → Option ℕ → Bool
+is_ready_entry room None = true
+is_ready_entry room (Some rank) = slice_index_or room.entries rank true
+
+abbrev pub is_ready_list : Room → Event → Bool
+is_ready_list room (Event.Made parent) = room.dirs
+is_ready_list room (Event.Gone dir) = true
+is_ready_list room (Event.Begin rank dir) = room.tickets
+is_ready_list room (Event.End ticket) = true
+is_ready_list room (Event.Start from to dirs) = room.exports
+is_ready_list room (Event.Deliver message) = room.messages
+is_ready_list room (Event.Froze export) = room.messages
+is_ready_list room (Event.Notify export) = room.messages
+is_ready_list room (Event.Abort export) = room.messages
+is_ready_list room (Event.Stop rank) = true
+is_ready_list room (Event.Restart rank) = true
+is_ready_list room (Event.Ask export) = room.messages
+
+-- where this event is accepted it takes no memory
+unfoldable pub is_ready : State → Event → Bool
+is_ready state e = is_ready_entry state.room (entered_at state.world e) && is_ready_list state.room e
+
+-- the export that a message is about, and the rank that it is for
+abbrev pub addressed : World → Option Message → Option (ℕ × ℕ)
+addressed w None = None
+addressed w (Some message) = Some (about message, receiver w message)
+
+-- an export's states at its two ranks
+abbrev pub states_of : World → ℕ → Option (ExporterState × ImporterState)
+states_of w x = if nat_lt x (length w.orders) then Some (exporter_of w x, importer_of w x) else None

@@ -1,5 +1,5 @@
 -- When an answer of the code is a step, and which worlds events lead to.
-use Rattle.std.specs.Prelude.{◌≡◌, ℕ, ◌≤◌, List, Result, Ok, Err, None, ◌⊎◌}
+use Rattle.std.specs.Prelude.{◌≡◌, ℕ, ◌≤◌, List, [], ◌∷◌, Result, Ok, Err, None, ◌⊎◌}
 use Rattle.export_machine.specs.declared.event.Reply.{Reply}
 use Rattle.export_machine.specs.declared.step_error.StepError.{StepError}
 use Rattle.export_machine.specs.declared.step_error.StepError.TheVariants.{Memory}
@@ -15,3 +15,10 @@ IsAnswer old e (Err error) new = ((step old e ≡ (Err error, old)) ⊎ ((error 
 -- some list of events leads from the start to this world
 abbrev pub IsReached : World → Type 0
 IsReached w = ∥ ((limit : ℕ) × (ranks : ℕ) × (events : List Event) × (1 ≤ ranks) × (run (start limit ranks) events ≡ w)) ∥₁
+
+-- the answers to a list of events, one after the other
+abbrev pub AreAnswers : World → List Event → List (Result Reply StepError) → World → Type 0
+AreAnswers old [] [] new = new ≡ old
+AreAnswers old (e ∷ es) (r ∷ rs) new = (next : World) × IsAnswer old e r next × AreAnswers next es rs new
+AreAnswers old [] (r ∷ rs) new = ⊥
+AreAnswers old (e ∷ es) [] new = ⊥

@@ -4,7 +4,7 @@
 
 ghost use Rattle.std.specs.Prelude.{◌≡◌, ◌<◌, length, Some, None, true, slice_get};
 ghost use Rattle.export_machine.specs.Step.{Event as StepEvent, refusal, happens, receiver};
-ghost use Rattle.export_machine.specs.Kept.{world_of, indexes_of, has_room, IsKept, IsIndexed, CanReceive, IsReceived, about};
+ghost use Rattle.export_machine.specs.Kept.{world_of, indexes_of, has_room, IsKept, IsIndexed, CanReceive, IsReceived, about, addressed};
 
 use crate::changes::{enter, mark, send};
 use crate::event::Reply;
@@ -197,5 +197,15 @@ impl Records {
             return Reply::Ignored;
         }
         self.receive(message)
+    }
+
+    pub(crate) fn addressed(&self, message: u32) -> Option<(u32, Rank)>
+        requires kept { IsKept self.now }
+        ensures { result ≡ addressed (world_of self.now) (slice_get self.now.sent.items message) }
+    {
+        match self.sent.get(message as usize) {
+            Some(message) => Some((message.export(), self.receiver(*message))),
+            None => None,
+        }
     }
 }

@@ -4,19 +4,22 @@
 //! may be lost, repeated and reordered by the list of events.
 #![tactic(auto)]
 
+mod applying;
+mod changes;
+pub mod cluster;
+mod deliveries;
+mod effects;
 pub mod event;
 pub mod exporter;
 pub mod importer;
 pub mod journal;
+pub mod laws;
 pub mod message;
-mod changes;
-mod deliveries;
-mod effects;
 mod records;
 mod refusals;
 pub mod step_error;
 
-
+pub use cluster::Cluster;
 pub use event::{Event, Reply, Request};
 pub use exporter::ExporterState;
 pub use importer::ImporterState;

@@ -22,3 +22,25 @@ pub enum Message {
     /// To the exporter: what became of the export?
     Query(u32),
 }
+
+impl Message {
+    ghost use Rattle.std.specs.Prelude.{◌≡◌};
+    ghost use Rattle.export_machine.specs.Kept.{about};
+
+    /// The export that it is about.
+    pub fn export(self) -> u32
+        ensures { result ≡ about self }
+    {
+        match self {
+            Message::Discover(export)
+            | Message::DiscoverAck(export)
+            | Message::Prep(export)
+            | Message::PrepAck(export)
+            | Message::Export(export)
+            | Message::ExportAck(export)
+            | Message::Finish(export)
+            | Message::Cancel(export)
+            | Message::Query(export) => export,
+        }
+    }
+}

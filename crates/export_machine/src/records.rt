@@ -4,9 +4,9 @@
 //! authority, the open export that it is in, how many requests run on it and how many children it has. So no read
 //! folds a journal and no event searches the exports.
 
-ghost use Rattle.std.specs.Prelude.{◌≡◌, ℕ, ◌<◌, ◌∷◌, [], length, Some, slice_get};
-ghost use Rattle.export_machine.specs.Authority.{is_present, authority, open_export, is_stopped, exporter_of, importer_of, from_of, to_of, order_in, frozen_by, serves, named_of, is_among};
-ghost use Rattle.export_machine.specs.Step.{running_on, repeats, parent_among, is_connected};
+ghost use Rattle.std.specs.Prelude.{◌≡◌, ℕ, ◌<◌, ◌≤◌, IfOk, map, replicate, ◌∷◌, [], length, Some, slice_get};
+ghost use Rattle.export_machine.specs.Authority.{is_present, authority, open_export, is_stopped, exporter_of, importer_of, from_of, to_of, order_in, frozen_by, serves, named_of, journal_of, is_among};
+ghost use Rattle.export_machine.specs.Step.{running_on, repeats, parent_among, is_connected, start};
 ghost use Rattle.std.specs.List.{list_all};
 ghost use Rattle.export_machine.specs.Roots.{parent_of};
 ghost use Rattle.export_machine.specs.Kept.{world_of, children_of, IsKept};
@@ -17,6 +17,7 @@ use crate::importer::ImporterState;
 use crate::journal::JournalEntry;
 use crate::message::Message;
 use mds_types::{Dir, Order, Rank};
+use std::alloc::{AllocError, Global};
 
 /// Everything that a cluster knows. The lists of directories, ranks, exports, messages and tickets go by number.
 #[derive(Drop)]
@@ -43,7 +44,47 @@ pub struct Records {
     pub(crate) children: Vec<u32>,
 }
 
+fn empty_journals(alloc: Global, ranks: u8) -> Result<Vec<Vec<JournalEntry>>, AllocError>
+    ensures { IfOk result (λ journals. map (λ journal. journal.items) journals.items ≡ replicate ranks []) }
+{
+    let mut journals = Vec::new(alloc);
+    for _ in 0..ranks {
+        journals.push(Vec::new(alloc))?;
+    }
+    Ok(journals)
+}
+
 impl Records {
+    /// Directory 0 is there, and rank 0 has it.
+    pub(crate) fn new(alloc: Global, limit: u32, ranks: u8) -> Result<Self, AllocError>
+        requires some_dirs { 1 ≤ limit }
+        requires some_ranks { 1 ≤ ranks }
+        ensures world { IfOk result (λ records. world_of records ≡ start limit ranks) }
+        ensures kept { IfOk result (λ records. IsKept records) }
+    {
+        let first = Rank::default();
+        let mut journals = empty_journals(alloc, ranks)?;
+        journals[0].push(JournalEntry::Made(Dir::ROOT))?;
+        Ok(Records {
+            limit,
+            ranks,
+            parents: vec![in alloc; Some(Dir::ROOT)]?,
+            journals,
+            orders: Vec::new(alloc),
+            exporters: Vec::new(alloc),
+            importers: Vec::new(alloc),
+            sent: Vec::new(alloc),
+            tickets: Vec::new(alloc),
+            named: vec![in alloc; Some(first)]?,
+            stopped: vec![in alloc; false; ranks as usize]?,
+            events: 0,
+            owners: vec![in alloc; Some(first)]?,
+            opened: vec![in alloc; None]?,
+            running: vec![in alloc; 0]?,
+            children: vec![in alloc; 0]?,
+        })
+    }
+
     pub(crate) fn is_present(&self, dir: Dir) -> bool
         ensures { result ≡ is_present (world_of self.now) dir }
     {
@@ -105,6 +146,15 @@ impl Records {
         match self.named.get(dir.number() as usize) {
             Some(rank) => *rank,
             None => None,
+        }
+    }
+
+    pub(crate) fn journal(&self, rank: Rank) -> &[JournalEntry]
+        ensures { result.now ≡ journal_of (world_of self.now) rank }
+    {
+        match self.journals.get(rank.number() as usize) {
+            Some(journal) => journal,
+            None => &[],
         }
     }
 

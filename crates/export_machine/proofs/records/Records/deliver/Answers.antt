@@ -3,7 +3,7 @@ use Rattle.std.specs.List.{slice_get}
 use Rattle.export_machine.specs.Authority.{is_stopped}
 use Rattle.export_machine.specs.Step.{happens, receiver}
 use Rattle.export_machine.specs.Step.Event.{Deliver}
-use Rattle.export_machine.specs.Kept.{world_of, has_room, about}
+use Rattle.export_machine.specs.Kept.{world_of, has_room, entered_at, has_places, has_spare, receiver_of, about}
 use Rattle.export_machine.proofs.Found.{orders_by}
 use Rattle.export_machine.proofs.Accepted.{deliver_near, item_at, both_parts, room_left, as_order}
 use Rattle.export_machine.proofs.records.Records.deliver.Goals as goal
@@ -28,16 +28,16 @@ returns-then-is_stopped-clause-effect c =
     rw (sent, s) refl
 
 pub receive-requires : goal.receive-requires
-unfolding has_room
+unfolding has_room entered_at
 receive-requires c =
     let sent : slice_get c.args.self.now.sent.items c.args.message ≡ Some c.index-message.result.now =
     item_at c.args.self.now.sent.items c.args.message c.index-message.result.now (deliver_near (world_of c.args.self.now) c.args.message c.requires.accepted) c.index-message.ensures in
-    let room = both_parts _ _ c.requires.room in
+    let room : (has_places c.args.self.now.journals.items (receiver_of (world_of c.args.self.now) (slice_get c.args.self.now.sent.items c.args.message)) ≡ true) × (has_spare c.args.self.now.sent ≡ true) = both_parts _ _ c.requires.room in
     record {
       kept = c.requires.kept;
       sent = (c.args.message, sent);
-      spare = room.0;
-      place = rw sent at room.1;
+      spare = room.1;
+      place = rw sent at room.0;
       few = room_left (world_of c.args.self.now) (Deliver c.args.message) c.requires.accepted;
     }
 

@@ -23,19 +23,19 @@ mark-requires c =
 
 pub push_reserved-requires : goal.push_reserved-requires
 unfolding has_room
-push_reserved-requires c = spare _ _ (both_parts _ _ (both_parts _ _ (both_parts _ _ c.requires.room).0).0).0
+push_reserved-requires c = spare _ _ (both_parts _ _ (both_parts _ _ (both_parts _ _ (both_parts _ _ c.requires.room).1).0).0).0
 
 pub push_reserved-requires-2 : goal.push_reserved-requires-2
 unfolding has_room
-push_reserved-requires-2 c = spare _ _ (both_parts _ _ (both_parts _ _ (both_parts _ _ c.requires.room).0).0).1
+push_reserved-requires-2 c = spare _ _ (both_parts _ _ (both_parts _ _ (both_parts _ _ (both_parts _ _ c.requires.room).1).0).0).1
 
 pub push_reserved-requires-3 : goal.push_reserved-requires-3
 unfolding has_room
-push_reserved-requires-3 c = spare _ _ (both_parts _ _ (both_parts _ _ c.requires.room).0).1
+push_reserved-requires-3 c = spare _ _ (both_parts _ _ (both_parts _ _ (both_parts _ _ c.requires.room).1).0).1
 
 pub push_reserved-requires-4 : goal.push_reserved-requires-4
 unfolding has_room
-push_reserved-requires-4 c = spare _ _ (both_parts _ _ c.requires.room).1
+push_reserved-requires-4 c = spare _ _ (both_parts _ _ (both_parts _ _ c.requires.room).1).1
 
 orders_pushed : (os : List Moved) (o : Moved) (ps : List Moved) → ps ≡ os ++ o ∷ [] → map order_of ps ≡ map order_of os ++ order_of o ∷ []
 orders_pushed os o ps e = ap (map order_of) e ∙ go os
