@@ -25,3 +25,5 @@ pub mod Receiving
 pub mod Growing
 pub mod Starting
 pub mod Bounds
+pub mod Runs
+pub mod Starts

@@ -227,3 +227,7 @@ addressed w (Some message) = Some (about message, receiver w message)
 -- an export's states at its two ranks
 abbrev pub states_of : World → ℕ → Option (ExporterState × ImporterState)
 states_of w x = if nat_lt x (length w.orders) then Some (exporter_of w x, importer_of w x) else None
+
+-- those of a new cluster
+abbrev pub first_indexes : Indexes
+first_indexes = record { owners = Some 0 ∷ []; opened = None ∷ []; running = 0 ∷ []; children = 0 ∷ [] }

@@ -37,6 +37,13 @@ IsBetweenLogAndNotify w r d =
 abbrev pub MapNamed : World → Type 0
 MapNamed w = (d : ℕ) → is_present w d ≡ true → (r : ℕ) × (named_of w d ≡ Some r) × (IsAuthority w r d ⊎ IsBetweenLogAndNotify w r d)
 
+-- what holds of every cluster at any time
+pub record Promised (w : World) : Type 0 where
+  pub authority : OneAuthority w
+  pub served : ServedByAuthority w
+  pub requests : RequestsAtAuthority w
+  pub named : MapNamed w
+
 -- what isn't there is named nowhere and has no authority
 abbrev pub NoneForGone : World → Type 0
 NoneForGone w = (d : ℕ) → is_present w d ≡ false → (named_of w d ≡ None) × ((r : ℕ) → IsAuthority w r d → ⊥)

@@ -1,10 +1,10 @@
 //! A cluster of metadata ranks that move directories by exports.
 
-ghost use Rattle.std.specs.Prelude.{◌≡◌, ◌<◌, ◌≤◌, ◌↔◌, ℕ, length, map, None, true, Some, IsSome, IfSome, IfOk, IsOk, OnOk, OnErr, slice_get};
+ghost use Rattle.std.specs.Prelude.{◌≡◌, ◌<◌, ◌≤◌, ◌↔◌, ℕ, length, map, None, true, Some, IsSome, IfSome, IfOk, IsOk, Err, OnOk, OnErr, slice_get};
 ghost use Rattle.export_machine.specs.Authority.{authority, serves, named_of, journal_of, order_in};
 ghost use Rattle.export_machine.specs.Step.{refusal, start};
 ghost use Rattle.export_machine.specs.View.{IsAnswer, AreAnswers};
-ghost use Rattle.export_machine.specs.Promises.{OneAuthority, ServedByAuthority, RequestsAtAuthority, KeepsAuthority, MapNamed};
+ghost use Rattle.export_machine.specs.Promises.{Promised, KeepsAuthority};
 ghost use Rattle.export_machine.specs.Kept.{event_of, order_of, cause_of, addressed, states_of, is_ready};
 
 use crate::event::{Event, Reply};
@@ -55,15 +55,9 @@ impl Cluster {
     pub fn apply(&mut self, event: Event) -> Result<Reply, StepError>
         ensures answer { IsAnswer self.old.world (event_of event) result self.new.world }
         ensures ready { refusal self.old.world (event_of event) ≡ None → is_ready self.old (event_of event) ≡ true → IsOk result }
-        // Each directory that is there has exactly one authority.
-        ensures authority { OneAuthority self.new.world }
-        // Who serves a directory is its authority.
-        ensures served { ServedByAuthority self.new.world }
-        // Each running request stands at its directory's authority, and this event changed none under a request.
-        ensures requests { RequestsAtAuthority self.new.world }
+        ensures promised { Promised self.new.world }
+        // The event changed the authority of no directory on which a request runs.
         ensures kept { KeepsAuthority self.old.world (event_of event) }
-        // The map names the authority or, between log and notify, the exporter.
-        ensures named { MapNamed self.new.world }
     {
         self.records.apply(event)
     }
@@ -72,14 +66,13 @@ impl Cluster {
     pub fn run(&mut self, alloc: Global, events: &[Event]) -> Result<Vec<Result<Reply, StepError>>, AllocError>
         ensures answers { IfOk result (λ answers. AreAnswers self.old.world (map event_of events.now) answers.items self.new.world) }
         ensures err { OnErr result (self.new.world ≡ self.old.world) }
-        ensures authority { OneAuthority self.new.world }
-        ensures served { ServedByAuthority self.new.world }
-        ensures requests { RequestsAtAuthority self.new.world }
-        ensures named { MapNamed self.new.world }
+        ensures promised { Promised self.new.world }
     {
+        self.promised();
         let mut answers = Vec::with_capacity(alloc, events.len())?;
         for event in events {
             answers.push_reserved(self.apply_copy(alloc, event));
+            self.promised();
         }
         Ok(answers)
     }
@@ -89,11 +82,27 @@ impl Cluster {
     {
         match event.copied(alloc) {
             Ok(copy) => self.apply(copy),
-            Err(_) => {
-                self.can_apply(event)?;
-                Err(StepError::Memory)
-            }
+            Err(_) => Err(self.refused(event)),
         }
+    }
+
+    /// The refusal of an event for which there is no memory.
+    fn refused(&self, event: &Event) -> StepError
+        ensures { IsAnswer self.now.world (event_of event.now) (Err result) self.now.world }
+    {
+        match self.can_apply(event) {
+            Err(error) => error,
+            Ok(()) => StepError::Memory,
+        }
+    }
+
+    /// What holds of every cluster: each directory that is there has exactly one authority, who serves a directory is
+    /// its authority, each running request stands at its directory's authority, and the map names the authority or,
+    /// between log and notify, the exporter. It does nothing.
+    pub fn promised(&self)
+        ensures { Promised self.now.world }
+    {
+        let _ = &self.records;
     }
 
     /// Why `apply` would refuse this event, want of memory apart. It takes no memory.
@@ -174,3 +183,6 @@ impl Cluster {
         Some((self.records.exporter(export), self.records.importer(export)))
     }
 }
+
+#[cfg(test)]
+mod tests;

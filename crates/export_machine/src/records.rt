@@ -4,12 +4,12 @@
 //! authority, the open export that it is in, how many requests run on it and how many children it has. So no read
 //! folds a journal and no event searches the exports.
 
-ghost use Rattle.std.specs.Prelude.{◌≡◌, ℕ, ◌<◌, ◌≤◌, IfOk, map, replicate, ◌∷◌, [], length, Some, slice_get};
+ghost use Rattle.std.specs.Prelude.{◌≡◌, ℕ, ◌<◌, ◌≤◌, IfOk, map, replicate, slice_set, false, ◌∷◌, [], length, Some, slice_get};
 ghost use Rattle.export_machine.specs.Authority.{is_present, authority, open_export, is_stopped, exporter_of, importer_of, from_of, to_of, order_in, frozen_by, serves, named_of, journal_of, is_among};
 ghost use Rattle.export_machine.specs.Step.{running_on, repeats, parent_among, is_connected, start};
 ghost use Rattle.std.specs.List.{list_all};
 ghost use Rattle.export_machine.specs.Roots.{parent_of};
-ghost use Rattle.export_machine.specs.Kept.{world_of, children_of, IsKept};
+ghost use Rattle.export_machine.specs.Kept.{world_of, indexes_of, first_indexes, children_of, IsKept};
 
 use crate::event::Request;
 use crate::exporter::ExporterState;
@@ -54,17 +54,45 @@ fn empty_journals(alloc: Global, ranks: u8) -> Result<Vec<Vec<JournalEntry>>, Al
     Ok(journals)
 }
 
+/// The journals of a new cluster: rank 0 made directory 0.
+fn first_journals(alloc: Global, ranks: u8) -> Result<Vec<Vec<JournalEntry>>, AllocError>
+    requires { 1 ≤ ranks }
+    ensures { IfOk result (λ journals. map (λ journal. journal.items) journals.items ≡ slice_set (replicate ranks []) 0 (JournalEntry.Made 0 ∷ [])) }
+{
+    let mut journals = empty_journals(alloc, ranks)?;
+    journals[0].push(JournalEntry::Made(Dir::ROOT))?;
+    Ok(journals)
+}
+
+fn all_running(alloc: Global, ranks: u8) -> Result<Vec<bool>, AllocError>
+    ensures { IfOk result (λ stopped. stopped.items ≡ replicate ranks false) }
+{
+    let mut stopped = Vec::new(alloc);
+    for _ in 0..ranks {
+        stopped.push(false)?;
+    }
+    Ok(stopped)
+}
+
+fn first_rank() -> Rank
+    ensures { result ≡ 0 }
+{
+    match Rank::new(0) {
+        Some(rank) => rank,
+        None => Rank::default(),
+    }
+}
+
 impl Records {
     /// Directory 0 is there, and rank 0 has it.
+    #[tactic(auto, unfolding(crate::specs::Step::start))]
     pub(crate) fn new(alloc: Global, limit: u32, ranks: u8) -> Result<Self, AllocError>
-        requires some_dirs { 1 ≤ limit }
         requires some_ranks { 1 ≤ ranks }
         ensures world { IfOk result (λ records. world_of records ≡ start limit ranks) }
-        ensures kept { IfOk result (λ records. IsKept records) }
+        ensures indexes { IfOk result (λ records. indexes_of records ≡ first_indexes) }
     {
-        let first = Rank::default();
-        let mut journals = empty_journals(alloc, ranks)?;
-        journals[0].push(JournalEntry::Made(Dir::ROOT))?;
+        let journals = first_journals(alloc, ranks)?;
+        let stopped = all_running(alloc, ranks)?;
         Ok(Records {
             limit,
             ranks,
@@ -75,10 +103,10 @@ impl Records {
             importers: Vec::new(alloc),
             sent: Vec::new(alloc),
             tickets: Vec::new(alloc),
-            named: vec![in alloc; Some(first)]?,
-            stopped: vec![in alloc; false; ranks as usize]?,
+            named: vec![in alloc; Some(first_rank())]?,
+            stopped,
             events: 0,
-            owners: vec![in alloc; Some(first)]?,
+            owners: vec![in alloc; Some(first_rank())]?,
             opened: vec![in alloc; None]?,
             running: vec![in alloc; 0]?,
             children: vec![in alloc; 0]?,
