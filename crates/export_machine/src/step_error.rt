@@ -80,3 +80,40 @@ impl<T: Drop> From<AllocFailed<T>> for StepError {
         StepError::Memory
     }
 }
+
+#[cfg(test)]
+mod tests {
+    use super::*;
+    use std::test::Fail;
+
+    #[test]
+    fn prints_number_name_and_value(rt: HostRuntime) -> Result<(), Fail> {
+        let first = Rank::default();
+        let table = [
+            (StepError::Memory, "0 Memory"),
+            (StepError::NoDir, "6 NoDir"),
+            (StepError::NotEmpty, "9 NotEmpty"),
+            (StepError::IsRoot, "10 IsRoot"),
+            (StepError::TreeFull, "11 TreeFull"),
+            (StepError::NoRank, "12 NoRank"),
+            (StepError::NoExport, "17 NoExport"),
+            (StepError::Elsewhere(first), "18 Elsewhere 0"),
+            (StepError::Busy(3), "19 Busy 3"),
+            (StepError::Frozen(4), "20 Frozen 4"),
+            (StepError::SameRank, "21 SameRank"),
+            (StepError::NotYet(5), "22 NotYet 5"),
+            (StepError::Late(ExporterState::Discovering), "23 Late discovering"),
+            (StepError::NoMessage, "24 NoMessage"),
+            (StepError::NoTicket, "25 NoTicket"),
+            (StepError::NotConnected, "26 NotConnected"),
+            (StepError::ExportsFull, "27 ExportsFull"),
+            (StepError::Stopped(first), "28 Stopped 0"),
+            (StepError::HistoryFull, "33 HistoryFull"),
+        ];
+        for (error, want) in table {
+            let printed = format!(in rt.alloc(); "{error}")?;
+            assert_eq!(rt; printed.as_str(), want);
+        }
+        Ok(())
+    }
+}
