@@ -25,9 +25,9 @@ reached_promised w r = record {
 
 pub reached_kept : (w : World) → IsReached w → (e : Event) → KeepsAuthority w e
 reached_kept w h e t q k r = (
-    (λ a. holds_authority (step w e).1 r q.dir (tests_by w h (is_authority (step w e).1 r q.dir) true (λ safe. tests_authority (step w e).1 r q.dir ((safe_kept w safe e t q k r).0 a)))),
-    (λ a. holds_authority w r q.dir (tests_by w h (is_authority w r q.dir) true (λ safe. tests_authority w r q.dir ((safe_kept w safe e t q k r).1 a)))),
-  )
+  (λ a. holds_authority (step w e).1 r q.dir (tests_by w h (is_authority (step w e).1 r q.dir) true (λ safe. tests_authority (step w e).1 r q.dir ((safe_kept w safe e t q k r).0 a)))),
+  (λ a. holds_authority w r q.dir (tests_by w h (is_authority w r q.dir) true (λ safe. tests_authority w r q.dir ((safe_kept w safe e t q k r).1 a)))),
+)
 
 pub answers_next : (w u v : World) (es : List Event) (rs : List (Result Reply StepError)) (e : Event) (r : Result Reply StepError) →
     AreAnswers w es rs u → IsAnswer u e r v → AreAnswers w (es ++ e ∷ []) (rs ++ r ∷ []) v

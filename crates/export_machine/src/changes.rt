@@ -27,10 +27,8 @@ pub(crate) fn send(sent: &mut Vec<Message>, message: Message) -> Reply
 pub(crate) fn enter(journals: &mut Vec<Vec<JournalEntry>>, rank: Rank, entry: JournalEntry)
     requires near { rank < length journals.old.items }
     requires room { has_place journals.old.items rank ≡ true }
-    ensures entered {
-        map (λ journal. journal.items) journals.new.items
-        ≡ slice_set (map (λ journal. journal.items) journals.old.items) rank (slice_index_or (map (λ journal. journal.items) journals.old.items) rank [] ++ entry ∷ [])
-    }
+    ensures entered { map (λ journal. journal.items) journals.new.items
+        ≡ slice_set (map (λ journal. journal.items) journals.old.items) rank (slice_index_or (map (λ journal. journal.items) journals.old.items) rank [] ++ entry ∷ []) }
 {
     journals[rank.number() as usize].push_reserved(entry);
 }
@@ -44,4 +42,3 @@ pub(crate) fn mark<T: Copy>(table: &mut Vec<Option<T>>, dirs: &[Dir], value: Opt
         table[dir.number() as usize] = value;
     }
 }
-

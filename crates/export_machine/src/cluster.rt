@@ -63,7 +63,11 @@ impl Cluster {
     }
 
     /// Applies the events one after the other. Memory for the answers is asked for before the first event.
-    pub fn run(&mut self, alloc: Global, events: &[Event]) -> Result<Vec<Result<Reply, StepError>>, AllocError>
+    pub fn run(
+        &mut self,
+        alloc: Global,
+        events: &[Event],
+    ) -> Result<Vec<Result<Reply, StepError>>, AllocError>
         ensures answers { IfOk result (λ answers. AreAnswers self.old.world (map event_of events.now) answers.items self.new.world) }
         ensures err { OnErr result (self.new.world ≡ self.old.world) }
         ensures promised { Promised self.new.world }

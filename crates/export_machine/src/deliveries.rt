@@ -93,7 +93,11 @@ impl Records {
             ExporterState::Exporting => {
                 self.exporters[export as usize] = ExporterState::Logged;
                 let order = &self.orders[export as usize];
-                enter(&mut self.journals, order.from, JournalEntry::Exported(export));
+                enter(
+                    &mut self.journals,
+                    order.from,
+                    JournalEntry::Exported(export),
+                );
                 mark(&mut self.owners, &order.dirs, Some(order.to));
                 Reply::Changed
             }

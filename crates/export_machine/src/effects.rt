@@ -6,13 +6,13 @@ ghost use Rattle.std.specs.Prelude.{◌≡◌, ◌<◌, length, None, true};
 ghost use Rattle.export_machine.specs.Step.{Event as StepEvent, refusal, happens};
 ghost use Rattle.export_machine.specs.Kept.{world_of, indexes_of, has_room, IsKept, IsIndexed};
 
+use crate::changes::{enter, mark, send};
 use crate::event::{Reply, Request};
 use crate::exporter::ExporterState;
 use crate::importer::ImporterState;
 use crate::journal::JournalEntry;
 use crate::message::Message;
 use crate::records::Records;
-use crate::changes::{enter, mark, send};
 use mds_types::{Dir, Order, Rank};
 
 impl Records {
@@ -144,7 +144,11 @@ impl Records {
     {
         self.exporters[export as usize] = ExporterState::Done;
         let order = &self.orders[export as usize];
-        enter(&mut self.journals, order.from, JournalEntry::Notified(export));
+        enter(
+            &mut self.journals,
+            order.from,
+            JournalEntry::Notified(export),
+        );
         mark(&mut self.named, &order.dirs, Some(order.to));
         send(&mut self.sent, Message::Finish(export))
     }

@@ -294,7 +294,12 @@ impl Records {
     pub(crate) fn is_connected(&self, dirs: &[Dir]) -> bool
         ensures { result ≡ is_connected (world_of self.now) dirs.now }
     {
-        !repeats(dirs) && dirs.iter().filter(|dir| !self.has_parent_among(dirs, **dir)).count() == 1
+        !repeats(dirs)
+            && dirs
+                .iter()
+                .filter(|dir| !self.has_parent_among(dirs, **dir))
+                .count()
+                == 1
     }
 }
 

@@ -339,7 +339,13 @@ impl Records {
     }
 
     #[tactic(auto, unfolding(crate::specs::Step::refusal, crate::specs::Step::causes))]
-    pub(crate) fn check_start(&self, from: Rank, to: Rank, dirs: &[Dir], connected: bool) -> Result<(), StepError>
+    pub(crate) fn check_start(
+        &self,
+        from: Rank,
+        to: Rank,
+        dirs: &[Dir],
+        connected: bool,
+    ) -> Result<(), StepError>
         requires kept { IsKept self.now }
         requires connected { connected ≡ is_connected (world_of self.now) dirs.now }
         ensures { cause_of result ≡ refusal (world_of self.now) (StepEvent.Start from to dirs.now) }
@@ -367,7 +373,12 @@ impl Records {
             Event::Gone(dir) => self.check_gone(*dir),
             Event::Begin(rank, dir) => self.check_begin(*rank, *dir),
             Event::End(ticket) => self.check_end(*ticket),
-            Event::Start(from, to, dirs) => self.check_start(*from, *to, dirs, self.is_connected(dirs)),
+            Event::Start(from, to, dirs) => self.check_start(
+                *from,
+                *to,
+                dirs,
+                self.is_connected(dirs),
+            ),
             Event::Deliver(message) => self.check_deliver(*message),
             Event::Froze(export) => self.check_froze(*export),
             Event::Notify(export) => self.check_notify(*export),

@@ -102,7 +102,10 @@ mod tests {
             (StepError::Frozen(4), "20 Frozen 4"),
             (StepError::SameRank, "21 SameRank"),
             (StepError::NotYet(5), "22 NotYet 5"),
-            (StepError::Late(ExporterState::Discovering), "23 Late discovering"),
+            (
+                StepError::Late(ExporterState::Discovering),
+                "23 Late discovering",
+            ),
             (StepError::NoMessage, "24 NoMessage"),
             (StepError::NoTicket, "25 NoTicket"),
             (StepError::NotConnected, "26 NotConnected"),

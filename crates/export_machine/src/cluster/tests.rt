@@ -50,7 +50,12 @@ fn event(alloc: Global, step: Do) -> Result<Event, Fail> {
 type Row = (Do, Result<Reply, StepError>);
 
 /// Runs a schedule on a cluster, and compares each answer.
-fn run_rows(rt: &impl Abort, alloc: Global, cluster: &mut Cluster, rows: &[Row]) -> Result<(), Fail> {
+fn run_rows(
+    rt: &impl Abort,
+    alloc: Global,
+    cluster: &mut Cluster,
+    rows: &[Row],
+) -> Result<(), Fail> {
     for (step, want) in rows {
         let next = event(alloc, *step)?;
         let able = cluster.can_apply(&next);
@@ -100,7 +105,10 @@ fn moves_a_directory(rt: HostRuntime) -> Result<(), Fail> {
     assert_eq!(rt; cluster.sent(), 7);
     assert_eq!(rt; cluster.to(6), Some((0, rank(1))));
     assert_eq!(rt; cluster.to(7), None);
-    assert_eq!(rt; cluster.states(0), Some((ExporterState::Done, ImporterState::Imported)));
+    assert_eq!(rt;
+        cluster.states(0),
+        Some((ExporterState::Done, ImporterState::Imported))
+    );
     assert_eq!(rt; cluster.states(1), None);
     let exporter = [
         JournalEntry::Made(Dir::ROOT),
@@ -201,7 +209,10 @@ fn refuses_by_the_first_cause(rt: HostRuntime) -> Result<(), Fail> {
         (Do::Start(0, 1, &[2]), Err(StepError::NoDir)),
         (Do::Start(0, 1, &[1]), Ok(Reply::Export(0, 0))),
         (Do::Start(0, 1, &[0, 1]), Err(StepError::Busy(0))),
-        (Do::Notify(0), Err(StepError::Late(ExporterState::Discovering))),
+        (
+            Do::Notify(0),
+            Err(StepError::Late(ExporterState::Discovering)),
+        ),
         (Do::Deliver(9), Err(StepError::NoMessage)),
         (Do::Notify(7), Err(StepError::NoExport)),
         (Do::Remove(0), Err(StepError::IsRoot)),
@@ -242,7 +253,12 @@ fn aborts_before_the_log_entry_only(rt: HostRuntime) -> Result<(), Fail> {
             assert_eq!(rt; cluster.authority(Dir::new(1)), Some(rank(1)));
             continue;
         };
-        run_rows(&rt, rt.alloc(), &mut cluster, &[(Do::Deliver(message), Ok(Reply::Changed))])?;
+        run_rows(
+            &rt,
+            rt.alloc(),
+            &mut cluster,
+            &[(Do::Deliver(message), Ok(Reply::Changed))],
+        )?;
         assert!(rt; cluster.serves(rank(0), Dir::new(1)));
         let dropped = done == 8;
         assert_eq!(rt; cluster.journal(rank(1)).len(), if dropped { 2 } else { 0 });
@@ -253,10 +269,16 @@ fn aborts_before_the_log_entry_only(rt: HostRuntime) -> Result<(), Fail> {
 #[test]
 fn twice_delivered_messages_change_nothing(rt: HostRuntime) -> Result<(), Fail> {
     let mut cluster = Cluster::new(rt.alloc(), 16, 2)?;
-    for row in to_the_log() {
-        run_rows(&rt, rt.alloc(), &mut cluster, &[row])?;
-        if let Do::Deliver(message) = row.0 {
-            run_rows(&rt, rt.alloc(), &mut cluster, &[(Do::Deliver(message), Ok(Reply::Ignored))])?;
+    let all = to_the_log();
+    for at in 0..all.len() {
+        run_rows(&rt, rt.alloc(), &mut cluster, &all[at..at + 1])?;
+        if let Do::Deliver(message) = all[at].0 {
+            run_rows(
+                &rt,
+                rt.alloc(),
+                &mut cluster,
+                &[(Do::Deliver(message), Ok(Reply::Ignored))],
+            )?;
         }
     }
     let rows = [
@@ -266,7 +288,12 @@ fn twice_delivered_messages_change_nothing(rt: HostRuntime) -> Result<(), Fail> 
     ];
     run_rows(&rt, rt.alloc(), &mut cluster, &rows)?;
     for message in 0..7 {
-        run_rows(&rt, rt.alloc(), &mut cluster, &[(Do::Deliver(message), Ok(Reply::Ignored))])?;
+        run_rows(
+            &rt,
+            rt.alloc(),
+            &mut cluster,
+            &[(Do::Deliver(message), Ok(Reply::Ignored))],
+        )?;
     }
     assert_eq!(rt; cluster.authority(Dir::new(1)), Some(rank(1)));
     assert_eq!(rt; cluster.journal(rank(0)).len(), 4);
@@ -281,8 +308,18 @@ fn history_is_full_after_its_limit(rt: HostRuntime) -> Result<(), Fail> {
     for _ in 9..1_048_576 {
         assert_eq!(rt; cluster.apply(Event::Deliver(0)), Ok(Reply::Ignored));
     }
-    run_rows(&rt, rt.alloc(), &mut cluster, &[(Do::Deliver(0), Err(StepError::HistoryFull))])?;
-    run_rows(&rt, rt.alloc(), &mut cluster, &[(Do::Make(9), Err(StepError::HistoryFull))])
+    run_rows(
+        &rt,
+        rt.alloc(),
+        &mut cluster,
+        &[(Do::Deliver(0), Err(StepError::HistoryFull))],
+    )?;
+    run_rows(
+        &rt,
+        rt.alloc(),
+        &mut cluster,
+        &[(Do::Make(9), Err(StepError::HistoryFull))],
+    )
 }
 
 #[test]

@@ -49,12 +49,25 @@ unfolding happens
 returns-clause-effect c =
     let n : length (map order_of c.args.self.now.orders.items) ≡ c.len-export.result = length-map c.args.self.now.orders.items order_of ∙ omega arith in
     let m : length c.args.self.now.sent.items ≡ c.len-message.result = omega arith in
-    rw (n, m, orders_pushed c.args.self.now.orders.items (record { from = c.args.from; to = c.args.to; dirs = c.args.dirs }) c.push_reserved.new.self.items c.push_reserved.ensures.items,
-    c.push_reserved-2.ensures.items, c.push_reserved-3.ensures.items, c.push_reserved-4.ensures.items) refl
+    rw (
+      n,
+      m,
+      orders_pushed c.args.self.now.orders.items (record { from = c.args.from; to = c.args.to; dirs = c.args.dirs }) c.push_reserved.new.self.items c.push_reserved.ensures.items,
+      c.push_reserved-2.ensures.items,
+      c.push_reserved-3.ensures.items,
+      c.push_reserved-4.ensures.items,
+    ) refl
 
 pub returns-clause-indexed : goal.returns-clause-indexed
 returns-clause-indexed c =
     let n : c.len-export.result ≡ length (map order_of c.args.self.now.orders.items) = omega arith ∙ sym (length-map c.args.self.now.orders.items order_of) in
-    rw (orders_pushed c.args.self.now.orders.items (record { from = c.args.from; to = c.args.to; dirs = c.args.dirs }) c.push_reserved.new.self.items c.push_reserved.ensures.items,
-    c.push_reserved-2.ensures.items, c.push_reserved-3.ensures.items, c.push_reserved-4.ensures.items, c.mark.ensures, c.deref.ensures.value, n)
+    rw (
+      orders_pushed c.args.self.now.orders.items (record { from = c.args.from; to = c.args.to; dirs = c.args.dirs }) c.push_reserved.new.self.items c.push_reserved.ensures.items,
+      c.push_reserved-2.ensures.items,
+      c.push_reserved-3.ensures.items,
+      c.push_reserved-4.ensures.items,
+      c.mark.ensures,
+      c.deref.ensures.value,
+      n,
+    )
     (start_indexed (world_of c.args.self.now) c.args.from c.args.to c.args.dirs.items c.requires.accepted c.requires.kept.reached (indexes_of c.args.self.now) c.requires.kept.indexed)
