@@ -1,1 +1,2 @@
 pub mod NearestPin
+pub mod UnpinnedTree

@@ -1,7 +1,7 @@
 -- Export pins of directories on ranks.
-use Rattle.std.specs.Prelude.{ℕ, ℤ, pos, negsuc, Bool, true, false, not, ◌&&◌, if◌then◌else◌, nat_lt, List, [], ◌∷◌, ◌++◌, length, filter, slice_set, slice_index_or, replicate, is_none, Option, Some, None}
+use Rattle.std.specs.Prelude.{◌≡◌, ◌<◌, ◌⊎◌, Contains, ℕ, ℤ, pos, negsuc, Bool, true, false, not, ◌&&◌, if◌then◌else◌, nat_lt, List, [], ◌∷◌, ◌++◌, length, filter, slice_set, slice_index_or, replicate, is_none, Option, Some, None}
 use Prim.Native.Nat.{zero, suc}
-use Rattle.dirtree.specs.Tree.{Entry, is_there, walk_up}
+use Rattle.dirtree.specs.Tree.{Entry, is_there, parent_of, walk_up}
 use Rattle.dir_pins.specs.declared.pin_error.PinError.{PinError}
 use Rattle.dir_pins.specs.declared.pin_error.PinError.TheVariants.{NoDir, NoRank}
 
@@ -63,3 +63,12 @@ pin_refusal active entries d pin =
 
 abbrev pub with_pin : PinTable → ℕ → ℤ → PinTable
 with_pin pins d pin = record pins { own = slice_set pins.own d (pin_value pin) }
+
+-- d is c, or stands above it
+abbrev pub IsAbove : List (Option Entry) → ℕ → ℕ → Type 0
+IsAbove entries d c = Contains (walk_up entries c) d
+
+-- These directories are none, or a tree with the root at its top: the parent of each but the root is one of them.
+pub record IsNoneOrTree (entries : List (Option Entry)) (dirs : List ℕ) : Type 0 where
+  pub top : (dirs ≡ []) ⊎ ((rest : List ℕ) × (dirs ≡ 0 ∷ rest))
+  pub parents : (d : ℕ) → 0 < d → Contains dirs d → Contains dirs (parent_of entries d)

@@ -145,3 +145,6 @@ impl Pins {
         Ok(dirs)
     }
 }
+
+#[cfg(test)]
+mod tests;

@@ -231,3 +231,6 @@ impl Tree {
         Ok(rows)
     }
 }
+
+#[cfg(test)]
+mod tests;

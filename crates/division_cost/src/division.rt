@@ -99,10 +99,11 @@ fn totals(
 {
     let nothing = Total { heat: 0, inodes: 0 };
     let mut totals = vec![in alloc; nothing; tree.numbers() as usize]?;
-    for number in 0..tree.numbers() {
-        if marks[number as usize] {
-            let dir = Dir::new(number);
-            let top = tops[number as usize].number() as usize;
+    for member in 0..tree.numbers() {
+        let is_free = marks[member as usize];
+        if is_free {
+            let dir = Dir::new(member);
+            let top = tops[member as usize].number() as usize;
             let before = totals[top];
             totals[top] = before.with(heat.heat(dir), inodes(tree, dir));
         }
@@ -130,11 +131,11 @@ pub fn parts(
     let nearest = nearest_tops(alloc, tree, is_top)?;
     let totals = totals(alloc, tree, heat, &marks, &nearest)?;
     let mut parts = Vec::new(alloc);
-    for number in 0..tree.numbers() {
-        if marks[number as usize] && is_top[number as usize] {
-            let total = totals[number as usize];
+    for top in 0..tree.numbers() {
+        if marks[top as usize] && is_top[top as usize] {
+            let total = totals[top as usize];
             parts.push(Part {
-                top: Dir::new(number),
+                top: Dir::new(top),
                 heat: total.heat,
                 inodes: total.inodes,
             })?;
@@ -153,3 +154,6 @@ pub fn greatest_heat(parts: &[Part]) -> u64
     }
     greatest
 }
+
+#[cfg(test)]
+mod tests;

@@ -2,5 +2,6 @@
 #![tactic(auto)]
 
 mod division;
+pub mod laws;
 
 pub use division::{Part, greatest_heat, parts};

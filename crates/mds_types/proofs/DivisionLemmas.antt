@@ -1,14 +1,16 @@
 -- How many parts a division within a bound has.
-use Rattle.std.proofs.Common.{◌≡◌, ℕ, suc, ◌+◌, ◌-◌, ◌<◌, ◌≤◌, Bool, cond, List, [], ◌∷◌, length, refl, ap, sym, ◌∙◌, arith, ⊎_elim}
+use Rattle.std.proofs.Common.{◌≡◌, ℕ, suc, ◌+◌, ◌-◌, ◌<◌, ◌≤◌, Bool, cond, List, [], ◌∷◌, length, refl, ap, sym, ◌∙◌, arith, ⊎_elim, inl, inr}
 use Rattle.mds_types.specs.declared.problem.ProblemRow.{ProblemRow}
 use Rattle.mds_types.specs.declared.cut_proof.Row.{Row}
 use Rattle.mds_types.specs.Problem.{IsForest, parent_at, heat_at}
-use Rattle.mds_types.specs.Division.{IsChain, InPart, IsDivision, part_count, IsWithin}
+use Rattle.mds_types.specs.Division.{IsChain, InPart, IsDivision, part_count, part_heat, IsWithin}
 use Rattle.mds_types.specs.CutTable.{IsCutTable, cuts_at, rest_at, price_at, is_cut_at}
 use Rattle.mds_types.specs.Sums.{sum_below}
 use Rattle.mds_types.proofs.SumsLemmas.{sum_from, sum_below-split, sum_below-fewer}
-use Rattle.mds_types.proofs.Pieces.{child, edge}
-use Rattle.mds_types.proofs.Fewest.{Table, fewest_from}
+use Rattle.mds_types.proofs.Pieces.{child, edge, edge_acc, heat_acc}
+use Rattle.mds_types.proofs.Fewest.{Table, fewest_from, row_beyond, balance}
+use Rattle.mds_types.specs.Subtree.{IsBeyond, edges_below, top_heat}
+use Rattle.mds_types.proofs.SubtreeLemmas.{edges-below, heat-top}
 use Rattle.mds_types.proofs.Tops.{top, top_from, top_from-top, top_from-parent, tops-edges, tops-parts}
 
 -- along a chain within a part, each row has the same top
@@ -93,3 +95,26 @@ part_count-from rows q r price cut bound s d k label forest size table inner div
       tops-edges (parent_at rows) label (s + d) (length rows) (omega arith),
       tops-parts (parent_at rows) label (length rows) k division.below (one_top rows forest k label division),
     )
+
+-- the same of each subtree: more cut edges than the row has cuts, or as many and at least as hot a piece at its top
+pub table_beyond :
+    (rows : List ProblemRow) (table : List Row) (bound k i : ℕ) (label : ℕ → ℕ) → IsForest rows
+    → IsCutTable rows table bound → IsDivision rows k label → IsWithin rows k label bound → i < length rows
+    → IsBeyond (cuts_at table i) (rest_at table i) (edges_below rows label i) (top_heat rows label i)
+table_beyond rows table bound k i label forest is division within l =
+    let d = length rows - suc i in
+    let size : length rows ≡ suc i + d = omega arith in
+    let held : (v : ℕ) → v < length rows → part_heat rows label (label v) ≤ bound = λ v lv. within (label v) (division.below v lv) in
+    let known = table_of rows table bound forest is in
+    let beyond = row_beyond 0 (length rows) (parent_at rows) label (heat_at rows) (cuts_at table) (rest_at table) (price_at table)
+    (is_cut_at table) bound known held d i (omega arith) size
+    (balance 0 (length rows) (parent_at rows) label (heat_at rows) (cuts_at table) (rest_at table) (price_at table)
+    (is_cut_at table) bound known held d (suc i) i (omega arith) (omega arith) (omega arith)) in
+    let edges = edges-below rows forest label d i size in
+    let heat = heat-top rows forest label d i size in
+    ⊎_elim
+    (λ (more : cuts_at table i < edge_acc (parent_at rows) label d (suc i) i). inl (omega (arith, edges)))
+    (λ (same : (cuts_at table i ≡ edge_acc (parent_at rows) label d (suc i) i)
+        × (rest_at table i ≤ heat_acc (parent_at rows) label (heat_at rows) d (suc i) i)).
+    inr (same.0 ∙ edges, omega (arith, same.1, heat)))
+    beyond

@@ -1,3 +1,4 @@
+-- What makes the proofs of a plan proofs: of its greatest heat, and of the inodes that it moves.
 use Rattle.std.specs.Prelude.{◌≡◌, ◌≢◌, ◌<◌, ◌≤◌, ◌+◌, ◌-◌, ℕ, ℤ, pos, ◌+ℤ◌, ◌≤ℤ◌, true, List, length, slice_index, slice_index_or}
 use Rattle.mds_types.specs.declared.problem.ProblemRow.{ProblemRow}
 use Rattle.mds_types.specs.declared.cut_proof.CutProof.{CutProof}

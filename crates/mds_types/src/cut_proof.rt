@@ -9,12 +9,12 @@ use std::alloc::{AllocError, Global};
 /// A row of a table that shows that no division has fewer parts within a bound.
 #[derive(Clone, Copy, Debug, PartialEq, Eq)]
 pub struct Row {
-    /// How many rows below this one are cut from their parents.
-    pub cuts: u32,
     /// The heat of the piece that is left at this row, in accesses.
     pub rest: u64,
     /// What cutting one more child would take from the rest, at most.
     pub price: u64,
+    /// How many rows below this one are cut from their parents.
+    pub cuts: u32,
     /// Whether this row is cut from its parent.
     pub cut: bool,
 }

@@ -1,5 +1,5 @@
 -- The parts and the table of a cut.
-use Rattle.std.proofs.Common.{◌≡◌, ◌∙◌, ℕ, ◌+◌, ◌<◌, ◌≤◌, List, length, slice_index, ap, sym, eqb, arith}
+use Rattle.std.proofs.Common.{true, ◌≡◌, ◌∙◌, ℕ, ◌+◌, ◌<◌, ◌≤◌, List, length, slice_index, ap, sym, eqb, arith}
 use Rattle.mds_types.specs.declared.problem.ProblemRow.{ProblemRow}
 use Rattle.mds_types.specs.declared.cut_proof.Row.{Row}
 use Rattle.mds_types.specs.Problem.{IsForest, heat_at}
@@ -10,8 +10,8 @@ use Rattle.mds_types.specs.CutTable.{IsCutTable, cuts_at, rest_at, is_cut_at}
 use Rattle.mds_types.proofs.DivisionLemmas.{part_count-more}
 use Rattle.residual_cut.specs.declared.cut.Cut.{Cut}
 use Rattle.residual_cut.specs.Cut.{IsCut}
-use Rattle.residual_cut.specs.Labels.{IsLabelled}
-use Rattle.residual_cut.proofs.LabelLemmas.{labelled_parts, labelled_within, labelled_count, labels_exist}
+use Rattle.residual_cut.specs.Labels.{IsLabelled, starts}
+use Rattle.residual_cut.proofs.LabelLemmas.{labelled_parts, labelled_within, labelled_within_tops, labelled_count, labels_exist}
 
 pub cut_is :
     (rows : List ProblemRow) (bound : ℕ) (cut : Cut) → IsForest rows → 0 < length rows
@@ -37,15 +37,16 @@ cut_is rows bound cut forest some table counted size labelled =
       counted = λ _. count;
     }
 
--- a table with fewer cuts shows a division into few parts
+-- a table with fewer cuts than ranks shows a division into few parts, which are no hotter than what is left at their tops
 pub few_from_table :
-    (rows : List ProblemRow) (table : List Row) (bound ranks : ℕ) → IsForest rows → 0 < length rows → IsCutTable rows table bound
-    → cuts_at table 0 ≡ count_below (length rows) (is_cut_at table) → cuts_at table 0 < ranks → HasFew rows ranks bound
-few_from_table rows table bound ranks forest some is counted few =
+    (rows : List ProblemRow) (table : List Row) (bound ranks hottest : ℕ) → IsForest rows → 0 < length rows
+    → IsCutTable rows table bound → cuts_at table 0 ≡ count_below (length rows) (is_cut_at table) → cuts_at table 0 < ranks
+    → ((i : ℕ) → i < length rows → starts (is_cut_at table) i ≡ true → rest_at table i ≤ hottest) → HasFew rows ranks hottest
+few_from_table rows table bound ranks hottest forest some is counted few tops =
     let (part, count, size, labelled) = labels_exist rows (is_cut_at table) forest (length rows) (omega arith) in
     let parts = labelled_parts rows (is_cut_at table) (slice_index part) count forest labelled in
-    let within = labelled_within rows (rest_at table) (is_cut_at table) (slice_index part) count bound forest
-    (λ i l. (is.each i l).rest_is) (λ i l. (is.each i l).rest_within) labelled in
+    let within = labelled_within_tops rows (rest_at table) (is_cut_at table) (slice_index part) count hottest forest
+    (λ i l. (is.each i l).rest_is) tops labelled in
     let count_is = labelled_count rows (is_cut_at table) (slice_index part) count (length rows) is.top some labelled in (
       count,
       slice_index part,

@@ -10,8 +10,9 @@ use Rattle.mds_types.specs.CutTable.{is_child, cuts_at, rest_at, price_at, is_cu
 use Rattle.mds_types.proofs.SumsLemmas.{sum_below-term, sum_below-zero, count_below-le}
 use Rattle.residual_cut.specs.declared.child.Child.{Child}
 use Rattle.residual_cut.specs.Heap.{AreChildren, is_free}
-use Rattle.residual_cut.specs.Walk.{is_handled, IsWalk, IsWalked}
+use Rattle.residual_cut.specs.Walk.{is_handled, IsSameBut, IsWalk, IsWalked}
 use Rattle.residual_cut.proofs.HeapLemmas.{child_cmp, IsPopped, popped, left_in_heap, all_cut}
+use Rattle.residual_cut.proofs.TableLemmas.{heats_le}
 use Rattle.residual_cut.proofs.WalkLemmas.{IsCutAt, child_above, child_parent, handled_from, handled_parts, cut_child, one_more_cut}
 
 -- rows before i may now be cut from
@@ -40,6 +41,19 @@ pub few_cuts :
     → cuts_at table v ≤ length rows
 few_cuts rows table bound m s v l is =
     omega (arith, sum_below-term m v (cuts_at table) l, is.walk.counted, count_below-le (length rows) (is_cut_at table))
+
+-- what is left at a row fits
+pub rest_fits :
+    (rows : List ProblemRow) (table : List Row) (bound m s v : ℕ) → IsForest rows → v < m → IsWalked rows table bound m s
+    → rest_at table v ≤ 2 ^ 56
+rest_fits rows table bound m s v forest l is =
+    omega (
+      arith,
+      sum_below-term m v (rest_at table) l,
+      is.walk.gathered,
+      heats_le rows forest (length rows) (omega arith),
+      forest.few,
+    )
 
 module _ (rows : List ProblemRow) (forest : IsForest rows) (table : List Row) (bound i : ℕ) (here : i < length rows)
     (is : IsWalked rows table bound (i + 1) i) where
@@ -112,6 +126,19 @@ module _ (rows : List ProblemRow) (forest : IsForest rows) (table : List Row) (b
           pop.largest is.walk;
     }
 
+    -- what the row had before is what it has now and what was cut from it
+    pub above_on : rest_at table i ≡ rest_at table2 i + price_at table2 i
+    above_on = omega (arith, change.rest_here, change.price_here)
+
+    pub same_on : (first : List Row) → IsSameBut rows first table i → IsSameBut rows first table2 i
+    same_on first old = record {
+      rest = λ v apart. change.rest_other v apart ∙ old.rest v apart;
+      price = λ v apart. change.price_other v apart ∙ old.price v apart;
+      cut = λ j other.
+          change.cut_other j (λ same. false≢true (sym other ∙ (ap (λ y. is_child rows i y) same ∙ pop.child)))
+          ∙ old.cut j other;
+    }
+
     pub counted_on : count_below (length rows) (is_cut_at table2) ≡ count_below (length rows) (is_cut_at table) + 1
     counted_on = one_more_cut rows forest bound (cuts_at table) (rest_at table) (price_at table) (cuts_at table2) (rest_at table2)
         (price_at table2) (is_cut_at table) (is_cut_at table2) i x.row.0 here change pop.inside pop.child pop.free hot
@@ -134,3 +161,6 @@ empty_heap rows table bound i children here cool forest is are none =
       cool,
       own_heat rows forest table bound i here is (all_cut rows (rest_at table) (is_cut_at table) i children are none),
     )
+
+pub IsSameBut-none : (rows : List ProblemRow) (table : List Row) (i : ℕ) → IsSameBut rows table table i
+IsSameBut-none rows table i = record { rest = λ v apart. refl; price = λ v apart. refl; cut = λ j other. refl }

@@ -250,8 +250,8 @@ first_walked rows table bound is =
     walk_start rows table bound (ap length is ∙ simp length-map) (first_rows rows table is)
 
 pub first_uncut :
-    (rows : List ProblemRow) (table : List Row) → table ≡ map (λ (row : ProblemRow). first_row row.heat) rows
+    (rows : List ProblemRow) (table : List Row) → ((v : ℕ) → slice_index_or table v no_cut ≡ first_row (heat_at rows v))
     → count_below (length rows) (is_cut_at table) ≡ 0
-first_uncut rows table is =
+first_uncut rows table first =
     sum_below-zero (length rows) (λ v. cond (is_cut_at table v) 1 0)
-    (λ v l. rw (ap (λ (row : Row). row.cut) (first_rows rows table is v)) refl)
+    (λ v l. rw (ap (λ (row : Row). row.cut) (first v)) refl)

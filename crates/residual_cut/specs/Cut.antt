@@ -1,3 +1,4 @@
+-- What a cut of the rows at a bound is.
 use Rattle.std.specs.Prelude.{◌≡◌, ◌==◌, ◌<◌, ◌≤◌, ◌+◌, ◌&&◌, ◌||◌, ℕ, Bool, not, List, length, slice_index, if◌then◌else◌}
 use Rattle.mds_types.specs.declared.problem.ProblemRow.{ProblemRow}
 use Rattle.mds_types.specs.Certificate.{IsPartition}

@@ -1,3 +1,4 @@
+-- The answers of a cut that fails.
 use Rattle.std.specs.Prelude.{ℕ, Bool, true, false, Result, Ok, Err}
 use Rattle.residual_cut.specs.declared.cut.Cut.{Cut}
 use Rattle.residual_cut.specs.declared.cut.CutError.{CutError}

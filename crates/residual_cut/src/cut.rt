@@ -2,35 +2,37 @@
 
 ghost use Rattle.std.specs.Prelude.{◌≡◌, ◌<◌, ◌≤◌, ◌+◌, ◌-◌, ◌^◌, ℕ, true, false, length, IfOk, IfErr, IfNone, IfSome, if◌then◌else◌};
 ghost use Rattle.mds_types.specs.Problem.{IsForest, heat_at};
-ghost use Rattle.mds_types.specs.Division.{HasFew, NeedsMore};
 ghost use Rattle.residual_cut.specs.Links.{IsLinked};
 ghost use Rattle.residual_cut.specs.Cut.{IsCut, IsFirstHot};
 ghost use Rattle.residual_cut.specs.CutError.{IfHeavy, is_memory};
 
 use crate::links::{Links, link};
 use crate::numbering::parts;
-use crate::walk::cut_rows;
+use crate::walk::{cut_table, first_table};
 use mds_types::{Problem, ProblemRow, Row};
 use std::alloc::{AllocError, Global};
 use thiserror::Error;
 
-/// A division into the fewest connected parts within a bound, and the table that shows that none has fewer.
-#[derive(Drop)]
+/// A division into the fewest connected parts within a bound, and the table that shows that none
+/// has fewer.
+#[derive(Debug, PartialEq, Drop)]
 pub struct Cut {
-    /// The part of each row.
+    /// `part[i]` is the part of row i. Parts are numbered by rising top row.
     pub part: Vec<u32>,
     /// How many parts there are.
     pub count: u32,
-    /// The table against the bound.
+    /// The table against the bound, a row for each row of the problem.
     pub rows: Vec<Row>,
 }
 
 /// Why there is no cut.
-#[derive(Clone, Copy, PartialEq, Eq, Debug)]
+#[derive(Clone, Copy, Debug, PartialEq, Eq, Hash, Error)]
 pub enum CutError {
-    /// There is no memory.
+    /// The allocator refused a growth.
+    #[error("0 Memory")]
     Memory,
-    /// This row alone is hotter than the bound.
+    /// This row, the least such, is hotter than the bound.
+    #[error("16 Heavy {0}")]
     Heavy(u32),
 }
 
@@ -59,7 +61,30 @@ fn first_hot(rows: &[ProblemRow], bound: u64) -> Option<u32>
     None
 }
 
-/// Cuts the rows, none of which is hotter than the bound.
+/// Cuts rows that are linked and none of which is hotter than the bound.
+pub fn cut_linked(
+    alloc: Global,
+    rows: &[ProblemRow],
+    links: &Links,
+    bound: u64,
+) -> Result<Cut, AllocError>
+    requires forest { IsForest rows.now }
+    requires some { 0 < length rows.now }
+    requires linked { IsLinked rows.now links.now.first.items links.now.next.items 1 }
+    requires cool { (i : ℕ) → i < length rows.now → heat_at rows.now i ≤ bound }
+    ensures { IfOk result (IsCut rows.now bound) }
+{
+    let mut table = first_table(alloc, rows)?;
+    cut_table(alloc, rows, links, &mut table, bound, rows.len() as u32 + 1)?;
+    let (part, count) = parts(alloc, rows, &table)?;
+    Ok(Cut {
+        part,
+        count,
+        rows: table,
+    })
+}
+
+/// Cuts rows none of which is hotter than the bound.
 pub fn cut_cool(alloc: Global, rows: &[ProblemRow], bound: u64) -> Result<Cut, AllocError>
     requires forest { IsForest rows.now }
     requires cool { (i : ℕ) → i < length rows.now → heat_at rows.now i ≤ bound }
@@ -73,15 +98,7 @@ pub fn cut_cool(alloc: Global, rows: &[ProblemRow], bound: u64) -> Result<Cut, A
         });
     }
     let links = link(alloc, rows)?;
-    let Some(table) = cut_rows(alloc, rows, &links, bound, rows.len() as u32 + 1)? else {
-        unreachable!()
-    };
-    let (part, count) = parts(alloc, rows, &table)?;
-    Ok(Cut {
-        part,
-        count,
-        rows: table,
-    })
+    cut_linked(alloc, rows, &links, bound)
 }
 
 /// Divides the rows into the fewest connected parts whose heat is at most the bound. Parts are numbered by rising top row.
@@ -106,25 +123,137 @@ pub fn cut_at(
     Ok(cut)
 }
 
-/// Whether the rows, none of which is hotter than the bound, can be divided into at most `ranks` parts within the bound. It
-/// ends as soon as too many rows are cut, and counts as a pass.
-pub fn fits(
-    alloc: Global,
-    rows: &[ProblemRow],
-    links: &Links,
-    bound: u64,
-    ranks: u32,
-) -> Result<bool, AllocError>
-    requires forest { IsForest rows.now }
-    requires some { 0 < length rows.now }
-    requires linked { IsLinked rows.now links.now.first.items links.now.next.items 1 }
-    requires cool { (v : ℕ) → v < length rows.now → heat_at rows.now v ≤ bound }
-    requires ranks { 0 < ranks }
-    ensures few { IfOk result (λ yes. yes ≡ true → HasFew rows.now ranks bound) }
-    ensures more { IfOk result (λ yes. yes ≡ false → NeedsMore rows.now ranks bound) }
-{
-    if let Some(_) = cut_rows(alloc, rows, links, bound, ranks)? {
-        return Ok(true);
+#[cfg(test)]
+mod tests {
+    use super::*;
+    use exhaustive::{Random, fewest_parts};
+    use mds_types::{Rank, RankSet};
+    use std::process::Abort;
+    use std::test::Fail;
+
+    fn problem(rt: &impl Abort, rows: Vec<ProblemRow>) -> Problem {
+        match Problem::new(rows, RankSet::from_bits(1)) {
+            Ok(problem) => problem,
+            Err(_) => panic!(rt; "refused the rows"),
+        }
     }
-    Ok(false)
+
+    fn rows(alloc: Global, table: &[(u32, u64)]) -> Result<Vec<ProblemRow>, AllocError> {
+        let mut rows = Vec::new(alloc);
+        for (parent, heat) in table {
+            rows.push(ProblemRow {
+                parent: *parent,
+                heat: *heat,
+                inodes: 1,
+                now: Rank::default(),
+            })?;
+        }
+        Ok(rows)
+    }
+
+    #[test]
+    fn cuts_the_hottest_pieces(rt: HostRuntime) -> Result<(), Fail> {
+        let given = rows(rt.alloc(), &[(0, 2), (0, 5), (0, 4), (0, 3)])?;
+        let problem = problem(&rt, given);
+        let mut passes = 0;
+        let cut = cut_at(&problem, rt.alloc(), 7, &mut passes)?;
+        assert_eq!(rt; cut.count, 3);
+        assert_eq!(rt; cut.part.as_slice(), [0, 1, 2, 0].as_slice());
+        let root = Row {
+            cuts: 2,
+            rest: 5,
+            price: 4,
+            cut: false,
+        };
+        assert_eq!(rt; cut.rows.first(), Some(&root));
+        let heavy = cut_at(&problem, rt.alloc(), 4, &mut passes);
+        assert_eq!(rt; heavy.err(), Some(CutError::Heavy(1)));
+        assert_eq!(rt; passes, 2);
+        assert_eq!(rt;
+            CutError::Heavy(1).to_string(rt.alloc())?.as_str(),
+            "16 Heavy 1"
+        );
+        assert_eq!(rt;
+            CutError::Memory.to_string(rt.alloc())?.as_str(),
+            "0 Memory"
+        );
+        Ok(())
+    }
+
+    #[test]
+    fn cuts_the_smaller_row_among_equals(rt: HostRuntime) -> Result<(), Fail> {
+        let given = rows(rt.alloc(), &[(0, 1), (0, 3), (0, 5), (0, 5), (0, 4)])?;
+        let problem = problem(&rt, given);
+        let mut passes = 0;
+        let one = cut_at(&problem, rt.alloc(), 13, &mut passes)?;
+        assert_eq!(rt; one.part.as_slice(), [0, 0, 1, 0, 0].as_slice());
+        let two = cut_at(&problem, rt.alloc(), 8, &mut passes)?;
+        assert_eq!(rt; two.part.as_slice(), [0, 0, 1, 2, 0].as_slice());
+        Ok(())
+    }
+
+    #[test]
+    fn cuts_no_rows(rt: HostRuntime) -> Result<(), Fail> {
+        let problem = problem(&rt, Vec::new(rt.alloc()));
+        let mut passes = 7;
+        let cut = cut_at(&problem, rt.alloc(), 0, &mut passes)?;
+        assert_eq!(rt; cut.count, 0);
+        assert_eq!(rt; passes, 8);
+        Ok(())
+    }
+
+    #[test]
+    fn cuts_a_long_chain(rt: HostRuntime) -> Result<(), Fail> {
+        let mut chain = Vec::new(rt.alloc());
+        for i in 0..65536u32 {
+            chain.push(ProblemRow {
+                parent: i.saturating_sub(1),
+                heat: 1,
+                inodes: 1,
+                now: Rank::default(),
+            })?;
+        }
+        let problem = problem(&rt, chain);
+        // (bound, parts)
+        for (bound, count) in [
+            (1023, 65),
+            (1024, 64),
+            (1, 65536),
+            (65536, 1),
+            (u64::MAX, 1),
+        ] {
+            let mut passes = 0;
+            let cut = cut_at(&problem, rt.alloc(), bound, &mut passes)?;
+            assert_eq!(rt; cut.count, count, "within {bound}");
+        }
+        Ok(())
+    }
+
+    #[test]
+    fn no_division_of_small_trees_has_fewer_parts(rt: HostRuntime) -> Result<(), Fail> {
+        let mut random = Random::new(7);
+        for _ in 0..60 {
+            let count = 1 + random.below(6) as u32;
+            let given = random.rows(rt.alloc(), count, 9)?;
+            let bound = random.below(20);
+            assert!(rt; given.len() <= 8);
+            let fewest = fewest_parts(&given, bound);
+            let heavy = given.iter().position(|row| row.heat > bound);
+            let shown = given.clone()?;
+            let mut passes = 0;
+            match cut_at(&problem(&rt, given), rt.alloc(), bound, &mut passes) {
+                Ok(cut) => assert_eq!(rt;
+                    Some(cut.count as usize),
+                    fewest,
+                    "{shown:?} within {bound}"
+                ),
+                Err(CutError::Heavy(row)) => {
+                    assert_eq!(rt; Some(row as usize), heavy, "{shown:?} within {bound}");
+                    assert_eq!(rt; fewest, None, "{shown:?} within {bound}");
+                }
+                Err(CutError::Memory) => panic!(rt; "no memory"),
+            }
+        }
+        Ok(())
+    }
 }

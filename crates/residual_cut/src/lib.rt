@@ -12,7 +12,10 @@ pub mod cut;
 mod detach;
 pub mod links;
 mod numbering;
-mod walk;
+pub mod probe;
+pub mod walk;
 
-pub use cut::{Cut, CutError, cut_at, cut_cool, fits};
+pub use cut::{Cut, CutError, cut_at, cut_cool, cut_linked};
 pub use links::{Links, link};
+pub use probe::{Probe, try_bound};
+pub use walk::first_table;

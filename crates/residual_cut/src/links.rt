@@ -1,3 +1,5 @@
+//! The children of each row as a list through two arrays.
+
 ghost use Rattle.std.specs.Prelude.{IfOk};
 ghost use Rattle.mds_types.specs.Problem.{IsForest};
 ghost use Rattle.residual_cut.specs.Links.{IsLinked};
@@ -8,7 +10,9 @@ use std::alloc::{AllocError, Global};
 /// Each row's first child and next sibling, or 0 where it has none.
 #[derive(Drop)]
 pub struct Links {
+    /// The first child of each row.
     pub first: Vec<u32>,
+    /// The next child of the same parent.
     pub next: Vec<u32>,
 }
 

@@ -1,3 +1,5 @@
+//! The parts of a cut, numbered by their top rows in rising order.
+
 ghost use Rattle.std.specs.Prelude.{◌≡◌, ◌<◌, ◌≤◌, ◌+◌, true, false, length, slice_index, IfOk};
 ghost use Rattle.mds_types.specs.CutTable.{is_cut_at};
 ghost use Rattle.mds_types.specs.Problem.{IsForest, parent_at};

@@ -5,8 +5,8 @@ use Rattle.division_cost.specs.Parts.{Marks, is_free_top, part_at}
 use Rattle.division_cost.proofs.division.parts.Given as goal
 
 -- the parts of the tops so far
-abbrev pub invariant-loop-number : goal.invariant-loop-number
-invariant-loop-number l = record {
-  end : l.number ≤ length l.tree.entries;
-  parts : (tops : List ℕ) → Marks l.is_top tops → l.parts.items ≡ map (part_at l.tree.entries l.pins.own l.heat.heats tops) (filter (is_free_top l.tree.entries l.pins.own tops) (below l.number));
+abbrev pub invariant-loop-top : goal.invariant-loop-top
+invariant-loop-top l = record {
+  end : l.top ≤ length l.tree.entries;
+  parts : (tops : List ℕ) → Marks l.is_top tops → l.parts.items ≡ map (part_at l.tree.entries l.pins.own l.heat.heats tops) (filter (is_free_top l.tree.entries l.pins.own tops) (below l.top));
 }

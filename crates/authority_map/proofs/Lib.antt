@@ -1,0 +1,3 @@
+pub mod CellLemmas
+pub mod HistoryLemmas
+pub mod WriterLemmas

@@ -1,0 +1,6 @@
+use Rattle.std.proofs.Common.{◌≡◌, ◌≤◌, [], All, vec_len, vec_capacity}
+use Rattle.left_right.specs.Handles.{published, pending}
+use Rattle.authority_map.proofs.map_writer.open_copies.Given as goal
+
+abbrev pub invariant-loop-made : goal.invariant-loop-made
+invariant-loop-made g l = (vec_len l.list ≡ l.made) × (l.readers ≤ vec_capacity l.list) × All (λ reader. reader ≡ []) l.list.items

@@ -1,0 +1,5 @@
+pub mod Operations
+pub mod Changes
+pub mod Log
+pub mod Cells
+pub mod Answer

@@ -1,0 +1,14 @@
+//! What a look-up finds.
+
+use mds_types::Rank;
+
+/// What a reader finds at a directory.
+#[derive(Clone, Copy, Debug, PartialEq, Eq)]
+pub enum Found {
+    /// The directory has this rank.
+    Rank(Rank),
+    /// The directory has no rank.
+    NoDir,
+    /// The writer has ended.
+    Closed,
+}

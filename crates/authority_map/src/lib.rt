@@ -1,0 +1,27 @@
+//! The published map from directories to ranks: one writer, and readers that take no lock.
+//!
+//! A writer appends operations and publishes them. A reader's answer is that of a beginning of the
+//! writer's published operations, in order from the first. It never goes back, and it holds all
+//! that the reader was told of. Two copies of the map are kept by `left_right`: readers enter the
+//! one that is shown, while the writer changes the other.
+//!
+//! Which beginning a copy holds is known by a length: the list itself, in a book of `logbook`,
+//! stands in proofs alone.
+#![tactic(auto)]
+
+mod change;
+mod found;
+mod history;
+mod map_error;
+mod map_reader;
+mod map_writer;
+mod queue;
+mod table;
+#[cfg(test)]
+mod tests;
+
+pub use found::Found;
+pub use history::Opened;
+pub use map_error::MapError;
+pub use map_reader::{MapReader, Told};
+pub use map_writer::{MapWriter, WriterOf};

@@ -1,0 +1,150 @@
+//! The writer of the map.
+ghost use Rattle.std.specs.Prelude.{◌≡◌, ◌-◌, ◌<◌, ◌≤◌, ◌∷◌, [], ◌++◌, All, IfOk, IfErr, OnOk, OnErr, vec_len};
+ghost use Rattle.left_right.specs.Handles.{published, pending};
+ghost use Rattle.authority_map.specs.Operations.{SetTo};
+ghost use Rattle.authority_map.specs.Operations as op;
+ghost use Rattle.authority_map.specs.Changes.{changes};
+
+use crate::change::What;
+use crate::history::{Known, Opened};
+use crate::map_error::MapError;
+use crate::map_reader::{MapReader, Told};
+use crate::queue::{Entry, Queue, hand_all};
+use crate::table::Table;
+use left_right::{Absorb, WriteHandle};
+use mds_types::limits::DIR_LIMIT;
+use mds_types::{Dir, Rank};
+use naming::Naming;
+use std::alloc::Global;
+use std::sync::Wait;
+
+/// The writer of a board's map. It can't be dropped, only ended by `end`.
+///
+/// It is generic in the copies' types, since a struct can't name the library's writer at given
+/// ones: a struct that holds a writer repeats these parameters.
+pub struct WriterOf<J: Naming, T: Absorb<O> + Drop, O: Drop, R: Wait + Drop> {
+    copies: WriteHandle<T, O, R>,
+    queue: Queue<J>,
+}
+
+/// The writer of the map of the board that `J` names.
+pub type MapWriter<J, R> = WriterOf<J, Table<J>, Entry<J>, R>;
+
+// The copies, and a reader for each place.
+fn open_copies<J: Naming, R: Wait + Drop>(
+    rt: R,
+    alloc: Global,
+    start: &Known<J>,
+    limit: u32,
+    readers: u8,
+) -> Result<(WriteHandle<Table<J>, Entry<J>, R>, Vec<MapReader<J>>), MapError>
+    requires start { start.now ≡ [] }
+    requires readers { 1 ≤ readers }
+    ensures copies { IfOk result (λ t. ((published t.0).known ≡ []) × (pending t.0 ≡ [])) }
+    ensures count { IfOk result (λ t. vec_len t.1 ≡ readers) }
+    ensures readers { IfOk result (λ t. All (λ reader. reader ≡ []) t.1.items) }
+{
+    let mut list = Vec::with_capacity(alloc, readers as usize)?;
+    let first = Table::new(alloc, limit, start.copied())?;
+    let second = Table::new(alloc, limit, start.copied())?;
+    let copies = WriteHandle::new(alloc, rt, first, second, readers as usize)?;
+    for made in 0..readers {
+        let Ok(handle) = copies.handle() else {
+            return Err(MapError::NoReader);
+        };
+        list.push_reserved(MapReader::over(handle, start.copied()));
+    }
+    Ok((copies, list))
+}
+
+impl<J: Naming, R: Wait + Drop> WriterOf<J, Table<J>, Entry<J>, R> {
+    /// A map of the directories below the limit, none of which has a rank yet, with this many
+    /// readers. Where it is refused, what was opened is handed back.
+    pub fn open(
+        rt: R,
+        alloc: Global,
+        opened: Opened,
+        limit: u32,
+        readers: u8,
+    ) -> Result<(MapWriter<J, R>, Vec<MapReader<J>>), (MapError, Opened)>
+        requires name { opened ≡ J.map }
+        requires limit { (limit ≡ J.limit) × (1 ≤ limit) × (limit ≤ DIR_LIMIT) }
+        requires readers { (1 ≤ readers) × (readers ≤ 64) }
+        ensures writer { IfOk result (λ t. ((published t.0.copies).known ≡ []) × (pending t.0.copies ≡ []) × (t.0.queue.waiting ≡ [])) }
+        ensures count { IfOk result (λ t. vec_len t.1 ≡ readers) }
+        ensures readers { IfOk result (λ t. All (λ reader. reader ≡ []) t.1.items) }
+        ensures err { IfErr result (λ e. e.1 ≡ opened) }
+    {
+        let start = opened.start::<J>();
+        match open_copies(rt, alloc, &start, limit, readers) {
+            Err(error) => Err((error, opened)),
+            Ok((copies, list)) => {
+                let queue = Queue::new(alloc, opened.into_count::<J>(), start);
+                Ok((WriterOf { copies, queue }, list))
+            }
+        }
+    }
+
+    /// Makes room for one operation.
+    pub fn reserve(&mut self) -> Result<(), MapError>
+        ensures room { OnOk result (1 ≤ self.new.queue.room) }
+        ensures refused { IfErr result (λ e. e ≡ MapError.Memory) }
+        ensures same { (self.new.queue.waiting ≡ self.old.queue.waiting) × (self.new.copies ≡ self.old.copies) }
+    {
+        self.queue.reserve()
+    }
+
+    /// Gives the directories the rank, from the next `publish` on.
+    pub fn set(&mut self, dirs: Vec<Dir>, rank: Rank)
+        requires room { 1 ≤ self.old.queue.room }
+        requires inside { All (λ dir. dir < J.limit) dirs.items }
+        ensures appended { self.new.queue ≡ record { waiting = self.old.queue.waiting ++ SetTo dirs.items rank ∷ []; room = self.old.queue.room - 1 } }
+        ensures same { self.new.copies ≡ self.old.copies }
+    {
+        self.queue.push(What::Set(dirs, rank));
+    }
+
+    /// Takes the directory's rank away, from the next `publish` on.
+    pub fn clear(&mut self, dir: Dir)
+        requires room { 1 ≤ self.old.queue.room }
+        requires inside { dir < J.limit }
+        ensures appended { self.new.queue ≡ record { waiting = self.old.queue.waiting ++ op.Clear dir ∷ []; room = self.old.queue.room - 1 } }
+        ensures same { self.new.copies ≡ self.old.copies }
+    {
+        self.queue.push(What::Clear(dir));
+    }
+
+    /// Shows readers all that is pending. It waits for readers that are still in the copy of the
+    /// publish before the last.
+    pub fn publish(&mut self) -> Result<(), MapError>
+        ensures ok { OnOk result ((published self.new.copies).known ≡ (published self.old.copies).known ++ (changes (pending self.old.copies) ++ self.old.queue.waiting)) }
+        ensures all { OnOk result ((pending self.new.copies ≡ []) × (self.new.queue.waiting ≡ [])) }
+        ensures refused { IfErr result (λ e. e ≡ MapError.Memory) }
+        ensures shown { OnErr result (published self.new.copies ≡ published self.old.copies) }
+        ensures pending { OnErr result (changes (pending self.new.copies) ++ self.new.queue.waiting ≡ changes (pending self.old.copies) ++ self.old.queue.waiting) }
+    {
+        if !hand_all(&mut self.copies, &mut self.queue) {
+            return Err(MapError::Memory);
+        }
+        match self.copies.publish() {
+            Ok(()) => Ok(()),
+            Err(_) => Err(MapError::Memory),
+        }
+    }
+
+    /// A token of what is published.
+    pub fn tell(&self) -> Told<J>
+        ensures { result ≡ (published self.now.copies).known }
+    {
+        Told::of(self.copies.published().known.copied())
+    }
+
+    /// Ends the map: readers find it closed from now on. It waits for readers that are still in it.
+    pub fn end(self) {
+        let WriterOf {
+            copies,
+            queue: _queue,
+        } = self;
+        copies.take();
+    }
+}

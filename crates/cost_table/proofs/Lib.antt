@@ -1,0 +1,4 @@
+pub mod InodeLemmas
+pub mod PlaceLemmas
+pub mod PriceLemmas
+pub mod WrittenLemmas

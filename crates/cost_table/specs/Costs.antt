@@ -1,0 +1,34 @@
+-- What a part has at each rank, and where its cost stands in a table.
+use Rattle.std.specs.Prelude.{◌≡◌, ◌==◌, ◌&&◌, ◌<◌, ◌≤◌, ◌+◌, ◌*◌, ◌^◌, ℕ, true, List, All, length, slice_index, if◌then◌else◌}
+use Rattle.mds_types.specs.declared.problem.ProblemRow.{ProblemRow}
+use Rattle.mds_types.specs.Placing.{cost}
+use Rattle.mds_types.specs.Problem.{inodes_at, now_at}
+use Rattle.mds_types.specs.RankSet.{has_rank, rank_count}
+use Rattle.mds_types.specs.Sums.{sum_below, count_below}
+
+-- the inodes that a rank has of a part now
+abbrev pub own_inodes : List ProblemRow → (ℕ → ℕ) → ℕ → ℕ → ℕ
+own_inodes rows label part r =
+    sum_below (length rows) (λ i. if label i == part && now_at rows i == r then inodes_at rows i else 0)
+
+-- the sum of a part's 64 cells
+unfoldable pub part_total : List ℕ → ℕ → ℕ
+part_total sums part = sum_below 64 (λ r. slice_index sums (part * 64 + r))
+
+-- where a rank stands among the ranks of the set, in rising order
+abbrev pub rank_place : ℕ → ℕ → ℕ
+rank_place ranks r = count_below r (has_rank ranks)
+
+-- the cost of a part at a rank of the set, in a table that has a row a part
+abbrev pub cell_at : ℕ → List ℕ → ℕ → ℕ → ℕ
+cell_at ranks cells part r = slice_index cells (part * rank_count ranks + rank_place ranks r)
+
+-- what parts move at the ranks that are chosen for them
+abbrev pub chosen_cost : ℕ → List ℕ → ℕ → (ℕ → ℕ) → ℕ
+chosen_cost ranks cells k rank = sum_below k (λ part. cell_at ranks cells part (rank part))
+
+-- what each of these parts moves at each rank of the set
+pub record AreCosts (rows : List ProblemRow) (label : ℕ → ℕ) (count ranks : ℕ) (cells : List ℕ) : Type 0 where
+  pub size : length cells ≡ count * rank_count ranks
+  pub costs : (part r : ℕ) → part < count → has_rank ranks r ≡ true → cell_at ranks cells part r ≡ cost rows label part r
+  pub small : All (λ cell. cell ≤ 2 ^ 48) cells

@@ -1,0 +1,46 @@
+//! What parts move at the ranks that were chosen for them.
+ghost use Rattle.std.specs.Prelude.{◌≡◌, ◌≤◌, ◌*◌, ◌^◌, All, length, slice_index};
+ghost use Rattle.mds_types.specs.Certificate.{AreRanks};
+ghost use Rattle.mds_types.specs.RankSet.{has_rank, rank_count};
+ghost use Rattle.cost_table.specs.Costs.{chosen_cost, rank_place};
+
+use mds_types::{Rank, RankSet};
+
+/// Whether the set has the rank of this number.
+pub(crate) fn has_number(ranks: RankSet, number: u8) -> bool
+    ensures { result ≡ has_rank ranks number }
+{
+    match Rank::new(number) {
+        Some(rank) => ranks.has(rank),
+        None => false,
+    }
+}
+
+/// How many ranks of the set are smaller.
+pub fn place_of(ranks: RankSet, rank: Rank) -> usize
+    ensures { result ≡ rank_place ranks rank }
+{
+    let mut place = 0;
+    for number in 0..rank.number() {
+        if has_number(ranks, number) {
+            place += 1;
+        }
+    }
+    place
+}
+
+/// The sum of the parts' costs, where part p goes to rank `rank[p]`.
+pub fn chosen_sum(cells: &[u64], ranks: RankSet, rank: &[Rank]) -> u64
+    requires size { length cells.now ≡ length rank.now * rank_count ranks }
+    requires few { length rank.now ≤ 64 }
+    requires ranks { AreRanks ranks (length rank.now) (slice_index rank.now) }
+    requires small { All (λ cell. cell ≤ 2 ^ 48) cells.now }
+    ensures { result ≡ chosen_cost ranks cells.now (length rank.now) (slice_index rank.now) }
+{
+    let width = usize::from(ranks.len());
+    let mut sum = 0;
+    for (p, r) in rank.iter().enumerate() {
+        sum += cells[p * width + place_of(ranks, *r)];
+    }
+    sum
+}

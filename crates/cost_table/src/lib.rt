@@ -1,0 +1,9 @@
+//! What the parts of a division move at each rank, in inodes.
+#![tactic(auto)]
+
+mod cells;
+mod chosen;
+mod inodes;
+
+pub use cells::costs;
+pub use chosen::{chosen_sum, place_of};

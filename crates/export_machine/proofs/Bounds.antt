@@ -1,0 +1,355 @@
+-- Counts that every event keeps within the count of events.
+use Rattle.std.proofs.Common.{◌≡◌, ◌≢◌, ℕ, zero, suc, ◌+◌, ◌<◌, ◌≤◌, Bool, true, false, ◌&&◌, not, cond, Vec, List, [], ◌∷◌, ◌++◌, length, get_or, set, map, Option, Some, None, Ok, Err, Result, refl, sym, ap, ◌∙◌, subst, inl, inr, ◌⊎◌, arith}
+use Rattle.std.specs.List.{slice_get}
+use Rattle.std.specs.Result.{OnOk}
+use Rattle.std.proofs.lemmas.List.{length-set}
+use Rattle.export_machine.specs.declared.exporter.ExporterState.{ExporterState}
+use Rattle.export_machine.specs.declared.importer.ImporterState.{ImporterState}
+use Rattle.export_machine.specs.declared.exporter.ExporterState.TheVariants.{Discovering, Freezing, Preparing, Exporting, Logged, Done, Aborted}
+use Rattle.export_machine.specs.declared.importer.ImporterState.TheVariants.{Unknown, Discovered, Prepared, Started, Imported, Dropped}
+use Rattle.export_machine.specs.declared.message.Message.{Message}
+use Rattle.export_machine.specs.declared.message.Message.TheVariants.{Discover, DiscoverAck, Prep, PrepAck, ExportAck, Finish, Cancel, Query}
+use Rattle.export_machine.specs.declared.journal.JournalEntry.{JournalEntry}
+use Rattle.export_machine.specs.declared.event.Reply.{Reply}
+use Rattle.export_machine.specs.declared.step_error.StepError.{StepError}
+use Rattle.export_machine.specs.declared.records.Records.{Records}
+use Rattle.export_machine.specs.Cluster.{Order, World}
+use Rattle.export_machine.specs.Authority.{no_order, order_in, exporter_of, importer_of, is_stopped, authority, open_export}
+use Rattle.export_machine.specs.Step.{Event, Outcome, refusal, happens, step, answered, counted, comes, delivered, ignored, receiver, discover_comes, discover_ack_comes, prep_comes, prep_ack_comes, export_comes, export_ack_comes, finish_comes, cancel_comes, query_comes, repeats, journaled_by, restarts, changed}
+use Rattle.export_machine.specs.Step.Event.{Begin, End, Start, Deliver, Froze, Notify, Abort, Stop, Restart, Ask}
+use Rattle.export_machine.specs.View.{IsReached, IsAnswer}
+use Rattle.export_machine.specs.Kept.{world_of, indexes_of, IsKept, IsIndexed, Indexes, has_room, has_places, has_list_places, has_spare, is_spare, entered_at, is_ready, is_ready_entry, is_ready_list, state_of}
+use Rattle.export_machine.proofs.Tables.{same_or_other}
+use Rattle.export_machine.proofs.Views.{push_same, push_other, length_push, map_at_length}
+use Rattle.export_machine.proofs.Frame.{Framed, unframed, delivered_frame}
+use Rattle.export_machine.proofs.Reached.{reached_step}
+use Rattle.export_machine.proofs.Accepted.{room_left, made_few, both_parts}
+use Rattle.export_machine.proofs.Starting.{start_distinct}
+
+-- at most one message more
+pub record Sends (w v : World) : Type 0 where
+  pub sent : length v.sent ≤ length w.sent + 1
+  pub events : v.events ≡ w.events
+
+none : (w v : World) → v.sent ≡ w.sent → v.events ≡ w.events → Sends w v
+none w v s e = record { sent = rw s (omega arith); events = e }
+
+one : (w v : World) (m : Message) → v.sent ≡ w.sent ++ m ∷ [] → v.events ≡ w.events → Sends w v
+one w v m s e = record { sent = rw (s, length_push w.sent m) (omega arith); events = e }
+
+module _ (w : World) (x : ℕ) where
+  discover_sends : (s : ImporterState) → Sends w (discover_comes w x s).world
+  discover_sends Unknown = one w _ _ refl refl
+  discover_sends Discovered = none w _ refl refl
+  discover_sends Prepared = none w _ refl refl
+  discover_sends Started = none w _ refl refl
+  discover_sends Imported = none w _ refl refl
+  discover_sends Dropped = none w _ refl refl
+
+  discover_ack_sends : (s : ExporterState) → Sends w (discover_ack_comes w x s).world
+  discover_ack_sends Discovering = none w _ refl refl
+  discover_ack_sends Freezing = none w _ refl refl
+  discover_ack_sends Preparing = none w _ refl refl
+  discover_ack_sends Exporting = none w _ refl refl
+  discover_ack_sends Logged = none w _ refl refl
+  discover_ack_sends Done = none w _ refl refl
+  discover_ack_sends Aborted = none w _ refl refl
+
+  prep_sends : (s : ImporterState) → Sends w (prep_comes w x s).world
+  prep_sends Unknown = none w _ refl refl
+  prep_sends Discovered = one w _ _ refl refl
+  prep_sends Prepared = none w _ refl refl
+  prep_sends Started = none w _ refl refl
+  prep_sends Imported = none w _ refl refl
+  prep_sends Dropped = none w _ refl refl
+
+  prep_ack_sends : (s : ExporterState) → Sends w (prep_ack_comes w x s).world
+  prep_ack_sends Discovering = none w _ refl refl
+  prep_ack_sends Freezing = none w _ refl refl
+  prep_ack_sends Preparing = one w _ _ refl refl
+  prep_ack_sends Exporting = none w _ refl refl
+  prep_ack_sends Logged = none w _ refl refl
+  prep_ack_sends Done = none w _ refl refl
+  prep_ack_sends Aborted = none w _ refl refl
+
+  export_sends : (s : ImporterState) → Sends w (export_comes w x s).world
+  export_sends Unknown = none w _ refl refl
+  export_sends Discovered = none w _ refl refl
+  export_sends Prepared = one w _ _ refl refl
+  export_sends Started = none w _ refl refl
+  export_sends Imported = none w _ refl refl
+  export_sends Dropped = none w _ refl refl
+
+  export_ack_sends : (s : ExporterState) → Sends w (export_ack_comes w x s).world
+  export_ack_sends Discovering = none w _ refl refl
+  export_ack_sends Freezing = none w _ refl refl
+  export_ack_sends Preparing = none w _ refl refl
+  export_ack_sends Exporting = none w _ refl refl
+  export_ack_sends Logged = none w _ refl refl
+  export_ack_sends Done = none w _ refl refl
+  export_ack_sends Aborted = none w _ refl refl
+
+  finish_sends : (s : ImporterState) → Sends w (finish_comes w x s).world
+  finish_sends Unknown = none w _ refl refl
+  finish_sends Discovered = none w _ refl refl
+  finish_sends Prepared = none w _ refl refl
+  finish_sends Started = none w _ refl refl
+  finish_sends Imported = none w _ refl refl
+  finish_sends Dropped = none w _ refl refl
+
+  cancel_sends : (s : ImporterState) → Sends w (cancel_comes w x s).world
+  cancel_sends Unknown = none w _ refl refl
+  cancel_sends Discovered = none w _ refl refl
+  cancel_sends Prepared = none w _ refl refl
+  cancel_sends Started = none w _ refl refl
+  cancel_sends Imported = none w _ refl refl
+  cancel_sends Dropped = none w _ refl refl
+
+  query_sends : (s : ExporterState) → Sends w (query_comes w x s).world
+  query_sends Discovering = none w _ refl refl
+  query_sends Freezing = none w _ refl refl
+  query_sends Preparing = none w _ refl refl
+  query_sends Exporting = none w _ refl refl
+  query_sends Logged = none w _ refl refl
+  query_sends Done = one w _ _ refl refl
+  query_sends Aborted = one w _ _ refl refl
+
+module _ (w : World) where
+  comes_sends : (m : Message) → Sends w (comes w m).world
+  comes_sends (Discover x) = discover_sends w x (importer_of w x)
+  comes_sends (DiscoverAck x) = discover_ack_sends w x (exporter_of w x)
+  comes_sends (Prep x) = prep_sends w x (importer_of w x)
+  comes_sends (PrepAck x) = prep_ack_sends w x (exporter_of w x)
+  comes_sends (Message.Export x) = export_sends w x (importer_of w x)
+  comes_sends (ExportAck x) = export_ack_sends w x (exporter_of w x)
+  comes_sends (Finish x) = finish_sends w x (importer_of w x)
+  comes_sends (Cancel x) = cancel_sends w x (importer_of w x)
+  comes_sends (Query x) = query_sends w x (exporter_of w x)
+
+  either_sends : (b : Bool) (o : Outcome) → Sends w o.world → Sends w (cond b (ignored w) o).world
+  either_sends true o s = none w w refl refl
+  either_sends false o s = s
+
+  delivered_sends : (o : Option Message) → Sends w (delivered w o).world
+  delivered_sends None = none w w refl refl
+  delivered_sends (Some m) = either_sends (is_stopped w (receiver w m)) (comes w m) (comes_sends m)
+
+-- what is kept of a world beside the invariant of exports
+pub record Bounded (w : World) : Type 0 where
+  pub distinct : (x : ℕ) → repeats (order_in w.orders x).dirs ≡ true → ⊥
+  pub sent : length w.sent ≤ w.events
+  pub tickets : length w.tickets ≤ w.events
+  pub within : length w.parents ≤ w.limit
+
+-- orders and parents stay
+steady : (w v : World) → Bounded w → Sends w v → v.orders ≡ w.orders → length v.tickets ≤ length w.tickets + 1 → length v.parents ≡ length w.parents → v.limit ≡ w.limit → Bounded (counted v)
+steady w v b s o t p l = record {
+  distinct = λ x h. b.distinct x (ap (λ (os : List Order). repeats (order_in os x).dirs) (sym o) ∙ h);
+  sent = omega (arith, s.sent, s.events, b.sent);
+  tickets = omega (arith, t, s.events, b.tickets);
+  within = rw (p, l) b.within;
+}
+
+framed : (w v : World) → Bounded w → Sends w v → Framed w v → Bounded (counted v)
+framed w v b s f = steady w v b s f.orders (rw f.tickets (omega arith)) (ap length f.parents) f.limit
+
+module _ (w : World) (b : Bounded w) where
+  made_bounded : (p : ℕ) → length w.parents < w.limit → (o : Option ℕ) → Bounded (counted (record (journaled_by w o (JournalEntry.Made (length w.parents))) { parents = w.parents ++ Some p ∷ []; named = w.named ++ o ∷ [] }))
+  made_bounded p l None = record { distinct = b.distinct; sent = omega (arith, b.sent); tickets = omega (arith, b.tickets); within = rw (length_push w.parents (Some p)) (omega arith) }
+  made_bounded p l (Some a) = record { distinct = b.distinct; sent = omega (arith, b.sent); tickets = omega (arith, b.tickets); within = rw (length_push w.parents (Some p)) (omega arith) }
+
+  gone_bounded : (d : ℕ) (o : Option ℕ) → Bounded (counted (record (journaled_by w o (JournalEntry.Gone d)) { parents = set w.parents d None; named = set w.named d None }))
+  gone_bounded d None = record { distinct = b.distinct; sent = omega (arith, b.sent); tickets = omega (arith, b.tickets); within = rw (length-set w.parents d None) b.within }
+  gone_bounded d (Some a) = record { distinct = b.distinct; sent = omega (arith, b.sent); tickets = omega (arith, b.tickets); within = rw (length-set w.parents d None) b.within }
+
+  restart_bounded : (r : ℕ) (c : Bool) → Bounded (counted (cond c (changed (restarts w r)) (ignored w)).world)
+  restart_bounded r true = steady w (restarts w r) b (none w _ refl refl) refl (omega arith) refl refl
+  restart_bounded r false = steady w w b (none w w refl refl) refl (omega arith) refl refl
+
+  pub happens_bounded : (e : Event) → refusal w e ≡ None → Bounded (counted (happens w e).world)
+  unfolding happens
+  happens_bounded (Event.Made p) h = made_bounded p (made_few w p h) (authority w p)
+  happens_bounded (Event.Gone d) h = gone_bounded d (authority w d)
+  happens_bounded (Begin r d) h = steady w _ b (none w _ refl refl) refl (rw (length_push w.tickets (Some (record { rank = r; dir = d }))) (omega arith)) refl refl
+  happens_bounded (End t) h = steady w _ b (none w _ refl refl) refl (rw (length-set w.tickets t None) (omega arith)) refl refl
+  happens_bounded (Start f t ds) h = record {
+    distinct = λ x k. elim (same_or_other x (length w.orders)) [
+      | inl e ↦ absurd (new (ap (λ (y : ℕ). repeats (get_or (w.orders ++ record { from = f; to = t; dirs = ds } ∷ []) y no_order).dirs) (sym e) ∙ k))
+      | inr n ↦ b.distinct x (ap (λ (o : Order). repeats o.dirs) (sym (push_other w.orders (record { from = f; to = t; dirs = ds }) no_order x n)) ∙ k)
+    ];
+    sent = rw (length_push w.sent (Discover (length w.orders))) (omega (arith, b.sent));
+    tickets = omega (arith, b.tickets);
+    within = b.within;
+  }
+    where
+      new : repeats (get_or (w.orders ++ record { from = f; to = t; dirs = ds } ∷ []) (length w.orders) no_order).dirs ≡ true → ⊥
+      new k = differ (sym (ap (λ (o : Order). repeats o.dirs) (push_same w.orders (record { from = f; to = t; dirs = ds }) no_order)) ∙ k) (start_distinct w f t ds h)
+        where
+          differ : repeats ds ≡ true → repeats ds ≡ false → ⊥
+          differ i j = cc
+  happens_bounded (Deliver k) h = framed w _ b (delivered_sends w (slice_get w.sent k)) (delivered_frame w (slice_get w.sent k))
+  happens_bounded (Froze x) h = steady w _ b (one w _ _ refl refl) refl (omega arith) refl refl
+  happens_bounded (Notify x) h = steady w _ b (one w _ _ refl refl) refl (omega arith) refl refl
+  happens_bounded (Abort x) h = steady w _ b (one w _ _ refl refl) refl (omega arith) refl refl
+  happens_bounded (Stop r) h = steady w _ b (none w _ refl refl) refl (rw (map_at_length _ w.tickets) (omega arith)) refl refl
+  happens_bounded (Restart r) h = restart_bounded r (is_stopped w r)
+  happens_bounded (Ask x) h = steady w _ b (one w _ _ refl refl) refl (omega arith) refl refl
+
+module _ (w : World) where
+  journaled_events : (o : Option ℕ) (e : JournalEntry) → (journaled_by w o e).events ≡ w.events
+  journaled_events None e = refl
+  journaled_events (Some r) e = refl
+
+  restart_events : (r : ℕ) (c : Bool) → (cond c (changed (restarts w r)) (ignored w)).world.events ≡ w.events
+  restart_events r true = refl
+  restart_events r false = refl
+
+  pub happens_events : (e : Event) → (happens w e).world.events ≡ w.events
+  unfolding happens
+  happens_events (Event.Made p) = journaled_events (authority w p) (JournalEntry.Made (length w.parents))
+  happens_events (Event.Gone d) = journaled_events (authority w d) (JournalEntry.Gone d)
+  happens_events (Begin r d) = refl
+  happens_events (End t) = refl
+  happens_events (Start f t ds) = refl
+  happens_events (Deliver k) = (delivered_sends w (slice_get w.sent k)).events
+  happens_events (Froze x) = refl
+  happens_events (Notify x) = refl
+  happens_events (Abort x) = refl
+  happens_events (Stop r) = refl
+  happens_events (Restart r) = restart_events r (is_stopped w r)
+  happens_events (Ask x) = refl
+
+-- answers
+
+pub answer_accepted : (w : World) (e : Event) → refusal w e ≡ None → step w e ≡ (Ok (happens w e).reply, counted (happens w e).world)
+unfolding step
+answer_accepted w e h = rw h refl
+
+pub answer_refused : (w : World) (e : Event) (r : StepError) → refusal w e ≡ Some r → step w e ≡ (Err r, w)
+unfolding step
+answer_refused w e r h = rw h refl
+
+-- after an accepted event
+module _ (old new : Records) (e : Event) (reply : Reply) (kept : IsKept old) (accepted : refusal (world_of old) e ≡ None)
+    (effect : happens (world_of old) e ≡ record { reply = reply; world = world_of new }) (indexed : IsIndexed (world_of new) (indexes_of new)) where
+  happened : (happens (world_of old) e).world ≡ world_of new
+  happened = ap (λ (o : Outcome). o.world) effect
+
+  replied : (happens (world_of old) e).reply ≡ reply
+  replied = ap (λ (o : Outcome). o.reply) effect
+
+  pub stepped : step (world_of old) e ≡ (Ok reply, counted (world_of new))
+  stepped = answer_accepted (world_of old) e accepted ∙ rw (happened, replied) refl
+
+  bounded : Bounded (counted (world_of new))
+  bounded = subst (λ (v : World). Bounded (counted v)) happened
+      (happens_bounded (world_of old) (record { distinct = kept.distinct; sent = kept.sent; tickets = kept.tickets; within = kept.within }) e accepted)
+
+  events_same : new.events ≡ old.events
+  events_same = ap (λ (v : World). v.events) (sym happened) ∙ happens_events (world_of old) e
+
+  counted_indexed : IsIndexed (counted (world_of new)) (indexes_of new)
+  unfolding authority open_export
+  counted_indexed = record {
+    owners = indexed.owners;
+    opened = indexed.opened;
+    running = indexed.running;
+    children = indexed.children;
+    owner_places = indexed.owner_places;
+    opened_places = indexed.opened_places;
+    running_places = indexed.running_places;
+    children_places = indexed.children_places;
+  }
+
+  pub answered_step : IsAnswer (world_of old) e (Ok reply) (world_of (record new { events = new.events + 1 }))
+  answered_step = stepped
+
+  pub kept_step : IsKept (record new { events = new.events + 1 })
+  kept_step = record {
+    reached = subst IsReached (ap (λ (p : Result Reply StepError × World). p.1) stepped) (reached_step (world_of old) kept.reached e);
+    indexed = counted_indexed;
+    distinct = bounded.distinct;
+    sent = bounded.sent;
+    tickets = bounded.tickets;
+    counted = (let room : old.events < 1048576 = room_left (world_of old) e accepted in let same : new.events ≡ old.events = events_same in omega arith);
+    within = bounded.within;
+  }
+
+-- memory
+
+pub on_ok : {A E : Type 0} {P Q : Type 0} (r : Result A E) → (P → Q) → OnOk r P → OnOk r Q
+on_ok (Ok a) f h = f h
+on_ok (Err e) f h = h
+
+-- what is kept speaks of the lists alone
+pub kept_same : (old new : Records) → world_of new ≡ world_of old → indexes_of new ≡ indexes_of old → IsKept old → IsKept new
+kept_same old new w i k = record {
+  reached = rw w k.reached;
+  indexed = rw (w, i) k.indexed;
+  distinct = λ x h. k.distinct x (ap (λ (v : World). repeats (order_in v.orders x).dirs) (sym w) ∙ h);
+  sent = bound (λ (v : World). length v.sent) (λ (v : World). v.events) k.sent;
+  tickets = bound (λ (v : World). length v.tickets) (λ (v : World). v.events) k.tickets;
+  counted = bound (λ (v : World). v.events) (λ (v : World). 1048576) k.counted;
+  within = bound (λ (v : World). length v.parents) (λ (v : World). v.limit) k.within;
+}
+  where
+    bound : (f g : World → ℕ) → f (world_of old) ≤ g (world_of old) → f (world_of new) ≤ g (world_of new)
+    bound f g h = (let a : f (world_of new) ≡ f (world_of old) = ap f w in let b : g (world_of new) ≡ g (world_of old) = ap g w in omega arith)
+
+pub list_places : (old : Records) (e : Event) (new : Records) → new ≡ record old { journals = new.journals } → has_list_places new e ≡ has_list_places old e
+list_places old e new h = ap (λ (r : Records). has_list_places r e) h ∙ same e
+  where
+    same : (f : Event) → has_list_places (record old { journals = new.journals }) f ≡ has_list_places old f
+    same (Event.Made p) = refl
+    same (Event.Gone d) = refl
+    same (Begin r d) = refl
+    same (End t) = refl
+    same (Start f t ds) = refl
+    same (Deliver k) = refl
+    same (Froze x) = refl
+    same (Notify x) = refl
+    same (Abort x) = refl
+    same (Stop r) = refl
+    same (Restart r) = refl
+    same (Ask x) = refl
+
+pub room_parts : (r : Records) (e : Event) → has_room r e ≡ true → (has_places r.journals.items (entered_at (world_of r) e) ≡ true) × (has_list_places r e ≡ true)
+unfolding has_room
+room_parts r e h = both_parts _ _ h
+
+-- the room that a contract sees is the lists' own
+places_are : {A : Type 0} (js : List (Vec JournalEntry A)) (r : ℕ) → get_or (map (λ j. has_spare j) js) r true ≡ is_spare (slice_get js r)
+places_are [] zero = refl
+places_are [] (suc r) = refl
+places_are (j ∷ js) zero = refl
+places_are (j ∷ js) (suc r) = places_are js r
+
+pub ready_is : (r : Records) (e : Event) → is_ready (state_of r) e ≡ has_room r e
+unfolding is_ready has_room
+ready_is r e = both (is_ready_entry (state_of r).room (entered_at (world_of r) e)) (has_places r.journals.items (entered_at (world_of r) e)) (is_ready_list (state_of r).room e) (has_list_places r e) (entry (entered_at (world_of r) e)) (lists e)
+  where
+    both : (a b c d : Bool) → a ≡ b → c ≡ d → (a && c) ≡ (b && d)
+    both a b c d h k = rw (h, k) refl
+
+    entry : (o : Option ℕ) → is_ready_entry (state_of r).room o ≡ has_places r.journals.items o
+    entry None = refl
+    entry (Some k) = places_are r.journals.items k
+
+    lists : (f : Event) → is_ready_list (state_of r).room f ≡ has_list_places r f
+    lists (Event.Made p) = refl
+    lists (Event.Gone d) = refl
+    lists (Begin k d) = refl
+    lists (End t) = refl
+    lists (Start f t ds) = refl
+    lists (Deliver k) = refl
+    lists (Froze x) = refl
+    lists (Notify x) = refl
+    lists (Abort x) = refl
+    lists (Stop k) = refl
+    lists (Restart k) = refl
+    lists (Ask x) = refl
+
+pub grown_room : (old mid new : Records) (e : Event) (rank : Option ℕ) → rank ≡ entered_at (world_of old) e → world_of new ≡ world_of old → new.journals ≡ mid.journals →
+    has_places mid.journals.items rank ≡ true → has_list_places new e ≡ true → has_room new e ≡ true
+unfolding has_room
+grown_room old mid new e rank r w j p l = rw (l, w, ← r, j, p) refl

@@ -1,0 +1,96 @@
+-- What holds of a world that some list of events leads to.
+use Rattle.std.proofs.Common.{◌≡◌, ℕ, Bool, true, false, ◌&&◌, not, eqb, List, [], ◌∷◌, ◌++◌, length, Some, None, refl, sym, ap, ◌∙◌, subst, inl, inr, ◌⊎◌, arith}
+use Rattle.std.proofs.Math.Logic.{∥∥₁_elim, ∥∥₁_map}
+use Rattle.export_machine.specs.declared.journal.JournalEntry.{JournalEntry}
+use Rattle.export_machine.specs.Cluster.{World}
+use Rattle.export_machine.specs.Authority.{is_inside, from_of, named_of, has, owns, IsAuthority, is_authority, authority, serves, any_below, first_below, is_held_in}
+use Rattle.export_machine.specs.Step.{Event, step, run, start}
+use Rattle.export_machine.specs.View.{IsReached}
+use Rattle.export_machine.specs.Promises.{IsTheAuthority, OneAuthority, ServedByAuthority, RequestsAtAuthority, IsBetweenLogAndNotify, MapNamed}
+use Rattle.export_machine.proofs.Tables.{same_or_other}
+use Rattle.export_machine.proofs.Safe.{Safe, either}
+use Rattle.export_machine.proofs.Lookups.{and_true, same_number, itself, holds_authority, authority_is, one_authority, first_some, first_none, inside_near}
+use Rattle.export_machine.proofs.Theorem.{run_keeps, start_safe, safe_named}
+use Rattle.export_machine.proofs.Authorities.{tests_authority, found_or_not}
+use Rattle.export_machine.proofs.Walks.{authority_there}
+
+run_more : (es : List Event) (w : World) (e : Event) → run w (es ++ e ∷ []) ≡ (step (run w es) e).1
+run_more [] w e = refl
+run_more (f ∷ es) w e = run_more es (step w f).1 e
+
+-- a step leads to one more
+pub reached_step : (w : World) → IsReached w → (e : Event) → IsReached (step w e).1
+reached_step w h e = ∥∥₁_map h (λ r. (r.0, r.1, r.2 ++ e ∷ [], r.3, run_more r.2 (start r.0 r.1) e ∙ ap (λ (v : World). (step v e).1) r.4))
+
+pub by_safe : (w : World) → IsReached w → (Safe w → ⊥) → ⊥
+by_safe w h k = ∥∥₁_elim h (λ x y. absurd x) (λ r. k (subst Safe r.4 (run_keeps r.2 (start r.0 r.1) (start_safe r.0 r.1 r.3))))
+
+module _ (w : World) (reached : IsReached w) where
+  the_one : (r d : ℕ) → IsAuthority w r d → IsTheAuthority w r d
+  the_one r d a = (a, λ s b. elim (same_or_other s r) [ inl e ↦ e | inr n ↦ absurd (by_safe w reached (λ safe. n (one_authority w safe s r d b a))) ])
+
+  pub reached_authority : OneAuthority w
+  reached_authority d p = elim (found_or_not (authority w d)) [
+    | inr f ↦ (f.0, the_one f.0 d (authority_is w d f.0 f.1).1)
+    | inl n ↦ absurd (by_safe w reached (λ safe. cc (n, (authority_there w safe d p).1)))
+  ]
+
+  pub reached_served : ServedByAuthority w
+  unfolding serves
+  reached_served r d h = the_one r d (inl (and_true (owns w r d) (not (any_below (length w.orders) (is_held_in w r d))) h).0)
+
+  pub reached_requests : RequestsAtAuthority w
+  reached_requests t q h = elim (either (owns w q.rank q.dir)) [
+    | inl o ↦ the_one q.rank q.dir (inl o)
+    | inr f ↦ absurd (by_safe w reached (λ safe. cc (safe.running.stands t q h, f)))
+  ]
+
+  is_between : ℕ → ℕ → ℕ → Bool
+  is_between r d x = is_inside w x d && (eqb (from_of w x) r && (has w r (JournalEntry.Exported x) && not (has w r (JournalEntry.Notified x))))
+
+  found_between : (r d x : ℕ) → is_between r d x ≡ true → IsBetweenLogAndNotify w r d
+  unfolding is_between
+  found_between r d x h =
+      let a = and_true (is_inside w x d) (eqb (from_of w x) r && (has w r (JournalEntry.Exported x) && not (has w r (JournalEntry.Notified x)))) h in
+      let b = and_true (eqb (from_of w x) r) (has w r (JournalEntry.Exported x) && not (has w r (JournalEntry.Notified x))) a.1 in
+      let c = and_true (has w r (JournalEntry.Exported x)) (not (has w r (JournalEntry.Notified x))) b.1 in
+      (x, a.0, same_number (from_of w x) r b.0, c.0, untrue (has w r (JournalEntry.Notified x)) c.1)
+    where
+      untrue : (b : Bool) → not b ≡ true → b ≡ false
+      untrue b k = grind arith
+
+  tests_between : (r d : ℕ) (b : IsBetweenLogAndNotify w r d) → is_between r d b.0 ≡ true
+  unfolding is_between
+  tests_between r d b = rw (b.1, b.2, b.3, b.4, itself r) refl
+
+  pub reached_named : MapNamed w
+  reached_named d p = elim (found_or_not (named_of w d)) [
+    | inl n ↦ absurd (by_safe w reached (λ safe. cc (n, (safe_named w safe d p).1)))
+    | inr f ↦ (
+      f.0,
+      f.1,
+      elim (either (is_authority w f.0 d)) [
+        | inl a ↦ inl (holds_authority w f.0 d a)
+        | inr unknown ↦ inr (elim (found_or_not (first_below (length w.orders) (is_between f.0 d))) [
+          | inr g ↦ found_between f.0 d g.0 (first_some (length w.orders) (is_between f.0 d) g.0 g.1).1
+          | inl n ↦ absurd (by_safe w reached (λ safe. neither f.0 f.1 unknown n (safe_named w safe d p)))
+        ])
+      ],
+    )
+  ]
+    where
+      same : (a b : ℕ) → Some a ≡ Some b → a ≡ b
+      same a b e = cc
+
+      neither : (r : ℕ) → named_of w d ≡ Some r → is_authority w r d ≡ false → first_below (length w.orders) (is_between r d) ≡ None →
+          (s : ℕ) × (named_of w d ≡ Some s) × (IsAuthority w s d ⊎ IsBetweenLogAndNotify w s d) → ⊥
+      neither r e unknown n m = go (m.2)
+        where
+          here : m.0 ≡ r
+          here = same m.0 r (sym m.1 ∙ e)
+
+          go : IsAuthority w m.0 d ⊎ IsBetweenLogAndNotify w m.0 d → ⊥
+          go (inl a) = cc (tests_authority w m.0 d a, rw (← here) at unknown)
+          go (inr b) =
+              let t : is_between m.0 d b.0 ≡ true = tests_between m.0 d b in
+              cc (rw here at t, first_none (length w.orders) (is_between r d) n b.0 (inside_near w b.0 d b.1))

@@ -1,0 +1,19 @@
+use Rattle.std.proofs.Common.{◌≡◌, None, true, refl, sym, ap, ◌∙◌, subst}
+use Rattle.export_machine.specs.View.{IsReached}
+use Rattle.export_machine.specs.Promises.{KeepsAuthority}
+use Rattle.export_machine.specs.Step.{refusal}
+use Rattle.export_machine.specs.Kept.{State, event_of, is_ready, world_of}
+use Rattle.export_machine.proofs.Bounds.{ready_is}
+use Rattle.export_machine.proofs.Runs.{reached_promised, reached_kept}
+use Rattle.export_machine.proofs.cluster.Cluster.apply.Goals as goal
+
+pub returns-clause-ready : goal.returns-clause-ready
+returns-clause-ready c = λ h r.
+    c.apply.ensures.ready (ap (λ (s : State). refusal s.world (event_of c.args.event)) c.self.view_is ∙ h)
+    (sym (ready_is c.self.inside.records (event_of c.args.event)) ∙ (ap (λ (s : State). is_ready s (event_of c.args.event)) c.self.view_is ∙ r))
+
+pub returns-clause-promised : goal.returns-clause-promised
+returns-clause-promised c = reached_promised (world_of c.apply.new.self) c.apply.ensures.kept.reached
+
+pub returns-clause-kept : goal.returns-clause-kept
+returns-clause-kept c = subst (λ (s : State). KeepsAuthority s.world (event_of c.args.event)) c.self.view_is (reached_kept (world_of c.self.inside.records) c.self.invariant.reached (event_of c.args.event))

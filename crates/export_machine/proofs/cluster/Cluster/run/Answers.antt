@@ -1,0 +1,17 @@
+use Rattle.std.proofs.Common.{◌≡◌, ◌<◌, ◌++◌, ◌∷◌, [], length, map, take, refl, sym, ap, ◌∙◌, subst, arith}
+use Rattle.export_machine.specs.View.{AreAnswers}
+use Rattle.export_machine.specs.Kept.{event_of}
+use Rattle.export_machine.proofs.Runs.{answers_next, map_next}
+use Rattle.export_machine.proofs.cluster.Cluster.run.Goals as goal
+
+pub loop-event-preserved : goal.loop-event-preserved
+loop-event-preserved c =
+    let near : c.loop-event.event-index < length c.args.events.now = omega arith in
+    record {
+      answered = rw (map_next event_of c.args.events.now c.loop-event.event-index c.event-item.result near c.event-item.is, c.push_reserved.ensures.items)
+          (answers_next c.args.self.now.world c.loop-event.self.world c.apply_copy.new.self.world (map event_of (take c.loop-event.event-index c.args.events.now)) c.loop-event.answers.items
+          (event_of c.event-item.result) c.apply_copy.result c.loop-event.invariant.answered c.apply_copy.ensures);
+      promised = c.promised-in-loop-event.ensures;
+      count = omega arith;
+      room = omega arith;
+    }

@@ -1,0 +1,38 @@
+use Rattle.std.proofs.Common.{◌≡◌, ◌<◌, ℕ, zero, suc, List, [], ◌∷◌, true, false, ltb, length, get_or, Option, Some, None, refl, sym, ap, ◌∙◌, arith}
+use Rattle.std.specs.List.{slice_get}
+use Rattle.export_machine.specs.declared.message.Message.{Message}
+use Rattle.export_machine.specs.Step.{receiver}
+use Rattle.export_machine.specs.Kept.{world_of, about, addressed}
+use Rattle.export_machine.proofs.Found.{orders_by}
+use Rattle.export_machine.proofs.Accepted.{as_order, item_at, spare}
+use Rattle.export_machine.proofs.records.Records.addressed.Goals as goal
+
+none_past : (xs : List Message) (k : ℕ) → false ≡ ltb k (length xs) → slice_get xs k ≡ None
+none_past [] zero h = refl
+none_past [] (suc k) h = refl
+none_past (x ∷ xs) zero h = absurd (differ h)
+  where
+    differ : false ≡ ltb 0 (suc (length xs)) → ⊥
+    differ e = grind arith
+none_past (x ∷ xs) (suc k) h = none_past xs k (lower h)
+  where
+    lower : false ≡ ltb (suc k) (suc (length xs)) → false ≡ ltb k (length xs)
+    lower e = grind arith
+
+pub receiver-requires : goal.receiver-requires
+receiver-requires c =
+    let near : c.args.message < length c.args.self.now.sent.items = rw (← c.deref.ensures.value) (spare c.args.message (length c.deref.result.now) (sym c.in-Some.ensures.lookup.0)) in
+    let sent : slice_get c.args.self.now.sent.items c.args.message ≡ Some c.in-Some.message.now = item_at c.args.self.now.sent.items c.args.message c.in-Some.message.now near (rw c.deref.ensures.value at c.in-Some.ensures.lookup.1) in
+    as_order c.args.self.now.orders.items (about c.in-Some.message.now)
+    (orders_by (world_of c.args.self.now) c.requires.kept.reached (about c.in-Some.message.now) (length (world_of c.args.self.now).orders) (λ safe. safe.tables.known c.args.message c.in-Some.message.now sent))
+
+pub returns-in-Some : goal.returns-in-Some
+returns-in-Some c =
+    let near : c.args.message < length c.args.self.now.sent.items = rw (← c.deref.ensures.value) (spare c.args.message (length c.deref.result.now) (sym c.in-Some.ensures.lookup.0)) in
+    let sent : slice_get c.args.self.now.sent.items c.args.message ≡ Some c.in-Some.message.now = item_at c.args.self.now.sent.items c.args.message c.in-Some.message.now near (rw c.deref.ensures.value at c.in-Some.ensures.lookup.1) in
+    rw (sent, c.export.ensures, c.receiver.ensures) refl
+
+pub returns-in-None : goal.returns-in-None
+returns-in-None c =
+    let e : slice_get c.args.self.now.sent.items c.args.message ≡ None = none_past c.args.self.now.sent.items c.args.message (rw c.deref.ensures.value at c.in-None.ensures.lookup.0) in
+    rw e refl

@@ -1,0 +1,29 @@
+use Rattle.std.proofs.Common.{◌≡◌, ◌<◌, ◌≤◌, length, take, Some, None, sym, ap, ◌∙◌, subst, arith}
+use Rattle.export_machine.specs.Kept.{world_of}
+use Rattle.export_machine.proofs.Lists.{IsLeast, least_start, least_next, least_is, least_none, take_all}
+use Rattle.export_machine.proofs.records.Records.check_leaving.Goals as goal
+
+pub loop-dir-init : goal.loop-dir-init
+loop-dir-init c = least_start (world_of c.args.self.now) c.args.from
+
+pub loop-dir-preserved : goal.loop-dir-preserved
+loop-dir-preserved c =
+    let near : c.loop-dir.dir-index < length c.args.dirs.now = omega arith in
+    least_next (world_of c.args.self.now) c.args.from c.args.dirs.now c.loop-dir.dir-index c.dir-item.result c.loop-dir.least c.least_faulty-least.result near c.dir-item.is c.loop-dir.invariant
+    c.least_faulty-least.ensures.free c.least_faulty-least.ensures.faulty
+
+pub returns-in-Some : goal.returns-in-Some
+returns-in-Some c =
+    let past : length c.args.dirs.now ≤ c.loop-dir.dir-index = omega arith in
+    let l : IsLeast (world_of c.args.self.now) c.args.from c.args.dirs.now (Some c.in-Some.dir) =
+    subst (λ o. IsLeast (world_of c.args.self.now) c.args.from c.args.dirs.now o) c.in-Some.is
+    (subst (λ xs. IsLeast (world_of c.args.self.now) c.args.from xs c.loop-dir.least) (take_all c.args.dirs.now c.loop-dir.dir-index past) c.loop-dir.invariant) in
+    c.check_can_leave.ensures ∙ sym (least_is (world_of c.args.self.now) c.args.from c.args.dirs.now c.in-Some.dir c.requires.present l)
+
+pub returns-in-None : goal.returns-in-None
+returns-in-None c =
+    let past : length c.args.dirs.now ≤ c.loop-dir.dir-index = omega arith in
+    let l : IsLeast (world_of c.args.self.now) c.args.from c.args.dirs.now None =
+    subst (λ o. IsLeast (world_of c.args.self.now) c.args.from c.args.dirs.now o) c.in-None.is
+    (subst (λ xs. IsLeast (world_of c.args.self.now) c.args.from xs c.loop-dir.least) (take_all c.args.dirs.now c.loop-dir.dir-index past) c.loop-dir.invariant) in
+    sym (least_none (world_of c.args.self.now) c.args.from c.args.dirs.now l)

@@ -1,0 +1,51 @@
+use Rattle.std.proofs.Common.{◌≡◌, ◌<◌, ℕ, true, false, length, Some, refl, sym, ap, ◌∙◌, arith}
+use Rattle.std.specs.List.{slice_get}
+use Rattle.export_machine.specs.Authority.{is_stopped}
+use Rattle.export_machine.specs.Step.{happens, receiver}
+use Rattle.export_machine.specs.Step.Event.{Deliver}
+use Rattle.export_machine.specs.Kept.{world_of, has_room, entered_at, has_places, has_spare, receiver_of, about}
+use Rattle.export_machine.proofs.Found.{orders_by}
+use Rattle.export_machine.proofs.Accepted.{deliver_near, item_at, both_parts, room_left, as_order}
+use Rattle.export_machine.proofs.records.Records.deliver.Goals as goal
+
+pub index-message-requires : goal.index-message-requires
+index-message-requires c = let near : c.args.message < length c.args.self.now.sent.items = deliver_near (world_of c.args.self.now) c.args.message c.requires.accepted in omega arith
+
+pub receiver-requires : goal.receiver-requires
+receiver-requires c =
+    let sent : slice_get c.args.self.now.sent.items c.args.message ≡ Some c.index-message.result.now =
+    item_at c.args.self.now.sent.items c.args.message c.index-message.result.now (deliver_near (world_of c.args.self.now) c.args.message c.requires.accepted) c.index-message.ensures in
+    as_order c.args.self.now.orders.items (about c.index-message.result.now)
+    (orders_by (world_of c.args.self.now) c.requires.kept.reached (about c.index-message.result.now) (length (world_of c.args.self.now).orders) (λ safe. safe.tables.known c.args.message c.index-message.result.now sent))
+
+pub returns-then-is_stopped-clause-effect : goal.returns-then-is_stopped-clause-effect
+unfolding happens
+returns-then-is_stopped-clause-effect c =
+    let sent : slice_get c.args.self.now.sent.items c.args.message ≡ Some c.index-message.result.now =
+    item_at c.args.self.now.sent.items c.args.message c.index-message.result.now (deliver_near (world_of c.args.self.now) c.args.message c.requires.accepted) c.index-message.ensures in
+    let s : is_stopped (world_of c.args.self.now) (receiver (world_of c.args.self.now) c.index-message.result.now) ≡ true =
+    ap (is_stopped (world_of c.args.self.now)) (sym c.receiver.ensures) ∙ (sym c.is_stopped.ensures ∙ c.if-is_stopped.true) in
+    rw (sent, s) refl
+
+pub receive-requires : goal.receive-requires
+unfolding has_room entered_at
+receive-requires c =
+    let sent : slice_get c.args.self.now.sent.items c.args.message ≡ Some c.index-message.result.now =
+    item_at c.args.self.now.sent.items c.args.message c.index-message.result.now (deliver_near (world_of c.args.self.now) c.args.message c.requires.accepted) c.index-message.ensures in
+    let room : (has_places c.args.self.now.journals.items (receiver_of (world_of c.args.self.now) (slice_get c.args.self.now.sent.items c.args.message)) ≡ true) × (has_spare c.args.self.now.sent ≡ true) = both_parts _ _ c.requires.room in
+    record {
+      kept = c.requires.kept;
+      sent = (c.args.message, sent);
+      spare = room.1;
+      place = rw sent at room.0;
+      few = room_left (world_of c.args.self.now) (Deliver c.args.message) c.requires.accepted;
+    }
+
+pub returns-clause-effect : goal.returns-clause-effect
+unfolding happens
+returns-clause-effect c =
+    let sent : slice_get c.args.self.now.sent.items c.args.message ≡ Some c.index-message.result.now =
+    item_at c.args.self.now.sent.items c.args.message c.index-message.result.now (deliver_near (world_of c.args.self.now) c.args.message c.requires.accepted) c.index-message.ensures in
+    let s : is_stopped (world_of c.args.self.now) (receiver (world_of c.args.self.now) c.index-message.result.now) ≡ false =
+    ap (is_stopped (world_of c.args.self.now)) (sym c.receiver.ensures) ∙ (sym c.is_stopped.ensures ∙ c.if-is_stopped.false) in
+    rw (sent, s) c.receive.ensures.effect

@@ -1,0 +1,54 @@
+use Rattle.std.proofs.Common.{◌≡◌, ◌<◌, ℕ, zero, suc, List, [], ◌∷◌, length, get_or, Option, Some, None, sym, ap, ◌∙◌, refl, arith}
+use Rattle.export_machine.specs.declared.event.Request.{Request}
+use Rattle.export_machine.specs.Step.{happens}
+use Rattle.export_machine.specs.Step.Event.{End}
+use Rattle.export_machine.specs.Kept.{world_of, indexes_of}
+use Rattle.export_machine.proofs.Indexing.{end_indexed, end_runs, request_there}
+use Rattle.export_machine.proofs.Accepted.{end_ticket, end_near}
+use Rattle.export_machine.proofs.records.Records.end.Goals as goal
+
+ticket_at : (ts : List (Option Request)) (t : ℕ) (o : Option Request) → t < length ts → o ≡ get_or ts t o → get_or ts t None ≡ o
+ticket_at ts t o h e = any ts t o None h ∙ sym e
+  where
+    any : (us : List (Option Request)) (k : ℕ) (a b : Option Request) → k < length us → get_or us k b ≡ get_or us k a
+    any [] k a b l = absurd (omega arith)
+    any (u ∷ us) zero a b l = refl
+    any (u ∷ us) (suc k) a b l = any us k a b (omega arith)
+
+pub index-requires : goal.index-requires
+index-requires c = let near : c.args.ticket < length c.args.self.now.tickets.items = end_near (world_of c.args.self.now) c.args.ticket c.requires.accepted in omega arith
+
+pub returns-in_default-clause-effect : goal.returns-in_default-clause-effect
+returns-in_default-clause-effect c =
+    absurd (end_ticket (world_of c.args.self.now) c.args.ticket c.requires.accepted
+    (ticket_at c.args.self.now.tickets.items c.args.ticket c.index.result.now (end_near (world_of c.args.self.now) c.args.ticket c.requires.accepted) c.index.ensures ∙ c.in_default.is))
+
+pub index_mut-requires : goal.index_mut-requires
+index_mut-requires c =
+    let e : get_or c.args.self.now.tickets.items c.args.ticket None ≡ Some c.in-Some.request =
+    ticket_at c.args.self.now.tickets.items c.args.ticket c.index.result.now (end_near (world_of c.args.self.now) c.args.ticket c.requires.accepted) c.index.ensures ∙ c.in-Some.is in
+    let near : c.in-Some.request.dir < length c.args.self.now.parents.items = request_there (world_of c.args.self.now) c.requires.kept.reached c.args.ticket c.in-Some.request e in
+    let places : length c.args.self.now.running.items ≡ length c.args.self.now.parents.items = c.requires.kept.indexed.running_places in
+    omega (arith, c.number.ensures)
+
+pub overflow_sub-index_mut : goal.overflow_sub-index_mut
+overflow_sub-index_mut c =
+    let e : get_or c.args.self.now.tickets.items c.args.ticket None ≡ Some c.in-Some.request =
+    ticket_at c.args.self.now.tickets.items c.args.ticket c.index.result.now (end_near (world_of c.args.self.now) c.args.ticket c.requires.accepted) c.index.ensures ∙ c.in-Some.is in
+    let near : c.in-Some.request.dir < length c.args.self.now.parents.items = request_there (world_of c.args.self.now) c.requires.kept.reached c.args.ticket c.in-Some.request e in
+    end_runs (world_of c.args.self.now) (indexes_of c.args.self.now) c.args.ticket c.in-Some.request c.requires.kept.indexed e near c.index_mut.result.now (rw c.number.ensures at c.index_mut.ensures.value)
+
+pub index_mut-requires-2 : goal.index_mut-requires-2
+index_mut-requires-2 c = let near : c.args.ticket < length c.args.self.now.tickets.items = end_near (world_of c.args.self.now) c.args.ticket c.requires.accepted in omega arith
+
+pub returns-clause-effect : goal.returns-clause-effect
+unfolding happens
+returns-clause-effect c = refl
+
+pub returns-clause-indexed : goal.returns-clause-indexed
+returns-clause-indexed c =
+    let e : get_or c.args.self.now.tickets.items c.args.ticket None ≡ Some c.in-Some.request =
+    ticket_at c.args.self.now.tickets.items c.args.ticket c.index.result.now (end_near (world_of c.args.self.now) c.args.ticket c.requires.accepted) c.index.ensures ∙ c.in-Some.is in
+    let near : c.in-Some.request.dir < length c.args.self.now.parents.items = request_there (world_of c.args.self.now) c.requires.kept.reached c.args.ticket c.in-Some.request e in
+    rw c.number.ensures (end_indexed (world_of c.args.self.now) (indexes_of c.args.self.now) c.args.ticket c.in-Some.request c.requires.kept.indexed e near c.index_mut.result.now
+    (rw c.number.ensures at c.index_mut.ensures.value))

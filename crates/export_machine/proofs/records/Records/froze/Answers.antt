@@ -1,0 +1,28 @@
+use Rattle.std.proofs.Common.{◌≡◌, ◌<◌, length, sym, ap, ◌∙◌, refl, arith}
+use Rattle.std.proofs.lemmas.List.{length-map}
+use Rattle.export_machine.specs.Step.{happens}
+use Rattle.export_machine.specs.Step.Event.{Froze}
+use Rattle.export_machine.specs.Kept.{world_of, indexes_of, has_room}
+use Rattle.export_machine.proofs.Indexing.{froze_indexed}
+use Rattle.export_machine.proofs.Accepted.{both_parts, spare, room_left, as_exporter, froze_order, froze_state}
+use Rattle.export_machine.proofs.records.Records.froze.Goals as goal
+
+pub index_mut-requires : goal.index_mut-requires
+index_mut-requires c =
+    let near : c.args.export < length c.args.self.now.exporters.items = as_exporter (world_of c.args.self.now) c.requires.kept.reached c.args.export (froze_order (world_of c.args.self.now) c.args.export c.requires.accepted) in
+    omega arith
+
+pub send-requires-clause-room : goal.send-requires-clause-room
+unfolding has_room
+send-requires-clause-room c = spare _ _ (both_parts _ _ c.requires.room).1
+
+pub send-requires-clause-few : goal.send-requires-clause-few
+send-requires-clause-few c = let left = room_left (world_of c.args.self.now) (Froze c.args.export) c.requires.accepted in omega (arith, c.requires.kept.sent)
+
+pub returns-clause-effect : goal.returns-clause-effect
+unfolding happens
+returns-clause-effect c = rw (c.send.ensures.items, c.send.ensures.reply) refl
+
+pub returns-clause-indexed : goal.returns-clause-indexed
+returns-clause-indexed c =
+    froze_indexed (world_of c.args.self.now) (indexes_of c.args.self.now) c.args.export c.requires.kept.indexed (froze_state (world_of c.args.self.now) c.args.export c.requires.accepted) c.send.new.sent.items

@@ -1,0 +1,80 @@
+use Rattle.std.proofs.Common.{◌≡◌, ◌<◌, ℕ, cond, List, Option, length, get_or, map, Some, None, refl, sym, ap, ◌∙◌, subst, arith}
+use Rattle.std.proofs.lemmas.List.{length-map}
+use Rattle.export_machine.specs.Authority.{from_of, to_of, is_among, order_in}
+use Rattle.export_machine.specs.Step.{happens, map_at}
+use Rattle.export_machine.specs.Step.Event.{Notify}
+use Rattle.export_machine.specs.Kept.{world_of, indexes_of, order_of, has_room, entered_at}
+use Rattle.export_machine.proofs.Accepted.{spare, room_left, both_parts, as_exporter, as_order, exporter_rank, from_here, to_here, dirs_here, notify_order, notify_state}
+use Rattle.export_machine.proofs.Rows.{notify_there, notify_indexed}
+use Rattle.export_machine.proofs.records.Records.notify.Goals as goal
+
+pub index_mut-requires : goal.index_mut-requires
+index_mut-requires c =
+    let near : c.args.export < length c.args.self.now.exporters.items = as_exporter (world_of c.args.self.now) c.requires.kept.reached c.args.export (notify_order (world_of c.args.self.now) c.args.export c.requires.accepted) in
+    omega arith
+
+pub index-order-requires : goal.index-order-requires
+index-order-requires c =
+    let near : c.args.export < length c.args.self.now.orders.items = as_order c.args.self.now.orders.items c.args.export (notify_order (world_of c.args.self.now) c.args.export c.requires.accepted) in
+    omega arith
+
+pub enter-requires-clause-near : goal.enter-requires-clause-near
+enter-requires-clause-near c =
+    let order = notify_order (world_of c.args.self.now) c.args.export c.requires.accepted in
+    let near : c.args.export < length c.args.self.now.orders.items = as_order c.args.self.now.orders.items c.args.export order in
+    let t : from_of (world_of c.args.self.now) c.args.export ≡ c.index-order.result.now.from = from_here c.args.self.now.orders.items c.args.export c.index-order.result.now near c.index-order.ensures in
+    let k : c.index-order.result.now.from < length (world_of c.args.self.now).journals = rw (← t) (exporter_rank (world_of c.args.self.now) c.requires.kept.reached c.args.export order) in
+    omega (arith, length-map c.args.self.now.journals.items (λ j. j.items))
+
+pub enter-requires-clause-room : goal.enter-requires-clause-room
+unfolding has_room entered_at
+enter-requires-clause-room c =
+    let order = notify_order (world_of c.args.self.now) c.args.export c.requires.accepted in
+    let near : c.args.export < length c.args.self.now.orders.items = as_order c.args.self.now.orders.items c.args.export order in
+    let t : from_of (world_of c.args.self.now) c.args.export ≡ c.index-order.result.now.from = from_here c.args.self.now.orders.items c.args.export c.index-order.result.now near c.index-order.ensures in
+    rw (← t) (both_parts _ _ c.requires.room).0
+
+pub mark-requires : goal.mark-requires
+mark-requires c =
+    let order = notify_order (world_of c.args.self.now) c.args.export c.requires.accepted in
+    let near : c.args.export < length c.args.self.now.orders.items = as_order c.args.self.now.orders.items c.args.export order in
+    let f : (order_in (map order_of c.args.self.now.orders.items) c.args.export).dirs ≡ c.deref.result.now =
+    dirs_here c.args.self.now.orders.items c.args.export c.index-order.result.now near c.index-order.ensures ∙ sym c.deref.ensures.value in
+    record {
+      near = λ d h. notify_there (world_of c.args.self.now) c.requires.kept.reached c.args.export (notify_state (world_of c.args.self.now) c.args.export c.requires.accepted) d (ap (λ (ds : List ℕ). is_among ds d) f ∙ h);
+    }
+
+pub send-requires-clause-room : goal.send-requires-clause-room
+unfolding has_room entered_at
+send-requires-clause-room c = spare _ _ (both_parts _ _ c.requires.room).1
+
+pub send-requires-clause-few : goal.send-requires-clause-few
+send-requires-clause-few c = let left = room_left (world_of c.args.self.now) (Notify c.args.export) c.requires.accepted in omega (arith, c.requires.kept.sent)
+
+pub returns-clause-effect : goal.returns-clause-effect
+unfolding happens
+returns-clause-effect c =
+    let order = notify_order (world_of c.args.self.now) c.args.export c.requires.accepted in
+    let near : c.args.export < length c.args.self.now.orders.items = as_order c.args.self.now.orders.items c.args.export order in
+    let t : from_of (world_of c.args.self.now) c.args.export ≡ c.index-order.result.now.from = from_here c.args.self.now.orders.items c.args.export c.index-order.result.now near c.index-order.ensures in
+    let u : to_of (world_of c.args.self.now) c.args.export ≡ c.index-order.result.now.to = to_here c.args.self.now.orders.items c.args.export c.index-order.result.now near c.index-order.ensures in
+    let f : (order_in (map order_of c.args.self.now.orders.items) c.args.export).dirs ≡ c.deref.result.now =
+    dirs_here c.args.self.now.orders.items c.args.export c.index-order.result.now near c.index-order.ensures ∙ sym c.deref.ensures.value in
+    let m : map_at (λ k old. cond (is_among (order_in (map order_of c.args.self.now.orders.items) c.args.export).dirs k) (Some (to_of (world_of c.args.self.now) c.args.export)) old) c.args.self.now.named.items ≡ c.mark.new.table.items =
+    ap (λ (ds : List ℕ). map_at (λ k old. cond (is_among ds k) (Some (to_of (world_of c.args.self.now) c.args.export)) old) c.args.self.now.named.items) f
+    ∙ (ap (λ (s : ℕ). map_at (λ k old. cond (is_among c.deref.result.now k) (Some s) old) c.args.self.now.named.items) u ∙ sym c.mark.ensures) in
+    rw (c.send.ensures.items, c.send.ensures.reply, c.enter.ensures.entered, ← t, ← m) refl
+
+pub returns-clause-indexed : goal.returns-clause-indexed
+returns-clause-indexed c =
+    let order = notify_order (world_of c.args.self.now) c.args.export c.requires.accepted in
+    let near : c.args.export < length c.args.self.now.orders.items = as_order c.args.self.now.orders.items c.args.export order in
+    let t : from_of (world_of c.args.self.now) c.args.export ≡ c.index-order.result.now.from = from_here c.args.self.now.orders.items c.args.export c.index-order.result.now near c.index-order.ensures in
+    let u : to_of (world_of c.args.self.now) c.args.export ≡ c.index-order.result.now.to = to_here c.args.self.now.orders.items c.args.export c.index-order.result.now near c.index-order.ensures in
+    let f : (order_in (map order_of c.args.self.now.orders.items) c.args.export).dirs ≡ c.deref.result.now =
+    dirs_here c.args.self.now.orders.items c.args.export c.index-order.result.now near c.index-order.ensures ∙ sym c.deref.ensures.value in
+    let m : map_at (λ k old. cond (is_among (order_in (map order_of c.args.self.now.orders.items) c.args.export).dirs k) (Some (to_of (world_of c.args.self.now) c.args.export)) old) c.args.self.now.named.items ≡ c.mark.new.table.items =
+    ap (λ (ds : List ℕ). map_at (λ k old. cond (is_among ds k) (Some (to_of (world_of c.args.self.now) c.args.export)) old) c.args.self.now.named.items) f
+    ∙ (ap (λ (s : ℕ). map_at (λ k old. cond (is_among c.deref.result.now k) (Some s) old) c.args.self.now.named.items) u ∙ sym c.mark.ensures) in
+    rw (c.enter.ensures.entered, ← t, ← m) (notify_indexed (world_of c.args.self.now) c.args.export (notify_state (world_of c.args.self.now) c.args.export c.requires.accepted)
+    (exporter_rank (world_of c.args.self.now) c.requires.kept.reached c.args.export order) c.send.new.sent.items c.requires.kept.reached (indexes_of c.args.self.now) c.requires.kept.indexed)

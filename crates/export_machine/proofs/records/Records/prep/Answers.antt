@@ -1,0 +1,15 @@
+use Rattle.std.proofs.Common.{◌≡◌, ◌<◌, length, refl, sym, ap, ◌∙◌, arith}
+use Rattle.export_machine.specs.Kept.{world_of, indexes_of}
+use Rattle.export_machine.specs.declared.message.Message.{Message}
+use Rattle.export_machine.specs.declared.importer.ImporterState.TheVariants.{Discovered}
+use Rattle.export_machine.specs.Authority.{importer_of}
+use Rattle.export_machine.proofs.Rows.{importer_indexed}
+use Rattle.export_machine.proofs.records.Records.prep.Goals as goal
+
+pub returns-in-Discovered : goal.returns-in-Discovered
+returns-in-Discovered c =
+    let e : importer_of (world_of c.args.self.now) c.args.export ≡ Discovered = sym c.importer.ensures ∙ c.in-Discovered.is in
+    record {
+      effect = rw (e, c.send.ensures.items, c.send.ensures.reply) refl;
+      indexed = importer_indexed (world_of c.args.self.now) (indexes_of c.args.self.now) c.requires.kept.indexed _ _;
+    }

@@ -1,0 +1,73 @@
+use Rattle.std.proofs.Common.{◌≡◌, ◌<◌, ℕ, List, [], ◌∷◌, ◌++◌, map, length, refl, sym, ap, ◌∙◌, arith}
+use Rattle.std.proofs.lemmas.List.{length-map}
+use Rattle.mds_types.specs.declared.order.Order.{Order as Moved}
+use Rattle.export_machine.specs.Authority.{is_among}
+use Rattle.export_machine.specs.Step.{happens}
+use Rattle.export_machine.specs.Kept.{world_of, indexes_of, has_room, order_of}
+use Rattle.export_machine.proofs.Starting.{start_there, start_few, start_indexed}
+use Rattle.export_machine.proofs.Accepted.{spare, both_parts}
+use Rattle.export_machine.proofs.records.Records.start.Goals as goal
+
+pub overflow_cast-export : goal.overflow_cast-export
+overflow_cast-export c =
+    let few : length (world_of c.args.self.now).orders < 65536 = start_few (world_of c.args.self.now) c.args.from c.args.to c.args.dirs.items c.requires.accepted in
+    let e : length (world_of c.args.self.now).orders ≡ length c.args.self.now.orders.items = length-map c.args.self.now.orders.items order_of in
+    omega arith
+
+pub mark-requires : goal.mark-requires
+mark-requires c =
+    record {
+      near = λ d h. rw c.requires.kept.indexed.opened_places
+          (start_there (world_of c.args.self.now) c.args.from c.args.to c.args.dirs.items c.requires.accepted d (ap (λ (ds : List ℕ). is_among ds d) (sym c.deref.ensures.value) ∙ h));
+    }
+
+pub push_reserved-requires : goal.push_reserved-requires
+unfolding has_room
+push_reserved-requires c = spare _ _ (both_parts _ _ (both_parts _ _ (both_parts _ _ (both_parts _ _ c.requires.room).1).0).0).0
+
+pub push_reserved-requires-2 : goal.push_reserved-requires-2
+unfolding has_room
+push_reserved-requires-2 c = spare _ _ (both_parts _ _ (both_parts _ _ (both_parts _ _ (both_parts _ _ c.requires.room).1).0).0).1
+
+pub push_reserved-requires-3 : goal.push_reserved-requires-3
+unfolding has_room
+push_reserved-requires-3 c = spare _ _ (both_parts _ _ (both_parts _ _ (both_parts _ _ c.requires.room).1).0).1
+
+pub push_reserved-requires-4 : goal.push_reserved-requires-4
+unfolding has_room
+push_reserved-requires-4 c = spare _ _ (both_parts _ _ (both_parts _ _ c.requires.room).1).1
+
+orders_pushed : (os : List Moved) (o : Moved) (ps : List Moved) → ps ≡ os ++ o ∷ [] → map order_of ps ≡ map order_of os ++ order_of o ∷ []
+orders_pushed os o ps e = ap (map order_of) e ∙ go os
+  where
+    go : (xs : List Moved) → map order_of (xs ++ o ∷ []) ≡ map order_of xs ++ order_of o ∷ []
+    go [] = refl
+    go (x ∷ xs) = ap (λ ys. order_of x ∷ ys) (go xs)
+
+pub returns-clause-effect : goal.returns-clause-effect
+unfolding happens
+returns-clause-effect c =
+    let n : length (map order_of c.args.self.now.orders.items) ≡ c.len-export.result = length-map c.args.self.now.orders.items order_of ∙ omega arith in
+    let m : length c.args.self.now.sent.items ≡ c.len-message.result = omega arith in
+    rw (
+      n,
+      m,
+      orders_pushed c.args.self.now.orders.items (record { from = c.args.from; to = c.args.to; dirs = c.args.dirs }) c.push_reserved.new.self.items c.push_reserved.ensures.items,
+      c.push_reserved-2.ensures.items,
+      c.push_reserved-3.ensures.items,
+      c.push_reserved-4.ensures.items,
+    ) refl
+
+pub returns-clause-indexed : goal.returns-clause-indexed
+returns-clause-indexed c =
+    let n : c.len-export.result ≡ length (map order_of c.args.self.now.orders.items) = omega arith ∙ sym (length-map c.args.self.now.orders.items order_of) in
+    rw (
+      orders_pushed c.args.self.now.orders.items (record { from = c.args.from; to = c.args.to; dirs = c.args.dirs }) c.push_reserved.new.self.items c.push_reserved.ensures.items,
+      c.push_reserved-2.ensures.items,
+      c.push_reserved-3.ensures.items,
+      c.push_reserved-4.ensures.items,
+      c.mark.ensures,
+      c.deref.ensures.value,
+      n,
+    )
+    (start_indexed (world_of c.args.self.now) c.args.from c.args.to c.args.dirs.items c.requires.accepted c.requires.kept.reached (indexes_of c.args.self.now) c.requires.kept.indexed)

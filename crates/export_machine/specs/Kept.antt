@@ -1,0 +1,233 @@
+-- What the tables of a cluster stand for, and what always holds of them.
+use Rattle.std.specs.Prelude.{◌≡◌, ◌≤◌, ◌<◌, ℕ, ◌+◌, suc, Bool, true, ◌&&◌, nat_lt, List, [], ◌∷◌, map, length, Option, None, Some, Result, Ok, Err, slice_get, slice_index_or, slice_set, vec_len, vec_capacity, Vec, if◌then◌else◌}
+use Rattle.export_machine.specs.Cluster.{Order, World}
+use Rattle.export_machine.specs.Authority.{authority, open_export, order_in, from_of, exporter_of, importer_of}
+use Rattle.export_machine.specs.Step.{Event, running_on, is_child, receiver, repeats, comes}
+use Rattle.export_machine.specs.View.{IsReached}
+use Rattle.export_machine.specs.declared.event.Event.{Event as Asked}
+use Rattle.export_machine.specs.declared.event.Reply.{Reply}
+use Rattle.export_machine.specs.declared.exporter.ExporterState.{ExporterState}
+use Rattle.export_machine.specs.declared.importer.ImporterState.{ImporterState}
+use Rattle.export_machine.specs.declared.journal.JournalEntry.{JournalEntry}
+use Rattle.export_machine.specs.declared.message.Message.{Message}
+use Rattle.export_machine.specs.declared.step_error.StepError.{StepError}
+use Rattle.export_machine.specs.declared.records.Records.{Records}
+use Rattle.mds_types.specs.declared.order.Order.{Order as Moved}
+
+abbrev pub event_of : Asked → Event
+event_of (Asked.Made parent) = Event.Made parent
+event_of (Asked.Gone dir) = Event.Gone dir
+event_of (Asked.Begin rank dir) = Event.Begin rank dir
+event_of (Asked.End ticket) = Event.End ticket
+event_of (Asked.Start from to dirs) = Event.Start from to dirs.items
+event_of (Asked.Deliver message) = Event.Deliver message
+event_of (Asked.Froze export) = Event.Froze export
+event_of (Asked.Notify export) = Event.Notify export
+event_of (Asked.Abort export) = Event.Abort export
+
+abbrev pub order_of : Moved → Order
+order_of o = record { from = o.from; to = o.to; dirs = o.dirs.items }
+
+abbrev pub world_of : Records → World
+world_of r = record {
+  limit = r.limit;
+  ranks = r.ranks;
+  parents = r.parents.items;
+  journals = map (λ journal. journal.items) r.journals.items;
+  orders = map order_of r.orders.items;
+  exporters = r.exporters.items;
+  importers = r.importers.items;
+  sent = r.sent.items;
+  tickets = r.tickets.items;
+  named = r.named.items;
+  stopped = r.stopped.items;
+  events = r.events;
+}
+
+-- The tables by directory, which the journals and states determine.
+
+pub record Indexes : Type 0 where
+  pub owners : List (Option ℕ)  -- its authority
+  pub opened : List (Option ℕ)  -- the open export that it is in
+  pub running : List ℕ  -- how many requests run on it
+  pub children : List ℕ  -- how many children it has
+
+abbrev pub indexes_of : Records → Indexes
+indexes_of r = record { owners = r.owners.items; opened = r.opened.items; running = r.running.items; children = r.children.items }
+
+-- how many places of a list pass the test
+abbrev pub count_at : {A : Type 0} → (ℕ → A → Bool) → List A → ℕ
+count_at test [] = 0
+count_at test (a ∷ rest) = (if test 0 a then 1 else 0) + count_at (λ k. test (suc k)) rest
+
+abbrev pub children_of : World → ℕ → ℕ
+children_of w d = count_at (is_child d) w.parents
+
+pub record IsIndexed (w : World) (i : Indexes) : Type 0 where
+  pub owners : (d : ℕ) → slice_index_or i.owners d None ≡ authority w d
+  pub opened : (d : ℕ) → slice_index_or i.opened d None ≡ open_export w d
+  pub running : (d : ℕ) → slice_index_or i.running d 0 ≡ running_on w (d ∷ [])
+  pub children : (d : ℕ) → slice_index_or i.children d 0 ≡ children_of w d
+  pub owner_places : length i.owners ≡ length w.parents
+  pub opened_places : length i.opened ≡ length w.parents
+  pub running_places : length i.running ≡ length w.parents
+  pub children_places : length i.children ≡ length w.parents
+
+-- some list of events led here, no message or ticket without an event, and the tables by directory are right
+pub record IsKept (r : Records) : Type 0 where
+  pub reached : IsReached (world_of r)
+  pub indexed : IsIndexed (world_of r) (indexes_of r)
+  pub distinct : (x : ℕ) → repeats (order_in (world_of r).orders x).dirs ≡ true → ⊥
+  pub sent : length r.sent.items ≤ r.events
+  pub tickets : length r.tickets.items ≤ r.events
+  pub counted : r.events ≤ 1048576
+  pub within : length r.parents.items ≤ r.limit
+
+-- why a call is refused, if it is
+abbrev pub cause_of : {A : Type 0} → Result A StepError → Option StepError
+cause_of (Ok a) = None
+cause_of (Err error) = Some error
+
+abbrev pub lesser : Option ℕ → ℕ → ℕ
+lesser None dir = dir
+lesser (Some other) dir = if nat_lt other dir then other else dir
+
+-- Room: where the lists of an event have a place each, the event asks for no memory.
+
+abbrev pub has_spare : {T A : Type 0} → Vec T A → Bool
+has_spare v = nat_lt (vec_len v) (vec_capacity v)
+
+abbrev pub is_spare : {A : Type 0} → Option (Vec JournalEntry A) → Bool
+is_spare None = true
+is_spare (Some journal) = has_spare journal
+
+-- the journal of this rank has a place
+abbrev pub has_place : {A : Type 0} → List (Vec JournalEntry A) → ℕ → Bool
+has_place journals rank = is_spare (slice_get journals rank)
+
+abbrev pub has_places : {A : Type 0} → List (Vec JournalEntry A) → Option ℕ → Bool
+has_places journals None = true
+has_places journals (Some rank) = has_place journals rank
+
+abbrev pub receiver_of : World → Option Message → Option ℕ
+receiver_of w None = None
+receiver_of w (Some message) = Some (receiver w message)
+
+-- the rank in whose journal this event may be entered
+unfoldable pub entered_at : World → Event → Option ℕ
+entered_at w (Event.Made parent) = authority w parent
+entered_at w (Event.Gone dir) = authority w dir
+entered_at w (Event.Deliver message) = receiver_of w (slice_get w.sent message)
+entered_at w (Event.Notify export) = Some (from_of w export)
+entered_at w _ = None
+
+abbrev pub has_dir_places : Records → Bool
+has_dir_places r =
+    has_spare r.parents && has_spare r.named && has_spare r.owners && has_spare r.opened && has_spare r.running && has_spare r.children
+
+abbrev pub has_export_places : Records → Bool
+has_export_places r = has_spare r.orders && has_spare r.exporters && has_spare r.importers && has_spare r.sent
+
+-- the lists of an event but for the journal
+abbrev pub has_list_places : Records → Event → Bool
+has_list_places r (Event.Made parent) = has_dir_places r
+has_list_places r (Event.Gone dir) = true
+has_list_places r (Event.Begin rank dir) = has_spare r.tickets
+has_list_places r (Event.End ticket) = true
+has_list_places r (Event.Start from to dirs) = has_export_places r
+has_list_places r (Event.Deliver message) = has_spare r.sent
+has_list_places r (Event.Froze export) = has_spare r.sent
+has_list_places r (Event.Notify export) = has_spare r.sent
+has_list_places r (Event.Abort export) = has_spare r.sent
+has_list_places r (Event.Stop rank) = true
+has_list_places r (Event.Restart rank) = true
+has_list_places r (Event.Ask export) = has_spare r.sent
+
+unfoldable pub has_room : Records → Event → Bool
+has_room r e = has_places r.journals.items (entered_at (world_of r) e) && has_list_places r e
+
+-- What a rank can rely on where a message comes, and what it then did.
+
+pub record CanReceive (r : Records) (message : Message) : Type 0 where
+  pub kept : IsKept r
+  pub sent : (number : ℕ) × (slice_get r.sent.items number ≡ Some message)
+  pub spare : has_spare r.sent ≡ true
+  pub place : has_place r.journals.items (receiver (world_of r) message) ≡ true
+  pub few : r.events < 1048576
+
+pub record IsReceived (old : Records) (message : Message) (reply : Reply) (new : Records) : Type 0 where
+  pub effect : comes (world_of old) message ≡ record { reply = reply; world = world_of new }
+  pub indexed : IsIndexed (world_of new) (indexes_of new)
+
+-- the export that a message is about
+abbrev pub about : Message → ℕ
+about (Message.Discover export) = export
+about (Message.DiscoverAck export) = export
+about (Message.Prep export) = export
+about (Message.PrepAck export) = export
+about (Message.Export export) = export
+about (Message.ExportAck export) = export
+about (Message.Finish export) = export
+about (Message.Cancel export) = export
+about (Message.Query export) = export
+
+-- What a contract sees of a cluster.
+
+-- whether there is room for one more
+pub record Room : Type 0 where
+  pub dirs : Bool
+  pub exports : Bool
+  pub messages : Bool
+  pub tickets : Bool
+  pub entries : List Bool  -- by rank: in its journal
+
+pub record State : Type 0 where
+  pub world : World
+  pub room : Room
+
+abbrev pub state_of : Records → State
+state_of r = record {
+  world = world_of r;
+  room = record {
+    dirs = has_dir_places r;
+    exports = has_export_places r;
+    messages = has_spare r.sent;
+    tickets = has_spare r.tickets;
+    entries = map (λ journal. has_spare journal) r.journals.items;
+  };
+}
+
+abbrev pub is_ready_entry : Room → Option ℕ → Bool
+is_ready_entry room None = true
+is_ready_entry room (Some rank) = slice_index_or room.entries rank true
+
+abbrev pub is_ready_list : Room → Event → Bool
+is_ready_list room (Event.Made parent) = room.dirs
+is_ready_list room (Event.Gone dir) = true
+is_ready_list room (Event.Begin rank dir) = room.tickets
+is_ready_list room (Event.End ticket) = true
+is_ready_list room (Event.Start from to dirs) = room.exports
+is_ready_list room (Event.Deliver message) = room.messages
+is_ready_list room (Event.Froze export) = room.messages
+is_ready_list room (Event.Notify export) = room.messages
+is_ready_list room (Event.Abort export) = room.messages
+is_ready_list room (Event.Stop rank) = true
+is_ready_list room (Event.Restart rank) = true
+is_ready_list room (Event.Ask export) = room.messages
+
+-- where this event is accepted it takes no memory
+unfoldable pub is_ready : State → Event → Bool
+is_ready state e = is_ready_entry state.room (entered_at state.world e) && is_ready_list state.room e
+
+-- the export that a message is about, and the rank that it is for
+abbrev pub addressed : World → Option Message → Option (ℕ × ℕ)
+addressed w None = None
+addressed w (Some message) = Some (about message, receiver w message)
+
+-- an export's states at its two ranks
+abbrev pub states_of : World → ℕ → Option (ExporterState × ImporterState)
+states_of w x = if nat_lt x (length w.orders) then Some (exporter_of w x, importer_of w x) else None
+
+-- those of a new cluster
+abbrev pub first_indexes : Indexes
+first_indexes = record { owners = Some 0 ∷ []; opened = None ∷ []; running = 0 ∷ []; children = 0 ∷ [] }

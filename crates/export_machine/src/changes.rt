@@ -1,0 +1,44 @@
+//! Changes of the lists that a cluster keeps. All growths come before the first change.
+
+ghost use Rattle.std.specs.Prelude.{◌≡◌, ◌<◌, ◌≤◌, ℕ, ◌+◌, ◌∷◌, [], ◌++◌, length, map, Some, None, true, OnOk, slice_get, slice_index_or, slice_set, vec_len, vec_capacity, if◌then◌else◌};
+ghost use Rattle.export_machine.specs.Authority.{is_among};
+ghost use Rattle.export_machine.specs.Step.{map_at};
+ghost use Rattle.export_machine.specs.Kept.{has_place};
+ghost use Rattle.export_machine.specs.declared.event.Reply.TheVariants.{Sent};
+
+use crate::event::Reply;
+use crate::journal::JournalEntry;
+use crate::message::Message;
+use mds_types::{Dir, Rank};
+
+/// Appends a message, and answers its number.
+pub(crate) fn send(sent: &mut Vec<Message>, message: Message) -> Reply
+    requires room { vec_len sent.old < vec_capacity sent.old }
+    requires few { length sent.old.items < 1048576 }
+    ensures items { sent.new.items ≡ sent.old.items ++ message ∷ [] }
+    ensures reply { result ≡ Sent (length sent.old.items) }
+{
+    let number = sent.len() as u32;
+    sent.push_reserved(message);
+    Reply::Sent(number)
+}
+
+/// Appends an entry to a rank's journal.
+pub(crate) fn enter(journals: &mut Vec<Vec<JournalEntry>>, rank: Rank, entry: JournalEntry)
+    requires near { rank < length journals.old.items }
+    requires room { has_place journals.old.items rank ≡ true }
+    ensures entered { map (λ journal. journal.items) journals.new.items
+        ≡ slice_set (map (λ journal. journal.items) journals.old.items) rank (slice_index_or (map (λ journal. journal.items) journals.old.items) rank [] ++ entry ∷ []) }
+{
+    journals[rank.number() as usize].push_reserved(entry);
+}
+
+/// Writes the same into the table at each of the directories.
+pub(crate) fn mark<T: Copy>(table: &mut Vec<Option<T>>, dirs: &[Dir], value: Option<T>)
+    requires near { (d : ℕ) → is_among dirs.now d ≡ true → d < length table.old.items }
+    ensures { table.new.items ≡ map_at (λ d old. if is_among dirs.now d then value else old) table.old.items }
+{
+    for dir in dirs {
+        table[dir.number() as usize] = value;
+    }
+}

@@ -1,0 +1,192 @@
+//! A cluster of metadata ranks that move directories by exports.
+
+ghost use Rattle.std.specs.Prelude.{◌≡◌, ◌<◌, ◌≤◌, ◌↔◌, ℕ, length, map, None, true, Some, IsSome, IfSome, IfOk, IsOk, Err, OnOk, OnErr, slice_get};
+ghost use Rattle.export_machine.specs.Authority.{authority, serves, named_of, journal_of, order_in};
+ghost use Rattle.export_machine.specs.Step.{refusal, start};
+ghost use Rattle.export_machine.specs.View.{IsAnswer, AreAnswers};
+ghost use Rattle.export_machine.specs.Promises.{Promised, KeepsAuthority};
+ghost use Rattle.export_machine.specs.Kept.{event_of, order_of, cause_of, addressed, states_of, is_ready};
+
+use crate::event::{Event, Reply};
+use crate::exporter::ExporterState;
+use crate::importer::ImporterState;
+use crate::journal::JournalEntry;
+use crate::records::Records;
+use crate::step_error::StepError;
+use mds_types::{Dir, Order, Rank};
+use std::alloc::{AllocError, Global};
+use std::marker::Model;
+
+/// The journals, states, messages, requests and map of a cluster.
+///
+/// A contract sees the world that they are, and for which events there is memory already. Every value of this type is
+/// one to which some list of events leads from the start.
+#[derive(Drop)]
+pub struct Cluster {
+    records: Records,
+}
+
+impl Model for Cluster {
+    ghost use Rattle.export_machine.specs.Kept.{State, state_of, IsKept};
+
+    ghost Value = { State };
+
+    ghost view = { λ cluster. state_of cluster.records };
+
+    ghost invariant = { λ cluster. IsKept cluster.records };
+}
+
+impl Cluster {
+    /// A cluster of this many ranks in which directory 0 is there and rank 0 has it. `limit` is how many directory
+    /// numbers can be given.
+    pub fn new(alloc: Global, limit: u32, ranks: u8) -> Result<Self, AllocError>
+        requires some_dirs { 1 ≤ limit }
+        requires few_dirs { limit ≤ 65536 }
+        requires some_ranks { 1 ≤ ranks }
+        requires few_ranks { ranks ≤ 64 }
+        ensures { IfOk result (λ cluster. cluster.world ≡ start limit ranks) }
+    {
+        let records = Records::new(alloc, limit, ranks)?;
+        Ok(Cluster { records })
+    }
+
+    /// Applies one event: a refusal changes nothing, and is the first cause in the order of the table of events. Where
+    /// no cause stands and memory is missing that is the answer.
+    pub fn apply(&mut self, event: Event) -> Result<Reply, StepError>
+        ensures answer { IsAnswer self.old.world (event_of event) result self.new.world }
+        ensures ready { refusal self.old.world (event_of event) ≡ None → is_ready self.old (event_of event) ≡ true → IsOk result }
+        ensures promised { Promised self.new.world }
+        // The event changed the authority of no directory on which a request runs.
+        ensures kept { KeepsAuthority self.old.world (event_of event) }
+    {
+        self.records.apply(event)
+    }
+
+    /// Applies the events one after the other. Memory for the answers is asked for before the first event.
+    pub fn run(
+        &mut self,
+        alloc: Global,
+        events: &[Event],
+    ) -> Result<Vec<Result<Reply, StepError>>, AllocError>
+        ensures answers { IfOk result (λ answers. AreAnswers self.old.world (map event_of events.now) answers.items self.new.world) }
+        ensures err { OnErr result (self.new.world ≡ self.old.world) }
+        ensures promised { Promised self.new.world }
+    {
+        self.promised();
+        let mut answers = Vec::with_capacity(alloc, events.len())?;
+        for event in events {
+            answers.push_reserved(self.apply_copy(alloc, event));
+            self.promised();
+        }
+        Ok(answers)
+    }
+
+    fn apply_copy(&mut self, alloc: Global, event: &Event) -> Result<Reply, StepError>
+        ensures { IsAnswer self.old.world (event_of event.now) result self.new.world }
+    {
+        match event.copied(alloc) {
+            Ok(copy) => self.apply(copy),
+            Err(_) => Err(self.refused(event)),
+        }
+    }
+
+    /// The refusal of an event for which there is no memory.
+    fn refused(&self, event: &Event) -> StepError
+        ensures { IsAnswer self.now.world (event_of event.now) (Err result) self.now.world }
+    {
+        match self.can_apply(event) {
+            Err(error) => error,
+            Ok(()) => StepError::Memory,
+        }
+    }
+
+    /// What holds of every cluster: each directory that is there has exactly one authority, who serves a directory is
+    /// its authority, each running request stands at its directory's authority, and the map names the authority or,
+    /// between log and notify, the exporter. It does nothing.
+    pub fn promised(&self)
+        ensures { Promised self.now.world }
+    {
+        let _ = &self.records;
+    }
+
+    /// Why `apply` would refuse this event, want of memory apart. It takes no memory.
+    pub fn can_apply(&self, event: &Event) -> Result<(), StepError>
+        ensures { cause_of result ≡ refusal self.now.world (event_of event.now) }
+    {
+        self.records.check(event)
+    }
+
+    /// Takes the memory that an `apply` of this event as the next change needs.
+    pub fn reserve(&mut self, event: &Event) -> Result<(), AllocError>
+        ensures world { self.new.world ≡ self.old.world }
+        ensures room { OnOk result (refusal self.new.world (event_of event.now) ≡ None → is_ready self.new (event_of event.now) ≡ true) }
+    {
+        if self.records.check(event).is_err() {
+            return Ok(());
+        }
+        self.records.grow(event)
+    }
+
+    /// The rank that has authority over a directory.
+    pub fn authority(&self, dir: Dir) -> Option<Rank>
+        ensures { result ≡ authority self.now.world dir }
+    {
+        self.records.authority(dir)
+    }
+
+    /// Whether a rank serves a directory.
+    pub fn serves(&self, rank: Rank, dir: Dir) -> bool
+        ensures { result ≡ serves self.now.world rank dir }
+    {
+        self.records.serves(rank, dir)
+    }
+
+    /// The rank that the map names for a directory.
+    pub fn named(&self, dir: Dir) -> Option<Rank>
+        ensures { result ≡ named_of self.now.world dir }
+    {
+        self.records.named(dir)
+    }
+
+    /// A rank's journal, the oldest entry first.
+    pub fn journal(&self, rank: Rank) -> &[JournalEntry]
+        ensures { result.now ≡ journal_of self.now.world rank }
+    {
+        self.records.journal(rank)
+    }
+
+    /// How many messages were sent. They are numbered from 0.
+    pub fn sent(&self) -> u32
+        ensures { result ≡ length self.now.world.sent }
+    {
+        self.records.sent.len() as u32
+    }
+
+    /// The export that a message is about, and the rank that it is for.
+    pub fn to(&self, message: u32) -> Option<(u32, Rank)>
+        ensures { result ≡ addressed self.now.world (slice_get self.now.world.sent message) }
+    {
+        self.records.addressed(message)
+    }
+
+    /// What an export moves.
+    pub fn export(&self, export: u32) -> Option<&Order>
+        ensures found { IsSome result ↔ (export < length self.now.world.orders) }
+        ensures order { IfSome result (λ order. order_of order.now ≡ order_in self.now.world.orders export) }
+    {
+        self.records.orders.get(export as usize)
+    }
+
+    /// The states of an export at its exporter and at its importer.
+    pub fn states(&self, export: u32) -> Option<(ExporterState, ImporterState)>
+        ensures { result ≡ states_of self.now.world export }
+    {
+        if export as usize >= self.records.orders.len() {
+            return None;
+        }
+        Some((self.records.exporter(export), self.records.importer(export)))
+    }
+}
+
+#[cfg(test)]
+mod tests;

@@ -1,0 +1,155 @@
+//! What accepted events change, and what they answer.
+//!
+//! The memory was taken before: no change here can be refused.
+
+ghost use Rattle.std.specs.Prelude.{◌≡◌, ◌<◌, length, None, true};
+ghost use Rattle.export_machine.specs.Step.{Event as StepEvent, refusal, happens};
+ghost use Rattle.export_machine.specs.Kept.{world_of, indexes_of, has_room, IsKept, IsIndexed};
+
+use crate::changes::{enter, mark, send};
+use crate::event::{Reply, Request};
+use crate::exporter::ExporterState;
+use crate::importer::ImporterState;
+use crate::journal::JournalEntry;
+use crate::message::Message;
+use crate::records::Records;
+use mds_types::{Dir, Order, Rank};
+
+impl Records {
+    /// A request begins.
+    pub(crate) fn begin(&mut self, rank: Rank, dir: Dir) -> Reply
+        requires kept { IsKept self.old }
+        requires accepted { refusal (world_of self.old) (StepEvent.Begin rank dir) ≡ None }
+        requires room { has_room self.old (StepEvent.Begin rank dir) ≡ true }
+        ensures effect { happens (world_of self.old) (StepEvent.Begin rank dir) ≡ record { reply = result; world = world_of self.new } }
+        ensures indexed { IsIndexed (world_of self.new) (indexes_of self.new) }
+    {
+        let ticket = self.tickets.len() as u32;
+        self.tickets.push_reserved(Some(Request { rank, dir }));
+        self.running[dir.number() as usize] += 1;
+        Reply::Ticket(ticket)
+    }
+
+    /// A request ends.
+    pub(crate) fn end(&mut self, ticket: u32) -> Reply
+        requires kept { IsKept self.old }
+        requires accepted { refusal (world_of self.old) (StepEvent.End ticket) ≡ None }
+        ensures effect { happens (world_of self.old) (StepEvent.End ticket) ≡ record { reply = result; world = world_of self.new } }
+        ensures indexed { IsIndexed (world_of self.new) (indexes_of self.new) }
+    {
+        let Some(request) = self.tickets[ticket as usize] else {
+            return Reply::Ignored;
+        };
+        self.running[request.dir.number() as usize] -= 1;
+        self.tickets[ticket as usize] = None;
+        Reply::Changed
+    }
+
+    /// The exporter has waited until no request runs on the export's directories.
+    pub(crate) fn froze(&mut self, export: u32) -> Reply
+        requires kept { IsKept self.old }
+        requires accepted { refusal (world_of self.old) (StepEvent.Froze export) ≡ None }
+        requires room { has_room self.old (StepEvent.Froze export) ≡ true }
+        ensures effect { happens (world_of self.old) (StepEvent.Froze export) ≡ record { reply = result; world = world_of self.new } }
+        ensures indexed { IsIndexed (world_of self.new) (indexes_of self.new) }
+    {
+        self.exporters[export as usize] = ExporterState::Preparing;
+        send(&mut self.sent, Message::Prep(export))
+    }
+
+    /// The exporter gives the export up.
+    pub(crate) fn abort(&mut self, export: u32) -> Reply
+        requires kept { IsKept self.old }
+        requires accepted { refusal (world_of self.old) (StepEvent.Abort export) ≡ None }
+        requires room { has_room self.old (StepEvent.Abort export) ≡ true }
+        ensures effect { happens (world_of self.old) (StepEvent.Abort export) ≡ record { reply = result; world = world_of self.new } }
+        ensures indexed { IsIndexed (world_of self.new) (indexes_of self.new) }
+    {
+        self.exporters[export as usize] = ExporterState::Aborted;
+        mark(&mut self.opened, &self.orders[export as usize].dirs, None);
+        send(&mut self.sent, Message::Cancel(export))
+    }
+
+    /// A directory is made below this parent. It has its parent's authority.
+    pub(crate) fn make(&mut self, parent: Dir) -> Reply
+        requires kept { IsKept self.old }
+        requires accepted { refusal (world_of self.old) (StepEvent.Made parent) ≡ None }
+        requires room { has_room self.old (StepEvent.Made parent) ≡ true }
+        ensures effect { happens (world_of self.old) (StepEvent.Made parent) ≡ record { reply = result; world = world_of self.new } }
+        ensures indexed { IsIndexed (world_of self.new) (indexes_of self.new) }
+    {
+        let dir = Dir::new(self.parents.len() as u32);
+        let Some(rank) = self.authority(parent) else {
+            return Reply::Ignored;
+        };
+        enter(&mut self.journals, rank, JournalEntry::Made(dir));
+        self.parents.push_reserved(Some(parent));
+        self.named.push_reserved(Some(rank));
+        self.owners.push_reserved(Some(rank));
+        self.opened.push_reserved(None);
+        self.running.push_reserved(0);
+        self.children.push_reserved(0);
+        self.children[parent.number() as usize] += 1;
+        Reply::Dir(dir)
+    }
+
+    /// A directory is removed.
+    pub(crate) fn remove(&mut self, dir: Dir) -> Reply
+        requires kept { IsKept self.old }
+        requires accepted { refusal (world_of self.old) (StepEvent.Gone dir) ≡ None }
+        requires room { has_room self.old (StepEvent.Gone dir) ≡ true }
+        ensures effect { happens (world_of self.old) (StepEvent.Gone dir) ≡ record { reply = result; world = world_of self.new } }
+        ensures indexed { IsIndexed (world_of self.new) (indexes_of self.new) }
+    {
+        let index = dir.number() as usize;
+        let Some(rank) = self.authority(dir) else {
+            return Reply::Ignored;
+        };
+        let Some(parent) = self.parents[index] else {
+            return Reply::Ignored;
+        };
+        enter(&mut self.journals, rank, JournalEntry::Gone(dir));
+        self.parents[index] = None;
+        self.named[index] = None;
+        self.owners[index] = None;
+        self.children[parent.number() as usize] -= 1;
+        Reply::Changed
+    }
+
+    /// An export starts.
+    pub(crate) fn start(&mut self, from: Rank, to: Rank, dirs: Vec<Dir>) -> Reply
+        requires kept { IsKept self.old }
+        requires accepted { refusal (world_of self.old) (StepEvent.Start from to dirs.items) ≡ None }
+        requires room { has_room self.old (StepEvent.Start from to dirs.items) ≡ true }
+        ensures effect { happens (world_of self.old) (StepEvent.Start from to dirs.items) ≡ record { reply = result; world = world_of self.new } }
+        ensures indexed { IsIndexed (world_of self.new) (indexes_of self.new) }
+    {
+        let export = self.orders.len() as u32;
+        let message = self.sent.len() as u32;
+        mark(&mut self.opened, &dirs, Some(export));
+        self.orders.push_reserved(Order { from, to, dirs });
+        self.exporters.push_reserved(ExporterState::Discovering);
+        self.importers.push_reserved(ImporterState::Unknown);
+        self.sent.push_reserved(Message::Discover(export));
+        Reply::Export(export, message)
+    }
+
+    /// The exporter makes the map name the importer.
+    pub(crate) fn notify(&mut self, export: u32) -> Reply
+        requires kept { IsKept self.old }
+        requires accepted { refusal (world_of self.old) (StepEvent.Notify export) ≡ None }
+        requires room { has_room self.old (StepEvent.Notify export) ≡ true }
+        ensures effect { happens (world_of self.old) (StepEvent.Notify export) ≡ record { reply = result; world = world_of self.new } }
+        ensures indexed { IsIndexed (world_of self.new) (indexes_of self.new) }
+    {
+        self.exporters[export as usize] = ExporterState::Done;
+        let order = &self.orders[export as usize];
+        enter(
+            &mut self.journals,
+            order.from,
+            JournalEntry::Notified(export),
+        );
+        mark(&mut self.named, &order.dirs, Some(order.to));
+        send(&mut self.sent, Message::Finish(export))
+    }
+}

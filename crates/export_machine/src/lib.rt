@@ -1,0 +1,28 @@
+//! Directories move between metadata ranks by exports, with exactly one authority for each at any time.
+//!
+//! A cluster is a machine with no clock and no thread: an event goes in, a reply or a refusal comes out. Messages
+//! may be lost, repeated and reordered by the list of events.
+#![tactic(auto)]
+
+mod applying;
+mod changes;
+pub mod cluster;
+mod deliveries;
+mod effects;
+pub mod event;
+pub mod exporter;
+pub mod importer;
+pub mod journal;
+pub mod laws;
+pub mod message;
+mod records;
+mod refusals;
+pub mod step_error;
+
+pub use cluster::Cluster;
+pub use event::{Event, Reply, Request};
+pub use exporter::ExporterState;
+pub use importer::ImporterState;
+pub use journal::JournalEntry;
+pub use message::Message;
+pub use step_error::StepError;

@@ -1,0 +1,321 @@
+//! What a cluster keeps, and the reads of it.
+//!
+//! Beside the journals, states, messages and map there are four tables by directory, which the rest determines: its
+//! authority, the open export that it is in, how many requests run on it and how many children it has. So no read
+//! folds a journal and no event searches the exports.
+
+ghost use Rattle.std.specs.Prelude.{◌≡◌, ℕ, ◌<◌, ◌≤◌, IfOk, map, replicate, slice_set, false, ◌∷◌, [], length, Some, slice_get};
+ghost use Rattle.export_machine.specs.Authority.{is_present, authority, open_export, is_stopped, exporter_of, importer_of, from_of, to_of, order_in, frozen_by, serves, named_of, journal_of, is_among};
+ghost use Rattle.export_machine.specs.Step.{running_on, repeats, parent_among, is_connected, start};
+ghost use Rattle.std.specs.List.{list_all};
+ghost use Rattle.export_machine.specs.Roots.{parent_of};
+ghost use Rattle.export_machine.specs.Kept.{world_of, indexes_of, first_indexes, children_of, IsKept};
+
+use crate::event::Request;
+use crate::exporter::ExporterState;
+use crate::importer::ImporterState;
+use crate::journal::JournalEntry;
+use crate::message::Message;
+use mds_types::{Dir, Order, Rank};
+use std::alloc::{AllocError, Global};
+
+/// Everything that a cluster knows. The lists of directories, ranks, exports, messages and tickets go by number.
+#[derive(Drop)]
+pub struct Records {
+    pub(crate) limit: u32,
+    pub(crate) ranks: u8,
+    pub(crate) parents: Vec<Option<Dir>>,
+    pub(crate) journals: Vec<Vec<JournalEntry>>,
+    pub(crate) orders: Vec<Order>,
+    pub(crate) exporters: Vec<ExporterState>,
+    pub(crate) importers: Vec<ImporterState>,
+    pub(crate) sent: Vec<Message>,
+    pub(crate) tickets: Vec<Option<Request>>,
+    pub(crate) named: Vec<Option<Rank>>,
+    pub(crate) stopped: Vec<bool>,
+    pub(crate) events: u32,
+    /// By directory: its authority.
+    pub(crate) owners: Vec<Option<Rank>>,
+    /// By directory: the open export that it is in.
+    pub(crate) opened: Vec<Option<u32>>,
+    /// By directory: how many requests run on it.
+    pub(crate) running: Vec<u32>,
+    /// By directory: how many children it has.
+    pub(crate) children: Vec<u32>,
+}
+
+fn empty_journals(alloc: Global, ranks: u8) -> Result<Vec<Vec<JournalEntry>>, AllocError>
+    ensures { IfOk result (λ journals. map (λ journal. journal.items) journals.items ≡ replicate ranks []) }
+{
+    let mut journals = Vec::new(alloc);
+    for _ in 0..ranks {
+        journals.push(Vec::new(alloc))?;
+    }
+    Ok(journals)
+}
+
+/// The journals of a new cluster: rank 0 made directory 0.
+fn first_journals(alloc: Global, ranks: u8) -> Result<Vec<Vec<JournalEntry>>, AllocError>
+    requires { 1 ≤ ranks }
+    ensures { IfOk result (λ journals. map (λ journal. journal.items) journals.items ≡ slice_set (replicate ranks []) 0 (JournalEntry.Made 0 ∷ [])) }
+{
+    let mut journals = empty_journals(alloc, ranks)?;
+    journals[0].push(JournalEntry::Made(Dir::ROOT))?;
+    Ok(journals)
+}
+
+fn all_running(alloc: Global, ranks: u8) -> Result<Vec<bool>, AllocError>
+    ensures { IfOk result (λ stopped. stopped.items ≡ replicate ranks false) }
+{
+    let mut stopped = Vec::new(alloc);
+    for _ in 0..ranks {
+        stopped.push(false)?;
+    }
+    Ok(stopped)
+}
+
+fn first_rank() -> Rank
+    ensures { result ≡ 0 }
+{
+    match Rank::new(0) {
+        Some(rank) => rank,
+        None => Rank::default(),
+    }
+}
+
+impl Records {
+    /// Directory 0 is there, and rank 0 has it.
+    #[tactic(auto, unfolding(crate::specs::Step::start))]
+    pub(crate) fn new(alloc: Global, limit: u32, ranks: u8) -> Result<Self, AllocError>
+        requires some_ranks { 1 ≤ ranks }
+        ensures world { IfOk result (λ records. world_of records ≡ start limit ranks) }
+        ensures indexes { IfOk result (λ records. indexes_of records ≡ first_indexes) }
+    {
+        let journals = first_journals(alloc, ranks)?;
+        let stopped = all_running(alloc, ranks)?;
+        Ok(Records {
+            limit,
+            ranks,
+            parents: vec![in alloc; Some(Dir::ROOT)]?,
+            journals,
+            orders: Vec::new(alloc),
+            exporters: Vec::new(alloc),
+            importers: Vec::new(alloc),
+            sent: Vec::new(alloc),
+            tickets: Vec::new(alloc),
+            named: vec![in alloc; Some(first_rank())]?,
+            stopped,
+            events: 0,
+            owners: vec![in alloc; Some(first_rank())]?,
+            opened: vec![in alloc; None]?,
+            running: vec![in alloc; 0]?,
+            children: vec![in alloc; 0]?,
+        })
+    }
+
+    pub(crate) fn is_present(&self, dir: Dir) -> bool
+        ensures { result ≡ is_present (world_of self.now) dir }
+    {
+        match self.parents.get(dir.number() as usize) {
+            Some(Some(_)) => true,
+            _ => false,
+        }
+    }
+
+    pub(crate) fn are_present(&self, dirs: &[Dir]) -> bool
+        ensures { result ≡ list_all (is_present (world_of self.now)) dirs.now }
+    {
+        dirs.iter().all(|dir| self.is_present(*dir))
+    }
+
+    pub(crate) fn authority(&self, dir: Dir) -> Option<Rank>
+        requires { IsKept self.now }
+        ensures { result ≡ authority (world_of self.now) dir }
+    {
+        match self.owners.get(dir.number() as usize) {
+            Some(owner) => *owner,
+            None => None,
+        }
+    }
+
+    pub(crate) fn open_export(&self, dir: Dir) -> Option<u32>
+        requires { IsKept self.now }
+        ensures { result ≡ open_export (world_of self.now) dir }
+    {
+        match self.opened.get(dir.number() as usize) {
+            Some(export) => *export,
+            None => None,
+        }
+    }
+
+    pub(crate) fn running_on(&self, dir: Dir) -> u32
+        requires { IsKept self.now }
+        ensures { result ≡ running_on (world_of self.now) (dir ∷ []) }
+    {
+        match self.running.get(dir.number() as usize) {
+            Some(requests) => *requests,
+            None => 0,
+        }
+    }
+
+    pub(crate) fn children(&self, dir: Dir) -> u32
+        requires { IsKept self.now }
+        ensures { result ≡ children_of (world_of self.now) dir }
+    {
+        match self.children.get(dir.number() as usize) {
+            Some(children) => *children,
+            None => 0,
+        }
+    }
+
+    pub(crate) fn named(&self, dir: Dir) -> Option<Rank>
+        ensures { result ≡ named_of (world_of self.now) dir }
+    {
+        match self.named.get(dir.number() as usize) {
+            Some(rank) => *rank,
+            None => None,
+        }
+    }
+
+    pub(crate) fn journal(&self, rank: Rank) -> &[JournalEntry]
+        ensures { result.now ≡ journal_of (world_of self.now) rank }
+    {
+        match self.journals.get(rank.number() as usize) {
+            Some(journal) => journal,
+            None => &[],
+        }
+    }
+
+    pub(crate) fn is_stopped(&self, rank: Rank) -> bool
+        ensures { result ≡ is_stopped (world_of self.now) rank }
+    {
+        match self.stopped.get(rank.number() as usize) {
+            Some(stopped) => *stopped,
+            None => false,
+        }
+    }
+
+    pub(crate) fn exporter(&self, export: u32) -> ExporterState
+        ensures { result ≡ exporter_of (world_of self.now) export }
+    {
+        match self.exporters.get(export as usize) {
+            Some(state) => *state,
+            None => ExporterState::Aborted,
+        }
+    }
+
+    pub(crate) fn importer(&self, export: u32) -> ImporterState
+        ensures { result ≡ importer_of (world_of self.now) export }
+    {
+        match self.importers.get(export as usize) {
+            Some(state) => *state,
+            None => ImporterState::Unknown,
+        }
+    }
+
+    pub(crate) fn from(&self, export: u32) -> Rank
+        requires { export < length self.now.orders.items }
+        ensures { result ≡ from_of (world_of self.now) export }
+    {
+        self.orders[export as usize].from
+    }
+
+    pub(crate) fn to(&self, export: u32) -> Rank
+        requires { export < length self.now.orders.items }
+        ensures { result ≡ to_of (world_of self.now) export }
+    {
+        self.orders[export as usize].to
+    }
+
+    pub(crate) fn dirs(&self, export: u32) -> &[Dir]
+        requires { export < length self.now.orders.items }
+        ensures { result.now ≡ (order_in (world_of self.now).orders export).dirs }
+    {
+        &self.orders[export as usize].dirs
+    }
+
+    /// The export because of which the authority of a directory doesn't serve it.
+    pub(crate) fn frozen_by(&self, dir: Dir) -> Option<u32>
+        requires { IsKept self.now }
+        ensures { (rank : ℕ) → authority (world_of self.now) dir ≡ Some rank → result ≡ frozen_by (world_of self.now) rank dir }
+    {
+        match self.open_export(dir) {
+            Some(export) => match self.exporter(export) {
+                ExporterState::Discovering => None,
+                _ => Some(export),
+            },
+            None => None,
+        }
+    }
+
+    pub(crate) fn serves(&self, rank: Rank, dir: Dir) -> bool
+        requires { IsKept self.now }
+        ensures { result ≡ serves (world_of self.now) rank dir }
+    {
+        match self.authority(dir) {
+            Some(authority) => authority == rank && self.frozen_by(dir).is_none(),
+            None => false,
+        }
+    }
+
+    /// How many requests run on the directories of an export.
+    pub(crate) fn running_in(&self, export: u32) -> u32
+        requires kept { IsKept self.now }
+        requires near { export < length self.now.orders.items }
+        ensures { result ≡ running_on (world_of self.now) (order_in (world_of self.now).orders export).dirs }
+    {
+        let dirs = self.dirs(export);
+        let mut requests = 0;
+        for dir in dirs {
+            requests += self.running_on(*dir);
+        }
+        requests
+    }
+
+    fn parent(&self, dir: Dir) -> Option<Dir>
+        ensures { result ≡ parent_of (world_of self.now) dir }
+    {
+        match self.parents.get(dir.number() as usize) {
+            Some(parent) => *parent,
+            None => None,
+        }
+    }
+
+    fn has_parent_among(&self, dirs: &[Dir], dir: Dir) -> bool
+        ensures { result ≡ parent_among dirs.now dir (parent_of (world_of self.now) dir) }
+    {
+        match self.parent(dir) {
+            Some(parent) => is_among(dirs, parent) && parent.number() != dir.number(),
+            None => false,
+        }
+    }
+
+    /// Whether the directories are some, none twice, and hang together: only one of them has no parent among them.
+    pub(crate) fn is_connected(&self, dirs: &[Dir]) -> bool
+        ensures { result ≡ is_connected (world_of self.now) dirs.now }
+    {
+        !repeats(dirs)
+            && dirs
+                .iter()
+                .filter(|dir| !self.has_parent_among(dirs, **dir))
+                .count()
+                == 1
+    }
+}
+
+fn is_among(dirs: &[Dir], dir: Dir) -> bool
+    ensures { result ≡ is_among dirs.now dir }
+{
+    dirs.iter().any(|other| other.number() == dir.number())
+}
+
+fn repeats(dirs: &[Dir]) -> bool
+    ensures { result ≡ repeats dirs.now }
+{
+    for at in 0..dirs.len() {
+        if is_among(&dirs[at + 1..], dirs[at]) {
+            return true;
+        }
+    }
+    false
+}

@@ -1,0 +1,131 @@
+-- What keeps a share a share.
+use Rattle.std.proofs.Common.{◌≡◌, ◌≢◌, ℕ, ◌+◌, ◌*◌, ◌<◌, ◌≤◌, List, length, replicate, refl, sym, ap, ◌∙◌, arith}
+use native.Mathlib.Decide.{ℕ_discrete}
+use Rattle.heat_ledger.specs.declared.tally.Hand.{Hand}
+use Rattle.heat_ledger.specs.Rows.{at, sums, raised}
+use Rattle.heat_ledger.specs.Tally.{most, both_of, holding, IsLearned}
+use Rattle.heat_ledger.specs.Ledger.{hit_slot, begun_slot, spread, unit, IsShare}
+use Rattle.heat_ledger.proofs.RowLemmas.{at_sums, at_raised_same, at_raised_other, at_replicate, length-raised, length-sums, length-replicate}
+use Rattle.heat_ledger.proofs.Slots.{at_spread_hits, at_spread_begun, at_unit_same, at_unit_other}
+
+pub hit_kept : (limit : ℕ) (hand : Hand) (weight d : ℕ) (hits pending begun : List ℕ) → IsShare limit hand weight hits pending begun → d < limit → at hits d < most
+    → IsShare limit hand weight (raised hits d) (raised pending d) begun
+hit_kept limit hand weight d hits pending begun s inside less = record {
+  holds = s.holds;
+  weighs = s.weighs;
+  some = s.some;
+  light = s.light;
+  known = λ k. known k (ℕ_discrete k d);
+  begins = s.begins;
+  room = λ k. room k (ℕ_discrete k d);
+  as_hits = length-raised hits d ∙ s.as_hits;
+  as_pending = length-raised pending d ∙ s.as_pending;
+  as_begun = s.as_begun;
+}
+  where
+    in_hits : d < length hits
+    in_hits = let e = s.as_hits in omega arith
+
+    in_pending : d < length pending
+    in_pending = let e = s.as_pending in omega arith
+
+    known : (k : ℕ) → Dec (k ≡ d) → at hand.amounts (hit_slot k) + at (raised pending d) k ≡ at (raised hits d) k
+    known k (yes e) =
+        let p : at (raised pending d) k ≡ at pending d + 1 = ap (at (raised pending d)) e ∙ at_raised_same pending d in_pending in
+        let q : at (raised hits d) k ≡ at hits d + 1 = ap (at (raised hits d)) e ∙ at_raised_same hits d in_hits in
+        let r = s.known k in let u : at pending k ≡ at pending d = ap (at pending) e in let v : at hits k ≡ at hits d = ap (at hits) e in
+        omega arith
+    known k (no n) = let p = at_raised_other pending d k n in let q = at_raised_other hits d k n in let r = s.known k in omega arith
+
+    room : (k : ℕ) → Dec (k ≡ d) → at (raised hits d) k ≤ weight * most
+    room k (yes e) = let q : at (raised hits d) k ≡ at hits d + 1 = ap (at (raised hits d)) e ∙ at_raised_same hits d in_hits in let w = s.some in omega arith
+    room k (no n) = let q = at_raised_other hits d k n in let r = s.room k in omega arith
+
+-- what a directory's counts are at most
+pub hits_fit : (limit : ℕ) (hand : Hand) (weight : ℕ) (hits pending begun : List ℕ) → IsShare limit hand weight hits pending begun → (d : ℕ) → (at hits d ≤ 65 * most) × (at pending d ≤ 65 * most)
+hits_fit limit hand weight hits pending begun s d = let r = s.room d in let l = s.light in let k = s.known d in (omega arith, omega arith)
+
+pub join_kept : (limit : ℕ) (v w : Hand) (n m : ℕ) (hits hits' pending pending' begun begun' : List ℕ) → IsShare limit v n hits pending begun → IsShare limit w m hits' pending' begun' → IsLearned (both_of v w)
+    → IsShare limit (both_of v w) (n + m) (sums hits hits') (sums pending pending') (sums begun begun')
+join_kept limit v w n m hits hits' pending pending' begun begun' s t l = record {
+  holds = s.holds;
+  weighs = (let x = s.weighs in let y = t.weighs in omega arith);
+  some = (let x = s.some in omega arith);
+  light = (let x = s.weighs in let y = t.weighs in let z = l.parts in omega arith);
+  known = λ d. (let x = s.known d in let y = t.known d in let a = at_sums v.amounts w.amounts (hit_slot d) in let e = at_sums hits hits' d in let f = at_sums pending pending' d in omega arith);
+  begins = λ d. (let x = s.begins d in let y = t.begins d in let a = at_sums v.amounts w.amounts (begun_slot d) in let e = at_sums begun begun' d in omega arith);
+  room = λ d. (let x = s.room d in let y = t.room d in let e = at_sums hits hits' d in omega arith);
+  as_hits = length-sums hits hits' (t.as_hits ∙ sym s.as_hits) ∙ s.as_hits;
+  as_pending = length-sums pending pending' (t.as_pending ∙ sym s.as_pending) ∙ s.as_pending;
+  as_begun = length-sums begun begun' (t.as_begun ∙ sym s.as_begun) ∙ s.as_begun;
+}
+
+-- what two shares have together fits
+pub join_fits : (limit : ℕ) (v w : Hand) (n m : ℕ) (hits hits' pending pending' begun begun' : List ℕ) → IsShare limit v n hits pending begun → IsShare limit w m hits' pending' begun' → IsLearned (both_of v w)
+    → (n + m ≤ 65) × ((d : ℕ) → (at hits d + at hits' d ≤ 65 * most) × (at pending d + at pending' d ≤ 65 * most) × (at begun d + at begun' d ≤ 65 * most))
+join_fits limit v w n m hits hits' pending pending' begun begun' s t l =
+    let both = join_kept limit v w n m hits hits' pending pending' begun begun' s t l in (
+      both.light,
+      λ d.
+          let fit = hits_fit limit (both_of v w) (n + m) (sums hits hits') (sums pending pending') (sums begun begun') both d in
+          let a = at_sums hits hits' d in let b = at_sums pending pending' d in
+          let x = s.begins d in let y = t.begins d in
+          let e = at_sums v.amounts w.amounts (begun_slot d) in
+          let back = l.backed (begun_slot d) in
+          let parts = l.parts in
+          (omega (arith, fit.0), omega (arith, fit.1), omega arith),
+    )
+
+pub deposit_share : (limit : ℕ) (v : Hand) (weight : ℕ) (hits pending begun : List ℕ) → IsShare limit v weight hits pending begun
+    → IsShare limit (holding v.parts (sums v.amounts (spread pending))) weight hits (replicate limit 0) begun
+deposit_share limit v weight hits pending begun s = record {
+  holds = refl;
+  weighs = s.weighs;
+  some = s.some;
+  light = s.light;
+  known = λ d. (let a = at_sums v.amounts (spread pending) (hit_slot d) in let b = at_spread_hits pending d (hit_slot d) refl in let f = s.known d in let n = at_replicate limit d in omega arith);
+  begins = λ d. (let a = at_sums v.amounts (spread pending) (begun_slot d) in let b = at_spread_begun pending d (begun_slot d) refl in let f = s.begins d in omega arith);
+  room = s.room;
+  as_hits = s.as_hits;
+  as_pending = length-replicate limit 0;
+  as_begun = s.as_begun;
+}
+
+-- another directory's request isn't this one's
+pub apart : (d dir : ℕ) → d ≢ dir → begun_slot d ≢ begun_slot dir
+apart d dir n e = n (omega arith)
+
+-- a request isn't a hit
+pub not_hit : (d dir : ℕ) → hit_slot d ≢ begun_slot dir
+not_hit d dir e = absurd (omega arith)
+
+pub begin_share : (limit : ℕ) (v : Hand) (weight dir : ℕ) (hits pending begun : List ℕ) → IsShare limit v weight hits pending begun → dir < limit
+    → IsShare limit (holding v.parts (sums v.amounts (unit (begun_slot dir)))) weight hits pending (raised begun dir)
+begin_share limit v weight dir hits pending begun s inside = record {
+  holds = refl;
+  weighs = s.weighs;
+  some = s.some;
+  light = s.light;
+  known = λ d. (let x = at_sums v.amounts (unit (begun_slot dir)) (hit_slot d) in let o = at_unit_other (begun_slot dir) (hit_slot d) (not_hit d dir) in let f = s.known d in omega arith);
+  begins = λ d. begins d (ℕ_discrete d dir);
+  room = s.room;
+  as_hits = s.as_hits;
+  as_pending = s.as_pending;
+  as_begun = length-raised begun dir ∙ s.as_begun;
+}
+  where
+    begins : (d : ℕ) → Dec (d ≡ dir) → at (sums v.amounts (unit (begun_slot dir))) (begun_slot d) ≡ at (raised begun dir) d
+    begins d (yes e) =
+        let x = at_sums v.amounts (unit (begun_slot dir)) (begun_slot d) in
+        let o : at (unit (begun_slot dir)) (begun_slot d) ≡ 1 = ap (λ (k : ℕ). at (unit (begun_slot dir)) (begun_slot k)) e ∙ at_unit_same (begun_slot dir) in
+        let f = s.begins d in
+        let g : at begun d ≡ at begun dir = ap (at begun) e in
+        let l = s.as_begun in
+        let q : at (raised begun dir) d ≡ at begun dir + 1 = ap (at (raised begun dir)) e ∙ at_raised_same begun dir (omega arith) in
+        omega arith
+    begins d (no n) =
+        let x = at_sums v.amounts (unit (begun_slot dir)) (begun_slot d) in
+        let o = at_unit_other (begun_slot dir) (begun_slot d) (apart d dir n) in
+        let f = s.begins d in
+        let q = at_raised_other begun dir d n in
+        omega arith

@@ -1,0 +1,103 @@
+-- What a share and the book of all shares count, and what their seats at the desk know of it.
+use Rattle.std.specs.Prelude.{◌≡◌, ℕ, zero, suc, ◌+◌, ◌*◌, ◌≤◌, Bool, true, false, List, [], ◌∷◌, length, sum_by}
+use Rattle.atomic_table.specs.Seated.{TableId}
+use Rattle.atomic_table.specs.declared.shared.Seat.{Seat}
+use Rattle.heat_ledger.specs.declared.tally.Hand.{Hand}
+use Rattle.heat_ledger.specs.Rows.{at, sums, differences, IsZero}
+use Rattle.heat_ledger.specs.Tally.{most, all_parts}
+
+-- what a share has counted: all hits, those that the book doesn't know yet, and begun requests, by directory
+pub record ShareData : Type 0 where
+  pub weight : ℕ
+  pub hits : List ℕ
+  pub pending : List ℕ
+  pub begun : List ℕ
+
+-- what the book of these shares has counted: deposited hits and begun requests, by directory
+pub record BookData : Type 0 where
+  pub is_open : Bool
+  pub shares : ℕ
+  pub counted : List ℕ
+  pub begun : List ℕ
+
+-- no hit is pending
+abbrev pub IsClean : ShareData → Type 0
+IsClean share = IsZero share.pending
+
+-- the weights of these shares together
+abbrev pub weight_of : List ShareData → ℕ
+weight_of shares = sum_by (λ share. share.weight) shares
+
+-- the hits on a directory that these shares have counted
+abbrev pub hits_of : List ShareData → ℕ → ℕ
+hits_of shares dir = sum_by (λ share. at share.hits dir) shares
+
+-- the hits on a directory that these shares haven't deposited
+abbrev pub pending_of : List ShareData → ℕ → ℕ
+pending_of shares dir = sum_by (λ share. at share.pending dir) shares
+
+-- the requests on a directory that these shares have begun
+abbrev pub begun_of : List ShareData → ℕ → ℕ
+begun_of shares dir = sum_by (λ share. at share.begun dir) shares
+
+-- the entry of a directory's hits
+abbrev pub hit_slot : ℕ → ℕ
+hit_slot dir = dir + dir
+
+-- the entry of a directory's begun requests
+abbrev pub begun_slot : ℕ → ℕ
+begun_slot dir = dir + dir + 1
+
+-- the counts of a row, at the entries for hits
+abbrev pub spread : List ℕ → List ℕ
+spread [] = []
+spread (x ∷ xs) = x ∷ 0 ∷ spread xs
+
+-- deposited hits and begun requests, each at its entry
+abbrev pub laid_out : List ℕ → List ℕ → List ℕ → List ℕ
+laid_out hits pending begun = sums (spread (differences hits pending)) (0 ∷ spread begun)
+
+-- 1 at this entry alone
+abbrev pub unit : ℕ → List ℕ
+unit zero = 1 ∷ []
+unit (suc k) = 0 ∷ unit k
+
+-- it is a seat at this desk
+pub record IsSeated (desk : TableId) (seat : Seat ℕ Hand) : Type 0 where
+  pub words : desk.words ≡ 1
+  pub table : seat.table_id ≡ desk
+  pub none_out : seat.me.1 ≡ []
+
+-- What was deposited, and what is pending, are the hits. A share's hits rest on its weight.
+pub record IsShare (limit : ℕ) (hand : Hand) (weight : ℕ) (hits pending begun : List ℕ) : Type 0 where
+  pub holds : hand.keeps ≡ false
+  pub weighs : hand.parts ≡ weight
+  pub some : 1 ≤ weight
+  pub light : weight ≤ all_parts
+  pub known : (dir : ℕ) → at hand.amounts (hit_slot dir) + at pending dir ≡ at hits dir
+  pub begins : (dir : ℕ) → at hand.amounts (begun_slot dir) ≡ at begun dir
+  pub room : (dir : ℕ) → at hits dir ≤ weight * most
+  pub as_hits : length hits ≡ limit
+  pub as_pending : length pending ≡ limit
+  pub as_begun : length begun ≡ limit
+
+-- What the book counted is what all shares deposited.
+pub record IsBook (limit : ℕ) (hand : Hand) (shares : ℕ) (counted begun : List ℕ) : Type 0 where
+  pub keeps : hand.keeps ≡ true
+  pub all_out : hand.amounts ≡ []
+  pub parts : hand.parts + shares ≡ all_parts
+  pub some : 1 ≤ shares
+  pub known : (dir : ℕ) → at hand.totals (hit_slot dir) ≡ at counted dir
+  pub begins : (dir : ℕ) → at hand.totals (begun_slot dir) ≡ at begun dir
+  pub as_counted : length counted ≡ limit
+  pub as_begun : length begun ≡ limit
+
+-- how many of the shares are used up
+abbrev pub spent_of : Bool → ℕ → ℕ
+spent_of true shares = 0
+spent_of false shares = shares
+
+-- the parts of the shares that are used up
+pub record IsSpent (hand : Hand) (is_open : Bool) (shares : ℕ) : Type 0 where
+  pub holds : hand.keeps ≡ false
+  pub parts : hand.parts ≡ spent_of is_open shares

@@ -1,0 +1,6 @@
+pub mod Rows
+pub mod Touched
+pub mod Tally
+pub mod Ledger
+pub mod Opening
+pub mod Keeping

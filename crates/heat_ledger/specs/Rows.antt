@@ -1,0 +1,26 @@
+-- Rows of counts, one count for each directory number below a limit.
+use Rattle.std.specs.Prelude.{◌≡◌, ℕ, ◌+◌, ◌-◌, List, [], ◌∷◌, slice_index_or, slice_set}
+
+-- the count of a directory, and 0 past the limit
+abbrev pub at : List ℕ → ℕ → ℕ
+at counts dir = slice_index_or counts dir 0
+
+-- two rows, added entry by entry
+abbrev pub sums : List ℕ → List ℕ → List ℕ
+sums [] ys = ys
+sums (x ∷ xs) [] = x ∷ xs
+sums (x ∷ xs) (y ∷ ys) = (x + y) ∷ sums xs ys
+
+-- one row less another, entry by entry
+abbrev pub differences : List ℕ → List ℕ → List ℕ
+differences [] ys = []
+differences (x ∷ xs) [] = x ∷ xs
+differences (x ∷ xs) (y ∷ ys) = (x - y) ∷ differences xs ys
+
+-- the row with one more at this directory
+abbrev pub raised : List ℕ → ℕ → List ℕ
+raised counts dir = slice_set counts dir (at counts dir + 1)
+
+-- no directory has a count
+abbrev pub IsZero : List ℕ → Type 0
+IsZero counts = (dir : ℕ) → at counts dir ≡ 0

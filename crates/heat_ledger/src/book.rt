@@ -1,0 +1,184 @@
+//! The book, in which the deposits of all shares add up.
+
+use crate::auditing::audit_all;
+use crate::closing::{gather, missing, none_left};
+use crate::missing::Missing;
+use crate::opened::Opened;
+use crate::opening::{Room, deal, lay_out};
+use crate::row::Row;
+use crate::share::{HIT_LIMIT, Share};
+use crate::tally::{Desk, Place, grant, issue, learn, reissue};
+use mds_types::Dir;
+use mds_types::limits::DIR_LIMIT;
+use naming::Naming;
+use std::alloc::{AllocFailed, Global};
+use std::marker::{Brand, Model, PhantomData};
+use std::sync::Arc;
+
+/// What the shares of one board have counted together: deposited hits and begun requests, by
+/// directory.
+///
+/// For whoever has the book and all its shares, the counted hits and the pending hits of the shares
+/// are the hits of the shares, and the begun requests are those of the shares: `audit` says so
+/// while the book is open, and `close` when it ends. All memory is taken by `open`.
+#[derive(Drop)]
+pub struct Book<J: Naming> {
+    desk: Arc<Desk, Global>,
+    seat: Place,
+    spent: Place,
+    is_open: bool,
+    shares: u8,
+    counted: Vec<u64>,
+    begun: Vec<u64>,
+    of: PhantomData<J>,
+}
+
+impl<J: Naming> Model for Book<J> {
+    ghost use Rattle.std.specs.Prelude.{◌≡◌};
+    ghost use Rattle.std.specs.Arc.{arc_value};
+    ghost use Rattle.heat_ledger.specs.Ledger.{BookData, IsSeated, IsBook, IsSpent};
+
+    ghost Value = { BookData };
+
+    ghost view = { λ book. record { is_open = book.is_open; shares = book.shares; counted = book.counted.items; begun = book.begun.items } };
+
+    ghost invariant = { λ book. IsSeated (arc_value book.desk).shared.table_id book.seat × ((arc_value book.desk).shared.table_id ≡ J.ledger) × IsBook J.limit book.seat.me.0 book.shares book.counted.items book.begun.items × IsSeated (arc_value book.desk).shared.table_id book.spent × IsSpent book.spent.me.0 book.is_open book.shares };
+}
+
+impl<J: Naming> Book<J> {
+    ghost use Rattle.std.specs.Prelude.{◌≡◌, ℕ, ◌+◌, ◌<◌, ◌≤◌, true, false, All, IsErr, IfOk, IfErr, OnOk, OnErr, length, replicate};
+    ghost use Rattle.heat_ledger.specs.Rows.{at, sums, raised};
+    ghost use Rattle.heat_ledger.specs.Ledger.{IsClean, weight_of, hits_of, pending_of, begun_of};
+
+    /// A book for the directories below the limit, with this many shares. Where memory is refused,
+    /// what was opened is handed back.
+    pub fn open(
+        alloc: Global,
+        opened: Opened,
+        limit: u32,
+        shares: u8,
+    ) -> Result<(Book<J>, Vec<Share<J>>), AllocFailed<Opened>>
+        requires name { opened ≡ J.ledger }
+        requires limit { (limit ≡ J.limit) × (1 ≤ limit) × (limit ≤ DIR_LIMIT) }
+        requires shares { (1 ≤ shares) × (shares ≤ 64) }
+        ensures book { IfOk result (λ r. r.0 ≡ record { is_open = true; shares = shares; counted = replicate limit 0; begun = replicate limit 0 }) }
+        ensures shares { IfOk result (λ r. r.1.items ≡ replicate shares (record { weight = 1; hits = replicate limit 0; pending = replicate limit 0; begun = replicate limit 0 })) }
+        ensures err { IfErr result (λ e. e.value ≡ opened) }
+    {
+        let Ok(room) = lay_out::<J>(alloc, &opened.desk, limit, shares) else {
+            return Err(AllocFailed { value: opened });
+        };
+        let Room {
+            blanks,
+            shares: none,
+            counted,
+            begun,
+        } = room;
+        let Opened { desk, mut seat } = opened;
+        let dealt = deal::<J>(&mut seat, blanks, none);
+        let spent = issue::<Brand>(&desk.shared, &mut seat);
+        let book = Book {
+            desk,
+            seat,
+            spent,
+            is_open: true,
+            shares,
+            counted,
+            begun,
+            of: PhantomData,
+        };
+        Ok((book, dealt))
+    }
+
+    /// The hits on a directory that were deposited.
+    pub fn counted(&self, dir: Dir) -> u64
+        ensures { result ≡ at self.now.counted dir }
+    {
+        let row = dir.number() as usize;
+        self.counted.get(row).copied().unwrap_or(0)
+    }
+
+    /// The requests on a directory that were begun.
+    pub fn begun(&self, dir: Dir) -> u64
+        ensures { result ≡ at self.now.begun dir }
+    {
+        let row = dir.number() as usize;
+        self.begun.get(row).copied().unwrap_or(0)
+    }
+
+    /// The number that directories are below.
+    pub fn limit(&self) -> usize
+        ensures limit { result ≡ J.limit }
+        ensures rows { (length self.now.counted ≡ J.limit) × (length self.now.begun ≡ J.limit) }
+    {
+        self.counted.len()
+    }
+
+    /// Counts what the share has pending. It takes time for the directories that the share has
+    /// counted since its last deposit.
+    pub fn deposit(&mut self, share: &mut Share<J>)
+        ensures book { self.new ≡ record self.old { counted = sums self.old.counted share.old.pending } }
+        ensures share { share.new ≡ record share.old { pending = replicate J.limit 0 } }
+    {
+        reissue::<Brand, Row>(
+            &self.desk.shared,
+            &mut self.seat,
+            &mut share.seat,
+            &share.pending,
+        );
+        share.pending.move_into(&mut self.counted);
+    }
+
+    /// Counts a request that begins.
+    pub fn begin(&mut self, share: &mut Share<J>, dir: Dir)
+        requires inside { dir < J.limit }
+        requires room { at self.old.begun dir < HIT_LIMIT }
+        ensures book { self.new ≡ record self.old { begun = raised self.old.begun dir } }
+        ensures share { share.new ≡ record share.old { begun = raised share.old.begun dir } }
+    {
+        reissue::<Brand, Dir>(&self.desk.shared, &mut self.seat, &mut share.seat, &dir);
+        let row = dir.number() as usize;
+        self.begun[row] += 1;
+        share.begun.raise(dir);
+    }
+
+    /// The totals of a book and all its shares, at any time until the book is closed. Nothing
+    /// changes.
+    pub fn audit(&mut self, shares: &mut Vec<Share<J>>)
+        requires { weight_of shares.old.items ≡ self.old.shares }
+        ensures hits { (dir : ℕ) → at self.new.counted dir + pending_of shares.new.items dir ≡ hits_of shares.new.items dir }
+        ensures begun { (dir : ℕ) → at self.new.begun dir ≡ begun_of shares.new.items dir }
+        ensures same { (self.new ≡ self.old) × (shares.new.items ≡ shares.old.items) }
+    {
+        audit_all::<J>(&self.desk.shared, &mut self.seat, shares);
+        let _none = issue::<Brand>(&self.desk.shared, &mut self.seat);
+    }
+
+    /// Closes the book over all its shares, which are used up. Where some are missing, it says how
+    /// much weight they have, and hands the shares back.
+    pub fn close(&mut self, shares: Vec<Share<J>>) -> Result<(), (Missing, Vec<Share<J>>)>
+        requires { All IsClean shares.items }
+        ensures ok { OnOk result ((self.old.is_open ≡ true) × (self.new ≡ record self.old { is_open = false })) }
+        ensures all { OnOk result (weight_of shares.items ≡ self.old.shares) }
+        ensures hits { OnOk result ((dir : ℕ) → at self.new.counted dir ≡ hits_of shares.items dir) }
+        ensures begun { OnOk result ((dir : ℕ) → at self.new.begun dir ≡ begun_of shares.items dir) }
+        ensures missing { IfErr result (λ e. (1 ≤ e.0.0) × (e.0.0 + weight_of shares.items ≡ self.old.shares)) }
+        ensures handed_back { IfErr result (λ e. e.1.items ≡ shares.items) }
+        ensures closed { self.old.is_open ≡ false → IsErr result }
+        ensures err { OnErr result (self.new ≡ self.old) }
+    {
+        if !self.is_open {
+            let back = none_left::<J>(&self.desk.shared, &mut self.seat, &mut self.spent, shares);
+            return Err((Missing(self.shares), back));
+        }
+        let left = missing::<J>(self.shares, shares.as_slice());
+        if left > 0 {
+            return Err((Missing(left), shares));
+        }
+        gather::<J>(&self.desk.shared, &mut self.seat, shares);
+        learn(&self.desk.shared, &mut self.seat);
+        self.spent = grant::<Brand, u8>(&self.desk.shared, &mut self.seat, &self.shares);
+        self.is_open = false;
+        Ok(())
+    }
+}

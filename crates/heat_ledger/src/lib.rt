@@ -1,0 +1,27 @@
+//! Hits on directories, counted by many threads without a lock.
+//!
+//! Each thread has a share, in which it counts. From time to time it deposits what it has counted
+//! in the book of all shares. For each directory, what the book has counted and what is pending in
+//! the shares are together the hits that the shares counted, whichever threads had the shares,
+//! handed them on or joined them. No thread has to be asked for that: each share carries a token
+//! whose amounts add up in the book's, so a share that is missing is known to be missing.
+#![tactic(auto)]
+
+mod auditing;
+mod book;
+mod closing;
+mod hit_error;
+mod missing;
+mod opened;
+mod opening;
+mod row;
+mod share;
+mod tally;
+#[cfg(test)]
+mod tests;
+
+pub use book::Book;
+pub use hit_error::HitError;
+pub use missing::Missing;
+pub use opened::Opened;
+pub use share::{HIT_LIMIT, Share};

@@ -1,0 +1,148 @@
+//! A share of the counting, which one thread has at a time.
+
+use crate::hit_error::HitError;
+use crate::row::Row;
+use crate::tally::{Desk, Place, learn, merge};
+use mds_types::Dir;
+use naming::Naming;
+use std::alloc::Global;
+use std::marker::{Model, PhantomData};
+use std::sync::Arc;
+
+/// How many hits of one directory a share counts.
+pub const HIT_LIMIT: u64 = 1 << 56;
+
+/// Counts of one thread: hits, those of them that the book doesn't know yet, and begun requests,
+/// by directory. A share that was opened has the weight 1, and shares that were joined have the
+/// sum of their weights.
+///
+/// `J` names the board whose book it is. All memory was taken when the book was opened: 36 bytes
+/// a directory.
+#[derive(Drop)]
+pub struct Share<J: Naming> {
+    pub(crate) desk: Arc<Desk, Global>,
+    pub(crate) seat: Place,
+    pub(crate) weight: u8,
+    pub(crate) hits: Row,
+    pub(crate) pending: Row,
+    pub(crate) begun: Row,
+    pub(crate) of: PhantomData<J>,
+}
+
+impl<J: Naming> Model for Share<J> {
+    ghost use Rattle.std.specs.Prelude.{◌≡◌};
+    ghost use Rattle.std.specs.Arc.{arc_value};
+    ghost use Rattle.heat_ledger.specs.Ledger.{ShareData, IsSeated, IsShare};
+
+    ghost Value = { ShareData };
+
+    ghost view = { λ share. record { weight = share.weight; hits = share.hits; pending = share.pending; begun = share.begun } };
+
+    ghost invariant = { λ share. IsSeated (arc_value share.desk).shared.table_id share.seat × ((arc_value share.desk).shared.table_id ≡ J.ledger) × IsShare J.limit share.seat.me.0 share.weight share.hits share.pending share.begun };
+}
+
+impl<J: Naming> Share<J> {
+    ghost use Rattle.std.specs.Prelude.{◌≡◌, ℕ, ◌+◌, ◌<◌, ◌≤◌, ◌↔◌, IsTrue, IsErrOf, OnOk, OnErr, length};
+    ghost use Rattle.heat_ledger.specs.Rows.{at, sums, raised};
+    ghost use Rattle.heat_ledger.specs.Ledger.{IsClean, IsSeated, IsShare};
+
+    /// The hits on a directory that this share has counted, deposited or not.
+    pub fn hits(&self, dir: Dir) -> u64
+        ensures { result ≡ at self.now.hits dir }
+    {
+        self.hits.get(dir)
+    }
+
+    /// The hits on a directory that aren't deposited.
+    pub fn pending(&self, dir: Dir) -> u64
+        ensures { result ≡ at self.now.pending dir }
+    {
+        self.pending.get(dir)
+    }
+
+    /// The requests on a directory that were begun with this share.
+    pub fn begun(&self, dir: Dir) -> u64
+        ensures { result ≡ at self.now.begun dir }
+    {
+        self.begun.get(dir)
+    }
+
+    /// How many of the shares that were opened this one is.
+    pub fn weight(&self) -> u8
+        ensures weight { result ≡ self.now.weight }
+        ensures some { 1 ≤ result }
+    {
+        self.weight
+    }
+
+    /// The number that directories are below.
+    pub fn limit(&self) -> usize
+        ensures limit { result ≡ J.limit }
+        ensures rows { (length self.now.hits ≡ J.limit) × (length self.now.pending ≡ J.limit) × (length self.now.begun ≡ J.limit) }
+    {
+        self.hits.len()
+    }
+
+    /// Whether all hits are deposited.
+    pub fn is_clean(&self) -> bool
+        ensures { IsTrue result ↔ IsClean self.now }
+    {
+        self.pending.is_zero()
+    }
+
+    /// Counts a hit.
+    pub fn hit(&mut self, dir: Dir) -> Result<(), HitError>
+        ensures ok { OnOk result (self.new ≡ record self.old { hits = raised self.old.hits dir; pending = raised self.old.pending dir }) }
+        ensures no_dir { IsErrOf result HitError.NoDir ↔ (J.limit ≤ dir) }
+        ensures full { IsErrOf result HitError.ShareFull ↔ ((dir < J.limit) × (HIT_LIMIT ≤ at self.old.hits dir)) }
+        ensures err { OnErr result (self.new ≡ self.old) }
+    {
+        if dir.number() as usize >= self.hits.len() {
+            return Err(HitError::NoDir);
+        }
+        if self.hits.get(dir) >= HIT_LIMIT {
+            return Err(HitError::ShareFull);
+        }
+        self.hits.raise(dir);
+        self.pending.raise(dir);
+        Ok(())
+    }
+
+    /// Takes in another share of the same book.
+    pub fn join(&mut self, other: Share<J>)
+        ensures { self.new ≡ record { weight = self.old.weight + other.weight; hits = sums self.old.hits other.hits; pending = sums self.old.pending other.pending; begun = sums self.old.begun other.begun } }
+    {
+        let Share {
+            desk: _desk,
+            seat,
+            weight,
+            hits,
+            pending,
+            begun,
+            of: _of,
+        } = other;
+        merge(&self.desk.shared, &mut self.seat, seat);
+        learn(&self.desk.shared, &mut self.seat);
+        self.weight += weight;
+        self.hits.join(hits);
+        self.pending.join(pending);
+        self.begun.join(begun);
+    }
+
+    /// The share's seat at the desk, with all that the desk knows of it.
+    pub(crate) fn into_seat(self) -> Place
+        ensures seated { IsSeated J.ledger result }
+        ensures share { IsShare J.limit result.me.0 self.weight self.hits self.pending self.begun }
+    {
+        let Share {
+            desk: _desk,
+            seat,
+            weight: _weight,
+            hits: _hits,
+            pending: _pending,
+            begun: _begun,
+            of: _of,
+        } = self;
+        seat
+    }
+}

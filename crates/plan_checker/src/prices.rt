@@ -1,0 +1,122 @@
+//! Whether the prices of a dual proof hold over a table of costs.
+//!
+//! A cost is below 2^64 and a price is any signed number, so sums are taken in 128 bits.
+ghost use Rattle.std.specs.Prelude.{◌≡◌, ◌≢◌, ◌<◌, ◌≤◌, ◌+◌, ◌*◌, ◌↔◌, ℕ, ℤ, pos, ◌+ℤ◌, ◌≤ℤ◌, length, slice_index, slice_index_or, IsTrue};
+ghost use Rattle.mds_types.specs.Certificate.{AreRanks};
+ghost use Rattle.mds_types.specs.RankSet.{rank_count};
+ghost use Rattle.cost_table.specs.Costs.{cell_at};
+ghost use Rattle.cost_table.specs.Prices.{ArePrices};
+ghost use Rattle.plan_checker.specs.Prices.{cost_at_place, RankPriceHolds};
+
+use mds_types::{DualProof, Rank, RankSet};
+
+/// Whether these are different ranks of the set.
+pub fn are_ranks(ranks: RankSet, rank: &[Rank]) -> bool
+    ensures { IsTrue result ↔ AreRanks ranks (length rank.now) (slice_index rank.now) }
+{
+    for (i, r) in rank.iter().enumerate() {
+        if !ranks.has(*r) || rank[..i].contains(r) {
+            return false;
+        }
+    }
+    true
+}
+
+/// Whether two prices together are no more than a cost.
+fn is_within(part_price: i64, rank_price: i64, cost: u64) -> bool
+    ensures { IsTrue result ↔ ((part_price +ℤ rank_price) ≤ℤ pos cost) }
+{
+    i128::from(part_price) + i128::from(rank_price) <= i128::from(cost)
+}
+
+/// Whether two prices together are a cost.
+fn is_exact(part_price: i64, rank_price: i64, cost: u64) -> bool
+    ensures { IsTrue result ↔ ((part_price +ℤ rank_price) ≡ pos cost) }
+{
+    i128::from(part_price) + i128::from(rank_price) == i128::from(cost)
+}
+
+/// Whether two prices together are no more than a cost, and are the cost where the rank is the part's.
+fn pair_holds(part_price: i64, rank_price: i64, cost: u64, is_chosen: bool) -> bool
+    ensures { IsTrue result ↔ ((part_price +ℤ rank_price) ≤ℤ pos cost
+        × (IsTrue is_chosen → (part_price +ℤ rank_price) ≡ pos cost)) }
+{
+    is_within(part_price, rank_price, cost)
+        && (!is_chosen || is_exact(part_price, rank_price, cost))
+}
+
+/// What a part moves at the rank that has this place. There are `width` cells a part.
+fn cost_at_place(cells: &[u64], width: usize, place: usize, part: usize) -> u64
+    requires inside { part * width + place < length cells.now }
+    requires few { length cells.now ≤ 4096 }
+    ensures { result ≡ cost_at_place cells.now width place part }
+{
+    cells[part * width + place]
+}
+
+/// Whether a rank's price is not above 0, and is 0 where no part has the rank.
+fn sign_holds(price: i64, rank: &[Rank], r: Rank) -> bool
+    ensures { IsTrue result ↔ (price ≤ℤ pos 0
+        × (((part : ℕ) → part < length rank.now → slice_index rank.now part ≢ r) → price ≡ pos 0)) }
+{
+    price == 0 || (price < 0 && rank.contains(&r))
+}
+
+/// Whether a dual proof holds at one rank, which has this place in the set, and its price.
+fn rank_price_holds(
+    cells: &[u64],
+    width: usize,
+    place: usize,
+    rank: &[Rank],
+    part_price: &[i64],
+    r: Rank,
+    price: i64,
+) -> bool
+    requires width { width ≤ 64 }
+    requires place { place < width }
+    requires parts { length rank.now ≤ 64 }
+    requires cells { length cells.now ≡ length rank.now * width }
+    requires prices { length part_price.now ≡ length rank.now }
+    ensures { IsTrue result ↔ RankPriceHolds (length rank.now) (slice_index rank.now)
+        (λ p. slice_index_or part_price.now p (pos 0)) (cost_at_place cells.now width place) r price }
+{
+    if !sign_holds(price, rank, r) {
+        return false;
+    }
+    for (p, part_price) in part_price.iter().enumerate() {
+        let cost = cost_at_place(cells, width, place, p);
+        if !pair_holds(*part_price, price, cost, rank[p] == r) {
+            return false;
+        }
+    }
+    true
+}
+
+/// Whether the prices show that no placing of the same parts moves fewer inodes. `cells` are what
+/// each part moves at each rank of the set.
+pub fn are_prices(cells: &[u64], ranks: RankSet, rank: &[Rank], dual: &DualProof) -> bool
+    requires parts { length rank.now ≤ 64 }
+    requires cells { length cells.now ≡ length rank.now * rank_count ranks }
+    requires ranks { AreRanks ranks (length rank.now) (slice_index rank.now) }
+    ensures { IsTrue result ↔
+        ArePrices ranks (length rank.now) (cell_at ranks cells.now) (slice_index rank.now) dual.now }
+{
+    let width = usize::from(ranks.len());
+    if dual.part_price.len() != rank.len() || dual.rank_price.len() != width {
+        return false;
+    }
+    let mut place = 0;
+    for number in 0..64 {
+        let Some(r) = Rank::new(number) else {
+            continue;
+        };
+        if ranks.has(r) {
+            let price = dual.rank_price[place];
+            if !rank_price_holds(cells, width, place, rank, &dual.part_price, r, price) {
+                return false;
+            }
+            place += 1;
+        }
+    }
+    true
+}

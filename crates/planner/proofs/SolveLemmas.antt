@@ -1,0 +1,88 @@
+-- A least cut and a cheapest placing of its parts make a certified plan.
+use Rattle.std.proofs.Common.{◌≡◌, ◌∙◌, ◌<◌, ◌≤◌, ℕ, List, length, slice_index, arith}
+use Rattle.mds_types.specs.declared.plan.Plan.{Plan}
+use Rattle.mds_types.specs.declared.problem.ProblemRow.{ProblemRow}
+use Rattle.mds_types.specs.Certificate.{AreRanks, IsCutCertified, IsCertified, plan_label, plan_rank}
+use Rattle.mds_types.specs.Division.{part_heat, greatest_heat}
+use Rattle.mds_types.specs.Placing.{cost}
+use Rattle.mds_types.specs.Problem.{ProblemData}
+use Rattle.mds_types.specs.RankSet.{rank_count}
+use Rattle.mds_types.proofs.CertificateLemmas.{IsCertified-from, IsDivision-more, greatest_heat-more}
+use Rattle.mds_types.proofs.SumsLemmas.{max_below-le}
+use Rattle.minmax_search.specs.declared.found.Found.{Found}
+use Rattle.minmax_search.specs.Found.{IsFound}
+use Rattle.rank_assign.specs.Assigned.{CostData}
+use Rattle.rank_assign.specs.declared.assigned.Assigned.{Assigned}
+use Rattle.cost_table.specs.Costs.{cell_at, chosen_cost, AreCosts}
+use Rattle.cost_table.specs.Prices.{ArePrices}
+use Rattle.cost_table.proofs.PriceLemmas.{prices_over, dual_from_prices, moved-cells}
+
+-- a cut that was found is certified
+pub found_certified :
+    (rows : List ProblemRow) (ranks : ℕ) (found : Found) → IsFound rows ranks found
+    → IsCutCertified rows ranks found.cut.part.items found.cut.count found.greatest found.proof
+found_certified rows ranks found is =
+    let label : ℕ → ℕ = slice_index found.cut.part.items in
+    let within : greatest_heat rows found.cut.count (slice_index found.cut.part.items) ≤ found.greatest =
+    max_below-le found.cut.count found.greatest (part_heat rows label) is.cut.within in
+    let above = is.least.lowest label (IsDivision-more rows found.cut.count ranks label is.few is.cut.parts.division) in
+    let same = greatest_heat-more rows found.cut.count ranks label is.few is.cut.parts.division in
+    record {
+      few = is.few;
+      size = is.cut.size;
+      parts = is.cut.parts;
+      greatest_is = omega (arith, within, above, same);
+      cut = is.proven;
+    }
+
+-- with the cheapest placing it is a certified plan
+pub plan_certified :
+    (problem : ProblemData) (plan : Plan) (cells : List ℕ)
+    → IsCutCertified problem.rows (rank_count problem.ranks) plan.part.items (length plan.rank.items) plan.greatest plan.cut
+    → AreRanks problem.ranks (length plan.rank.items) (plan_rank plan)
+    → AreCosts problem.rows (plan_label plan) (length plan.rank.items) problem.ranks cells
+    → plan.moved ≡ chosen_cost problem.ranks cells (length plan.rank.items) (plan_rank plan)
+    → ArePrices problem.ranks (length plan.rank.items) (cell_at problem.ranks cells) (plan_rank plan) plan.dual
+    → IsCertified problem plan
+plan_certified problem plan cells division are costs moved prices =
+    let k = length plan.rank.items in
+    IsCertified-from problem plan are division
+    (omega (
+      arith,
+      moved,
+      moved-cells problem.rows k problem.ranks (plan_label plan) (plan_rank plan) cells division.parts.division.below are costs,
+    ))
+    (dual_from_prices problem.rows problem.ranks k (plan_label plan) (plan_rank plan) plan.dual
+    (prices_over problem.ranks k (cell_at problem.ranks cells) (cost problem.rows (plan_label plan)) (plan_rank plan) plan.dual are
+    costs.costs prices))
+
+-- what the search and the assignment give is a certified plan
+pub solved :
+    (problem : ProblemData) (found : Found) (costs : CostData) (assigned : Assigned)
+    → IsFound problem.rows (rank_count problem.ranks) found → costs.count ≡ found.cut.count → costs.ranks ≡ problem.ranks
+    → AreCosts problem.rows (slice_index found.cut.part.items) found.cut.count problem.ranks costs.cells
+    → length assigned.ranks.items ≡ costs.count
+    → AreRanks costs.ranks costs.count (slice_index assigned.ranks.items)
+    → assigned.moved ≡ chosen_cost costs.ranks costs.cells costs.count (slice_index assigned.ranks.items)
+    → ArePrices costs.ranks costs.count (cell_at costs.ranks costs.cells) (slice_index assigned.ranks.items) assigned.proof
+    → IsCertified problem (record {
+      part = found.cut.part;
+      rank = assigned.ranks;
+      greatest = found.greatest;
+      moved = assigned.moved;
+      cut = found.proof;
+      dual = assigned.proof;
+    })
+solved problem found costs assigned is count_is ranks_is cells size are moved prices =
+    let k_is : length assigned.ranks.items ≡ found.cut.count = size ∙ count_is in
+    plan_certified problem
+    (record {
+      part = found.cut.part;
+      rank = assigned.ranks;
+      greatest = found.greatest;
+      moved = assigned.moved;
+      cut = found.proof;
+      dual = assigned.proof;
+    })
+    costs.cells (rw k_is (found_certified problem.rows (rank_count problem.ranks) found is)) (rw (size, ← ranks_is) are)
+    (rw k_is cells) (rw (size, ← ranks_is) moved) (rw (size, ← ranks_is) prices)

@@ -1,0 +1,23 @@
+use Rattle.std.proofs.Common.{◌≡◌, rules}
+use Rattle.mds_types.specs.Certificate.{IsCertified}
+use Rattle.mds_types.specs.Problem.{IsProblem}
+use Rattle.mds_types.proofs.CertificateLemmas.{best}
+use Rattle.planner.proofs.SolveLemmas.{solved}
+use Rattle.planner.proofs.solve.Goals as goal
+
+pub returns-clause-certified : goal.returns-clause-certified
+returns-clause-certified g c =
+    solved c.args.problem.now c.in_ok-cut.field-0 c.in_ok-costs.costs c.in_ok-rank.field-0 c.in_ok-cut.ensures
+    c.in_ok-costs.ensures.count c.in_ok-costs.ensures.ranks (rw c.deref.ensures.value at c.in_ok-costs.ensures.cells)
+    c.in_ok-rank.ensures.size c.in_ok-rank.ensures.ranks c.in_ok-rank.ensures.moved c.in_ok-rank.ensures.prices
+
+pub returns-clause-best : goal.returns-clause-best
+returns-clause-best g c =
+    let sound : IsProblem c.args.problem.now = record {
+      forest = rw c.rows-rows.ensures.value at c.rows-rows.ensures.forest;
+      ranked = rw c.ranks.ensures.value at c.ranks.ensures.ranked;
+    } in
+    best c.args.problem.now _ sound
+    (solved c.args.problem.now c.in_ok-cut.field-0 c.in_ok-costs.costs c.in_ok-rank.field-0 c.in_ok-cut.ensures
+    c.in_ok-costs.ensures.count c.in_ok-costs.ensures.ranks (rw c.deref.ensures.value at c.in_ok-costs.ensures.cells)
+    c.in_ok-rank.ensures.size c.in_ok-rank.ensures.ranks c.in_ok-rank.ensures.moved c.in_ok-rank.ensures.prices)

@@ -1,0 +1,6 @@
+pub mod AssignedLemmas
+pub mod CountLemmas
+pub mod HandLemmas
+pub mod RaiseLemmas
+pub mod ReachLemmas
+pub mod WayLemmas
