@@ -1,6 +1,5 @@
-use Rattle.std.proofs.Common.{arith, rules, ◌≡◌, ◌<◌, ◌≤◌, ◌+◌, ◌-◌, ◌/◌, ◌*◌, ◌^◌, ◌∙◌, ap, subst, ℕ}
-use Rattle.residual_cut.specs.Probe.{IfFits, IfTooMany}
-use Rattle.mds_types.specs.Division.{IsLowerBound, HasFew, NeedsMore}
+use Rattle.std.proofs.Common.{arith, ◌≡◌, ◌+◌, ◌-◌, subst, ℕ}
+use Rattle.mds_types.specs.Division.{IsLowerBound}
 use Rattle.minmax_search.proofs.BoundLemmas.{lower_from_more, width_fits}
 use Rattle.minmax_search.proofs.narrow.narrow_once.Goals as goal
 
