@@ -60,7 +60,9 @@ fn time_all(rt: &HostRuntime, shape: Shape, ranks: u8) -> io::Result<()> {
     let (searched, greatest, passes) = time_search(rt, &problem)?;
     let (cut, parts) = time_cut(rt, &problem, greatest)?;
     let (below, more) = time_cut(rt, &problem, greatest.saturating_sub(1))?;
-    println!(rt; "{shape} {ranks} greatest {greatest} search {searched} passes {passes} cut {cut} parts {parts} below {below} parts {more}")
+    println!(rt;
+        "{shape} {ranks} greatest {greatest} search {searched} passes {passes} cut {cut} parts {parts} below {below} parts {more}"
+    )
 }
 
 /// Prints a problem, as `rows ranks` and then `parent heat inodes now` a line.

@@ -4,8 +4,7 @@ ghost use Rattle.std.specs.Prelude.{◌<◌, ◌≤◌};
 use exhaustive::Random;
 use mds_types::{Problem, ProblemRow, Rank, RankSet};
 use std::alloc::Global;
-use std::fmt;
-use std::io;
+use std::{fmt, io};
 
 /// How many rows a tree has.
 const ROWS: u32 = 65536;

@@ -115,6 +115,6 @@ table_beyond rows table bound k i label forest is division within l =
     ⊎_elim
     (λ (more : cuts_at table i < edge_acc (parent_at rows) label d (suc i) i). inl (omega (arith, edges)))
     (λ (same : (cuts_at table i ≡ edge_acc (parent_at rows) label d (suc i) i)
-        × (rest_at table i ≤ heat_acc (parent_at rows) label (heat_at rows) d (suc i) i)).
+    × (rest_at table i ≤ heat_acc (parent_at rows) label (heat_at rows) d (suc i) i)).
     inr (same.0 ∙ edges, omega (arith, same.1, heat)))
     beyond
