@@ -180,10 +180,15 @@ mod tests {
 
     #[test]
     fn refuses_too_many_rows(rt: HostRuntime) -> Result<(), Fail> {
-        let row = rows(rt.alloc(), &[(0, 0)])?;
-        let mut many = vec![in rt.alloc(); row[0]; 65536]?;
+        let row = ProblemRow {
+            parent: 0,
+            heat: 0,
+            inodes: 1,
+            now: Rank::default(),
+        };
+        let mut many = vec![in rt.alloc(); row; 65536]?;
         assert!(rt; Problem::new(many.clone()?, RankSet::from_bits(1)).is_ok());
-        many.push(row[0])?;
+        many.push(row)?;
         match Problem::new(many, RankSet::from_bits(0)) {
             Ok(_) => panic!(rt; "accepted too many rows"),
             Err((error, _)) => assert_eq!(rt; error.to_string(rt.alloc())?.as_str(), "4 TooMany"),

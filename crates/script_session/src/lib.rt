@@ -5,6 +5,7 @@ pub mod board;
 mod carry_out;
 mod cost;
 pub mod fault;
+pub mod laws;
 pub mod load;
 pub mod report;
 pub mod script;

@@ -53,3 +53,6 @@ pub fn run<R: Read, W: Write>(
     let mut session = Session::new(limit);
     run_script(alloc, &mut session, reader, writer, strict)
 }
+
+#[cfg(test)]
+mod tests;

@@ -1,0 +1,174 @@
+//! Scripts with their answers, over devices that give and take a few bytes at a time, and that fail.
+use super::run;
+use script_engine::RunError;
+use std::alloc::Global;
+use std::io;
+use std::io::{Read, Write};
+use std::test::Fail;
+
+/// Gives at most `step` bytes at a read, and fails after so many reads.
+#[derive(Drop)]
+struct Source<'a> {
+    rest: &'a [u8],
+    step: usize,
+    reads: usize,
+}
+
+impl Read for Source<'_> {
+    fn read(&mut self, buf: &mut [u8]) -> io::Result<usize> {
+        if self.reads == 0 {
+            return Err(io::Error::from(io::ErrorKind::BrokenPipe));
+        }
+        self.reads -= 1;
+        let count = self.step.min(self.rest.len()).min(buf.len());
+        buf[..count].copy_from_slice(&self.rest[..count]);
+        self.rest = &self.rest[count..];
+        Ok(count)
+    }
+}
+
+/// Takes at most `step` bytes at a write, and fails after so many writes.
+#[derive(Drop)]
+struct Sink {
+    bytes: Vec<u8>,
+    step: usize,
+    writes: usize,
+}
+
+impl Write for Sink {
+    fn write(&mut self, buf: &[u8]) -> io::Result<usize> {
+        if self.writes == 0 {
+            return Err(io::Error::from(io::ErrorKind::BrokenPipe));
+        }
+        self.writes -= 1;
+        let count = self.step.min(buf.len());
+        self.bytes.extend_from_slice(&buf[..count])?;
+        Ok(count)
+    }
+
+    fn flush(&mut self) -> io::Result<()> {
+        Ok(())
+    }
+}
+
+const ENOUGH: usize = 1_000_000;
+
+fn source_of(script: &str, step: usize) -> Source<'_> {
+    Source {
+        rest: script.as_bytes(),
+        step,
+        reads: ENOUGH,
+    }
+}
+
+fn sink_of(alloc: Global, step: usize) -> Sink {
+    Sink {
+        bytes: Vec::new(alloc),
+        step,
+        writes: ENOUGH,
+    }
+}
+
+const TWO_PARTS: &str = "ranks 1\ndir /a 10\ndir /b 20\nload /a 4\nload /b 6\ngo\ncost /b\ncost\n";
+
+const TWO_PARTS_COST: &str =
+    "cost greatest 6 parts 2\npart / heat 4 inodes 11\npart /b heat 6 inodes 20\ncost greatest 10 parts 1\npart / heat 10 inodes 31\n";
+
+#[test]
+fn answers_scripts(rt: HostRuntime) -> Result<(), Fail> {
+    // (script, whether all lines are accepted, what is written)
+    let table = [
+        ("", true, ""),
+        (TWO_PARTS, true, TWO_PARTS_COST),
+        (
+            "ranks 1\ndir /a 1\ndir /a/.. 1",
+            false,
+            "line 3: refused 8 BadName\n",
+        ),
+        (
+            "ranks 2\ndir /a 10\ndir /b 20\npin /b 1\nload /a 4\nload /b 6\ngo\ncost /a\ncost /b\n",
+            false,
+            "cost greatest 4 parts 2\npart / heat 0 inodes 1\npart /a heat 4 inodes 10\nline 9: refused 35 Pinned\n",
+        ),
+        (
+            "dir /a 1\nranks 1\nload /a\nranks 1\n",
+            false,
+            "line 1: no ranks\nline 3: syntax\nline 4: ranks again\n",
+        ),
+        (
+            "# a comment\n\n \t\r\nranks 0\nranks 65\nranks 064\nDIR /a 1\ncost /a\n",
+            false,
+            "line 4: syntax\nline 5: syntax\nline 7: syntax\nline 8: refused 6 NoDir\n",
+        ),
+        (
+            "ranks 2\ndir /a 1\ndir /a 2\ndir b 1\ndir /x/b 1\npin /a 2\npin /a -2\npin /a 2147483648\npin /x 5\nload /x 1\nload /a 0\n",
+            false,
+            "line 3: refused 7 Exists\nline 4: refused 8 BadName\nline 5: refused 6 NoDir\nline 6: refused 12 NoRank\nline 7: syntax\nline 8: syntax\nline 9: refused 6 NoDir\nline 10: refused 6 NoDir\nline 11: syntax\n",
+        ),
+        (
+            "ranks 1\ndir /a 1\ndir /b 1\ndir /c 1\ndir /d 1\n",
+            false,
+            "line 5: refused 11 TreeFull\n",
+        ),
+        (
+            "ranks 2\npin / 1\ncost\npin / -1\ncost\n",
+            true,
+            "cost greatest 0 parts 0\ncost greatest 0 parts 1\npart / heat 0 inodes 1\n",
+        ),
+    ];
+    for (script, accepted, text) in table {
+        for step in [1, 7, 4096] {
+            let mut source = source_of(script, step);
+            let mut sink = sink_of(rt.alloc(), step);
+            let result = run(rt.alloc(), &mut source, &mut sink, 4, false);
+            assert_eq!(rt; result, Ok(accepted), "{script} by {step}");
+            assert!(rt;
+                sink.bytes.as_slice() == text.as_bytes(),
+                "{script} by {step}"
+            );
+        }
+    }
+    Ok(())
+}
+
+#[test]
+fn a_strict_run_ends_at_the_first_fault(rt: HostRuntime) -> Result<(), Fail> {
+    let mut source = source_of("ranks 1\nload /a\nranks 1\ncost\n", 3);
+    let mut sink = sink_of(rt.alloc(), ENOUGH);
+    let result = run(rt.alloc(), &mut source, &mut sink, 65536, true);
+    assert_eq!(rt; result, Ok(false));
+    assert!(rt; sink.bytes.as_slice() == b"line 2: syntax\n".as_slice());
+    Ok(())
+}
+
+#[test]
+fn each_failed_read_ends_a_run(rt: HostRuntime) -> Result<(), Fail> {
+    for reads in 0..11usize {
+        let mut source = source_of(TWO_PARTS, 7);
+        source.reads = reads;
+        let mut sink = sink_of(rt.alloc(), ENOUGH);
+        let result = run(rt.alloc(), &mut source, &mut sink, 65536, false);
+        assert_eq!(rt; result, Err(RunError::Read), "after {reads}");
+        assert!(rt;
+            TWO_PARTS_COST.as_bytes().starts_with(&sink.bytes),
+            "after {reads}"
+        );
+    }
+    Ok(())
+}
+
+#[test]
+fn each_failed_write_ends_a_run(rt: HostRuntime) -> Result<(), Fail> {
+    for (writes, _) in TWO_PARTS_COST.as_bytes().iter().enumerate() {
+        let mut source = source_of(TWO_PARTS, ENOUGH);
+        let mut sink = sink_of(rt.alloc(), 1);
+        sink.writes = writes;
+        let result = run(rt.alloc(), &mut source, &mut sink, 65536, false);
+        assert_eq!(rt; result, Err(RunError::Write), "after {writes}");
+        assert!(rt;
+            TWO_PARTS_COST.as_bytes().get(..writes) == Some(sink.bytes.as_slice()),
+            "after {writes}"
+        );
+    }
+    Ok(())
+}
