@@ -270,9 +270,10 @@ fn aborts_before_the_log_entry_only(rt: HostRuntime) -> Result<(), Fail> {
 fn twice_delivered_messages_change_nothing(rt: HostRuntime) -> Result<(), Fail> {
     let mut cluster = Cluster::new(rt.alloc(), 16, 2)?;
     let all = to_the_log();
-    for at in 0..all.len() {
-        run_rows(&rt, rt.alloc(), &mut cluster, &all[at..at + 1])?;
-        if let Do::Deliver(message) = all[at].0 {
+    let rows = all.as_slice();
+    for at in 0..rows.len() {
+        run_rows(&rt, rt.alloc(), &mut cluster, &rows[at..at + 1])?;
+        if let Do::Deliver(message) = rows[at].0 {
             run_rows(
                 &rt,
                 rt.alloc(),
