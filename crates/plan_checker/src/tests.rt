@@ -1,5 +1,4 @@
 //! Plans that hold and plans that were forged.
-ghost use Rattle.std.specs.Prelude.{◌<◌};
 
 use crate::{check, check_cut};
 use arrayvec::ArrayVec;
@@ -154,11 +153,11 @@ fn accepts(alloc: Global, problem: &Problem, claim: &Claim) -> Result<bool, Fail
 }
 
 /// The table of the true claim with one row changed.
-fn with_row(row: usize, changed: InTable) -> Claim
-    requires { row < 4 }
-{
+fn with_row(row: usize, changed: InTable) -> Claim {
     let mut claim = TRUE_CLAIM;
-    claim.table[row] = changed;
+    if let Some(place) = claim.table.get_mut(row) {
+        *place = changed;
+    }
     claim
 }
 
