@@ -40,23 +40,35 @@ number low high field =
 abbrev pub pin_value : List ℕ → Option ℤ
 pin_value field = if bytes_eq field (codes "-1") then Some (negsuc 0) else option_map (λ n. pos n) (number 0 2147483647 field)
 
--- a path is given by its bytes
+-- a path or a mask is given by its bytes
 pub data Command : Type 0 where
   Ranks : ℕ → Command
+  Mask : List ℕ → Command
   MakeDir : List ℕ → ℕ → Command
+  RemoveDir : List ℕ → Command
   Pin : List ℕ → ℤ → Command
   Load : List ℕ → ℕ → Command
   Go : Command
+  Tick : Command
   Cost : List (List ℕ) → Command
+  Stat : Command
 
 -- what a word and the fields behind it spell
 abbrev pub ranks : List (List ℕ) → Option Command
 ranks (n ∷ []) = option_map Ranks (number 1 64 n)
 ranks fields = None
 
+abbrev pub mask : List (List ℕ) → Option Command
+mask (text ∷ []) = Some (Mask text)
+mask fields = None
+
 abbrev pub make_dir : List (List ℕ) → Option Command
 make_dir (path ∷ n ∷ []) = option_map (MakeDir path) (number 0 4294967295 n)
 make_dir fields = None
+
+abbrev pub remove_dir : List (List ℕ) → Option Command
+remove_dir (path ∷ []) = Some (RemoveDir path)
+remove_dir fields = None
 
 abbrev pub pin : List (List ℕ) → Option Command
 pin (path ∷ value ∷ []) = option_map (Pin path) (pin_value value)
@@ -70,15 +82,27 @@ abbrev pub go : List (List ℕ) → Option Command
 go [] = Some Go
 go fields = None
 
+abbrev pub tick : List (List ℕ) → Option Command
+tick [] = Some Tick
+tick fields = None
+
+abbrev pub stat : List (List ℕ) → Option Command
+stat [] = Some Stat
+stat fields = None
+
 abbrev pub command : List (List ℕ) → Option Command
 command [] = None
 command (word ∷ rest) =
     if bytes_eq word (codes "ranks") then ranks rest
+    else if bytes_eq word (codes "mask") then mask rest
     else if bytes_eq word (codes "dir") then make_dir rest
+    else if bytes_eq word (codes "rmdir") then remove_dir rest
     else if bytes_eq word (codes "pin") then pin rest
     else if bytes_eq word (codes "load") then load rest
     else if bytes_eq word (codes "go") then go rest
+    else if bytes_eq word (codes "tick") then tick rest
     else if bytes_eq word (codes "cost") then Some (Cost rest)
+    else if bytes_eq word (codes "stat") then stat rest
     else None
 
 -- what a line asks for

@@ -8,11 +8,15 @@ use Rattle.script_commands.specs.declared.line.Asked.TheVariants as found
 
 abbrev pub view : Command → line.Command
 view (made.Ranks n) = line.Ranks n.number
+view (made.Mask text) = line.Mask text.now
 view (made.MakeDir path n) = line.MakeDir path.now n
+view (made.RemoveDir path) = line.RemoveDir path.now
 view (made.Pin path value) = line.Pin path.now value
 view (made.Load path n) = line.Load path.now n
 view made.Go = line.Go
+view made.Tick = line.Tick
 view (made.Cost paths) = line.Cost (map (λ p. p.now) paths.items)
+view made.Stat = line.Stat
 
 abbrev pub asked_view : Asked → line.Asked
 asked_view found.Nothing = line.Nothing

@@ -2,7 +2,7 @@
 ghost use Rattle.std.specs.Prelude.{◌≡◌, ◌∷◌, map, IfOk, true};
 ghost use Rattle.std.specs.List.{list_all};
 ghost use Rattle.std.specs.Option.{option_map};
-ghost use Rattle.script_commands.specs.Commands.{is_plain, ranks, make_dir, pin, load, go, command};
+ghost use Rattle.script_commands.specs.Commands.{is_plain, ranks, mask, make_dir, remove_dir, pin, load, go, tick, stat, command};
 ghost use Rattle.script_commands.specs.View.{view};
 
 use crate::fields::text;
@@ -10,20 +10,28 @@ use crate::number::{number, pin_value};
 use crate::rank_count::RankCount;
 use std::alloc::{AllocError, Global};
 
-/// A command, with the paths as they stand in the line.
+/// A command, with its texts as they stand in the line.
 #[derive(Debug, Drop)]
 pub enum Command<'a> {
     Ranks(RankCount),
+    /// The ranks that the balancer may use, as `bal_rank_mask` writes them.
+    Mask(&'a str),
     /// A directory to make, and its inodes.
     MakeDir(&'a str, u32),
+    /// A directory to remove.
+    RemoveDir(&'a str),
     /// An export pin: a rank, or -1 to take the directory's own pin away.
     Pin(&'a str, i32),
     /// One request that waits, with its hits, 1 to 1000000.
     Load(&'a str, u32),
     /// The waiting requests are served.
     Go,
+    /// All heats are halved.
+    Tick,
     /// The cost of the division at these tops.
     Cost(Vec<&'a str>),
+    /// The report on all directories.
+    Stat,
 }
 
 fn ranks<'a>(rest: &[&'a [u8]]) -> Option<Command<'a>>
@@ -38,6 +46,19 @@ fn ranks<'a>(rest: &[&'a [u8]]) -> Option<Command<'a>>
     }
 }
 
+fn mask<'a>(rest: &[&'a [u8]]) -> Option<Command<'a>>
+    requires { list_all (list_all is_plain) (map (λ field. field.now) rest.now) ≡ true }
+    ensures { option_map view result ≡ mask (map (λ field. field.now) rest.now) }
+{
+    match rest {
+        [bits] => match text(bits) {
+            Some(bits) => Some(Command::Mask(bits)),
+            None => None,
+        },
+        _ => None,
+    }
+}
+
 fn make_dir<'a>(rest: &[&'a [u8]]) -> Option<Command<'a>>
     requires { list_all (list_all is_plain) (map (λ field. field.now) rest.now) ≡ true }
     ensures { option_map view result ≡ make_dir (map (λ field. field.now) rest.now) }
@@ -46,6 +67,19 @@ fn make_dir<'a>(rest: &[&'a [u8]]) -> Option<Command<'a>>
         [path, n] => match (text(path), number(n, 0, u32::MAX)) {
             (Some(path), Some(n)) => Some(Command::MakeDir(path, n)),
             _ => None,
+        },
+        _ => None,
+    }
+}
+
+fn remove_dir<'a>(rest: &[&'a [u8]]) -> Option<Command<'a>>
+    requires { list_all (list_all is_plain) (map (λ field. field.now) rest.now) ≡ true }
+    ensures { option_map view result ≡ remove_dir (map (λ field. field.now) rest.now) }
+{
+    match rest {
+        [path] => match text(path) {
+            Some(path) => Some(Command::RemoveDir(path)),
+            None => None,
         },
         _ => None,
     }
@@ -86,6 +120,24 @@ fn go<'a>(rest: &[&'a [u8]]) -> Option<Command<'a>>
     }
 }
 
+fn tick<'a>(rest: &[&'a [u8]]) -> Option<Command<'a>>
+    ensures { option_map view result ≡ tick (map (λ field. field.now) rest.now) }
+{
+    match rest {
+        [] => Some(Command::Tick),
+        _ => None,
+    }
+}
+
+fn stat<'a>(rest: &[&'a [u8]]) -> Option<Command<'a>>
+    ensures { option_map view result ≡ stat (map (λ field. field.now) rest.now) }
+{
+    match rest {
+        [] => Some(Command::Stat),
+        _ => None,
+    }
+}
+
 fn texts<'a>(alloc: Global, rest: &[&'a [u8]]) -> Result<Vec<&'a str>, AllocError>
     requires { list_all (list_all is_plain) (map (λ field. field.now) rest.now) ≡ true }
     ensures { IfOk result (λ paths. map (λ path. path.now) paths.items ≡ map (λ field. field.now) rest.now) }
@@ -111,16 +163,24 @@ pub fn find_command<'a>(
 {
     if word == b"ranks".as_slice() {
         Ok(ranks(rest))
+    } else if word == b"mask".as_slice() {
+        Ok(mask(rest))
     } else if word == b"dir".as_slice() {
         Ok(make_dir(rest))
+    } else if word == b"rmdir".as_slice() {
+        Ok(remove_dir(rest))
     } else if word == b"pin".as_slice() {
         Ok(pin(rest))
     } else if word == b"load".as_slice() {
         Ok(load(rest))
     } else if word == b"go".as_slice() {
         Ok(go(rest))
+    } else if word == b"tick".as_slice() {
+        Ok(tick(rest))
     } else if word == b"cost".as_slice() {
         Ok(Some(Command::Cost(texts(alloc, rest)?)))
+    } else if word == b"stat".as_slice() {
+        Ok(stat(rest))
     } else {
         Ok(None)
     }

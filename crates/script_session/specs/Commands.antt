@@ -1,17 +1,20 @@
--- What each command does to a board, and what it prints.
-use Rattle.std.specs.Prelude.{◌≡◌, ℕ, ℤ, ◌+◌, Bool, true, false, not, if◌then◌else◌, ◌==◌, List, [], ◌∷◌, ◌++◌, length, map, fold, slice_index, slice_set, codes, Option, Some, None, Result, Ok, Err}
+-- What each command does to a board.
+use Rattle.std.specs.Prelude.{◌≡◌, ℕ, ℤ, ◌+◌, ◌-◌, min, Bool, true, false, not, if◌then◌else◌, ◌==◌, nat_lt, List, [], ◌∷◌, ◌++◌, length, map, filter, fold, slice_index, slice_index_or, slice_set, codes, Option, Some, None, Result, Ok, Err}
 use Rattle.dirtree.specs.declared.tree_error.TreeError.{TreeError}
 use Rattle.dirtree.specs.declared.tree_error.TreeError.TheVariants.{BadName}
 use Rattle.dirtree.specs.Tree as tree
 use Rattle.dirtree.specs.Path as path
 use Rattle.dir_pins.specs.declared.pin_error.PinError.{PinError}
 use Rattle.dir_pins.specs.Pins as pins
-use Rattle.heat_decay.specs.Heat.{Heats, after_deposit}
+use Rattle.heat_decay.specs.Heat.{Heats, after_deposit, after_tick}
+use Rattle.heat_decay.specs.declared.heat.TheConstants.{TICK_LIMIT}
+use Rattle.heat_ledger.specs.declared.share.TheConstants.{HIT_LIMIT}
 use Rattle.script_session.specs.declared.load.Load.{Load}
 use Rattle.script_session.specs.declared.fault.Fault.{Fault}
 use Rattle.script_session.specs.declared.fault.Fault.TheVariants as fault
 use Rattle.script_session.specs.Board.{BoardData}
 use Rattle.script_session.specs.Fault.{tree_fault}
+use Rattle.script_session.specs.Mask.{mask_bits}
 
 infixl 10 ◌>>=◌
 abbrev pub ◌>>=◌ : {A B : Type 0} → Result A Fault → (A → Result B Fault) → Result B Fault
@@ -55,6 +58,12 @@ make_below b (Some parts) inodes = find b (parent_path parts.0) >>= λ parent. m
 abbrev pub make_dir : BoardData → List ℕ → ℕ → Result BoardData Fault
 make_dir b text inodes = make_below b (last_slash text) inodes
 
+abbrev pub remove_found : BoardData → ℕ → Result BoardData Fault
+remove_found b d = tree_allows (tree.remove_refusal b.directories d) (record b { directories = tree.without b.directories d })
+
+abbrev pub remove_dir : BoardData → List ℕ → Result BoardData Fault
+remove_dir b text = find b text >>= remove_found b
+
 abbrev pub pin_allows : {A : Type 0} → Option PinError → A → Result A Fault
 pin_allows None x = Ok x
 pin_allows (Some e) x = Err (fault.Pin e)
@@ -66,9 +75,42 @@ set_pin b text value = find b text >>= λ d. pin_allows (pins.pin_refusal b.pins
 abbrev pub load : BoardData → List ℕ → ℕ → Result BoardData Fault
 load b text hits = find b text >>= λ d. Ok (record b { loads = b.loads ++ record { dir = d; hits = hits } ∷ [] })
 
-abbrev pub deposit : Heats → Load → Heats
-deposit heats l = record heats { heats = slice_set heats.heats l.dir (after_deposit (slice_index heats.heats l.dir) l.hits) }
+-- all heats are halved
+abbrev pub tick : BoardData → Result BoardData Fault
+tick b = if nat_lt b.heats.ticks TICK_LIMIT then Ok (record b { heats = record b.heats { ticks = b.heats.ticks + 1; heats = map after_tick b.heats.heats } }) else Err fault.Ticks
+
+abbrev pub with_mask : BoardData → Option ℕ → Result BoardData Fault
+with_mask b None = Err fault.Mask
+with_mask b (Some bits) = Ok (record b { mask = bits })
+
+abbrev pub set_mask : BoardData → List ℕ → Result BoardData Fault
+set_mask b text = with_mask b (mask_bits text)
+
+-- heats, counted hits, and how many requests met a share that was full
+pub record Counts : Type 0 where
+  pub heats : Heats
+  pub counted : List ℕ
+  pub refused : ℕ
+
+-- how many hits of a request find room
+abbrev pub fitting : List ℕ → Load → ℕ
+fitting counted l = min l.hits (HIT_LIMIT - slice_index_or counted l.dir 0)
+
+-- the hits of a request that find room heat its directory and are counted
+abbrev pub serve : Counts → Load → Counts
+serve c l = record {
+  heats = record c.heats { heats = slice_set c.heats.heats l.dir (after_deposit (slice_index c.heats.heats l.dir) (fitting c.counted l)) };
+  counted = slice_set c.counted l.dir (slice_index_or c.counted l.dir 0 + fitting c.counted l);
+  refused = c.refused + (if fitting c.counted l == l.hits then 0 else 1);
+}
+
+-- A request waits until it is served or its directory is removed.
+abbrev pub waiting : BoardData → List Load
+waiting b = filter (λ l. tree.is_there b.directories.entries l.dir) b.loads
 
 -- the waiting requests are served, in their order
+abbrev pub served : BoardData → Counts
+served b = fold serve (record { heats = b.heats; counted = b.counted; refused = 0 }) (waiting b)
+
 abbrev pub go : BoardData → BoardData
-go b = record b { heats = fold deposit b.heats b.loads; loads = [] }
+go b = record b { heats = (served b).heats; counted = (served b).counted; loads = [] }

@@ -6,15 +6,18 @@ use Rattle.dirtree.specs.TreeError as tree_words
 use Rattle.dir_pins.specs.declared.pin_error.PinError.{PinError}
 use Rattle.dir_pins.specs.PinError as pin_words
 use Rattle.script_session.specs.declared.fault.Fault.{Fault}
-use Rattle.script_session.specs.declared.fault.Fault.TheVariants.{Syntax, NoRanks, RanksAgain, Memory, Tree, Pin, Pinned}
+use Rattle.script_session.specs.declared.fault.Fault.TheVariants.{Syntax, NoRanks, RanksAgain, Memory, Mask, Tree, Pin, ShareFull, Ticks, Pinned}
 
 abbrev pub words : Fault → List ℕ
 words Syntax = codes "syntax"
 words NoRanks = codes "no ranks"
 words RanksAgain = codes "ranks again"
 words Memory = codes "refused 0 Memory"
+words Mask = codes "refused 1 BadMask"
 words (Tree e) = codes "refused " ++ tree_words.words e
 words (Pin e) = codes "refused " ++ pin_words.words e
+words ShareFull = codes "refused 13 ShareFull"
+words Ticks = codes "refused 15 TicksFull"
 words Pinned = codes "refused 35 Pinned"
 
 -- want of memory is one fault, wherever it comes from

@@ -1,87 +1,107 @@
 -- What a line of a script does, and what is written for it.
-use Rattle.std.specs.Prelude.{◌≡◌, ℕ, Bool, true, false, List, [], ◌∷◌, ◌++◌, ◌⊎◌, Option, Some, None, Result, Ok, Err}
+use Rattle.std.specs.Prelude.{◌≡◌, ℕ, ◌==◌, Bool, true, false, List, [], ◌++◌, ◌⊎◌, Option, Some, None, Result, Ok, Err}
+use Prim.Native.Nat.{zero, suc}
 use Rattle.script_engine.specs.Answers.{Answer, fault_text}
 use Rattle.script_commands.specs.Commands as line
 use Rattle.script_commands.specs.Commands.{Command, Asked, asked}
 use Rattle.script_session.specs.declared.fault.Fault.{Fault}
-use Rattle.script_session.specs.declared.fault.Fault.TheVariants.{Syntax, NoRanks, RanksAgain, Memory}
-use Rattle.script_session.specs.declared.session.Session.{Session}
+use Rattle.script_session.specs.declared.fault.Fault.TheVariants.{Syntax, NoRanks, RanksAgain, Memory, ShareFull}
 use Rattle.script_session.specs.Board.{BoardData, empty_board}
 use Rattle.script_session.specs.Fault.{words}
-use Rattle.script_session.specs.Commands.{make_dir, set_pin, load, go}
+use Rattle.script_session.specs.Commands.{make_dir, remove_dir, set_pin, set_mask, load, go, served, tick}
 use Rattle.script_session.specs.Cost.{cost}
+use Rattle.script_session.specs.Stat.{stat}
+
+-- what a script has made so far, in a tree that gives numbers below the limit: nothing until `ranks` was accepted
+pub record SessionData : Type 0 where
+  pub limit : ℕ
+  pub board : Option BoardData
+
+-- what a command prints, and how many requests it refused since a share was full
+pub record Printed : Type 0 where
+  pub text : List ℕ
+  pub refused : ℕ
+
+abbrev pub only_text : List ℕ → Printed
+only_text text = record { text = text; refused = 0 }
 
 -- what a command prints, and the board after it
 abbrev pub Outcome : Type 0
-Outcome = Result (List ℕ × BoardData) Fault
+Outcome = Result (Printed × BoardData) Fault
 
 abbrev pub silent : Result BoardData Fault → Outcome
-silent (Ok b) = Ok ([], b)
+silent (Ok b) = Ok (only_text [], b)
 silent (Err e) = Err e
 
 abbrev pub printed : BoardData → Result (List ℕ) Fault → Outcome
-printed b (Ok text) = Ok (text, b)
+printed b (Ok text) = Ok (only_text text, b)
 printed b (Err e) = Err e
 
 abbrev pub on_board : BoardData → Command → Outcome
 on_board b (line.Ranks n) = Err RanksAgain
+on_board b (line.Mask text) = silent (set_mask b text)
 on_board b (line.MakeDir path inodes) = silent (make_dir b path inodes)
+on_board b (line.RemoveDir path) = silent (remove_dir b path)
 on_board b (line.Pin path value) = silent (set_pin b path value)
 on_board b (line.Load path hits) = silent (load b path hits)
-on_board b line.Go = Ok ([], go b)
+on_board b line.Go = Ok (record { text = []; refused = (served b).refused }, go b)
+on_board b line.Tick = silent (tick b)
 on_board b (line.Cost paths) = printed b (cost b paths)
+on_board b line.Stat = Ok (only_text (stat b), b)
 
 abbrev pub before_ranks : ℕ → Command → Outcome
-before_ranks limit (line.Ranks n) = Ok ([], empty_board limit n)
+before_ranks limit (line.Ranks n) = Ok (only_text [], empty_board limit n)
 before_ranks limit command = Err NoRanks
 
 abbrev pub outcome_at : ℕ → Option BoardData → Command → Outcome
 outcome_at limit None command = before_ranks limit command
 outcome_at limit (Some b) command = on_board b command
 
--- the text that a session gave for a command, and the board that it has then
-abbrev pub IsDone : Outcome → List ℕ → Session → Type 0
-IsDone due text new = (b : BoardData) × (due ≡ Ok (text, b)) × (new.board ≡ Some b)
-
 -- what a line prints, and the session after it
 abbrev pub LineOutcome : Type 0
-LineOutcome = Result (List ℕ × Session) Fault
+LineOutcome = Result (Printed × SessionData) Fault
 
-abbrev pub held : Session → Outcome → LineOutcome
+abbrev pub held : SessionData → Outcome → LineOutcome
 held s (Ok done) = Ok (done.0, record s { board = Some done.1 })
 held s (Err fault) = Err fault
 
-abbrev pub asked_outcome : Session → Asked → LineOutcome
-asked_outcome s line.Nothing = Ok ([], s)
+abbrev pub asked_outcome : SessionData → Asked → LineOutcome
+asked_outcome s line.Nothing = Ok (only_text [], s)
 asked_outcome s line.Syntax = Err Syntax
 asked_outcome s (line.Asks command) = held s (outcome_at s.limit s.board command)
 
-abbrev pub line_outcome : Session → List ℕ → LineOutcome
+abbrev pub line_outcome : SessionData → List ℕ → LineOutcome
 line_outcome s bytes = asked_outcome s (asked bytes)
 
-abbrev pub accepted_answer : List ℕ → Answer
-accepted_answer text = record { text = text; accepted = true; ample = true }
+-- a text so many times
+abbrev pub repeated : ℕ → List ℕ → List ℕ
+repeated zero text = []
+repeated (suc n) text = text ++ repeated n text
+
+-- A line that refused a request isn't accepted; it prints a refusal for each.
+abbrev pub done_answer : ℕ → Printed → Answer
+done_answer number p = record { text = p.text ++ repeated p.refused (fault_text number (words ShareFull)); accepted = p.refused == 0; ample = true }
 
 abbrev pub fault_answer : ℕ → Fault → Answer
 fault_answer number fault = record { text = fault_text number (words fault); accepted = false; ample = true }
 
-abbrev pub told : Session → ℕ → LineOutcome → Answer × Session
-told s number (Ok done) = (accepted_answer done.0, done.1)
+abbrev pub told : SessionData → ℕ → LineOutcome → Answer × SessionData
+told s number (Ok done) = (done_answer number done.0, done.1)
 told s number (Err fault) = (fault_answer number fault, s)
 
 -- the answer to a line where memory suffices, and the session after it
-abbrev pub answer_to : Session → ℕ → List ℕ → Answer × Session
+abbrev pub answer_to : SessionData → ℕ → List ℕ → Answer × SessionData
 answer_to s number bytes = told s number (line_outcome s bytes)
 
 abbrev pub out_of_memory : ℕ → Answer
 out_of_memory number = record { text = fault_text number (words Memory); accepted = false; ample = false }
 
 -- A line is answered so. Where memory is refused nothing has changed.
-abbrev pub answers : Session → ℕ → List ℕ → Answer → Session → Type 0
+abbrev pub answers : SessionData → ℕ → List ℕ → Answer → SessionData → Type 0
 answers old number bytes a new =
     ((a, new) ≡ answer_to old number bytes)
     ⊎ ((a ≡ out_of_memory number) × (new ≡ old))
 
 -- the session at the beginning of a script
-abbrev pub IsBeginning : ℕ → Session → Type 0
-IsBeginning limit s = (s.limit ≡ limit) × (s.board ≡ None)
+abbrev pub beginning : ℕ → SessionData
+beginning limit = record { limit = limit; board = None }

@@ -1,0 +1,19 @@
+-- The mask that a text writes.
+use Rattle.std.specs.Prelude.{ℕ, ◌-◌, ◌^◌, Bool, true, false, not, ◌&&◌, if◌then◌else◌, ◌==◌, nat_lt, nat_le, List, [], ◌∷◌, length, codes, Option, Some, None}
+use Rattle.std.specs.List.{list_all}
+use Rattle.std.specs.Char.{digit_value}
+use Rattle.std.specs.Str.{bytes_eq}
+use Rattle.std.specs.Str.Parse.{digits_value}
+
+-- one to sixteen hexadecimal digits of either case
+abbrev pub is_hex : List ℕ → Bool
+is_hex digits = nat_lt 0 (length digits) && (nat_le (length digits) 16 && list_all (λ c. nat_lt (digit_value c) 16) digits)
+
+-- the bits that stand behind 0x
+abbrev pub hex_bits : List ℕ → Option ℕ
+hex_bits (48 ∷ 120 ∷ digits) = if is_hex digits then Some (digits_value 16 digits) else None
+hex_bits text = None
+
+-- -1 is all ranks
+abbrev pub mask_bits : List ℕ → Option ℕ
+mask_bits text = if bytes_eq text (codes "-1") then Some (2 ^ 64 - 1) else hex_bits text
