@@ -41,6 +41,14 @@ impl Pins {
         Ok(Pins { active, own })
     }
 
+    /// How many ranks are active: those below this number.
+    pub fn active(&self) -> u8
+        ensures active { result ≡ self.now.active }
+        ensures few { result ≤ 64 }
+    {
+        self.active
+    }
+
     /// Pins a directory on a rank, or takes its own pin away where the value is -1. It takes no memory.
     pub fn set(&mut self, tree: &Tree, dir: Dir, pin: i32) -> Result<(), PinError>
         requires { tree.now.limit ≤ length self.old.own }

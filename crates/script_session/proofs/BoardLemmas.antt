@@ -4,12 +4,8 @@ use Rattle.heat_decay.specs.Heat.{Heats}
 use Rattle.script_session.specs.declared.load.Load.{Load}
 use Rattle.script_session.specs.Board.{BoardData, IsBoard}
 use Rattle.script_session.specs.declared.fault.Fault.{Fault}
-use Rattle.script_session.specs.Commands.{deposit, find, last_slash, make_child, make_dir, parent_path}
+use Rattle.script_session.specs.Commands.{find, last_slash, make_child, make_dir, parent_path}
 use Rattle.std.specs.Prelude.{fold}
-
-pub fold-limit : (heats : Heats) (loads : List Load) → (fold deposit heats loads).limit ≡ heats.limit
-fold-limit heats [] = refl
-fold-limit heats (l ∷ loads) = fold-limit (deposit heats l) loads
 
 -- where the parent is found, making a directory is making a child
 pub made_below : (b : BoardData) (text above name : List ℕ) (parent inodes : ℕ) → last_slash text ≡ Some (above, name) → find b (parent_path above) ≡ Ok parent → make_dir b text inodes ≡ make_child b parent name inodes

@@ -86,7 +86,7 @@ marked_root [] none some d inside = absurd (omega arith)
 marked_root (m ∷ marks) none some zero inside = refl
 marked_root (m ∷ marks) none some (suc d) inside = none (suc d) ∙ sym (or_false (nat_eq (suc d) 0) ∙ ne_eqb (suc d) 0 (λ e. absurd (omega (arith, e))))
 
-passing : (test : ℕ → Bool) (xs : List ℕ) → All (λ d. test d ≡ true) (filter test xs)
+pub passing : (test : ℕ → Bool) (xs : List ℕ) → All (λ d. test d ≡ true) (filter test xs)
 passing test [] = All-nil (λ d. test d ≡ true)
 passing test (x ∷ xs) = elim (test x) as (λ v. test x ≡ v → All (λ d. test d ≡ true) (cond v (x ∷ filter test xs) (filter test xs))) [
   | true ↦ λ is. All-cons (λ d. test d ≡ true) x (filter test xs) is (passing test xs)

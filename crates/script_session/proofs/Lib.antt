@@ -1,4 +1,7 @@
 pub mod BoardLemmas
 pub mod CostLemmas
+pub mod MaskLemmas
+pub mod ReportLemmas
+pub mod ServeLemmas
 pub mod SessionLemmas
 pub mod SlashLemmas

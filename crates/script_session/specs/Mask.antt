@@ -1,5 +1,5 @@
 -- The mask that a text writes.
-use Rattle.std.specs.Prelude.{ℕ, ◌-◌, ◌^◌, Bool, true, false, not, ◌&&◌, if◌then◌else◌, ◌==◌, nat_lt, nat_le, List, [], ◌∷◌, length, codes, Option, Some, None}
+use Rattle.std.specs.Prelude.{ℕ, ◌-◌, ◌^◌, Bool, ◌&&◌, if◌then◌else◌, nat_lt, nat_le, List, length, take, drop, codes, Option, Some, None}
 use Rattle.std.specs.List.{list_all}
 use Rattle.std.specs.Char.{digit_value}
 use Rattle.std.specs.Str.{bytes_eq}
@@ -11,8 +11,7 @@ is_hex digits = nat_lt 0 (length digits) && (nat_le (length digits) 16 && list_a
 
 -- the bits that stand behind 0x
 abbrev pub hex_bits : List ℕ → Option ℕ
-hex_bits (48 ∷ 120 ∷ digits) = if is_hex digits then Some (digits_value 16 digits) else None
-hex_bits text = None
+hex_bits text = if bytes_eq (take 2 text) (codes "0x") && is_hex (drop 2 text) then Some (digits_value 16 (drop 2 text)) else None
 
 -- -1 is all ranks
 abbrev pub mask_bits : List ℕ → Option ℕ

@@ -1,10 +1,10 @@
-//! The tree with its pins, its heats, and the requests that wait.
-ghost use Rattle.std.specs.Prelude.{◌≡◌, ◌<◌, ◌≤◌, All, ℕ, List, IfErr, IfOk, OnErr, OnOk, Ok, fold, length, slice_index_or, string_bytes, true, false};
+//! The tree with its pins, its heats, its book of hits, the mask, and the requests that wait.
+ghost use Rattle.std.specs.Prelude.{◌≡◌, ◌<◌, ◌≤◌, All, ℕ, List, IfErr, IfOk, IsTrue, OnErr, OnOk, Ok, Err, length, slice_index, slice_index_or, string_bytes, true, false};
 ghost use Rattle.dirtree.specs.Path.{path_of};
 ghost use Rattle.dirtree.specs.Tree.{is_there};
 ghost use Rattle.dir_pins.specs.Pins.{nearest_pin};
 ghost use Rattle.division_cost.specs.Parts.{Marks, parts};
-ghost use Rattle.script_session.specs.Commands.{deposit};
+ghost use Rattle.script_session.specs.Board.{empty_board};
 
 use crate::fault::Fault;
 use crate::load::Load;
@@ -12,46 +12,77 @@ use dir_pins::Pins;
 use dirtree::{Tree, TreeError};
 use division_cost::Part;
 use heat_decay::Heat;
-use mds_types::{Dir, Rank};
-use std::alloc::{AllocError, Global};
+use heat_ledger::{Book, Opened, Share};
+use mds_types::{Dir, Rank, RankSet};
+use naming::Naming;
+use std::alloc::{AllocError, AllocFailed, Global};
 use std::marker::Model;
 
-/// What a script has made once `ranks` was accepted.
+/// What a script has made once `ranks` was accepted. `J` names it.
+///
+/// The book has a share for each rank. One of them counts the hits of all requests; what it has
+/// counted is deposited when `go` ends, so that nothing is pending between commands.
 #[derive(Drop)]
-pub struct Board {
-    tree: Tree,
-    pins: Pins,
-    heat: Heat,
-    loads: Vec<Load>,
+pub struct Board<J: Naming> {
+    pub(crate) tree: Tree,
+    pub(crate) pins: Pins,
+    pub(crate) heat: Heat,
+    pub(crate) book: Book<J>,
+    pub(crate) share: Share<J>,
+    pub(crate) others: Vec<Share<J>>,
+    pub(crate) mask: RankSet,
+    pub(crate) loads: Vec<Load>,
 }
 
-impl Model for Board {
+impl<J: Naming> Model for Board<J> {
+    ghost use Rattle.std.specs.Prelude.{◌≡◌, replicate};
     ghost use Rattle.script_session.specs.Board.{BoardData, IsBoard};
 
     ghost Value = { BoardData };
 
-    ghost view = { λ board. record { directories = board.tree; pins = board.pins; heats = board.heat; loads = board.loads.items } };
+    ghost view = { λ board. record { directories = board.tree; pins = board.pins; heats = board.heat; counted = board.book.counted; mask = board.mask; loads = board.loads.items } };
 
-    ghost invariant = { λ board. IsBoard (record { directories = board.tree; pins = board.pins; heats = board.heat; loads = board.loads.items }) };
+    ghost invariant = { λ board. IsBoard (record { directories = board.tree; pins = board.pins; heats = board.heat; counted = board.book.counted; mask = board.mask; loads = board.loads.items })
+        × (board.tree.limit ≡ J.limit) × (board.share.hits ≡ board.book.counted) × (board.share.pending ≡ replicate J.limit 0) };
 }
 
-impl Board {
-    ghost use Rattle.script_session.specs.Board.{empty_board};
-    ghost use Rattle.script_session.specs.Commands.{find, go, load, make_child, make_dir, parent_path, set_pin};
+impl<J: Naming> Board<J> {
+    ghost use Rattle.script_session.specs.Commands.{find, load, make_child, make_dir, parent_path, remove_dir, set_mask, set_pin, tick};
     ghost use Rattle.script_session.specs.Fault.{IsDue};
+    ghost use Rattle.script_session.specs.Stat.{usable};
 
     /// The root alone, in a cluster with this many active ranks, and room for the directory numbers below `limit`.
-    pub fn new(alloc: Global, limit: u32, active: u8) -> Result<Board, AllocError>
+    /// Where memory is refused, what was opened is handed back.
+    pub fn new(
+        alloc: Global,
+        opened: Opened,
+        limit: u32,
+        active: u8,
+    ) -> Result<Board<J>, AllocFailed<Opened>>
+        requires name { opened ≡ J.ledger }
+        requires limit { limit ≡ J.limit }
         requires low { 1 ≤ limit }
         requires high { limit ≤ 65536 }
         requires some { 1 ≤ active }
         requires few { active ≤ 64 }
-        ensures { IfOk result (λ board. board ≡ empty_board limit active) }
+        ensures board { IfOk result (λ board. board ≡ empty_board limit active) }
+        ensures handed_back { IfErr result (λ e. e.value ≡ opened) }
     {
+        let Ok((tree, pins, heat)) = new_tables(alloc, limit, active) else {
+            return Err(AllocFailed { value: opened });
+        };
+        let (book, mut others) = Book::open(alloc, opened, limit, active)?;
+        let Some(share) = others.pop() else {
+            unreachable!()
+        };
         Ok(Board {
-            tree: Tree::new(alloc, limit)?,
-            pins: Pins::new(alloc, limit, active)?,
-            heat: Heat::new(alloc, limit)?,
+            tree,
+            pins,
+            heat,
+            book,
+            share,
+            others,
+            mask: RankSet::from_bits(0),
             loads: Vec::new(alloc),
         })
     }
@@ -84,6 +115,43 @@ impl Board {
             Ok(pin) => pin,
             Err(_) => unreachable!(),
         }
+    }
+
+    /// Whether there is such a directory.
+    pub(crate) fn contains(&self, dir: Dir) -> bool
+        ensures there { result ≡ is_there self.now.directories.entries dir }
+        ensures below { IsTrue result → dir < self.now.directories.limit }
+    {
+        self.tree.contains(dir)
+    }
+
+    /// How many ranks are active.
+    pub(crate) fn active(&self) -> u8
+        ensures { result ≡ self.now.pins.active }
+    {
+        self.pins.active()
+    }
+
+    /// How many active ranks the mask has.
+    pub(crate) fn usable(&self) -> u8
+        ensures { result ≡ usable self.now.pins.active self.now.mask }
+    {
+        self.mask.among(self.active()).len()
+    }
+
+    /// The heat of a directory that is there, in accesses.
+    pub(crate) fn heat_of(&self, dir: Dir) -> u64
+        requires { dir < self.now.directories.limit }
+        ensures { result ≡ slice_index self.now.heats.heats dir }
+    {
+        self.heat.heat(dir)
+    }
+
+    /// The hits on a directory that were deposited.
+    pub(crate) fn hits_of(&self, dir: Dir) -> u64
+        ensures { result ≡ slice_index_or self.now.counted dir 0 }
+    {
+        self.book.counted(dir)
     }
 
     /// The parts below these tops.
@@ -168,20 +236,55 @@ impl Board {
         Ok(())
     }
 
-    /// Serves the waiting requests. It takes no memory.
-    pub fn go(&mut self)
-        ensures { self.new ≡ go self.old }
+    /// Removes a directory that has no child. Requests that wait for it are served no more. It takes no memory.
+    pub fn remove_dir(&mut self, path: &str) -> Result<(), Fault>
+        ensures done { OnOk result (remove_dir self.old path.now ≡ Ok self.new) }
+        ensures fault { IfErr result (λ fault. remove_dir self.old path.now ≡ Err fault) }
+        ensures unchanged { OnErr result (self.new ≡ self.old) }
     {
-        serve(&mut self.heat, &self.loads);
-        self.loads.clear();
+        let dir = self.find(path)?;
+        self.tree.remove(dir)?;
+        Ok(())
+    }
+
+    /// Says which ranks the balancer may use. It takes no memory.
+    pub fn set_mask(&mut self, text: &str) -> Result<(), Fault>
+        ensures done { OnOk result (set_mask self.old text.now ≡ Ok self.new) }
+        ensures fault { IfErr result (λ fault. set_mask self.old text.now ≡ Err fault) }
+        ensures unchanged { OnErr result (self.new ≡ self.old) }
+    {
+        match RankSet::parse(text) {
+            Ok(mask) => {
+                self.mask = mask;
+                Ok(())
+            }
+            Err(_) => Err(Fault::Mask),
+        }
+    }
+
+    /// Halves all heats. It takes no memory.
+    pub fn tick(&mut self) -> Result<(), Fault>
+        ensures done { OnOk result (tick self.old ≡ Ok self.new) }
+        ensures fault { IfErr result (λ fault. tick self.old ≡ Err fault) }
+        ensures unchanged { OnErr result (self.new ≡ self.old) }
+    {
+        match self.heat.tick() {
+            Ok(()) => Ok(()),
+            Err(_) => Err(Fault::Ticks),
+        }
     }
 }
 
-fn serve(heat: &mut Heat, loads: &[Load])
-    requires { All (λ load. load.dir < heat.old.limit) loads.now }
-    ensures { heat.new ≡ fold deposit heat.old loads.now }
+// The tables of a board that has the root alone.
+fn new_tables(alloc: Global, limit: u32, active: u8) -> Result<(Tree, Pins, Heat), AllocError>
+    requires low { 1 ≤ limit }
+    requires high { limit ≤ 65536 }
+    requires some { 1 ≤ active }
+    requires few { active ≤ 64 }
+    ensures { IfOk result (λ t. (t.0 ≡ (empty_board limit active).directories) × (t.1 ≡ (empty_board limit active).pins) × (t.2 ≡ (empty_board limit active).heats)) }
 {
-    for load in loads {
-        heat.add(load.dir, load.hits as u64);
-    }
+    let tree = Tree::new(alloc, limit)?;
+    let pins = Pins::new(alloc, limit, active)?;
+    let heat = Heat::new(alloc, limit)?;
+    Ok((tree, pins, heat))
 }

@@ -9,9 +9,10 @@ use crate::board::Board;
 use crate::fault::Fault;
 use division_cost::{Part, greatest_heat, parts};
 use mds_types::Dir;
+use naming::Naming;
 use std::alloc::{AllocError, Global};
 
-impl Board {
+impl<J: Naming> Board<J> {
     /// The lines that say what the division at these tops costs. The root is a top too.
     pub fn cost(&self, alloc: Global, paths: &[&str]) -> Result<String, Fault>
         ensures done { IfOk result (λ text. cost self.now (map (λ path. path.now) paths.now) ≡ Ok (string_bytes text)) }

@@ -18,8 +18,14 @@ pub enum Fault {
     RanksAgain,
     /// The allocator refused a growth.
     Memory,
+    /// A mask is written as `-1`, or as `0x` and 1 to 16 hexadecimal digits.
+    Mask,
     Tree(TreeError),
     Pin(PinError),
+    /// The share of the rank that serves has counted 2^56 hits on the directory.
+    ShareFull,
+    /// The heats have made 2^40 ticks.
+    Ticks,
     /// A pin holds a directory that is named as a top.
     Pinned,
 }

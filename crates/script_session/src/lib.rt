@@ -7,12 +7,16 @@ mod cost;
 pub mod fault;
 pub mod laws;
 pub mod load;
+pub mod reply;
 pub mod report;
 pub mod script;
+mod serve;
 pub mod session;
+mod stat;
 
 pub use board::Board;
 pub use fault::Fault;
 pub use load::Load;
+pub use reply::Reply;
 pub use script::run;
 pub use session::Session;

@@ -1,70 +1,112 @@
 //! A session: the board that `ranks` makes, and the lines that come before it.
-ghost use Rattle.std.specs.Prelude.{◌≡◌, ◌≤◌, IfErr, IfOk, OnErr, OnOk, Ok, Some, None, string_bytes, true};
+ghost use Rattle.std.specs.Prelude.{◌≡◌, ◌≤◌, IfErr, IfOk, IfSome, OnErr, OnOk, Ok, None};
+ghost use Rattle.script_commands.specs.Commands.{Ranks};
+ghost use Rattle.script_session.specs.Session.{before_ranks};
 ghost use Rattle.script_commands.specs.View.{view};
 ghost use Rattle.script_session.specs.Fault.{IsDue};
 
 use crate::board::Board;
 use crate::fault::Fault;
-use crate::report::write_fault;
-use script_commands::{Asked, Command, read_line};
-use script_engine::{Interpreter, WriteFailed, write_whole};
+use crate::reply::Reply;
+use crate::report::{write_fault, write_reply};
+use heat_ledger::Opened;
+use naming::Naming;
+use script_commands::{Asked, Command, RankCount, read_line};
+use script_engine::{Interpreter, WriteFailed};
 use std::alloc::{AllocError, Global};
 use std::io::Write;
+use std::marker::Model;
 
-/// What a script has made so far: nothing, or a board once `ranks` was accepted.
+/// What a script has made so far: nothing, or a board once `ranks` was accepted. `J` names the board.
 #[derive(Drop)]
-pub struct Session {
-    pub limit: u32,
-    pub board: Option<Board>,
-    ghost some: { 1 ≤ limit },
-    ghost few: { limit ≤ 65536 },
+pub struct Session<J: Naming> {
+    limit: u32,
+    opened: Option<Opened>,
+    board: Option<Board<J>>,
 }
 
-impl Session {
-    ghost use Rattle.script_session.specs.Session.{IsDone, line_outcome, outcome_at};
+impl<J: Naming> Model for Session<J> {
+    ghost use Rattle.std.specs.Prelude.{◌≡◌, ◌≤◌, IfSome};
+    ghost use Rattle.script_session.specs.Session.{SessionData};
 
-    /// The session at the beginning of a script. Its tree is to give at most `limit` numbers.
-    pub fn new(limit: u32) -> Session
+    ghost Value = { SessionData };
+
+    ghost view = { λ session. record { limit = session.limit; board = session.board } };
+
+    ghost invariant = { λ session. (session.limit ≡ J.limit) × (1 ≤ session.limit) × (session.limit ≤ 65536) × IfSome session.opened (λ opened. opened ≡ J.ledger) };
+}
+
+impl<J: Naming> Session<J> {
+    ghost use Rattle.script_session.specs.Session.{beginning, line_outcome, held, outcome_at};
+
+    /// The session at the beginning of a script. Its tree is to give at most `limit` numbers. Where nothing was
+    /// opened for the board's book, for want of memory, `ranks` will be refused.
+    pub fn new(limit: u32, opened: Option<Opened>) -> Session<J>
+        requires name { IfSome opened (λ opened. opened ≡ J.ledger) }
+        requires limit { limit ≡ J.limit }
         requires some { 1 ≤ limit }
         requires few { limit ≤ 65536 }
-        ensures limit { result.limit ≡ limit }
-        ensures none { result.board ≡ None }
+        ensures { result ≡ beginning limit }
     {
-        Session { limit, board: None }
+        Session {
+            limit,
+            opened,
+            board: None,
+        }
+    }
+
+    /// Makes the board.
+    fn begin(&mut self, alloc: Global, active: RankCount) -> Result<Reply, Fault>
+        requires { self.old.board ≡ None }
+        ensures done { IfOk result (λ reply. held self.old (before_ranks self.old.limit (Ranks active.number)) ≡ Ok (reply, self.new)) }
+        ensures fault { IfErr result (λ fault. fault ≡ Fault.Memory) }
+        ensures unchanged { OnErr result (self.new ≡ self.old) }
+    {
+        let Some(opened) = self.opened.take() else {
+            return Err(Fault::Memory);
+        };
+        match Board::new(alloc, opened, self.limit, active.number) {
+            Ok(board) => {
+                self.board = Some(board);
+                Ok(Reply::silent(alloc))
+            }
+            Err(failed) => {
+                self.opened = Some(failed.value);
+                Err(Fault::Memory)
+            }
+        }
     }
 
     /// Carries out a command. Before `ranks` was accepted no other is.
-    pub fn carry_out(&mut self, alloc: Global, command: Command<'_>) -> Result<String, Fault>
-        ensures done { IfOk result (λ text. IsDone (outcome_at self.old.limit self.old.board (view command.entry)) (string_bytes text) self.new) }
+    pub fn carry_out(&mut self, alloc: Global, command: Command<'_>) -> Result<Reply, Fault>
+        ensures done { IfOk result (λ reply. held self.old (outcome_at self.old.limit self.old.board (view command.entry)) ≡ Ok (reply, self.new)) }
         ensures fault { IfErr result (IsDue (outcome_at self.old.limit self.old.board (view command.entry))) }
         ensures unchanged { OnErr result (self.new ≡ self.old) }
-        ensures limit { self.new.limit ≡ self.old.limit }
     {
         if let Some(board) = &mut self.board {
             return board.carry_out(alloc, command);
         }
-        let Command::Ranks(active) = command else {
-            return Err(Fault::NoRanks);
-        };
-        self.board = Some(Board::new(alloc, self.limit, active.number)?);
-        Ok(String::new(alloc))
+        match command {
+            Command::Ranks(active) => self.begin(alloc, active),
+            _ => Err(Fault::NoRanks),
+        }
     }
 
-    /// Reads a line and carries out what it asks for. The text is what it prints.
-    pub fn take_line(&mut self, alloc: Global, line: &[u8]) -> Result<String, Fault>
-        ensures done { IfOk result (λ text. line_outcome self.old line.now ≡ Ok (string_bytes text, self.new)) }
+    /// Reads a line and carries out what it asks for. The reply is what it prints.
+    pub fn take_line(&mut self, alloc: Global, line: &[u8]) -> Result<Reply, Fault>
+        ensures done { IfOk result (λ reply. line_outcome self.old line.now ≡ Ok (reply, self.new)) }
         ensures fault { IfErr result (IsDue (line_outcome self.old line.now)) }
         ensures unchanged { OnErr result (self.new ≡ self.old) }
     {
         match read_line(alloc, line)? {
-            Asked::Nothing => Ok(String::new(alloc)),
+            Asked::Nothing => Ok(Reply::silent(alloc)),
             Asked::Syntax => Err(Fault::Syntax),
             Asked::Asks(command) => self.carry_out(alloc, command),
         }
     }
 }
 
-impl Interpreter for Session {
+impl<J: Naming> Interpreter for Session<J> {
     ghost use Rattle.script_session.specs.Session.{answers};
 
     ghost answers = { answers };
@@ -77,10 +119,7 @@ impl Interpreter for Session {
         writer: &mut W,
     ) -> Result<bool, WriteFailed> {
         match self.take_line(alloc, line) {
-            Ok(text) => {
-                write_whole(writer, text.as_bytes())?;
-                Ok(true)
-            }
+            Ok(reply) => write_reply(writer, number, &reply),
             Err(fault) => {
                 write_fault(writer, number, fault)?;
                 Ok(false)

@@ -7,12 +7,12 @@ use Rattle.script_session.proofs.CostLemmas.{parts_there, root_marked}
 use Rattle.script_session.proofs.board.Board.cost.Goals as goal
 
 pub parts-requires-clause-root : goal.parts-requires-clause-root
-parts-requires-clause-root c =
+parts-requires-clause-root g c =
     let named = c.in_ok-is_top.ensures.tops in
     rw c.deref.ensures.value (root_marked c.in_ok-is_top.is_top.items named.0 c.in_ok-is_top.ensures.some named.2)
 
 pub cost_text-requires : goal.cost_text-requires
-cost_text-requires c =
+cost_text-requires g c =
     let named = c.in_ok-is_top.ensures.tops in
     let marked : Marks c.deref.result.now named.0 = rw c.deref.ensures.value named.2 in
     let items : c.deref-2.result.now ≡ parts c.args.self.now.directories.entries c.args.self.now.pins.own c.args.self.now.heats.heats named.0 = c.deref-2.ensures.value ∙ c.in_ok-parts.ensures.parts named.0 marked in

@@ -3,4 +3,4 @@ use Rattle.std.proofs.lemmas.Result.{IfOk-weaker}
 use Rattle.script_session.proofs.board.Board.part_line.Goals as goal
 
 pub returns : goal.returns
-returns c = IfOk-weaker c.format.result _ _ (λ s e. e ∙ simp (append_assoc, c.in_ok-path.ensures)) c.format.ensures.ok
+returns g c = IfOk-weaker c.format.result _ _ (λ s e. e ∙ simp (append_assoc, c.in_ok-path.ensures)) c.format.ensures.ok

@@ -7,7 +7,7 @@ use Rattle.script_session.proofs.CostLemmas.{all_false, marked_more, marked_root
 use Rattle.script_session.proofs.board.Board.tops.Goals as goal
 
 pub loop-path-init : goal.loop-path-init
-loop-path-init c =
+loop-path-init g c =
     let items : List Bool = c.in_ok-is_top.is_top.items in
     let none : (d : ℕ) → get_or items d false ≡ false = λ d. rw (c.in_ok-is_top.ensures.items_if_clones_equal (λ y e. e)) (all_false c.numbers.result d) in
     let count : length items ≡ c.numbers.result = omega (arith, c.in_ok-is_top.ensures.len, c.in_ok-is_top.is_top.ok.0) in
@@ -18,13 +18,13 @@ loop-path-init c =
     }
 
 pub returns-in_err-dir-clause-fault : goal.returns-in_err-dir-clause-fault
-returns-in_err-dir-clause-fault c =
+returns-in_err-dir-clause-fault g c =
     let e = err_from_is_err_and c.from_residual-in_err-dir.result c.from_residual-in_err-dir.ensures.1 in
     let marked = c.loop-path.invariant.marked in
     rw (e.1, e.2) (inl (ap (tops c.args.self.now) (paths_at c.args.paths.now c.loop-path.path-index _ c.loop-path-test.true) ∙ tops_end c.args.self.now (map (λ (path : Bor (List ℕ)). path.now) (take c.loop-path.path-index c.args.paths.now)) (map (λ (path : Bor (List ℕ)). path.now) (drop (c.loop-path.path-index + 1) c.args.paths.now)) _ marked.0 c.in_err-dir.field-0.0 marked.1 (sym c.top.ensures.top ∙ c.in_err-dir.was)))
 
 pub loop-path-preserved : goal.loop-path-preserved
-loop-path-preserved c =
+loop-path-preserved g c =
     let marked = c.loop-path.invariant.marked in
     let inside : c.in_ok-dir.dir < length c.loop-path.is_top.items = omega (arith, c.in_ok-dir.ensures.inside, c.loop-path.invariant.size) in
     record {

@@ -5,7 +5,7 @@ use Rattle.script_session.proofs.board.Board.tops.Given as goal
 
 -- the tops that the paths so far name are marked
 abbrev pub invariant-loop-path : goal.invariant-loop-path
-invariant-loop-path l = record {
+invariant-loop-path g l = record {
   size : length l.is_top.items ≡ length l.self.directories.entries;
   marked : (ts : List ℕ) × (tops l.self (map (λ path. path.now) (take l.path-index l.paths)) ≡ Ok ts) × Marks l.is_top.items ts;
 }

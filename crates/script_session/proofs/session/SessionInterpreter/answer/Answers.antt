@@ -1,25 +1,26 @@
-use Rattle.std.proofs.Common.{◌≡◌, ℕ, List, ap, sym, ◌∙◌, refl, string_bytes, true, false}
-use Rattle.std.proofs.lemmas.Result.{err_from_is_err_and}
+use Rattle.std.proofs.Common.{◌≡◌, ℕ, List, ap, sym, ◌∙◌, refl, true, false}
+use Rattle.std.proofs.lemmas.Result.{err_from_is_err_and, IfOk-weaker, on_err_weaker}
 use Rattle.std.specs.Io.KnownBytes.{Appends}
 use Rattle.script_engine.specs.Known.{AppendsFront}
-use Rattle.script_session.specs.Session.{accepted_answer}
+use Rattle.script_session.specs.Session.{done_answer}
 use Rattle.script_session.proofs.SessionLemmas.{answered, answered_fault}
 use Rattle.script_session.proofs.session.SessionInterpreter.answer.Goals as goal
 
-pub returns-in_err-write_whole-in-Ok-clause-err : goal.returns-in_err-write_whole-in-Ok-clause-err
-returns-in_err-write_whole-in-Ok-clause-err g c =
-    let p = err_from_is_err_and c.from_residual.result c.from_residual.ensures.1 in
-    rw p.1 (accepted_answer (string_bytes c.in-Ok.text), answered c.args.self.now c.take_line.new.self c.args.number c.args.line.now (string_bytes c.in-Ok.text) c.in-Ok.ensures.done, rw (← c.as_bytes.ensures.value) c.in_err-write_whole-in-Ok.ensures.err)
+pub returns-in-Ok-clause-ok : goal.returns-in-Ok-clause-ok
+returns-in-Ok-clause-ok g c = IfOk-weaker c.write_reply.result _ _
+    (λ accepted done. (done_answer c.args.number c.in-Ok.reply, answered c.args.self.now c.take_line.new.self c.args.number c.args.line.now c.in-Ok.reply c.in-Ok.ensures.done, done.0, done.1))
+    c.write_reply.ensures.ok
+
+pub returns-in-Ok-clause-err : goal.returns-in-Ok-clause-err
+returns-in-Ok-clause-err g c = on_err_weaker c.write_reply.result
+    (λ front. (done_answer c.args.number c.in-Ok.reply, answered c.args.self.now c.take_line.new.self c.args.number c.args.line.now c.in-Ok.reply c.in-Ok.ensures.done, front))
+    c.write_reply.ensures.err
 
 pub returns-in_err-write_fault-in-Err-clause-err : goal.returns-in_err-write_fault-in-Err-clause-err
 returns-in_err-write_fault-in-Err-clause-err g c =
-    let p = err_from_is_err_and c.from_residual-in_err-write_fault-in-Err.result c.from_residual-in_err-write_fault-in-Err.ensures.1 in
+    let p = err_from_is_err_and c.from_residual.result c.from_residual.ensures.1 in
     let a = answered_fault c.args.self.now c.take_line.new.self c.args.number c.args.line.now c.in-Err.fault c.in-Err.ensures.unchanged c.in-Err.ensures.fault in
     rw p.1 (a.0, a.1, rw (← a.3) c.in_err-write_fault-in-Err.ensures.err)
-
-pub returns-in_ok-write_whole-in-Ok-clause-ok : goal.returns-in_ok-write_whole-in-Ok-clause-ok
-returns-in_ok-write_whole-in-Ok-clause-ok g c =
-    (accepted_answer (string_bytes c.in-Ok.text), answered c.args.self.now c.take_line.new.self c.args.number c.args.line.now (string_bytes c.in-Ok.text) c.in-Ok.ensures.done, refl, rw (← c.as_bytes.ensures.value) c.in_ok-write_whole-in-Ok.ensures.ok)
 
 pub returns-in_ok-write_fault-in-Err-clause-ok : goal.returns-in_ok-write_fault-in-Err-clause-ok
 returns-in_ok-write_fault-in-Err-clause-ok g c =

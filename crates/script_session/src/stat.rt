@@ -1,0 +1,85 @@
+//! The command `stat`: the report on all directories.
+ghost use Rattle.std.specs.Prelude.{◌≡◌, ◌<◌, ◌≤◌, All, IfOk, string_bytes, true};
+ghost use Rattle.dirtree.specs.Tree.{is_there};
+ghost use Rattle.script_session.specs.Stat.{directories, pin_text};
+
+use crate::board::Board;
+use itoa::Buffer;
+use mds_types::{Dir, Rank};
+use naming::Naming;
+use std::alloc::{AllocError, Global};
+
+impl<J: Naming> Board<J> {
+    ghost use Rattle.std.specs.Prelude.{length};
+    ghost use Rattle.script_session.specs.Stat.{cluster_line, dir_line, stat, usable};
+
+    /// The lines on the cluster and on each directory, by rising numbers.
+    pub fn stat(&self, alloc: Global) -> Result<String, AllocError>
+        ensures { IfOk result (λ text. string_bytes text ≡ stat self.now) }
+    {
+        let dirs = self.directories(alloc)?;
+        self.stat_text(alloc, &dirs)
+    }
+
+    fn stat_text(&self, alloc: Global, dirs: &[Dir]) -> Result<String, AllocError>
+        requires all { dirs.now ≡ directories self.now.directories.entries }
+        requires there { All (λ dir. is_there self.now.directories.entries dir ≡ true) dirs.now }
+        requires below { All (λ dir. dir < self.now.directories.limit) dirs.now }
+        ensures { IfOk result (λ text. string_bytes text ≡ stat self.now) }
+    {
+        let mut text = self.cluster_line(alloc, dirs.len())?;
+        for dir in dirs {
+            let line = self.dir_line(alloc, *dir)?;
+            text.push_str(&line)?;
+        }
+        Ok(text)
+    }
+
+    /// The directories, by rising numbers.
+    fn directories(&self, alloc: Global) -> Result<Vec<Dir>, AllocError>
+        ensures dirs { IfOk result (λ dirs. dirs.items ≡ directories self.now.directories.entries) }
+        ensures there { IfOk result (λ dirs. All (λ dir. is_there self.now.directories.entries dir ≡ true) dirs.items) }
+        ensures below { IfOk result (λ dirs. All (λ dir. dir < self.now.directories.limit) dirs.items) }
+    {
+        let mut dirs = Vec::new(alloc);
+        for number in 0..self.numbers() {
+            let dir = Dir::new(number);
+            if self.contains(dir) {
+                dirs.push(dir)?;
+            }
+        }
+        Ok(dirs)
+    }
+
+    fn cluster_line(&self, alloc: Global, count: usize) -> Result<String, AllocError>
+        requires { count ≡ length (directories self.now.directories.entries) }
+        ensures { IfOk result (λ line. string_bytes line ≡ cluster_line self.now) }
+    {
+        let active = self.active();
+        let usable = self.usable();
+        format!(in alloc; "stat ranks {active} usable {usable} directories {count}\n")
+    }
+
+    fn dir_line(&self, alloc: Global, dir: Dir) -> Result<String, AllocError>
+        requires there { is_there self.now.directories.entries dir ≡ true }
+        requires below { dir < self.now.directories.limit }
+        ensures { IfOk result (λ line. string_bytes line ≡ dir_line self.now dir) }
+    {
+        let number = dir.number();
+        let path = self.path(alloc, dir)?;
+        let mut buffer = Buffer::new();
+        let pin = pin_text(&mut buffer, self.pin_of(dir));
+        let heat = self.heat_of(dir);
+        let hits = self.hits_of(dir);
+        format!(in alloc; "dir {number} {path} pin {pin} rank 0 heat {heat} hits {hits}\n")
+    }
+}
+
+fn pin_text(buffer: &mut Buffer, pin: Option<Rank>) -> &str
+    ensures { result.now ≡ pin_text pin }
+{
+    match pin {
+        Some(rank) => buffer.format(rank.number()),
+        None => "-",
+    }
+}
