@@ -1,0 +1,236 @@
+-- The program's command, and what a parse of it found.
+use Rattle.std.proofs.Common.{◌≡◌, ◌∙◌, ap, ℕ, Bool, true, false, List, [], ◌∷◌, length, Option, Some, None, refl, sym, subst, inl, inr, arith, codes, map, ◌&&◌, ◌||◌, ◌<◌, zero, suc}
+use Rattle.std.proofs.lemmas.Bool.Decides.{nat_tests}
+use Rattle.std.specs.List.{slice_index_or}
+use Rattle.std.specs.Str.{bytes_eq}
+use Rattle.std.specs.Prelude.{pos, not, option_map, unwrap_or, Result, Ok, ◌≤◌}
+use Rattle.std.specs.Option.{option_map_or}
+use Rattle.std.specs.Str.Parse.{ParsesUnsigned}
+use Rattle.std.proofs.lemmas.Slice.Eq.{bytes_eq-Decides}
+use Rattle.std.proofs.lemmas.List.Elements.{All-nil, All-cons}
+use Rattle.clap.specs.Facts.{args_of, groups_of}
+use Rattle.clap.specs.Built.{IsParsedFrom, NamesNoGroup}
+use Rattle.clap.specs.Lexer.{without_minus}
+use Rattle.clap.specs.Matches.{ReadsOne, found_of, one_text}
+use Rattle.clap.specs.Simple.{App}
+use Rattle.clap.specs.Values.{IsSignedIn}
+use Rattle.clap.specs.Walk.{is_empty}
+use Rattle.clap.specs.Words.{Rule, Text, app_of, is_simple_and_free, rule_of}
+use Rattle.clap.specs.Simple.{is_simple}
+use Rattle.clap.specs.declared.builder.arg.Arg.{Arg}
+use Rattle.clap.specs.declared.builder.command.Command.{Command}
+use Rattle.clap.specs.declared.builder.command.Command.TheViews.{out-Command}
+use Rattle.clap.specs.declared.parser.matches.ArgMatches.{ArgMatches}
+use Rattle.clap.specs.declared.builder.value_parser.ValueParser.TheVariants as parser
+use Rattle.clap.specs.Kinds.{HasKind, IsAmong, Kinds}
+use Rattle.clap.specs.Values.{kind_of}
+use Rattle.clap.specs.declared.error.Error.{Error}
+use Rattle.clap.specs.declared.error.kind.ErrorKind.{ErrorKind}
+use Rattle.clap.specs.declared.error.kind.ErrorKind.TheVariants as kind
+use Rattle.command_line.specs.Outcome.{Explains, StandsFor}
+use Rattle.command_line.specs.declared.options_error.OptionsError.{OptionsError}
+use Rattle.command_line.specs.declared.options_error.OptionsError.TheVariants.{Help, Memory, Refused}
+use Rattle.clap.proofs.CallerReads.{signed_reads}
+use Rattle.clap.proofs.OnLiterals.{clap_on_literals}
+use Rattle.command_line.specs.CommandLine.{limit_rule, mdbal, number_of, strict_rule}
+use Rattle.command_line.proofs.Passed.{IsOwn, text_passed}
+
+pub is_plain_line : is_simple_and_free mdbal ≡ true
+unfolding clap_on_literals
+is_plain_line = refl
+
+pub is_simple_line : is_simple mdbal ≡ true
+unfolding clap_on_literals
+is_simple_line = refl
+
+both_true : (a b : Bool) → (a && b) ≡ true → (a ≡ true) × (b ≡ true)
+both_true true b h = (refl, h)
+both_true false b h = cc
+
+none_of : {X : Type 0} (xs : List X) → is_empty xs ≡ true → xs ≡ []
+none_of [] h = refl
+none_of (x ∷ xs) h =
+    let zero : length (x ∷ xs) ≡ 0 = grind (arith, nat_tests) in
+    absurd (omega arith)
+
+-- two things of which a list is made
+record HasTwo {X Y : Type 0} (f : X → Y) (r s : Y) (xs : List X) : Type 0 where
+  first : X
+  second : X
+  are : xs ≡ first ∷ second ∷ []
+  first_is : f first ≡ r
+  second_is : f second ≡ s
+
+two_of : (X Y : Type 0) (f : X → Y) (r s : Y) (xs : List X) → map f xs ≡ r ∷ s ∷ [] → HasTwo f r s xs
+two_of X Y f r s [] h = cc
+two_of X Y f r s (a ∷ []) h = cc
+two_of X Y f r s (a ∷ b ∷ []) h = record {
+  first = a;
+  second = b;
+  are = refl;
+  first_is = ap (λ (ys : List Y). slice_index_or ys 0 r) h;
+  second_is = ap (λ (ys : List Y). slice_index_or ys 1 r) h;
+}
+two_of X Y f r s (a ∷ b ∷ x ∷ xs) h = cc
+
+-- the two arguments
+abbrev IsLine : List Arg → Type 0
+IsLine = HasTwo rule_of limit_rule strict_rule
+
+line_of : (xs : List Arg) → map rule_of xs ≡ limit_rule ∷ strict_rule ∷ [] → IsLine xs
+line_of = two_of Arg Rule rule_of limit_rule strict_rule
+
+no_groups_of : (a : Arg) (r : Rule) → rule_of a ≡ r → r.is_simple ≡ true → a.groups.items ≡ []
+no_groups_of a r h simple =
+    let all = ap (λ (x : Rule). x.is_simple) h ∙ simple in
+    none_of a.groups.items (both_true _ _ (both_true _ _ (both_true _ _ all).1).1).0
+
+named_differently : bytes_eq (codes "strict") (codes "limit") ≡ false
+named_differently = refl
+
+named_otherwise : bytes_eq (codes "limit") (codes "strict") ≡ false
+named_otherwise = refl
+
+limit_alone : (a b : Arg) → a.id.now ≡ codes "limit" → b.id.now ≡ codes "strict" → (j : ℕ) (e : Arg) → j < 2
+    → bytes_eq (slice_index_or (a ∷ b ∷ []) j e).id.now a.id.now ≡ true → j ≡ 0
+limit_alone a b is_a is_b zero e lt h = refl
+limit_alone a b is_a is_b (suc zero) e lt h =
+    let same : bytes_eq (codes "strict") (codes "limit") ≡ true = rw (is_a, is_b) at h in
+    let bad : true ≡ false = sym same ∙ named_differently in
+    cc
+limit_alone a b is_a is_b (suc (suc j)) e lt h = absurd (omega arith)
+
+strict_alone : (a b : Arg) → a.id.now ≡ codes "limit" → b.id.now ≡ codes "strict" → (j : ℕ) (e : Arg) → j < 2
+    → bytes_eq (slice_index_or (a ∷ b ∷ []) j e).id.now b.id.now ≡ true → j ≡ 1
+strict_alone a b is_a is_b zero e lt h =
+    let same : bytes_eq (codes "limit") (codes "strict") ≡ true = rw (is_a, is_b) at h in
+    let bad : true ≡ false = sym same ∙ named_otherwise in
+    cc
+strict_alone a b is_a is_b (suc zero) e lt h = refl
+strict_alone a b is_a is_b (suc (suc j)) e lt h = absurd (omega arith)
+
+-- a name that begins with another letter is neither empty nor that of the flag for help or the version
+first_letter : (t u : Text) → t ≡ u → slice_index_or t 0 0 ≡ slice_index_or u 0 0
+first_letter t u h = ap (λ (v : Text). slice_index_or v 0 0) h
+
+limit_own : (c : Command) (l : IsLine (args_of c)) → IsOwn c 0 l.first
+limit_own c l =
+    let id : l.first.id.now ≡ codes "limit" = ap (λ (r : Rule). r.id) l.first_is in
+    let other : l.second.id.now ≡ codes "strict" = ap (λ (r : Rule). r.id) l.second_is in
+    record {
+      below = rw l.are (omega arith);
+      is = rw l.are refl;
+      alone = λ j e lt h. limit_alone l.first l.second id other j e (rw l.are at lt) (rw l.are at h);
+      named = λ h.
+          let bad : 108 ≡ 0 = first_letter (codes "limit") [] (sym id ∙ h) in
+          absurd (omega arith);
+      not_added = λ auto. elim auto [
+        | inl h ↦
+            let bad : 108 ≡ 104 = first_letter (codes "limit") (codes "help") (sym id ∙ h) in
+            absurd (omega arith)
+        | inr h ↦
+            let bad : 108 ≡ 118 = first_letter (codes "limit") (codes "version") (sym id ∙ h) in
+            absurd (omega arith)
+      ];
+    }
+
+strict_own : (c : Command) (l : IsLine (args_of c)) → IsOwn c 1 l.second
+strict_own c l =
+    let other : l.first.id.now ≡ codes "limit" = ap (λ (r : Rule). r.id) l.first_is in
+    let id : l.second.id.now ≡ codes "strict" = ap (λ (r : Rule). r.id) l.second_is in
+    record {
+      below = rw l.are (omega arith);
+      is = rw l.are refl;
+      alone = λ j e lt h. strict_alone l.first l.second other id j e (rw l.are at lt) (rw l.are at h);
+      named = λ h.
+          let bad : 115 ≡ 0 = first_letter (codes "strict") [] (sym id ∙ h) in
+          absurd (omega arith);
+      not_added = λ auto. elim auto [
+        | inl h ↦
+            let bad : 115 ≡ 104 = first_letter (codes "strict") (codes "help") (sym id ∙ h) in
+            absurd (omega arith)
+        | inr h ↦
+            let bad : 115 ≡ 118 = first_letter (codes "strict") (codes "version") (sym id ∙ h) in
+            absurd (omega arith)
+      ];
+    }
+
+not_true : (b : Bool) → not b ≡ true → b ≡ false
+not_true true h = cc
+not_true false h = refl
+
+-- no argument is global, and there is no group
+record IsLoose (c : Command) : Type 0 where
+  globals : (out-Command c).has_globals ≡ false
+  unnamed : NamesNoGroup c
+  groups : groups_of c ≡ []
+
+loose : (c : Command) → app_of c ≡ mdbal → (l : IsLine (args_of c)) → IsLoose c
+loose c is l =
+    let plain = ap (λ (x : App). x.top.is_plain) is in
+    let first = both_true _ _ plain in
+    let third = both_true _ _ (both_true _ _ first.1).1 in
+    record {
+      globals = not_true _ third.0;
+      unnamed = rw l.are (All-cons (λ (a : Arg). a.groups.items ≡ []) l.first (l.second ∷ []) (no_groups_of l.first limit_rule l.first_is refl)
+          (All-cons (λ (a : Arg). a.groups.items ≡ []) l.second [] (no_groups_of l.second strict_rule l.second_is refl) (All-nil (λ (a : Arg). a.groups.items ≡ []))));
+      groups = none_of (groups_of c) first.0;
+    }
+
+pub limit_text : (c : Command) (m : ArgMatches) → app_of c ≡ mdbal → IsParsedFrom c m
+    → (t : Text) → one_text (found_of m) (codes "limit") ≡ Some t
+    → (raw : Text) × (t ≡ without_minus raw) × IsSignedIn (pos 1) (pos 65536) raw
+limit_text c m is p t found =
+    let l = line_of (args_of c) (ap (λ (x : App). x.top.rules) is) in
+    let id : l.first.id.now ≡ codes "limit" = ap (λ (r : Rule). r.id) l.first_is in
+    let k = loose c is l in
+    text_passed c m p k.globals k.unnamed k.groups 0 l.first (limit_own c l) (parser.Signed (pos 1) (pos 65536))
+    (ap (λ (r : Rule). r.parser) l.first_is) t (rw id found)
+
+pub strict_text : (c : Command) (m : ArgMatches) → app_of c ≡ mdbal → IsParsedFrom c m
+    → (t : Text) → one_text (found_of m) (codes "strict") ≡ Some t
+    → (bytes_eq t (codes "true") || bytes_eq t (codes "false")) ≡ true
+strict_text c m is p t found =
+    let l = line_of (args_of c) (ap (λ (x : App). x.top.rules) is) in
+    let id : l.second.id.now ≡ codes "strict" = ap (λ (r : Rule). r.id) l.second_is in
+    let k = loose c is l in
+    let got = text_passed c m p k.globals k.unnamed k.groups 1 l.second (strict_own c l) parser.Bool
+    (ap (λ (r : Rule). r.parser) l.second_is) t (rw id found) in
+    rw got.1 got.2
+
+-- the number that is read of the limit's text, or the most where there is none
+pub limit_given : (E : Type 0) (G : List ℕ → Result ℕ E → Type 0) (o : Option Text) (r : Option ℕ)
+    → ((t : Text) → o ≡ Some t → (raw : Text) × (t ≡ without_minus raw) × IsSignedIn (pos 1) (pos 65536) raw)
+    → (o ≡ None → r ≡ None) → ((t : Text) → o ≡ Some t → ReadsOne G t r)
+    → ((u : List ℕ) (x : Result ℕ E) → G u x → ParsesUnsigned 32 10 u x)
+    → (unwrap_or r 65536 ≡ unwrap_or (option_map number_of o) 65536) × (1 ≤ unwrap_or r 65536) × (unwrap_or r 65536 ≤ 65536)
+limit_given E G None r passed none some only = rw (none refl) (refl, omega arith, omega arith)
+limit_given E G (Some t) r passed none some only =
+    let raw = passed t refl in
+    let read : ReadsOne G (without_minus raw.0) r = subst (λ (u : Text). ReadsOne G u r) raw.1 (some t refl) in
+    let n = signed_reads E G 32 1 65536 raw.0 r read only (omega arith) raw.2 in
+    let read_n : ReadsOne G t (Some n.0) = subst (λ (x : Option ℕ). ReadsOne G t x) n.1 (some t refl) in
+    let value : n.0 ≡ number_of t = (only t (Ok n.0) read_n).1 in
+    rw n.1 (value, n.2, n.3)
+
+-- the flag's value, as its text says
+pub strict_given : (o : Option Text) (r : Bool) → ((t : Text) → o ≡ Some t → (bytes_eq t (codes "true") || bytes_eq t (codes "false")) ≡ true)
+    → (o ≡ None → r ≡ false) → (o ≡ Some (codes "true") → r ≡ true) → (o ≡ Some (codes "false") → r ≡ false)
+    → r ≡ option_map_or (λ text. bytes_eq text (codes "true")) o false
+strict_given None r passed none set unset = none refl
+strict_given (Some t) r passed none set unset = go (bytes_eq t (codes "true")) refl
+  where
+    go : (b : Bool) → bytes_eq t (codes "true") ≡ b → r ≡ bytes_eq t (codes "true")
+    go true is = set (ap (λ (u : Text). Some u) ((bytes_eq-Decides t (codes "true")).0 is)) ∙ sym is
+    go false is =
+        let other : bytes_eq t (codes "false") ≡ true = rw is at (passed t refl) in
+        unset (ap (λ (u : Text). Some u) ((bytes_eq-Decides t (codes "false")).0 other)) ∙ sym is
+
+pub explained : (error : Error) (e : OptionsError) (kinds : Kinds) → StandsFor error e → HasKind kinds error → Explains kinds e
+explained error Memory kinds s h = tt
+explained error (Help given) kinds s (inl memory) =
+    let bad : kind.OutOfMemory ≡ kind.DisplayHelp = sym memory ∙ s.1 in
+    cc
+explained error (Help given) kinds s (inr among) = (ap kind_of s.0 ∙ s.1, subst (λ (k : ErrorKind). IsAmong k kinds) s.1 among)
+explained error (Refused given) kinds s (inl memory) = absurd (s.1 memory)
+explained error (Refused given) kinds s (inr among) = rw s.0 (s.2, s.1, among)

@@ -1,0 +1,12 @@
+//! The words of `mdbal`'s command line.
+//!
+//! `mdbal [--limit N] [--strict]`: what counts as such a line is `clap`'s own reading of it.
+#![tactic(auto)]
+
+mod options_error;
+mod settings;
+#[cfg(test)]
+mod tests;
+
+pub use options_error::OptionsError;
+pub use settings::{Settings, options};

@@ -1,0 +1,56 @@
+//! Why a command line gives no settings.
+ghost use Rattle.std.specs.Prelude.{◌≡◌};
+ghost use Rattle.command_line.specs.Outcome.{StandsFor, status_of};
+ghost use Rattle.command_line.specs.declared.options_error.OptionsError.TheVariants.{Memory};
+
+use clap::Error;
+use clap::error::ErrorKind;
+use std::alloc::AllocError;
+
+/// Why a command line gives no settings. It prints as the text for the user, with the end of its last line.
+#[derive(Debug, Drop, thiserror::Error)]
+pub enum OptionsError {
+    /// The allocator refused a growth.
+    #[error("mdbal: 0 Memory\n")]
+    Memory,
+    /// The line asks for help, and this is its text.
+    #[error("{0}")]
+    Help(Error),
+    /// The line is refused, and this text says why.
+    #[error("{0}")]
+    Refused(Error),
+}
+
+impl OptionsError {
+    /// The status that the program ends with: 0 where help was asked for, and else 2.
+    ///
+    /// Where it is 0 the text goes to standard output, and else to standard error.
+    pub fn status(&self) -> u8
+        ensures { result ≡ status_of self.now }
+    {
+        match self {
+            OptionsError::Help(_) => 0,
+            OptionsError::Memory | OptionsError::Refused(_) => 2,
+        }
+    }
+}
+
+impl From<AllocError> for OptionsError {
+    ghost from_gives = { λ _ e. e ≡ Memory };
+
+    fn from(_: AllocError) -> OptionsError {
+        OptionsError::Memory
+    }
+}
+
+impl From<Error> for OptionsError {
+    ghost from_gives = { StandsFor };
+
+    fn from(error: Error) -> OptionsError {
+        match error.kind() {
+            ErrorKind::OutOfMemory => OptionsError::Memory,
+            ErrorKind::DisplayHelp => OptionsError::Help(error),
+            _ => OptionsError::Refused(error),
+        }
+    }
+}

@@ -1,0 +1,72 @@
+//! The settings that the words of a command line give.
+ghost use Rattle.std.specs.Prelude.{◌≡◌, false, ◌≤◌, [], IfErr, IfOk, map};
+ghost use Rattle.clap.specs.Words.{app_of, fault_of, rule_of};
+ghost use Rattle.command_line.specs.CommandLine.{is_strict, limit_of, limit_rule, mdbal, strict_rule};
+ghost use Rattle.command_line.specs.Outcome.{Explains};
+
+use crate::options_error::OptionsError;
+use clap::{Arg, ArgAction, Command, value_parser};
+use mds_types::limits::DIR_LIMIT;
+use std::alloc::{AllocError, Global};
+use std::convert::AsStr;
+
+/// What the program is started with.
+#[derive(Clone, Copy, Debug, PartialEq, Eq)]
+pub struct Settings {
+    /// How many directory numbers the tree may give, 1 to 65536.
+    pub limit: u32,
+    /// Whether the run ends with the first faulty line.
+    pub strict: bool,
+}
+
+/// Reads the words of a command line, of which the first is the program's name.
+///
+/// `--limit N` takes 1 to 65536, which is also the limit where the words name none. `--strict` and
+/// `--limit` may each stand once.
+pub fn options<'a, S: AsStr>(alloc: Global, words: &'a [S]) -> Result<Settings, OptionsError>
+    ensures accepted { IfOk result (λ _. fault_of mdbal (map S.text words.now) ≡ []) }
+    ensures limit { IfOk result (λ s. s.limit ≡ limit_of (map S.text words.now)) }
+    ensures within { IfOk result (λ s. (1 ≤ s.limit) × (s.limit ≤ DIR_LIMIT)) }
+    ensures strict { IfOk result (λ s. s.strict ≡ is_strict (map S.text words.now)) }
+    ensures refused { IfErr result (Explains (fault_of mdbal (map S.text words.now))) }
+{
+    let matches = command(alloc)?.try_get_matches_from(words)?;
+    Ok(Settings {
+        limit: matches.get_one::<u32>("limit").unwrap_or(DIR_LIMIT),
+        strict: matches.get_flag("strict"),
+    })
+}
+
+fn limit_option<'a>(alloc: Global) -> Arg<'a>
+    ensures rule { rule_of result ≡ limit_rule }
+    ensures local { result.global ≡ false }
+{
+    Arg::new(alloc, "limit")
+        .long("limit")
+        .value_name("N")
+        .value_parser(value_parser!(u32).range(1..=i64::from(DIR_LIMIT)))
+        .help("Directory numbers that the tree may give, 1 to 65536 (65536 where left out)")
+}
+
+fn strict_flag<'a>(alloc: Global) -> Arg<'a>
+    ensures rule { rule_of result ≡ strict_rule }
+    ensures local { result.global ≡ false }
+{
+    Arg::new(alloc, "strict")
+        .long("strict")
+        .action(ArgAction::SetTrue)
+        .value_parser(value_parser!(bool))
+        .help("End the run with the first faulty line")
+}
+
+// The program's command, as `clap` knows it.
+fn command<'a>(alloc: Global) -> Result<Command<'a>, AllocError>
+    ensures { IfOk result (λ c. app_of c ≡ mdbal) }
+{
+    Command::new(alloc, "mdbal")
+        .about(
+            "Carries out the script on standard input, and writes its answers to standard output",
+        )
+        .arg(limit_option(alloc))?
+        .arg(strict_flag(alloc))
+}
