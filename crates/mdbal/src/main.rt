@@ -1,20 +1,49 @@
-//! `mdbal`: reads a script on standard input, and writes the answers to standard output.
+//! `mdbal [--limit N] [--strict]`: reads a script on standard input, and writes the answers to standard output.
 //!
-//! The exit status is 0 where every line was accepted, 1 where one was not, and 3 where a device failed.
+//! The exit status is 0 where every line was accepted, 1 where one was not, 2 where the command line is refused, and 3
+//! where a device failed. `--help` ends with 0.
 #![tactic(auto)]
 
+ghost use Rattle.std.specs.Prelude.{◌≤◌};
+ghost use Rattle.mds_types.specs.declared.limits.TheConstants.{DIR_LIMIT};
+
+use command_line::{OptionsError, Settings, options};
 use script_engine::RunError;
 use script_session::run;
-use std::io;
 use std::process::ExitCode;
+use std::{env, io};
 
-/// The most directory numbers that a tree gives.
-const LIMIT: u32 = 65536;
+/// The words of the command line. One that isn't UTF-8 is an error.
+fn words(rt: &HostRuntime) -> io::Result<Vec<String>> {
+    let words = env::args(rt)?.collect(rt.alloc())?;
+    Ok(words)
+}
 
-fn main(rt: HostRuntime) -> ExitCode {
+/// Says why the command line gives no settings.
+fn explain(rt: &HostRuntime, error: OptionsError) -> ExitCode {
+    let status = error.status();
+    let _ = if status == 0 {
+        print!(rt; "{error}")
+    } else {
+        eprint!(rt; "{error}")
+    };
+    ExitCode::from(status)
+}
+
+/// Carries out the script.
+fn carry_out(rt: &HostRuntime, settings: Settings) -> ExitCode
+    requires some { 1 ≤ settings.limit }
+    requires few { settings.limit ≤ DIR_LIMIT }
+{
     let mut reader = rt.reader();
-    let mut writer = io::writer(&rt);
-    match run(rt.alloc(), &mut reader, &mut writer, LIMIT, false) {
+    let mut writer = io::writer(rt);
+    match run(
+        rt.alloc(),
+        &mut reader,
+        &mut writer,
+        settings.limit,
+        settings.strict,
+    ) {
         Ok(true) => ExitCode::SUCCESS,
         Ok(false) => ExitCode::FAILURE,
         Err(failure) => {
@@ -25,5 +54,19 @@ fn main(rt: HostRuntime) -> ExitCode {
             let _ = eprintln!(rt; "mdbal: {message}");
             ExitCode::from(3)
         }
+    }
+}
+
+fn main(rt: HostRuntime) -> ExitCode {
+    let words: Vec<String> = match words(&rt) {
+        Ok(words) => words,
+        Err(error) => {
+            let _ = eprintln!(rt; "mdbal: command line: {error}");
+            return ExitCode::from(2);
+        }
+    };
+    match options(rt.alloc(), words.as_slice()) {
+        Ok(settings) => carry_out(&rt, settings),
+        Err(error) => explain(&rt, error),
     }
 }

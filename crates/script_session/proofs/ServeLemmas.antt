@@ -23,9 +23,9 @@ module _ {S A : Type 0} (step : S → A → S) (test : A → Bool) where
   ]
   fold_more s (x ∷ xs) (suc i) d h = elim (test x) as (λ v. fold step s (cond v (x ∷ filter test (take (suc i) xs)) (filter test (take (suc i) xs)))
       ≡ cond (test (get_or xs i d)) (step (fold step s (cond v (x ∷ filter test (take i xs)) (filter test (take i xs)))) (get_or xs i d)) (fold step s (cond v (x ∷ filter test (take i xs)) (filter test (take i xs))))) [
-    | true ↦ fold_more (step s x) xs i d (omega arith)
-    | false ↦ fold_more s xs i d (omega arith)
-  ]
+        | true ↦ fold_more (step s x) xs i d (omega arith)
+        | false ↦ fold_more s xs i d (omega arith)
+      ]
 
 pub serve_limit : (c : Counts) (loads : List Load) → (fold serve c loads).heats.limit ≡ c.heats.limit
 serve_limit c [] = refl
@@ -74,11 +74,11 @@ pub deposited : (counted hits pending : List ℕ) (was was_pending : List ℕ) (
 deposited counted hits pending was was_pending n is none long wide kept =
     let size : length (sums counted pending) ≡ length hits = length-sums counted pending wide ∙ sym long in
     same_rows (sums counted pending) hits size (λ d.
-      let zero_before : at was_pending d ≡ 0 = rw none (at_replicate n d) in
-      let same : at was d ≡ at counted d = rw is refl in
-      let sum : at (sums counted pending) d ≡ at counted d + at pending d = at_sums counted pending d in
-      let all : at hits d + at was_pending d ≡ at was d + at pending d = kept d in
-      omega (arith, zero_before, same, sum, all))
+    let zero_before : at was_pending d ≡ 0 = rw none (at_replicate n d) in
+    let same : at was d ≡ at counted d = rw is refl in
+    let sum : at (sums counted pending) d ≡ at counted d + at pending d = at_sums counted pending d in
+    let all : at hits d + at was_pending d ≡ at was d + at pending d = kept d in
+    omega (arith, zero_before, same, sum, all))
 
 -- the waiting requests are served, from these parts of a board
 module _ (b : BoardData) (now : Counts) (hits : List ℕ) (loads : List Load) (is : hits ≡ b.counted) (all : loads ≡ b.loads)

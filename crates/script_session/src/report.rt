@@ -57,7 +57,11 @@ fn write_refused<W: Write>(writer: &mut W, number: u64, refused: u64) -> Result<
 }
 
 /// Writes what a command has done, and says whether its line is accepted.
-pub fn write_reply<W: Write>(writer: &mut W, number: u64, reply: &Reply) -> Result<bool, WriteFailed>
+pub fn write_reply<W: Write>(
+    writer: &mut W,
+    number: u64,
+    reply: &Reply,
+) -> Result<bool, WriteFailed>
     ensures ok { IfOk result (λ accepted. (accepted ≡ (done_answer number reply.now).accepted) × Appends (W.contents writer.old) (W.contents writer.new) (done_answer number reply.now).text) }
     ensures err { OnErr result (AppendsFront (W.contents writer.old) (W.contents writer.new) (done_answer number reply.now).text) }
 {

@@ -115,6 +115,32 @@ fn answers_scripts(rt: HostRuntime) -> Result<(), Fail> {
             true,
             "cost greatest 0 parts 0\ncost greatest 0 parts 1\npart / heat 0 inodes 1\n",
         ),
+        (
+            "ranks 2\nmask 0x3\ndir /p 1\ndir /p/q 1\npin /p 1\npin /p/q 0\npin /p/q -1\nstat\n",
+            true,
+            "stat ranks 2 usable 2 directories 3\ndir 0 / pin - rank 0 heat 0 hits 0\ndir 1 /p pin 1 rank 0 heat 0 hits 0\ndir 2 /p/q pin 1 rank 0 heat 0 hits 0\n",
+        ),
+        (
+            "ranks 2\nmask -1\ndir /a 1\nload /a 7\ngo\ntick\nstat\ntick\ntick\nstat\n",
+            true,
+            "stat ranks 2 usable 2 directories 2\ndir 0 / pin - rank 0 heat 0 hits 0\ndir 1 /a pin - rank 0 heat 3 hits 7\nstat ranks 2 usable 2 directories 2\ndir 0 / pin - rank 0 heat 0 hits 0\ndir 1 /a pin - rank 0 heat 0 hits 7\n",
+        ),
+        (
+            "ranks 2\nload / 5\ngo\nmask 0x1\nstat\nmask 0xfC\nstat\n",
+            true,
+            "stat ranks 2 usable 1 directories 1\ndir 0 / pin - rank 0 heat 5 hits 5\nstat ranks 2 usable 0 directories 1\ndir 0 / pin - rank 0 heat 5 hits 5\n",
+        ),
+        (
+            "ranks 2\ndir /a 1\ndir /a 1\ndir /a/b 1\nrmdir /a\nrmdir /\nrmdir /c\nmask 0x\nmask 0x+1\nmask\ntick 1\nstat 1\n",
+            false,
+            "line 3: refused 7 Exists\nline 5: refused 9 NotEmpty\nline 6: refused 10 IsRoot\nline 7: refused 6 NoDir\nline 8: refused 1 BadMask\nline 9: refused 1 BadMask\nline 10: syntax\nline 11: syntax\nline 12: syntax\n",
+        ),
+        // A request whose directory is removed is served no more, and the number is never given again.
+        (
+            "ranks 1\ndir /a 1\nload /a 3\nload / 2\nrmdir /a\ngo\ndir /a 1\nstat\n",
+            true,
+            "stat ranks 1 usable 0 directories 2\ndir 0 / pin - rank 0 heat 2 hits 2\ndir 2 /a pin - rank 0 heat 0 hits 0\n",
+        ),
     ];
     for (script, accepted, text) in table {
         for step in [1, 7, 4096] {

@@ -18,7 +18,7 @@ loop-load-preserved g c =
     let before : Counts = fold serve first (filter test (take i loads)) in
     let item : Load = c.load-item.result in
     let more : fold serve first (filter test (take (i + 1) loads)) ≡ cond (test item) (serve before item) before =
-        rw (add-one, c.load-item.is) (fold_more serve test first loads i item c.loop-load-test.true) in
+    rw (add-one, c.load-item.is) (fold_more serve test first loads i item c.loop-load-test.true) in
     let inv = c.loop-load.invariant in
     elim c.if-contains.branch [
       | then-contains w ↦

@@ -12,13 +12,17 @@ invariant_of-self g c =
     let size : length old ≡ g.J.Naming.limit = inv.0.counted_limit ∙ inv.1 in
     let counted : c.deposit.new.self.counted ≡ share.hits = rw c.deposit.ensures.book (deposited old share.hits share.pending c.self.inside.share.hits c.self.inside.share.pending g.J.Naming.limit inv.2 inv.3 (c.serve_all-refused.ensures.lengths.0 ∙ sym size) (c.serve_all-refused.ensures.lengths.1 ∙ sym size) c.serve_all-refused.ensures.pending) in
     let was : BoardData = record { directories = c.self.inside.tree; pins = c.self.inside.pins; heats = c.self.inside.heat; counted = c.self.inside.book.counted; mask = c.self.inside.mask; loads = c.self.inside.loads.items } in
-    let now : Counts = record { heats = c.serve_all-refused.new.heat; counted = c.serve_all-refused.new.share.hits; refused = c.serve_all-refused.result } in
-    (record {
-      pins_limit = inv.0.pins_limit;
-      heats_limit = limit_served was now c.self.inside.share.hits c.deref.result.now c.self.invariant.2 c.deref.ensures.value c.serve_all-refused.ensures.served ∙ inv.0.heats_limit;
-      counted_limit = ap length counted ∙ c.serve_all-refused.ensures.lengths.0 ∙ sym inv.1;
-      loads_inside = rw c.clear.ensures.items (search rules);
-    }, inv.1, rw c.deposit.ensures.share (sym counted), rw c.deposit.ensures.share refl)
+    let now : Counts = record { heats = c.serve_all-refused.new.heat; counted = c.serve_all-refused.new.share.hits; refused = c.serve_all-refused.result } in (
+      record {
+        pins_limit = inv.0.pins_limit;
+        heats_limit = limit_served was now c.self.inside.share.hits c.deref.result.now c.self.invariant.2 c.deref.ensures.value c.serve_all-refused.ensures.served ∙ inv.0.heats_limit;
+        counted_limit = ap length counted ∙ c.serve_all-refused.ensures.lengths.0 ∙ sym inv.1;
+        loads_inside = rw c.clear.ensures.items (search rules);
+      },
+      inv.1,
+      rw c.deposit.ensures.share (sym counted),
+      rw c.deposit.ensures.share refl,
+    )
 
 pub returns-clause-board : goal.returns-clause-board
 returns-clause-board g c =
