@@ -1,5 +1,7 @@
 #!/usr/bin/env python3
-"""Writes a script of n directories, n loads, a `go` and a `cost` of 1,000 tops: scripts.py SHAPE N [SEED].
+"""Writes a script of n directories, n loads and a `go`, and then what is asked: scripts.py SHAPE WHAT N [SEED].
+
+WHAT: cost (of 1,000 tops), stat (a tick and a report), hits (60,000,000 of them in the loads).
 
 Shapes: fs (broad and shallow, as a file system's top), usr (deeper, names of several letters), star (all below the root).
 """
@@ -19,9 +21,9 @@ def parents(shape, n, rng):
 
 
 def main():
-    shape, n = sys.argv[1], int(sys.argv[2])
-    rng = random.Random(int(sys.argv[3]) if len(sys.argv) > 3 else 1)
-    paths, lines = [""], ["ranks 8"]
+    shape, what, n = sys.argv[1], sys.argv[2], int(sys.argv[3])
+    rng = random.Random(int(sys.argv[4]) if len(sys.argv) > 4 else 1)
+    paths, lines = [""], ["ranks 8", "mask -1"]
     depth = [0]
     for number, parent in enumerate(parents(shape, n, rng), 1):
         while depth[parent] > 30:
@@ -30,9 +32,13 @@ def main():
         paths.append(f"{paths[parent]}/{rng.choice(['src', 'lib', 'doc', 'data', 'home'])}{number}")
         lines.append(f"dir {paths[number]} {rng.randrange(1000)}")
     for _ in range(n):
-        lines.append(f"load {rng.choice(paths) or '/'} {1 + rng.randrange(1000)}")
+        hits = 60_000_000 // n if what == "hits" else 1 + rng.randrange(1000)
+        lines.append(f"load {rng.choice(paths) or '/'} {hits}")
     lines.append("go")
-    lines.append("cost " + " ".join(rng.sample(paths[1:], min(1000, n - 1))))
+    if what == "stat":
+        lines += ["tick", "stat"]
+    else:
+        lines.append("cost " + " ".join(rng.sample(paths[1:], min(1000, n - 1))))
     print("\n".join(lines))
 
 

@@ -1,4 +1,4 @@
-//! The commands `ranks`, `dir`, `pin`, `load`, `go` and `cost` in plain Rust, as a measure for mdbal. Nothing here is proved.
+//! The commands of scripts in plain Rust, as a measure for mdbal. Nothing here is proved.
 use std::collections::HashMap;
 use std::io::{self, Read, Write};
 
@@ -14,6 +14,46 @@ struct Tree {
     dirs: Vec<Dir>,
     children: HashMap<(u32, Vec<u8>), u32>,
 }
+
+/// A rank's counts: hits, and those that aren't deposited, by directory.
+struct Share {
+    hits: Vec<u64>,
+    pending: Vec<u64>,
+}
+
+impl Share {
+    fn hit(&mut self, dir: u32) -> bool {
+        let row = dir as usize;
+        if row >= self.hits.len() || self.hits[row] >= 1 << 56 {
+            return false;
+        }
+        self.hits[row] += 1;
+        self.pending[row] += 1;
+        true
+    }
+}
+
+#[derive(Default)]
+struct Counts {
+    ranks: u32,
+    mask: u64,
+    shares: Vec<Share>,
+    counted: Vec<u64>,
+}
+
+impl Counts {
+    fn open(ranks: u32) -> Counts {
+        let row = || vec![0; LIMIT];
+        let shares = (0..ranks).map(|_| Share { hits: row(), pending: row() }).collect();
+        Counts { ranks, mask: 0, shares, counted: row() }
+    }
+
+    fn usable(&self) -> u32 {
+        (self.mask & u64::MAX >> (64 - self.ranks)).count_ones()
+    }
+}
+
+const LIMIT: usize = 65536;
 
 impl Tree {
     fn find(&self, path: &[u8]) -> Option<u32> {
@@ -57,6 +97,31 @@ impl Tree {
         path
     }
 
+    fn stat(&self, counts: &Counts, out: &mut Vec<u8>) {
+        let n = self.dirs.len();
+        writeln!(out, "stat ranks {} usable {} directories {n}", counts.ranks, counts.usable()).unwrap();
+        let mut pins = vec![-1; n];
+        for (number, dir) in self.dirs.iter().enumerate() {
+            let above = if number == 0 { -1 } else { pins[dir.parent as usize] };
+            pins[number] = if dir.pin < 0 { above } else { dir.pin };
+            write!(out, "dir {number} ").unwrap();
+            out.extend_from_slice(&self.path(number as u32));
+            match pins[number] {
+                -1 => write!(out, " pin -"),
+                pin => write!(out, " pin {pin}"),
+            }
+            .unwrap();
+            writeln!(out, " rank 0 heat {} hits {}", dir.heat, counts.counted[number]).unwrap();
+        }
+    }
+
+    fn serve(&mut self, counts: &mut Counts, dir: u32, hits: u64) {
+        let share = &mut counts.shares[0];
+        let counted = (0..hits).take_while(|_| share.hit(dir)).count() as u64;
+        let heat = &mut self.dirs[dir as usize].heat;
+        *heat = (*heat + counted).min(1 << 40);
+    }
+
     fn cost(&self, tops: &[u32], out: &mut Vec<u8>) {
         let n = self.dirs.len();
         let mut is_top = vec![false; n];
@@ -92,7 +157,8 @@ fn main() {
     io::stdin().read_to_end(&mut text).unwrap();
     let root = Dir { parent: 0, name: vec![], inodes: 1, heat: 0, pin: -1 };
     let mut tree = Tree { dirs: vec![root], children: HashMap::new() };
-    let (mut loads, mut out) = (vec![], vec![]);
+    let mut counts = Counts::default();
+    let (mut loads, mut out): (Vec<(u32, u64)>, _) = (vec![], vec![]);
     for line in text.split(|b| *b == b'\n') {
         let fields: Vec<&[u8]> = line.split(|b| b.is_ascii_whitespace()).filter(|f| !f.is_empty()).collect();
         match fields.as_slice() {
@@ -102,10 +168,18 @@ fn main() {
                 let dir = tree.find(path).unwrap();
                 tree.dirs[dir as usize].pin = number(rank);
             }
-            [b"go"] => loads.drain(..).for_each(|(dir, hits)| {
-                let heat = &mut tree.dirs[dir as usize].heat;
-                *heat = (*heat + hits).min(1 << 40);
-            }),
+            [b"ranks", ranks] => counts = Counts::open(number(ranks) as u32),
+            [b"mask", b"-1"] => counts.mask = u64::MAX,
+            [b"go"] => {
+                let waiting: Vec<(u32, u64)> = std::mem::take(&mut loads);
+                waiting.iter().for_each(|(dir, hits)| tree.serve(&mut counts, *dir, *hits));
+                waiting.iter().for_each(|(dir, _)| {
+                    let pending = &mut counts.shares[0].pending[*dir as usize];
+                    counts.counted[*dir as usize] += std::mem::take(pending);
+                });
+            }
+            [b"tick"] => tree.dirs.iter_mut().for_each(|dir| dir.heat /= 2),
+            [b"stat"] => tree.stat(&counts, &mut out),
             [b"cost", paths @ ..] => {
                 let tops: Vec<u32> = paths.iter().map(|path| tree.find(path).unwrap()).collect();
                 tree.cost(&tops, &mut out);
