@@ -38,6 +38,7 @@ fn carry_out(rt: &HostRuntime, settings: Settings) -> ExitCode
     let mut reader = rt.reader();
     let mut writer = io::writer(rt);
     match run(
+        rt,
         rt.alloc(),
         &mut reader,
         &mut writer,

@@ -51,6 +51,7 @@ pub data Command : Type 0 where
   Go : Command
   Tick : Command
   Cost : List (List ℕ) → Command
+  Plan : Command
   Stat : Command
 
 -- what a word and the fields behind it spell
@@ -86,6 +87,10 @@ abbrev pub tick : List (List ℕ) → Option Command
 tick [] = Some Tick
 tick fields = None
 
+abbrev pub plan : List (List ℕ) → Option Command
+plan [] = Some Plan
+plan fields = None
+
 abbrev pub stat : List (List ℕ) → Option Command
 stat [] = Some Stat
 stat fields = None
@@ -102,6 +107,7 @@ command (word ∷ rest) =
     else if bytes_eq word (codes "go") then go rest
     else if bytes_eq word (codes "tick") then tick rest
     else if bytes_eq word (codes "cost") then Some (Cost rest)
+    else if bytes_eq word (codes "plan") then plan rest
     else if bytes_eq word (codes "stat") then stat rest
     else None
 

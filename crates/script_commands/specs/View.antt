@@ -16,6 +16,7 @@ view (made.Load path n) = line.Load path.now n
 view made.Go = line.Go
 view made.Tick = line.Tick
 view (made.Cost paths) = line.Cost (map (λ p. p.now) paths.items)
+view made.Plan = line.Plan
 view made.Stat = line.Stat
 
 abbrev pub asked_view : Asked → line.Asked

@@ -2,7 +2,7 @@
 ghost use Rattle.std.specs.Prelude.{◌≡◌, ◌∷◌, map, IfOk, true};
 ghost use Rattle.std.specs.List.{list_all};
 ghost use Rattle.std.specs.Option.{option_map};
-ghost use Rattle.script_commands.specs.Commands.{is_plain, ranks, mask, make_dir, remove_dir, pin, load, go, tick, stat, command};
+ghost use Rattle.script_commands.specs.Commands.{is_plain, ranks, mask, make_dir, remove_dir, pin, load, go, tick, plan, stat, command};
 ghost use Rattle.script_commands.specs.View.{view};
 
 use crate::fields::text;
@@ -30,6 +30,8 @@ pub enum Command<'a> {
     Tick,
     /// The cost of the division at these tops.
     Cost(Vec<&'a str>),
+    /// The best plan for the directories that no pin holds.
+    Plan,
     /// The report on all directories.
     Stat,
 }
@@ -129,6 +131,15 @@ fn tick<'a>(rest: &[&'a [u8]]) -> Option<Command<'a>>
     }
 }
 
+fn plan<'a>(rest: &[&'a [u8]]) -> Option<Command<'a>>
+    ensures { option_map view result ≡ plan (map (λ field. field.now) rest.now) }
+{
+    match rest {
+        [] => Some(Command::Plan),
+        _ => None,
+    }
+}
+
 fn stat<'a>(rest: &[&'a [u8]]) -> Option<Command<'a>>
     ensures { option_map view result ≡ stat (map (λ field. field.now) rest.now) }
 {
@@ -179,6 +190,8 @@ pub fn find_command<'a>(
         Ok(tick(rest))
     } else if word == b"cost".as_slice() {
         Ok(Some(Command::Cost(texts(alloc, rest)?)))
+    } else if word == b"plan".as_slice() {
+        Ok(plan(rest))
     } else if word == b"stat".as_slice() {
         Ok(stat(rest))
     } else {

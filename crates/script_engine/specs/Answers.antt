@@ -42,9 +42,10 @@ module _ {S : Type 0} (answers : S → ℕ → List ℕ → Answer → S → Typ
   Run strict old number (line ∷ lines) (a ∷ more) new =
       (mid : S) × Takes old number line a mid × MatchBool (strict && not a.accepted) ((more ≡ []) × (new ≡ mid)) (Run strict mid (number + 1) lines more new)
 
--- A function of the state, the line's number and the line gives each answer for which memory sufficed, and what it leads to.
-abbrev pub IsDetermined : {S : Type 0} → (S → ℕ → List ℕ → Answer → S → Type 0) → (S → ℕ → List ℕ → Answer × S) → Type 0
-IsDetermined {S} answers play = (old new : S) (number : ℕ) (line : List ℕ) (a : Answer) → answers old number line a new → a.ample ≡ true → (a, new) ≡ play old number line
+-- For lines that are sure, a function of the state, the line's number and the line gives each answer for which memory
+-- sufficed, and what it leads to.
+abbrev pub IsDetermined : {S : Type 0} → (List ℕ → Bool) → (S → ℕ → List ℕ → Answer → S → Type 0) → (S → ℕ → List ℕ → Answer × S) → Type 0
+IsDetermined {S} sure answers play = (old new : S) (number : ℕ) (line : List ℕ) (a : Answer) → sure line ≡ true → answers old number line a new → a.ample ≡ true → (a, new) ≡ play old number line
 
 -- an answer, and then those of the lines that follow, unless the run ends with it
 abbrev pub after_answer : {S : Type 0} → Bool → Answer × S → List Answer × S → List Answer × S

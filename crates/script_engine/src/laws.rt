@@ -1,5 +1,6 @@
 //! Laws of runs, each the contract of a function that does nothing.
 ghost use Rattle.std.specs.Prelude.{◌≡◌, ℕ, ◌+◌, ◌++◌, List, Bool, true, false, not, ◌&&◌, length};
+ghost use Rattle.std.specs.List.{list_all};
 ghost use Rattle.script_engine.specs.Answers.{Answer, Run, IsDetermined, all_accepted, all_ample, played};
 
 use crate::interpreter::Interpreter;
@@ -13,10 +14,10 @@ pub fn cut_between<I: Interpreter>()
         × Run I.answers strict mid (length lines + number) more others new }
 {}
 
-/// Want of memory aside, the answers to a script are a function of its bytes and of `strict`, where each line's
-/// answer is a function of the state, the line's number and the line.
+/// Want of memory aside, the answers to a script of sure lines are a function of its bytes and of `strict`, where the
+/// answer to such a line is a function of the state, the line's number and the line.
 pub fn determined<I: Interpreter>()
-    ensures { (play : I → ℕ → List ℕ → Answer × I) (strict : Bool) (old new : I) (number : ℕ) (lines : List (List ℕ)) (replies : List Answer)
-        → IsDetermined I.answers play → Run I.answers strict old number lines replies new → all_ample replies ≡ true
+    ensures { (sure : List ℕ → Bool) (play : I → ℕ → List ℕ → Answer × I) (strict : Bool) (old new : I) (number : ℕ) (lines : List (List ℕ)) (replies : List Answer)
+        → IsDetermined sure I.answers play → list_all sure lines ≡ true → Run I.answers strict old number lines replies new → all_ample replies ≡ true
         → (replies ≡ (played play strict old number lines).0) × (new ≡ (played play strict old number lines).1) }
 {}

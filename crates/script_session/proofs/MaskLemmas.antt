@@ -60,5 +60,5 @@ mask_none text none = elim (cases_Bool (bytes_eq text (codes "-1"))) [
 
 -- the ranks of a set that keeps the active ones
 pub usable_counted : (kept active mask : ℕ) → ((rank : ℕ) → has_rank kept rank ≡ (nat_lt rank active && has_rank mask rank)) → rank_count kept ≡ usable active mask
-unfolding rank_count
+unfolding rank_count usable
 usable_counted kept active mask same = sum_below-same 64 (λ r. cond (has_rank kept r) 1 0) (λ r. cond (nat_lt r active && has_rank mask r) 1 0) (λ r below. ap (λ (b : Bool). cond b 1 0) (same r))

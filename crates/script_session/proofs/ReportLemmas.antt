@@ -16,10 +16,10 @@ repeated_within (suc i) (suc n) text h =
     (more.0, ap (λ (x : List ℕ). text ++ x) more.1 ∙ sym (append_assoc text (repeated i text ++ text) more.0) ∙ ap (λ (x : List ℕ). x ++ more.0) (sym (append_assoc text (repeated i text) text)))
 
 -- one more element's text
-pub flat_map_more : (f : ℕ → List ℕ) (xs : List ℕ) (i d : ℕ) → i < length xs → flat_map f (take (i + 1) xs) ≡ flat_map f (take i xs) ++ f (get_or xs i d)
-flat_map_more f xs i d h = rw add-one (grown xs i h)
+pub flat_map_more : {A : Type 0} (f : A → List ℕ) (xs : List A) (i : ℕ) (d : A) → i < length xs → flat_map f (take (i + 1) xs) ≡ flat_map f (take i xs) ++ f (get_or xs i d)
+flat_map_more {A} f xs i d h = rw add-one (grown xs i h)
   where
-    grown : (xs : List ℕ) (i : ℕ) → i < length xs → flat_map f (take (suc i) xs) ≡ flat_map f (take i xs) ++ f (get_or xs i d)
+    grown : (xs : List A) (i : ℕ) → i < length xs → flat_map f (take (suc i) xs) ≡ flat_map f (take i xs) ++ f (get_or xs i d)
     grown [] i h = absurd (omega arith)
     grown (x ∷ xs) zero h = append-nil (f x)
     grown (x ∷ xs) (suc i) h = ap (λ (t : List ℕ). f x ++ t) (grown xs i (omega arith)) ∙ sym (append_assoc (f x) (flat_map f (take i xs)) (f (get_or xs i d)))

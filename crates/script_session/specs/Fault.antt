@@ -1,12 +1,14 @@
 -- Why a line is faulty, in the words that are printed.
-use Rattle.std.specs.Prelude.{◌≡◌, ℕ, List, ◌++◌, ◌⊎◌, codes, Result, Ok, Err}
+use Rattle.std.specs.Prelude.{◌≡◌, ℕ, List, ◌++◌, ◌⊎◌, Bool, true, false, codes, Result, Ok, Err}
 use Rattle.dirtree.specs.declared.tree_error.TreeError.{TreeError}
 use Rattle.dirtree.specs.declared.tree_error.TreeError.TheVariants as tree
 use Rattle.dirtree.specs.TreeError as tree_words
 use Rattle.dir_pins.specs.declared.pin_error.PinError.{PinError}
 use Rattle.dir_pins.specs.PinError as pin_words
+use Rattle.board_problem.specs.declared.open_error.OpenError.{OpenError}
+use Rattle.board_problem.specs.declared.open_error.OpenError.TheVariants as opens
 use Rattle.script_session.specs.declared.fault.Fault.{Fault}
-use Rattle.script_session.specs.declared.fault.Fault.TheVariants.{Syntax, NoRanks, RanksAgain, Memory, Mask, Tree, Pin, ShareFull, Ticks, Pinned}
+use Rattle.script_session.specs.declared.fault.Fault.TheVariants.{Syntax, NoRanks, RanksAgain, Memory, Mask, Tree, Pin, ShareFull, Ticks, BalancerOff, Pinned}
 
 abbrev pub words : Fault → List ℕ
 words Syntax = codes "syntax"
@@ -18,6 +20,7 @@ words (Tree e) = codes "refused " ++ tree_words.words e
 words (Pin e) = codes "refused " ++ pin_words.words e
 words ShareFull = codes "refused 13 ShareFull"
 words Ticks = codes "refused 15 TicksFull"
+words BalancerOff = codes "refused 29 BalancerOff"
 words Pinned = codes "refused 35 Pinned"
 
 -- want of memory is one fault, wherever it comes from
@@ -30,6 +33,14 @@ tree_fault tree.NotEmpty = Tree tree.NotEmpty
 tree_fault tree.IsRoot = Tree tree.IsRoot
 tree_fault tree.TreeFull = Tree tree.TreeFull
 
+abbrev pub open_fault : OpenError → Fault
+open_fault opens.Memory = Memory
+open_fault opens.BalancerOff = BalancerOff
+
 -- the fault is the one that is due, or want of memory
 abbrev pub IsDue : {A : Type 0} → Result A Fault → Fault → Type 0
 IsDue due fault = (due ≡ Err fault) ⊎ (fault ≡ Memory)
+
+abbrev pub is_memory : Fault → Bool
+is_memory Memory = true
+is_memory _ = false

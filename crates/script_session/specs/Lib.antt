@@ -3,5 +3,6 @@ pub mod Commands
 pub mod Cost
 pub mod Fault
 pub mod Mask
+pub mod Plan
 pub mod Session
 pub mod Stat

@@ -1,16 +1,18 @@
 -- What a line of a script does, and what is written for it.
-use Rattle.std.specs.Prelude.{◌≡◌, ℕ, ◌==◌, Bool, true, false, List, [], ◌++◌, ◌⊎◌, Option, Some, None, Result, Ok, Err}
+use Rattle.std.specs.Prelude.{◌≡◌, ℕ, ◌==◌, Bool, true, false, not, if◌then◌else◌, List, [], ◌++◌, ◌⊎◌, Option, Some, None, Result, Ok, Err}
 use Prim.Native.Nat.{zero, suc}
 use Rattle.script_engine.specs.Answers.{Answer, fault_text}
 use Rattle.script_commands.specs.Commands as line
 use Rattle.script_commands.specs.Commands.{Command, Asked, asked}
 use Rattle.script_session.specs.declared.fault.Fault.{Fault}
-use Rattle.script_session.specs.declared.fault.Fault.TheVariants.{Syntax, NoRanks, RanksAgain, Memory, ShareFull}
+use Rattle.script_session.specs.declared.fault.Fault.TheVariants.{Syntax, NoRanks, RanksAgain, Memory, ShareFull, BalancerOff}
 use Rattle.script_session.specs.Board.{BoardData, empty_board}
-use Rattle.script_session.specs.Fault.{words}
+use Rattle.script_session.specs.Fault.{is_memory, words}
+use Rattle.mds_types.specs.declared.plan.Plan.{Plan}
+use Rattle.script_session.specs.Plan.{IsBestFor, plan_text}
 use Rattle.script_session.specs.Commands.{make_dir, remove_dir, set_pin, set_mask, load, go, served, tick}
 use Rattle.script_session.specs.Cost.{cost}
-use Rattle.script_session.specs.Stat.{stat}
+use Rattle.script_session.specs.Stat.{stat, usable}
 
 -- what a script has made so far, in a tree that gives numbers below the limit: nothing until `ranks` was accepted
 pub record SessionData : Type 0 where
@@ -37,6 +39,8 @@ abbrev pub printed : BoardData → Result (List ℕ) Fault → Outcome
 printed b (Ok text) = Ok (only_text text, b)
 printed b (Err e) = Err e
 
+-- What a plan is, a board doesn't determine: where a rank is usable this says that no fault but want of memory is due, and
+-- IsPlanned says what is printed.
 abbrev pub on_board : BoardData → Command → Outcome
 on_board b (line.Ranks n) = Err RanksAgain
 on_board b (line.Mask text) = silent (set_mask b text)
@@ -47,6 +51,7 @@ on_board b (line.Load path hits) = silent (load b path hits)
 on_board b line.Go = Ok (record { text = []; refused = (served b).refused }, go b)
 on_board b line.Tick = silent (tick b)
 on_board b (line.Cost paths) = printed b (cost b paths)
+on_board b line.Plan = if usable b.pins.active b.mask == 0 then Err BalancerOff else Err Memory
 on_board b line.Stat = Ok (only_text (stat b), b)
 
 abbrev pub before_ranks : ℕ → Command → Outcome
@@ -83,7 +88,7 @@ abbrev pub done_answer : ℕ → Printed → Answer
 done_answer number p = record { text = p.text ++ repeated p.refused (fault_text number (words ShareFull)); accepted = p.refused == 0; ample = true }
 
 abbrev pub fault_answer : ℕ → Fault → Answer
-fault_answer number fault = record { text = fault_text number (words fault); accepted = false; ample = true }
+fault_answer number fault = record { text = fault_text number (words fault); accepted = false; ample = not (is_memory fault) }
 
 abbrev pub told : SessionData → ℕ → LineOutcome → Answer × SessionData
 told s number (Ok done) = (done_answer number done.0, done.1)
@@ -96,11 +101,32 @@ answer_to s number bytes = told s number (line_outcome s bytes)
 abbrev pub out_of_memory : ℕ → Answer
 out_of_memory number = record { text = fault_text number (words Memory); accepted = false; ample = false }
 
--- A line is answered so. Where memory is refused nothing has changed.
+-- the text is that of a best plan for the board
+abbrev pub IsPlanned : BoardData → Printed → Type 0
+IsPlanned b p = (plan : Plan) × IsBestFor b plan × (p ≡ only_text (plan_text b plan))
+
+-- a plan is asked for, and the session prints one
+abbrev pub PlansFor : SessionData → Asked → Printed → Type 0
+PlansFor s what p = (what ≡ line.Asks line.Plan) × (b : BoardData) × (s.board ≡ Some b) × IsPlanned b p
+
+abbrev pub Plans : SessionData → List ℕ → Printed → Type 0
+Plans s bytes p = PlansFor s (asked bytes) p
+
+-- A line is answered so. Where a plan is printed or memory is refused, nothing has changed.
 abbrev pub answers : SessionData → ℕ → List ℕ → Answer → SessionData → Type 0
 answers old number bytes a new =
     ((a, new) ≡ answer_to old number bytes)
+    ⊎ ((p : Printed) × Plans old bytes p × (a ≡ done_answer number p) × (new ≡ old))
     ⊎ ((a ≡ out_of_memory number) × (new ≡ old))
+
+-- whether a line asks for a plan
+abbrev pub asks_plan : Asked → Bool
+asks_plan (line.Asks line.Plan) = true
+asks_plan _ = false
+
+-- a board doesn't determine what is printed for a plan, but it does for all other lines
+abbrev pub is_sure : List ℕ → Bool
+is_sure bytes = not (asks_plan (asked bytes))
 
 -- the session at the beginning of a script
 abbrev pub beginning : ℕ → SessionData

@@ -9,7 +9,7 @@ use Rattle.dir_pins.specs.Pins.{below, nearest_pin}
 use Rattle.script_session.specs.Board.{BoardData}
 
 -- how many active ranks the mask has
-abbrev pub usable : ℕ → ℕ → ℕ
+unfoldable pub usable : ℕ → ℕ → ℕ
 usable active mask = count_below 64 (λ rank. nat_lt rank active && has_rank mask rank)
 
 -- the directories, rising

@@ -49,6 +49,8 @@ impl<J: Naming> Model for Board<J> {
 impl<J: Naming> Board<J> {
     ghost use Rattle.script_session.specs.Commands.{find, load, make_child, make_dir, parent_path, remove_dir, set_mask, set_pin, tick};
     ghost use Rattle.script_session.specs.Fault.{IsDue};
+    ghost use Rattle.mds_types.specs.RankSet.{rank_count};
+    ghost use Rattle.script_session.specs.Plan.{AreUsable};
     ghost use Rattle.script_session.specs.Stat.{usable};
 
     /// The root alone, in a cluster with this many active ranks, and room for the directory numbers below `limit`.
@@ -132,11 +134,12 @@ impl<J: Naming> Board<J> {
         self.pins.active()
     }
 
-    /// How many active ranks the mask has.
-    pub(crate) fn usable(&self) -> u8
-        ensures { result ≡ usable self.now.pins.active self.now.mask }
+    /// The active ranks that the mask has.
+    pub(crate) fn usable_ranks(&self) -> RankSet
+        ensures ranks { AreUsable self.now result }
+        ensures count { rank_count result ≡ usable self.now.pins.active self.now.mask }
     {
-        self.mask.among(self.active()).len()
+        self.mask.among(self.active())
     }
 
     /// The heat of a directory that is there, in accesses.

@@ -1,8 +1,9 @@
 //! What each command does to a board.
-ghost use Rattle.std.specs.Prelude.{◌≡◌, IfErr, IfOk, OnErr, Ok};
+ghost use Rattle.std.specs.Prelude.{◌≡◌, ◌⊎◌, IfErr, IfOk, OnErr, Ok};
 ghost use Rattle.script_commands.specs.View.{view};
 ghost use Rattle.script_session.specs.Fault.{IsDue};
-ghost use Rattle.script_session.specs.Session.{on_board};
+ghost use Rattle.script_commands.specs.Commands as line;
+ghost use Rattle.script_session.specs.Session.{IsPlanned, on_board};
 
 use crate::board::Board;
 use crate::fault::Fault;
@@ -10,11 +11,12 @@ use crate::reply::Reply;
 use naming::Naming;
 use script_commands::Command;
 use std::alloc::Global;
+use std::thread::Threads;
 
 impl<J: Naming> Board<J> {
     /// Carries out a command. The reply is what it prints.
-    pub fn carry_out(&mut self, alloc: Global, command: Command<'_>) -> Result<Reply, Fault>
-        ensures done { IfOk result (λ reply. on_board self.old (view command.entry) ≡ Ok (reply, self.new)) }
+    pub fn carry_out<R: Threads>(&mut self, rt: &R, alloc: Global, command: Command<'_>) -> Result<Reply, Fault>
+        ensures done { IfOk result (λ reply. (on_board self.old (view command.entry) ≡ Ok (reply, self.new)) ⊎ ((view command.entry ≡ line.Plan) × IsPlanned self.old reply × (self.new ≡ self.old))) }
         ensures fault { IfErr result (IsDue (on_board self.old (view command.entry))) }
         ensures unchanged { OnErr result (self.new ≡ self.old) }
     {
@@ -28,6 +30,7 @@ impl<J: Naming> Board<J> {
             Command::Go => return Ok(Reply::only_refused(alloc, self.go())),
             Command::Tick => self.tick()?,
             Command::Cost(paths) => return Ok(Reply::only_text(self.cost(alloc, &paths)?)),
+            Command::Plan => return Ok(Reply::only_text(self.plan(rt, alloc)?)),
             Command::Stat => return Ok(Reply::only_text(self.stat(alloc)?)),
         }
         Ok(Reply::silent(alloc))

@@ -1,8 +1,9 @@
 //! Why a line is faulty.
 ghost use Rattle.std.specs.Prelude.{◌≡◌};
 ghost use Rattle.script_session.specs.declared.fault.Fault.TheVariants.{Memory};
-ghost use Rattle.script_session.specs.Fault.{tree_fault};
+ghost use Rattle.script_session.specs.Fault.{open_fault, tree_fault};
 
+use board_problem::OpenError;
 use dir_pins::PinError;
 use dirtree::TreeError;
 use std::alloc::{AllocError, AllocFailed};
@@ -26,6 +27,8 @@ pub enum Fault {
     ShareFull,
     /// The heats have made 2^40 ticks.
     Ticks,
+    /// No mask was set, or it has no active rank.
+    BalancerOff,
     /// A pin holds a directory that is named as a top.
     Pinned,
 }
@@ -53,6 +56,17 @@ impl From<TreeError> for Fault {
         match e {
             TreeError::Memory => Fault::Memory,
             e => Fault::Tree(e),
+        }
+    }
+}
+
+impl From<OpenError> for Fault {
+    ghost from_gives = { λ refusal e. e ≡ open_fault refusal };
+
+    fn from(e: OpenError) -> Fault {
+        match e {
+            OpenError::Memory => Fault::Memory,
+            OpenError::BalancerOff => Fault::BalancerOff,
         }
     }
 }

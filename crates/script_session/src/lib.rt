@@ -7,6 +7,7 @@ mod cost;
 pub mod fault;
 pub mod laws;
 pub mod load;
+mod plan;
 pub mod reply;
 pub mod report;
 pub mod script;

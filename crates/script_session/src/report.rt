@@ -41,6 +41,7 @@ pub fn write_fault<W: Write>(writer: &mut W, number: u64, fault: Fault) -> Resul
         Fault::Pin(e) => write_refusal(writer, number, e.text()),
         Fault::ShareFull => write_refusal(writer, number, "13 ShareFull"),
         Fault::Ticks => write_refusal(writer, number, "15 TicksFull"),
+        Fault::BalancerOff => write_refusal(writer, number, "29 BalancerOff"),
         Fault::Pinned => write_refusal(writer, number, "35 Pinned"),
     }
 }

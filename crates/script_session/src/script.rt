@@ -13,11 +13,13 @@ use script_engine::{RunError, run_script};
 use std::alloc::Global;
 use std::io::{Read, Write};
 use std::marker::Brand;
+use std::thread::Threads;
 
 /// Carries out a script, and says whether each of its lines was accepted. A tree has numbers below `limit`.
 ///
 /// A strict run ends with the first line that isn't accepted. A device that fails ends the run.
-pub fn run<R: Read, W: Write>(
+pub fn run<T: Threads, R: Read, W: Write>(
+    rt: &T,
     alloc: Global,
     reader: &mut R,
     writer: &mut W,
@@ -50,11 +52,12 @@ pub fn run<R: Read, W: Write>(
         × AppendsFront (W.contents writer.old) (W.contents writer.new) (text_of replies) }
 {
     let opened = Opened::new(alloc).ok();
-    run_named::<Brand, R, W>(alloc, opened, reader, writer, limit, strict)
+    run_named::<Brand, T, R, W>(rt, alloc, opened, reader, writer, limit, strict)
 }
 
 // The same for a board whose name was picked.
-fn run_named<J: Naming, R: Read, W: Write>(
+fn run_named<J: Naming, T: Threads, R: Read, W: Write>(
+    rt: &T,
     alloc: Global,
     opened: Option<Opened>,
     reader: &mut R,
@@ -89,7 +92,7 @@ fn run_named<J: Naming, R: Read, W: Write>(
         × Run answers strict (beginning limit) 1 lines replies last
         × AppendsFront (W.contents writer.old) (W.contents writer.new) (text_of replies) }
 {
-    let mut session = Session::<J>::new(limit, opened);
+    let mut session = Session::<J, T>::new(rt, limit, opened);
     run_script(alloc, &mut session, reader, writer, strict)
 }
 

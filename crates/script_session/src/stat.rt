@@ -56,7 +56,7 @@ impl<J: Naming> Board<J> {
         ensures { IfOk result (λ line. string_bytes line ≡ cluster_line self.now) }
     {
         let active = self.active();
-        let usable = self.usable();
+        let usable = self.usable_ranks().len();
         format!(in alloc; "stat ranks {active} usable {usable} directories {count}\n")
     }
 

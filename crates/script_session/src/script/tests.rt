@@ -146,7 +146,7 @@ fn answers_scripts(rt: HostRuntime) -> Result<(), Fail> {
         for step in [1, 7, 4096] {
             let mut source = source_of(script, step);
             let mut sink = sink_of(rt.alloc(), step);
-            let result = run(rt.alloc(), &mut source, &mut sink, 4, false);
+            let result = run(&rt, rt.alloc(), &mut source, &mut sink, 4, false);
             assert_eq!(rt; result, Ok(accepted), "{script} by {step}");
             assert!(rt;
                 sink.bytes.as_slice() == text.as_bytes(),
@@ -161,7 +161,7 @@ fn answers_scripts(rt: HostRuntime) -> Result<(), Fail> {
 fn a_strict_run_ends_at_the_first_fault(rt: HostRuntime) -> Result<(), Fail> {
     let mut source = source_of("ranks 1\nload /a\nranks 1\ncost\n", 3);
     let mut sink = sink_of(rt.alloc(), ENOUGH);
-    let result = run(rt.alloc(), &mut source, &mut sink, 65536, true);
+    let result = run(&rt, rt.alloc(), &mut source, &mut sink, 65536, true);
     assert_eq!(rt; result, Ok(false));
     assert!(rt; sink.bytes.as_slice() == b"line 2: syntax\n".as_slice());
     Ok(())
@@ -173,7 +173,7 @@ fn each_failed_read_ends_a_run(rt: HostRuntime) -> Result<(), Fail> {
         let mut source = source_of(TWO_PARTS, 7);
         source.reads = reads;
         let mut sink = sink_of(rt.alloc(), ENOUGH);
-        let result = run(rt.alloc(), &mut source, &mut sink, 65536, false);
+        let result = run(&rt, rt.alloc(), &mut source, &mut sink, 65536, false);
         assert_eq!(rt; result, Err(RunError::Read), "after {reads}");
         assert!(rt;
             TWO_PARTS_COST.as_bytes().starts_with(&sink.bytes),
@@ -189,7 +189,7 @@ fn each_failed_write_ends_a_run(rt: HostRuntime) -> Result<(), Fail> {
         let mut source = source_of(TWO_PARTS, ENOUGH);
         let mut sink = sink_of(rt.alloc(), 1);
         sink.writes = writes;
-        let result = run(rt.alloc(), &mut source, &mut sink, 65536, false);
+        let result = run(&rt, rt.alloc(), &mut source, &mut sink, 65536, false);
         assert_eq!(rt; result, Err(RunError::Write), "after {writes}");
         assert!(rt;
             TWO_PARTS_COST.as_bytes().get(..writes) == Some(sink.bytes.as_slice()),

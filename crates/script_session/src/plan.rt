@@ -1,0 +1,80 @@
+//! The command `plan`: the best plan for the directories that no pin holds.
+ghost use Rattle.std.specs.Prelude.{◌≡◌, ◌<◌, ◌≤◌, ◌⊎◌, IfErr, IfOk, length, string_bytes, true};
+ghost use Rattle.mds_types.specs.declared.plan.Plan.{Plan};
+ghost use Rattle.dirtree.specs.Tree.{is_there};
+ghost use Rattle.board_problem.specs.PlanParts.{plan_parts};
+ghost use Rattle.dir_pins.specs.Pins.{unpinned};
+ghost use Rattle.script_session.specs.Plan.{IsBestFor, plan_line, plan_part_line, plan_text, proof_word, rows};
+ghost use Rattle.script_session.specs.Session.{IsPlanned, on_board, only_text};
+ghost use Rattle.script_session.specs.Fault.{IsDue};
+ghost use Rattle.script_commands.specs.Commands as line;
+
+use crate::board::Board;
+use crate::fault::Fault;
+use board_problem::{Opened, PlanPart, open, parts};
+use mds_types::{CutProof, Plan, Rank};
+use naming::Naming;
+use planner::solve;
+use std::alloc::{AllocError, Global};
+use std::thread::Threads;
+
+impl<J: Naming> Board<J> {
+    /// The lines on a best plan and on each of its parts, by the rising numbers of their tops. Nothing moves yet.
+    pub fn plan<R: Threads>(&self, rt: &R, alloc: Global) -> Result<String, Fault>
+        ensures done { IfOk result (λ text. IsPlanned self.now (only_text (string_bytes text))) }
+        ensures fault { IfErr result (IsDue (on_board self.now line.Plan)) }
+    {
+        let ranks = self.usable_ranks();
+        if ranks.is_empty() {
+            return Err(Fault::BalancerOff);
+        }
+        let now = vec![in alloc; Rank::default(); self.numbers() as usize]?;
+        let Opened { problem, dirs } = open(alloc, &self.tree, &self.pins, &self.heat, &now, ranks)?;
+        let plan = solve(rt, alloc, &problem)?;
+        let parts = parts(alloc, &problem, &dirs, &plan)?;
+        let text = self.plan_text(alloc, &plan, &parts)?;
+        Ok(text)
+    }
+
+    fn plan_text(&self, alloc: Global, plan: &Plan, parts: &[PlanPart]) -> Result<String, AllocError>
+        requires { parts.now ≡ plan_parts (rows self.now) (unpinned self.now.directories.entries self.now.pins.own) plan.now }
+        ensures { IfOk result (λ text. string_bytes text ≡ plan_text self.now plan.now) }
+    {
+        let mut text = plan_line(alloc, plan)?;
+        for part in parts {
+            let line = self.plan_part_line(alloc, *part)?;
+            text.push_str(&line)?;
+        }
+        Ok(text)
+    }
+
+    fn plan_part_line(&self, alloc: Global, part: PlanPart) -> Result<String, AllocError>
+        requires { is_there self.now.directories.entries part.top ≡ true }
+        ensures { IfOk result (λ line. string_bytes line ≡ plan_part_line self.now part) }
+    {
+        let path = self.path(alloc, part.top)?;
+        let rank = part.rank.number();
+        let heat = part.heat;
+        let inodes = part.inodes;
+        format!(in alloc; "part {path} rank {rank} heat {heat} inodes {inodes}\n")
+    }
+}
+
+fn plan_line(alloc: Global, plan: &Plan) -> Result<String, AllocError>
+    ensures { IfOk result (λ line. string_bytes line ≡ plan_line plan.now) }
+{
+    let greatest = plan.greatest;
+    let moved = plan.moved;
+    let proof = proof_word(&plan.cut);
+    format!(in alloc; "plan greatest {greatest} moved {moved} proof {proof}\n")
+}
+
+fn proof_word(proof: &CutProof) -> &'static str
+    ensures { result.now ≡ proof_word proof.now }
+{
+    match proof {
+        CutProof::Zero => "zero",
+        CutProof::Heavy(_) => "heavy",
+        CutProof::Table(_) => "table",
+    }
+}
