@@ -1,0 +1,13 @@
+//! From the tree of a board to its problem, and from a plan back to directories.
+#![tactic(auto)]
+
+pub mod laws;
+mod open_error;
+mod opening;
+mod rows;
+
+pub use open_error::OpenError;
+pub use opening::{Opened, open};
+
+#[cfg(test)]
+mod tests;
