@@ -4,10 +4,14 @@
 pub mod laws;
 mod open_error;
 mod opening;
+mod plan_parts;
 mod rows;
 
 pub use open_error::OpenError;
 pub use opening::{Opened, open};
+pub use plan_parts::{PlanPart, parts};
 
+#[cfg(test)]
+mod random_boards;
 #[cfg(test)]
 mod tests;

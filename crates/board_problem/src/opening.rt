@@ -35,7 +35,7 @@ pub fn open(
     ranks: RankSet,
 ) -> Result<Opened, OpenError>
     requires pins { tree.now.limit ≤ length pins.now.own }
-    requires heats { heat.now.limit ≡ tree.now.limit }
+    requires heats { tree.now.limit ≤ heat.now.limit }
     requires now { length tree.now.entries ≤ length now.now }
     ensures problem { IfOk result (λ opened. opened.problem ≡ record { rows = problem_rows tree.now.entries pins.now.own heat.now.heats now.now; ranks = ranks }) }
     ensures dirs { IfOk result (λ opened. opened.dirs.items ≡ unpinned tree.now.entries pins.now.own) }

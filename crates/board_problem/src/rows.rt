@@ -48,7 +48,7 @@ pub fn rows(
     now: &[Rank],
 ) -> Result<Listed, AllocError>
     requires pins { tree.now.limit ≤ length pins.now.own }
-    requires heats { heat.now.limit ≡ tree.now.limit }
+    requires heats { tree.now.limit ≤ heat.now.limit }
     requires now { length tree.now.entries ≤ length now.now }
     ensures rows { IfOk result (λ found. found.rows.items ≡ problem_rows tree.now.entries pins.now.own heat.now.heats now.now) }
     ensures dirs { IfOk result (λ found. found.dirs.items ≡ unpinned tree.now.entries pins.now.own) }
@@ -60,7 +60,8 @@ pub fn rows(
     let mut dirs = Vec::new(alloc);
     for number in 0..tree.numbers() {
         places[number as usize] = rows.len() as u32;
-        if marks[number as usize] {
+        let is_free = marks[number as usize];
+        if is_free {
             let dir = Dir::new(number);
             rows.push(row(tree, heat, now, &places, dir))?;
             dirs.push(dir)?;

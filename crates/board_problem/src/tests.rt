@@ -1,10 +1,11 @@
 //! Problems of small trees, and of random ones against a plain slow program.
 
-use crate::{OpenError, Opened, open};
+use crate::{OpenError, Opened, open, parts};
+use arrayvec::ArrayVec;
 use dir_pins::Pins;
 use dirtree::Tree;
 use heat_decay::Heat;
-use mds_types::{Dir, ProblemRow, Rank, RankSet};
+use mds_types::{CutProof, Dir, DualProof, Plan, Problem, ProblemRow, Rank, RankSet};
 use std::alloc::Global;
 use std::test::Fail;
 
@@ -88,6 +89,84 @@ fn opens_a_chain(rt: HostRuntime) -> Result<(), Fail> {
     let opened = open(alloc, &tree, &pins, &heat, &now, RankSet::from_bits(3))?;
     let rows = [(0, 0, 1, 0), (0, 3, 5, 0), (1, 3, 1, 0), (2, 3, 1, 0)];
     assert!(rt; check(alloc, &opened, &rows, &[0, 2, 5, 6])?);
+    Ok(())
+}
+
+fn plan(alloc: Global, part: &[u32], rank: &[u8]) -> Result<Plan, Fail> {
+    let mut ranks = ArrayVec::new();
+    for number in rank {
+        let _full = ranks.try_push(Rank::new(*number).ok_or("no rank")?);
+    }
+    Ok(Plan {
+        part: part.to_vec(alloc)?,
+        rank: ranks,
+        greatest: 6,
+        moved: 0,
+        cut: CutProof::Zero,
+        dual: DualProof {
+            part_price: Vec::new(alloc),
+            rank_price: Vec::new(alloc),
+        },
+    })
+}
+
+// Row i is directory 10 i.
+#[test]
+fn names_the_parts(rt: HostRuntime) -> Result<(), Fail> {
+    let alloc = rt.alloc();
+    let zero = Rank::default();
+    let one = Rank::new(1).ok_or("no rank")?;
+    // (parent, heat and inodes of each row, its label, rank of each label; top, rank, heat and inodes of each part)
+    let table: [(&[(u32, u64, u32)], &[u32], &[u8], &[(u32, Rank, u64, u64)]); 4] = [
+        (
+            &[(0, 0, 1), (0, 4, 10), (0, 6, 20)],
+            &[0, 0, 1],
+            &[1, 0],
+            &[(0, one, 4, 11), (20, zero, 6, 20)],
+        ),
+        (
+            &[(0, 0, 1), (0, 3, 5), (1, 3, 1), (2, 3, 1)],
+            &[0, 0, 1, 1],
+            &[0, 1],
+            &[(0, zero, 3, 6), (20, one, 6, 2)],
+        ),
+        (
+            &[(0, 0, 1), (0, 100, 5), (0, 1, 7)],
+            &[1, 0, 1],
+            &[1, 0],
+            &[(0, zero, 1, 8), (10, one, 100, 5)],
+        ),
+        (&[], &[], &[], &[]),
+    ];
+    for (given, part, rank, wanted) in table {
+        let mut rows = Vec::new(alloc);
+        let mut dirs = Vec::new(alloc);
+        let mut number: u32 = 0;
+        for &(parent, heat, inodes) in given {
+            let now = zero;
+            rows.push(ProblemRow {
+                parent,
+                heat,
+                inodes,
+                now,
+            })?;
+            dirs.push(Dir::new(number))?;
+            number = number.wrapping_add(10);
+        }
+        let Ok(problem) = Problem::new(rows, RankSet::from_bits(3)) else {
+            return Err("no problem")?;
+        };
+        let plan = plan(alloc, part, rank)?;
+        assert!(rt; dirs.len() == problem.rows().len());
+        assert!(rt; plan.part.len() == problem.rows().len());
+        let count = plan.rank.len();
+        assert!(rt; plan.part.iter().all(|&label| (label as usize) < count));
+        let mut found = Vec::new(alloc);
+        for part in &parts(alloc, &problem, &dirs, &plan)? {
+            found.push((part.top.number(), part.rank, part.heat, part.inodes))?;
+        }
+        assert_eq!(rt; found.as_slice(), wanted);
+    }
     Ok(())
 }
 

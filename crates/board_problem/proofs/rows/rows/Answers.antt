@@ -11,7 +11,7 @@ use Rattle.board_problem.specs.ProblemRows.{place_of, problem_rows, row_of}
 use Rattle.board_problem.proofs.Places.{place}
 use Rattle.board_problem.proofs.RowsSoFar.{forest, map_one, map_same, parent_low, row_read, set_more}
 use Rattle.board_problem.proofs.rows.rows.Goals as goal
-use Rattle.board_problem.proofs.rows.rows.Goals.{then-index+in_ok-push+in_ok-push-2, else-index}
+use Rattle.board_problem.proofs.rows.rows.Goals.{then-is_free+in_ok-push+in_ok-push-2, else-is_free}
 
 pub loop-number-preserved : goal.loop-number-preserved
 loop-number-preserved c =
@@ -26,14 +26,14 @@ loop-number-preserved c =
     let inside : n < length es = omega (arith, c.loop-number-test.true, c.numbers-number-end.ensures.value) in
     let within : n < length marks = omega (arith, inside, c.in_ok-marks.ensures.size) in
     let at_places : n < length c.loop-number.places.items = omega (arith, inside, c.loop-number.invariant.size) in
-    let marked : c.index.result.now ≡ test n = read_mark marks n c.index.result.now within c.index.ensures ∙ c.in_ok-marks.ensures.unpinned n inside in
+    let marked : c.index-is_free.result.now ≡ test n = read_mark marks n c.index-is_free.result.now within c.index-is_free.ensures ∙ c.in_ok-marks.ensures.unpinned n inside in
     let long : length c.loop-number.rows.items ≡ length (filter test (below n)) = ap length c.loop-number.invariant.rows ∙ length-map (filter test (below n)) of in
     let listed : c.len.result ≡ length c.loop-number.rows.items = omega (arith, c.len.ensures, c.loop-number.rows.ok) in
     let here : c.len.result ≡ place_of (unpinned es own) n = listed ∙ long ∙ sym (place test (length es) n (omega (arith, inside))) in
     let placed : (d : ℕ) → d < n + 1 → slice_index (set c.loop-number.places.items n c.len.result) d ≡ place_of (unpinned es own) d = set_more c.loop-number.places.items (place_of (unpinned es own)) n c.len.result at_places here c.loop-number.invariant.places in
-    elim c.if-index.branch [
-      | then-index+in_ok-push+in_ok-push-2 w ↦
-          let is : test n ≡ true = sym marked ∙ w.if-index.true in
+    elim c.if-is_free.branch [
+      | then-is_free+in_ok-push+in_ok-push-2 w ↦
+          let is : test n ≡ true = sym marked ∙ w.if-is_free.true in
           let at : w.new-dir.result ≡ n = w.new-dir.ensures in
           let parent : slice_index w.deref.result.now (parent_of es n) ≡ place_of (unpinned es own) (parent_of es n) = rw w.deref.ensures.value (placed (parent_of es n) (omega (arith, parent_low es c.numbers-number-end.ensures.tree n))) in
           let row : w.row.result ≡ of n = w.row.ensures.row ∙ (rw at (row_read es heats now (unpinned es own) n (slice_index w.deref.result.now (parent_of es n)) parent)) in
@@ -46,8 +46,8 @@ loop-number-preserved c =
             rows = rw (c.loop-number.invariant.rows, row) (sym (map_one of test n is));
             cool = All-push (λ row. row.heat ≤ HEAT_LIMIT) c.loop-number.rows.items w.row.result c.loop-number.invariant.cool w.row.ensures.cool;
           })
-      | else-index w ↦
-          let is : test n ≡ false = sym marked ∙ w.if-index.false in
+      | else-is_free w ↦
+          let is : test n ≡ false = sym marked ∙ w.if-is_free.false in
           rw (w.rows-is, w.dirs-is) (record {
             end = omega (arith, inside);
             size = simp length-set c.loop-number.invariant.size;
