@@ -1,5 +1,5 @@
 -- What a pass over the rows counts to each part, and what it lists of the tops.
-use Rattle.std.proofs.Common.{◌≡◌, ◌≢◌, ℕ, ◌<◌, ◌≤◌, ◌+◌, List, sym, ap, ◌∙◌, refl, arith, true, false, cond, eqb, get_or, set, length, inl, inr}
+use Rattle.std.proofs.Common.{◌≡◌, ◌≢◌, ℕ, ◌<◌, ◌≤◌, ◌+◌, List, sym, ap, ◌∙◌, refl, arith, cond, eqb, get_or, set, length, inl, inr}
 use Rattle.std.specs.Prelude.{slice_index}
 use Rattle.std.proofs.lemmas.Bool.{cases_eq, eq-eqb, ne_eqb}
 use Rattle.std.proofs.lemmas.Grind.{common_steps}

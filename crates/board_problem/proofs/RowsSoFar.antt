@@ -1,5 +1,5 @@
 -- The rows of a board's problem are a forest, whose tree is that of the directories that no pin holds.
-use Rattle.std.proofs.Common.{◌≡◌, ℕ, zero, suc, ◌<◌, ◌≤◌, ◌+◌, List, [], ◌∷◌, ◌++◌, length, map, sym, ap, ◌∙◌, refl, arith, Bool, true, false, cond, get_or, set, append-nil, Option, ◌⊎◌, inl, inr}
+use Rattle.std.proofs.Common.{◌≡◌, ℕ, zero, suc, ◌<◌, ◌≤◌, ◌+◌, List, [], ◌∷◌, ◌++◌, length, map, ap, ◌∙◌, refl, arith, Bool, true, false, get_or, set, append-nil, Option, ◌⊎◌, inl, inr}
 use Rattle.std.specs.Prelude.{filter, slice_index}
 use Rattle.std.specs.List.{All}
 use Rattle.std.specs.Option.{option_map_or}

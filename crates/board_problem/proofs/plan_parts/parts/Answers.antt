@@ -1,10 +1,8 @@
-use Rattle.std.proofs.Common.{◌≡◌, ◌<◌, ◌∙◌, ℕ, List, refl, ap, sym, arith, length, map, Bool, true, false, get_or}
-use Rattle.std.specs.Prelude.{filter, slice_index}
+use Rattle.std.proofs.Common.{◌≡◌, ◌<◌, ◌∙◌, ℕ, List, refl, ap, sym, arith, length, Bool, true, false, get_or}
+use Rattle.std.specs.Prelude.{slice_index}
 use Rattle.mds_types.specs.declared.plan.Plan.{Plan}
 use Rattle.mds_types.specs.declared.problem.ProblemRow.{ProblemRow}
 use Rattle.mds_types.specs.Certificate.{plan_label, plan_rank}
-use Rattle.dir_pins.specs.Pins.{below}
-use Rattle.board_problem.specs.declared.plan_parts.Total.{Total}
 use Rattle.board_problem.specs.PlanParts.{is_part_top, nothing, part_of_top, total_of}
 use Rattle.board_problem.proofs.PartsSoFar.{part_made, read}
 use Rattle.board_problem.proofs.RowsSoFar.{map_one, map_same}

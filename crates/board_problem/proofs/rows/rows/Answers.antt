@@ -1,4 +1,4 @@
-use Rattle.std.proofs.Common.{◌≡◌, ◌<◌, ◌≤◌, ◌+◌, ◌∙◌, ℕ, List, Option, Bool, true, false, refl, ap, sym, arith, length, length-append, length-set, map, set, append-nil, [], ◌∷◌}
+use Rattle.std.proofs.Common.{◌≡◌, ◌<◌, ◌≤◌, ◌+◌, ◌∙◌, ℕ, List, Option, Bool, true, false, refl, ap, sym, arith, length, length-append, length-set, set, append-nil, [], ◌∷◌}
 use Rattle.std.proofs.lemmas.List.{length-map}
 use Rattle.std.specs.Prelude.{filter, slice_index}
 use Rattle.std.proofs.lemmas.List.Elements.{All-push}
