@@ -1,0 +1,4 @@
+pub mod PartsSoFar
+pub mod Places
+pub mod RowsSoFar
+pub mod TopsOfParts

@@ -1,0 +1,31 @@
+//! Laws of a board's problem and of a plan's parts, each the contract of a function that does nothing.
+ghost use Rattle.std.specs.Prelude.{◌≡◌, ◌<◌, ℕ, List, Option, length, slice_index, sum_by};
+ghost use Rattle.mds_types.specs.declared.plan.Plan.{Plan};
+ghost use Rattle.mds_types.specs.declared.problem.ProblemRow.{ProblemRow};
+ghost use Rattle.mds_types.specs.Certificate.{IsPartition, plan_label};
+ghost use Rattle.mds_types.specs.Problem.{IsForest, heat_at, inodes_at, parent_at};
+ghost use Rattle.mds_types.specs.Sums.{sum_below};
+ghost use Rattle.dirtree.specs.Tree.{Entry, IsTree, parent_of};
+ghost use Rattle.dir_pins.specs.Pins.{unpinned};
+ghost use Rattle.board_problem.specs.PlanParts.{IsTopOf, plan_parts};
+ghost use Rattle.board_problem.specs.ProblemRows.{problem_rows};
+
+/// The row of a directory's parent is the row that its row names: the problem's tree is that of the unpinned directories.
+pub fn parents_are_rows()
+    ensures { (entries : List (Option Entry)) (own : List (Option ℕ)) (heats now : List ℕ) (i : ℕ) → IsTree entries → i < length (unpinned entries own)
+        → slice_index (unpinned entries own) (parent_at (problem_rows entries own heats now) i) ≡ parent_of entries (slice_index (unpinned entries own) i) }
+{}
+
+/// In a division into connected parts that each have a row, each part has one top.
+pub fn each_part_has_one_top()
+    ensures { (rows : List ProblemRow) (k part : ℕ) (label : ℕ → ℕ) → IsForest rows → IsPartition rows k label → part < k
+        → (i : ℕ) × IsTopOf rows label part i × ((j : ℕ) → IsTopOf rows label part j → j ≡ i) }
+{}
+
+/// The parts of a plan have together what the rows have: none is left out, and none counted twice.
+pub fn parts_add_up()
+    ensures heats { (rows : List ProblemRow) (dirs : List ℕ) (plan : Plan) → IsForest rows → IsPartition rows (length plan.rank.items) (plan_label plan)
+        → sum_by (λ part. part.heat) (plan_parts rows dirs plan) ≡ sum_below (length rows) (heat_at rows) }
+    ensures inodes { (rows : List ProblemRow) (dirs : List ℕ) (plan : Plan) → IsForest rows → IsPartition rows (length plan.rank.items) (plan_label plan)
+        → sum_by (λ part. part.inodes) (plan_parts rows dirs plan) ≡ sum_below (length rows) (inodes_at rows) }
+{}
