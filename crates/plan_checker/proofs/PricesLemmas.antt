@@ -1,5 +1,5 @@
 -- Prices, rank by rank.
-use Rattle.std.proofs.Common.{◌≡◌, ◌<◌, ap, ℕ, pos, ◌+ℤ◌, true, List, length, subst, refl}
+use Rattle.std.proofs.Common.{◌≡◌, ◌<◌, ℕ, pos, ◌+ℤ◌, true, List, length, subst, refl}
 use Rattle.mds_types.specs.declared.dual_proof.DualProof.{DualProof}
 use Rattle.mds_types.specs.RankSet.{has_rank, rank_count}
 use Rattle.mds_types.specs.Certificate.{AreRanks, part_price_at, rank_price_at}

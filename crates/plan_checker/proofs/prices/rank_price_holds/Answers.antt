@@ -1,4 +1,4 @@
-use Rattle.std.proofs.Common.{◌≡◌, ◌∙◌, ◌<◌, ap, sym, ℕ, pos, ◌+ℤ◌, ◌≤ℤ◌, w64, FitsSigned, slice_index, slice_index_or, arith, rules, below_more, refl, length}
+use Rattle.std.proofs.Common.{◌≡◌, ◌∙◌, ℕ, pos, ◌+ℤ◌, ◌≤ℤ◌, w64, FitsSigned, slice_index, slice_index_or, arith, rules, below_more, refl, length}
 use Rattle.std.proofs.lemmas.Bool.{eq-eqb}
 use Rattle.std.proofs.lemmas.Int.{to_z-of_z}
 use Rattle.std.proofs.lemmas.List.{get_or_default}
