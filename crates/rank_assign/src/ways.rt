@@ -46,8 +46,9 @@ fn start(ways: &mut [Way], cells: &[u64], debts: &[u64], part: usize)
     }
 }
 
-/// The nearest rank that hasn't been reached.
-fn nearest(ways: &[Way]) -> usize
+/// The nearest rank that hasn't been reached, and a free one where one is as near.
+fn nearest(ways: &[Way], owners: &[u32]) -> usize
+    requires size { length owners.now ≡ length ways.now }
     requires some { (j : ℕ) × (j < length ways.now) × (turn_at ways.now j ≡ 0) }
     requires small { (j : ℕ) → j < length ways.now → near_at ways.now j < 2 ^ 60 }
     ensures inside { result < length ways.now }
@@ -57,9 +58,10 @@ fn nearest(ways: &[Way]) -> usize
     let mut nearest = 0;
     let mut least = u64::MAX;
     for (j, way) in ways.iter().enumerate() {
-        if way.turn == 0 && way.near < least {
+        let far = way.near * 2 + u64::from(owners[j].min(1));
+        if way.turn == 0 && far < least {
             nearest = j;
-            least = way.near;
+            least = far;
         }
     }
     nearest
@@ -130,7 +132,7 @@ pub fn reach(
 {
     start(ways, cells, debts, part);
     for reached in 0..debts.len() {
-        let place = nearest(ways);
+        let place = nearest(ways, owners);
         mark(ways, place, reached as u32 + 1);
         if owners[place] == 0 {
             return place;
