@@ -1,9 +1,12 @@
 //! Plans that hold and plans that were forged.
+//!
+//! Each call that takes memory is made again where a growth was refused, so the tests hold with any one
+//! growth refused.
 
 use crate::{check, check_cut};
 use arrayvec::ArrayVec;
 use mds_types::{CutProof, DualProof, Plan, Problem, ProblemRow, Rank, RankSet, Row};
-use std::alloc::Global;
+use std::alloc::{AllocError, Global};
 use std::test::Fail;
 
 /// Parent, heat, inodes and present rank of a row.
@@ -12,8 +15,40 @@ type Given = (u32, u64, u32, u8);
 /// Cuts, rest, price of a table's row, and whether it is cut.
 type InTable = (u32, u64, u64, bool);
 
+/// What a call gives, or gives when it is made again, where a growth was refused the first time.
+fn at_last<T, F: Fn() -> Result<T, AllocError> + Drop>(call: F) -> Result<T, AllocError>
+    requires { F.IsAlwaysCallable call }
+{
+    match call() {
+        Ok(value) => Ok(value),
+        Err(_) => call(),
+    }
+}
+
+/// A list of these entries.
+fn list_of<T: Copy>(alloc: Global, entries: &[T]) -> Result<Vec<T>, AllocError> {
+    at_last(|| entries.to_vec(alloc))
+}
+
+/// What `check` says in the end.
+fn judged(alloc: Global, problem: &Problem, plan: &Plan) -> Result<bool, AllocError> {
+    at_last(|| check(alloc, problem, plan))
+}
+
+/// What `check_cut` says in the end.
+fn cut_judged(
+    alloc: Global,
+    problem: &Problem,
+    part: &[u32],
+    k: u32,
+    greatest: u64,
+    proof: &CutProof,
+) -> Result<bool, AllocError> {
+    at_last(|| check_cut(alloc, problem, part, k, greatest, proof))
+}
+
 fn problem(alloc: Global, given: &[Given], ranks: u64) -> Result<Problem, Fail> {
-    let mut rows = Vec::new(alloc);
+    let mut rows = at_last(|| Vec::with_capacity(alloc, given.len()))?;
     for &(parent, heat, inodes, now) in given {
         let now = Rank::new(now).ok_or("no rank")?;
         rows.push(ProblemRow {
@@ -30,7 +65,7 @@ fn problem(alloc: Global, given: &[Given], ranks: u64) -> Result<Problem, Fail> 
 }
 
 fn table(alloc: Global, rows: &[InTable]) -> Result<CutProof, Fail> {
-    let mut table = Vec::new(alloc);
+    let mut table = at_last(|| Vec::with_capacity(alloc, rows.len()))?;
     for &(cuts, rest, price, cut) in rows {
         table.push(Row {
             cuts,
@@ -68,7 +103,7 @@ fn judges_the_parts_of_a_star(rt: HostRuntime) -> Result<(), Fail> {
         ([0, 1, 0, 0], 2, u64::MAX, false),
     ];
     for (part, count, greatest, accepted) in cuts {
-        let says = check_cut(alloc, &star, &part, count, greatest, &proof)?;
+        let says = cut_judged(alloc, &star, &part, count, greatest, &proof)?;
         assert_eq!(rt;
             says,
             accepted,
@@ -76,11 +111,11 @@ fn judges_the_parts_of_a_star(rt: HostRuntime) -> Result<(), Fail> {
         );
     }
     assert!(rt;
-        !check_cut(alloc, &star, &[0, 1, 0], 2, 9, &proof)?,
+        !cut_judged(alloc, &star, &[0, 1, 0], 2, 9, &proof)?,
         "a row without a part"
     );
     assert!(rt;
-        !check_cut(alloc, &star, &[0, 1, 0, 0, 0], 2, 9, &proof)?,
+        !cut_judged(alloc, &star, &[0, 1, 0, 0, 0], 2, 9, &proof)?,
         "a part without a row"
     );
     Ok(())
@@ -92,16 +127,16 @@ fn judges_the_proofs_of_a_star(rt: HostRuntime) -> Result<(), Fail> {
     let star = problem(alloc, &STAR, 3)?;
     let three = problem(alloc, &STAR, 7)?;
     let short = table(alloc, &[(2, 5, 4, false), (0, 5, 0, true), (0, 4, 0, true)])?;
-    let at = |proof: &CutProof| check_cut(alloc, &star, &[0, 1, 0, 0], 2, 9, proof);
+    let at = |proof: &CutProof| cut_judged(alloc, &star, &[0, 1, 0, 0], 2, 9, proof);
     assert!(rt; at(&table(alloc, &STAR_TABLE)?)?);
     assert!(rt; !at(&short)?, "a table without the last row");
     assert!(rt; !at(&CutProof::Zero)?);
     assert!(rt; !at(&CutProof::Heavy(1))?, "a row that is cooler");
     assert!(rt; !at(&CutProof::Heavy(u32::MAX))?, "a row that isn't there");
     let heavy = CutProof::Heavy(1);
-    assert!(rt; check_cut(alloc, &three, &[0, 1, 2, 0], 3, 5, &heavy)?);
+    assert!(rt; cut_judged(alloc, &three, &[0, 1, 2, 0], 3, 5, &heavy)?);
     assert!(rt;
-        !check_cut(alloc, &star, &[0, 1, 2, 0], 3, 5, &heavy)?,
+        !cut_judged(alloc, &star, &[0, 1, 2, 0], 3, 5, &heavy)?,
         "more parts than ranks"
     );
     Ok(())
@@ -134,22 +169,26 @@ const TRUE_CLAIM: Claim = Claim {
     prices: [2, 2, -2, 0],
 };
 
-fn accepts(alloc: Global, problem: &Problem, claim: &Claim) -> Result<bool, Fail> {
+/// The plan that a claim describes.
+fn plan_of(alloc: Global, claim: &Claim) -> Result<Plan, Fail> {
     let mut rank = ArrayVec::new();
     rank.push(Rank::new(claim.rank[0]).ok_or("no rank")?);
     rank.push(Rank::new(claim.rank[1]).ok_or("no rank")?);
-    let plan = Plan {
-        part: claim.part.to_vec(alloc)?,
+    Ok(Plan {
+        part: list_of(alloc, &claim.part)?,
         rank,
         greatest: claim.greatest,
         moved: claim.moved,
         cut: table(alloc, &claim.table)?,
         dual: DualProof {
-            part_price: claim.prices[..2].to_vec(alloc)?,
-            rank_price: claim.prices[2..].to_vec(alloc)?,
+            part_price: list_of(alloc, &claim.prices[..2])?,
+            rank_price: list_of(alloc, &claim.prices[2..])?,
         },
-    };
-    Ok(check(alloc, problem, &plan)?)
+    })
+}
+
+fn accepts(alloc: Global, problem: &Problem, claim: &Claim) -> Result<bool, Fail> {
+    Ok(judged(alloc, problem, &plan_of(alloc, claim)?)?)
 }
 
 /// The table of the true claim with one row changed.
@@ -256,6 +295,27 @@ fn judges_forged_placings(rt: HostRuntime) -> Result<(), Fail> {
             },
         ),
         (
+            "a price above 0 of a rank that has a part",
+            Claim {
+                prices: [2, 1, -2, 1],
+                ..TRUE_CLAIM
+            },
+        ),
+        (
+            "the least part price",
+            Claim {
+                prices: [i64::MIN, 2, -2, 0],
+                ..TRUE_CLAIM
+            },
+        ),
+        (
+            "the greatest part price",
+            Claim {
+                prices: [i64::MAX, 2, -2, 0],
+                ..TRUE_CLAIM
+            },
+        ),
+        (
             "the least numbers",
             Claim {
                 prices: [i64::MIN; 4],
@@ -276,6 +336,136 @@ fn judges_forged_placings(rt: HostRuntime) -> Result<(), Fail> {
     Ok(())
 }
 
+/// A list of a plan.
+#[derive(Clone, Copy, Debug)]
+enum List {
+    Part,
+    Table,
+    PartPrice,
+    RankPrice,
+}
+
+/// Makes a list one entry longer, or one shorter.
+fn resize<T: Drop>(list: &mut Vec<T>, longer: bool, last: T) -> Result<(), Fail> {
+    if longer {
+        if list.reserve(1).is_err() {
+            list.reserve(1)?;
+        }
+        list.push(last)?;
+    } else {
+        list.truncate(list.len().saturating_sub(1));
+    }
+    Ok(())
+}
+
+/// The true plan with one of its lists longer or shorter by an entry.
+fn with_list(alloc: Global, list: List, longer: bool) -> Result<Plan, Fail> {
+    let mut plan = plan_of(alloc, &TRUE_CLAIM)?;
+    match list {
+        List::Part => resize(&mut plan.part, longer, 1)?,
+        List::PartPrice => resize(&mut plan.dual.part_price, longer, 0)?,
+        List::RankPrice => resize(&mut plan.dual.rank_price, longer, 0)?,
+        List::Table => {
+            let last = Row {
+                cuts: 0,
+                rest: 0,
+                price: 0,
+                cut: false,
+            };
+            if let CutProof::Table(rows) = &mut plan.cut {
+                resize(rows, longer, last)?;
+            }
+        }
+    }
+    Ok(plan)
+}
+
+#[test]
+fn judges_lists_of_other_lengths(rt: HostRuntime) -> Result<(), Fail> {
+    let alloc = rt.alloc();
+    let chain = problem(alloc, &CHAIN, 3)?;
+    for list in [List::Part, List::Table, List::PartPrice, List::RankPrice] {
+        for longer in [false, true] {
+            let plan = with_list(alloc, list, longer)?;
+            assert!(rt;
+                !judged(alloc, &chain, &plan)?,
+                "{list:?}, longer: {longer}"
+            );
+        }
+    }
+    let mut more = plan_of(alloc, &TRUE_CLAIM)?;
+    assert_eq!(rt; more.rank.len(), 2);
+    more.rank.push(Rank::new(2).ok_or("no rank")?);
+    assert!(rt; !judged(alloc, &chain, &more)?, "a rank without a part");
+    Ok(())
+}
+
+#[test]
+fn judges_other_proofs(rt: HostRuntime) -> Result<(), Fail> {
+    let alloc = rt.alloc();
+    let chain = problem(alloc, &CHAIN, 3)?;
+    for proof in [CutProof::Zero, CutProof::Heavy(1), CutProof::Heavy(9)] {
+        let plan = Plan {
+            cut: proof,
+            ..plan_of(alloc, &TRUE_CLAIM)?
+        };
+        assert!(rt; !judged(alloc, &chain, &plan)?, "{:?}", plan.cut);
+    }
+    Ok(())
+}
+
+#[test]
+fn judges_one_part(rt: HostRuntime) -> Result<(), Fail> {
+    let alloc = rt.alloc();
+    let chain = problem(alloc, &CHAIN, 3)?;
+    let one_rank = problem(alloc, &CHAIN, 1)?;
+    let within_8 = [
+        (1, 3, 3, false),
+        (1, 3, 6, false),
+        (0, 6, 3, true),
+        (0, 3, 0, false),
+    ];
+    let mut rank = ArrayVec::new();
+    rank.push(Rank::default());
+    let mut plan = Plan {
+        part: list_of(alloc, &[0, 0, 0, 0])?,
+        rank,
+        greatest: 9,
+        moved: 0,
+        cut: table(alloc, &within_8)?,
+        dual: DualProof {
+            part_price: list_of(alloc, &[0])?,
+            rank_price: list_of(alloc, &[0, 0])?,
+        },
+    };
+    assert!(rt; !judged(alloc, &chain, &plan)?, "two parts are cooler");
+    plan.dual.rank_price.truncate(1);
+    assert!(rt; judged(alloc, &one_rank, &plan)?, "one rank alone");
+    Ok(())
+}
+
+#[test]
+fn judges_two_directories(rt: HostRuntime) -> Result<(), Fail> {
+    let alloc = rt.alloc();
+    let two = problem(alloc, &[(0, 0, 1, 0), (0, 4, 10, 0), (0, 6, 20, 0)], 3)?;
+    let mut rank = ArrayVec::new();
+    rank.push(Rank::new(1).ok_or("no rank")?);
+    rank.push(Rank::default());
+    let plan = Plan {
+        part: list_of(alloc, &[0, 0, 1])?,
+        rank,
+        greatest: 6,
+        moved: 11,
+        cut: CutProof::Heavy(2),
+        dual: DualProof {
+            part_price: list_of(alloc, &[11, 11])?,
+            rank_price: list_of(alloc, &[-11, 0])?,
+        },
+    };
+    assert!(rt; judged(alloc, &two, &plan)?);
+    Ok(())
+}
+
 /// Whether prices are accepted for four directories, two parts and ranks 0, 1 and 2.
 fn accepts_prices(alloc: Global, rank_price: &[i64], moved: u64) -> Result<bool, Fail> {
     let rows = [(0, 1, 4, 1), (0, 0, 1, 2), (0, 1, 1, 0), (2, 0, 3, 1)];
@@ -284,17 +474,17 @@ fn accepts_prices(alloc: Global, rank_price: &[i64], moved: u64) -> Result<bool,
     rank.push(Rank::new(1).ok_or("no rank")?);
     rank.push(Rank::new(0).ok_or("no rank")?);
     let plan = Plan {
-        part: [0, 0, 1, 1].to_vec(alloc)?,
+        part: list_of(alloc, &[0, 0, 1, 1])?,
         rank,
         greatest: 1,
         moved,
         cut: CutProof::Heavy(0),
         dual: DualProof {
-            part_price: [4, 4].to_vec(alloc)?,
-            rank_price: rank_price.to_vec(alloc)?,
+            part_price: list_of(alloc, &[4, 4])?,
+            rank_price: list_of(alloc, rank_price)?,
         },
     };
-    Ok(check(alloc, &problem, &plan)?)
+    Ok(judged(alloc, &problem, &plan)?)
 }
 
 #[test]
@@ -330,9 +520,9 @@ fn judges_no_rows(rt: HostRuntime) -> Result<(), Fail> {
         cut: CutProof::Zero,
         dual: DualProof {
             part_price: Vec::new(alloc),
-            rank_price: [0].to_vec(alloc)?,
+            rank_price: list_of(alloc, &[0])?,
         },
     };
-    assert!(rt; check(alloc, &empty, &plan)?);
+    assert!(rt; judged(alloc, &empty, &plan)?);
     Ok(())
 }
