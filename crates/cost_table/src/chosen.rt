@@ -1,8 +1,8 @@
 //! What parts move at the ranks that were chosen for them.
-ghost use Rattle.std.specs.Prelude.{◌≡◌, ◌≤◌, ◌*◌, ◌^◌, All, length, slice_index};
+ghost use Rattle.std.specs.Prelude.{◌≡◌, ◌<◌, ◌≤◌, ◌+◌, ◌*◌, ◌^◌, All, length, slice_index};
 ghost use Rattle.mds_types.specs.Certificate.{AreRanks};
 ghost use Rattle.mds_types.specs.RankSet.{has_rank, rank_count};
-ghost use Rattle.cost_table.specs.Costs.{chosen_cost, rank_place};
+ghost use Rattle.cost_table.specs.Costs.{cell_at_place, chosen_cost, rank_place};
 
 use mds_types::{Rank, RankSet};
 
@@ -27,6 +27,15 @@ pub fn place_of(ranks: RankSet, rank: Rank) -> usize
         }
     }
     place
+}
+
+/// What a part moves at the rank that has this place. There are `width` cells a part.
+pub fn cell_at_place(cells: &[u64], width: usize, part: usize, place: usize) -> u64
+    requires inside { part * width + place < length cells.now }
+    requires few { length cells.now ≤ 4096 }
+    ensures { result ≡ cell_at_place cells.now width part place }
+{
+    cells[part * width + place]
 }
 
 /// The sum of the parts' costs, where part p goes to rank `rank[p]`.

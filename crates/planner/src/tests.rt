@@ -2,6 +2,7 @@
 //!
 //! Each call that takes memory is made again where a growth was refused, so the tests hold with any one
 //! growth refused.
+ghost use Rattle.std.specs.Prelude.{◌<◌};
 
 use crate::solve;
 use exhaustive::{Random, fewest_moved, least_greatest_heat};

@@ -4,8 +4,11 @@
 //! 0. A step from a rank to the part that has it costs nothing. This is Dijkstra's algorithm; it ends
 //! at the nearest rank that is free. A rank stands here for its place among the ranks of the set.
 ghost use Rattle.std.specs.Prelude.{◌≡◌, ◌≢◌, ◌<◌, ◌≤◌, ◌+◌, ◌-◌, ◌*◌, ◌^◌, ℕ, true, false, length, slice_index, slice_index_or};
-ghost use Rattle.rank_assign.specs.Matching.{cell_at_place, IsMatching};
+ghost use Rattle.cost_table.specs.Costs.{cell_at_place};
+ghost use Rattle.rank_assign.specs.Matching.{IsMatching};
 ghost use Rattle.rank_assign.specs.Ways.{near_at, via_at, turn_at, no_way, IsFirstWay, IsImproved, IsReached, IsReaching};
+
+use cost_table::cell_at_place;
 
 /// The way to a rank.
 #[derive(Clone, Copy)]
@@ -16,15 +19,6 @@ pub struct Way {
     pub via: u32,
     /// When the rank was reached: 1 for the first, or 0 where it hasn't been yet.
     pub turn: u32,
-}
-
-/// What a part moves at the rank that has this place. There are `width` cells a part.
-pub fn cell_at_place(cells: &[u64], width: usize, part: usize, place: usize) -> u64
-    requires inside { part * width + place < length cells.now }
-    requires few { length cells.now ≤ 4096 }
-    ensures { result ≡ cell_at_place cells.now width part place }
-{
-    cells[part * width + place]
 }
 
 /// The ways of one step.
