@@ -70,11 +70,12 @@ fn mark(ways: &mut [Way], place: usize, turn: u32)
     ways[place].turn = turn;
 }
 
-/// Takes another way where it is shorter and the rank hasn't been reached.
+/// Takes another way where it is shorter, which none is once the rank has been reached.
 fn improve(way: &mut Way, near: u64, via: u32)
+    requires { 0 < way.old.turn → way.old.near ≤ near }
     ensures { IsImproved way.old way.new near via }
 {
-    if way.turn == 0 && near < way.near {
+    if near < way.near {
         way.near = near;
         way.via = via;
     }
@@ -89,6 +90,7 @@ fn relax(ways: &mut [Way], cells: &[u64], debts: &[u64], part: usize, price: u64
     requires cells { (j : ℕ) → j < length debts.now → cell_at_place cells.now (length debts.now) part j ≤ 2 ^ 48 }
     requires debts { (j : ℕ) → j < length debts.now → slice_index debts.now j ≤ 2 ^ 56 }
     requires near { near_at ways.old via ≤ 2 ^ 57 }
+    requires reached { (j : ℕ) → j < length debts.now → 0 < turn_at ways.old j → near_at ways.old j ≤ near_at ways.old via }
     requires below { (j : ℕ) → j < length debts.now →
         price ≤ cell_at_place cells.now (length debts.now) part j + slice_index debts.now j }
     ensures { (j : ℕ) → j < length debts.now → IsImproved (slice_index_or ways.old j no_way) (slice_index_or ways.new j no_way)
