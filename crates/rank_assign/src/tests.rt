@@ -229,7 +229,11 @@ fn no_placing_moves_less(rt: HostRuntime) -> Result<(), Fail> {
             Err(_) => costs(&rt, alloc, &problem, &part, 3)?,
         };
         let trial = fewest_moved(problem.rows(), &part, 3, problem.ranks());
-        assert_eq!(rt; Some(assign(alloc, &costs)?.moved), trial, "round {round}");
+        assert_eq!(rt;
+            Some(assigned(alloc, &costs)?.moved),
+            trial,
+            "round {round}"
+        );
     }
     Ok(())
 }
