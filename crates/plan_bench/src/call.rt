@@ -38,22 +38,21 @@ impl fmt::Display for Call {
     }
 }
 
-/// Whether the costs of the plan's parts are those of the table.
-fn costs_again<R: Threads + Sync + AllocGlobal>(
+/// What the plan's parts move at each rank.
+pub fn costs_of<R: Threads + Sync + AllocGlobal>(
     rt: &R,
     problem: &Problem,
     plan: &Plan,
-    table: &Costs,
-) -> io::Result<bool> {
-    let count = table.count();
+) -> io::Result<Costs> {
+    let count = plan.rank.len() as u32;
     let fits = plan.part.len() == problem.rows().len()
         && count <= u32::from(problem.ranks().len())
         && plan.part.iter().all(|&p| p < count);
-    if !fits {
-        return Ok(false);
+    if fits {
+        Ok(costs(rt, rt.alloc(), problem, &plan.part, count)?)
+    } else {
+        Err(io::Error::new(io::ErrorKind::InvalidInput, "no plan"))
     }
-    let costs = costs(rt, rt.alloc(), problem, &plan.part, count)?;
-    Ok(costs.cells().last() == table.cells().last())
 }
 
 impl Call {
@@ -78,7 +77,7 @@ impl Call {
         let alloc = rt.alloc();
         match self {
             Call::Search => Ok(search(problem, alloc)?.greatest == plan.greatest),
-            Call::Costs => costs_again(rt, problem, plan, table),
+            Call::Costs => Ok(costs_of(rt, problem, plan)?.cells().last() == table.cells().last()),
             Call::Assign => Ok(assign(alloc, table)?.moved == plan.moved),
             Call::Solve => Ok(solve(rt, alloc, problem)?.moved == plan.moved),
             Call::CheckCut => {

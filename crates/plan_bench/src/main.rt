@@ -8,11 +8,11 @@
 mod call;
 mod given;
 
-use crate::call::Call;
+use crate::call::{Call, costs_of};
 use crate::given::read_problem;
 use mds_types::{Plan, Problem};
 use planner::solve;
-use rank_assign::{Costs, costs};
+use rank_assign::Costs;
 use std::io;
 use std::rt::CpuClock;
 use std::thread::Threads;
@@ -20,23 +20,6 @@ use std::time::Duration;
 
 /// How often each call is timed.
 const RUNS: u32 = 31;
-
-/// The table of costs of a plan's parts.
-fn table_of<R: Threads + Sync + AllocGlobal>(
-    rt: &R,
-    problem: &Problem,
-    plan: &Plan,
-) -> io::Result<Costs> {
-    let count = plan.rank.len() as u32;
-    let fits = plan.part.len() == problem.rows().len()
-        && count <= u32::from(problem.ranks().len())
-        && plan.part.iter().all(|&p| p < count);
-    if fits {
-        Ok(costs(rt, rt.alloc(), problem, &plan.part, count)?)
-    } else {
-        Err(io::Error::new(io::ErrorKind::InvalidInput, "no plan"))
-    }
-}
 
 /// The least processor time of a call, in nanoseconds. Each must give what the plan has.
 fn least_nanos<R: Threads + Sync + AllocGlobal + CpuClock>(
@@ -65,7 +48,7 @@ fn time_all<R: Threads + Sync + AllocGlobal + CpuClock + Print>(
     problem: &Problem,
 ) -> io::Result<()> {
     let plan = solve(rt, rt.alloc(), problem)?;
-    let table = table_of(rt, problem, &plan)?;
+    let table = costs_of(rt, problem, &plan)?;
     print!(rt; "greatest {} moved {}", plan.greatest, plan.moved)?;
     for call in Call::ALL {
         let nanos = least_nanos(rt, call, problem, &plan, &table)?;
