@@ -1,6 +1,6 @@
 -- What a part moves is what it has, less what the rank has of it now.
-use Rattle.std.proofs.Common.{◌≡◌, ◌≢◌, ◌∙◌, ◌+◌, ◌-◌, ◌*◌, ◌^◌, ◌<◌, ◌≤◌, ap, cond, eqb, set, sym, ℕ, zero, suc, Bool, true, false, ◌&&◌, List, get_or, length, slice_index, refl, arith, ⊎_elim, get_or-set_other, get_or-set_same}
-use Rattle.std.proofs.lemmas.Bool.{cases_eq, cases_Bool, eq-eqb, eqb-true, ne_eqb, and_from, and_parts, false_from_ne_true}
+use Rattle.std.proofs.Common.{◌≡◌, ◌≢◌, ◌∙◌, ◌+◌, ◌*◌, ◌<◌, ◌≤◌, ap, cond, eqb, set, sym, ℕ, Bool, true, false, ◌&&◌, List, get_or, length, slice_index, refl, arith, ⊎_elim, get_or-set_other, get_or-set_same}
+use Rattle.std.proofs.lemmas.Bool.{cases_eq, eq-eqb, eqb-true, and_from, and_parts, false_from_ne_true}
 use Rattle.std.proofs.lemmas.List.{get_or_default}
 use Rattle.std.proofs.lemmas.Nat.{same_from_place}
 use Rattle.mds_types.specs.declared.problem.ProblemRow.{ProblemRow}
@@ -118,7 +118,7 @@ part_total-inodes rows label sums part are known =
     sum_below-same 64 (λ r. slice_index sums (part * 64 + r)) (λ r. own_inodes rows label part r) are
     ∙ own-part_inodes rows label part 64 known
 
-at_most : (b : Bool) (x : ℕ) → cond b x 0 ≤ x
+pub at_most : (b : Bool) (x : ℕ) → cond b x 0 ≤ x
 at_most true x = omega arith
 at_most false x = omega arith
 

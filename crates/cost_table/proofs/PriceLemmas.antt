@@ -1,10 +1,9 @@
 -- Prices over a table of costs are prices over the costs.
-use Rattle.std.proofs.Common.{◌≡◌, ◌∙◌, ◌<◌, ◌≤ℤ◌, ◌+ℤ◌, ap, sym, subst, ℕ, ℤ, pos, true, List, length}
+use Rattle.std.proofs.Common.{◌≡◌, ◌∙◌, ◌<◌, ◌≤ℤ◌, ◌+ℤ◌, ap, sym, subst, ℕ, pos, true, List, length}
 use Rattle.mds_types.specs.declared.problem.ProblemRow.{ProblemRow}
 use Rattle.mds_types.specs.declared.dual_proof.DualProof.{DualProof}
 use Rattle.mds_types.specs.RankSet.{has_rank}
 use Rattle.mds_types.specs.Placing.{cost, moved}
-use Rattle.mds_types.specs.Sums.{sum_below}
 use Rattle.mds_types.specs.Certificate.{AreRanks, IsDualProof, part_price_at, rank_price_at}
 use Rattle.mds_types.proofs.SumsLemmas.{sum_below-same}
 use Rattle.mds_types.proofs.PlacingLemmas.{moved-cost}

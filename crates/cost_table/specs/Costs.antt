@@ -19,6 +19,10 @@ part_total sums part = sum_below 64 (λ r. slice_index sums (part * 64 + r))
 abbrev pub rank_place : ℕ → ℕ → ℕ
 rank_place ranks r = count_below r (has_rank ranks)
 
+-- the cost of a part at the rank that has this place, in a table of so many cells a part
+unfoldable pub cell_at_place : List ℕ → ℕ → ℕ → ℕ → ℕ
+cell_at_place cells width part place = slice_index cells (part * width + place)
+
 -- the cost of a part at a rank of the set, in a table that has a row a part
 abbrev pub cell_at : ℕ → List ℕ → ℕ → ℕ → ℕ
 cell_at ranks cells part r = slice_index cells (part * rank_count ranks + rank_place ranks r)

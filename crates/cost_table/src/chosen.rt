@@ -1,8 +1,8 @@
 //! What parts move at the ranks that were chosen for them.
-ghost use Rattle.std.specs.Prelude.{◌≡◌, ◌≤◌, ◌*◌, ◌^◌, All, length, slice_index};
+ghost use Rattle.std.specs.Prelude.{◌≡◌, true, ◌<◌, ◌≤◌, ◌+◌, ◌*◌, ◌^◌, All, length, slice_index};
 ghost use Rattle.mds_types.specs.Certificate.{AreRanks};
 ghost use Rattle.mds_types.specs.RankSet.{has_rank, rank_count};
-ghost use Rattle.cost_table.specs.Costs.{chosen_cost, rank_place};
+ghost use Rattle.cost_table.specs.Costs.{cell_at, cell_at_place, chosen_cost, rank_place};
 
 use mds_types::{Rank, RankSet};
 
@@ -29,6 +29,26 @@ pub fn place_of(ranks: RankSet, rank: Rank) -> usize
     place
 }
 
+/// What a part moves at the rank that has this place. There are `width` cells a part.
+pub fn cell_at_place(cells: &[u64], width: usize, part: usize, place: usize) -> u64
+    requires inside { part * width + place < length cells.now }
+    requires few { length cells.now ≤ 4096 }
+    ensures { result ≡ cell_at_place cells.now width part place }
+{
+    cells[part * width + place]
+}
+
+/// What a part moves at a rank of the set. There are `width` cells a part, one for each rank.
+fn cell_at(cells: &[u64], ranks: RankSet, width: usize, part: usize, rank: Rank) -> u64
+    requires rank { has_rank ranks rank ≡ true }
+    requires width { width ≡ rank_count ranks }
+    requires inside { part * rank_count ranks + rank_count ranks ≤ length cells.now }
+    requires few { length cells.now ≤ 4096 }
+    ensures { result ≡ cell_at ranks cells.now part rank }
+{
+    cell_at_place(cells, width, part, place_of(ranks, rank))
+}
+
 /// The sum of the parts' costs, where part p goes to rank `rank[p]`.
 pub fn chosen_sum(cells: &[u64], ranks: RankSet, rank: &[Rank]) -> u64
     requires size { length cells.now ≡ length rank.now * rank_count ranks }
@@ -40,7 +60,7 @@ pub fn chosen_sum(cells: &[u64], ranks: RankSet, rank: &[Rank]) -> u64
     let width = usize::from(ranks.len());
     let mut sum = 0;
     for (p, r) in rank.iter().enumerate() {
-        sum += cells[p * width + place_of(ranks, *r)];
+        sum += cell_at(cells, ranks, width, p, *r);
     }
     sum
 }

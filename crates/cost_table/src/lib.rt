@@ -6,4 +6,7 @@ mod chosen;
 mod inodes;
 
 pub use cells::costs;
-pub use chosen::{chosen_sum, place_of};
+pub use chosen::{cell_at_place, chosen_sum, place_of};
+
+#[cfg(test)]
+mod tests;

@@ -1,10 +1,10 @@
 -- What the checker's tests of a plan come to.
-use Rattle.std.proofs.Common.{◌≡◌, ◌∙◌, ◌↔◌, ◌<◌, sym, ℕ, List, length, slice_index, IsTrue, Bool}
+use Rattle.std.proofs.Common.{◌≡◌, ◌∙◌, ◌↔◌, sym, ℕ, List, length, IsTrue, Bool}
 use Rattle.mds_types.specs.declared.plan.Plan.{Plan}
 use Rattle.mds_types.specs.Certificate.{AreRanks, IsCutCertified, IsCertified, plan_label, plan_rank}
 use Rattle.mds_types.specs.Problem.{ProblemData}
 use Rattle.mds_types.specs.Placing.{cost}
-use Rattle.mds_types.specs.RankSet.{has_rank, rank_count}
+use Rattle.mds_types.specs.RankSet.{rank_count}
 use Rattle.mds_types.proofs.CertificateLemmas.{IsCertified-from}
 use Rattle.cost_table.specs.Costs.{cell_at, chosen_cost, AreCosts}
 use Rattle.cost_table.specs.Prices.{ArePrices}

@@ -1,12 +1,12 @@
 -- Prices, rank by rank.
-use Rattle.std.proofs.Common.{◌≡◌, ◌<◌, ap, ℕ, pos, ◌+ℤ◌, true, List, length, subst, refl}
+use Rattle.std.proofs.Common.{◌≡◌, ◌<◌, ℕ, pos, ◌+ℤ◌, true, List, length, subst, refl}
 use Rattle.mds_types.specs.declared.dual_proof.DualProof.{DualProof}
 use Rattle.mds_types.specs.RankSet.{has_rank, rank_count}
 use Rattle.mds_types.specs.Certificate.{AreRanks, part_price_at, rank_price_at}
 use Rattle.mds_types.proofs.PlacingLemmas.{has_rank-lt}
-use Rattle.cost_table.specs.Costs.{cell_at, rank_place}
+use Rattle.cost_table.specs.Costs.{cell_at, cell_at_place, rank_place}
 use Rattle.cost_table.specs.Prices.{ArePrices}
-use Rattle.plan_checker.specs.Prices.{cost_at_place, RankPriceHolds}
+use Rattle.plan_checker.specs.Prices.{RankPriceHolds}
 
 -- prices hold where they hold at each rank of the set
 pub ArePrices-from_ranks :
@@ -41,6 +41,6 @@ ranks_from_ArePrices ranks k cost rank dual is r has = record {
 -- the costs at the place of a rank are the costs at the rank
 pub column_is :
     (ranks : ℕ) (cells : List ℕ) (width place r : ℕ) → width ≡ rank_count ranks → place ≡ rank_place ranks r
-    → cost_at_place cells width place ≡ (λ p. cell_at ranks cells p r)
-unfolding cost_at_place
+    → ◌≡◌ {A = ℕ → ℕ} (λ p. cell_at_place cells width p place) (λ p. cell_at ranks cells p r)
+unfolding cell_at_place
 column_is ranks cells width place r width_is place_is = rw (width_is, place_is) refl

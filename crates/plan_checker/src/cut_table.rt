@@ -1,25 +1,27 @@
 //! Whether a table shows how many parts a bound needs.
 //!
-//! Each row is tested against its children and its parent. The numbers of a forged table may be
-//! anything, so sums are taken in 128 bits.
-ghost use Rattle.std.specs.Prelude.{◌≡◌, ◌<◌, ◌≤◌, ◌^◌, ◌↔◌, ℕ, All, length, IfOk, IsTrue};
-ghost use Rattle.mds_types.specs.CutTable.{IsCutTable};
+//! Each row is read once, from the last one up: by then it has got all that its children give. The
+//! numbers of a forged table may be anything. So sums end at the greatest number, which is above
+//! every bound.
+ghost use Rattle.std.specs.Prelude.{◌≡◌, ◌<◌, ◌≤◌, ◌+◌, ◌-◌, ◌^◌, ◌↔◌, ℕ, length, slice_index_or, IfOk, IsTrue};
+ghost use Rattle.mds_types.specs.CutTable.{cuts_at, IsCutTable};
 ghost use Rattle.mds_types.specs.Problem.{IsForest};
-ghost use Rattle.plan_checker.specs.Table.{ChildHolds, IsChecked, RowHolds};
+ghost use Rattle.plan_checker.specs.Table.{nothing, ChildHolds, HoldsAt, IsChecked, RowHolds};
 
-use crate::sums::sums_of_children;
+use crate::gathered::{Gathered, give};
 use mds_types::{ProblemRow, Row};
 use std::alloc::{AllocError, Global};
 
 /// Whether a table's row holds, given the sums over its children.
-fn row_holds(given: &ProblemRow, in_table: &Row, rests: u128, cuts: u64, bound: u64) -> bool
-    requires { rests < 2 ^ 96 }
-    ensures { IsTrue result ↔ RowHolds given.entry.now in_table.now rests cuts bound }
+fn row_holds(given: &ProblemRow, in_table: &Row, sums: Gathered, bound: u64) -> bool
+    ensures exact { IsTrue result ↔ RowHolds given.entry.now in_table.now sums.rests sums.cuts bound }
+    ensures few { in_table.now.cuts < 2 ^ 32 }
 {
-    given.heat <= bound
+    let cuts = u64::from(in_table.cuts);
+    given.heat <= in_table.rest
         && in_table.rest <= bound
-        && u128::from(in_table.rest) == u128::from(given.heat) + rests
-        && u64::from(in_table.cuts) == cuts
+        && in_table.rest - given.heat == sums.rests
+        && cuts == sums.cuts
 }
 
 /// Whether a table holds at a parent and its child.
@@ -34,25 +36,34 @@ fn child_holds(parent: &Row, child: &Row, bound: u64) -> bool
     }
 }
 
-/// Whether the table holds at row `i`, given the sums over the children of each row.
-fn holds_at(
-    rows: &[ProblemRow],
-    table: &[Row],
-    rests: &[u128],
-    cuts: &[u64],
-    bound: u64,
-    i: usize,
-) -> bool
+/// Whether the table holds at row `i`, given the sums over its children.
+fn holds_at(rows: &[ProblemRow], table: &[Row], sums: Gathered, bound: u64, i: usize) -> bool
     requires forest { IsForest rows.now }
     requires inside { i < length rows.now }
     requires table { length table.now ≡ length rows.now }
-    requires rests { length rests.now ≡ length rows.now }
-    requires cuts { length cuts.now ≡ length rows.now }
-    requires small { All (λ rest. rest < 2 ^ 96) rests.now }
-    ensures { IsTrue result ↔ IsChecked rows.now table.now rests.now cuts.now bound i }
+    ensures exact { IsTrue result ↔ HoldsAt rows.now table.now sums.rests sums.cuts bound i }
+    ensures few { cuts_at table.now i < 2 ^ 32 }
 {
-    row_holds(&rows[i], &table[i], rests[i], cuts[i], bound)
+    row_holds(&rows[i], &table[i], sums, bound)
         && (i == 0 || child_holds(&table[rows[i].parent as usize], &table[i], bound))
+}
+
+/// Whether the table holds at each row. `sums` is where they gather what their children give.
+fn rows_hold(sums: &mut [Gathered], rows: &[ProblemRow], table: &[Row], bound: u64) -> bool
+    requires forest { IsForest rows.now }
+    requires table { length table.now ≡ length rows.now }
+    requires sums { length sums.old ≡ length rows.now }
+    requires bound { bound < 2 ^ 64 - 1 }
+    requires empty { (v : ℕ) → slice_index_or sums.old v nothing ≡ nothing }
+    ensures { IsTrue result ↔ ((i : ℕ) → i < length rows.now → IsChecked rows.now table.now bound i) }
+{
+    for i in (0..rows.len()).rev() {
+        if !holds_at(rows, table, sums[i], bound, i) {
+            return false;
+        }
+        give(sums, rows[i].parent as usize, &table[i]);
+    }
+    true
 }
 
 /// Whether the table shows how many parts the bound needs.
@@ -62,17 +73,13 @@ pub fn is_cut_table(
     table: &[Row],
     bound: u64,
 ) -> Result<bool, AllocError>
-    requires { IsForest rows.now }
+    requires forest { IsForest rows.now }
+    requires bound { bound < 2 ^ 64 - 1 }
     ensures { IfOk result (λ yes. IsTrue yes ↔ IsCutTable rows.now table.now bound) }
 {
     if table.len() != rows.len() || table.first().is_some_and(|root| root.cut) {
         return Ok(false);
     }
-    let sums = sums_of_children(alloc, rows, table)?;
-    for i in 0..rows.len() {
-        if !holds_at(rows, table, &sums.rests, &sums.cuts, bound, i) {
-            return Ok(false);
-        }
-    }
-    Ok(true)
+    let mut sums = vec![in alloc; Gathered { rests: 0, cuts: 0 }; rows.len()]?;
+    Ok(rows_hold(&mut sums, rows, table, bound))
 }

@@ -11,7 +11,7 @@ ghost use Rattle.mds_types.specs.Problem.{IsForest};
 ghost use Rattle.mds_types.specs.RankSet.{rank_count};
 
 use crate::cut_table::is_cut_table;
-use crate::part_list::{hottest_part, is_partition};
+use crate::part_list::hottest_part;
 use crate::prices::{are_prices, are_ranks};
 use cost_table::{chosen_sum, costs};
 use mds_types::{CutProof, DualProof, Plan, Problem, ProblemRow, Rank, RankSet};
@@ -64,8 +64,7 @@ pub fn check_cut(
         return Ok(false);
     }
     Ok(
-        is_partition(alloc, rows, part, k)?
-            && hottest_part(alloc, rows, part, k)? == greatest
+        hottest_part(alloc, rows, part, k)? == Some(greatest)
             && is_cut_proof(alloc, rows, ranks, greatest, proof)?,
     )
 }

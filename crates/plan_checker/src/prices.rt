@@ -4,10 +4,11 @@
 ghost use Rattle.std.specs.Prelude.{◌≡◌, ◌≢◌, ◌<◌, ◌≤◌, ◌+◌, ◌*◌, ◌↔◌, ℕ, ℤ, pos, ◌+ℤ◌, ◌≤ℤ◌, length, slice_index, slice_index_or, IsTrue};
 ghost use Rattle.mds_types.specs.Certificate.{AreRanks};
 ghost use Rattle.mds_types.specs.RankSet.{rank_count};
-ghost use Rattle.cost_table.specs.Costs.{cell_at};
+ghost use Rattle.cost_table.specs.Costs.{cell_at, cell_at_place};
 ghost use Rattle.cost_table.specs.Prices.{ArePrices};
-ghost use Rattle.plan_checker.specs.Prices.{cost_at_place, RankPriceHolds};
+ghost use Rattle.plan_checker.specs.Prices.{RankPriceHolds};
 
+use cost_table::cell_at_place;
 use mds_types::{DualProof, Rank, RankSet};
 
 /// Whether these are different ranks of the set.
@@ -45,15 +46,6 @@ fn pair_holds(part_price: i64, rank_price: i64, cost: u64, is_chosen: bool) -> b
         && (!is_chosen || is_exact(part_price, rank_price, cost))
 }
 
-/// What a part moves at the rank that has this place. There are `width` cells a part.
-fn cost_at_place(cells: &[u64], width: usize, place: usize, part: usize) -> u64
-    requires inside { part * width + place < length cells.now }
-    requires few { length cells.now ≤ 4096 }
-    ensures { result ≡ cost_at_place cells.now width place part }
-{
-    cells[part * width + place]
-}
-
 /// Whether a rank's price is not above 0, and is 0 where no part has the rank.
 fn sign_holds(price: i64, rank: &[Rank], r: Rank) -> bool
     ensures { IsTrue result ↔ (price ≤ℤ pos 0
@@ -78,13 +70,13 @@ fn rank_price_holds(
     requires cells { length cells.now ≡ length rank.now * width }
     requires prices { length part_price.now ≡ length rank.now }
     ensures { IsTrue result ↔ RankPriceHolds (length rank.now) (slice_index rank.now)
-        (λ p. slice_index_or part_price.now p (pos 0)) (cost_at_place cells.now width place) r price }
+        (λ p. slice_index_or part_price.now p (pos 0)) (λ p. cell_at_place cells.now width p place) r price }
 {
     if !sign_holds(price, rank, r) {
         return false;
     }
     for (p, part_price) in part_price.iter().enumerate() {
-        let cost = cost_at_place(cells, width, place, p);
+        let cost = cell_at_place(cells, width, p, place);
         if !pair_holds(*part_price, price, cost, rank[p] == r) {
             return false;
         }

@@ -1,17 +1,43 @@
-//! Plans of small problems, judged by the checker.
+//! Plans of small problems, judged by the checker and by trial.
+//!
+//! Each call that takes memory is made again where a growth was refused, so the tests hold with any one
+//! growth refused.
+ghost use Rattle.std.specs.Prelude.{◌<◌};
 
 use crate::solve;
 use exhaustive::{Random, fewest_moved, least_greatest_heat};
 use mds_types::{CutProof, Plan, Problem, ProblemRow, Rank, RankSet};
 use plan_checker::check;
-use std::alloc::Global;
+use std::alloc::{AllocError, Global};
+use std::process::Abort;
 use std::test::Fail;
+use std::thread::Threads;
 
 /// Parent, heat, inodes and present rank of a row.
 type Given = (u32, u64, u32, u8);
 
+/// What a call gives, or gives when it is made again, where a growth was refused the first time.
+fn at_last<T, F: Fn() -> Result<T, AllocError> + Drop>(call: F) -> Result<T, AllocError>
+    requires { F.IsAlwaysCallable call }
+{
+    match call() {
+        Ok(value) => Ok(value),
+        Err(_) => call(),
+    }
+}
+
+/// The plan that is found in the end.
+fn solved<R: Threads + Sync>(rt: &R, alloc: Global, problem: &Problem) -> Result<Plan, AllocError> {
+    at_last(|| solve(rt, alloc, problem))
+}
+
+/// What the checker says in the end.
+fn judged(alloc: Global, problem: &Problem, plan: &Plan) -> Result<bool, AllocError> {
+    at_last(|| check(alloc, problem, plan))
+}
+
 fn problem(alloc: Global, given: &[Given], ranks: u64) -> Result<Problem, Fail> {
-    let mut rows = Vec::new(alloc);
+    let mut rows = at_last(|| Vec::with_capacity(alloc, given.len()))?;
     for &(parent, heat, inodes, now) in given {
         let now = Rank::new(now).ok_or("no rank")?;
         rows.push(ProblemRow {
@@ -29,7 +55,7 @@ fn problem(alloc: Global, given: &[Given], ranks: u64) -> Result<Problem, Fail> 
 
 /// The numbers of the ranks that the parts go to.
 fn numbers(alloc: Global, plan: &Plan) -> Result<Vec<u8>, Fail> {
-    let mut numbers = Vec::new(alloc);
+    let mut numbers = at_last(|| Vec::with_capacity(alloc, plan.rank.len()))?;
     for rank in plan.rank.as_slice() {
         numbers.push(rank.number())?;
     }
@@ -90,40 +116,61 @@ fn solves_small_trees(rt: HostRuntime) -> Result<(), Fail> {
     ];
     for (rows, ranks, greatest, moved, proof, part, rank) in table {
         let problem = problem(alloc, rows, ranks)?;
-        let plan = solve(&rt, alloc, &problem)?;
+        let plan = solved(&rt, alloc, &problem)?;
         assert_eq!(rt; plan.greatest, greatest, "{rows:?}");
         assert_eq!(rt; plan.moved, moved, "{rows:?}");
         assert_eq!(rt; word(&plan.cut), proof, "{rows:?}");
         assert_eq!(rt; plan.part.as_slice(), part, "{rows:?}");
         assert_eq!(rt; numbers(alloc, &plan)?.as_slice(), rank, "{rows:?}");
-        assert!(rt; check(alloc, &problem, &plan)?, "{rows:?}");
+        assert!(rt; judged(alloc, &problem, &plan)?, "{rows:?}");
     }
+    Ok(())
+}
+
+/// Compares the plan of a problem with all divisions into so many parts and all placings.
+fn compare<R: Abort + AllocGlobal + Threads + Sync>(
+    rt: &R,
+    problem: &Problem,
+    ranks: usize,
+) -> Result<(), Fail>
+    requires { 0 < ranks }
+{
+    let alloc = rt.alloc();
+    let plan = solved(rt, alloc, problem)?;
+    let rows = problem.rows();
+    assert!(rt; rows.len() <= 8);
+    assert_eq!(rt; plan.part.len(), rows.len());
+    let parts = plan.rank.len() as u32;
+    assert!(rt; parts <= 3);
+    assert_eq!(rt; plan.greatest, least_greatest_heat(rows, ranks), "{rows:?}");
+    let trial = fewest_moved(rows, &plan.part, parts, problem.ranks());
+    assert_eq!(rt; Some(plan.moved), trial, "{rows:?}");
+    assert!(rt; judged(alloc, problem, &plan)?, "{rows:?}");
     Ok(())
 }
 
 #[test]
 fn nothing_is_better(rt: HostRuntime) -> Result<(), Fail> {
-    let alloc = rt.alloc();
     let mut random = Random::new(5);
-    for round in 0..12 {
-        let rows = random.rows(alloc, 6, 20)?;
-        let Ok(problem) = Problem::new(rows, RankSet::from_bits(0xe0)) else {
-            return Err("no problem")?;
-        };
-        let plan = solve(&rt, alloc, &problem)?;
-        let rows = problem.rows();
-        assert_eq!(rt; rows.len(), 6);
-        assert_eq!(rt; plan.part.len(), 6);
-        let parts = plan.rank.len() as u32;
-        assert!(rt; parts <= 3);
-        assert_eq!(rt;
-            plan.greatest,
-            least_greatest_heat(rows, 3),
-            "round {round}"
-        );
-        let trial = fewest_moved(rows, &plan.part, parts, problem.ranks());
-        assert_eq!(rt; Some(plan.moved), trial, "round {round}");
-        assert!(rt; check(alloc, &problem, &plan)?, "round {round}");
+    // (rows, limit of heats, ranks, how many)
+    let table = [
+        (1, 9, 0x8, 1),
+        (4, 2, 0x3, 2),
+        (6, 20, 0xe0, 3),
+        (8, 7, 0x8000_0000_0000_0001, 2),
+        (7, 3, 0x10, 1),
+    ];
+    for (count, heat_limit, ranks, parts) in table {
+        for _ in 0..10 {
+            let rows = match random.rows(rt.alloc(), count, heat_limit) {
+                Ok(rows) => rows,
+                Err(_) => random.rows(rt.alloc(), count, heat_limit)?,
+            };
+            let Ok(problem) = Problem::new(rows, RankSet::from_bits(ranks)) else {
+                return Err("no problem")?;
+            };
+            compare(&rt, &problem, parts)?;
+        }
     }
     Ok(())
 }

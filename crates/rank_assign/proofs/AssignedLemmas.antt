@@ -1,18 +1,18 @@
 -- Ranks and prices that a matching gives.
-use Rattle.std.proofs.Common.{All, ◌^◌, ◌≡◌, ◌≢◌, ◌∙◌, ap, sym, refl, subst, ℕ, zero, suc, ℤ, pos, neg_ℤ, ◌+ℤ◌, ◌≤ℤ◌, ◌+◌, ◌-◌, ◌*◌, ◌<◌, ◌≤◌, Bool, true, false, cond, List, length, slice_index, slice_index_or, arith, ⊎_elim, mul_comm}
-use Rattle.std.proofs.lemmas.Bool.{cases_eq, cases_lt, cases_Bool}
+use Rattle.std.proofs.Common.{All, ◌^◌, ◌≡◌, ◌≢◌, ◌∙◌, ap, sym, refl, subst, ℕ, zero, suc, pos, neg_ℤ, ◌+ℤ◌, ◌≤ℤ◌, ◌+◌, ◌-◌, ◌*◌, ◌<◌, ◌≤◌, Bool, true, false, cond, List, length, slice_index_or, arith, ⊎_elim, mul_comm}
+use Rattle.std.proofs.lemmas.Bool.{cases_lt, cases_Bool}
 use Rattle.std.proofs.lemmas.Int.{ints}
 use Rattle.std.proofs.lemmas.Nat.{mul-add-lt}
 use Rattle.mds_types.specs.declared.dual_proof.DualProof.{DualProof}
-use Rattle.mds_types.specs.Certificate.{AreRanks, part_price_at, rank_price_at}
+use Rattle.mds_types.specs.Certificate.{AreRanks}
 use Rattle.mds_types.specs.RankSet.{has_rank, rank_count}
 use Rattle.mds_types.specs.Sums.{sum_below, count_below}
 use Rattle.mds_types.proofs.PlacingLemmas.{has_rank-lt}
 use Rattle.mds_types.proofs.SumsLemmas.{sum_below-le, sum_below-same, sum_below-add, sum_below-distinct, sum_below-cover}
-use Rattle.cost_table.specs.Costs.{cell_at, chosen_cost, rank_place}
+use Rattle.cost_table.specs.Costs.{cell_at, cell_at_place, chosen_cost, rank_place}
 use Rattle.cost_table.specs.Prices.{ArePrices}
 use Rattle.cost_table.proofs.PlaceLemmas.{place_inside}
-use Rattle.rank_assign.specs.Matching.{cell_at_place, IsMatching}
+use Rattle.rank_assign.specs.Matching.{IsMatching}
 
 -- the cell at a rank is the cell at its place
 pub cell_is : (ranks : ℕ) (cells : List ℕ) (p x : ℕ)

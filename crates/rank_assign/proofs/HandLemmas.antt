@@ -1,8 +1,8 @@
 -- Parts move along a way, from its end.
-use Rattle.std.proofs.Common.{◌≡◌, ◌≢◌, ◌∙◌, ap, sym, refl, ℕ, ◌+◌, ◌-◌, ◌<◌, ◌≤◌, ◌⊎◌, inl, inr, arith, ⊎_elim}
+use Rattle.std.proofs.Common.{◌≡◌, ◌≢◌, ◌∙◌, ap, sym, refl, ℕ, ◌+◌, ◌<◌, ◌≤◌, inl, inr, arith, ⊎_elim}
 use Rattle.std.proofs.lemmas.Bool.{cases_eq}
 use Rattle.rank_assign.specs.Matching.{ArePlaced}
-use Rattle.rank_assign.specs.Ways.{ArePaths, IsHandedTo, IsHandedOn, IsHandedFirst}
+use Rattle.rank_assign.specs.Ways.{ArePaths, IsHandedTo}
 
 -- the parts below s have ranks other than this place; what stands there no longer counts
 pub record IsHanding (r : ℕ) (owner via turn own : ℕ → ℕ) (s place : ℕ) : Type 0 where

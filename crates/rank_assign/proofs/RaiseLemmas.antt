@@ -1,5 +1,5 @@
 -- Prices that were raised along the ways.
-use Rattle.std.proofs.Common.{◌≡◌, ◌≢◌, ◌∙◌, ap, sym, ℕ, ◌+◌, ◌-◌, ◌*◌, ◌^◌, ◌<◌, ◌≤◌, ◌⊎◌, arith, ⊎_elim}
+use Rattle.std.proofs.Common.{◌≡◌, ◌≢◌, ◌∙◌, ℕ, ◌+◌, ◌-◌, ◌^◌, ◌<◌, ◌≤◌, arith, ⊎_elim}
 use Rattle.std.proofs.lemmas.Bool.{cases_eq, cases_lt, cases_order}
 use Rattle.rank_assign.specs.Matching.{ArePlaced, IsMatching}
 use Rattle.rank_assign.specs.Ways.{ArePaths, IsHandedTo, IsHandedOn, IsHandedFirst, IsReached}

@@ -1,10 +1,10 @@
 -- One rank more is reached.
-use Rattle.std.proofs.Common.{◌≡◌, ◌≢◌, ◌∙◌, ap, sym, refl, ℕ, ◌+◌, ◌-◌, ◌<◌, ◌≤◌, ◌⊎◌, Bool, true, false, cond, ltb, arith, ⊎_elim}
+use Rattle.std.proofs.Common.{◌≡◌, ◌≢◌, ◌∙◌, ap, sym, refl, ℕ, ◌+◌, ◌-◌, ◌<◌, ◌≤◌, ◌⊎◌, cond, ltb, arith, ⊎_elim}
 use Rattle.std.proofs.lemmas.Bool.{cases_eq, cases_lt, lt-ltb, le-ltb, ltb-true, ltb-false}
 use Rattle.mds_types.specs.Sums.{count_below}
 use Rattle.mds_types.proofs.SumsLemmas.{sum_below-zero}
 use Rattle.rank_assign.specs.Matching.{IsMatching}
-use Rattle.rank_assign.specs.Ways.{IsLink, IsReaching, IsReached}
+use Rattle.rank_assign.specs.Ways.{IsReaching, IsReached}
 use Rattle.rank_assign.proofs.CountLemmas.{sum_below_one_more, all_pass, some_fails, distinct_le}
 
 -- at first no rank has been reached

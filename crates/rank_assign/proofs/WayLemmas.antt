@@ -1,5 +1,5 @@
 -- What a step of the search does to the list of ways.
-use Rattle.std.proofs.Common.{◌≡◌, ◌≢◌, ◌∙◌, ap, sym, ℕ, ◌+◌, ◌-◌, ◌<◌, ◌≤◌, ◌⊎◌, inl, inr, List, slice_index_or, arith, ⊎_elim}
+use Rattle.std.proofs.Common.{◌≡◌, ◌≢◌, ◌∙◌, ap, sym, ℕ, ◌+◌, ◌-◌, ◌<◌, ◌≤◌, inl, inr, List, slice_index_or, arith, ⊎_elim}
 use Rattle.std.proofs.lemmas.Bool.{cases_eq}
 use Rattle.rank_assign.specs.declared.ways.Way.{Way}
 use Rattle.rank_assign.specs.Ways.{no_way, near_at, via_at, turn_at, IsKept, IsTaken, IsImproved, IsReaching, IsReached}

@@ -1,9 +1,5 @@
 -- Parts on ranks, with prices over which the parts are where they cost least.
-use Rattle.std.specs.Prelude.{◌≡◌, ◌<◌, ◌≤◌, ◌+◌, ◌*◌, ◌^◌, ℕ, List, slice_index}
-
--- the cost of a part at the rank that has this place, in a table of so many cells a part
-unfoldable pub cell_at_place : List ℕ → ℕ → ℕ → ℕ → ℕ
-cell_at_place cells width part place = slice_index cells (part * width + place)
+use Rattle.std.specs.Prelude.{◌≡◌, ◌<◌, ◌≤◌, ◌+◌, ◌*◌, ◌^◌, ℕ}
 
 -- the first `done` parts have ranks of their own among r: owner j is one more than the part that has rank j, or 0 where
 -- it is free

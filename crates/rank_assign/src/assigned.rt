@@ -1,10 +1,10 @@
 //! The best placing of parts on ranks, with the prices that show that none is better.
 ghost use Rattle.std.specs.Prelude.{◌≡◌, ◌≢◌, ◌<◌, ◌≤◌, ◌+◌, ◌*◌, ◌^◌, ℕ, true, length, pos, slice_index, slice_index_or, neg_ℤ, IfOk};
-ghost use Rattle.cost_table.specs.Costs.{cell_at, chosen_cost, rank_place};
+ghost use Rattle.cost_table.specs.Costs.{cell_at, cell_at_place, chosen_cost, rank_place};
 ghost use Rattle.cost_table.specs.Prices.{ArePrices};
 ghost use Rattle.mds_types.specs.Certificate.{AreRanks};
 ghost use Rattle.mds_types.specs.RankSet.{has_rank, rank_count};
-ghost use Rattle.rank_assign.specs.Matching.{cell_at_place, ArePlaced, IsMatching};
+ghost use Rattle.rank_assign.specs.Matching.{ArePlaced, IsMatching};
 
 use crate::hungarian::place_parts;
 use crate::table::Costs;

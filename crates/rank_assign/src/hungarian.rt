@@ -6,7 +6,8 @@
 //! placed so far are where they cost least. Ranks' prices are never above 0, so they are kept as
 //! debts, what they are below 0. All numbers are whole.
 ghost use Rattle.std.specs.Prelude.{◌≡◌, ◌≢◌, ◌<◌, ◌≤◌, ◌+◌, ◌-◌, ◌*◌, ◌^◌, ℕ, length, slice_index};
-ghost use Rattle.rank_assign.specs.Matching.{cell_at_place, ArePlaced, IsMatching};
+ghost use Rattle.cost_table.specs.Costs.{cell_at_place};
+ghost use Rattle.rank_assign.specs.Matching.{ArePlaced, IsMatching};
 ghost use Rattle.rank_assign.specs.Ways.{near_at, turn_at, via_at, ArePaths, IsHandedTo};
 
 use crate::ways::{Way, reach};

@@ -4,8 +4,11 @@
 //! 0. A step from a rank to the part that has it costs nothing. This is Dijkstra's algorithm; it ends
 //! at the nearest rank that is free. A rank stands here for its place among the ranks of the set.
 ghost use Rattle.std.specs.Prelude.{◌≡◌, ◌≢◌, ◌<◌, ◌≤◌, ◌+◌, ◌-◌, ◌*◌, ◌^◌, ℕ, true, false, length, slice_index, slice_index_or};
-ghost use Rattle.rank_assign.specs.Matching.{cell_at_place, IsMatching};
+ghost use Rattle.cost_table.specs.Costs.{cell_at_place};
+ghost use Rattle.rank_assign.specs.Matching.{IsMatching};
 ghost use Rattle.rank_assign.specs.Ways.{near_at, via_at, turn_at, no_way, IsFirstWay, IsImproved, IsReached, IsReaching};
+
+use cost_table::cell_at_place;
 
 /// The way to a rank.
 #[derive(Clone, Copy)]
@@ -16,15 +19,6 @@ pub struct Way {
     pub via: u32,
     /// When the rank was reached: 1 for the first, or 0 where it hasn't been yet.
     pub turn: u32,
-}
-
-/// What a part moves at the rank that has this place. There are `width` cells a part.
-pub fn cell_at_place(cells: &[u64], width: usize, part: usize, place: usize) -> u64
-    requires inside { part * width + place < length cells.now }
-    requires few { length cells.now ≤ 4096 }
-    ensures { result ≡ cell_at_place cells.now width part place }
-{
-    cells[part * width + place]
 }
 
 /// The ways of one step.
@@ -46,8 +40,9 @@ fn start(ways: &mut [Way], cells: &[u64], debts: &[u64], part: usize)
     }
 }
 
-/// The nearest rank that hasn't been reached.
-fn nearest(ways: &[Way]) -> usize
+/// The nearest rank that hasn't been reached, and a free one where one is as near.
+fn nearest(ways: &[Way], owners: &[u32]) -> usize
+    requires size { length owners.now ≡ length ways.now }
     requires some { (j : ℕ) × (j < length ways.now) × (turn_at ways.now j ≡ 0) }
     requires small { (j : ℕ) → j < length ways.now → near_at ways.now j < 2 ^ 60 }
     ensures inside { result < length ways.now }
@@ -57,9 +52,10 @@ fn nearest(ways: &[Way]) -> usize
     let mut nearest = 0;
     let mut least = u64::MAX;
     for (j, way) in ways.iter().enumerate() {
-        if way.turn == 0 && way.near < least {
+        let far = way.near * 2 + u64::from(owners[j].min(1));
+        if way.turn == 0 && far < least {
             nearest = j;
-            least = way.near;
+            least = far;
         }
     }
     nearest
@@ -74,11 +70,12 @@ fn mark(ways: &mut [Way], place: usize, turn: u32)
     ways[place].turn = turn;
 }
 
-/// Takes another way where it is shorter and the rank hasn't been reached.
+/// Takes another way where it is shorter, which none is once the rank has been reached.
 fn improve(way: &mut Way, near: u64, via: u32)
+    requires { 0 < way.old.turn → way.old.near ≤ near }
     ensures { IsImproved way.old way.new near via }
 {
-    if way.turn == 0 && near < way.near {
+    if near < way.near {
         way.near = near;
         way.via = via;
     }
@@ -93,6 +90,7 @@ fn relax(ways: &mut [Way], cells: &[u64], debts: &[u64], part: usize, price: u64
     requires cells { (j : ℕ) → j < length debts.now → cell_at_place cells.now (length debts.now) part j ≤ 2 ^ 48 }
     requires debts { (j : ℕ) → j < length debts.now → slice_index debts.now j ≤ 2 ^ 56 }
     requires near { near_at ways.old via ≤ 2 ^ 57 }
+    requires reached { (j : ℕ) → j < length debts.now → 0 < turn_at ways.old j → near_at ways.old j ≤ near_at ways.old via }
     requires below { (j : ℕ) → j < length debts.now →
         price ≤ cell_at_place cells.now (length debts.now) part j + slice_index debts.now j }
     ensures { (j : ℕ) → j < length debts.now → IsImproved (slice_index_or ways.old j no_way) (slice_index_or ways.new j no_way)
@@ -130,7 +128,7 @@ pub fn reach(
 {
     start(ways, cells, debts, part);
     for reached in 0..debts.len() {
-        let place = nearest(ways);
+        let place = nearest(ways, owners);
         mark(ways, place, reached as u32 + 1);
         if owners[place] == 0 {
             return place;

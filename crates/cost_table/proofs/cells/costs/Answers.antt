@@ -1,8 +1,8 @@
-use Rattle.std.proofs.Common.{◌≡◌, ◌∙◌, ◌≤◌, ◌<◌, ◌^◌, ◌*◌, ap, sym, subst, ℕ, List, length, take, drop, ◌++◌, slice_index, arith, rules}
+use Rattle.std.proofs.Common.{◌≡◌, ◌*◌, ℕ, List, length, take, drop, ◌++◌, slice_index, arith, rules}
 use Rattle.mds_types.specs.RankSet.{rank_count}
 use Rattle.mds_types.proofs.PlacingLemmas.{has_rank-lt}
-use Rattle.cost_table.specs.Costs.{own_inodes, part_total, AreCosts}
-use Rattle.cost_table.proofs.InodeLemmas.{part_inodes, part_inodes-le, part_total-inodes, cost-own}
+use Rattle.cost_table.specs.Costs.{AreCosts}
+use Rattle.cost_table.proofs.InodeLemmas.{part_inodes-le, part_total-inodes, cost-own}
 use Rattle.cost_table.proofs.WrittenLemmas.{all_written}
 use Rattle.cost_table.proofs.cells.costs.Goals as goal
 

@@ -1,7 +1,6 @@
-use Rattle.std.proofs.Common.{◌≡◌, ◌≢◌, ◌∙◌, ◌<◌, ◌+◌, ◌*◌, ap, sym, ℕ, length, slice_index, arith, below_more, rules, ⊎_elim}
+use Rattle.std.proofs.Common.{◌≡◌, ◌≢◌, length, arith, rules, ⊎_elim}
 use Rattle.std.proofs.lemmas.Bool.{cases_eq}
 use Rattle.mds_types.proofs.PlacingLemmas.{has_rank-lt}
-use Rattle.cost_table.specs.Costs.{cell_at, part_total}
 use Rattle.cost_table.proofs.PlaceLemmas.{row_inside}
 use Rattle.cost_table.proofs.InodeLemmas.{cell_within}
 use Rattle.cost_table.proofs.cells.fill.Goals as goal

@@ -1,9 +1,9 @@
 use Rattle.std.proofs.Common.{List, get_or, set, ◌≤◌, ◌^◌, ◌≡◌, ◌∙◌, ◌<◌, ◌+◌, ◌-◌, ◌*◌, ap, sym, ℕ, true, false, length, slice_index, arith, below_more, rules}
 use Rattle.std.proofs.lemmas.Bool.{false≢true}
 use Rattle.std.proofs.lemmas.List.Elements.{All-set}
-use Rattle.mds_types.specs.RankSet.{has_rank, rank_count}
+use Rattle.mds_types.specs.RankSet.{has_rank}
 use Rattle.mds_types.proofs.RankSetLemmas.{count_below_more}
-use Rattle.cost_table.specs.Costs.{cell_at, rank_place}
+use Rattle.cost_table.specs.Costs.{cell_at}
 use Rattle.cost_table.proofs.PlaceLemmas.{place_inside, cell_here, cell_before, cell_other}
 use Rattle.cost_table.proofs.cells.fill_part.Goals as goal
 use Rattle.cost_table.proofs.cells.fill_part.Goals.{then-has_number, else-has_number}

@@ -1,6 +1,6 @@
-use Rattle.std.proofs.Common.{◌≡◌, ◌∙◌, ◌↔◌, sym, length, IsTrue}
+use Rattle.std.proofs.Common.{◌∙◌, ◌↔◌, sym, length, IsTrue}
 use Rattle.std.proofs.lemmas.Bool.{false≢true}
-use Rattle.mds_types.specs.Certificate.{IsCutCertified, IsDualProof, IsCertified, AreRanks, plan_rank, plan_label}
+use Rattle.mds_types.specs.Certificate.{IsCutCertified, AreRanks, plan_rank, plan_label}
 use Rattle.mds_types.specs.Problem.{IsProblem}
 use Rattle.mds_types.specs.RankSet.{rank_count}
 use Rattle.mds_types.proofs.CertificateLemmas.{best, IsCutCertified-of}

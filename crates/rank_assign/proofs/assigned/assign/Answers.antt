@@ -1,8 +1,6 @@
-use Rattle.std.proofs.Common.{◌≡◌, ◌∙◌, ◌+◌, ◌<◌, ap, sym, ℕ, true, length, slice_index, arith, rules}
-use Rattle.mds_types.specs.Certificate.{AreRanks}
-use Rattle.mds_types.specs.RankSet.{has_rank, rank_count}
-use Rattle.cost_table.specs.Costs.{chosen_cost, rank_place}
-use Rattle.rank_assign.specs.Matching.{cell_at_place}
+use Rattle.std.proofs.Common.{◌≡◌, length, slice_index, arith, rules}
+use Rattle.mds_types.specs.RankSet.{rank_count}
+use Rattle.cost_table.specs.Costs.{cell_at_place, chosen_cost}
 use Rattle.rank_assign.proofs.AssignedLemmas.{are_ranks, are_prices, least_cost}
 use Rattle.rank_assign.proofs.assigned.assign.Goals as goal
 

@@ -1,4 +1,4 @@
-use Rattle.std.proofs.Common.{◌≡◌, ◌≢◌, ◌∙◌, ◌+◌, ◌<◌, ap, sym, ℕ, true, false, length, slice_index, arith, rules, below_more}
+use Rattle.std.proofs.Common.{◌≡◌, ◌∙◌, ◌+◌, ap, sym, ℕ, true, false, slice_index, arith, below_more}
 use Rattle.std.proofs.lemmas.Bool.{false≢true}
 use Rattle.mds_types.specs.RankSet.{has_rank}
 use Rattle.mds_types.proofs.RankSetLemmas.{count_below_more}

@@ -1,4 +1,4 @@
-use Rattle.std.proofs.Common.{take, drop, ◌++◌, ◌≡◌, ◌∙◌, ◌*◌, ◌+◌, ◌<◌, ap, ℕ, List, length, slice_index, arith, rules}
+use Rattle.std.proofs.Common.{take, drop, ◌++◌, ◌≡◌, ◌*◌, ℕ, List, length, arith, rules}
 use Rattle.mds_types.specs.RankSet.{rank_count}
 use Rattle.cost_table.proofs.PlaceLemmas.{rank_count-le}
 use Rattle.cost_table.proofs.WrittenLemmas.{all_written}

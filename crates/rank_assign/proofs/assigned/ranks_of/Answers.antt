@@ -1,4 +1,4 @@
-use Rattle.std.proofs.Common.{◌≡◌, length, take, drop, ◌++◌, slice_index, arith, rules}
+use Rattle.std.proofs.Common.{◌≡◌, length, take, drop, ◌++◌, rules}
 use Rattle.cost_table.proofs.WrittenLemmas.{all_written}
 use Rattle.rank_assign.proofs.assigned.ranks_of.Goals as goal
 

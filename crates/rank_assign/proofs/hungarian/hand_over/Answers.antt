@@ -1,4 +1,4 @@
-use Rattle.std.proofs.Common.{◌≡◌, ◌≢◌, ◌+◌, ◌-◌, ℕ, length, slice_index, slice_set, refl, arith, get_or-set_other, get_or-set_same}
+use Rattle.std.proofs.Common.{◌≡◌, ◌+◌, ◌-◌, ℕ, length, slice_index, slice_set, arith, get_or-set_other, get_or-set_same}
 use Rattle.rank_assign.specs.Ways.{via_at, turn_at}
 use Rattle.rank_assign.proofs.HandLemmas.{handing_start, handing_step, handing_end}
 use Rattle.rank_assign.proofs.hungarian.hand_over.Goals as goal

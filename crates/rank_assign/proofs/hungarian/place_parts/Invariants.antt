@@ -1,5 +1,6 @@
 use Rattle.std.proofs.Common.{length, slice_index}
-use Rattle.rank_assign.specs.Matching.{cell_at_place, IsMatching}
+use Rattle.cost_table.specs.Costs.{cell_at_place}
+use Rattle.rank_assign.specs.Matching.{IsMatching}
 use Rattle.rank_assign.proofs.hungarian.place_parts.Given as goal
 
 abbrev pub invariant-loop-part : goal.invariant-loop-part

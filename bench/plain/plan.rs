@@ -1,0 +1,427 @@
+//! Search, costs, placing and judge in plain Rust, as a measure for the planner: plan < problem. Nothing here is proved.
+//!
+//! A problem is `rows ranks` and then `parent heat inodes now` a line. Prints greatest heat, moved inodes, and the
+//! nanoseconds of each part, the least of 31 runs.
+use std::hint::black_box;
+use std::io::Read;
+use std::time::Instant;
+
+#[derive(Clone, Copy)]
+struct Row {
+    heat: u64,
+    parent: u32,
+    inodes: u32,
+    now: u8,
+}
+
+struct Problem {
+    rows: Vec<Row>,
+    ranks: usize,
+}
+
+#[derive(Clone, Copy, Default)]
+struct TableRow {
+    rest: u64,
+    price: u64,
+    cuts: u32,
+    cut: bool,
+}
+
+enum Proof {
+    Zero,
+    Heavy(u32),
+    Table(Vec<TableRow>),
+}
+
+struct Placing {
+    rank: Vec<u8>,
+    moved: u64,
+    part_price: Vec<i64>,
+    rank_price: Vec<i64>,
+}
+
+struct Plan {
+    part: Vec<u32>,
+    greatest: u64,
+    cut: Proof,
+    placing: Placing,
+}
+
+/// The children of each row: those of row i are `list[at[i]..at[i + 1]]`.
+struct Children {
+    at: Vec<u32>,
+    list: Vec<u32>,
+}
+
+fn children(rows: &[Row]) -> Children {
+    let n = rows.len();
+    let mut at = vec![0; n + 1];
+    for row in &rows[1..] {
+        at[row.parent as usize + 1] += 1;
+    }
+    for i in 0..n {
+        at[i + 1] += at[i];
+    }
+    let (mut list, mut put) = (vec![0; n - 1], at.clone());
+    for (i, row) in rows.iter().enumerate().skip(1) {
+        let place = &mut put[row.parent as usize];
+        list[*place as usize] = i as u32;
+        *place += 1;
+    }
+    Children { at, list }
+}
+
+/// One walk for one bound: the greatest part where there are no more than `ranks`, else the least bound that cuts less.
+fn probe(rows: &[Row], kin: &Children, bound: u64, ranks: usize, rest: &mut [u64], hot: &mut Vec<u64>) -> Result<u64, u64> {
+    let (mut cuts, mut greatest, mut next) = (0, 0, u64::MAX);
+    for (rest, row) in rest.iter_mut().zip(rows) {
+        *rest = row.heat;
+    }
+    for i in (0..rows.len()).rev() {
+        let mut sum = rest[i];
+        if sum > bound {
+            hot.clear();
+            hot.extend(kin.list[kin.at[i] as usize..kin.at[i + 1] as usize].iter().map(|c| !rest[*c as usize]));
+            if hot.len() > ranks {
+                hot.select_nth_unstable(ranks);
+                hot.truncate(ranks);
+            }
+            hot.sort_unstable();
+            for piece in hot.iter().map(|x| !x) {
+                next = next.min(sum);
+                sum -= piece;
+                cuts += 1;
+                greatest = greatest.max(piece);
+                if cuts >= ranks {
+                    return Err(next);
+                }
+                if sum <= bound {
+                    break;
+                }
+            }
+            rest[i] = sum;
+        }
+        if i > 0 {
+            rest[rows[i].parent as usize] += sum;
+        }
+    }
+    Ok(greatest.max(rest[0]))
+}
+
+/// The least greatest heat, by bounds that gallop and then halve.
+fn least_greatest(problem: &Problem) -> u64 {
+    let rows = &problem.rows;
+    let kin = children(rows);
+    let (mut rest, mut hot) = (vec![0; rows.len()], vec![]);
+    let mut high: u64 = rows.iter().map(|row| row.heat).sum();
+    let mut low = rows.iter().map(|row| row.heat).max().unwrap().max(high.div_ceil(problem.ranks as u64));
+    let (mut step, mut galloping) = (0, true);
+    while low < high {
+        let mut bound = low + (high - low) / 2;
+        if galloping && low + step < high {
+            bound = low + step;
+            step = if step == 0 { (low / 32).max(1) } else { step * 2 };
+        } else {
+            galloping = false;
+        }
+        match probe(rows, &kin, bound, problem.ranks, &mut rest, &mut hot) {
+            Ok(greatest) => {
+                high = greatest.max(low);
+                galloping = false;
+            }
+            Err(next) => low = next,
+        }
+    }
+    high
+}
+
+/// Rests, prices and cuts against the bound.
+fn table(rows: &[Row], bound: u64) -> Vec<TableRow> {
+    let n = rows.len();
+    let mut table: Vec<TableRow> = rows.iter().map(|row| TableRow { rest: row.heat, ..Default::default() }).collect();
+    for i in (1..n).rev() {
+        table[rows[i].parent as usize].rest += table[i].rest;
+    }
+    let (mut first, mut next) = (vec![0u32; n], vec![0u32; n]);
+    for i in (1..n).rev() {
+        let parent = rows[i].parent as usize;
+        if table[parent].rest > bound {
+            next[i] = first[parent];
+            first[parent] = i as u32;
+        }
+    }
+    let (mut lost, mut hot) = (vec![0u64; n], vec![]);
+    for i in (0..n).rev() {
+        let mut coolest = 0;
+        let whole = table[i].rest;
+        if whole > bound {
+            let mut rest = whole - lost[i];
+            if rest > bound {
+                hot.clear();
+                let mut child = first[i];
+                while child != 0 {
+                    hot.push((table[child as usize].rest, !child));
+                    child = next[child as usize];
+                }
+                let (mut at, mut sorted) = (0, 0);
+                while rest > bound {
+                    if at == sorted {
+                        sorted = (at + 64).min(hot.len());
+                        if sorted < hot.len() {
+                            hot[at..].select_nth_unstable_by(sorted - at, |x, y| y.cmp(x));
+                        }
+                        hot[at..sorted].sort_unstable_by(|x, y| y.cmp(x));
+                    }
+                    let (piece, child) = hot[at];
+                    at += 1;
+                    table[!child as usize].cut = true;
+                    table[i].cuts += 1;
+                    lost[i] += piece;
+                    rest -= piece;
+                    coolest = piece;
+                }
+            }
+            table[i].rest = rest;
+        }
+        if coolest > 0 {
+            table[i].price = coolest;
+        }
+        if i > 0 {
+            let parent = rows[i].parent as usize;
+            let TableRow { rest, cuts, .. } = table[i];
+            lost[parent] += lost[i];
+            table[parent].cuts += cuts;
+            table[parent].price = table[parent].price.max(rest);
+        }
+    }
+    table
+}
+
+fn parts(rows: &[Row], table: &[TableRow]) -> (Vec<u32>, usize) {
+    let (mut part, mut count) = (Vec::with_capacity(rows.len()), 1);
+    part.push(0);
+    for i in 1..rows.len() {
+        if table[i].cut {
+            part.push(count);
+            count += 1;
+        } else {
+            part.push(part[rows[i].parent as usize]);
+        }
+    }
+    (part, count as usize)
+}
+
+/// Greatest heat, parts, their number, and why no division is cooler.
+fn search(problem: &Problem) -> (u64, Vec<u32>, usize, Proof) {
+    let rows = &problem.rows;
+    let greatest = least_greatest(problem);
+    let (part, count) = parts(rows, &table(rows, greatest));
+    let proof = match rows.iter().position(|row| row.heat == greatest) {
+        _ if greatest == 0 => Proof::Zero,
+        Some(row) => Proof::Heavy(row as u32),
+        None => Proof::Table(table(rows, greatest - 1)),
+    };
+    (greatest, part, count, proof)
+}
+
+/// What each part moves at each rank, part by part.
+fn costs(rows: &[Row], part: &[u32], count: usize, ranks: usize) -> Vec<u64> {
+    let mut own = vec![0u64; count * 64];
+    for (row, p) in rows.iter().zip(part) {
+        own[*p as usize * 64 + row.now as usize] += row.inodes as u64;
+    }
+    let mut cells = Vec::with_capacity(count * ranks);
+    for own in own.chunks_exact(64) {
+        let total: u64 = own.iter().sum();
+        cells.extend(own[..ranks].iter().map(|own| total - own));
+    }
+    cells
+}
+
+/// Shortest augmenting paths with prices, after a greedy start at the least cell of each part.
+fn assign(cells: &[u64], count: usize, ranks: usize) -> Placing {
+    let cell = |part: usize, rank: usize| cells[part * ranks + rank] as i64;
+    let mut part_price: Vec<i64> = cells.chunks_exact(ranks).map(|row| *row.iter().min().unwrap() as i64).collect();
+    let mut rank_price = vec![0; ranks];
+    let (mut owner, mut place) = (vec![usize::MAX; ranks], vec![usize::MAX; count]);
+    for part in 0..count {
+        if let Some(rank) = (0..ranks).find(|rank| owner[*rank] == usize::MAX && cell(part, *rank) == part_price[part]) {
+            owner[rank] = part;
+            place[part] = rank;
+        }
+    }
+    let (mut near, mut from, mut seen) = (vec![0; ranks], vec![0; ranks], vec![false; ranks]);
+    let mut scanned = Vec::with_capacity(ranks);
+    for new in 0..count {
+        if place[new] != usize::MAX {
+            continue;
+        }
+        for rank in 0..ranks {
+            near[rank] = cell(new, rank) - part_price[new] - rank_price[rank];
+            from[rank] = new;
+            seen[rank] = false;
+        }
+        scanned.clear();
+        let mut end = loop {
+            let best = (0..ranks).filter(|rank| !seen[*rank]).min_by_key(|rank| near[*rank]).unwrap();
+            if owner[best] == usize::MAX {
+                break best;
+            }
+            seen[best] = true;
+            scanned.push(best);
+            let part = owner[best];
+            let base = near[best] - part_price[part];
+            for rank in 0..ranks {
+                let far = base + cell(part, rank) - rank_price[rank];
+                if !seen[rank] && far < near[rank] {
+                    near[rank] = far;
+                    from[rank] = part;
+                }
+            }
+        };
+        let far = near[end];
+        part_price[new] += far;
+        for rank in &scanned {
+            rank_price[*rank] -= far - near[*rank];
+            part_price[owner[*rank]] += far - near[*rank];
+        }
+        loop {
+            let part = from[end];
+            owner[end] = part;
+            std::mem::swap(&mut place[part], &mut end);
+            if part == new {
+                break;
+            }
+        }
+    }
+    let moved = (0..count).map(|part| cell(part, place[part]) as u64).sum();
+    Placing { rank: place.iter().map(|rank| *rank as u8).collect(), moved, part_price, rank_price }
+}
+
+fn solve(problem: &Problem) -> Plan {
+    let (greatest, part, count, cut) = search(problem);
+    let cells = costs(&problem.rows, &part, count, problem.ranks);
+    Plan { placing: assign(&cells, count, problem.ranks), part, greatest, cut }
+}
+
+/// Whether the table shows that more than `ranks` parts are needed within the bound.
+fn table_holds(rows: &[Row], table: &[TableRow], bound: u64, ranks: usize) -> bool {
+    if table.len() != rows.len() || table[0].cut {
+        return false;
+    }
+    let mut sums: Vec<(u64, u32, bool)> = rows.iter().map(|row| (row.heat, 0, false)).collect();
+    for i in (0..rows.len()).rev() {
+        let (row, (rest, cuts, is_cut)) = (&table[i], sums[i]);
+        let wrong = rows[i].heat > bound || rest != row.rest || row.rest > bound || cuts != row.cuts;
+        if wrong || is_cut && row.rest + row.price <= bound {
+            return false;
+        }
+        if i > 0 {
+            let parent = rows[i].parent as usize;
+            let sum = &mut sums[parent];
+            sum.1 += row.cuts;
+            if row.cut {
+                if row.rest < table[parent].price {
+                    return false;
+                }
+                sum.1 += 1;
+                sum.2 = true;
+            } else {
+                if row.rest > table[parent].price {
+                    return false;
+                }
+                sum.0 += row.rest;
+            }
+        }
+    }
+    table[0].cuts as usize + 1 > ranks
+}
+
+fn check_cut(problem: &Problem, part: &[u32], count: usize, greatest: u64, cut: &Proof) -> bool {
+    let rows = &problem.rows;
+    if part.len() != rows.len() || count > problem.ranks {
+        return false;
+    }
+    let (mut heat, mut tops) = (vec![0u64; count], vec![0u32; count]);
+    for (i, row) in rows.iter().enumerate() {
+        let p = part[i] as usize;
+        if p >= count {
+            return false;
+        }
+        heat[p] += row.heat;
+        if i == 0 || part[row.parent as usize] as usize != p {
+            tops[p] += 1;
+        }
+    }
+    if tops.iter().any(|tops| *tops != 1) || heat.iter().max() != Some(&greatest) {
+        return false;
+    }
+    match cut {
+        Proof::Zero => greatest == 0,
+        Proof::Heavy(row) => greatest > 0 && rows.get(*row as usize).is_some_and(|row| row.heat == greatest),
+        Proof::Table(table) => greatest > 0 && table_holds(rows, table, greatest - 1, problem.ranks),
+    }
+}
+
+fn check(problem: &Problem, plan: &Plan) -> bool {
+    let (rank, ranks) = (&plan.placing.rank, problem.ranks);
+    let mut used = 0u64;
+    for r in rank {
+        if *r as usize >= ranks || used >> r & 1 == 1 {
+            return false;
+        }
+        used |= 1 << r;
+    }
+    if !check_cut(problem, &plan.part, rank.len(), plan.greatest, &plan.cut) {
+        return false;
+    }
+    let cells = costs(&problem.rows, &plan.part, rank.len(), ranks);
+    let Placing { part_price, rank_price, moved, .. } = &plan.placing;
+    if part_price.len() != rank.len() || rank_price.len() != ranks {
+        return false;
+    }
+    let mut sum = 0;
+    for (part, r) in rank.iter().enumerate() {
+        sum += cells[part * ranks + *r as usize];
+        for other in 0..ranks {
+            let (cost, price) = (cells[part * ranks + other] as i128, part_price[part] as i128 + rank_price[other] as i128);
+            if price > cost || other == *r as usize && price != cost {
+                return false;
+            }
+        }
+    }
+    sum == *moved && (0..ranks).all(|r| rank_price[r] <= 0 && (used >> r & 1 == 1 || rank_price[r] == 0))
+}
+
+/// The least of 31 times in nanoseconds, and the last result.
+fn timed<T>(mut call: impl FnMut() -> T) -> (u128, T) {
+    let mut least = u128::MAX;
+    let mut last = None;
+    for _ in 0..31 {
+        drop(last.take());
+        let start = Instant::now();
+        last = Some(black_box(call()));
+        least = least.min(start.elapsed().as_nanos());
+    }
+    (least, last.unwrap())
+}
+
+fn main() {
+    let mut text = String::new();
+    std::io::stdin().read_to_string(&mut text).unwrap();
+    let mut lines = text.lines().map(|line| line.split(' ').map(|word| word.parse::<u64>().unwrap()).collect::<Vec<_>>());
+    let ranks = lines.next().unwrap()[1] as usize;
+    let row = |words: Vec<u64>| Row { parent: words[0] as u32, heat: words[1], inodes: words[2] as u32, now: words[3] as u8 };
+    let problem = Problem { rows: lines.map(row).collect(), ranks };
+    let (searched, (_, part, count, _)) = timed(|| search(&problem));
+    let (costed, cells) = timed(|| costs(&problem.rows, &part, count, ranks));
+    let (assigned, _) = timed(|| assign(&cells, count, ranks));
+    let (solved, plan) = timed(|| solve(&problem));
+    let (cut_checked, yes) = timed(|| check_cut(&problem, &plan.part, plan.placing.rank.len(), plan.greatest, &plan.cut));
+    let (checked, both) = timed(|| check(&problem, &plan));
+    assert!(yes && both);
+    let (greatest, moved) = (plan.greatest, plan.placing.moved);
+    println!(
+        "greatest {greatest} moved {moved} search {searched} costs {costed} assign {assigned} solve {solved} check_cut {cut_checked} check {checked}"
+    );
+}
