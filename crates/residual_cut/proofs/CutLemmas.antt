@@ -1,19 +1,18 @@
 -- One child is cut from a row, or all are.
-use Rattle.std.proofs.Common.{◌≡◌, ◌≢◌, ◌∙◌, ℕ, zero, suc, ◌+◌, ◌-◌, ◌<◌, ◌≤◌, ◌^◌, Bool, true, false, cond, ◌&&◌, not, eqb, ltb, leb, List, ◌∷◌, length, slice_index_or, IsPermutation, refl, ap, sym, arith, ⊎_elim}
-use Rattle.std.proofs.lemmas.Bool.{cases_Bool, cases_eq, cases_lt, false≢true, true≢false}
-use Rattle.std.specs.BinaryHeap.{IsUpperBound}
+use Rattle.std.proofs.Common.{◌≡◌, ◌≢◌, ◌∙◌, ℕ, ◌+◌, ◌-◌, ◌<◌, ◌≤◌, ◌^◌, true, false, cond, List, ◌∷◌, length, slice_index_or, IsPermutation, refl, ap, sym, arith, ⊎_elim}
+use Rattle.std.proofs.lemmas.Bool.{cases_Bool, cases_eq, false≢true}
 use Rattle.mds_types.specs.declared.problem.ProblemRow.{ProblemRow}
 use Rattle.mds_types.specs.declared.cut_proof.Row.{Row}
-use Rattle.mds_types.specs.Problem.{IsForest, parent_at, heat_at}
-use Rattle.mds_types.specs.Sums.{sum_below, count_below}
+use Rattle.mds_types.specs.Problem.{IsForest, heat_at}
+use Rattle.mds_types.specs.Sums.{count_below}
 use Rattle.mds_types.specs.CutTable.{is_child, cuts_at, rest_at, price_at, is_cut_at, no_cut}
 use Rattle.mds_types.proofs.SumsLemmas.{sum_below-term, sum_below-zero, count_below-le}
 use Rattle.residual_cut.specs.declared.child.Child.{Child}
 use Rattle.residual_cut.specs.Heap.{AreChildren, is_free}
-use Rattle.residual_cut.specs.Walk.{is_handled, IsSameBut, IsWalk, IsWalked}
-use Rattle.residual_cut.proofs.HeapLemmas.{child_cmp, IsPopped, popped, left_in_heap, all_cut}
+use Rattle.residual_cut.specs.Walk.{is_handled, IsSameBut, IsWalked}
+use Rattle.residual_cut.proofs.HeapLemmas.{IsPopped, left_in_heap, all_cut}
 use Rattle.residual_cut.proofs.TableLemmas.{heats_le}
-use Rattle.residual_cut.proofs.WalkLemmas.{IsCutAt, child_above, child_parent, handled_from, handled_parts, cut_child, one_more_cut}
+use Rattle.residual_cut.proofs.WalkLemmas.{IsCutAt, child_above, handled_from, handled_parts, cut_child, one_more_cut}
 
 -- rows before i may now be cut from
 pub IsWalked-less :

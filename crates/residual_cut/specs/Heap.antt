@@ -1,8 +1,8 @@
 -- The children of a row as the heap holds them.
-use Rattle.std.specs.Prelude.{◌≡◌, ◌==◌, ◌<◌, ◌≤◌, ◌&&◌, ◌||◌, ℕ, Bool, nat_lt, not, List, length, sum_by, All, if◌then◌else◌}
+use Rattle.std.specs.Prelude.{◌≡◌, ◌==◌, ◌<◌, ◌&&◌, ℕ, Bool, nat_lt, not, List, length, sum_by, All, if◌then◌else◌}
 use Rattle.mds_types.specs.declared.problem.ProblemRow.{ProblemRow}
 use Rattle.mds_types.specs.declared.cut_proof.Row.{Row}
-use Rattle.mds_types.specs.CutTable.{is_child, rest_at, is_cut_at}
+use Rattle.mds_types.specs.CutTable.{is_child, is_cut_at}
 use Rattle.residual_cut.specs.declared.child.Child.{Child}
 
 -- how many of the children have this row

@@ -1,7 +1,6 @@
-use Rattle.std.proofs.Common.{◌≡◌, ◌∙◌, ◌<◌, ◌+◌, ap, sym, arith, List, length, rules}
+use Rattle.std.proofs.Common.{◌≡◌, ◌∙◌, ◌<◌, ◌+◌, sym, arith, length, rules}
 use Rattle.std.specs.Vec.{with_items}
 use Rattle.std.proofs.lemmas.List.{with_items_is}
-use Rattle.mds_types.specs.declared.cut_proof.Row.{Row}
 use Rattle.mds_types.specs.CutTable.{is_cut_at}
 use Rattle.mds_types.proofs.SumsLemmas.{count_below-le}
 use Rattle.residual_cut.proofs.CutIs.{cut_is}

@@ -1,7 +1,6 @@
-use Rattle.std.proofs.Common.{◌≡◌, ◌<◌, ◌∙◌, ap, sym, arith, length, slice_index, get_or, rules, ◌++◌, ◌∷◌, [], true, refl, ⊎_elim, ◌≤◌}
+use Rattle.std.proofs.Common.{◌≡◌, ◌<◌, ◌∙◌, ap, arith, slice_index, refl, ⊎_elim, ◌≤◌}
 use Rattle.std.proofs.lemmas.List.{get_or_default}
-use Rattle.mds_types.specs.Problem.{parent_at}
-use Rattle.mds_types.specs.CutTable.{rest_at, is_child, no_cut}
+use Rattle.mds_types.specs.CutTable.{rest_at, no_cut}
 use Rattle.mds_types.specs.declared.cut_proof.Row.{Row}
 use Rattle.std.proofs.lemmas.Bool.{cases_lt}
 use Rattle.residual_cut.specs.Links.{IsNextChild}
