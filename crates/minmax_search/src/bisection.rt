@@ -19,9 +19,10 @@ fn search_rows(alloc: Global, rows: &[ProblemRow], ranks: u32) -> Result<Found, 
     requires ranks { 0 < ranks }
     ensures { IfOk result (IsFound rows.now ranks) }
 {
-    let trees = weigh(alloc, rows)?;
-    let mut rest = vec![in alloc; 0; rows.len()]?;
-    let (greatest, probes) = narrow(alloc, rows, &trees, &mut rest, ranks, start(rows, ranks))?;
+    let from = start(rows, ranks);
+    let trees = weigh(alloc, rows, from.low)?;
+    let mut rest = trees.heat.clone()?;
+    let (greatest, probes) = narrow(alloc, rows, &trees, &mut rest, ranks, from)?;
     let cut = cut_linked(alloc, rows, &trees.links, greatest)?;
     let (proof, extra) = prove_least(alloc, rows, &trees.links, ranks, greatest)?;
     Ok(Found {

@@ -1,5 +1,5 @@
 -- The walk that keeps only what is left of each subtree: it is that of a table which nobody keeps.
-use Rattle.std.proofs.Common.{◌≡◌, ◌≢◌, ◌∙◌, ℕ, ◌+◌, ◌-◌, ◌<◌, ◌≤◌, ◌^◌, IsPermutation, true, false, cond, ◌&&◌, eqb, ltb, List, ◌∷◌, length, slice_index_or, set, map, max, refl, ap, sym, subst, arith, ⊎_elim, get_or-set_other, get_or-set_same, length-set}
+use Rattle.std.proofs.Common.{◌≡◌, ◌≢◌, ◌∙◌, ℕ, ◌+◌, ◌-◌, ◌<◌, ◌≤◌, ◌^◌, IsPermutation, true, false, cond, ◌&&◌, eqb, ltb, List, ◌∷◌, length, slice_index_or, set, map, max, refl, ap, sym, subst, arith, ⊎_elim, get_or-set_other, get_or-set_same, length-set, suc, zero, slice_index}
 use Rattle.std.proofs.lemmas.Bool.{cases_Bool, cases_eq, cases_lt, and_from, and_right, lt-ltb, le-ltb, eqb-true, eq-eqb, ne_eqb, false≢true, or_cases}
 use Rattle.mds_types.specs.declared.problem.ProblemRow.{ProblemRow}
 use Rattle.mds_types.specs.declared.cut_proof.Row.{Row}
@@ -12,7 +12,7 @@ use Rattle.residual_cut.specs.declared.child.Child.{Child}
 use Rattle.residual_cut.specs.declared.probe.Seen.{Seen}
 use Rattle.residual_cut.specs.Heap.{is_free}
 use Rattle.residual_cut.specs.Hottest.{AreHottest}
-use Rattle.residual_cut.specs.Subtrees.{AreSums}
+use Rattle.residual_cut.specs.Subtrees.{limit_of, AreHot, AreSums}
 use Rattle.residual_cut.specs.Walk.{IsGivenRow, first_row}
 use Rattle.residual_cut.specs.Probing.{is_waiting, IsProbed, IsSeenWith}
 use Rattle.residual_cut.proofs.CutIs.{few_from_table}
@@ -20,6 +20,7 @@ use Rattle.residual_cut.proofs.CutLemmas.{IsWalked-less, IsSameBut-none, rest_fi
 use Rattle.std.specs.BinaryHeap.{IsUpperBound}
 use Rattle.std.proofs.lemmas.List.Sorted.{length_permutation}
 use Rattle.residual_cut.proofs.HeapLemmas.{IsPopped, child_cmp}
+use Rattle.residual_cut.proofs.HotLemmas.{limit_first, limit_next, limit_le}
 use Rattle.residual_cut.proofs.HottestLemmas.{hottest_free, hottest_same, hottest_left, hottest_popped, hottest_empty}
 use Rattle.residual_cut.proofs.SeenLemmas.{seen_start, seen_cut, seen_given, walk_raise}
 use Rattle.residual_cut.proofs.TableLemmas.{first_walked, first_rows, first_uncut, needs_more, walk_given, walk_end, walk_count, given_count}
@@ -97,7 +98,7 @@ subtree_le rows heat v j lv l sums child =
 -- the walk starts
 pub probed_start :
     (rows : List ProblemRow) (heat rest : ℕ → ℕ) (bound : ℕ) (seen : Seen) → IsForest rows → AreSums rows heat
-    → ((v : ℕ) → rest v ≡ heat v) → seen.cuts ≡ 0 → seen.above ≡ 2 ^ 64 - 1 → seen.hottest ≡ 0
+    → ((v : ℕ) → v < length rows → rest v ≡ heat v) → seen.cuts ≡ 0 → seen.above ≡ 2 ^ 64 - 1 → seen.hottest ≡ 0
     → IsProbed rows heat rest bound (length rows) (length rows) seen
 probed_start rows heat rest bound seen forest sums same cuts above hottest =
     let table = map (λ (row : ProblemRow). first_row row.heat) rows in
@@ -108,13 +109,13 @@ probed_start rows heat rest bound seen forest sums same cuts above hottest =
       walked = walked;
       rest_is = λ v l. omega (
         arith,
-        same v,
+        same v l,
         sums v l,
         ap (λ (row : Row). row.rest) (first v),
         all_wait rows heat v,
       );
-      less = λ v l. omega (arith, same v);
-      whole = λ v l le. same v;
+      less = λ v l. omega (arith, same v l);
+      whole = λ v l le. same v l;
       counted = first_uncut rows table first ∙ sym cuts;
       seen_is = seen_start rows table bound seen.above forest walked;
       above = λ some. absurd (omega arith);
@@ -395,6 +396,61 @@ probed_over rows heat rest bound i seen forest sums here deep small is =
     let same = is.whole i here small in
     probed_given rows forest heat rest rest bound i (parent_at rows i) seen sums here deep refl (omega (arith, same))
     (probed_less rows forest heat rest bound (i + 1) (i + 1) seen is i (omega arith)) (omega (arith, same)) (λ v apart. refl)
+
+-- rows whose subtrees are within the bound are passed over
+pub probed_skip :
+    (rows : List ProblemRow) (heat rest : ℕ → ℕ) (bound : ℕ) (seen : Seen) → IsForest rows → AreSums rows heat
+    → (d m end : ℕ) → end ≡ m + d → end ≤ length rows → 0 < m → ((v : ℕ) → m ≤ v → v < end → heat v ≤ bound)
+    → IsProbed rows heat rest bound end end seen → IsProbed rows heat rest bound m m seen
+probed_skip rows heat rest bound seen forest sums zero m end is le deep small probed =
+    let P : ℕ → Type 0 = λ x. IsProbed rows heat rest bound x x seen in
+    let same : end ≡ m = omega arith in subst P same probed
+probed_skip rows heat rest bound seen forest sums (suc d) m end is le deep small probed =
+    let P : ℕ → Type 0 = λ x. IsProbed rows heat rest bound x x seen in
+    let same : end ≡ (m + d) + 1 = omega arith in
+    probed_skip rows heat rest bound seen forest sums d m (m + d) refl (omega arith) deep (λ v from before. small v from (omega arith))
+    (probed_over rows heat rest bound (m + d) seen forest sums (omega arith) (omega arith) (small (m + d) (omega arith) (omega arith))
+    (subst P same probed))
+
+-- down to the next hot row
+pub probed_to :
+    (rows : List ProblemRow) (heat rest : ℕ → ℕ) (bound low k : ℕ) (hot : List ℕ) (seen : Seen) → IsForest rows → AreSums rows heat
+    → AreHot (length rows) heat low 1 hot → low ≤ bound → k < length hot
+    → IsProbed rows heat rest bound (limit_of (length rows) hot k) (limit_of (length rows) hot k) seen
+    → IsProbed rows heat rest bound (slice_index hot k + 1) (slice_index hot k + 1) seen
+probed_to rows heat rest bound low k hot seen forest sums are le l probed =
+    let end = limit_of (length rows) hot k in
+    let falls = are.falls k l in
+    probed_skip rows heat rest bound seen forest sums (end - (slice_index hot k + 1)) (slice_index hot k + 1) end (omega arith)
+    (limit_le (length rows) heat low 1 hot are k (omega arith)) (omega arith)
+    (λ v from before.
+    (let cool = are.light k v (omega arith) (omega arith) before (λ _. omega arith) in omega arith))
+    probed
+
+-- down to row 0
+pub probed_to_root :
+    (rows : List ProblemRow) (heat rest : ℕ → ℕ) (bound low : ℕ) (hot : List ℕ) (seen : Seen) → IsForest rows → AreSums rows heat
+    → AreHot (length rows) heat low 1 hot → low ≤ bound → 0 < length rows
+    → IsProbed rows heat rest bound (limit_of (length rows) hot (length hot)) (limit_of (length rows) hot (length hot)) seen
+    → IsProbed rows heat rest bound 1 1 seen
+probed_to_root rows heat rest bound low hot seen forest sums are le some probed =
+    let end = limit_of (length rows) hot (length hot) in
+    let deep : 0 < limit_of (length rows) hot (length hot) =
+    ⊎_elim (λ (none : length hot ≡ 0). omega (arith, limit_first (length rows) hot (length hot) none))
+    (λ (more : length hot ≢ 0).
+    let same : length hot - 1 + 1 ≡ length hot = omega arith in
+    omega (
+      arith,
+      ap (limit_of (length rows) hot) same,
+      limit_next (length rows) hot (length hot - 1),
+      are.from (length hot - 1) (omega arith),
+    ))
+    (cases_eq (length hot) 0) in
+    probed_skip rows heat rest bound seen forest sums (end - 1) 1 end (omega arith)
+    (limit_le (length rows) heat low 1 hot are (length hot) (omega arith)) (omega arith)
+    (λ v from before.
+    (let cool = are.light (length hot) v (omega arith) from before (λ more. absurd (omega arith)) in omega arith))
+    probed
 
 -- too many rows are cut
 pub probed_more :

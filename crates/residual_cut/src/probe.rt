@@ -1,18 +1,18 @@
 //! A walk that only tells whether the bound has room, and which bound is worth trying next.
 //!
-//! It makes no table: before it each row has the heat of its whole subtree, and a row that is cut from
-//! takes what was cut off from its parent too. A subtree within the bound is passed over, as nothing is
-//! cut in it.
+//! It makes no table: before it each row has the heat of its whole subtree, and what is cut off below a
+//! row is taken from its parent too. Only rows whose subtree is hotter than the lower end of the bounds are
+//! walked over, as nothing is cut in the other subtrees.
 
-ghost use Rattle.std.specs.Prelude.{◌≡◌, ◌<◌, ◌≤◌, ◌+◌, ◌-◌, ◌^◌, ◌≢◌, ℕ, min, max, length, slice_index, IfOk};
+ghost use Rattle.std.specs.Prelude.{◌≡◌, ◌<◌, ◌≤◌, ◌+◌, ◌-◌, ◌^◌, ◌≢◌, ℕ, min, max, length, slice_index, IfOk, OnOk};
 ghost use Rattle.mds_types.specs.Division.{HasFew, NeedsMore};
-ghost use Rattle.mds_types.specs.Problem.{IsForest, heat_at};
+ghost use Rattle.mds_types.specs.Problem.{IsForest, heat_at, parent_at};
 ghost use Rattle.residual_cut.specs.Probe.{IfFits, IfTooMany};
 ghost use Rattle.residual_cut.specs.Probing.{IsProbed, IsSeenWith};
-ghost use Rattle.residual_cut.specs.Subtrees.{AreSubtrees};
+ghost use Rattle.residual_cut.specs.Subtrees.{AreLightWhole, AreSubtrees};
 
 use crate::hottest::hottest_children;
-use crate::subtrees::Subtrees;
+use crate::subtrees::{Subtrees, hot_row, restore};
 use mds_types::ProblemRow;
 use std::alloc::{AllocError, Global};
 use std::collections::BinaryHeap;
@@ -62,35 +62,33 @@ fn cut_hot_row(
     i: usize,
     bound: u64,
     most: u32,
-    before: Seen,
-) -> Result<Seen, AllocError>
+    seen: &mut Seen,
+) -> Result<(), AllocError>
     requires forest { IsForest rows.now }
     requires inside { i < length rows.now }
     requires trees { AreSubtrees rows.now trees.now }
     requires room { length rest.old ≡ length rows.now }
     requires cool { (v : ℕ) → v < length rows.now → heat_at rows.now v ≤ bound }
-    requires few { before.cuts < most }
-    requires probed { IsProbed rows.now (slice_index trees.now.heat.items) (slice_index rest.old) bound (i + 1) (i + 1) before }
+    requires few { seen.old.cuts < most }
+    requires probed { IsProbed rows.now (slice_index trees.now.heat.items) (slice_index rest.old) bound (i + 1) (i + 1) seen.old }
     ensures room { length rest.new ≡ length rows.now }
-    ensures probed { IfOk result (IsProbed rows.now (slice_index trees.now.heat.items) (slice_index rest.new) bound (i + 1) i) }
-    ensures done { IfOk result (λ seen. seen.cuts < most → slice_index rest.new i ≤ bound) }
-    ensures some { IfOk result (λ seen. seen.cuts ≤ most) }
+    ensures probed { OnOk result (IsProbed rows.now (slice_index trees.now.heat.items) (slice_index rest.new) bound (i + 1) i seen.new) }
+    ensures done { OnOk result (seen.new.cuts < most → slice_index rest.new i ≤ bound) }
 {
-    let left = (most - before.cuts) as usize;
+    let left = (most - seen.cuts) as usize;
     let hottest = hottest_children(alloc, rows, &trees.links, rest, i, left)?;
     let mut heap = BinaryHeap::from(hottest.children);
-    let mut seen = before;
     for _ in 0..left {
         if rest[i] <= bound {
-            return Ok(seen);
+            return Ok(());
         }
         let Some(child) = heap.pop() else {
-            return Ok(seen);
+            return Ok(());
         };
-        seen = with_cut(seen, rest[i], child.rest);
+        *seen = with_cut(*seen, rest[i], child.rest);
         rest[i] -= child.rest;
     }
-    Ok(seen)
+    Ok(())
 }
 
 /// Cuts the hottest children from row `i` until the rest is within the bound, or `most` rows are cut. Most
@@ -104,24 +102,41 @@ fn cut_row(
     i: usize,
     bound: u64,
     most: u32,
-    before: Seen,
-) -> Result<Seen, AllocError>
+    seen: &mut Seen,
+) -> Result<(), AllocError>
     requires forest { IsForest rows.now }
     requires inside { i < length rows.now }
     requires trees { AreSubtrees rows.now trees.now }
     requires room { length rest.old ≡ length rows.now }
     requires cool { (v : ℕ) → v < length rows.now → heat_at rows.now v ≤ bound }
-    requires few { before.cuts < most }
-    requires probed { IsProbed rows.now (slice_index trees.now.heat.items) (slice_index rest.old) bound (i + 1) (i + 1) before }
+    requires few { seen.old.cuts < most }
+    requires probed { IsProbed rows.now (slice_index trees.now.heat.items) (slice_index rest.old) bound (i + 1) (i + 1) seen.old }
     ensures room { length rest.new ≡ length rows.now }
-    ensures probed { IfOk result (IsProbed rows.now (slice_index trees.now.heat.items) (slice_index rest.new) bound (i + 1) i) }
-    ensures done { IfOk result (λ seen. seen.cuts < most → slice_index rest.new i ≤ bound) }
-    ensures some { IfOk result (λ seen. seen.cuts ≤ most) }
+    ensures probed { OnOk result (IsProbed rows.now (slice_index trees.now.heat.items) (slice_index rest.new) bound (i + 1) i seen.new) }
+    ensures done { OnOk result (seen.new.cuts < most → slice_index rest.new i ≤ bound) }
 {
     if rest[i] > bound {
-        return cut_hot_row(alloc, rows, trees, rest, i, bound, most, before);
+        return cut_hot_row(alloc, rows, trees, rest, i, bound, most, seen);
     }
-    Ok(before)
+    Ok(())
+}
+
+/// What was cut off below row `i` is taken from its parent too.
+#[inline(always)]
+fn take_from_parent(rows: &[ProblemRow], trees: &Subtrees, rest: &mut [u64], i: usize)
+    requires forest { IsForest rows.now }
+    requires inside { i < length rows.now }
+    requires deep { 0 < i }
+    requires trees { AreSubtrees rows.now trees.now }
+    requires room { length rest.old ≡ length rows.now }
+    requires less { slice_index rest.old i ≤ slice_index trees.now.heat.items i }
+    requires enough { slice_index trees.now.heat.items i - slice_index rest.old i ≤ slice_index rest.old (parent_at rows.now i) }
+    ensures room { length rest.new ≡ length rows.now }
+    ensures here { slice_index rest.new (parent_at rows.now i) ≡ slice_index rest.old (parent_at rows.now i)
+        - (slice_index trees.now.heat.items i - slice_index rest.old i) }
+    ensures other { (v : ℕ) → v ≢ parent_at rows.now i → slice_index rest.new v ≡ slice_index rest.old v }
+{
+    rest[rows[i].parent as usize] -= trees.heat[i] - rest[i];
 }
 
 /// Cuts rows from the last one up until each piece is within the bound, or `most` are cut.
@@ -138,10 +153,13 @@ fn probe_rows(
     requires trees { AreSubtrees rows.now trees.now }
     requires cool { (v : ℕ) → v < length rows.now → heat_at rows.now v ≤ bound }
     requires most { 0 < most }
-    requires whole { rest.old ≡ trees.now.heat.items }
+    requires low { trees.now.low ≤ bound }
+    requires room { length rest.old ≡ length rows.now }
+    requires whole { (v : ℕ) → v < length rows.now → slice_index rest.old v ≡ slice_index trees.now.heat.items v }
     ensures few { IfOk result (λ seen. seen.cuts < most → HasFew rows.now most (max seen.hottest (slice_index rest.new 0))) }
     ensures within { IfOk result (λ seen. seen.cuts < most → max seen.hottest (slice_index rest.new 0) ≤ bound) }
     ensures room { length rest.new ≡ length rows.now }
+    ensures light { IfOk result (λ _. AreLightWhole (length rows.now) trees.now.low (slice_index trees.now.heat.items) (slice_index rest.new)) }
     ensures above { IfOk result (λ seen. most ≤ seen.cuts → bound < seen.above) }
     ensures more { IfOk result (λ seen. most ≤ seen.cuts → NeedsMore rows.now most (seen.above - 1)) }
 {
@@ -150,23 +168,23 @@ fn probe_rows(
         above: u64::MAX,
         hottest: 0,
     };
-    for i in (1..rows.len()).rev() {
-        if trees.heat[i] > bound {
-            seen = cut_row(alloc, rows, trees, rest, i, bound, most, seen)?;
-            if seen.cuts >= most {
-                return Ok(seen);
-            }
-            rest[rows[i].parent as usize] -= trees.heat[i] - rest[i];
+    for k in 0..trees.hot.len() {
+        let i = hot_row(rows, trees, k);
+        cut_row(alloc, rows, trees, rest, i, bound, most, &mut seen)?;
+        if seen.cuts >= most {
+            return Ok(seen);
         }
+        take_from_parent(rows, trees, rest, i);
     }
-    let seen = cut_row(alloc, rows, trees, rest, 0, bound, most, seen)?;
+    cut_row(alloc, rows, trees, rest, 0, bound, most, &mut seen)?;
     Ok(seen)
 }
 
 /// Whether the rows, none of which is hotter than the bound, can be divided into at most `ranks`
 /// parts within the bound. It ends as soon as too many rows are cut, and counts as a pass.
 ///
-/// The room of `rest` is used for the walk; what it holds does not matter.
+/// The room of `rest` is used for the walk. Before it and after it each row whose subtree is within the
+/// lower end has the heat of its whole subtree there.
 pub fn try_bound(
     alloc: Global,
     rows: &[ProblemRow],
@@ -180,11 +198,15 @@ pub fn try_bound(
     requires trees { AreSubtrees rows.now trees.now }
     requires cool { (v : ℕ) → v < length rows.now → heat_at rows.now v ≤ bound }
     requires ranks { 0 < ranks }
+    requires low { trees.now.low ≤ bound }
     requires room { length rest.old ≡ length rows.now }
+    requires light { AreLightWhole (length rows.now) trees.now.low (slice_index trees.now.heat.items) (slice_index rest.old) }
+    ensures room { length rest.new ≡ length rows.now }
+    ensures light { IfOk result (λ _. AreLightWhole (length rows.now) trees.now.low (slice_index trees.now.heat.items) (slice_index rest.new)) }
     ensures fits { IfOk result (IfFits (λ heat. HasFew rows.now ranks heat × (heat ≤ bound))) }
     ensures too_many { IfOk result (IfTooMany (λ above. (bound < above) × NeedsMore rows.now ranks (above - 1))) }
 {
-    rest.copy_from_slice(&trees.heat);
+    restore(rows, trees, rest);
     let seen = probe_rows(alloc, rows, trees, rest, bound, ranks)?;
     if seen.cuts >= ranks {
         return Ok(Probe::TooMany(seen.above));

@@ -9,6 +9,6 @@ invariant-loop l = record {
   room : length l.rest ≡ length l.rows;
   cutting : IsCutting l.rows (slice_index l.trees.heat.items) (slice_index l.rest) l.bound l.i (l.left - l.counter) l.seen (heap_items l.heap);
   order : IsHeap child_cmp (heap_items l.heap);
-  count : l.seen.cuts ≡ l.fn.before.cuts + l.counter;
-  left : l.left + l.fn.before.cuts ≡ l.most;
+  count : l.seen.cuts ≡ l.fn.seen.cuts + l.counter;
+  left : l.left + l.fn.seen.cuts ≡ l.most;
 }

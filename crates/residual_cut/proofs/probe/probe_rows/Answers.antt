@@ -1,92 +1,77 @@
-use Rattle.std.proofs.Common.{◌≡◌, ◌∙◌, ◌<◌, ◌+◌, ◌-◌, ap, arith, length, slice_index, refl, subst, get_or, get_or-set_same, get_or-set_other, length-set, ℕ}
-use Rattle.std.proofs.lemmas.List.{get_or_default}
+use Rattle.std.proofs.Common.{◌≡◌, ◌∙◌, ◌+◌, sym, arith, length, slice_index, refl, subst, ℕ}
+use Rattle.mds_types.specs.Problem.{parent_at}
 use Rattle.residual_cut.specs.Probing.{IsProbed}
-use Rattle.residual_cut.proofs.ProbeLemmas.{probed_start, probed_given, probed_over, probed_more, probed_end, enough_left}
-use Rattle.residual_cut.proofs.TableLemmas.{parent_read}
+use Rattle.residual_cut.specs.Subtrees.{limit_of}
+use Rattle.residual_cut.proofs.HotLemmas.{limit_first, limit_next}
+use Rattle.residual_cut.proofs.ProbeLemmas.{probed_start, probed_given, probed_to, probed_to_root, probed_more, probed_end, enough_left}
 use Rattle.residual_cut.proofs.probe.probe_rows.Goals as goal
 
-pub loop-i-init : goal.loop-i-init
-loop-i-init c = record {
-  room = ap length c.requires.whole ∙ c.requires.trees.size;
-  low = c.requires.some;
-  high = omega arith;
-  few = c.requires.most;
-  probed = probed_start c.args.rows.now (slice_index c.args.trees.now.heat.items) (slice_index c.args.rest.now) c.args.bound _
-      c.requires.forest c.requires.trees.sums (λ v. ap (λ xs. slice_index xs v) c.requires.whole) refl (omega arith) refl;
-}
+pub loop-k-init : goal.loop-k-init
+loop-k-init c =
+    let P : ℕ → Type 0 = λ m. IsProbed c.args.rows.now (slice_index c.args.trees.now.heat.items) (slice_index c.args.rest.now) c.args.bound m m
+    (record { cuts = 0; above = 18446744073709551615; hottest = 0 }) in
+    record {
+      room = c.requires.room;
+      few = c.requires.most;
+      probed = subst P (sym (limit_first (length c.args.rows.now) c.args.trees.now.hot.items 0 refl))
+          (probed_start c.args.rows.now (slice_index c.args.trees.now.heat.items) (slice_index c.args.rest.now) c.args.bound _
+          c.requires.forest c.requires.trees.sums c.requires.whole refl (omega arith) refl);
+    }
+
+pub cut_row-requires-clause-probed : goal.cut_row-requires-clause-probed
+cut_row-requires-clause-probed c =
+    rw c.hot_row-i.ensures.row
+    (probed_to c.args.rows.now (slice_index c.args.trees.now.heat.items) (slice_index c.loop-k.rest) c.args.bound c.args.trees.now.low
+    c.loop-k.k c.args.trees.now.hot.items c.loop-k.seen c.requires.forest c.requires.trees.sums c.requires.trees.hot c.requires.low
+    (omega arith) c.loop-k.invariant.probed)
 
 pub returns-then-seen-most-clause-more : goal.returns-then-seen-most-clause-more
 returns-then-seen-most-clause-more c =
     λ many.
-    (probed_more c.args.rows.now (slice_index c.args.trees.now.heat.items) (slice_index c.cut_row.new.rest) c.args.bound (c.loop-i.i - 1)
-    c.args.most c.in_ok-seen.seen c.requires.forest (omega (arith, c.loop-i.invariant.high)) c.requires.most many
-    c.in_ok-seen.ensures.probed).1
+    (probed_more c.args.rows.now (slice_index c.args.trees.now.heat.items) (slice_index c.cut_row.new.rest) c.args.bound c.hot_row-i.result
+    c.args.most c.cut_row.new.seen c.requires.forest c.hot_row-i.ensures.inside c.requires.most many c.in_ok-cut_row.ensures.probed).1
 
-pub overflow_sub-rest-then-index-bound : goal.overflow_sub-rest-then-index-bound
-overflow_sub-rest-then-index-bound c =
-    let i = c.loop-i.i - 1 in
-    let here : c.loop-i.i - 1 < length c.args.rows.now = omega (arith, c.loop-i.invariant.high) in
-    let read : c.index-then-index-bound.result.now ≡ slice_index c.args.trees.now.heat.items (c.loop-i.i - 1) =
-    c.index-then-index-bound.ensures
-    ∙ get_or_default c.args.trees.now.heat.items (c.loop-i.i - 1) c.index-then-index-bound.result.now 0 (omega (arith, here, c.requires.trees.size)) in
-    omega (
-      arith,
-      read,
-      enough_left c.args.rows.now (slice_index c.args.trees.now.heat.items) (slice_index c.cut_row.new.rest) c.args.bound i
-          (get_or c.args.rows.now (c.loop-i.i - 1) c.index-rows-i.result).parent c.in_ok-seen.seen c.requires.forest here (omega arith)
-          (parent_read c.args.rows.now i c.index-rows-i.result here) c.in_ok-seen.ensures.probed,
-    )
+pub take_from_parent-requires-clause-less : goal.take_from_parent-requires-clause-less
+take_from_parent-requires-clause-less c = c.in_ok-cut_row.ensures.probed.less c.hot_row-i.result c.hot_row-i.ensures.inside
 
-pub loop-i-preserved-then-index-bound : goal.loop-i-preserved-then-index-bound
-loop-i-preserved-then-index-bound c =
-    let i = c.loop-i.i - 1 in
-    let rest = c.cut_row.new.rest in
-    let parent = (get_or c.args.rows.now (c.loop-i.i - 1) c.index-rows-i.result).parent in
-    let here : c.loop-i.i - 1 < length c.args.rows.now = omega (arith, c.loop-i.invariant.high) in
-    let parent_is = parent_read c.args.rows.now i c.index-rows-i.result here in
-    let up = c.requires.forest.above i (omega arith) here in
-    let read : c.index-then-index-bound.result.now ≡ slice_index c.args.trees.now.heat.items (c.loop-i.i - 1) =
-    c.index-then-index-bound.ensures
-    ∙ get_or_default c.args.trees.now.heat.items (c.loop-i.i - 1) c.index-then-index-bound.result.now 0 (omega (arith, here, c.requires.trees.size)) in
+pub take_from_parent-requires-clause-enough : goal.take_from_parent-requires-clause-enough
+take_from_parent-requires-clause-enough c =
+    enough_left c.args.rows.now (slice_index c.args.trees.now.heat.items) (slice_index c.cut_row.new.rest) c.args.bound c.hot_row-i.result
+    (parent_at c.args.rows.now c.hot_row-i.result) c.cut_row.new.seen c.requires.forest c.hot_row-i.ensures.inside
+    c.hot_row-i.ensures.deep refl c.in_ok-cut_row.ensures.probed
+
+pub loop-k-preserved : goal.loop-k-preserved
+loop-k-preserved c =
+    let i = c.hot_row-i.result in
+    let next : limit_of (length c.args.rows.now) c.args.trees.now.hot.items (c.loop-k.k + 1) ≡ c.hot_row-i.result =
+    limit_next (length c.args.rows.now) c.args.trees.now.hot.items c.loop-k.k ∙ sym c.hot_row-i.ensures.row in
     record {
-      room = length-set rest parent _ ∙ c.in_ok-seen.ensures.room;
-      low = omega arith;
-      high = omega (arith, c.loop-i.invariant.high);
+      room = c.take_from_parent.ensures.room;
       few = omega arith;
-      probed = probed_given c.args.rows.now c.requires.forest (slice_index c.args.trees.now.heat.items) (slice_index rest) _ c.args.bound i
-          parent c.in_ok-seen.seen c.requires.trees.sums here (omega arith) parent_is (c.in_ok-seen.ensures.done (omega arith))
-          c.in_ok-seen.ensures.probed
-          (get_or-set_same rest parent _ 0 (omega (arith, parent_is, up, c.in_ok-seen.ensures.room))
-          ∙ ap (λ h. slice_index rest parent - (h - slice_index rest i)) read)
-          (λ v apart. get_or-set_other rest parent v _ 0 apart);
+      probed = rw next
+          (probed_given c.args.rows.now c.requires.forest (slice_index c.args.trees.now.heat.items) (slice_index c.cut_row.new.rest)
+          (slice_index c.take_from_parent.new.rest) c.args.bound i (parent_at c.args.rows.now c.hot_row-i.result) c.cut_row.new.seen
+          c.requires.trees.sums c.hot_row-i.ensures.inside c.hot_row-i.ensures.deep refl (c.in_ok-cut_row.ensures.done (omega arith))
+          c.in_ok-cut_row.ensures.probed c.take_from_parent.ensures.here c.take_from_parent.ensures.other);
     }
 
-pub loop-i-preserved : goal.loop-i-preserved
-loop-i-preserved c =
-    let i = c.loop-i.i - 1 in
-    let here : c.loop-i.i - 1 < length c.args.rows.now = omega (arith, c.loop-i.invariant.high) in
-    let read : c.index.result.now ≡ slice_index c.args.trees.now.heat.items (c.loop-i.i - 1) =
-    c.index.ensures
-    ∙ get_or_default c.args.trees.now.heat.items (c.loop-i.i - 1) c.index.result.now 0 (omega (arith, here, c.requires.trees.size)) in
-    let next : c.loop-i.i ≡ i + 1 = omega arith in
-    let P : ℕ → Type 0 = λ m. IsProbed c.args.rows.now (slice_index c.args.trees.now.heat.items) (slice_index c.loop-i.rest) c.args.bound m m c.loop-i.seen in
-    record {
-      room = c.loop-i.invariant.room;
-      low = omega arith;
-      high = omega (arith, c.loop-i.invariant.high);
-      few = c.loop-i.invariant.few;
-      probed = probed_over c.args.rows.now (slice_index c.args.trees.now.heat.items) (slice_index c.loop-i.rest) c.args.bound i c.loop-i.seen
-          c.requires.forest c.requires.trees.sums here (omega arith) (omega (arith, read)) (subst P next c.loop-i.invariant.probed);
-    }
+pub cut_row-requires-2-clause-probed : goal.cut_row-requires-2-clause-probed
+cut_row-requires-2-clause-probed c =
+    let last : c.loop-k.k ≡ length c.args.trees.now.hot.items = omega arith in
+    let P : ℕ → Type 0 = λ k. IsProbed c.args.rows.now (slice_index c.args.trees.now.heat.items) (slice_index c.loop-k.rest) c.args.bound
+    (limit_of (length c.args.rows.now) c.args.trees.now.hot.items k) (limit_of (length c.args.rows.now) c.args.trees.now.hot.items k) c.loop-k.seen in
+    probed_to_root c.args.rows.now (slice_index c.args.trees.now.heat.items) (slice_index c.loop-k.rest) c.args.bound
+    c.args.trees.now.low c.args.trees.now.hot.items c.loop-k.seen c.requires.forest c.requires.trees.sums c.requires.trees.hot
+    c.requires.low c.requires.some (subst P last c.loop-k.invariant.probed)
 
 pub returns-clause-few : goal.returns-clause-few
 returns-clause-few c =
     λ few. (probed_end c.args.rows.now (slice_index c.args.trees.now.heat.items) (slice_index c.cut_row-2.new.rest) c.args.bound c.args.most
-    c.in_ok-seen-2.seen c.requires.forest c.requires.some c.requires.cool (c.in_ok-seen-2.ensures.done few) few
-    c.in_ok-seen-2.ensures.probed).0
+    c.cut_row-2.new.seen c.requires.forest c.requires.some c.requires.cool (c.in_ok-cut_row-2.ensures.done few) few
+    c.in_ok-cut_row-2.ensures.probed).0
 
 pub returns-clause-more : goal.returns-clause-more
 returns-clause-more c =
     λ many.
     (probed_more c.args.rows.now (slice_index c.args.trees.now.heat.items) (slice_index c.cut_row-2.new.rest) c.args.bound 0 c.args.most
-    c.in_ok-seen-2.seen c.requires.forest c.requires.some c.requires.most many c.in_ok-seen-2.ensures.probed).1
+    c.cut_row-2.new.seen c.requires.forest c.requires.some c.requires.most many c.in_ok-cut_row-2.ensures.probed).1
