@@ -1,5 +1,5 @@
 -- The hottest children of a row, as they are met and as they are cut.
-use Rattle.std.proofs.Common.{◌≡◌, ◌≢◌, ◌∙◌, ℕ, zero, suc, ◌+◌, ◌-◌, ◌<◌, ◌≤◌, Bool, true, false, cond, ◌&&◌, not, eqb, ltb, List, [], ◌∷◌, ◌++◌, take, drop, length, length-append, All, get_or, nat_cmp, is_lt, IsPermutation, refl, ap, sym, arith, ⊎_elim}
+use Rattle.std.proofs.Common.{◌≡◌, ◌≢◌, ◌∙◌, ℕ, zero, suc, ◌+◌, ◌-◌, ◌<◌, ◌≤◌, Bool, true, false, cond, ◌&&◌, not, eqb, ltb, List, [], ◌∷◌, ◌++◌, take, drop, length, length-append, All, get_or, nat_cmp, is_lt, IsPermutation, refl, ap, sym, arith, ⊎_elim, subst}
 use Rattle.std.proofs.lemmas.Bool.{cases_Bool, cases_eq, cases_lt, and_parts, ltb-true, not-true, eq-eqb, ne_eqb, false≢true}
 use Rattle.std.proofs.lemmas.List.Sums.{sum_by_push, sum_by-append}
 use Rattle.std.proofs.lemmas.List.Elements.{All-push, All-cons, All-nil, All-head, All-tail, All-from_recursion, All-take, All-drop}
@@ -66,13 +66,27 @@ still_enough old new x most met enough =
     ))
     (cases_lt 0 (length met.forgotten))
 
--- one more child is met
+-- two tests that agree on the row's children
+pub hottest_retest :
+    (rows : List ProblemRow) (rest : ℕ → ℕ) (test test2 : ℕ → Bool) (i most floor : ℕ) (children : List Child)
+    → ((j : ℕ) → j < length rows → is_child rows i j ≡ true → test j ≡ test2 j)
+    → AreHottest rows rest test i most floor children → AreHottest rows rest test2 i most floor children
+hottest_retest rows rest test test2 i most floor children agree are = record {
+  each = λ j. omega (arith, are.each j, same_test rows i j (test j) (test2 j) (agree j));
+  rests = are.rests;
+  after = are.after;
+  above = are.above;
+  left_out = λ j l child is out. are.left_out j l child (agree j l child ∙ is) out;
+}
+
+-- one more child is met, which passes the test from now on
 pub hottest_more :
-    (rows : List ProblemRow) (rest : ℕ → ℕ) (i k k2 most : ℕ) (old new : Hottest) (x : Child) → 0 < k → k < length rows
-    → is_child rows i k ≡ true → i < k → x.row.0 ≡ k → x.rest ≡ rest k → IsNextChild rows i k k2
-    → IsMet old new x most → AreHottest rows rest (is_before k) i most old.floor old.children.items
-    → AreHottest rows rest (is_before k2) i most new.floor new.children.items
-hottest_more rows rest i k k2 most old new x some l child above row_is rest_is next met are =
+    (rows : List ProblemRow) (rest : ℕ → ℕ) (test test2 : ℕ → Bool) (i k most : ℕ) (old new : Hottest) (x : Child) → k < length rows
+    → is_child rows i k ≡ true → i < k → x.row.0 ≡ k → x.rest ≡ rest k → test k ≡ false → test2 k ≡ true
+    → ((j : ℕ) → j < length rows → is_child rows i j ≡ true → j ≢ k → test j ≡ test2 j)
+    → IsMet old new x most → AreHottest rows rest test i most old.floor old.children.items
+    → AreHottest rows rest test2 i most new.floor new.children.items
+hottest_more rows rest test test2 i k most old new x l child above row_is rest_is was_out now_in agree met are =
     let all = old.children.items ++ x ∷ [] in
     let both = new.children.items ++ met.forgotten in
     let count : (j : ℕ) → row_count j old.children.items + cond (eqb x.row.0 j) 1 0
@@ -88,7 +102,8 @@ hottest_more rows rest i k k2 most old new x some l child above row_is rest_is n
     (All-push (λ (y : Child). y.rest ≡ rest y.row.0) old.children.items x are.rests (rest_is ∙ sym (ap rest row_is))) in
     let after : All (λ (y : Child). (i < y.row.0) × (y.row.0 < length rows)) both =
     All-permutation (λ (y : Child). (i < y.row.0) × (y.row.0 < length rows)) all both met.same
-    (All-push (λ (y : Child). (i < y.row.0) × (y.row.0 < length rows)) old.children.items x are.after (omega (arith, above, row_is), omega (arith, l, row_is))) in
+    (All-push (λ (y : Child). (i < y.row.0) × (y.row.0 < length rows)) old.children.items x are.after
+    (omega (arith, above, row_is), omega (arith, l, row_is))) in
     record {
       each = λ j.
           ⊎_elim
@@ -96,27 +111,19 @@ hottest_more rows rest i k k2 most old new x some l child above row_is rest_is n
           let is_it : eqb x.row.0 j ≡ true = eq-eqb x.row.0 j (row_is ∙ sym this) in
           let counted = rw is_it at (count j) in
           let is : is_child rows i j ≡ true = ap (λ y. is_child rows i y) this ∙ child in
-          let was = never rows i j (is_before k j) (λ _ _. not_before k j some (omega arith)) in
-          let now = once rows i j (is_before k2 j) (omega arith) is
-          (before_from k2 j (λ more. (let up = next.after more in omega arith))) in
+          let was = never rows i j (test j) (λ _ _. ap test this ∙ was_out) in
+          let now = once rows i j (test2 j) (omega arith) is (ap test2 this ∙ now_in) in
           omega (arith, counted, was, now, are.each j))
           (λ (another : j ≢ k).
           let is_not : eqb x.row.0 j ≡ false = ne_eqb x.row.0 j (λ same. another (sym same ∙ row_is)) in
           let counted = rw is_not at (count j) in
-          let same = same_test rows i j (is_before k j) (is_before k2 j) (λ lj is.
-          ⊎_elim
-          (λ (below : j < k).
-          before_from k j (λ _. below) ∙ sym (before_from k2 j (λ more. (let up = next.after more in omega arith))))
-          (λ (past : k ≤ j).
-          let found = next.first j (omega arith) lj is in
-          not_before k j some past ∙ sym (not_before k2 j found.0 found.1))
-          (cases_lt j k)) in
+          let same = same_test rows i j (test j) (test2 j) (λ lj is. agree j lj is another) in
           omega (arith, counted, same, are.each j))
           (cases_eq j k);
       rests = All-left (λ (y : Child). y.rest ≡ rest y.row.0) new.children.items met.forgotten rests;
       after = All-left (λ (y : Child). (i < y.row.0) × (y.row.0 < length rows)) new.children.items met.forgotten after;
       above = met.above;
-      left_out = λ j lj is before none.
+      left_out = λ j lj is passes none.
           ⊎_elim
           (λ (lost : 0 < row_count j met.forgotten).
           let (z, cool, row_z) = find j (λ (y : Child). (y.rest ≡ rest y.row.0) × (y.rest ≤ new.floor)) met.forgotten
@@ -131,13 +138,7 @@ hottest_more rows rest i k k2 most old new x some l child above row_is rest_is n
           let more = rw is_it at counted in
           absurd (omega (arith, more, none)))
           (λ (another : j ≢ k).
-          let before_k : is_before k j ≡ true =
-          ⊎_elim (λ (below : j < k). before_from k j (λ _. below))
-          (λ (past : k ≤ j).
-          let found = next.first j (omega arith) lj is in
-          absurd (false≢true (sym (not_before k2 j found.0 found.1) ∙ before)))
-          (cases_lt j k) in
-          let was = are.left_out j lj is before_k (omega (arith, counted, none)) in (
+          let was = are.left_out j lj is (agree j lj is another ∙ passes) (omega (arith, counted, none)) in (
             omega (arith, was.0, met.up),
             still_enough old new x most met was.1,
           ))
@@ -145,20 +146,106 @@ hottest_more rows rest i k k2 most old new x some l child above row_is rest_is n
           (cases_lt 0 (row_count j met.forgotten));
     }
 
+-- a child but k stands before the next one where it stands before k
+pub next_before :
+    (rows : List ProblemRow) (i k k2 : ℕ) → 0 < k → IsNextChild rows i k k2 → (j : ℕ) → j < length rows → is_child rows i j ≡ true
+    → j ≢ k → is_before k j ≡ is_before k2 j
+next_before rows i k k2 some next j l child another =
+    ⊎_elim
+    (λ (below : j < k).
+    before_from k j (λ _. below) ∙ sym (before_from k2 j (λ more. (let up = next.after more in omega arith))))
+    (λ (past : k ≤ j).
+    let found = next.first j (omega arith) l child in
+    not_before k j some past ∙ sym (not_before k2 j found.0 found.1))
+    (cases_lt j k)
+
+pub not_yet : (k : ℕ) → 0 < k → is_before k k ≡ false
+not_yet k some = not_before k k some (omega arith)
+
+pub from_now : (rows : List ProblemRow) (i k k2 : ℕ) → IsNextChild rows i k k2 → is_before k2 k ≡ true
+from_now rows i k k2 next = before_from k2 k next.after
+
+-- the children before row k that are not cut
+abbrev pub free_before : (ℕ → Bool) → ℕ → ℕ → Bool
+free_before cut k j = is_before k j && not (cut j)
+
+pub free_none :
+    (rows : List ProblemRow) (rest : ℕ → ℕ) (cut : ℕ → Bool) (i k most : ℕ) → IsNextChild rows i 0 k
+    → AreHottest rows rest (free_before cut k) i most 0 []
+free_none rows rest cut i k most next = record {
+  each = λ j. omega arith;
+  rests = All-nil (λ (child : Child). child.rest ≡ rest child.row.0);
+  after = All-nil (λ (child : Child). (i < child.row.0) × (child.row.0 < length rows));
+  above = All-nil (λ (child : Child). 0 ≤ child.rest);
+  left_out = λ j l child before none.
+      (let deep = (and_parts (ltb 0 j) _ child).0 in
+      let found = next.first j (ltb-true 0 j deep) l child in
+      absurd (false≢true (sym (not_before k j found.0 found.1) ∙ (and_parts (is_before k j) (not (cut j)) before).0)));
+}
+
+-- a child that isn't cut is met, or one that is cut is passed over
+pub free_more :
+    (rows : List ProblemRow) (rest : ℕ → ℕ) (cut : ℕ → Bool) (i k k2 most : ℕ) (old new : Hottest) (x : Child) → 0 < k → k < length rows
+    → is_child rows i k ≡ true → i < k → x.row.0 ≡ k → x.rest ≡ rest k → IsNextChild rows i k k2
+    → (cut k ≡ false → IsMet old new x most) → (cut k ≡ true → new ≡ old)
+    → AreHottest rows rest (free_before cut k) i most old.floor old.children.items
+    → AreHottest rows rest (free_before cut k2) i most new.floor new.children.items
+free_more rows rest cut i k k2 most old new x some l child above row_is rest_is next met same are =
+    ⊎_elim
+    (λ (taken : cut k ≡ true).
+    let P : Hottest → Type 0 = λ h. AreHottest rows rest (free_before cut k2) i most h.floor h.children.items in
+    subst P (sym (same taken))
+    (hottest_retest rows rest (free_before cut k) (free_before cut k2) i most old.floor old.children.items
+    (λ j lj is.
+    ⊎_elim (λ (this : j ≡ k). rw (this, taken) (never_both (is_before k k) (is_before k2 k)))
+    (λ (another : j ≢ k). ap (λ b. b && not (cut j)) (next_before rows i k k2 some next j lj is another))
+    (cases_eq j k))
+    are))
+    (λ (free : cut k ≡ false).
+    hottest_more rows rest (free_before cut k) (free_before cut k2) i k most old new x l child above row_is rest_is
+    (rw (not_yet k some) refl) (rw (from_now rows i k k2 next, free) refl)
+    (λ j lj is another. ap (λ b. b && not (cut j)) (next_before rows i k k2 some next j lj is another))
+    (met free) are)
+    (cases_Bool (cut k))
+  where
+    never_both : (b c : Bool) → (b && false) ≡ (c && false)
+    never_both true true = refl
+    never_both true false = refl
+    never_both false true = refl
+    never_both false false = refl
+
 -- after the last child all are met
 pub hottest_all :
     (rows : List ProblemRow) (rest : ℕ → ℕ) (i k most floor : ℕ) (children : List Child) → k ≡ 0
     → AreHottest rows rest (is_before k) i most floor children → AreHottest rows rest (λ _. true) i most floor children
-hottest_all rows rest i k most floor children none are = record {
+hottest_all rows rest i k most floor children none are =
+    hottest_retest rows rest (is_before k) (λ _. true) i most floor children
+    (λ j l child. before_from k j (λ some. absurd (omega arith))) are
+
+pub free_all :
+    (rows : List ProblemRow) (rest : ℕ → ℕ) (cut : ℕ → Bool) (i k most floor : ℕ) (children : List Child) → k ≡ 0
+    → AreHottest rows rest (free_before cut k) i most floor children → AreHottest rows rest (λ j. not (cut j)) i most floor children
+free_all rows rest cut i k most floor children none are =
+    hottest_retest rows rest (free_before cut k) (λ j. not (cut j)) i most floor children
+    (λ j l child. rw (before_from k j (λ some. absurd (omega arith))) refl) are
+
+-- the children in another order
+pub hottest_moved :
+    (rows : List ProblemRow) (rest : ℕ → ℕ) (test : ℕ → Bool) (i most floor : ℕ) (children moved : List Child)
+    → IsPermutation children moved → AreHottest rows rest test i most floor children → AreHottest rows rest test i most floor moved
+hottest_moved rows rest test i most floor children moved same are = record {
   each = λ j. omega (
     arith,
+    sum_by-IsPermutation (λ (y : Child). cond (eqb y.row.0 j) 1 0) children moved same,
     are.each j,
-    same_test rows i j (is_before k j) true (λ _ _. before_from k j (λ some. absurd (omega arith))),
   );
-  rests = are.rests;
-  after = are.after;
-  above = are.above;
-  left_out = λ j l child _ out. are.left_out j l child (before_from k j (λ some. absurd (omega arith))) out;
+  rests = All-permutation (λ (y : Child). y.rest ≡ rest y.row.0) children moved same are.rests;
+  after = All-permutation (λ (y : Child). (i < y.row.0) × (y.row.0 < length rows)) children moved same are.after;
+  above = All-permutation (λ (y : Child). floor ≤ y.rest) children moved same are.above;
+  left_out = λ j l child passes out.
+      (let was = are.left_out j l child passes
+      (sym (sum_by-IsPermutation (λ (y : Child). cond (eqb y.row.0 j) 1 0) children moved same) ∙ out) in
+      (was.0, omega (arith, was.1, length_permutation children moved same)));
 }
 
 -- rests that are the same at the row's children
@@ -181,23 +268,10 @@ hottest_same rows rest rest2 test i most floor children forest same are = record
 pub hottest_free :
     (rows : List ProblemRow) (rest : ℕ → ℕ) (cut : ℕ → Bool) (i most floor : ℕ) (children moved : List Child)
     → ((j : ℕ) → j < length rows → is_child rows i j ≡ true → cut j ≡ false) → IsPermutation children moved
-    → length moved ≡ length children
     → AreHottest rows rest (λ _. true) i most floor children → AreHottest rows rest (λ j. not (cut j)) i most floor moved
-hottest_free rows rest cut i most floor children moved free same size are = record {
-  each = λ j. omega (
-    arith,
-    sum_by-IsPermutation (λ (y : Child). cond (eqb y.row.0 j) 1 0) children moved same,
-    are.each j,
-    same_test rows i j true (not (cut j)) (λ l child. rw (free j l child) refl),
-  );
-  rests = All-permutation (λ (y : Child). y.rest ≡ rest y.row.0) children moved same are.rests;
-  after = All-permutation (λ (y : Child). (i < y.row.0) × (y.row.0 < length rows)) children moved same are.after;
-  above = All-permutation (λ (y : Child). floor ≤ y.rest) children moved same are.above;
-  left_out = λ j l child _ out.
-      (let was = are.left_out j l child refl
-      (sym (sum_by-IsPermutation (λ (y : Child). cond (eqb y.row.0 j) 1 0) children moved same) ∙ out) in
-      (was.0, omega (arith, was.1, size)));
-}
+hottest_free rows rest cut i most floor children moved free same are =
+    hottest_moved rows rest (λ j. not (cut j)) i most floor children moved same
+    (hottest_retest rows rest (λ _. true) (λ j. not (cut j)) i most floor children (λ j l child. rw (free j l child) refl) are)
 
 -- what comes out of the heap is one of the children that aren't cut, and no other of these has more
 pub hottest_popped :

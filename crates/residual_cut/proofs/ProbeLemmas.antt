@@ -501,7 +501,6 @@ cutting_start rows heat rest bound i most floor seen children moved forest is ar
   probed = probed_less rows forest heat rest bound (i + 1) (i + 1) seen is i (omega arith);
   are = hottest_free rows (rest_at is.table) (is_cut_at is.table) i most floor children moved
       (λ j l child. is.walked.walk.uncut j l (omega (arith, child_parent rows i j child))) same
-      (length_permutation children moved same)
       (hottest_same rows rest (rest_at is.table) (λ _. true) i most floor children forest
       (λ j after l. sym (settled rows forest heat rest bound (i + 1) (i + 1) seen is j l (omega arith))) are);
 }

@@ -47,7 +47,7 @@ fn is_cool(hottest: &Hottest, child: Child, most: usize) -> bool
 }
 
 /// Meets one more child. The coolest are forgotten once there are twice as many as can be cut.
-fn meet(hottest: &mut Hottest, child: Child, most: usize) -> Result<(), AllocError>
+pub fn meet(hottest: &mut Hottest, child: Child, most: usize) -> Result<(), AllocError>
     requires some { 0 < most }
     requires few { most < 2 ^ 32 }
     requires above { All (λ child. hottest.old.floor ≤ child.rest) hottest.old.children.items }

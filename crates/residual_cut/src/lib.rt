@@ -15,9 +15,9 @@ pub mod links;
 mod numbering;
 pub mod probe;
 pub mod subtrees;
-pub mod walk;
+mod walk;
 
-pub use cut::{Cut, CutError, cut_at, cut_cool, cut_linked};
+pub use cut::{Cut, CutError, cut_at, cut_cool, cut_linked, table_linked};
 pub use links::{Links, link};
 pub use probe::{Probe, try_bound};
 pub use subtrees::{Subtrees, weigh};

@@ -42,9 +42,10 @@ fn hot_rows(alloc: Global, heat: &[u64], low: u64) -> Result<Vec<u32>, AllocErro
 {
     let mut hot = Vec::new(alloc);
     for i in (1..heat.len()).rev() {
-        if heat[i] > low {
-            hot.push(i as u32)?;
+        if heat[i] <= low {
+            continue;
         }
+        hot.push(i as u32)?;
     }
     Ok(hot)
 }

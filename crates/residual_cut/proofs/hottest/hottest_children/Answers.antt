@@ -2,7 +2,8 @@ use Rattle.std.proofs.Common.{◌≡◌, ◌<◌, ◌≤◌, ◌∙◌, arith, s
 use Rattle.std.proofs.lemmas.List.{get_or_default}
 use Rattle.std.proofs.lemmas.Bool.{cases_lt}
 use Rattle.residual_cut.specs.Links.{IsNextChild}
-use Rattle.residual_cut.proofs.HottestLemmas.{hottest_none, hottest_more}
+use Rattle.residual_cut.proofs.HeapLemmas.{is_before}
+use Rattle.residual_cut.proofs.HottestLemmas.{hottest_none, hottest_more, next_before, not_yet, from_now}
 use Rattle.residual_cut.proofs.WalkLemmas.{child_above, child_parent}
 use Rattle.residual_cut.proofs.hottest.hottest_children.Goals as goal
 
@@ -36,10 +37,11 @@ loop-row-preserved c =
     rw (read, ← child_parent c.args.rows.now c.args.i c.loop-row.row child)
     (c.requires.linked.siblings c.loop-row.row (omega arith) some c.loop-row.invariant.inside) in
     record {
-      are = hottest_more rows (slice_index c.args.rest.now) c.args.i k c.index-row-in-loop-row.result.now c.args.most c.loop-row.hottest
-          c.meet.new.hottest _ some c.loop-row.invariant.inside child
-          (child_above rows c.requires.forest c.args.i k c.loop-row.invariant.inside child) refl refl next c.in_ok-meet.ensures
-          c.loop-row.invariant.are;
+      are = hottest_more rows (slice_index c.args.rest.now) (is_before k) (is_before c.index-row-in-loop-row.result.now) c.args.i k
+          c.args.most c.loop-row.hottest c.meet.new.hottest _ c.loop-row.invariant.inside child
+          (child_above rows c.requires.forest c.args.i k c.loop-row.invariant.inside child) refl refl (not_yet k some)
+          (from_now rows c.args.i k c.index-row-in-loop-row.result.now next)
+          (next_before rows c.args.i k c.index-row-in-loop-row.result.now some next) c.in_ok-meet.ensures c.loop-row.invariant.are;
       full = c.in_ok-meet.ensures.full;
       inside =
           ⊎_elim (λ (more : 0 < c.index-row-in-loop-row.result.now). next.inside more)
