@@ -215,6 +215,39 @@ mod tests {
     }
 
     #[test]
+    fn cuts_many_children_of_one_row(rt: HostRuntime) -> Result<(), Fail> {
+        // 300 children below a cold root: (the first one's heat, what each has more or less than the one
+        // before, the bound, the first and the last child that is cut)
+        for (first, more, less, bound, low, high) in [
+            (1, 1, 0, 20000, 200, 300),
+            (300, 0, 1, 20000, 1, 101),
+            (10, 0, 0, 1000, 1, 200),
+        ] {
+            let mut star = Vec::new(rt.alloc());
+            let mut heat: u64 = first;
+            star.push((0, 0))?;
+            for _ in 0..300u32 {
+                star.push((0, heat))?;
+                heat = heat.saturating_add(more).saturating_sub(less);
+            }
+            let given = rows(rt.alloc(), &star)?;
+            let mut passes = 0;
+            let cut = cut_at(&problem(&rt, given), rt.alloc(), bound, &mut passes)?;
+            for row in 0..301u32 {
+                let part = cut.part.get(row as usize).copied();
+                let is_cut = low <= row && row <= high;
+                let expected = if is_cut {
+                    row.saturating_sub(low) + 1
+                } else {
+                    0
+                };
+                assert_eq!(rt; part, Some(expected), "row {row} within {bound}");
+            }
+        }
+        Ok(())
+    }
+
+    #[test]
     fn cuts_no_rows(rt: HostRuntime) -> Result<(), Fail> {
         let problem = problem(&rt, Vec::new(rt.alloc()));
         let mut passes = 7;

@@ -19,8 +19,9 @@ use std::alloc::{AllocError, Global};
 use std::cmp::Reverse;
 use std::collections::BinaryHeap;
 
-/// How many of the hottest children are looked for at first. Few rows have more to cut.
-const FIRST: u32 = 64;
+/// How many of the hottest children are looked for at first: more than there can be ranks, so that few rows
+/// have more to cut.
+const FIRST: u32 = 128;
 
 /// Meets the child of this row, if it is not cut.
 #[inline(always)]

@@ -89,6 +89,10 @@ pub fn restore(rows: &[ProblemRow], trees: &Subtrees, rest: &mut [u64])
     ensures room { length rest.new ≡ length rows.now }
     ensures whole { (v : ℕ) → v < length rows.now → slice_index rest.new v ≡ slice_index trees.now.heat.items v }
 {
+    if trees.hot.len() > rows.len() / 8 {
+        rest.copy_from_slice(&trees.heat);
+        return;
+    }
     for k in 0..trees.hot.len() {
         let i = hot_row(rows, trees, k);
         rest[i] = trees.heat[i];
