@@ -9,7 +9,7 @@ use crate::choice_of_proof::prove_least;
 use crate::found::Found;
 use crate::narrow::{narrow, start};
 use mds_types::{CutProof, Problem, ProblemRow};
-use residual_cut::{cut_cool, cut_linked, first_table, link};
+use residual_cut::{cut_cool, cut_linked, weigh};
 use std::alloc::{AllocError, Global};
 
 /// A cut into at most `ranks` parts with the least greatest heat.
@@ -19,11 +19,12 @@ fn search_rows(alloc: Global, rows: &[ProblemRow], ranks: u32) -> Result<Found, 
     requires ranks { 0 < ranks }
     ensures { IfOk result (IsFound rows.now ranks) }
 {
-    let links = link(alloc, rows)?;
-    let mut table = first_table(alloc, rows)?;
-    let (greatest, probes) = narrow(alloc, rows, &links, &mut table, ranks, start(rows, ranks))?;
-    let cut = cut_linked(alloc, rows, &links, greatest)?;
-    let (proof, extra) = prove_least(alloc, rows, &links, ranks, greatest)?;
+    let from = start(rows, ranks);
+    let trees = weigh(alloc, rows, from.low)?;
+    let mut rest = trees.heat.clone()?;
+    let (greatest, probes) = narrow(alloc, rows, &trees, &mut rest, ranks, from)?;
+    let cut = cut_linked(alloc, rows, &trees.links, greatest)?;
+    let (proof, extra) = prove_least(alloc, rows, &trees.links, ranks, greatest)?;
     Ok(Found {
         cut,
         greatest,

@@ -8,7 +8,7 @@ ghost use Rattle.minmax_search.specs.Found.{IsRowOf};
 ghost use Rattle.residual_cut.specs.Links.{IsLinked};
 
 use mds_types::{CutProof, ProblemRow};
-use residual_cut::{Links, cut_linked};
+use residual_cut::{Links, table_linked};
 use std::alloc::{AllocError, Global};
 
 /// The least row of this heat.
@@ -47,6 +47,6 @@ pub fn prove_least(
     if let Some(row) = row_of(rows, greatest) {
         return Ok((CutProof::Heavy(row), 0));
     }
-    let below = cut_linked(alloc, rows, links, greatest - 1)?;
-    Ok((CutProof::Table(below.rows), 1))
+    let below = table_linked(alloc, rows, links, greatest - 1)?;
+    Ok((CutProof::Table(below), 1))
 }

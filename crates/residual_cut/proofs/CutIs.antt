@@ -1,11 +1,10 @@
 -- The parts and the table of a cut.
-use Rattle.std.proofs.Common.{true, ◌≡◌, ◌∙◌, ℕ, ◌+◌, ◌<◌, ◌≤◌, List, length, slice_index, ap, sym, eqb, arith}
+use Rattle.std.proofs.Common.{true, ◌≡◌, ◌∙◌, ℕ, ◌+◌, ◌<◌, ◌≤◌, List, length, slice_index, ap, sym, arith}
 use Rattle.mds_types.specs.declared.problem.ProblemRow.{ProblemRow}
 use Rattle.mds_types.specs.declared.cut_proof.Row.{Row}
-use Rattle.mds_types.specs.Problem.{IsForest, heat_at}
-use Rattle.mds_types.specs.Sums.{count_below, some_below}
+use Rattle.mds_types.specs.Problem.{IsForest}
+use Rattle.mds_types.specs.Sums.{count_below}
 use Rattle.mds_types.specs.Division.{HasFew}
-use Rattle.mds_types.proofs.SumsLemmas.{count_below-le}
 use Rattle.mds_types.specs.CutTable.{IsCutTable, cuts_at, rest_at, is_cut_at}
 use Rattle.mds_types.proofs.DivisionLemmas.{part_count-more}
 use Rattle.residual_cut.specs.declared.cut.Cut.{Cut}

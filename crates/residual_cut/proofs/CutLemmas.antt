@@ -1,19 +1,17 @@
 -- One child is cut from a row, or all are.
-use Rattle.std.proofs.Common.{◌≡◌, ◌≢◌, ◌∙◌, ℕ, zero, suc, ◌+◌, ◌-◌, ◌<◌, ◌≤◌, ◌^◌, Bool, true, false, cond, ◌&&◌, not, eqb, ltb, leb, List, ◌∷◌, length, slice_index_or, IsPermutation, refl, ap, sym, arith, ⊎_elim}
-use Rattle.std.proofs.lemmas.Bool.{cases_Bool, cases_eq, cases_lt, false≢true, true≢false}
-use Rattle.std.specs.BinaryHeap.{IsUpperBound}
+use Rattle.std.proofs.Common.{◌≡◌, ◌≢◌, ◌∙◌, ℕ, ◌+◌, ◌-◌, ◌<◌, ◌≤◌, ◌^◌, true, false, cond, List, length, slice_index_or, refl, ap, sym, arith, ⊎_elim}
+use Rattle.std.proofs.lemmas.Bool.{cases_Bool, cases_eq, false≢true}
 use Rattle.mds_types.specs.declared.problem.ProblemRow.{ProblemRow}
 use Rattle.mds_types.specs.declared.cut_proof.Row.{Row}
-use Rattle.mds_types.specs.Problem.{IsForest, parent_at, heat_at}
-use Rattle.mds_types.specs.Sums.{sum_below, count_below}
+use Rattle.mds_types.specs.Problem.{IsForest, heat_at}
+use Rattle.mds_types.specs.Sums.{count_below}
 use Rattle.mds_types.specs.CutTable.{is_child, cuts_at, rest_at, price_at, is_cut_at, no_cut}
 use Rattle.mds_types.proofs.SumsLemmas.{sum_below-term, sum_below-zero, count_below-le}
 use Rattle.residual_cut.specs.declared.child.Child.{Child}
-use Rattle.residual_cut.specs.Heap.{AreChildren, is_free}
-use Rattle.residual_cut.specs.Walk.{is_handled, IsSameBut, IsWalk, IsWalked}
-use Rattle.residual_cut.proofs.HeapLemmas.{child_cmp, IsPopped, popped, left_in_heap, all_cut}
+use Rattle.residual_cut.specs.Walk.{is_handled, IsSameBut, IsWalked}
+use Rattle.residual_cut.proofs.HeapLemmas.{IsPopped}
 use Rattle.residual_cut.proofs.TableLemmas.{heats_le}
-use Rattle.residual_cut.proofs.WalkLemmas.{IsCutAt, child_above, child_parent, handled_from, handled_parts, cut_child, one_more_cut}
+use Rattle.residual_cut.proofs.WalkLemmas.{IsCutAt, child_above, handled_from, handled_parts, cut_child, one_more_cut}
 
 -- rows before i may now be cut from
 pub IsWalked-less :
@@ -143,24 +141,6 @@ module _ (rows : List ProblemRow) (forest : IsForest rows) (table : List Row) (b
     counted_on = one_more_cut rows forest bound (cuts_at table) (rest_at table) (price_at table) (cuts_at table2) (rest_at table2)
         (price_at table2) (is_cut_at table) (is_cut_at table2) i x.row.0 here change pop.inside pop.child pop.free hot
         pop.largest is.walk
-
-    pub left_on : (children left : List Child) → AreChildren rows (rest_at table) (is_free table) i children
-        → IsPermutation children (x ∷ left) → AreChildren rows (rest_at table2) (is_free table2) i left
-    left_on children left are moved =
-        left_in_heap rows (rest_at table) (rest_at table2) (is_cut_at table) (is_cut_at table2) i children left x change.rest_other
-        change.cut_here change.cut_other pop are moved
-
--- an empty heap: what is left is within the bound
-pub empty_heap :
-    (rows : List ProblemRow) (table : List Row) (bound i : ℕ) (children : List Child) → i < length rows
-    → heat_at rows i ≤ bound → IsForest rows → IsWalked rows table bound (i + 1) i
-    → AreChildren rows (rest_at table) (is_free table) i children → length children ≡ 0 → rest_at table i ≤ bound
-empty_heap rows table bound i children here cool forest is are none =
-    omega (
-      arith,
-      cool,
-      own_heat rows forest table bound i here is (all_cut rows (rest_at table) (is_cut_at table) i children are none),
-    )
 
 pub IsSameBut-none : (rows : List ProblemRow) (table : List Row) (i : ℕ) → IsSameBut rows table table i
 IsSameBut-none rows table i = record { rest = λ v apart. refl; price = λ v apart. refl; cut = λ j other. refl }

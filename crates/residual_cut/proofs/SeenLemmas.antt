@@ -1,18 +1,13 @@
 -- The least sum above the bound that a walk has seen: with any bound below it the walk would have gone the same way.
-use Rattle.std.proofs.Common.{◌≡◌, ◌≢◌, ◌∙◌, ℕ, ◌+◌, ◌-◌, ◌<◌, ◌≤◌, ◌^◌, Bool, true, false, List, length, slice_index_or, min, max, refl, ap, sym, arith, ⊎_elim}
-use Rattle.std.proofs.lemmas.Bool.{cases_Bool, cases_eq, cases_lt, false_from_ne_true}
+use Rattle.std.proofs.Common.{◌≡◌, ◌≢◌, ◌∙◌, ℕ, ◌+◌, ◌-◌, ◌<◌, ◌≤◌, ◌^◌, List, length, min, ap, sym, arith, ⊎_elim}
+use Rattle.std.proofs.lemmas.Bool.{cases_eq, cases_lt, false_from_ne_true}
 use Rattle.mds_types.specs.declared.problem.ProblemRow.{ProblemRow}
 use Rattle.mds_types.specs.declared.cut_proof.Row.{Row}
-use Rattle.mds_types.specs.Problem.{IsForest, parent_at}
-use Rattle.mds_types.specs.CutTable.{is_child, rest_at, price_at, is_cut_at, no_cut}
-use Rattle.residual_cut.specs.Labels.{starts}
-use Rattle.residual_cut.specs.Walk.{IsGivenRow, IsSameBut, IsWalk, IsWalked}
+use Rattle.mds_types.specs.Problem.{IsForest}
+use Rattle.mds_types.specs.CutTable.{is_child, rest_at, price_at, is_cut_at}
+use Rattle.residual_cut.specs.Probing.{IsSeen}
+use Rattle.residual_cut.specs.Walk.{IsGivenRow, IsSameBut, IsWalked}
 use Rattle.residual_cut.proofs.WalkLemmas.{child_above, child_parent, one_parent}
-
--- at each row that was cut from, the sum before the last cut is at least this
-pub record IsSeen (rows : List ProblemRow) (table : List Row) (above : ℕ) : Type 0 where
-  pub full : (v j : ℕ) → j < length rows → is_child rows v j ≡ true → is_cut_at table j ≡ true
-      → above ≤ rest_at table v + price_at table v
 
 -- at first nothing is cut
 pub seen_start :
@@ -96,34 +91,3 @@ above_more bound cuts above count sum a i f b j g some =
     ⊎_elim (λ (both : 0 < count). omega (arith, a more, b both)) (λ (old : count ≤ 0). omega (arith, a more, j (omega arith))) (cases_lt 0 count))
     (λ (none : cuts ≤ 0). omega (arith, i (omega arith), b (omega arith)))
     (cases_lt 0 cuts)
-
--- the hottest part among the rows before row i
-pub record IsHottest (table : List Row) (i heat : ℕ) : Type 0 where
-  pub tops : (j : ℕ) → j < i → starts (is_cut_at table) j ≡ true → rest_at table j ≤ heat
-  pub reached : (bound : ℕ) → ((j : ℕ) → j < length table → rest_at table j ≤ bound) → heat ≤ bound
-
-pub hottest_more :
-    (table : List Row) (i hottest next : ℕ) → i < length table
-    → (starts (is_cut_at table) i ≡ true → next ≡ max hottest (rest_at table i))
-    → (starts (is_cut_at table) i ≡ false → next ≡ hottest) → IsHottest table i hottest → IsHottest table (i + 1) next
-hottest_more table i hottest next l top below old =
-    ⊎_elim
-    (λ (begins : starts (is_cut_at table) i ≡ true).
-    record {
-      tops = λ j lj starts_j.
-          ⊎_elim (λ (this : j ≡ i). rw this (omega (arith, top begins)))
-          (λ (other : j ≢ i). omega (arith, top begins, old.tops j (omega arith) starts_j))
-          (cases_eq j i);
-      reached = λ bound within. omega (arith, top begins, old.reached bound within, within i l);
-    })
-    (λ (goes_on : starts (is_cut_at table) i ≡ false).
-    record {
-      tops = λ j lj starts_j.
-          ⊎_elim
-          (λ (this : j ≡ i).
-          let starts_i = rw this at starts_j in absurd (cc (starts_i, goes_on)))
-          (λ (other : j ≢ i). omega (arith, below goes_on, old.tops j (omega arith) starts_j))
-          (cases_eq j i);
-      reached = λ bound within. omega (arith, below goes_on, old.reached bound within);
-    })
-    (cases_Bool (starts (is_cut_at table) i))

@@ -1,22 +1,22 @@
 -- Where the walk starts, where it ends, and what it shows of divisions within the bound.
-use Rattle.std.proofs.Common.{◌≡◌, ◌≢◌, ◌∙◌, ℕ, zero, suc, ◌+◌, ◌-◌, ◌*◌, ◌<◌, ◌≤◌, ◌^◌, Bool, true, false, cond, ◌&&◌, not, eqb, ltb, leb, List, length, slice_index_or, get_or, map, max, refl, ap, sym, arith, ⊎_elim, add-one}
-use Rattle.std.proofs.lemmas.Bool.{cases_Bool, cases_eq, cases_lt, and_parts, and_left, ltb-true, le-leb, lt-leb, le-ltb, false≢true}
+use Rattle.std.proofs.Common.{◌≡◌, ◌≢◌, ◌∙◌, ℕ, zero, suc, ◌+◌, ◌-◌, ◌*◌, ◌<◌, ◌≤◌, ◌^◌, Bool, true, false, cond, ◌&&◌, leb, List, length, slice_index_or, get_or, map, refl, ap, sym, arith, ⊎_elim}
+use Rattle.std.proofs.lemmas.Bool.{cases_Bool, cases_eq, cases_lt, le-leb, lt-leb, false≢true}
 use Rattle.std.proofs.Math.ListN.{get_or-map, length-map}
 use Rattle.std.proofs.lemmas.List.{get_or_default}
 use Rattle.mds_types.specs.declared.problem.ProblemRow.{ProblemRow}
 use Rattle.mds_types.specs.declared.cut_proof.Row.{Row}
 use Rattle.mds_types.specs.Problem.{IsForest, parent_at, heat_at, no_row}
 use Rattle.mds_types.specs.Sums.{sum_below, count_below}
-use Rattle.mds_types.specs.Division.{NeedsMore, part_count}
+use Rattle.mds_types.specs.Division.{NeedsMore}
 use Rattle.mds_types.specs.CutTable.{is_child, cuts_at, rest_at, price_at, is_cut_at, no_cut, IsCutTable, sum_of_children}
-use Rattle.mds_types.proofs.SumsLemmas.{sum_below-term, sum_below-zero, sum_below-same, sum_below-le, sum_below-two, sum_below_more, count_below-le, sum_from, sum_from-same, sum_below-split}
+use Rattle.mds_types.proofs.SumsLemmas.{sum_below-zero, sum_below-same, sum_below-le, sum_below-two, sum_below_more, count_below-le, sum_from, sum_from-same, sum_below-split}
 use Rattle.mds_types.proofs.Fewest.{Table}
 use Rattle.mds_types.proofs.DivisionLemmas.{part_count-from}
-use Rattle.residual_cut.specs.Walk.{is_handled, IsWalk, IsWalked, IsGivenRow, first_row}
-use Rattle.residual_cut.proofs.WalkLemmas.{IsGiven, child_above, child_parent, handled_from, handled_parts, give_to_parent}
+use Rattle.residual_cut.specs.Walk.{is_handled, IsWalked, IsGivenRow, first_row}
+use Rattle.residual_cut.proofs.WalkLemmas.{IsGiven, child_above, child_parent, handled_parts, give_to_parent}
 
 -- no row past the last is handled
-nothing_handled : (rows : List ProblemRow) (f : ℕ → ℕ) (v : ℕ)
+pub nothing_handled : (rows : List ProblemRow) (f : ℕ → ℕ) (v : ℕ)
     → sum_below (length rows) (λ j. cond (is_handled rows (length rows) v j) (f j) 0) ≡ 0
 nothing_handled rows f v =
     sum_below-zero (length rows) (λ j. cond (is_handled rows (length rows) v j) (f j) 0)
@@ -128,7 +128,7 @@ handled_child rows i v j forest le l =
     always_false true = refl
     always_false false = refl
 
-handled_sum : (rows : List ProblemRow) (i v : ℕ) (f : ℕ → ℕ) → IsForest rows → i ≤ v
+pub handled_sum : (rows : List ProblemRow) (i v : ℕ) (f : ℕ → ℕ) → IsForest rows → i ≤ v
     → sum_below (length rows) (λ j. cond (is_handled rows (i + 1) v j) (f j) 0) ≡ sum_of_children rows v f
 handled_sum rows i v f forest le =
     sum_below-same (length rows) (λ j. cond (is_handled rows (i + 1) v j) (f j) 0) (λ j. cond (is_child rows v j) (f j) 0)

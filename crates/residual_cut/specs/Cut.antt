@@ -1,11 +1,10 @@
 -- What a cut of the rows at a bound is.
-use Rattle.std.specs.Prelude.{◌≡◌, ◌==◌, ◌<◌, ◌≤◌, ◌+◌, ◌&&◌, ◌||◌, ℕ, Bool, not, List, length, slice_index, if◌then◌else◌}
+use Rattle.std.specs.Prelude.{◌≡◌, ◌<◌, ◌≤◌, ◌+◌, ℕ, List, length, slice_index}
 use Rattle.mds_types.specs.declared.problem.ProblemRow.{ProblemRow}
 use Rattle.mds_types.specs.Certificate.{IsPartition}
 use Rattle.mds_types.specs.CutTable.{IsCutTable, cuts_at}
-use Rattle.mds_types.specs.Division.{InPart, IsDivision, IsWithin, part_count}
-use Rattle.mds_types.specs.Problem.{parent_at, heat_at}
-use Rattle.mds_types.specs.Sums.{sum_below}
+use Rattle.mds_types.specs.Division.{IsDivision, IsWithin, part_count}
+use Rattle.mds_types.specs.Problem.{heat_at}
 use Rattle.residual_cut.specs.declared.cut.Cut.{Cut}
 
 -- before each row stands a row of each part with a smaller number: parts are numbered by rising top row

@@ -1,7 +1,10 @@
 //! The cut of a problem at a bound.
 
 ghost use Rattle.std.specs.Prelude.{◌≡◌, ◌<◌, ◌≤◌, ◌+◌, ◌-◌, ◌^◌, ℕ, true, false, length, IfOk, IfErr, IfNone, IfSome, if◌then◌else◌};
+ghost use Rattle.mds_types.specs.CutTable.{IsCutTable, cuts_at, is_cut_at};
+ghost use Rattle.mds_types.specs.Division.{HasFew};
 ghost use Rattle.mds_types.specs.Problem.{IsForest, heat_at};
+ghost use Rattle.mds_types.specs.Sums.{count_below};
 ghost use Rattle.residual_cut.specs.Links.{IsLinked};
 ghost use Rattle.residual_cut.specs.Cut.{IsCut, IsFirstHot};
 ghost use Rattle.residual_cut.specs.CutError.{IfHeavy, is_memory};
@@ -61,6 +64,26 @@ fn first_hot(rows: &[ProblemRow], bound: u64) -> Option<u32>
     None
 }
 
+/// The table against the bound of rows that are linked and none of which is hotter than the bound.
+pub fn table_linked(
+    alloc: Global,
+    rows: &[ProblemRow],
+    links: &Links,
+    bound: u64,
+) -> Result<Vec<Row>, AllocError>
+    requires forest { IsForest rows.now }
+    requires some { 0 < length rows.now }
+    requires linked { IsLinked rows.now links.now.first.items links.now.next.items 1 }
+    requires cool { (i : ℕ) → i < length rows.now → heat_at rows.now i ≤ bound }
+    ensures table { IfOk result (λ table. IsCutTable rows.now table.items bound) }
+    ensures counted { IfOk result (λ table. cuts_at table.items 0 ≡ count_below (length rows.now) (is_cut_at table.items)) }
+    ensures few { IfOk result (λ table. HasFew rows.now (cuts_at table.items 0 + 1) bound) }
+{
+    let mut table = first_table(alloc, rows)?;
+    cut_table(alloc, rows, links, &mut table, bound)?;
+    Ok(table)
+}
+
 /// Cuts rows that are linked and none of which is hotter than the bound.
 pub fn cut_linked(
     alloc: Global,
@@ -74,8 +97,7 @@ pub fn cut_linked(
     requires cool { (i : ℕ) → i < length rows.now → heat_at rows.now i ≤ bound }
     ensures { IfOk result (IsCut rows.now bound) }
 {
-    let mut table = first_table(alloc, rows)?;
-    cut_table(alloc, rows, links, &mut table, bound, rows.len() as u32 + 1)?;
+    let table = table_linked(alloc, rows, links, bound)?;
     let (part, count) = parts(alloc, rows, &table)?;
     Ok(Cut {
         part,
@@ -189,6 +211,39 @@ mod tests {
         assert_eq!(rt; one.part.as_slice(), [0, 0, 1, 0, 0].as_slice());
         let two = cut_at(&problem, rt.alloc(), 8, &mut passes)?;
         assert_eq!(rt; two.part.as_slice(), [0, 0, 1, 2, 0].as_slice());
+        Ok(())
+    }
+
+    #[test]
+    fn cuts_many_children_of_one_row(rt: HostRuntime) -> Result<(), Fail> {
+        // 300 children below a cold root: (the first one's heat, what each has more or less than the one
+        // before, the bound, the first and the last child that is cut)
+        for (first, more, less, bound, low, high) in [
+            (1, 1, 0, 20000, 200, 300),
+            (300, 0, 1, 20000, 1, 101),
+            (10, 0, 0, 1000, 1, 200),
+        ] {
+            let mut star = Vec::new(rt.alloc());
+            let mut heat: u64 = first;
+            star.push((0, 0))?;
+            for _ in 0..300u32 {
+                star.push((0, heat))?;
+                heat = heat.saturating_add(more).saturating_sub(less);
+            }
+            let given = rows(rt.alloc(), &star)?;
+            let mut passes = 0;
+            let cut = cut_at(&problem(&rt, given), rt.alloc(), bound, &mut passes)?;
+            for row in 0..301u32 {
+                let part = cut.part.get(row as usize).copied();
+                let is_cut = low <= row && row <= high;
+                let expected = if is_cut {
+                    row.saturating_sub(low) + 1
+                } else {
+                    0
+                };
+                assert_eq!(rt; part, Some(expected), "row {row} within {bound}");
+            }
+        }
         Ok(())
     }
 

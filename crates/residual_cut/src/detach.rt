@@ -1,47 +1,79 @@
 //! Cuts the hottest children of a row that is hotter than the bound.
 //!
-//! The children come out of a heap, so that only as many are put in order as are cut.
+//! The children come out of a heap of the hottest, so that only as many are put in order as are cut.
 
-ghost use Rattle.std.specs.Prelude.{◌≡◌, ◌<◌, ◌≤◌, ◌+◌, ◌-◌, ◌^◌, ◌≢◌, ℕ, true, false, length, slice_index_or, IfOk};
-ghost use Rattle.std.specs.BinaryHeap.{heap_items, IsHeap};
-ghost use Rattle.mds_types.specs.CutTable.{cuts_at, rest_at, price_at, is_cut_at, is_child, no_cut};
+ghost use Rattle.std.specs.Prelude.{◌≡◌, ◌<◌, ◌≤◌, ◌+◌, ◌-◌, ◌^◌, ◌≢◌, ℕ, true, false, All, length, slice_index_or, IfOk, OnOk};
+ghost use Rattle.mds_types.specs.CutTable.{cuts_at, rest_at, is_cut_at, no_cut};
 ghost use Rattle.mds_types.specs.Problem.{IsForest, heat_at};
 ghost use Rattle.mds_types.specs.Sums.{count_below};
-ghost use Rattle.residual_cut.specs.Heap.{AreChildren};
+ghost use Rattle.residual_cut.specs.Heap.{is_free};
+ghost use Rattle.residual_cut.specs.Hottest.{AreHottest, IsMet};
 ghost use Rattle.residual_cut.specs.Links.{IsLinked};
-ghost use Rattle.residual_cut.specs.Walk.{IsSameBut, IsWalked};
+ghost use Rattle.residual_cut.specs.Walk.{IsWalked};
 
 use crate::child::Child;
+use crate::hottest::{Hottest, meet};
 use crate::links::Links;
 use mds_types::{ProblemRow, Row};
 use std::alloc::{AllocError, Global};
 use std::cmp::Reverse;
 use std::collections::BinaryHeap;
 
-/// The children of row `i` with their rests.
-fn children(
+/// How many of the hottest children are looked for at first: more than there can be ranks, so that few rows
+/// have more to cut.
+const FIRST: u32 = 128;
+
+/// Meets the child of this row, if it is not cut.
+#[inline(always)]
+fn meet_free(hottest: &mut Hottest, table: &[Row], row: u32, most: usize) -> Result<(), AllocError>
+    requires inside { row < length table.now }
+    requires some { 0 < most }
+    requires few { most < 2 ^ 32 }
+    requires above { All (λ child. hottest.old.floor ≤ child.rest) hottest.old.children.items }
+    requires full { 0 < hottest.old.floor → most ≤ length hottest.old.children.items }
+    ensures free { OnOk result (is_cut_at table.now row ≡ false
+        → IsMet hottest.old hottest.new (record { rest = rest_at table.now row; row = record { 0 = row } }) most) }
+    ensures cut { OnOk result (is_cut_at table.now row ≡ true → hottest.new ≡ hottest.old) }
+{
+    let entry = table[row as usize];
+    if entry.cut {
+        return Ok(());
+    }
+    let child = Child {
+        rest: entry.rest,
+        row: Reverse(row),
+    };
+    meet(hottest, child, most)
+}
+
+/// The hottest children of row `i` that are not cut: at least `most`, or all.
+fn hottest_left(
     alloc: Global,
     rows: &[ProblemRow],
     links: &Links,
     table: &[Row],
     i: usize,
-) -> Result<Vec<Child>, AllocError>
+    most: usize,
+) -> Result<Hottest, AllocError>
     requires forest { IsForest rows.now }
     requires inside { i < length rows.now }
     requires size { length table.now ≡ length rows.now }
     requires linked { IsLinked rows.now links.now.first.items links.now.next.items 1 }
-    ensures { IfOk result (λ children. AreChildren rows.now (rest_at table.now) (λ _. true) i children.items) }
+    requires some { 0 < most }
+    requires few { most < 2 ^ 32 }
+    ensures { IfOk result (λ hottest.
+        AreHottest rows.now (rest_at table.now) (is_free table.now) i most hottest.floor hottest.children.items) }
 {
-    let mut children = Vec::new(alloc);
+    let mut hottest = Hottest {
+        children: Vec::new(alloc),
+        floor: 0,
+    };
     let mut row = links.first[i];
     while row != 0 {
-        children.push(Child {
-            rest: table[row as usize].rest,
-            row: Reverse(row),
-        })?;
+        meet_free(&mut hottest, table, row, most)?;
         row = links.next[row as usize];
     }
-    Ok(children)
+    Ok(hottest)
 }
 
 /// Cuts a child from row `i`.
@@ -67,18 +99,44 @@ fn cut_child(table: &mut [Row], i: usize, child: Child)
     table[child.row.0 as usize].cut = true;
 }
 
-/// What was cut from a row.
-#[derive(Clone, Copy)]
-pub struct CutOff {
-    /// How many children were cut.
-    pub count: u32,
-    /// The heat that the row had before the last of them was cut: the least above the bound. Where
-    /// none was cut, the greatest number there is.
-    pub above: u64,
+/// Cuts children from row `i`, the largest rest first, until what is left there is within the bound or
+/// `most` are cut, and tells how many are.
+fn cut_some(
+    alloc: Global,
+    rows: &[ProblemRow],
+    links: &Links,
+    table: &mut [Row],
+    i: usize,
+    bound: u64,
+    most: u32,
+) -> Result<u32, AllocError>
+    requires forest { IsForest rows.now }
+    requires inside { i < length rows.now }
+    requires linked { IsLinked rows.now links.now.first.items links.now.next.items 1 }
+    requires cool { (v : ℕ) → v < length rows.now → heat_at rows.now v ≤ bound }
+    requires some { 0 < most }
+    requires walked { IsWalked rows.now table.old bound (i + 1) i }
+    ensures walked { IfOk result (λ _. IsWalked rows.now table.new bound (i + 1) i) }
+    ensures done { IfOk result (λ count. count < most → rest_at table.new i ≤ bound) }
+    ensures counted { IfOk result (λ count. count_below (length rows.now) (is_cut_at table.new)
+        ≡ count_below (length rows.now) (is_cut_at table.old) + count) }
+{
+    let hottest = hottest_left(alloc, rows, links, table, i, most as usize)?;
+    let mut heap = BinaryHeap::from(hottest.children);
+    for cut in 0..most {
+        if table[i].rest <= bound {
+            return Ok(cut);
+        }
+        let Some(child) = heap.pop() else {
+            return Ok(cut);
+        };
+        cut_child(table, i, child);
+    }
+    Ok(most)
 }
 
 /// Cuts children from row `i`, which is hotter than the bound, the largest rest first, until what is
-/// left there is within the bound or `most` are cut.
+/// left there is within the bound.
 #[inline(never)]
 fn cut_hottest(
     alloc: Global,
@@ -87,47 +145,25 @@ fn cut_hottest(
     table: &mut [Row],
     i: usize,
     bound: u64,
-    most: u32,
-) -> Result<CutOff, AllocError>
+) -> Result<(), AllocError>
     requires forest { IsForest rows.now }
     requires inside { i < length rows.now }
     requires linked { IsLinked rows.now links.now.first.items links.now.next.items 1 }
     requires cool { (v : ℕ) → v < length rows.now → heat_at rows.now v ≤ bound }
     requires walked { IsWalked rows.now table.old bound (i + 1) (i + 1) }
-    ensures walked { IfOk result (λ _. IsWalked rows.now table.new bound (i + 1) i) }
-    ensures done { IfOk result (λ off. off.count < most → rest_at table.new i ≤ bound) }
-    ensures counted { IfOk result (λ off. count_below (length rows.now) (is_cut_at table.new)
-        ≡ count_below (length rows.now) (is_cut_at table.old) + off.count) }
-    ensures some { IfOk result (λ off. off.count ≤ most) }
-    ensures above { IfOk result (λ off. 0 < off.count →
-        (bound < off.above) × (off.above ≡ rest_at table.new i + price_at table.new i)) }
-    ensures none { IfOk result (λ off. off.count ≡ 0 → (table.new ≡ table.old) × (off.above ≡ 2 ^ 64 - 1)) }
-    ensures fits { IfOk result (λ off. off.above < 2 ^ 64) }
-    ensures others { IfOk result (λ _. IsSameBut rows.now table.old table.new i) }
+    ensures walked { OnOk result (IsWalked rows.now table.new bound (i + 1) i) }
+    ensures done { OnOk result (rest_at table.new i ≤ bound) }
 {
-    let mut off = CutOff {
-        count: 0,
-        above: u64::MAX,
-    };
-    let mut heap = BinaryHeap::from(children(alloc, rows, links, table, i)?);
-    for cut in 0..most {
-        if table[i].rest <= bound {
-            return Ok(off);
-        }
-        let Some(child) = heap.pop() else {
-            return Ok(off);
-        };
-        off = CutOff {
-            count: cut + 1,
-            above: table[i].rest,
-        };
-        cut_child(table, i, child);
+    let count = cut_some(alloc, rows, links, table, i, bound, FIRST)?;
+    if count < FIRST {
+        return Ok(());
     }
-    Ok(off)
+    cut_some(alloc, rows, links, table, i, bound, rows.len() as u32 + 1)?;
+    Ok(())
 }
 
-/// Cuts children from row `i`, the largest rest first, until what is left there is within the bound
-/// or `most` are cut. Most rows are within the bound as they are.
+/// Cuts children from row `i`, the largest rest first, until what is left there is within the bound.
+/// Most rows are within the bound as they are.
 #[inline(always)]
 pub fn cut_children(
     alloc: Global,
@@ -136,29 +172,17 @@ pub fn cut_children(
     table: &mut [Row],
     i: usize,
     bound: u64,
-    most: u32,
-) -> Result<CutOff, AllocError>
+) -> Result<(), AllocError>
     requires forest { IsForest rows.now }
     requires inside { i < length rows.now }
     requires linked { IsLinked rows.now links.now.first.items links.now.next.items 1 }
     requires cool { (v : ℕ) → v < length rows.now → heat_at rows.now v ≤ bound }
     requires walked { IsWalked rows.now table.old bound (i + 1) (i + 1) }
-    ensures walked { IfOk result (λ _. IsWalked rows.now table.new bound (i + 1) i) }
-    ensures done { IfOk result (λ off. off.count < most → rest_at table.new i ≤ bound) }
-    ensures counted { IfOk result (λ off. count_below (length rows.now) (is_cut_at table.new)
-        ≡ count_below (length rows.now) (is_cut_at table.old) + off.count) }
-    ensures some { IfOk result (λ off. off.count ≤ most) }
-    ensures above { IfOk result (λ off. 0 < off.count →
-        (bound < off.above) × (off.above ≡ rest_at table.new i + price_at table.new i)) }
-    ensures none { IfOk result (λ off. off.count ≡ 0 → (table.new ≡ table.old) × (off.above ≡ 2 ^ 64 - 1)) }
-    ensures fits { IfOk result (λ off. off.above < 2 ^ 64) }
-    ensures others { IfOk result (λ _. IsSameBut rows.now table.old table.new i) }
+    ensures walked { OnOk result (IsWalked rows.now table.new bound (i + 1) i) }
+    ensures done { OnOk result (rest_at table.new i ≤ bound) }
 {
     if table[i].rest > bound {
-        return cut_hottest(alloc, rows, links, table, i, bound, most);
+        return cut_hottest(alloc, rows, links, table, i, bound);
     }
-    Ok(CutOff {
-        count: 0,
-        above: u64::MAX,
-    })
+    Ok(())
 }

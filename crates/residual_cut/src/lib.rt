@@ -10,12 +10,14 @@
 mod child;
 pub mod cut;
 mod detach;
+mod hottest;
 pub mod links;
 mod numbering;
 pub mod probe;
-pub mod walk;
+pub mod subtrees;
+mod walk;
 
-pub use cut::{Cut, CutError, cut_at, cut_cool, cut_linked};
+pub use cut::{Cut, CutError, cut_at, cut_cool, cut_linked, table_linked};
 pub use links::{Links, link};
 pub use probe::{Probe, try_bound};
-pub use walk::first_table;
+pub use subtrees::{Subtrees, weigh};

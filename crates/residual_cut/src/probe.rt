@@ -1,17 +1,21 @@
 //! A walk that only tells whether the bound has room, and which bound is worth trying next.
+//!
+//! It makes no table: before it each row has the heat of its whole subtree, and what is cut off below a
+//! row is taken from its parent too. Only rows whose subtree is hotter than the lower end of the bounds are
+//! walked over, as nothing is cut in the other subtrees.
 
-ghost use Rattle.std.specs.Prelude.{◌≡◌, ◌<◌, ◌≤◌, ◌-◌, ℕ, true, false, max, length, IfOk};
-ghost use Rattle.mds_types.specs.CutTable.{is_cut_at, rest_at};
+ghost use Rattle.std.specs.Prelude.{◌≡◌, ◌<◌, ◌≤◌, ◌+◌, ◌-◌, ◌^◌, ◌≢◌, ℕ, min, max, length, slice_index, IfOk, OnOk};
 ghost use Rattle.mds_types.specs.Division.{HasFew, NeedsMore};
-ghost use Rattle.mds_types.specs.Problem.{IsForest, heat_at};
-ghost use Rattle.residual_cut.specs.Labels.{starts};
-ghost use Rattle.residual_cut.specs.Links.{IsLinked};
+ghost use Rattle.mds_types.specs.Problem.{IsForest, heat_at, parent_at};
 ghost use Rattle.residual_cut.specs.Probe.{IfFits, IfTooMany};
+ghost use Rattle.residual_cut.specs.Probing.{IsProbed, IsSeenWith};
+ghost use Rattle.residual_cut.specs.Subtrees.{AreLightWhole, AreSubtrees};
 
-use crate::links::Links;
-use crate::walk::{cut_table, restart};
-use mds_types::{ProblemRow, Row};
+use crate::hottest::hottest_children;
+use crate::subtrees::{Subtrees, hot_row, restore};
+use mds_types::ProblemRow;
 use std::alloc::{AllocError, Global};
+use std::collections::BinaryHeap;
 
 /// What a probe has found.
 #[derive(Clone, Copy, Debug, PartialEq, Eq)]
@@ -23,56 +27,189 @@ pub enum Probe {
     TooMany(u64),
 }
 
-/// The hotter of what was found and row `i`, if a part begins there.
-fn hotter(hottest: u64, table: &[Row], i: usize) -> u64
-    requires { i < length table.now }
-    ensures top { starts (is_cut_at table.now) i ≡ true → result ≡ max hottest (rest_at table.now i) }
-    ensures below { starts (is_cut_at table.now) i ≡ false → result ≡ hottest }
+/// What a probe has seen so far.
+#[derive(Clone, Copy)]
+pub struct Seen {
+    /// How many rows were cut.
+    pub cuts: u32,
+    /// The least sum above the bound from which a row was cut. Where none was, the greatest number
+    /// there is.
+    pub above: u64,
+    /// The greatest rest that was cut off.
+    pub hottest: u64,
+}
+
+/// What was seen with one more cut: of a piece from a larger sum.
+fn with_cut(seen: Seen, sum: u64, piece: u64) -> Seen
+    requires { seen.cuts < 2 ^ 32 - 1 }
+    ensures { IsSeenWith seen sum piece result }
 {
-    if i == 0 || table[i].cut {
-        table[i].rest.max(hottest)
-    } else {
-        hottest
+    Seen {
+        cuts: seen.cuts + 1,
+        above: seen.above.min(sum),
+        hottest: seen.hottest.max(piece),
     }
 }
 
-/// The heat of the hottest part of a division, by its table.
-fn hottest_part(table: &[Row]) -> u64
-    ensures hottest { (j : ℕ) → j < length table.now → starts (is_cut_at table.now) j ≡ true → rest_at table.now j ≤ result }
-    ensures reached { (bound : ℕ) → ((j : ℕ) → j < length table.now → rest_at table.now j ≤ bound) → result ≤ bound }
+/// Cuts the hottest children from row `i`, which is hotter than the bound, until the rest is within it, or
+/// `most` rows are cut.
+#[inline(never)]
+fn cut_hot_row(
+    alloc: Global,
+    rows: &[ProblemRow],
+    trees: &Subtrees,
+    rest: &mut [u64],
+    i: usize,
+    bound: u64,
+    most: u32,
+    seen: &mut Seen,
+) -> Result<(), AllocError>
+    requires forest { IsForest rows.now }
+    requires inside { i < length rows.now }
+    requires trees { AreSubtrees rows.now trees.now }
+    requires room { length rest.old ≡ length rows.now }
+    requires cool { (v : ℕ) → v < length rows.now → heat_at rows.now v ≤ bound }
+    requires few { seen.old.cuts < most }
+    requires probed { IsProbed rows.now (slice_index trees.now.heat.items) (slice_index rest.old) bound (i + 1) (i + 1) seen.old }
+    ensures room { length rest.new ≡ length rows.now }
+    ensures probed { OnOk result (IsProbed rows.now (slice_index trees.now.heat.items) (slice_index rest.new) bound (i + 1) i seen.new) }
+    ensures done { OnOk result (seen.new.cuts < most → slice_index rest.new i ≤ bound) }
 {
-    let mut hottest = 0;
-    for i in 0..table.len() {
-        hottest = hotter(hottest, table, i);
+    let left = (most - seen.cuts) as usize;
+    let hottest = hottest_children(alloc, rows, &trees.links, rest, i, left)?;
+    let mut heap = BinaryHeap::from(hottest.children);
+    for _ in 0..left {
+        if rest[i] <= bound {
+            return Ok(());
+        }
+        let Some(child) = heap.pop() else {
+            return Ok(());
+        };
+        *seen = with_cut(*seen, rest[i], child.rest);
+        rest[i] -= child.rest;
     }
-    hottest
+    Ok(())
+}
+
+/// Cuts the hottest children from row `i` until the rest is within the bound, or `most` rows are cut. Most
+/// rows are within the bound as they are.
+#[inline(always)]
+fn cut_row(
+    alloc: Global,
+    rows: &[ProblemRow],
+    trees: &Subtrees,
+    rest: &mut [u64],
+    i: usize,
+    bound: u64,
+    most: u32,
+    seen: &mut Seen,
+) -> Result<(), AllocError>
+    requires forest { IsForest rows.now }
+    requires inside { i < length rows.now }
+    requires trees { AreSubtrees rows.now trees.now }
+    requires room { length rest.old ≡ length rows.now }
+    requires cool { (v : ℕ) → v < length rows.now → heat_at rows.now v ≤ bound }
+    requires few { seen.old.cuts < most }
+    requires probed { IsProbed rows.now (slice_index trees.now.heat.items) (slice_index rest.old) bound (i + 1) (i + 1) seen.old }
+    ensures room { length rest.new ≡ length rows.now }
+    ensures probed { OnOk result (IsProbed rows.now (slice_index trees.now.heat.items) (slice_index rest.new) bound (i + 1) i seen.new) }
+    ensures done { OnOk result (seen.new.cuts < most → slice_index rest.new i ≤ bound) }
+{
+    if rest[i] > bound {
+        return cut_hot_row(alloc, rows, trees, rest, i, bound, most, seen);
+    }
+    Ok(())
+}
+
+/// What was cut off below row `i` is taken from its parent too.
+#[inline(always)]
+fn take_from_parent(rows: &[ProblemRow], trees: &Subtrees, rest: &mut [u64], i: usize)
+    requires forest { IsForest rows.now }
+    requires inside { i < length rows.now }
+    requires deep { 0 < i }
+    requires trees { AreSubtrees rows.now trees.now }
+    requires room { length rest.old ≡ length rows.now }
+    requires less { slice_index rest.old i ≤ slice_index trees.now.heat.items i }
+    requires enough { slice_index trees.now.heat.items i - slice_index rest.old i ≤ slice_index rest.old (parent_at rows.now i) }
+    ensures room { length rest.new ≡ length rows.now }
+    ensures here { slice_index rest.new (parent_at rows.now i) ≡ slice_index rest.old (parent_at rows.now i)
+        - (slice_index trees.now.heat.items i - slice_index rest.old i) }
+    ensures other { (v : ℕ) → v ≢ parent_at rows.now i → slice_index rest.new v ≡ slice_index rest.old v }
+{
+    rest[rows[i].parent as usize] -= trees.heat[i] - rest[i];
+}
+
+/// Cuts rows from the last one up until each piece is within the bound, or `most` are cut.
+fn probe_rows(
+    alloc: Global,
+    rows: &[ProblemRow],
+    trees: &Subtrees,
+    rest: &mut [u64],
+    bound: u64,
+    most: u32,
+) -> Result<Seen, AllocError>
+    requires forest { IsForest rows.now }
+    requires some { 0 < length rows.now }
+    requires trees { AreSubtrees rows.now trees.now }
+    requires cool { (v : ℕ) → v < length rows.now → heat_at rows.now v ≤ bound }
+    requires most { 0 < most }
+    requires low { trees.now.low ≤ bound }
+    requires room { length rest.old ≡ length rows.now }
+    requires whole { (v : ℕ) → v < length rows.now → slice_index rest.old v ≡ slice_index trees.now.heat.items v }
+    ensures few { IfOk result (λ seen. seen.cuts < most → HasFew rows.now most (max seen.hottest (slice_index rest.new 0))) }
+    ensures within { IfOk result (λ seen. seen.cuts < most → max seen.hottest (slice_index rest.new 0) ≤ bound) }
+    ensures room { length rest.new ≡ length rows.now }
+    ensures light { IfOk result (λ _. AreLightWhole (length rows.now) trees.now.low (slice_index trees.now.heat.items) (slice_index rest.new)) }
+    ensures above { IfOk result (λ seen. most ≤ seen.cuts → bound < seen.above) }
+    ensures more { IfOk result (λ seen. most ≤ seen.cuts → NeedsMore rows.now most (seen.above - 1)) }
+{
+    let mut seen = Seen {
+        cuts: 0,
+        above: u64::MAX,
+        hottest: 0,
+    };
+    for k in 0..trees.hot.len() {
+        let i = hot_row(rows, trees, k);
+        cut_row(alloc, rows, trees, rest, i, bound, most, &mut seen)?;
+        if seen.cuts >= most {
+            return Ok(seen);
+        }
+        take_from_parent(rows, trees, rest, i);
+    }
+    cut_row(alloc, rows, trees, rest, 0, bound, most, &mut seen)?;
+    Ok(seen)
 }
 
 /// Whether the rows, none of which is hotter than the bound, can be divided into at most `ranks`
 /// parts within the bound. It ends as soon as too many rows are cut, and counts as a pass.
 ///
-/// The room of `table` is used for the walk; what it holds does not matter.
+/// The room of `rest` is used for the walk. Before it and after it each row whose subtree is within the
+/// lower end has the heat of its whole subtree there.
 pub fn try_bound(
     alloc: Global,
     rows: &[ProblemRow],
-    links: &Links,
-    table: &mut [Row],
+    trees: &Subtrees,
+    rest: &mut [u64],
     bound: u64,
     ranks: u32,
 ) -> Result<Probe, AllocError>
     requires forest { IsForest rows.now }
     requires some { 0 < length rows.now }
-    requires linked { IsLinked rows.now links.now.first.items links.now.next.items 1 }
+    requires trees { AreSubtrees rows.now trees.now }
     requires cool { (v : ℕ) → v < length rows.now → heat_at rows.now v ≤ bound }
     requires ranks { 0 < ranks }
-    requires room { length table.old ≡ length rows.now }
+    requires low { trees.now.low ≤ bound }
+    requires room { length rest.old ≡ length rows.now }
+    requires light { AreLightWhole (length rows.now) trees.now.low (slice_index trees.now.heat.items) (slice_index rest.old) }
+    ensures room { length rest.new ≡ length rows.now }
+    ensures light { IfOk result (λ _. AreLightWhole (length rows.now) trees.now.low (slice_index trees.now.heat.items) (slice_index rest.new)) }
     ensures fits { IfOk result (IfFits (λ heat. HasFew rows.now ranks heat × (heat ≤ bound))) }
     ensures too_many { IfOk result (IfTooMany (λ above. (bound < above) × NeedsMore rows.now ranks (above - 1))) }
 {
-    restart(rows, table);
-    let end = cut_table(alloc, rows, links, table, bound, ranks)?;
-    if end.cuts >= ranks {
-        return Ok(Probe::TooMany(end.above));
+    restore(rows, trees, rest);
+    let seen = probe_rows(alloc, rows, trees, rest, bound, ranks)?;
+    if seen.cuts >= ranks {
+        return Ok(Probe::TooMany(seen.above));
     }
-    Ok(Probe::Fits(hottest_part(table)))
+    Ok(Probe::Fits(seen.hottest.max(rest[0])))
 }

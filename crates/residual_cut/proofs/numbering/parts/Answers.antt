@@ -2,7 +2,7 @@ use Rattle.std.proofs.Common.{◌≡◌, ◌∙◌, ap, arith, rules, length, su
 use Rattle.mds_types.specs.Problem.{parent_at}
 use Rattle.mds_types.specs.CutTable.{is_cut_at}
 use Rattle.residual_cut.specs.Labels.{IsLabelled}
-use Rattle.residual_cut.proofs.LabelLemmas.{labelled_step, labelled_none}
+use Rattle.residual_cut.proofs.LabelLemmas.{labelled_step}
 use Rattle.residual_cut.proofs.numbering.parts.Goals as goal
 
 pub loop-i-preserved : goal.loop-i-preserved

@@ -1,0 +1,12 @@
+use Rattle.std.proofs.Common.{◌≡◌, ◌<◌, length, slice_index}
+use Rattle.residual_cut.specs.Probing.{IsProbed}
+use Rattle.residual_cut.specs.Subtrees.{limit_of}
+use Rattle.residual_cut.proofs.probe.probe_rows.Given as goal
+
+abbrev pub invariant-loop-k : goal.invariant-loop-k
+invariant-loop-k l = record {
+  room : length l.rest ≡ length l.rows;
+  few : l.seen.cuts < l.most;
+  probed : IsProbed l.rows (slice_index l.trees.heat.items) (slice_index l.rest) l.bound
+      (limit_of (length l.rows) l.trees.hot.items l.k) (limit_of (length l.rows) l.trees.hot.items l.k) l.seen;
+}

@@ -1,0 +1,101 @@
+//! The heat of each row's subtree, and the children of each row.
+
+ghost use Rattle.std.specs.Prelude.{◌≡◌, ◌<◌, ◌≤◌, ◌^◌, ℕ, length, slice_index, IfOk};
+ghost use Rattle.mds_types.specs.Problem.{IsForest, heat_at};
+ghost use Rattle.residual_cut.specs.Subtrees.{AreHot, AreLightWhole, AreSubtrees, AreSums};
+
+use crate::links::{Links, link};
+use mds_types::ProblemRow;
+use std::alloc::{AllocError, Global};
+
+/// What is the same for each probe of one problem.
+#[derive(Drop)]
+pub struct Subtrees {
+    /// The children of each row.
+    pub links: Links,
+    /// The heat of each row's subtree, in accesses.
+    pub heat: Vec<u64>,
+    /// No bound below this one is to be tried.
+    pub low: u64,
+    /// The rows below row 0 whose subtree is hotter than that, the last one first.
+    pub hot: Vec<u32>,
+}
+
+/// Each row, from the last one up, gives its heat to its parent.
+fn gather(rows: &[ProblemRow], heat: &mut [u64])
+    requires forest { IsForest rows.now }
+    requires size { length heat.old ≡ length rows.now }
+    requires own { (v : ℕ) → v < length rows.now → slice_index heat.old v ≡ heat_at rows.now v }
+    ensures size { length heat.new ≡ length rows.now }
+    ensures sums { AreSums rows.now (slice_index heat.new) }
+{
+    for i in (1..rows.len()).rev() {
+        let below = heat[i];
+        heat[rows[i].parent as usize] += below;
+    }
+}
+
+/// The rows below row 0 whose subtree is hotter than `low`, the last one first.
+fn hot_rows(alloc: Global, heat: &[u64], low: u64) -> Result<Vec<u32>, AllocError>
+    requires { length heat.now ≤ 2 ^ 16 }
+    ensures { IfOk result (λ hot. AreHot (length heat.now) (slice_index heat.now) low 1 hot.items) }
+{
+    let mut hot = Vec::new(alloc);
+    for i in (1..heat.len()).rev() {
+        if heat[i] <= low {
+            continue;
+        }
+        hot.push(i as u32)?;
+    }
+    Ok(hot)
+}
+
+/// What probes need for bounds from `low` on.
+pub fn weigh(alloc: Global, rows: &[ProblemRow], low: u64) -> Result<Subtrees, AllocError>
+    requires { IsForest rows.now }
+    ensures trees { IfOk result (AreSubtrees rows.now) }
+    ensures low { IfOk result (λ trees. trees.low ≡ low) }
+{
+    let links = link(alloc, rows)?;
+    let mut heat: Vec<u64> = rows.iter().map(|row| row.heat).collect(alloc)?;
+    gather(rows, &mut heat);
+    let hot = hot_rows(alloc, &heat, low)?;
+    Ok(Subtrees {
+        links,
+        heat,
+        low,
+        hot,
+    })
+}
+
+/// The k-th of the rows with a hot subtree.
+#[inline(always)]
+pub fn hot_row(rows: &[ProblemRow], trees: &Subtrees, k: usize) -> usize
+    requires trees { AreSubtrees rows.now trees.now }
+    requires listed { k < length trees.now.hot.items }
+    ensures row { result ≡ slice_index trees.now.hot.items k }
+    ensures inside { result < length rows.now }
+    ensures deep { 0 < result }
+{
+    trees.hot[k] as usize
+}
+
+/// Each row has the heat of its whole subtree again, where only rows with hot ones may have another.
+pub fn restore(rows: &[ProblemRow], trees: &Subtrees, rest: &mut [u64])
+    requires some { 0 < length rows.now }
+    requires trees { AreSubtrees rows.now trees.now }
+    requires room { length rest.old ≡ length rows.now }
+    requires light { AreLightWhole (length rows.now) trees.now.low (slice_index trees.now.heat.items) (slice_index rest.old) }
+    ensures room { length rest.new ≡ length rows.now }
+    ensures whole { (v : ℕ) → v < length rows.now → slice_index rest.new v ≡ slice_index trees.now.heat.items v }
+{
+    if trees.hot.len() > rows.len() / 8 {
+        rest.copy_from_slice(&trees.heat);
+        return;
+    }
+    for k in 0..trees.hot.len() {
+        let i = hot_row(rows, trees, k);
+        rest[i] = trees.heat[i];
+    }
+    rest[0] = trees.heat[0];
+}
