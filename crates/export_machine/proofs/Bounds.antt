@@ -259,6 +259,7 @@ module _ (old new : Records) (e : Event) (reply : Reply) (kept : IsKept old) (ac
     opened_places = indexed.opened_places;
     running_places = indexed.running_places;
     children_places = indexed.children_places;
+    unmarked = indexed.unmarked;
   }
 
   pub answered_step : IsAnswer (world_of old) e (Ok reply) (world_of (record new { events = new.events + 1 }))

@@ -1,6 +1,7 @@
 -- How the tables by directory follow a directory that is made or removed, and an export that starts.
 use Rattle.std.proofs.Common.{◌≡◌, ◌≢◌, ℕ, zero, suc, ◌+◌, ◌-◌, ◌<◌, ◌≤◌, Bool, true, false, ◌&&◌, ◌||◌, not, eqb, cond, List, [], ◌∷◌, ◌++◌, length, get_or, set, Option, Some, None, refl, sym, ap, ◌∙◌, subst, inl, inr, ◌⊎◌, arith}
 use Rattle.std.specs.List.{list_all}
+use Rattle.std.specs.Prelude.{replicate}
 use Rattle.std.proofs.Math.Logic.{∥∥₁_elim}
 use Rattle.std.proofs.lemmas.Bool.{cases_lt}
 use Rattle.std.proofs.lemmas.List.{get_or-set_same, get_or-set_other, get_or_past, length-set}
@@ -22,6 +23,10 @@ use Rattle.export_machine.proofs.Tidy.{Tidy, run_tidy, start_tidy}
 use Rattle.export_machine.proofs.Owners.{made_authority, made_others_authority, gone_authority, gone_others_authority}
 use Rattle.export_machine.proofs.Found.{options_by}
 use Rattle.export_machine.proofs.Indexing.{entry_open, default}
+
+pub replicate_push : {A : Type 0} (n : ℕ) (a : A) → replicate n a ++ a ∷ [] ≡ replicate (suc n) a
+replicate_push zero a = refl
+replicate_push (suc n) a = ap (λ xs. a ∷ xs) (replicate_push n a)
 
 -- children
 
@@ -99,7 +104,7 @@ module _ (w : World) (a p : ℕ) (near : a < length w.journals) where
       (counts_none (eqb p d && not (eqb (length w.parents) d)) (unlike (eqb p d) (eqb (length w.parents) d) (unequal p d (λ k. n (sym k)))))
 
   pub made_indexed : IsReached w → (i : Indexes) → IsIndexed w i → p < length w.parents → (r : ℕ) → r ≡ get_or (i.children ++ 0 ∷ []) p r →
-      IsIndexed grown (record { owners = i.owners ++ Some a ∷ []; opened = i.opened ++ None ∷ []; running = i.running ++ 0 ∷ []; children = set (i.children ++ 0 ∷ []) p (r + 1) })
+      IsIndexed grown (record { owners = i.owners ++ Some a ∷ []; opened = i.opened ++ None ∷ []; running = i.running ++ 0 ∷ []; children = set (i.children ++ 0 ∷ []) p (r + 1); marks = i.marks ++ false ∷ [] })
   made_indexed reached i is l r h = record {
     owners = λ d. options_by w reached (get_or (i.owners ++ Some a ∷ []) d None) (authority grown d) (λ safe. owner safe d);
     opened = λ d. opened d ∙ sym (grown_open d);
@@ -109,8 +114,12 @@ module _ (w : World) (a p : ℕ) (near : a < length w.journals) where
     opened_places = longer i.opened w.parents None (Some p) is.opened_places;
     running_places = longer i.running w.parents 0 (Some p) is.running_places;
     children_places = length-set (i.children ++ 0 ∷ []) p (r + 1) ∙ longer i.children w.parents 0 (Some p) is.children_places;
+    unmarked = ap (λ ms. ms ++ false ∷ []) is.unmarked ∙ (replicate_push (length w.parents) false ∙ ap (λ n. replicate n false) (sym (length_push w.parents (Some p) ∙ succ (length w.parents))));
   }
     where
+      succ : (n : ℕ) → n + 1 ≡ suc n
+      succ n = omega arith
+
       longer : {A B : Type 0} (xs : List A) (ys : List B) (c : A) (e : B) → length xs ≡ length ys → length (xs ++ c ∷ []) ≡ length (ys ++ e ∷ [])
       longer xs ys c e k = length_push xs c ∙ (ap (λ n. n + 1) k ∙ sym (length_push ys e))
 
@@ -205,6 +214,7 @@ module _ (w : World) (a d p : ℕ) (near : a < length w.journals) (there : d < l
     opened_places = is.opened_places ∙ sym (length-set w.parents d None);
     running_places = is.running_places ∙ sym (length-set w.parents d None);
     children_places = length-set i.children p (r - 1) ∙ (is.children_places ∙ sym (length-set w.parents d None));
+    unmarked = is.unmarked ∙ ap (λ n. replicate n false) (sym (length-set w.parents d None));
   }
     where
       ended : (t : ℕ) (q : Request) → request_of w t ≡ Some q → q.dir ≢ d

@@ -1,6 +1,6 @@
 -- How the tables by directory follow each event.
 use Rattle.std.proofs.Common.{◌≡◌, ◌≢◌, ℕ, zero, suc, ◌+◌, ◌-◌, ◌<◌, ◌≤◌, Bool, true, false, ◌&&◌, ◌||◌, not, eqb, cond, List, [], ◌∷◌, ◌++◌, length, get_or, set, Option, Some, None, refl, sym, ap, ◌∙◌, subst, inl, inr, ◌⊎◌, arith}
-use Rattle.std.specs.Prelude.{count_by}
+use Rattle.std.specs.Prelude.{count_by, replicate}
 use Rattle.std.specs.List.{slice_get}
 use Rattle.std.proofs.lemmas.Bool.{cases_lt}
 use Rattle.std.proofs.lemmas.List.{get_or-set_same, get_or-set_other, get_or_past, length-set}
@@ -44,6 +44,7 @@ same_indexed w v i is a o t p = record {
   opened_places = is.opened_places ∙ sym (ap length p);
   running_places = is.running_places ∙ sym (ap length p);
   children_places = is.children_places ∙ sym (ap length p);
+  unmarked = is.unmarked ∙ sym (ap (λ (ps : List (Option ℕ)). replicate (length ps) false) p);
 }
 
 -- which exports are open
@@ -195,6 +196,7 @@ module _ (w : World) (x : ℕ) (near : x < length w.exporters) (ms : List Messag
     opened_places = map_at_length (λ k old. cond (is_inside w x k) None old) i.opened ∙ is.opened_places;
     running_places = is.running_places;
     children_places = is.children_places;
+    unmarked = is.unmarked;
   }
 
 -- Begin and End
@@ -232,6 +234,7 @@ begin_indexed w i q is near r h ts t = record {
   opened_places = is.opened_places;
   running_places = length-set i.running q.dir (r + 1) ∙ is.running_places;
   children_places = is.children_places;
+  unmarked = is.unmarked;
 }
   where
     plain : (n : ℕ) → n + 0 ≡ n
@@ -268,6 +271,7 @@ end_indexed w i t q is e near r h = record {
   opened_places = is.opened_places;
   running_places = length-set i.running q.dir (r - 1) ∙ is.running_places;
   children_places = is.children_places;
+  unmarked = is.unmarked;
 }
   where
     less : (m n k : ℕ) → m + n ≡ k → n ≡ 1 → k - 1 ≡ m

@@ -27,3 +27,4 @@ pub mod Starting
 pub mod Bounds
 pub mod Runs
 pub mod Starts
+pub mod Listing

@@ -161,7 +161,7 @@ pushed xs d e h = elim (or_true (is_among xs e) (eqb d e) (sym (among_push xs d 
 push_old : (xs : List ℕ) (d e : ℕ) → is_among xs e ≡ true → is_among (xs ++ d ∷ []) e ≡ true
 push_old xs d e h = among_push xs d e ∙ or_left (is_among xs e) (eqb d e) h
 
-push_new : (xs : List ℕ) (d : ℕ) → is_among (xs ++ d ∷ []) d ≡ true
+pub push_new : (xs : List ℕ) (d : ℕ) → is_among (xs ++ d ∷ []) d ≡ true
 push_new xs d = among_push xs d d ∙ or_right (is_among xs d) (eqb d d) (itself d)
 
 pub least_free : (w : World) (from : ℕ) (xs : List ℕ) (d : ℕ) (o : Option ℕ) → IsLeast w from xs o → cannot_leave w from d ≡ None → IsLeast w from (xs ++ d ∷ []) o

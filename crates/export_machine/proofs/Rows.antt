@@ -100,6 +100,7 @@ importer_indexed w i is importers ms = record {
   opened_places = is.opened_places;
   running_places = is.running_places;
   children_places = is.children_places;
+  unmarked = is.unmarked;
 }
 
 pub exporter_indexed : (w : World) (i : Indexes) (x : ℕ) (s : ExporterState) → IsIndexed w i → is_aborted (exporter_of w x) ≡ is_aborted s → (ms : List Message) →
@@ -185,6 +186,7 @@ module _ (w : World) (x k : ℕ) (was : exporter_of w x ≡ Exporting) (sent : s
     opened_places = is.opened_places;
     running_places = is.running_places;
     children_places = is.children_places;
+    unmarked = is.unmarked;
   }
 
 -- the importer imports: the export is over
@@ -230,6 +232,7 @@ module _ (w : World) (x k : ℕ) (was : importer_of w x ≡ Started) (sent : sli
     opened_places = map_at_length (λ c old. cond (is_inside w x c) None old) i.opened ∙ is.opened_places;
     running_places = is.running_places;
     children_places = is.children_places;
+    unmarked = is.unmarked;
   }
 
 -- the map names the importer

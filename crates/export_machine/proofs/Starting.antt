@@ -136,4 +136,5 @@ module _ (w : World) (from to : ℕ) (dirs : List ℕ) (h : refusal w (Start fro
     opened_places = map_at_length (λ k old. cond (is_among dirs k) (Some (length w.orders)) old) i.opened ∙ is.opened_places;
     running_places = is.running_places;
     children_places = is.children_places;
+    unmarked = is.unmarked;
   }

@@ -46,7 +46,7 @@ module _ (limit ranks : ℕ) (some : 1 ≤ ranks) where
   opened zero = refl
   opened (suc d) = refl
 
-  pub start_indexed : IsIndexed (start limit ranks) (record { owners = Some 0 ∷ []; opened = None ∷ []; running = 0 ∷ []; children = 0 ∷ [] })
+  pub start_indexed : IsIndexed (start limit ranks) (record { owners = Some 0 ∷ []; opened = None ∷ []; running = 0 ∷ []; children = 0 ∷ []; marks = false ∷ [] })
   unfolding start
   start_indexed = record {
     owners = owners;
@@ -57,6 +57,7 @@ module _ (limit ranks : ℕ) (some : 1 ≤ ranks) where
     opened_places = refl;
     running_places = refl;
     children_places = refl;
+    unmarked = refl;
   }
     where
       running : (d : ℕ) → get_or {A = ℕ} (0 ∷ []) d 0 ≡ running_on (start limit ranks) (d ∷ [])
@@ -66,10 +67,6 @@ module _ (limit ranks : ℕ) (some : 1 ≤ ranks) where
       children : (d : ℕ) → get_or {A = ℕ} (0 ∷ []) d 0 ≡ cond {A = ℕ} (eqb 0 d && not (eqb 0 d)) 1 0 + 0
       children zero = no_child (eqb 0 0)
       children (suc d) = no_child (eqb 0 (suc d))
-
-pub replicate_push : {A : Type 0} (n : ℕ) (a : A) → replicate n a ++ a ∷ [] ≡ replicate (suc n) a
-replicate_push zero a = refl
-replicate_push (suc n) a = ap (λ xs. a ∷ xs) (replicate_push n a)
 
 pub map_push : {A B : Type 0} (f : A → B) (xs : List A) (a : A) → map f (xs ++ a ∷ []) ≡ map f xs ++ f a ∷ []
 map_push f [] a = refl

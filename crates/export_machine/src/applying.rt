@@ -36,7 +36,8 @@ impl Records {
         self.owners.reserve(1)?;
         self.opened.reserve(1)?;
         self.running.reserve(1)?;
-        self.children.reserve(1)
+        self.children.reserve(1)?;
+        self.marks.reserve(1)
     }
 
     /// Takes room for one more export.
@@ -146,7 +147,7 @@ impl Records {
         ensures kept { IsKept self.new }
         ensures ready { refusal (world_of self.old) (event_of event) ≡ None → has_room self.old (event_of event) ≡ true → IsOk result }
     {
-        if let Err(error) = self.check(&event) {
+        if let Err(error) = self.check_by_marks(&event) {
             return Err(error);
         }
         if self.grow(&event).is_err() {

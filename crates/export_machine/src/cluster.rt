@@ -121,7 +121,7 @@ impl Cluster {
         ensures world { self.new.world ≡ self.old.world }
         ensures room { OnOk result (refusal self.new.world (event_of event.now) ≡ None → is_ready self.new (event_of event.now) ≡ true) }
     {
-        if self.records.check(event).is_err() {
+        if self.records.check_by_marks(event).is_err() {
             return Ok(());
         }
         self.records.grow(event)

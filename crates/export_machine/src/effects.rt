@@ -89,6 +89,7 @@ impl Records {
         self.opened.push_reserved(None);
         self.running.push_reserved(0);
         self.children.push_reserved(0);
+        self.marks.push_reserved(false);
         self.children[parent.number() as usize] += 1;
         Reply::Dir(dir)
     }

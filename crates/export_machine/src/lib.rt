@@ -7,6 +7,7 @@
 mod applying;
 mod changes;
 pub mod cluster;
+mod connecting;
 mod deliveries;
 mod effects;
 pub mod event;
