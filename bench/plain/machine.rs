@@ -3,6 +3,7 @@
 //! An event a line, as `machine_bench events LIST` prints them; those before the line `now` aren't timed. Prints how
 //! many of the timed events were accepted and the nanoseconds for all of them, the least of 9 runs, each event with a
 //! copy of it and its answer kept. With `reads` as its argument it times the reads after the list instead.
+use std::hint::black_box;
 use std::io::Read;
 use std::time::Instant;
 
@@ -415,7 +416,7 @@ fn time_read(name: &str, read: impl Fn(u32) -> u64) {
     let (mut least, mut sum) = (u128::MAX, 0);
     for _ in 0..9 {
         let start = Instant::now();
-        sum = (0..1u32 << 20).map(|number| read(number.wrapping_mul(20_507) % 32_768)).sum::<u64>();
+        sum = (0..1u32 << 20).map(|number| read(black_box(number.wrapping_mul(20_507) % 32_768))).sum::<u64>();
         least = least.min(start.elapsed().as_nanos());
     }
     println!("{name} {sum} {least}");
