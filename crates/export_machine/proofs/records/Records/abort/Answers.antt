@@ -1,10 +1,11 @@
 use Rattle.std.proofs.Common.{◌≡◌, ◌<◌, ℕ, true, cond, length, map, Option, None, List, sym, ap, ◌∙◌, subst, refl, arith}
+use Rattle.std.proofs.lemmas.Bool.{and_parts, ltb-true}
 use Rattle.export_machine.specs.Authority.{is_among, is_inside, order_in}
 use Rattle.export_machine.specs.Step.{happens, map_at}
 use Rattle.export_machine.specs.Step.Event.{Abort}
 use Rattle.export_machine.specs.Kept.{world_of, indexes_of, has_room, order_of, Indexes, IsIndexed}
 use Rattle.export_machine.proofs.Indexing.{abort_there, abort_indexed, aborted}
-use Rattle.export_machine.proofs.Accepted.{both_parts, spare, room_left, as_exporter, as_order, dirs_here, abort_order, abort_state}
+use Rattle.export_machine.proofs.Accepted.{room_left, as_exporter, as_order, dirs_here, abort_order, abort_state}
 use Rattle.export_machine.proofs.records.Records.abort.Goals as goal
 
 pub index_mut-requires : goal.index_mut-requires
@@ -28,7 +29,7 @@ mark-requires c =
 
 pub send-requires-clause-room : goal.send-requires-clause-room
 unfolding has_room
-send-requires-clause-room c = spare _ _ (both_parts _ _ c.requires.room).1
+send-requires-clause-room c = ltb-true _ _ (and_parts _ _ c.requires.room).1
 
 pub send-requires-clause-few : goal.send-requires-clause-few
 send-requires-clause-few c = let left = room_left (world_of c.args.self.now) (Abort c.args.export) c.requires.accepted in omega (arith, c.requires.kept.sent)

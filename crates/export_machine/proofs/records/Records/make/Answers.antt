@@ -1,11 +1,12 @@
 use Rattle.std.proofs.Common.{◌≡◌, ◌≢◌, ◌<◌, ◌≤◌, ◌+◌, ◌++◌, ◌∷◌, [], ℕ, Some, None, length, get_or, refl, sym, ap, ◌∙◌, arith}
+use Rattle.std.proofs.lemmas.Bool.{and_parts, ltb-true}
 use Rattle.std.proofs.lemmas.List.{length-map}
 use Rattle.export_machine.specs.Authority.{authority}
 use Rattle.export_machine.specs.Step.{happens, is_child}
 use Rattle.export_machine.specs.Step.Event.{Made}
 use Rattle.export_machine.specs.Kept.{world_of, indexes_of, has_room, entered_at, children_of, has_places}
 use Rattle.export_machine.proofs.Growing.{made_indexed, children_is, count_within}
-use Rattle.export_machine.proofs.Accepted.{spare, both_parts, as_rank, made_parent, made_few, made_has}
+use Rattle.export_machine.proofs.Accepted.{as_rank, made_parent, made_few, made_has}
 use Rattle.export_machine.proofs.records.Records.make.Goals as goal
 
 pub returns-in_default-clause-effect : goal.returns-in_default-clause-effect
@@ -25,35 +26,35 @@ pub enter-requires-clause-room : goal.enter-requires-clause-room
 unfolding has_room entered_at
 enter-requires-clause-room c =
     let a : authority (world_of c.args.self.now) c.args.parent ≡ Some c.in-Some.rank = sym c.authority.ensures ∙ c.in-Some.is in
-    ap (has_places c.args.self.now.journals.items) (sym a) ∙ (both_parts _ _ c.requires.room).0
+    ap (has_places c.args.self.now.journals.items) (sym a) ∙ (and_parts _ _ c.requires.room).0
 
 pub push_reserved-requires : goal.push_reserved-requires
 unfolding has_room entered_at
-push_reserved-requires c = spare _ _ (both_parts _ _ (both_parts _ _ (both_parts _ _ (both_parts _ _ (both_parts _ _ (both_parts _ _ (both_parts _ _ c.requires.room).1).0).0).0).0).0).0
+push_reserved-requires c = ltb-true _ _ (and_parts _ _ (and_parts _ _ (and_parts _ _ (and_parts _ _ (and_parts _ _ (and_parts _ _ (and_parts _ _ c.requires.room).1).0).0).0).0).0).0
 
 pub push_reserved-requires-2 : goal.push_reserved-requires-2
 unfolding has_room entered_at
-push_reserved-requires-2 c = spare _ _ (both_parts _ _ (both_parts _ _ (both_parts _ _ (both_parts _ _ (both_parts _ _ (both_parts _ _ (both_parts _ _ c.requires.room).1).0).0).0).0).0).1
+push_reserved-requires-2 c = ltb-true _ _ (and_parts _ _ (and_parts _ _ (and_parts _ _ (and_parts _ _ (and_parts _ _ (and_parts _ _ (and_parts _ _ c.requires.room).1).0).0).0).0).0).1
 
 pub push_reserved-requires-3 : goal.push_reserved-requires-3
 unfolding has_room entered_at
-push_reserved-requires-3 c = spare _ _ (both_parts _ _ (both_parts _ _ (both_parts _ _ (both_parts _ _ (both_parts _ _ (both_parts _ _ c.requires.room).1).0).0).0).0).1
+push_reserved-requires-3 c = ltb-true _ _ (and_parts _ _ (and_parts _ _ (and_parts _ _ (and_parts _ _ (and_parts _ _ (and_parts _ _ c.requires.room).1).0).0).0).0).1
 
 pub push_reserved-requires-4 : goal.push_reserved-requires-4
 unfolding has_room entered_at
-push_reserved-requires-4 c = spare _ _ (both_parts _ _ (both_parts _ _ (both_parts _ _ (both_parts _ _ (both_parts _ _ c.requires.room).1).0).0).0).1
+push_reserved-requires-4 c = ltb-true _ _ (and_parts _ _ (and_parts _ _ (and_parts _ _ (and_parts _ _ (and_parts _ _ c.requires.room).1).0).0).0).1
 
 pub push_reserved-requires-5 : goal.push_reserved-requires-5
 unfolding has_room entered_at
-push_reserved-requires-5 c = spare _ _ (both_parts _ _ (both_parts _ _ (both_parts _ _ (both_parts _ _ c.requires.room).1).0).0).1
+push_reserved-requires-5 c = ltb-true _ _ (and_parts _ _ (and_parts _ _ (and_parts _ _ (and_parts _ _ c.requires.room).1).0).0).1
 
 pub push_reserved-requires-6 : goal.push_reserved-requires-6
 unfolding has_room entered_at
-push_reserved-requires-6 c = spare _ _ (both_parts _ _ (both_parts _ _ (both_parts _ _ c.requires.room).1).0).1
+push_reserved-requires-6 c = ltb-true _ _ (and_parts _ _ (and_parts _ _ (and_parts _ _ c.requires.room).1).0).1
 
 pub push_reserved-requires-7 : goal.push_reserved-requires-7
 unfolding has_room entered_at
-push_reserved-requires-7 c = spare _ _ (both_parts _ _ (both_parts _ _ c.requires.room).1).1
+push_reserved-requires-7 c = ltb-true _ _ (and_parts _ _ (and_parts _ _ c.requires.room).1).1
 
 pub overflow_add-index_mut : goal.overflow_add-index_mut
 overflow_add-index_mut c =
