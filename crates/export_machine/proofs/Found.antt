@@ -29,14 +29,24 @@ same_bool true false = inr (λ e. cc)
 same_bool false true = inr (λ e. cc)
 same_bool false false = inl refl
 
+-- the invariant, as far as what can be tested goes
+abbrev pub Safely : World → Type 0
+Safely w = (Safe w → ⊥) → ⊥
+
+pub options_safely : (w : World) → Safely w → (a b : Option ℕ) → (Safe w → a ≡ b) → a ≡ b
+options_safely w s a b f = elim (same_option a b) [ inl e ↦ e | inr n ↦ absurd (s (λ safe. n (f safe))) ]
+
 pub options_by : (w : World) → IsReached w → (a b : Option ℕ) → (Safe w → a ≡ b) → a ≡ b
-options_by w r a b f = elim (same_option a b) [ inl e ↦ e | inr n ↦ absurd (by_safe w r (λ safe. n (f safe))) ]
+options_by w r a b f = options_safely w (by_safe w r) a b f
 
 pub tests_by : (w : World) → IsReached w → (a b : Bool) → (Safe w → a ≡ b) → a ≡ b
 tests_by w r a b f = elim (same_bool a b) [ inl e ↦ e | inr n ↦ absurd (by_safe w r (λ safe. n (f safe))) ]
 
+pub orders_safely : (w : World) → Safely w → (a b : ℕ) → (Safe w → a < b) → a < b
+orders_safely w s a b f = elim (cases_lt a b) [ inl l ↦ l | inr m ↦ absurd (s (λ safe. (let l : a < b = f safe in omega arith))) ]
+
 pub orders_by : (w : World) → IsReached w → (a b : ℕ) → (Safe w → a < b) → a < b
-orders_by w r a b f = elim (cases_lt a b) [ inl l ↦ l | inr m ↦ absurd (by_safe w r (λ safe. (let l : a < b = f safe in omega arith))) ]
+orders_by w r a b f = orders_safely w (by_safe w r) a b f
 
 -- searches below a number
 

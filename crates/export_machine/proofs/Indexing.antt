@@ -30,7 +30,7 @@ use Rattle.export_machine.proofs.Events.{NoneOf, not_refused, there_near, freezi
 use Rattle.export_machine.proofs.Theorem.{not_refused_causes}
 use Rattle.export_machine.proofs.Reached.{by_safe}
 use Rattle.export_machine.proofs.Lists.{running_begun, running_ended, runs_here}
-use Rattle.export_machine.proofs.Found.{options_by, orders_by, first_is_none, first_is, first_same, open_is}
+use Rattle.export_machine.proofs.Found.{options_by, orders_by, first_is_none, first_is, first_same, open_is, Safely, options_safely, orders_safely}
 
 -- authorities and open exports stay, requests and parents too
 pub same_indexed : (w v : World) (i : Indexes) → IsIndexed w i → ((d : ℕ) → authority v d ≡ authority w d) → ((d : ℕ) → open_export v d ≡ open_export w d) →
@@ -167,8 +167,8 @@ before_over Logged j h = absurd (cc)
 before_over Done j h = absurd (cc)
 before_over Aborted j h = absurd (cc)
 
-pub abort_there : (w : World) → IsReached w → (x : ℕ) → is_before_log (exporter_of w x) ≡ true → (d : ℕ) → is_inside w x d ≡ true → d < length w.parents
-abort_there w r x b d i = orders_by w r d (length w.parents) (λ safe. inside_there w safe x (before_over (exporter_of w x) (importer_of w x) b) d i)
+pub abort_there : (w : World) → Safely w → (x : ℕ) → is_before_log (exporter_of w x) ≡ true → (d : ℕ) → is_inside w x d ≡ true → d < length w.parents
+abort_there w r x b d i = orders_safely w r d (length w.parents) (λ safe. inside_there w safe x (before_over (exporter_of w x) (importer_of w x) b) d i)
 
 module _ (w : World) (x : ℕ) (near : x < length w.exporters) (ms : List Message) where
   abbrev pub aborted : World
@@ -180,12 +180,12 @@ module _ (w : World) (x : ℕ) (near : x < length w.exporters) (ms : List Messag
   aborted_others : (y : ℕ) → y ≢ x → is_open aborted y ≡ is_open w y
   aborted_others y n = rw (get_or-set_other w.exporters x y Aborted Aborted n) refl
 
-  pub abort_indexed : IsReached w → (i : Indexes) → IsIndexed w i → is_before_log (exporter_of w x) ≡ true →
+  pub abort_indexed : Safely w → (i : Indexes) → IsIndexed w i → is_before_log (exporter_of w x) ≡ true →
       IsIndexed aborted (record i { opened = map_at (λ k old. cond (is_inside w x k) None old) i.opened })
   unfolding authority
   abort_indexed r i is b = record {
     owners = is.owners;
-    opened = λ d. options_by w r (get_or (map_at (λ k old. cond (is_inside w x k) None old) i.opened) d None) (open_export aborted d)
+    opened = λ d. options_safely w r (get_or (map_at (λ k old. cond (is_inside w x k) None old) i.opened) d None) (open_export aborted d)
         (λ safe. shut_opened w aborted safe x (before_over (exporter_of w x) (importer_of w x) b) refl aborted_over aborted_others i.opened is.opened_places d (is.opened d));
     running = is.running;
     children = is.children;

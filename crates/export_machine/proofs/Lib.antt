@@ -28,3 +28,5 @@ pub mod Bounds
 pub mod Runs
 pub mod Starts
 pub mod Listing
+pub mod Halting
+pub mod Halted

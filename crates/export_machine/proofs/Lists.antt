@@ -25,7 +25,7 @@ among_push (x ∷ xs) d e = ap (λ b. eqb x e || b) (among_push xs d e) ∙ asso
     assoc : (a b c : Bool) → (a || (b || c)) ≡ ((a || b) || c)
     assoc a b c = grind arith
 
-pub take_push : (xs : List ℕ) (i d : ℕ) → i < length xs → take (suc i) xs ≡ take i xs ++ get_or xs i d ∷ []
+pub take_push : {A : Type 0} (xs : List A) (i : ℕ) (d : A) → i < length xs → take (suc i) xs ≡ take i xs ++ get_or xs i d ∷ []
 take_push [] i d h = absurd (omega arith)
 take_push (x ∷ xs) zero d h = refl
 take_push (x ∷ xs) (suc i) d h = ap (λ ys. x ∷ ys) (take_push xs i d (omega arith))
@@ -213,7 +213,7 @@ pub least_none : (w : World) (from : ℕ) (dirs : List ℕ) → IsLeast w from d
 least_none w from dirs (free f) = no_fault w from dirs (length w.parents) (λ d l i. f d i)
 
 -- the next member of a list, in the form of a loop
-pub take_next : (xs : List ℕ) (i d : ℕ) → i < length xs → d ≡ get_or xs i d → take (i + 1) xs ≡ take i xs ++ d ∷ []
+pub take_next : {A : Type 0} (xs : List A) (i : ℕ) (d : A) → i < length xs → d ≡ get_or xs i d → take (i + 1) xs ≡ take i xs ++ d ∷ []
 take_next xs i d h e = ap (λ k. take k xs) (succ i) ∙ (take_push xs i d h ∙ ap (λ m. take i xs ++ m ∷ []) (sym e))
   where
     succ : (k : ℕ) → k + 1 ≡ suc k

@@ -11,7 +11,7 @@ pub map_at_same : {A B : Type 0} (f g : ℕ → A → B) → ((k : ℕ) (a : A) 
 map_at_same f g h [] = refl
 map_at_same f g h (x ∷ xs) = rw (h 0 x) (ap (λ ys. g 0 x ∷ ys) (map_at_same (λ k. f (suc k)) (λ k. g (suc k)) (λ k a. h (suc k) a) xs))
 
-unchanged : {A : Type 0} (xs : List A) → map_at (λ k a. a) xs ≡ xs
+pub unchanged : {A : Type 0} (xs : List A) → map_at (λ k a. a) xs ≡ xs
 unchanged [] = refl
 unchanged (x ∷ xs) = ap (λ ys. x ∷ ys) (unchanged xs)
 
@@ -21,7 +21,7 @@ mark_start xs v = sym (unchanged xs)
 cond_same : {A : Type 0} (b c : Bool) (v a : A) → b ≡ c → cond b v a ≡ cond c v a
 cond_same b c v a h = ap (λ d. cond d v a) h
 
-set_mark : {A : Type 0} (p : ℕ → Bool) (v : A) (xs : List A) (d : ℕ) → set (map_at (λ k old. cond (p k) v old) xs) d v ≡ map_at (λ k old. cond (p k || eqb d k) v old) xs
+pub set_mark : {A : Type 0} (p : ℕ → Bool) (v : A) (xs : List A) (d : ℕ) → set (map_at (λ k old. cond (p k) v old) xs) d v ≡ map_at (λ k old. cond (p k || eqb d k) v old) xs
 set_mark p v [] zero = refl
 set_mark p v [] (suc d) = refl
 set_mark p v (x ∷ xs) zero =

@@ -159,11 +159,11 @@ journal_importer Dropped true false false h k l = absurd (cc)
 journal_importer Dropped false false false h k l = refl
 
 module _ (w : World) (safe : Safe w) (rank : ℕ) where
-  exporter_journaled : (x : ℕ) → exporter_by_journal w (from_of w x) x ≡ exporter_at_stop (exporter_of w x)
+  pub exporter_journaled : (x : ℕ) → exporter_by_journal w (from_of w x) x ≡ exporter_at_stop (exporter_of w x)
   exporter_journaled x = journal_exporter (exporter_of w x) (has w (from_of w x) (JournalEntry.Notified x)) (has w (from_of w x) (JournalEntry.Exported x))
       (rw (safe.tables.notified (from_of w x) x, itself (from_of w x)) refl) (rw (safe.tables.exported (from_of w x) x, itself (from_of w x)) refl)
 
-  importer_journaled : (x : ℕ) → importer_by_journal w (to_of w x) x ≡ importer_at_stop (has w (to_of w x) (JournalEntry.Dropped x)) (importer_of w x)
+  pub importer_journaled : (x : ℕ) → importer_by_journal w (to_of w x) x ≡ importer_at_stop (has w (to_of w x) (JournalEntry.Dropped x)) (importer_of w x)
   importer_journaled x = journal_importer (importer_of w x) (has w (to_of w x) (JournalEntry.Started x)) (has w (to_of w x) (JournalEntry.Imported x)) (has w (to_of w x) (JournalEntry.Dropped x))
       (rw (safe.tables.imported (to_of w x) x, itself (to_of w x)) refl) (rw (safe.tables.importing (to_of w x) x, itself (to_of w x)) refl)
       (λ d. (safe.tables.dropped (to_of w x) x d).1)

@@ -24,6 +24,9 @@ event_of (Asked.Deliver message) = Event.Deliver message
 event_of (Asked.Froze export) = Event.Froze export
 event_of (Asked.Notify export) = Event.Notify export
 event_of (Asked.Abort export) = Event.Abort export
+event_of (Asked.Stop rank) = Event.Stop rank
+event_of (Asked.Restart rank) = Event.Restart rank
+event_of (Asked.Ask export) = Event.Ask export
 
 abbrev pub order_of : Moved → Order
 order_of o = record { from = o.from; to = o.to; dirs = o.dirs.items }

@@ -72,6 +72,9 @@ impl Records {
             Event::Froze(export) => self.froze(export),
             Event::Notify(export) => self.notify(export),
             Event::Abort(export) => self.abort(export),
+            Event::Stop(rank) => self.stop(rank),
+            Event::Restart(rank) => self.restart(rank),
+            Event::Ask(export) => self.ask(export),
         }
     }
 
@@ -121,8 +124,11 @@ impl Records {
             Event::Froze(_) => self.sent.reserve(1),
             Event::Notify(_) => self.sent.reserve(1),
             Event::Abort(_) => self.sent.reserve(1),
+            Event::Ask(_) => self.sent.reserve(1),
             Event::Gone(_) => Ok(()),
             Event::End(_) => Ok(()),
+            Event::Stop(_) => Ok(()),
+            Event::Restart(_) => Ok(()),
         }
     }
 

@@ -1,11 +1,12 @@
 //! Whether a list of directories hangs together, in three walks over it: mark, count and clear.
 
-ghost use Rattle.std.specs.Prelude.{◌≡◌, ℕ, true, false, None, IsTrue, not, length, count_by, slice_index_or, slice_set};
+ghost use Rattle.std.specs.Prelude.{◌≡◌, ℕ, true, false, None, IsTrue, not, length, count_by, slice_index_or};
 ghost use Rattle.std.specs.List.{list_all};
 ghost use Rattle.export_machine.specs.Authority.{is_among, is_present};
 ghost use Rattle.export_machine.specs.Step.{repeats, is_connected};
 ghost use Rattle.export_machine.specs.Kept.{world_of, is_listed, parent_marked, IsKept};
 
+use crate::changes::put;
 use crate::records::Records;
 use mds_types::Dir;
 
@@ -37,15 +38,6 @@ fn mark_once(marks: &mut Vec<bool>, parents: &[Option<Dir>], dirs: &[Dir]) -> bo
     true
 }
 
-fn clear(marks: &mut Vec<bool>, dir: Dir)
-    ensures { marks.new.items ≡ slice_set marks.old.items dir false }
-{
-    let index = dir.number() as usize;
-    if index < marks.len() {
-        marks[index] = false;
-    }
-}
-
 /// Takes the marks of the directories away.
 fn unmark(marks: &mut Vec<bool>, dirs: &[Dir])
     requires within { (d : ℕ) → slice_index_or marks.old.items d false ≡ true → is_among dirs.now d ≡ true }
@@ -53,7 +45,7 @@ fn unmark(marks: &mut Vec<bool>, dirs: &[Dir])
     ensures unmarked { (d : ℕ) → slice_index_or marks.new.items d false ≡ false }
 {
     for dir in dirs {
-        clear(marks, *dir);
+        put(marks, dir.number() as usize, false);
     }
 }
 

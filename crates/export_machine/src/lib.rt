@@ -19,6 +19,7 @@ pub mod message;
 mod records;
 mod refusals;
 pub mod step_error;
+mod stopping;
 
 pub use cluster::Cluster;
 pub use event::{Event, Reply, Request};

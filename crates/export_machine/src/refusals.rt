@@ -37,6 +37,7 @@ ghost use Rattle.export_machine.specs.declared.step_error.StepError.TheVariants.
 
 use crate::event::Event;
 use crate::exporter::ExporterState;
+use crate::importer::ImporterState;
 use crate::records::Records;
 use crate::step_error::StepError;
 use mds_types::{Dir, Rank};
@@ -339,6 +340,36 @@ impl Records {
     }
 
     #[tactic(auto, unfolding(crate::specs::Step::refusal, crate::specs::Step::causes))]
+    fn check_stop(&self, rank: Rank) -> Result<(), StepError>
+        ensures { cause_of result ≡ refusal (world_of self.now) (StepEvent.Stop rank) }
+    {
+        self.check_history()?;
+        self.check_rank(rank)?;
+        self.check_runs(rank)
+    }
+
+    #[tactic(auto, unfolding(crate::specs::Step::refusal, crate::specs::Step::causes))]
+    fn check_restart(&self, rank: Rank) -> Result<(), StepError>
+        ensures { cause_of result ≡ refusal (world_of self.now) (StepEvent.Restart rank) }
+    {
+        self.check_history()?;
+        self.check_rank(rank)
+    }
+
+    #[tactic(auto, unfolding(crate::specs::Step::refusal, crate::specs::Step::causes))]
+    fn check_ask(&self, export: u32) -> Result<(), StepError>
+        ensures { cause_of result ≡ refusal (world_of self.now) (StepEvent.Ask export) }
+    {
+        self.check_history()?;
+        self.check_export(export)?;
+        self.check_runs(self.to(export))?;
+        match self.importer(export) {
+            ImporterState::Started => Ok(()),
+            _ => Err(StepError::Late(self.exporter(export))),
+        }
+    }
+
+    #[tactic(auto, unfolding(crate::specs::Step::refusal, crate::specs::Step::causes))]
     pub(crate) fn check_start(
         &self,
         from: Rank,
@@ -400,6 +431,9 @@ impl Records {
             Event::Froze(export) => self.check_froze(*export),
             Event::Notify(export) => self.check_notify(*export),
             Event::Abort(export) => self.check_abort(*export),
+            Event::Stop(rank) => self.check_stop(*rank),
+            Event::Restart(rank) => self.check_restart(*rank),
+            Event::Ask(export) => self.check_ask(*export),
         }
     }
 }

@@ -163,6 +163,9 @@ fn print_event(out: &mut impl Write, event: &Event) -> io::Result<()> {
         Event::Froze(export) => writeln!(out, "froze {export}"),
         Event::Notify(export) => writeln!(out, "notify {export}"),
         Event::Abort(export) => writeln!(out, "abort {export}"),
+        Event::Stop(rank) => writeln!(out, "stop {}", rank.number()),
+        Event::Restart(rank) => writeln!(out, "restart {}", rank.number()),
+        Event::Ask(export) => writeln!(out, "ask {export}"),
     }
 }
 
