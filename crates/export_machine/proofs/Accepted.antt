@@ -2,7 +2,7 @@
 use Rattle.std.proofs.Common.{◌≡◌, ◌≢◌, ℕ, zero, suc, ◌<◌, ◌≤◌, Bool, true, false, ◌&&◌, ◌||◌, not, eqb, ltb, leb, cond, List, [], ◌∷◌, ◌++◌, length, get_or, set, map, Option, Some, None, refl, sym, ap, ◌∙◌, subst, inl, inr, ◌⊎◌, arith}
 use Rattle.std.specs.Option.{is_some}
 use Rattle.std.specs.List.{slice_get, list_all}
-use Rattle.std.proofs.lemmas.Bool.{cases_lt}
+use Rattle.std.proofs.lemmas.Bool.{cases_lt, cases_eq, leb-false, not-false}
 use Rattle.std.proofs.lemmas.List.{get_or-map, length-map, get_or_past}
 use Rattle.export_machine.specs.declared.exporter.ExporterState.TheVariants.{Freezing, Logged}
 use Rattle.export_machine.specs.declared.event.Request.{Request}
@@ -13,7 +13,6 @@ use Rattle.export_machine.specs.Step.{Event, refusal, causes, when, is_before_lo
 use Rattle.export_machine.specs.Step.Event.{Begin, End, Start, Deliver, Froze, Notify, Abort}
 use Rattle.export_machine.specs.View.{IsReached}
 use Rattle.export_machine.specs.Kept.{order_of}
-use Rattle.export_machine.proofs.Tables.{same_or_other}
 use Rattle.export_machine.proofs.Safe.{Safe}
 use Rattle.export_machine.proofs.Lookups.{authority_is, or_else_none}
 use Rattle.export_machine.proofs.Events.{NoneOf, none_of, not_refused, there_near, freezing_is, logged_is, served, held_free, not_stopped, busy_none, is_here}
@@ -22,21 +21,12 @@ use Rattle.export_machine.proofs.Reached.{by_safe}
 use Rattle.export_machine.proofs.Found.{orders_by}
 use Rattle.mds_types.specs.declared.order.Order.{Order as Moved}
 
-pub below : (n x : ℕ) → leb n x ≡ false → x < n
-below n x h = grind arith
-
-not_false : (b : Bool) → not b ≡ false → b ≡ true
-not_false b h = grind arith
-
-pub spare : (m n : ℕ) → ltb m n ≡ true → m < n
-spare m n h = grind arith
-
 pub numbers_by : (w : World) → IsReached w → (a b : ℕ) → (Safe w → a ≡ b) → a ≡ b
-numbers_by w r a b f = elim (same_or_other a b) [ inl e ↦ e | inr n ↦ absurd (by_safe w r (λ safe. n (f safe))) ]
+numbers_by w r a b f = elim (cases_eq a b) [ inl e ↦ e | inr n ↦ absurd (by_safe w r (λ safe. n (f safe))) ]
 
 pub room_left : (w : World) (e : Event) → refusal w e ≡ None → w.events < 1048576
 unfolding refusal
-room_left w e h = below 1048576 w.events (not_refused _ _ (or_else_none _ _ h).0)
+room_left w e h = leb-false 1048576 w.events (not_refused _ _ (or_else_none _ _ h).0)
 
 pub dirs_here : (orders : List Moved) (x : ℕ) (o : Moved) → x < length orders → o ≡ get_or orders x o → (order_in (map order_of orders) x).dirs ≡ o.dirs.items
 dirs_here orders x o h e = ap (λ r. r.dirs) (get_or-map order_of orders x o no_order h) ∙ ap (λ (p : Moved). p.dirs.items) (sym e)
@@ -69,27 +59,27 @@ module _ (w : World) (reached : IsReached w) where
 module _ (w : World) (x : ℕ) where
   pub froze_order : refusal w (Froze x) ≡ None → x < length w.orders
   unfolding causes
-  froze_order h = below (length w.orders) x (not_refused _ _ (not_refused_causes w (Froze x) h).0)
+  froze_order h = leb-false (length w.orders) x (not_refused _ _ (not_refused_causes w (Froze x) h).0)
 
   pub froze_state : refusal w (Froze x) ≡ None → exporter_of w x ≡ Freezing
   unfolding causes
-  froze_state h = freezing_is (exporter_of w x) (not_false (is_freezing (exporter_of w x)) (not_refused _ _ (not_refused_causes w (Froze x) h).1.1.0))
+  froze_state h = freezing_is (exporter_of w x) (not-false (is_freezing (exporter_of w x)) (not_refused _ _ (not_refused_causes w (Froze x) h).1.1.0))
 
   pub notify_order : refusal w (Notify x) ≡ None → x < length w.orders
   unfolding causes
-  notify_order h = below (length w.orders) x (not_refused _ _ (not_refused_causes w (Notify x) h).0)
+  notify_order h = leb-false (length w.orders) x (not_refused _ _ (not_refused_causes w (Notify x) h).0)
 
   pub notify_state : refusal w (Notify x) ≡ None → exporter_of w x ≡ Logged
   unfolding causes
-  notify_state h = logged_is (exporter_of w x) (not_false (is_logged (exporter_of w x)) (not_refused _ _ (not_refused_causes w (Notify x) h).1.1.0))
+  notify_state h = logged_is (exporter_of w x) (not-false (is_logged (exporter_of w x)) (not_refused _ _ (not_refused_causes w (Notify x) h).1.1.0))
 
   pub abort_order : refusal w (Abort x) ≡ None → x < length w.orders
   unfolding causes
-  abort_order h = below (length w.orders) x (not_refused _ _ (not_refused_causes w (Abort x) h).0)
+  abort_order h = leb-false (length w.orders) x (not_refused _ _ (not_refused_causes w (Abort x) h).0)
 
   pub abort_state : refusal w (Abort x) ≡ None → is_before_log (exporter_of w x) ≡ true
   unfolding causes
-  abort_state h = not_false (is_before_log (exporter_of w x)) (not_refused _ _ (not_refused_causes w (Abort x) h).1.1.0)
+  abort_state h = not-false (is_before_log (exporter_of w x)) (not_refused _ _ (not_refused_causes w (Abort x) h).1.1.0)
 
 running_some : (o : Option Request) → not (is_running o) ≡ false → o ≢ None
 running_some None h k = absurd (cc)
@@ -104,16 +94,11 @@ end_near w t h = elim (cases_lt t (length w.tickets)) [ inl m ↦ m | inr m ↦ 
 
 pub begin_dir : (w : World) (r d : ℕ) → refusal w (Begin r d) ≡ None → d < length w.parents
 unfolding causes
-begin_dir w r d h = there_near w d (not_false (is_present w d) (not_refused _ _ (not_refused_causes w (Begin r d) h).1.1.0))
+begin_dir w r d h = there_near w d (not-false (is_present w d) (not_refused _ _ (not_refused_causes w (Begin r d) h).1.1.0))
 
 pub deliver_near : (w : World) (m : ℕ) → refusal w (Deliver m) ≡ None → m < length w.sent
 unfolding causes
-deliver_near w m h = below (length w.sent) m (not_refused _ _ (not_refused_causes w (Deliver m) h).0)
-
-pub both_parts : (a b : Bool) → (a && b) ≡ true → (a ≡ true) × (b ≡ true)
-both_parts true true h = (refl, refl)
-both_parts true false h = absurd (cc)
-both_parts false b h = absurd (cc)
+deliver_near w m h = leb-false (length w.sent) m (not_refused _ _ (not_refused_causes w (Deliver m) h).0)
 
 pub item_at : {A : Type 0} (xs : List A) (k : ℕ) (a : A) → k < length xs → a ≡ get_or xs k a → slice_get xs k ≡ Some a
 item_at [] k a h e = absurd (omega arith)
@@ -123,11 +108,11 @@ item_at (x ∷ xs) (suc k) a h e = item_at xs k a (omega arith) e
 module _ (w : World) (p : ℕ) (h : refusal w (Event.Made p) ≡ None) where
   pub made_parent : p < length w.parents
   unfolding causes
-  made_parent = there_near w p (not_false (is_present w p) (not_refused _ _ (not_refused_causes w (Event.Made p) h).0))
+  made_parent = there_near w p (not-false (is_present w p) (not_refused _ _ (not_refused_causes w (Event.Made p) h).0))
 
   pub made_few : length w.parents < w.limit
   unfolding causes
-  made_few = below w.limit (length w.parents) (not_refused _ _ (not_refused_causes w (Event.Made p) h).1.0)
+  made_few = leb-false w.limit (length w.parents) (not_refused _ _ (not_refused_causes w (Event.Made p) h).1.0)
 
   pub made_has : (a : ℕ) × (authority w p ≡ Some a) × (frozen_by w a p ≡ None)
   unfolding causes
@@ -143,7 +128,7 @@ module _ (w : World) (d : ℕ) (h : refusal w (Event.Gone d) ≡ None) where
 
   pub gone_there : is_present w d ≡ true
   unfolding causes
-  gone_there = not_false (is_present w d) (not_refused _ _ (not_refused_causes w (Event.Gone d) h).1.0)
+  gone_there = not-false (is_present w d) (not_refused _ _ (not_refused_causes w (Event.Gone d) h).1.0)
 
   pub gone_closed : open_export w d ≡ None
   unfolding causes

@@ -1,5 +1,6 @@
 -- Counts that every event keeps within the count of events.
 use Rattle.std.proofs.Common.{◌≡◌, ◌≢◌, ℕ, zero, suc, ◌+◌, ◌<◌, ◌≤◌, Bool, true, false, ◌&&◌, not, cond, Vec, List, [], ◌∷◌, ◌++◌, length, get_or, set, map, Option, Some, None, Ok, Err, Result, refl, sym, ap, ◌∙◌, subst, inl, inr, ◌⊎◌, arith}
+use Rattle.std.proofs.lemmas.Bool.{and_parts, cases_eq}
 use Rattle.std.specs.List.{slice_get}
 use Rattle.std.specs.Result.{OnOk}
 use Rattle.std.proofs.lemmas.List.{length-set}
@@ -19,11 +20,10 @@ use Rattle.export_machine.specs.Step.{Event, Outcome, refusal, happens, step, an
 use Rattle.export_machine.specs.Step.Event.{Begin, End, Start, Deliver, Froze, Notify, Abort, Stop, Restart, Ask}
 use Rattle.export_machine.specs.View.{IsReached, IsAnswer}
 use Rattle.export_machine.specs.Kept.{world_of, indexes_of, IsKept, IsIndexed, Indexes, has_room, has_places, has_list_places, has_spare, is_spare, entered_at, is_ready, is_ready_entry, is_ready_list, state_of}
-use Rattle.export_machine.proofs.Tables.{same_or_other}
 use Rattle.export_machine.proofs.Views.{push_same, push_other, length_push, map_at_length}
 use Rattle.export_machine.proofs.Frame.{Framed, unframed, delivered_frame}
 use Rattle.export_machine.proofs.Reached.{reached_step}
-use Rattle.export_machine.proofs.Accepted.{room_left, made_few, both_parts}
+use Rattle.export_machine.proofs.Accepted.{room_left, made_few}
 use Rattle.export_machine.proofs.Starting.{start_distinct}
 
 -- at most one message more
@@ -173,7 +173,7 @@ module _ (w : World) (b : Bounded w) where
   happens_bounded (Begin r d) h = steady w _ b (none w _ refl refl) refl (rw (length_push w.tickets (Some (record { rank = r; dir = d }))) (omega arith)) refl refl
   happens_bounded (End t) h = steady w _ b (none w _ refl refl) refl (rw (length-set w.tickets t None) (omega arith)) refl refl
   happens_bounded (Start f t ds) h = record {
-    distinct = λ x k. elim (same_or_other x (length w.orders)) [
+    distinct = λ x k. elim (cases_eq x (length w.orders)) [
       | inl e ↦ absurd (new (ap (λ (y : ℕ). repeats (get_or (w.orders ++ record { from = f; to = t; dirs = ds } ∷ []) y no_order).dirs) (sym e) ∙ k))
       | inr n ↦ b.distinct x (ap (λ (o : Order). repeats o.dirs) (sym (push_other w.orders (record { from = f; to = t; dirs = ds }) no_order x n)) ∙ k)
     ];
@@ -259,10 +259,8 @@ module _ (old new : Records) (e : Event) (reply : Reply) (kept : IsKept old) (ac
     opened_places = indexed.opened_places;
     running_places = indexed.running_places;
     children_places = indexed.children_places;
+    unmarked = indexed.unmarked;
   }
-
-  pub answered_step : IsAnswer (world_of old) e (Ok reply) (world_of (record new { events = new.events + 1 }))
-  answered_step = stepped
 
   pub kept_step : IsKept (record new { events = new.events + 1 })
   kept_step = record {
@@ -315,7 +313,7 @@ list_places old e new h = ap (λ (r : Records). has_list_places r e) h ∙ same 
 
 pub room_parts : (r : Records) (e : Event) → has_room r e ≡ true → (has_places r.journals.items (entered_at (world_of r) e) ≡ true) × (has_list_places r e ≡ true)
 unfolding has_room
-room_parts r e h = both_parts _ _ h
+room_parts r e h = and_parts _ _ h
 
 -- the room that a contract sees is the lists' own
 places_are : {A : Type 0} (js : List (Vec JournalEntry A)) (r : ℕ) → get_or (map (λ j. has_spare j) js) r true ≡ is_spare (slice_get js r)

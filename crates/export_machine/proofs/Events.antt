@@ -17,13 +17,13 @@ use Rattle.export_machine.specs.Step.{first, when, is_freezing, is_logged, not_y
 use Rattle.export_machine.specs.Step.Event.{Begin, End, Start, Deliver, Froze, Notify, Abort, Ask}
 use Rattle.export_machine.proofs.Owning.{Phase, Owning, Running, is_moving, is_over, place, same_owning, same_running, start_owning, start_running, made_owning, made_running, gone_owning, gone_running}
 use Rattle.export_machine.proofs.Owning.Phase.{Early, Held, Moving, Told, Over}
-use Rattle.export_machine.proofs.Tables.{same_or_other, is_committed, is_imported, kept_flag, entry_tables, begun_tables}
+use Rattle.export_machine.proofs.Tables.{is_committed, is_imported, kept_flag, entry_tables, begun_tables}
 use Rattle.export_machine.proofs.Views.{push_same, push_other, push_get, length_push, has_adds, owns_at, owns_other}
-use Rattle.export_machine.proofs.Safe.{Safe, phase_by, phase_of, either, plain_safe, finish_safe, cancel_safe, froze_safe, aborted_safe, notify_safe}
-use Rattle.export_machine.proofs.Lookups.{or_true, first_none, or_else_none, and_true, same_number, itself, inside_near, authority_is, no_open, free_owner}
+use Rattle.export_machine.proofs.Safe.{Safe, phase_by, phase_of, plain_safe, finish_safe, cancel_safe, froze_safe, aborted_safe, notify_safe}
+use Rattle.export_machine.proofs.Lookups.{first_none, or_else_none, itself, inside_near, authority_is, no_open, free_owner}
 use Rattle.export_machine.proofs.Deliver.{deliver_keeps}
 use Rattle.std.proofs.lemmas.List.{get_or-set_same, get_or-set_other, get_or_past, length-set}
-use Rattle.std.proofs.lemmas.Bool.{cases_lt}
+use Rattle.std.proofs.lemmas.Bool.{cases_lt, and_parts, cases_Bool, cases_eq, eqb-false, eqb-true, leb-false, not-false, or_cases, or_parts}
 use Rattle.std.proofs.lemmas.List.Recursion.{is_count_by}
 
 -- refusals that did not come
@@ -40,14 +40,8 @@ pub none_of : (os : List (Option StepError)) → first os ≡ None → NoneOf os
 none_of [] h = tt
 none_of (o ∷ os) h = ((or_else_none o (first os) h).0, none_of os (or_else_none o (first os) h).1)
 
-below : (n x : ℕ) → leb n x ≡ false → x < n
-below n x h = grind arith
-
 unequal : (m n : ℕ) → n ≢ m → eqb m n ≡ false
 unequal m n h = grind arith
-
-pub not_false : (b : Bool) → not b ≡ false → b ≡ true
-not_false b h = grind arith
 
 pub freezing_is : (e : ExporterState) → is_freezing e ≡ true → e ≡ Freezing
 freezing_is e h = grind arith
@@ -55,7 +49,7 @@ freezing_is e h = grind arith
 pub logged_is : (e : ExporterState) → is_logged e ≡ true → e ≡ Logged
 logged_is e h = grind arith
 
-abbrev number_of : (Option Request → Bool) → List (Option Request) → ℕ
+abbrev pub number_of : (Option Request → Bool) → List (Option Request) → ℕ
 number_of p [] = 0
 number_of p (t ∷ ts) = cond (p t) (1 + number_of p ts) (number_of p ts)
 
@@ -70,15 +64,15 @@ none_run dirs (r ∷ ts) h (suc t) q e = none_run dirs ts (uncounted (runs_on di
 
 pub no_requests : (w : World) (dirs : List ℕ) → not_yet (running_on w dirs) ≡ None → (t : ℕ) (q : Request) → request_of w t ≡ Some q → is_among dirs q.dir ≡ false
 no_requests w dirs h =
-    let n : running_on w dirs ≡ 0 = same_number (running_on w dirs) 0 (not_false (eqb (running_on w dirs) 0) (not_refused (not (eqb (running_on w dirs) 0)) (StepError.NotYet (running_on w dirs)) h)) in
+    let n : running_on w dirs ≡ 0 = eqb-true (running_on w dirs) 0 (not-false (eqb (running_on w dirs) 0) (not_refused (not (eqb (running_on w dirs) 0)) (StepError.NotYet (running_on w dirs)) h)) in
     none_run dirs w.tickets (is_count_by (number_of (runs_on dirs)) (runs_on dirs) refl (λ x xs. refl) w.tickets ∙ n)
 
 module _ (w : World) (safe : Safe w) where
   pub froze_keeps : (x : ℕ) → NoneOf (causes w (Froze x)) → Safe (happens w (Froze x)).world
   unfolding causes happens
   froze_keeps x h =
-      let n : x < length w.orders = below (length w.orders) x (not_refused _ _ h.0) in
-      let f : exporter_of w x ≡ Freezing = freezing_is (exporter_of w x) (not_false _ (not_refused _ _ h.1.1.0)) in
+      let n : x < length w.orders = leb-false (length w.orders) x (not_refused _ _ h.0) in
+      let f : exporter_of w x ≡ Freezing = freezing_is (exporter_of w x) (not-false _ (not_refused _ _ h.1.1.0)) in
       plain_safe (exporter_to w x Preparing)
       (froze_safe w safe x Preparing (omega (arith, safe.exporting)) f refl (no_requests w (order_in w.orders x).dirs h.1.1.1.0))
       (Prep x) refl n
@@ -86,8 +80,8 @@ module _ (w : World) (safe : Safe w) where
   pub notify_keeps : (x : ℕ) → NoneOf (causes w (Notify x)) → Safe (happens w (Notify x)).world
   unfolding causes happens
   notify_keeps x h =
-      let n : x < length w.orders = below (length w.orders) x (not_refused _ _ h.0) in
-      let f : exporter_of w x ≡ Logged = logged_is (exporter_of w x) (not_false _ (not_refused _ _ h.1.1.0)) in
+      let n : x < length w.orders = leb-false (length w.orders) x (not_refused _ _ h.0) in
+      let f : exporter_of w x ≡ Logged = logged_is (exporter_of w x) (not-false _ (not_refused _ _ h.1.1.0)) in
       let near : x < length w.exporters = omega (arith, safe.exporting) in
       finish_safe (names_importer (journals (exporter_to w x Done) (from_of w x) (JournalEntry.Notified x)) x) (notify_safe w safe x f) x
       (get_or-set_same w.exporters x Done Aborted near) n
@@ -95,14 +89,14 @@ module _ (w : World) (safe : Safe w) where
   pub abort_keeps : (x : ℕ) → NoneOf (causes w (Abort x)) → Safe (happens w (Abort x)).world
   unfolding causes happens
   abort_keeps x h =
-      let n : x < length w.orders = below (length w.orders) x (not_refused _ _ h.0) in
+      let n : x < length w.orders = leb-false (length w.orders) x (not_refused _ _ h.0) in
       let near : x < length w.exporters = omega (arith, safe.exporting) in
-      cancel_safe (exporter_to w x Aborted) (aborted_safe w safe x Aborted near (not_false _ (not_refused _ _ h.1.1.0)) refl) x
+      cancel_safe (exporter_to w x Aborted) (aborted_safe w safe x Aborted near (not-false _ (not_refused _ _ h.1.1.0)) refl) x
       (get_or-set_same w.exporters x Aborted Aborted near) n
 
   pub ask_keeps : (x : ℕ) → NoneOf (causes w (Ask x)) → Safe (happens w (Ask x)).world
   unfolding causes happens
-  ask_keeps x h = plain_safe w safe (Query x) refl (below (length w.orders) x (not_refused _ _ h.0))
+  ask_keeps x h = plain_safe w safe (Query x) refl (leb-false (length w.orders) x (not_refused _ _ h.0))
 
   pub delivered_keeps : (k : ℕ) → Safe (happens w (Deliver k)).world
   unfolding happens
@@ -127,7 +121,7 @@ module _ (w : World) (safe : Safe w) where
   }
     where
       ran : (u : ℕ) (q : Request) → get_or (set w.tickets t None) u None ≡ Some q → request_of w u ≡ Some q
-      ran u q h = elim (same_or_other u t) [
+      ran u q h = elim (cases_eq u t) [
         | inl e ↦ elim (cases_lt t (length w.tickets)) [
           | inl m ↦ absurd (cc (get_or-set_same w.tickets t None None m, h, e))
           | inr m ↦ absurd (cc (get_or_past (set w.tickets t None) t None (rw (length-set w.tickets t None) m), h, e))
@@ -150,7 +144,7 @@ served w r d None h = absurd (cc)
 served w r d (Some a) h = go (eqb a r) refl h
   where
     go : (b : Bool) → eqb a r ≡ b → cond b (held (frozen_by w r d)) (Some (StepError.Elsewhere a)) ≡ None → (Some a ≡ Some r) × (frozen_by w r d ≡ None)
-    go true e k = (ap Some (same_number a r e), held_none (frozen_by w r d) k)
+    go true e k = (ap Some (eqb-true a r e), held_none (frozen_by w r d) k)
     go false e k = absurd (cc)
 
 early_or_held : (p : Phase) → is_over p ≡ false → is_moving p ≡ false → (p ≡ Early) ⊎ (p ≡ Held)
@@ -183,7 +177,7 @@ module _ (w : World) (safe : Safe w) (r d : ℕ) (authority_r : IsAuthority w r 
       go (inr t) = absurd (cc ((not_frozen w r d free t.0 t.2).1, t.1))
 
   begin_early : (x : ℕ) → is_inside w x d ≡ true → is_over (phase_of w x) ≡ false → phase_of w x ≡ Early
-  begin_early x i h = elim (either (is_moving (phase_of w x))) [
+  begin_early x i h = elim (cases_Bool (is_moving (phase_of w x))) [
     | inl m ↦ absurd (cc (safe.owning.moving x r d i m, begin_owns))
     | inr n ↦ elim (early_or_held (phase_of w x) h n) [
       | inl e ↦ e
@@ -224,7 +218,7 @@ module _ (w : World) (safe : Safe w) where
 
       ran : (u : ℕ) (q : Request) → get_or (w.tickets ++ Some (record { rank = rank; dir = d }) ∷ []) u None ≡ Some q →
           (request_of w u ≡ Some q) ⊎ (q ≡ record { rank = rank; dir = d })
-      ran u q k = elim (same_or_other u (length w.tickets)) [
+      ran u q k = elim (cases_eq u (length w.tickets)) [
         | inl e ↦ inr (some_same (record { rank = rank; dir = d }) q (sym (push_same w.tickets (Some (record { rank = rank; dir = d })) None) ∙ rw e at k))
         | inr n ↦ inl (sym (push_other w.tickets (Some (record { rank = rank; dir = d })) None u n) ∙ k)
       ]
@@ -246,7 +240,7 @@ module _ (w : World) (safe : Safe w) (a p : ℕ) (near : a < length w.journals) 
   made_others d n = push_other w.named (Some a) None d (λ e. n (e ∙ sym safe.numbered))
 
   made_present : (d : ℕ) → is_some (get_or (w.parents ++ Some p ∷ []) d None) ≡ is_some (get_or (w.named ++ Some a ∷ []) d None)
-  made_present d = elim (same_or_other d (length w.parents)) [
+  made_present d = elim (cases_eq d (length w.parents)) [
     | inl e ↦ rw (e, made_is, push_same w.parents (Some p) None) refl
     | inr n ↦ rw (made_others d n, push_other w.parents (Some p) None d n) (safe.present d)
   ]
@@ -255,7 +249,7 @@ module _ (w : World) (safe : Safe w) (a p : ℕ) (near : a < length w.journals) 
   made_won = rw (owns_at w a (JournalEntry.Made (length w.parents)) near (length w.parents), itself (length w.parents)) refl
 
   pub made_rest : (r d : ℕ) → d ≢ length w.parents → owns (journals w a (JournalEntry.Made (length w.parents))) r d ≡ owns w r d
-  made_rest r d n = elim (same_or_other r a) [
+  made_rest r d n = elim (cases_eq r a) [
     | inl e ↦ rw (e, owns_at w a (JournalEntry.Made (length w.parents)) near d, unequal (length w.parents) d n) refl
     | inr m ↦ owns_other w a (JournalEntry.Made (length w.parents)) near r d m
   ]
@@ -312,7 +306,7 @@ module _ (w : World) (safe : Safe w) (a c : ℕ) (near : a < length w.journals) 
   gone_others d n = get_or-set_other w.named c d None None n
 
   gone_present : (d : ℕ) → is_some (get_or (set w.parents c None) d None) ≡ is_some (get_or (set w.named c None) d None)
-  gone_present d = elim (same_or_other d c) [
+  gone_present d = elim (cases_eq d c) [
     | inl e ↦ rw (e, set_none w.parents c, set_none w.named c) refl
     | inr n ↦ rw (gone_others d n, get_or-set_other w.parents c d None None n) (safe.present d)
   ]
@@ -321,7 +315,7 @@ module _ (w : World) (safe : Safe w) (a c : ℕ) (near : a < length w.journals) 
   gone_lost = rw (owns_at w a (JournalEntry.Gone c) near c, itself c) refl
 
   pub gone_rest : (r d : ℕ) → d ≢ c → owns (journals w a (JournalEntry.Gone c)) r d ≡ owns w r d
-  gone_rest r d n = elim (same_or_other r a) [
+  gone_rest r d n = elim (cases_eq r a) [
     | inl e ↦ rw (e, owns_at w a (JournalEntry.Gone c) near d, unequal c d n) refl
     | inr m ↦ owns_other w a (JournalEntry.Gone c) near r d m
   ]
@@ -360,7 +354,7 @@ module _ (w : World) (safe : Safe w) where
 
 pub is_here : (r : ℕ) (o : Option ℕ) → elsewhere r o ≡ None → o ≡ Some r
 is_here r None h = absurd (cc)
-is_here r (Some a) h = ap Some (same_number a r (not_false (eqb a r) (not_refused (not (eqb a r)) (StepError.Elsewhere a) h)))
+is_here r (Some a) h = ap Some (eqb-true a r (not-false (eqb a r) (not_refused (not (eqb a r)) (StepError.Elsewhere a) h)))
 
 pub least_none : (w : World) (from : ℕ) (dirs : List ℕ) (n : ℕ) → least_fault w from dirs n ≡ None → (d : ℕ) → d < n → is_among dirs d ≡ true → cannot_leave w from d ≡ None
 least_none w from dirs zero h d l i = absurd (omega arith)
@@ -377,9 +371,9 @@ least_none w from dirs (suc n) h d l i = elim (cases_lt d n) [
 
 pub all_there : (w : World) (dirs : List ℕ) → list_all (is_present w) dirs ≡ true → (d : ℕ) → is_among dirs d ≡ true → is_present w d ≡ true
 all_there w [] h d i = absurd (cc)
-all_there w (c ∷ cs) h d i = elim (or_true (eqb c d) (is_among cs d) i) [
-  | inl e ↦ rw (← same_number c d e) (and_true (is_present w c) (list_all (is_present w) cs) h).0
-  | inr j ↦ all_there w cs (and_true (is_present w c) (list_all (is_present w) cs) h).1 d j
+all_there w (c ∷ cs) h d i = elim (or_cases (eqb c d) (is_among cs d) i) [
+  | inl e ↦ rw (← eqb-true c d e) (and_parts (is_present w c) (list_all (is_present w) cs) h).0
+  | inr j ↦ all_there w cs (and_parts (is_present w c) (list_all (is_present w) cs) h).1 d j
 ]
 
 pub there_near : (w : World) (d : ℕ) → is_present w d ≡ true → d < length w.parents
@@ -397,26 +391,16 @@ owned_more orders o d owned (JournalEntry.Gone c) h k = refl
 owned_more orders o d owned (JournalEntry.Started x) h k = refl
 owned_more orders o d owned (JournalEntry.Notified x) h k = refl
 owned_more orders o d owned (JournalEntry.Dropped x) h k = refl
-owned_more orders o d owned (JournalEntry.Exported x) h k = rw (push_other orders o no_order x (other x (length orders) h)) refl
-  where
-    other : (m n : ℕ) → eqb m n ≡ false → m ≢ n
-    other m n i = grind arith
-owned_more orders o d owned (JournalEntry.Imported x) h k = rw (push_other orders o no_order x (other x (length orders) k)) refl
-  where
-    other : (m n : ℕ) → eqb m n ≡ false → m ≢ n
-    other m n i = grind arith
-
-or_no : (a b : Bool) → (a || b) ≡ false → (a ≡ false) × (b ≡ false)
-or_no true b h = absurd (cc)
-or_no false b h = (refl, h)
+owned_more orders o d owned (JournalEntry.Exported x) h k = rw (push_other orders o no_order x (eqb-false x (length orders) h)) refl
+owned_more orders o d owned (JournalEntry.Imported x) h k = rw (push_other orders o no_order x (eqb-false x (length orders) k)) refl
 
 owned_by_more : (orders : List Order) (o : Order) (d : ℕ) (owned : Bool) (journal : List JournalEntry) →
     has_entry journal (JournalEntry.Exported (length orders)) ≡ false → has_entry journal (JournalEntry.Imported (length orders)) ≡ false →
     owned_by (orders ++ o ∷ []) d owned journal ≡ owned_by orders d owned journal
 owned_by_more orders o d owned [] h k = refl
 owned_by_more orders o d owned (e ∷ es) h k =
-    let a : (is_same e (JournalEntry.Exported (length orders)) ≡ false) × (has_entry es (JournalEntry.Exported (length orders)) ≡ false) = or_no _ _ h in
-    let b : (is_same e (JournalEntry.Imported (length orders)) ≡ false) × (has_entry es (JournalEntry.Imported (length orders)) ≡ false) = or_no _ _ k in
+    let a : (is_same e (JournalEntry.Exported (length orders)) ≡ false) × (has_entry es (JournalEntry.Exported (length orders)) ≡ false) = or_parts _ _ h in
+    let b : (is_same e (JournalEntry.Imported (length orders)) ≡ false) × (has_entry es (JournalEntry.Imported (length orders)) ≡ false) = or_parts _ _ k in
     rw (owned_more orders o d owned e a.0 b.0) (owned_by_more orders o d (owned_after orders d owned e) es a.1 b.1)
 
 abbrev pub with_export : World → ℕ → ℕ → List ℕ → World
@@ -461,7 +445,7 @@ module _ (w : World) (safe : Safe w) (from to : ℕ) (dirs : List ℕ) (from_nea
   start_states y n = push_other w.exporters Discovering Aborted y (λ e. n (e ∙ safe.exporting))
 
   start_importers : (y : ℕ) → importer_of (with_export w from to dirs) y ≡ importer_of w y
-  start_importers y = elim (same_or_other y (length w.importers)) [
+  start_importers y = elim (cases_eq y (length w.importers)) [
     | inl e ↦ rw (e, get_or_past w.importers (length w.importers) Unknown (omega arith)) (push_same w.importers Unknown Unknown)
     | inr n ↦ push_other w.importers Unknown Unknown y n
   ]
@@ -491,7 +475,7 @@ module _ (w : World) (safe : Safe w) (from to : ℕ) (dirs : List ℕ) (from_nea
 
   start_ranked : (x : ℕ) → x < length (w.orders ++ record { from = from; to = to; dirs = dirs } ∷ []) →
       (from_of (with_export w from to dirs) x < length w.journals) × (to_of (with_export w from to dirs) x < length w.journals)
-  start_ranked x h = elim (same_or_other x (length w.orders)) [
+  start_ranked x h = elim (cases_eq x (length w.orders)) [
     | inl e ↦ rw (e, start_from, start_to) (from_near, to_near)
     | inr n ↦ (let m : x < length w.orders + 1 = rw (length_push w.orders (record { from = from; to = to; dirs = dirs })) at h in
         rw (start_froms x n, start_tos x n) (safe.ranked x (omega arith)))
@@ -529,7 +513,7 @@ module _ (w : World) (safe : Safe w) where
   pub start_keeps : (from to : ℕ) (dirs : List ℕ) → NoneOf (causes w (Start from to dirs)) → Safe (happens w (Start from to dirs)).world
   unfolding causes happens
   start_keeps from to dirs h =
-      let there : list_all (is_present w) dirs ≡ true = not_false (list_all (is_present w) dirs) (not_refused _ _ h.1.1.1.1.0) in
+      let there : list_all (is_present w) dirs ≡ true = not-false (list_all (is_present w) dirs) (not_refused _ _ h.1.1.1.1.0) in
       let leaves : (d : ℕ) → is_among dirs d ≡ true → NoneOf (busy (open_export w d) ∷ elsewhere from (authority w d) ∷ []) =
       λ d i. none_of (busy (open_export w d) ∷ elsewhere from (authority w d) ∷ [])
       (least_none w from dirs (length w.parents) h.1.1.1.1.1.1.0 d (there_near w d (all_there w dirs there d i)) i) in
@@ -537,6 +521,6 @@ module _ (w : World) (safe : Safe w) where
       let here : (d : ℕ) → is_among dirs d ≡ true → IsAuthority w from d =
       λ d i. (authority_is w d from (is_here from (authority w d) (leaves d i).1.0)).1 in
       start_safe w safe from to dirs
-      (rw safe.all_ranks (below w.ranks from (not_refused _ _ h.0))) (rw safe.all_ranks (below w.ranks to (not_refused _ _ h.1.0)))
+      (rw safe.all_ranks (leb-false w.ranks from (not_refused _ _ h.0))) (rw safe.all_ranks (leb-false w.ranks to (not_refused _ _ h.1.0)))
       (λ d i. free_owner w safe from d (here d i) (no_open w safe d (opens d i)))
       (λ x d i j. no_open w safe d (opens d i) x j)

@@ -1,6 +1,6 @@
 -- What the tables by directory find: what freezes a directory, and who serves it.
 use Rattle.std.proofs.Common.{◌≡◌, ◌≢◌, ℕ, zero, suc, ◌<◌, Bool, true, false, ◌&&◌, ◌||◌, not, eqb, cond, List, [], ◌∷◌, length, Option, Some, None, refl, sym, ap, ◌∙◌, subst, inl, inr, ◌⊎◌, arith}
-use Rattle.std.proofs.lemmas.Bool.{cases_lt}
+use Rattle.std.proofs.lemmas.Bool.{cases_lt, and_from, and_parts, cases_Bool, cases_eq, not-true, or_cases, or_left, or_parts, or_right}
 use Rattle.export_machine.specs.declared.exporter.ExporterState.{ExporterState}
 use Rattle.export_machine.specs.declared.importer.ImporterState.{ImporterState}
 use Rattle.export_machine.specs.declared.exporter.ExporterState.TheVariants.{Discovering, Freezing, Preparing, Exporting, Logged, Done, Aborted}
@@ -9,9 +9,8 @@ use Rattle.export_machine.specs.Authority.{is_inside, from_of, to_of, exporter_o
 use Rattle.export_machine.specs.View.{IsReached}
 use Rattle.export_machine.proofs.Owning.{Phase, is_moving, is_over, place}
 use Rattle.export_machine.proofs.Owning.Phase.{Early, Held, Moving, Told, Over}
-use Rattle.export_machine.proofs.Tables.{same_or_other}
-use Rattle.export_machine.proofs.Safe.{Safe, phase_by, phase_of, either}
-use Rattle.export_machine.proofs.Lookups.{and_true, both_true, or_true, same_number, itself, any_none, any_some, any_here, first_none, first_some, inside_near, authority_is, open_over, taking_over, takes_over, no_open, one_authority, moving_open}
+use Rattle.export_machine.proofs.Safe.{Safe, phase_by, phase_of}
+use Rattle.export_machine.proofs.Lookups.{itself, any_none, any_some, any_here, first_none, first_some, inside_near, authority_is, open_over, taking_over, takes_over, no_open, one_authority, moving_open}
 use Rattle.export_machine.proofs.Authorities.{authority_found, found_or_not}
 use Rattle.export_machine.proofs.Walks.{authority_near}
 use Rattle.export_machine.proofs.Reached.{by_safe}
@@ -22,7 +21,7 @@ pub same_option : (a b : Option ℕ) → (a ≡ b) ⊎ (a ≢ b)
 same_option None None = inl refl
 same_option None (Some b) = inr (λ e. cc)
 same_option (Some a) None = inr (λ e. cc)
-same_option (Some a) (Some b) = elim (same_or_other a b) [ inl e ↦ inl (ap Some e) | inr n ↦ inr (λ e. n (cc)) ]
+same_option (Some a) (Some b) = elim (cases_eq a b) [ inl e ↦ inl (ap Some e) | inr n ↦ inr (λ e. n (cc)) ]
 
 same_bool : (a b : Bool) → (a ≡ b) ⊎ (a ≢ b)
 same_bool true true = inl refl
@@ -30,14 +29,24 @@ same_bool true false = inr (λ e. cc)
 same_bool false true = inr (λ e. cc)
 same_bool false false = inl refl
 
+-- the invariant, as far as what can be tested goes
+abbrev pub Safely : World → Type 0
+Safely w = (Safe w → ⊥) → ⊥
+
+pub options_safely : (w : World) → Safely w → (a b : Option ℕ) → (Safe w → a ≡ b) → a ≡ b
+options_safely w s a b f = elim (same_option a b) [ inl e ↦ e | inr n ↦ absurd (s (λ safe. n (f safe))) ]
+
 pub options_by : (w : World) → IsReached w → (a b : Option ℕ) → (Safe w → a ≡ b) → a ≡ b
-options_by w r a b f = elim (same_option a b) [ inl e ↦ e | inr n ↦ absurd (by_safe w r (λ safe. n (f safe))) ]
+options_by w r a b f = options_safely w (by_safe w r) a b f
 
 pub tests_by : (w : World) → IsReached w → (a b : Bool) → (Safe w → a ≡ b) → a ≡ b
 tests_by w r a b f = elim (same_bool a b) [ inl e ↦ e | inr n ↦ absurd (by_safe w r (λ safe. n (f safe))) ]
 
+pub orders_safely : (w : World) → Safely w → (a b : ℕ) → (Safe w → a < b) → a < b
+orders_safely w s a b f = elim (cases_lt a b) [ inl l ↦ l | inr m ↦ absurd (s (λ safe. (let l : a < b = f safe in omega arith))) ]
+
 pub orders_by : (w : World) → IsReached w → (a b : ℕ) → (Safe w → a < b) → a < b
-orders_by w r a b f = elim (cases_lt a b) [ inl l ↦ l | inr m ↦ absurd (by_safe w r (λ safe. (let l : a < b = f safe in omega arith))) ]
+orders_by w r a b f = orders_safely w (by_safe w r) a b f
 
 -- searches below a number
 
@@ -101,29 +110,26 @@ module _ (w : World) (safe : Safe w) where
   unfolding open_export
   open_is d x e =
       let f : (x < length w.orders) × ((is_open w x && is_inside w x d) ≡ true) = first_some (length w.orders) (λ y. is_open w y && is_inside w y d) x e in
-      let g : (is_open w x ≡ true) × (is_inside w x d ≡ true) = and_true (is_open w x) (is_inside w x d) f.1 in
-      (g.1, shut (is_over (phase_of w x)) (sym (open_over w safe x) ∙ g.0))
-    where
-      shut : (b : Bool) → not b ≡ true → b ≡ false
-      shut b k = grind arith
+      let g : (is_open w x ≡ true) × (is_inside w x d ≡ true) = and_parts (is_open w x) (is_inside w x d) f.1 in
+      (g.1, not-true (is_over (phase_of w x)) (sym (open_over w safe x) ∙ g.0))
 
   -- what freezes a directory is open and isn't discovering
   freezes_is : (r d y : ℕ) → (is_held_in w r d y || (is_taking_over w r y && is_inside w y d)) ≡ true →
       (is_inside w y d ≡ true) × (is_over (phase_of w y) ≡ false) × (exporter_of w y ≢ Discovering)
-  freezes_is r d y h = elim (or_true (is_held_in w r d y) (is_taking_over w r y && is_inside w y d) h) [
+  freezes_is r d y h = elim (or_cases (is_held_in w r d y) (is_taking_over w r y && is_inside w y d) h) [
     | inl k ↦
-        (let a : ((eqb (from_of w y) r && is_holding (exporter_of w y)) ≡ true) × (is_inside w y d ≡ true) = and_true (eqb (from_of w y) r && is_holding (exporter_of w y)) (is_inside w y d) k in
-        let b : (eqb (from_of w y) r ≡ true) × (is_holding (exporter_of w y) ≡ true) = and_true (eqb (from_of w y) r) (is_holding (exporter_of w y)) a.0 in
+        (let a : ((eqb (from_of w y) r && is_holding (exporter_of w y)) ≡ true) × (is_inside w y d ≡ true) = and_parts (eqb (from_of w y) r && is_holding (exporter_of w y)) (is_inside w y d) k in
+        let b : (eqb (from_of w y) r ≡ true) × (is_holding (exporter_of w y) ≡ true) = and_parts (eqb (from_of w y) r) (is_holding (exporter_of w y)) a.0 in
         (a.1, (holding_phase (exporter_of w y) (importer_of w y) b.1).0, λ e. cc (rw e at b.1)))
     | inr k ↦
-        (let a : (is_taking_over w r y ≡ true) × (is_inside w y d ≡ true) = and_true (is_taking_over w r y) (is_inside w y d) k in
+        (let a : (is_taking_over w r y ≡ true) × (is_inside w y d ≡ true) = and_parts (is_taking_over w r y) (is_inside w y d) k in
         let m : is_moving (phase_of w y) ≡ true = (taking_over w safe r y a.0).1 in
         (a.1, moving_open (phase_of w y) m, λ e. cc (rw e at m)))
   ]
 
   none_frozen : (r d : ℕ) → open_export w d ≡ None → frozen_by w r d ≡ None
   unfolding frozen_by
-  none_frozen r d e = first_is_none (length w.orders) (λ x. is_held_in w r d x || (is_taking_over w r x && is_inside w x d)) (λ y l. go y (either (is_held_in w r d y || (is_taking_over w r y && is_inside w y d))))
+  none_frozen r d e = first_is_none (length w.orders) (λ x. is_held_in w r d x || (is_taking_over w r x && is_inside w x d)) (λ y l. go y (cases_Bool (is_held_in w r d y || (is_taking_over w r y && is_inside w y d))))
     where
       go : (y : ℕ) → ((is_held_in w r d y || (is_taking_over w r y && is_inside w y d)) ≡ true) ⊎ ((is_held_in w r d y || (is_taking_over w r y && is_inside w y d)) ≡ false) →
           (is_held_in w r d y || (is_taking_over w r y && is_inside w y d)) ≡ false
@@ -132,7 +138,7 @@ module _ (w : World) (safe : Safe w) where
 
   discovering_frozen : (r d x : ℕ) → open_export w d ≡ Some x → exporter_of w x ≡ Discovering → frozen_by w r d ≡ None
   unfolding frozen_by
-  discovering_frozen r d x e k = first_is_none (length w.orders) (λ y. is_held_in w r d y || (is_taking_over w r y && is_inside w y d)) (λ y l. go y (either (is_held_in w r d y || (is_taking_over w r y && is_inside w y d))))
+  discovering_frozen r d x e k = first_is_none (length w.orders) (λ y. is_held_in w r d y || (is_taking_over w r y && is_inside w y d)) (λ y l. go y (cases_Bool (is_held_in w r d y || (is_taking_over w r y && is_inside w y d))))
     where
       go : (y : ℕ) → ((is_held_in w r d y || (is_taking_over w r y && is_inside w y d)) ≡ true) ⊎ ((is_held_in w r d y || (is_taking_over w r y && is_inside w y d)) ≡ false) →
           (is_held_in w r d y || (is_taking_over w r y && is_inside w y d)) ≡ false
@@ -165,36 +171,27 @@ module _ (w : World) (safe : Safe w) where
           let s : t.0 ≡ x = safe.owning.one_export t.0 x d t.2 o.0 (moving_open (phase_of w t.0) g.1) o.1 in
           absurd (cc (rw s at g.1, m))
 
-      left : (p q : Bool) → p ≡ true → (p || q) ≡ true
-      left p q k = grind arith
-
-      right : (p q : Bool) → q ≡ true → (p || q) ≡ true
-      right p q k = grind arith
-
       here : (is_held_in w r d x || (is_taking_over w r x && is_inside w x d)) ≡ true
       here = elim (held_or_moving (exporter_of w x) (importer_of w x) o.1 n) [
         | inl h ↦
             (let f : from_of w x ≡ r = owned_from (holding_phase (exporter_of w x) (importer_of w x) h).1 (authority_is w d r a).1 in
-            left (is_held_in w r d x) (is_taking_over w r x && is_inside w x d) (rw (f, itself r, h, o.0) refl))
+            or_left (is_held_in w r d x) (is_taking_over w r x && is_inside w x d) (rw (f, itself r, h, o.0) refl))
         | inr m ↦
             (let t : is_taking_over w (to_of w x) x ≡ true = takes_over w safe x m in
             let s : to_of w x ≡ r = one_authority w safe (to_of w x) r d (inr (x, t, o.0)) (authority_is w d r a).1 in
-            right (is_held_in w r d x) (is_taking_over w r x && is_inside w x d) (both_true (is_taking_over w r x) (is_inside w x d) (subst (λ s. is_taking_over w s x ≡ true) s t) o.0))
+            or_right (is_held_in w r d x) (is_taking_over w r x && is_inside w x d) (and_from (is_taking_over w r x) (is_inside w x d) (subst (λ s. is_taking_over w s x ≡ true) s t) o.0))
       ]
 
   serving : (r d : ℕ) → authority w d ≡ Some r → frozen_by w r d ≡ None → serves w r d ≡ true
   unfolding serves frozen_by
-  serving r d a f = both_true (owns w r d) (not (any_below (length w.orders) (is_held_in w r d))) (owned (authority_is w d r a).1) (unheld (any_below (length w.orders) (is_held_in w r d)) refl)
+  serving r d a f = and_from (owns w r d) (not (any_below (length w.orders) (is_held_in w r d))) (owned (authority_is w d r a).1) (unheld (any_below (length w.orders) (is_held_in w r d)) refl)
     where
-      parts : (p q : Bool) → (p || q) ≡ false → (p ≡ false) × (q ≡ false)
-      parts p q k = (grind arith, grind arith)
-
       free : (y : ℕ) → y < length w.orders → (is_held_in w r d y ≡ false) × ((is_taking_over w r y && is_inside w y d) ≡ false)
-      free y l = parts (is_held_in w r d y) (is_taking_over w r y && is_inside w y d) (first_none (length w.orders) (λ x. is_held_in w r d x || (is_taking_over w r x && is_inside w x d)) f y l)
+      free y l = or_parts (is_held_in w r d y) (is_taking_over w r y && is_inside w y d) (first_none (length w.orders) (λ x. is_held_in w r d x || (is_taking_over w r x && is_inside w x d)) f y l)
 
       owned : IsAuthority w r d → owns w r d ≡ true
       owned (inl o) = o
-      owned (inr t) = absurd (cc (both_true (is_taking_over w r t.0) (is_inside w t.0 d) t.1 t.2, (free t.0 (inside_near w t.0 d t.2)).1))
+      owned (inr t) = absurd (cc (and_from (is_taking_over w r t.0) (is_inside w t.0 d) t.1 t.2, (free t.0 (inside_near w t.0 d t.2)).1))
 
       unheld : (b : Bool) → any_below (length w.orders) (is_held_in w r d) ≡ b → not b ≡ true
       unheld false e = refl
@@ -204,10 +201,10 @@ module _ (w : World) (safe : Safe w) where
   unfolding serves frozen_by
   not_serving r d x f =
       let s : (x < length w.orders) × ((is_held_in w r d x || (is_taking_over w r x && is_inside w x d)) ≡ true) = first_some (length w.orders) (λ y. is_held_in w r d y || (is_taking_over w r y && is_inside w y d)) x f in
-      elim (or_true (is_held_in w r d x) (is_taking_over w r x && is_inside w x d) s.1) [
+      elim (or_cases (is_held_in w r d x) (is_taking_over w r x && is_inside w x d) s.1) [
         | inl h ↦ second (owns w r d) (any_below (length w.orders) (is_held_in w r d)) (any_here (length w.orders) (is_held_in w r d) x s.0 h)
         | inr t ↦
-            (let p : (is_taking_over w r x ≡ true) × (is_inside w x d ≡ true) = and_true (is_taking_over w r x) (is_inside w x d) t in
+            (let p : (is_taking_over w r x ≡ true) × (is_inside w x d ≡ true) = and_parts (is_taking_over w r x) (is_inside w x d) t in
             first (owns w r d) (any_below (length w.orders) (is_held_in w r d)) (safe.owning.moving x r d p.1 (taking_over w safe r x p.0).1))
       ]
     where
@@ -224,7 +221,7 @@ module _ (w : World) (safe : Safe w) where
       go : (b : Bool) → serves w r d ≡ b → b ≡ false
       go false e = refl
       go true e =
-          let o : owns w r d ≡ true = (and_true (owns w r d) (not (any_below (length w.orders) (is_held_in w r d))) e).0 in
+          let o : owns w r d ≡ true = (and_parts (owns w r d) (not (any_below (length w.orders) (is_held_in w r d))) e).0 in
           absurd (n (authority_found w safe r d (inl o) (authority_near w safe r d (inl o))))
 
 -- the same of each world that events led to

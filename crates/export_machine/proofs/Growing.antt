@@ -1,8 +1,9 @@
 -- How the tables by directory follow a directory that is made or removed, and an export that starts.
 use Rattle.std.proofs.Common.{◌≡◌, ◌≢◌, ℕ, zero, suc, ◌+◌, ◌-◌, ◌<◌, ◌≤◌, Bool, true, false, ◌&&◌, ◌||◌, not, eqb, cond, List, [], ◌∷◌, ◌++◌, length, get_or, set, Option, Some, None, refl, sym, ap, ◌∙◌, subst, inl, inr, ◌⊎◌, arith}
 use Rattle.std.specs.List.{list_all}
+use Rattle.std.specs.Prelude.{replicate}
 use Rattle.std.proofs.Math.Logic.{∥∥₁_elim}
-use Rattle.std.proofs.lemmas.Bool.{cases_lt}
+use Rattle.std.proofs.lemmas.Bool.{cases_lt, cases_eq, ne_eqb}
 use Rattle.std.proofs.lemmas.List.{get_or-set_same, get_or-set_other, get_or_past, length-set}
 use Rattle.export_machine.specs.declared.journal.JournalEntry.{JournalEntry}
 use Rattle.export_machine.specs.declared.event.Request.{Request}
@@ -13,15 +14,18 @@ use Rattle.export_machine.specs.Step.{Event, refusal, run, start, journals, is_c
 use Rattle.export_machine.specs.View.{IsReached}
 use Rattle.export_machine.specs.Kept.{Indexes, IsIndexed, count_at, children_of}
 use Rattle.export_machine.proofs.Owning.{is_over}
-use Rattle.export_machine.proofs.Tables.{same_or_other}
 use Rattle.export_machine.proofs.Views.{push_same, push_other, length_push}
 use Rattle.export_machine.proofs.Safe.{Safe, phase_of}
-use Rattle.export_machine.proofs.Lookups.{itself, same_number, authority_is, no_open, free_owner}
+use Rattle.export_machine.proofs.Lookups.{itself, authority_is, no_open, free_owner}
 use Rattle.export_machine.proofs.Events.{no_requests, elsewhere_dir}
 use Rattle.export_machine.proofs.Tidy.{Tidy, run_tidy, start_tidy}
 use Rattle.export_machine.proofs.Owners.{made_authority, made_others_authority, gone_authority, gone_others_authority}
 use Rattle.export_machine.proofs.Found.{options_by}
 use Rattle.export_machine.proofs.Indexing.{entry_open, default}
+
+pub replicate_push : {A : Type 0} (n : ℕ) (a : A) → replicate n a ++ a ∷ [] ≡ replicate (suc n) a
+replicate_push zero a = refl
+replicate_push (suc n) a = ap (λ xs. a ∷ xs) (replicate_push n a)
 
 -- children
 
@@ -68,9 +72,6 @@ both a b h k = grind arith
 unlike : (a b : Bool) → a ≡ false → (a && not b) ≡ false
 unlike a b h = grind arith
 
-unequal : (m n : ℕ) → m ≢ n → eqb m n ≡ false
-unequal m n h = grind arith
-
 plus_none : (m n : ℕ) → n ≡ 0 → m + n ≡ m
 plus_none m n h = omega arith
 
@@ -91,15 +92,15 @@ module _ (w : World) (a p : ℕ) (near : a < length w.journals) where
   child_of d e l =
       rw e (count_push (is_child p) w.parents (Some p)
       ∙ plus_one (children_of w p) (cond (eqb p p && not (eqb (length w.parents) p)) 1 0)
-      (counts_one (eqb p p && not (eqb (length w.parents) p)) (both (eqb p p) (eqb (length w.parents) p) (itself p) (unequal (length w.parents) p (λ k. absurd (omega arith))))))
+      (counts_one (eqb p p && not (eqb (length w.parents) p)) (both (eqb p p) (eqb (length w.parents) p) (itself p) (ne_eqb (length w.parents) p (λ k. absurd (omega arith))))))
 
   no_child_of : (d : ℕ) → d ≢ p → children_of grown d ≡ children_of w d
   no_child_of d n = count_push (is_child d) w.parents (Some p)
       ∙ plus_none (children_of w d) (cond (eqb p d && not (eqb (length w.parents) d)) 1 0)
-      (counts_none (eqb p d && not (eqb (length w.parents) d)) (unlike (eqb p d) (eqb (length w.parents) d) (unequal p d (λ k. n (sym k)))))
+      (counts_none (eqb p d && not (eqb (length w.parents) d)) (unlike (eqb p d) (eqb (length w.parents) d) (ne_eqb p d (λ k. n (sym k)))))
 
   pub made_indexed : IsReached w → (i : Indexes) → IsIndexed w i → p < length w.parents → (r : ℕ) → r ≡ get_or (i.children ++ 0 ∷ []) p r →
-      IsIndexed grown (record { owners = i.owners ++ Some a ∷ []; opened = i.opened ++ None ∷ []; running = i.running ++ 0 ∷ []; children = set (i.children ++ 0 ∷ []) p (r + 1) })
+      IsIndexed grown (record { owners = i.owners ++ Some a ∷ []; opened = i.opened ++ None ∷ []; running = i.running ++ 0 ∷ []; children = set (i.children ++ 0 ∷ []) p (r + 1); marks = i.marks ++ false ∷ [] })
   made_indexed reached i is l r h = record {
     owners = λ d. options_by w reached (get_or (i.owners ++ Some a ∷ []) d None) (authority grown d) (λ safe. owner safe d);
     opened = λ d. opened d ∙ sym (grown_open d);
@@ -109,31 +110,35 @@ module _ (w : World) (a p : ℕ) (near : a < length w.journals) where
     opened_places = longer i.opened w.parents None (Some p) is.opened_places;
     running_places = longer i.running w.parents 0 (Some p) is.running_places;
     children_places = length-set (i.children ++ 0 ∷ []) p (r + 1) ∙ longer i.children w.parents 0 (Some p) is.children_places;
+    unmarked = ap (λ ms. ms ++ false ∷ []) is.unmarked ∙ (replicate_push (length w.parents) false ∙ ap (λ n. replicate n false) (sym (length_push w.parents (Some p) ∙ succ (length w.parents))));
   }
     where
+      succ : (n : ℕ) → n + 1 ≡ suc n
+      succ n = omega arith
+
       longer : {A B : Type 0} (xs : List A) (ys : List B) (c : A) (e : B) → length xs ≡ length ys → length (xs ++ c ∷ []) ≡ length (ys ++ e ∷ [])
       longer xs ys c e k = length_push xs c ∙ (ap (λ n. n + 1) k ∙ sym (length_push ys e))
 
       owner : Safe w → (d : ℕ) → get_or (i.owners ++ Some a ∷ []) d None ≡ authority grown d
-      owner safe d = elim (same_or_other d (length w.parents)) [
+      owner safe d = elim (cases_eq d (length w.parents)) [
         | inl e ↦ rw (e, made_authority w safe a p near, ← is.owner_places) (push_same i.owners (Some a) None)
         | inr n ↦ push_other i.owners (Some a) None d (rw is.owner_places n) ∙ (is.owners d ∙ sym (made_others_authority w safe a p near d n))
       ]
 
       opened : (d : ℕ) → get_or (i.opened ++ None ∷ []) d None ≡ open_export w d
-      opened d = elim (same_or_other d (length i.opened)) [
+      opened d = elim (cases_eq d (length i.opened)) [
         | inl e ↦ rw e (push_same i.opened None None ∙ (sym (get_or_past i.opened (length i.opened) None (omega arith)) ∙ is.opened (length i.opened)))
         | inr n ↦ push_other i.opened None None d n ∙ is.opened d
       ]
 
       running : (d : ℕ) → get_or (i.running ++ 0 ∷ []) d 0 ≡ running_on w (d ∷ [])
-      running d = elim (same_or_other d (length i.running)) [
+      running d = elim (cases_eq d (length i.running)) [
         | inl e ↦ rw e (push_same i.running 0 0 ∙ (sym (get_or_past i.running (length i.running) 0 (omega arith)) ∙ is.running (length i.running)))
         | inr n ↦ push_other i.running 0 0 d n ∙ is.running d
       ]
 
       pushed : (d : ℕ) → get_or (i.children ++ 0 ∷ []) d 0 ≡ children_of w d
-      pushed d = elim (same_or_other d (length i.children)) [
+      pushed d = elim (cases_eq d (length i.children)) [
         | inl e ↦ rw e (push_same i.children 0 0 ∙ (sym (get_or_past i.children (length i.children) 0 (omega arith)) ∙ is.children (length i.children)))
         | inr n ↦ push_other i.children 0 0 d n ∙ is.children d
       ]
@@ -142,7 +147,7 @@ module _ (w : World) (a p : ℕ) (near : a < length w.journals) where
       place = omega (arith, length_push i.children 0, is.children_places)
 
       children : (d : ℕ) → get_or (set (i.children ++ 0 ∷ []) p (r + 1)) d 0 ≡ children_of grown d
-      children d = elim (same_or_other d p) [
+      children d = elim (cases_eq d p) [
         | inl e ↦
             (let s : get_or (set (i.children ++ 0 ∷ []) p (r + 1)) p 0 ≡ r + 1 = get_or-set_same (i.children ++ 0 ∷ []) p (r + 1) 0 place in
             let k : r ≡ children_of w p = h ∙ (default (i.children ++ 0 ∷ []) p r 0 place ∙ pushed p) in
@@ -175,21 +180,21 @@ module _ (w : World) (a d p : ℕ) (near : a < length w.journals) (there : d < l
 
   one_fewer : children_of w p - 1 ≡ children_of shrunk p
   one_fewer = less_one (children_of shrunk p) (cond (eqb p p && not (eqb d p)) 1 0) (children_of w p) (fewer p)
-      (counts_one (eqb p p && not (eqb d p)) (both (eqb p p) (eqb d p) (itself p) (unequal d p (λ k. absurd (omega arith)))))
+      (counts_one (eqb p p && not (eqb d p)) (both (eqb p p) (eqb d p) (itself p) (ne_eqb d p (λ k. absurd (omega arith)))))
     where
       less_one : (m n k : ℕ) → m + n ≡ k → n ≡ 1 → k - 1 ≡ m
       less_one m n k e f = omega arith
 
   pub some_child : 1 ≤ children_of w p
   some_child = least (children_of shrunk p) (cond (eqb p p && not (eqb d p)) 1 0) (children_of w p) (fewer p)
-      (counts_one (eqb p p && not (eqb d p)) (both (eqb p p) (eqb d p) (itself p) (unequal d p (λ k. absurd (omega arith)))))
+      (counts_one (eqb p p && not (eqb d p)) (both (eqb p p) (eqb d p) (itself p) (ne_eqb d p (λ k. absurd (omega arith)))))
     where
       least : (m n k : ℕ) → m + n ≡ k → n ≡ 1 → 1 ≤ k
       least m n k e f = omega arith
 
   as_many : (e : ℕ) → e ≢ p → children_of w e ≡ children_of shrunk e
   as_many e n = same (children_of shrunk e) (cond (eqb p e && not (eqb d e)) 1 0) (children_of w e) (fewer e)
-      (counts_none (eqb p e && not (eqb d e)) (unlike (eqb p e) (eqb d e) (unequal p e (λ k. n (sym k)))))
+      (counts_none (eqb p e && not (eqb d e)) (unlike (eqb p e) (eqb d e) (ne_eqb p e (λ k. n (sym k)))))
     where
       same : (m k l : ℕ) → m + k ≡ l → k ≡ 0 → l ≡ m
       same m k l e f = omega arith
@@ -205,6 +210,7 @@ module _ (w : World) (a d p : ℕ) (near : a < length w.journals) (there : d < l
     opened_places = is.opened_places ∙ sym (length-set w.parents d None);
     running_places = is.running_places ∙ sym (length-set w.parents d None);
     children_places = length-set i.children p (r - 1) ∙ (is.children_places ∙ sym (length-set w.parents d None));
+    unmarked = is.unmarked ∙ ap (λ n. replicate n false) (sym (length-set w.parents d None));
   }
     where
       ended : (t : ℕ) (q : Request) → request_of w t ≡ Some q → q.dir ≢ d
@@ -214,7 +220,7 @@ module _ (w : World) (a d p : ℕ) (near : a < length w.journals) (there : d < l
       owned safe = free_owner w safe a d (authority_is w d a auth).1 (no_open w safe d closed)
 
       owner : Safe w → (e : ℕ) → get_or (set i.owners d None) e None ≡ authority shrunk e
-      owner safe e = elim (same_or_other e d) [
+      owner safe e = elim (cases_eq e d) [
         | inl s ↦ rw (s, gone_authority w safe a d near (owned safe) (no_open w safe d closed) ended) (get_or-set_same i.owners d None None (rw is.owner_places there))
         | inr n ↦ get_or-set_other i.owners d e None None n ∙ (is.owners e ∙ sym (gone_others_authority w safe a d near (owned safe) (no_open w safe d closed) ended e n))
       ]
@@ -223,7 +229,7 @@ module _ (w : World) (a d p : ℕ) (near : a < length w.journals) (there : d < l
       place = omega (arith, is.children_places)
 
       children : (e : ℕ) → get_or (set i.children p (r - 1)) e 0 ≡ children_of shrunk e
-      children e = elim (same_or_other e p) [
+      children e = elim (cases_eq e p) [
         | inl s ↦
             (let k : r ≡ children_of w p = h ∙ (default i.children p r 0 place ∙ is.children p) in
             rw (s, get_or-set_same i.children p (r - 1) 0 place, k) one_fewer)

@@ -1,8 +1,8 @@
 -- How the tables by directory follow each event.
 use Rattle.std.proofs.Common.{◌≡◌, ◌≢◌, ℕ, zero, suc, ◌+◌, ◌-◌, ◌<◌, ◌≤◌, Bool, true, false, ◌&&◌, ◌||◌, not, eqb, cond, List, [], ◌∷◌, ◌++◌, length, get_or, set, Option, Some, None, refl, sym, ap, ◌∙◌, subst, inl, inr, ◌⊎◌, arith}
-use Rattle.std.specs.Prelude.{count_by}
+use Rattle.std.specs.Prelude.{count_by, replicate}
 use Rattle.std.specs.List.{slice_get}
-use Rattle.std.proofs.lemmas.Bool.{cases_lt}
+use Rattle.std.proofs.lemmas.Bool.{cases_lt, and_parts, cases_Bool, cases_eq, eqb-true, not-true}
 use Rattle.std.proofs.lemmas.List.{get_or-set_same, get_or-set_other, get_or_past, length-set}
 use Rattle.export_machine.specs.declared.exporter.ExporterState.{ExporterState}
 use Rattle.export_machine.specs.declared.importer.ImporterState.{ImporterState}
@@ -19,10 +19,10 @@ use Rattle.export_machine.specs.Step.Event.{Begin, End, Start, Deliver, Froze, N
 use Rattle.export_machine.specs.View.{IsReached}
 use Rattle.export_machine.specs.Kept.{Indexes, IsIndexed, children_of, count_at}
 use Rattle.export_machine.proofs.Owning.{Phase, is_moving, is_over, place}
-use Rattle.export_machine.proofs.Tables.{same_or_other, together, is_imported}
+use Rattle.export_machine.proofs.Tables.{together, is_imported}
 use Rattle.export_machine.proofs.Views.{push_same, push_other, map_at_get, map_at_past, map_at_length, has_adds, owns_at, owns_other, not_past}
-use Rattle.export_machine.proofs.Safe.{Safe, phase_by, phase_of, either, exporter_at, exporter_phases, importer_at, importer_phases, aborted_safe, early_safe, notify_safe, started_safe, dropped_safe, imported_safe, log_safe, same_phase, message_of}
-use Rattle.export_machine.proofs.Lookups.{and_true, both_true, same_number, itself, first_none, first_some, inside_near, open_over, no_open}
+use Rattle.export_machine.proofs.Safe.{Safe, phase_by, phase_of, exporter_at, exporter_phases, importer_at, importer_phases, aborted_safe, early_safe, notify_safe, started_safe, dropped_safe, imported_safe, log_safe, same_phase, message_of}
+use Rattle.export_machine.proofs.Lookups.{itself, first_none, first_some, inside_near, open_over, no_open}
 use Rattle.export_machine.proofs.Authorities.{found_or_not}
 use Rattle.export_machine.proofs.Walks.{quiet_authority, logged_inside, logged_outside}
 use Rattle.export_machine.proofs.Owners.{finish_authority, made_authority, made_others_authority, gone_authority, gone_others_authority, start_authority}
@@ -30,7 +30,7 @@ use Rattle.export_machine.proofs.Events.{NoneOf, not_refused, there_near, freezi
 use Rattle.export_machine.proofs.Theorem.{not_refused_causes}
 use Rattle.export_machine.proofs.Reached.{by_safe}
 use Rattle.export_machine.proofs.Lists.{running_begun, running_ended, runs_here}
-use Rattle.export_machine.proofs.Found.{options_by, orders_by, first_is_none, first_is, first_same, open_is}
+use Rattle.export_machine.proofs.Found.{options_by, orders_by, first_is_none, first_is, first_same, open_is, Safely, options_safely, orders_safely}
 
 -- authorities and open exports stay, requests and parents too
 pub same_indexed : (w v : World) (i : Indexes) → IsIndexed w i → ((d : ℕ) → authority v d ≡ authority w d) → ((d : ℕ) → open_export v d ≡ open_export w d) →
@@ -44,6 +44,7 @@ same_indexed w v i is a o t p = record {
   opened_places = is.opened_places ∙ sym (ap length p);
   running_places = is.running_places ∙ sym (ap length p);
   children_places = is.children_places ∙ sym (ap length p);
+  unmarked = is.unmarked ∙ sym (ap (λ (ps : List (Option ℕ)). replicate (length ps) false) p);
 }
 
 -- which exports are open
@@ -57,7 +58,7 @@ open_stays w v e h d =
 
 aborted_same : (xs : List ExporterState) (x : ℕ) (s : ExporterState) → is_aborted (get_or xs x Aborted) ≡ is_aborted s →
     (y : ℕ) → is_aborted (get_or (set xs x s) y Aborted) ≡ is_aborted (get_or xs y Aborted)
-aborted_same xs x s h y = elim (same_or_other y x) [
+aborted_same xs x s h y = elim (cases_eq y x) [
   | inr n ↦ ap is_aborted (get_or-set_other xs x y s Aborted n)
   | inl e ↦ rw e (elim (cases_lt x (length xs)) [
     | inl m ↦ ap is_aborted (get_or-set_same xs x s Aborted m) ∙ sym h
@@ -111,19 +112,16 @@ module _ (w v : World) (safe : Safe w) (x : ℕ) (was : is_over (phase_of w x) �
 
   pub shut_inside : (d : ℕ) → is_inside w x d ≡ true → open_export v d ≡ None
   unfolding open_export
-  shut_inside d i = first_is_none (length v.orders) (λ y. is_open v y && is_inside v y d) (λ y l. go y (either (is_open v y && is_inside v y d)))
+  shut_inside d i = first_is_none (length v.orders) (λ y. is_open v y && is_inside v y d) (λ y l. go y (cases_Bool (is_open v y && is_inside v y d)))
     where
-      shut : (b : Bool) → not b ≡ true → b ≡ false
-      shut b k = grind arith
-
       go : (y : ℕ) → ((is_open v y && is_inside v y d) ≡ true) ⊎ ((is_open v y && is_inside v y d) ≡ false) → (is_open v y && is_inside v y d) ≡ false
       go y (inr f) = f
       go y (inl t) =
-          let p : (is_open v y ≡ true) × (is_inside v y d ≡ true) = and_true (is_open v y) (is_inside v y d) t in
-          elim (same_or_other y x) [
+          let p : (is_open v y ≡ true) × (is_inside v y d ≡ true) = and_parts (is_open v y) (is_inside v y d) t in
+          elim (cases_eq y x) [
             | inl e ↦ absurd (cc (rw e at p.0, over))
             | inr n ↦
-                (let o : is_over (phase_of w y) ≡ false = shut (is_over (phase_of w y)) (sym (open_over w safe y) ∙ (sym (others y n) ∙ p.0)) in
+                (let o : is_over (phase_of w y) ≡ false = not-true (is_over (phase_of w y)) (sym (open_over w safe y) ∙ (sym (others y n) ∙ p.0)) in
                 absurd (n (safe.owning.one_export y x d (sym (same_inside y d) ∙ p.1) i o was)))
           ]
 
@@ -137,7 +135,7 @@ module _ (w v : World) (safe : Safe w) (x : ℕ) (was : is_over (phase_of w x) �
       none a b c k = grind arith
 
       go : (y : ℕ) → (is_open v y && is_inside v y d) ≡ (is_open w y && is_inside w y d)
-      go y = elim (same_or_other y x) [
+      go y = elim (cases_eq y x) [
         | inl e ↦ ap (λ b. is_open v y && b) (same_inside y d) ∙ none (is_open v y) (is_open w y) (is_inside w y d) (rw e i)
         | inr n ↦ rw (same_inside y d, others y n) refl
       ]
@@ -169,8 +167,8 @@ before_over Logged j h = absurd (cc)
 before_over Done j h = absurd (cc)
 before_over Aborted j h = absurd (cc)
 
-pub abort_there : (w : World) → IsReached w → (x : ℕ) → is_before_log (exporter_of w x) ≡ true → (d : ℕ) → is_inside w x d ≡ true → d < length w.parents
-abort_there w r x b d i = orders_by w r d (length w.parents) (λ safe. inside_there w safe x (before_over (exporter_of w x) (importer_of w x) b) d i)
+pub abort_there : (w : World) → Safely w → (x : ℕ) → is_before_log (exporter_of w x) ≡ true → (d : ℕ) → is_inside w x d ≡ true → d < length w.parents
+abort_there w r x b d i = orders_safely w r d (length w.parents) (λ safe. inside_there w safe x (before_over (exporter_of w x) (importer_of w x) b) d i)
 
 module _ (w : World) (x : ℕ) (near : x < length w.exporters) (ms : List Message) where
   abbrev pub aborted : World
@@ -182,12 +180,12 @@ module _ (w : World) (x : ℕ) (near : x < length w.exporters) (ms : List Messag
   aborted_others : (y : ℕ) → y ≢ x → is_open aborted y ≡ is_open w y
   aborted_others y n = rw (get_or-set_other w.exporters x y Aborted Aborted n) refl
 
-  pub abort_indexed : IsReached w → (i : Indexes) → IsIndexed w i → is_before_log (exporter_of w x) ≡ true →
+  pub abort_indexed : Safely w → (i : Indexes) → IsIndexed w i → is_before_log (exporter_of w x) ≡ true →
       IsIndexed aborted (record i { opened = map_at (λ k old. cond (is_inside w x k) None old) i.opened })
   unfolding authority
   abort_indexed r i is b = record {
     owners = is.owners;
-    opened = λ d. options_by w r (get_or (map_at (λ k old. cond (is_inside w x k) None old) i.opened) d None) (open_export aborted d)
+    opened = λ d. options_safely w r (get_or (map_at (λ k old. cond (is_inside w x k) None old) i.opened) d None) (open_export aborted d)
         (λ safe. shut_opened w aborted safe x (before_over (exporter_of w x) (importer_of w x) b) refl aborted_over aborted_others i.opened is.opened_places d (is.opened d));
     running = is.running;
     children = is.children;
@@ -195,6 +193,7 @@ module _ (w : World) (x : ℕ) (near : x < length w.exporters) (ms : List Messag
     opened_places = map_at_length (λ k old. cond (is_inside w x k) None old) i.opened ∙ is.opened_places;
     running_places = is.running_places;
     children_places = is.children_places;
+    unmarked = is.unmarked;
   }
 
 -- Begin and End
@@ -206,7 +205,7 @@ not_here : (d e : ℕ) → e ≢ d → runs_here e d ≡ 0
 not_here d e n = go (eqb e d) refl
   where
     go : (b : Bool) → eqb e d ≡ b → cond {A = ℕ} (b || false) 1 0 ≡ 0
-    go true h = absurd (n (same_number e d h))
+    go true h = absurd (n (eqb-true e d h))
     go false h = refl
 
 pub default : (xs : List ℕ) (k a b : ℕ) → k < length xs → get_or xs k a ≡ get_or xs k b
@@ -220,7 +219,7 @@ unfolding authority open_export
 begin_indexed w i q is near r h ts t = record {
   owners = is.owners;
   opened = is.opened;
-  running = λ e. rw t (elim (same_or_other e q.dir) [
+  running = λ e. rw t (elim (cases_eq e q.dir) [
     | inl s ↦
         (let n : get_or (set i.running q.dir (r + 1)) q.dir 0 ≡ r + 1 = get_or-set_same i.running q.dir (r + 1) 0 (rw is.running_places near) in
         let k : r ≡ running_on w (q.dir ∷ []) = h ∙ (default i.running q.dir r 0 (rw is.running_places near) ∙ is.running q.dir) in
@@ -232,6 +231,7 @@ begin_indexed w i q is near r h ts t = record {
   opened_places = is.opened_places;
   running_places = length-set i.running q.dir (r + 1) ∙ is.running_places;
   children_places = is.children_places;
+  unmarked = is.unmarked;
 }
   where
     plain : (n : ℕ) → n + 0 ≡ n
@@ -256,7 +256,7 @@ unfolding authority open_export
 end_indexed w i t q is e near r h = record {
   owners = is.owners;
   opened = is.opened;
-  running = λ d. elim (same_or_other d q.dir) [
+  running = λ d. elim (cases_eq d q.dir) [
     | inl s ↦
         (let n : get_or (set i.running q.dir (r - 1)) q.dir 0 ≡ r - 1 = get_or-set_same i.running q.dir (r - 1) 0 (rw is.running_places near) in
         let k : r ≡ running_on w (q.dir ∷ []) = h ∙ (default i.running q.dir r 0 (rw is.running_places near) ∙ is.running q.dir) in
@@ -268,6 +268,7 @@ end_indexed w i t q is e near r h = record {
   opened_places = is.opened_places;
   running_places = length-set i.running q.dir (r - 1) ∙ is.running_places;
   children_places = is.children_places;
+  unmarked = is.unmarked;
 }
   where
     less : (m n k : ℕ) → m + n ≡ k → n ≡ 1 → k - 1 ≡ m

@@ -27,3 +27,6 @@ pub mod Starting
 pub mod Bounds
 pub mod Runs
 pub mod Starts
+pub mod Listing
+pub mod Halting
+pub mod Halted

@@ -2,7 +2,7 @@
 use Rattle.std.proofs.Common.{◌≡◌, ◌≢◌, ℕ, zero, suc, ◌+◌, ◌<◌, ◌≤◌, Bool, true, false, ◌&&◌, ◌||◌, not, eqb, ltb, cond, List, [], ◌∷◌, ◌++◌, length, get_or, set, take, drop, Option, Some, None, refl, sym, ap, ◌∙◌, subst, inl, inr, ◌⊎◌, arith}
 use Rattle.std.specs.List.{list_any, list_all}
 use Rattle.std.specs.Prelude.{count_by}
-use Rattle.std.proofs.lemmas.Bool.{cases_lt}
+use Rattle.std.proofs.lemmas.Bool.{cases_lt, and_parts, eqb-true, or_cases, or_from, or_left, or_parts, or_right}
 use Rattle.std.proofs.lemmas.List.Recursion.{is_count_by}
 use Rattle.export_machine.specs.declared.event.Request.{Request}
 use Rattle.export_machine.specs.declared.step_error.StepError.{StepError}
@@ -10,22 +10,8 @@ use Rattle.export_machine.specs.Cluster.{World}
 use Rattle.export_machine.specs.Authority.{is_among, is_present, runs_on, or_else}
 use Rattle.export_machine.specs.Step.{repeats, any_at, running_on, cannot_leave, least_fault}
 use Rattle.export_machine.specs.Kept.{count_at, lesser}
-use Rattle.export_machine.proofs.Tables.{same_or_other}
-use Rattle.export_machine.proofs.Safe.{either}
-use Rattle.export_machine.proofs.Lookups.{or_true, and_true, same_number, itself}
-use Rattle.export_machine.proofs.Events.{there_near}
-
-or_left : (a b : Bool) → a ≡ true → (a || b) ≡ true
-or_left a b h = grind arith
-
-or_right : (a b : Bool) → b ≡ true → (a || b) ≡ true
-or_right a b h = grind arith
-
-or_no : (a b : Bool) → (a || b) ≡ false → (a ≡ false) × (b ≡ false)
-or_no a b h = (grind arith, grind arith)
-
-both_no : (a b : Bool) → a ≡ false → b ≡ false → (a || b) ≡ false
-both_no a b h k = grind arith
+use Rattle.export_machine.proofs.Lookups.{itself}
+use Rattle.export_machine.proofs.Events.{there_near, number_of}
 
 -- members
 
@@ -39,7 +25,7 @@ among_push (x ∷ xs) d e = ap (λ b. eqb x e || b) (among_push xs d e) ∙ asso
     assoc : (a b c : Bool) → (a || (b || c)) ≡ ((a || b) || c)
     assoc a b c = grind arith
 
-pub take_push : (xs : List ℕ) (i d : ℕ) → i < length xs → take (suc i) xs ≡ take i xs ++ get_or xs i d ∷ []
+pub take_push : {A : Type 0} (xs : List A) (i : ℕ) (d : A) → i < length xs → take (suc i) xs ≡ take i xs ++ get_or xs i d ∷ []
 take_push [] i d h = absurd (omega arith)
 take_push (x ∷ xs) zero d h = refl
 take_push (x ∷ xs) (suc i) d h = ap (λ ys. x ∷ ys) (take_push xs i d (omega arith))
@@ -54,12 +40,12 @@ pub not_before : (xs : List ℕ) (i d : ℕ) → i < length xs → repeats xs �
 not_before [] i d h r = absurd (omega arith)
 not_before (x ∷ xs) zero d h r = refl
 not_before (x ∷ xs) (suc i) d h r =
-    let p : (is_among xs x ≡ false) × (repeats xs ≡ false) = or_no (is_among xs x) (repeats xs) r in
-    both_no (eqb x (get_or xs i d)) (is_among (take i xs) (get_or xs i d)) (other (eqb x (get_or xs i d)) refl p.0) (not_before xs i d (omega arith) p.1)
+    let p : (is_among xs x ≡ false) × (repeats xs ≡ false) = or_parts (is_among xs x) (repeats xs) r in
+    or_from (eqb x (get_or xs i d)) (is_among (take i xs) (get_or xs i d)) (other (eqb x (get_or xs i d)) refl p.0) (not_before xs i d (omega arith) p.1)
   where
     other : (b : Bool) → eqb x (get_or xs i d) ≡ b → is_among xs x ≡ false → b ≡ false
     other false e k = refl
-    other true e k = absurd (cc (k, rw (← same_number x (get_or xs i d) e) at (among_at xs i d (omega arith))))
+    other true e k = absurd (cc (k, rw (← eqb-true x (get_or xs i d) e) at (among_at xs i d (omega arith))))
 
 -- the repetitions of a list are those of what is left, where the members before have none
 pub repeats_drop : (xs : List ℕ) (i d : ℕ) → i < length xs → repeats (drop i xs) ≡ (is_among (drop (suc i) xs) (get_or xs i d) || repeats (drop (suc i) xs))
@@ -68,10 +54,6 @@ repeats_drop (x ∷ xs) zero d h = refl
 repeats_drop (x ∷ xs) (suc i) d h = repeats_drop xs i d (omega arith)
 
 -- requests
-
-abbrev number_of : (Option Request → Bool) → List (Option Request) → ℕ
-number_of p [] = 0
-number_of p (t ∷ ts) = cond (p t) (1 + number_of p ts) (number_of p ts)
 
 pub counted : (p : Option Request → Bool) (ts : List (Option Request)) → count_by p ts ≡ number_of p ts
 counted p ts = sym (is_count_by (number_of p) p refl (λ x xs. refl) ts)
@@ -99,7 +81,7 @@ run_apart xs d h (Some q) = (among_push xs d q.dir ∙ tail (is_among xs q.dir) 
     none a b k = grind arith
 
     go : (b : Bool) → eqb d q.dir ≡ b → (is_among xs q.dir && (b || false)) ≡ false
-    go true e = none (is_among xs q.dir) (true || false) (rw (← same_number d q.dir e) h)
+    go true e = none (is_among xs q.dir) (true || false) (rw (← eqb-true d q.dir e) h)
     go false e = last (is_among xs q.dir)
       where
         last : (a : Bool) → (a && (false || false)) ≡ false
@@ -156,12 +138,12 @@ fault_or None = inl refl
 fault_or (Some e) = inr (λ k. cc)
 
 pushed : (xs : List ℕ) (d e : ℕ) → is_among (xs ++ d ∷ []) e ≡ true → (is_among xs e ≡ true) ⊎ (e ≡ d)
-pushed xs d e h = elim (or_true (is_among xs e) (eqb d e) (sym (among_push xs d e) ∙ h)) [ inl a ↦ inl a | inr b ↦ inr (sym (same_number d e b)) ]
+pushed xs d e h = elim (or_cases (is_among xs e) (eqb d e) (sym (among_push xs d e) ∙ h)) [ inl a ↦ inl a | inr b ↦ inr (sym (eqb-true d e b)) ]
 
 push_old : (xs : List ℕ) (d e : ℕ) → is_among xs e ≡ true → is_among (xs ++ d ∷ []) e ≡ true
 push_old xs d e h = among_push xs d e ∙ or_left (is_among xs e) (eqb d e) h
 
-push_new : (xs : List ℕ) (d : ℕ) → is_among (xs ++ d ∷ []) d ≡ true
+pub push_new : (xs : List ℕ) (d : ℕ) → is_among (xs ++ d ∷ []) d ≡ true
 push_new xs d = among_push xs d d ∙ or_right (is_among xs d) (eqb d d) (itself d)
 
 pub least_free : (w : World) (from : ℕ) (xs : List ℕ) (d : ℕ) (o : Option ℕ) → IsLeast w from xs o → cannot_leave w from d ≡ None → IsLeast w from (xs ++ d ∷ []) o
@@ -182,9 +164,6 @@ least_faulty w from xs d (Some l) (faulty a n f) h = go (ltb l d) refl
     go : (b : Bool) → ltb l d ≡ b → IsLeast w from (xs ++ d ∷ []) (Some (cond b l d))
     go true e = (let k : l < d = below e in faulty (push_old xs d l a) n (λ c i m. elim (pushed xs d c i) [ inl j ↦ f c j m | inr s ↦ omega arith ]))
     go false e = (let k : d ≤ l = above e in faulty (push_new xs d) h (λ c i m. elim (pushed xs d c i) [ inl j ↦ (let q : l ≤ c = f c j m in omega arith) | inr s ↦ omega arith ]))
-
-cond_false : {A : Type 0} (b : Bool) (o : Option A) → b ≡ false → cond b o None ≡ None
-cond_false b o e = rw e refl
 
 cond_none : {A : Type 0} (b : Bool) (o : Option A) → (b ≡ true → o ≡ None) → cond b o None ≡ None
 cond_none true o h = h refl
@@ -222,9 +201,9 @@ the_fault w from dirs l (suc n) h a k f = elim (cases_lt l n) [
 
 pub among_present : (w : World) (dirs : List ℕ) → list_all (is_present w) dirs ≡ true → (d : ℕ) → is_among dirs d ≡ true → d < length w.parents
 among_present w [] h d i = absurd (cc)
-among_present w (c ∷ cs) h d i = elim (or_true (eqb c d) (is_among cs d) i) [
-  | inl e ↦ there_near w d (rw (← same_number c d e) (and_true (is_present w c) (list_all (is_present w) cs) h).0)
-  | inr j ↦ among_present w cs (and_true (is_present w c) (list_all (is_present w) cs) h).1 d j
+among_present w (c ∷ cs) h d i = elim (or_cases (eqb c d) (is_among cs d) i) [
+  | inl e ↦ there_near w d (rw (← eqb-true c d e) (and_parts (is_present w c) (list_all (is_present w) cs) h).0)
+  | inr j ↦ among_present w cs (and_parts (is_present w c) (list_all (is_present w) cs) h).1 d j
 ]
 
 pub least_is : (w : World) (from : ℕ) (dirs : List ℕ) (l : ℕ) → list_all (is_present w) dirs ≡ true → IsLeast w from dirs (Some l) → least_fault w from dirs (length w.parents) ≡ cannot_leave w from l
@@ -233,14 +212,8 @@ least_is w from dirs l p (faulty a k f) = the_fault w from dirs l (length w.pare
 pub least_none : (w : World) (from : ℕ) (dirs : List ℕ) → IsLeast w from dirs None → least_fault w from dirs (length w.parents) ≡ None
 least_none w from dirs (free f) = no_fault w from dirs (length w.parents) (λ d l i. f d i)
 
-pub take_all : (xs : List ℕ) (i : ℕ) → length xs ≤ i → take i xs ≡ xs
-take_all [] zero h = refl
-take_all [] (suc i) h = refl
-take_all (x ∷ xs) zero h = absurd (omega arith)
-take_all (x ∷ xs) (suc i) h = ap (λ ys. x ∷ ys) (take_all xs i (omega arith))
-
 -- the next member of a list, in the form of a loop
-pub take_next : (xs : List ℕ) (i d : ℕ) → i < length xs → d ≡ get_or xs i d → take (i + 1) xs ≡ take i xs ++ d ∷ []
+pub take_next : {A : Type 0} (xs : List A) (i : ℕ) (d : A) → i < length xs → d ≡ get_or xs i d → take (i + 1) xs ≡ take i xs ++ d ∷ []
 take_next xs i d h e = ap (λ k. take k xs) (succ i) ∙ (take_push xs i d h ∙ ap (λ m. take i xs ++ m ∷ []) (sym e))
   where
     succ : (k : ℕ) → k + 1 ≡ suc k

@@ -10,9 +10,9 @@ use Rattle.export_machine.specs.Authority.{no_order, is_among, is_inside, from_o
 use Rattle.export_machine.specs.Step.{is_started}
 use Rattle.export_machine.proofs.Owning.{Phase, is_moving, is_over}
 use Rattle.export_machine.proofs.Tables.{together, is_imported, is_committed}
-use Rattle.export_machine.proofs.Safe.{Safe, phase_by, phase_of, either}
+use Rattle.export_machine.proofs.Safe.{Safe, phase_by, phase_of}
 use Rattle.std.proofs.lemmas.List.{get_or_past}
-use Rattle.std.proofs.lemmas.Bool.{cases_lt}
+use Rattle.std.proofs.lemmas.Bool.{cases_lt, and_from, and_parts, cases_Bool, eqb-true, or_cases, or_left, or_right}
 
 -- searches below a number
 
@@ -31,7 +31,7 @@ any_none (suc n) test h k l = elim (cases_lt k n) [
 
 pub any_some : (n : ℕ) (test : ℕ → Bool) → any_below n test ≡ true → (k : ℕ) × (k < n) × (test k ≡ true)
 any_some zero test h = absurd (cc)
-any_some (suc n) test h = elim (either (test n)) [
+any_some (suc n) test h = elim (cases_Bool (test n)) [
   | inl t ↦ (n, omega arith, t)
   | inr f ↦ (let r : (k : ℕ) × (k < n) × (test k ≡ true) = any_some n test (left (any_below n test) (test n) h f) in (r.0, omega (arith, r.1), r.2))
 ]
@@ -42,15 +42,9 @@ any_some (suc n) test h = elim (either (test n)) [
 pub any_here : (n : ℕ) (test : ℕ → Bool) (k : ℕ) → k < n → test k ≡ true → any_below n test ≡ true
 any_here zero test k l t = absurd (omega arith)
 any_here (suc n) test k l t = elim (cases_lt k n) [
-  | inl m ↦ left (any_below n test) (test n) (any_here n test k m t)
-  | inr m ↦ (let e : k ≡ n = omega arith in right (any_below n test) (test n) (rw e at t))
+  | inl m ↦ or_left (any_below n test) (test n) (any_here n test k m t)
+  | inr m ↦ (let e : k ≡ n = omega arith in or_right (any_below n test) (test n) (rw e at t))
 ]
-  where
-    left : (a b : Bool) → a ≡ true → (a || b) ≡ true
-    left a b i = grind arith
-
-    right : (a b : Bool) → b ≡ true → (a || b) ≡ true
-    right a b i = grind arith
 
 pub or_else_none : {A : Type 0} (o p : Option A) → or_else o p ≡ None → (o ≡ None) × (p ≡ None)
 or_else_none None p h = (refl, h)
@@ -82,21 +76,6 @@ first_step n test k (Some j) i ih = (omega (arith, (ih i).0), (ih i).1)
 pub first_some : (n : ℕ) (test : ℕ → Bool) (k : ℕ) → first_below n test ≡ Some k → (k < n) × (test k ≡ true)
 first_some zero test k h = absurd (cc)
 first_some (suc n) test k h = first_step n test k (first_below n test) h (first_some n test k)
-
-pub or_true : (a b : Bool) → (a || b) ≡ true → (a ≡ true) ⊎ (b ≡ true)
-or_true true b h = inl refl
-or_true false b h = inr h
-
-pub and_true : (a b : Bool) → (a && b) ≡ true → (a ≡ true) × (b ≡ true)
-and_true true true h = (refl, refl)
-and_true true false h = absurd (cc)
-and_true false b h = absurd (cc)
-
-pub both_true : (a b : Bool) → a ≡ true → b ≡ true → (a && b) ≡ true
-both_true a b h k = rw (h, k) refl
-
-pub same_number : (m n : ℕ) → eqb m n ≡ true → m ≡ n
-same_number m n h = grind arith
 
 pub itself : (n : ℕ) → eqb n n ≡ true
 itself n = grind arith
@@ -137,11 +116,11 @@ inside_near w x d h = elim (cases_lt x (length w.orders)) [
 ]
 
 pub holds_authority : (w : World) (r d : ℕ) → is_authority w r d ≡ true → IsAuthority w r d
-holds_authority w r d h = elim (or_true (owns w r d) (any_below (length w.orders) (λ x. is_taking_over w r x && is_inside w x d)) h) [
+holds_authority w r d h = elim (or_cases (owns w r d) (any_below (length w.orders) (λ x. is_taking_over w r x && is_inside w x d)) h) [
   | inl o ↦ inl o
   | inr a ↦ inr (let s : (x : ℕ) × (x < length w.orders) × ((is_taking_over w r x && is_inside w x d) ≡ true) =
       any_some (length w.orders) (λ x. is_taking_over w r x && is_inside w x d) a in
-      let b : (is_taking_over w r s.0 ≡ true) × (is_inside w s.0 d ≡ true) = and_true (is_taking_over w r s.0) (is_inside w s.0 d) s.2 in
+      let b : (is_taking_over w r s.0 ≡ true) × (is_inside w s.0 d ≡ true) = and_parts (is_taking_over w r s.0) (is_inside w s.0 d) s.2 in
       (s.0, b.0, b.1))
 ]
 
@@ -157,18 +136,18 @@ module _ (w : World) (safe : Safe w) where
 
   pub taking_over : (r x : ℕ) → is_taking_over w r x ≡ true → (r ≡ to_of w x) × (is_moving (phase_of w x) ≡ true)
   taking_over r x h =
-      let a : (is_importing w r x ≡ true) × (has w (from_of w x) (JournalEntry.Exported x) ≡ true) = and_true (is_importing w r x) (has w (from_of w x) (JournalEntry.Exported x)) h in
-      let b : (eqb r (to_of w x) ≡ true) × (is_started (importer_of w x) ≡ true) = and_true (eqb r (to_of w x)) (is_started (importer_of w x)) (rw (safe.tables.importing r x) at a.0) in
+      let a : (is_importing w r x ≡ true) × (has w (from_of w x) (JournalEntry.Exported x) ≡ true) = and_parts (is_importing w r x) (has w (from_of w x) (JournalEntry.Exported x)) h in
+      let b : (eqb r (to_of w x) ≡ true) × (is_started (importer_of w x) ≡ true) = and_parts (eqb r (to_of w x)) (is_started (importer_of w x)) (rw (safe.tables.importing r x) at a.0) in
       let c : (eqb (from_of w x) (from_of w x) ≡ true) × (is_committed (exporter_of w x) ≡ true) =
-      and_true (eqb (from_of w x) (from_of w x)) (is_committed (exporter_of w x)) (rw (safe.tables.exported (from_of w x) x) at a.1) in
-      (same_number r (to_of w x) b.0, taking_phase (exporter_of w x) (importer_of w x) b.1 c.1)
+      and_parts (eqb (from_of w x) (from_of w x)) (is_committed (exporter_of w x)) (rw (safe.tables.exported (from_of w x) x) at a.1) in
+      (eqb-true r (to_of w x) b.0, taking_phase (exporter_of w x) (importer_of w x) b.1 c.1)
 
   pub takes_over : (x : ℕ) → is_moving (phase_of w x) ≡ true → is_taking_over w (to_of w x) x ≡ true
   takes_over x h =
       let s : (is_started (importer_of w x) ≡ true) × (is_committed (exporter_of w x) ≡ true) = moving_states (exporter_of w x) (importer_of w x) (safe.tables.paired x) h in
       let a : is_importing w (to_of w x) x ≡ true = rw (safe.tables.importing (to_of w x) x, itself (to_of w x), s.0) refl in
       let b : has w (from_of w x) (JournalEntry.Exported x) ≡ true = rw (safe.tables.exported (from_of w x) x, itself (from_of w x), s.1) refl in
-      both_true (is_importing w (to_of w x) x) (has w (from_of w x) (JournalEntry.Exported x)) a b
+      and_from (is_importing w (to_of w x) x) (has w (from_of w x) (JournalEntry.Exported x)) a b
 
   pub no_open : (d : ℕ) → open_export w d ≡ None → (x : ℕ) → is_inside w x d ≡ true → is_over (phase_of w x) ≡ true
   unfolding open_export
@@ -198,7 +177,7 @@ module _ (w : World) (safe : Safe w) where
 
   -- and one at least
   pub some_authority : (d r : ℕ) → named_of w d ≡ Some r → (s : ℕ) × IsAuthority w s d
-  some_authority d r h = elim (either (owns w r d)) [
+  some_authority d r h = elim (cases_Bool (owns w r d)) [
     | inl o ↦ (r, inl o)
     | inr n ↦ (let m : (x : ℕ) × (is_inside w x d ≡ true) × (is_moving (phase_of w x) ≡ true) = safe.owning.named_owns r d h n in
         (to_of w m.0, inr (m.0, takes_over m.0 m.2, m.1)))

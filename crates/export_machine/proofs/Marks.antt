@@ -1,16 +1,17 @@
 -- Tables in which a list of directories gets the same value.
 use Rattle.std.proofs.Common.{◌≡◌, ℕ, zero, suc, ◌+◌, ◌<◌, ◌≤◌, Bool, true, false, ◌||◌, eqb, cond, List, [], ◌∷◌, ◌++◌, length, get_or, set, take, refl, sym, ap, ◌∙◌, arith}
+use Rattle.std.proofs.lemmas.List.{take_all}
 use Rattle.export_machine.specs.Authority.{is_among}
 use Rattle.export_machine.specs.Step.{map_at}
 use Rattle.export_machine.proofs.Views.{map_at_length}
 use Rattle.export_machine.proofs.Lookups.{itself}
-use Rattle.export_machine.proofs.Lists.{among_push, take_next, take_all, among_at}
+use Rattle.export_machine.proofs.Lists.{among_push, take_next, among_at}
 
 pub map_at_same : {A B : Type 0} (f g : ℕ → A → B) → ((k : ℕ) (a : A) → f k a ≡ g k a) → (xs : List A) → map_at f xs ≡ map_at g xs
 map_at_same f g h [] = refl
 map_at_same f g h (x ∷ xs) = rw (h 0 x) (ap (λ ys. g 0 x ∷ ys) (map_at_same (λ k. f (suc k)) (λ k. g (suc k)) (λ k a. h (suc k) a) xs))
 
-unchanged : {A : Type 0} (xs : List A) → map_at (λ k a. a) xs ≡ xs
+pub unchanged : {A : Type 0} (xs : List A) → map_at (λ k a. a) xs ≡ xs
 unchanged [] = refl
 unchanged (x ∷ xs) = ap (λ ys. x ∷ ys) (unchanged xs)
 
@@ -20,7 +21,7 @@ mark_start xs v = sym (unchanged xs)
 cond_same : {A : Type 0} (b c : Bool) (v a : A) → b ≡ c → cond b v a ≡ cond c v a
 cond_same b c v a h = ap (λ d. cond d v a) h
 
-set_mark : {A : Type 0} (p : ℕ → Bool) (v : A) (xs : List A) (d : ℕ) → set (map_at (λ k old. cond (p k) v old) xs) d v ≡ map_at (λ k old. cond (p k || eqb d k) v old) xs
+pub set_mark : {A : Type 0} (p : ℕ → Bool) (v : A) (xs : List A) (d : ℕ) → set (map_at (λ k old. cond (p k) v old) xs) d v ≡ map_at (λ k old. cond (p k || eqb d k) v old) xs
 set_mark p v [] zero = refl
 set_mark p v [] (suc d) = refl
 set_mark p v (x ∷ xs) zero =
@@ -53,7 +54,7 @@ mark_next xs ys v dirs i d h e s =
 
 pub mark_end : {A : Type 0} (xs ys : List A) (v : A) (dirs : List ℕ) (i : ℕ) → length dirs ≤ i →
     ys ≡ map_at (λ k old. cond (is_among (take i dirs) k) v old) xs → ys ≡ map_at (λ k old. cond (is_among dirs k) v old) xs
-mark_end xs ys v dirs i h s = s ∙ ap (λ ds. map_at (λ k old. cond (is_among ds k) v old) xs) (take_all dirs i h)
+mark_end xs ys v dirs i h s = s ∙ ap (λ ds. map_at (λ k old. cond (is_among ds k) v old) xs) (take_all i dirs h)
 
 pub mark_near : {A : Type 0} (xs ys : List A) (v : A) (dirs : List ℕ) (i d : ℕ) → i < length dirs → d ≡ get_or dirs i d → ((k : ℕ) → is_among dirs k ≡ true → k < length xs) →
     ys ≡ map_at (λ k old. cond (is_among (take i dirs) k) v old) xs → d < length ys

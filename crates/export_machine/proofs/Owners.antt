@@ -1,5 +1,6 @@
 -- The other events that change owners or exports: what a table of owners has to follow there.
 use Rattle.std.proofs.Common.{◌≡◌, ◌≢◌, ℕ, ◌<◌, true, false, List, [], ◌∷◌, ◌++◌, length, set, Some, None, refl, sym, ap, ◌∙◌, inl, inr, arith}
+use Rattle.std.proofs.lemmas.Bool.{cases_Bool, cases_eq}
 use Rattle.export_machine.specs.declared.journal.JournalEntry.{JournalEntry}
 use Rattle.export_machine.specs.declared.event.Request.{Request}
 use Rattle.export_machine.specs.declared.exporter.ExporterState.TheVariants.{Done}
@@ -8,8 +9,7 @@ use Rattle.export_machine.specs.Cluster.{World}
 use Rattle.export_machine.specs.Authority.{is_among, is_inside, to_of, exporter_of, importer_of, owns, request_of, IsAuthority, authority}
 use Rattle.export_machine.specs.Step.{importer_to, journals}
 use Rattle.export_machine.proofs.Owning.{is_moving, is_over}
-use Rattle.export_machine.proofs.Tables.{same_or_other}
-use Rattle.export_machine.proofs.Safe.{Safe, phase_of, either, imported_safe, import_outside, import_won, import_near, importer_phases}
+use Rattle.export_machine.proofs.Safe.{Safe, phase_of, imported_safe, import_outside, import_won, import_near, importer_phases}
 use Rattle.export_machine.proofs.Lookups.{takes_over, inside_near}
 use Rattle.export_machine.proofs.Events.{made_safe, made_won, made_rest, gone_safe, gone_rest, set_none, with_export, start_safe, start_owns, start_insides, start_tos, start_phases, start_phase}
 use Rattle.export_machine.proofs.Theorem.{safe_gone}
@@ -22,7 +22,7 @@ module _ (w : World) (safe : Safe w) (x : ℕ) (was : importer_of w x ≡ Starte
   imported = journals (importer_to w x Imported) (to_of w x) (JournalEntry.Imported x)
 
   pub finish_authority : (d : ℕ) → authority imported d ≡ authority w d
-  finish_authority d = elim (either (is_inside w x d)) [
+  finish_authority d = elim (cases_Bool (is_inside w x d)) [
     | inl i ↦
         (let moves : is_moving (phase_of w x) ≡ true = rw (done, was) refl in
         let now : IsAuthority w (to_of w x) d = inr (x, takes_over w safe x moves, i) in
@@ -84,7 +84,7 @@ module _ (w : World) (safe : Safe w) (from to : ℕ) (dirs : List ℕ) (from_nea
         rw (start_phases w safe from to dirs from_near to_near owned free y n) m,
         start_tos w safe from to dirs from_near to_near owned free y n,
       )))
-      (λ y j m. elim (same_or_other y (length w.orders)) [
+      (λ y j m. elim (cases_eq y (length w.orders)) [
         | inl e ↦ absurd (cc (ap (λ z. phase_of (with_export w from to dirs) z) e, start_phase w safe from to dirs from_near to_near owned free, m))
         | inr n ↦ (
           sym (start_insides w safe from to dirs from_near to_near owned free y d n) ∙ j,

@@ -1,5 +1,6 @@
 -- What holds of a world that some list of events leads to.
 use Rattle.std.proofs.Common.{◌≡◌, ℕ, Bool, true, false, ◌&&◌, not, eqb, List, [], ◌∷◌, ◌++◌, length, Some, None, refl, sym, ap, ◌∙◌, subst, inl, inr, ◌⊎◌, arith}
+use Rattle.std.proofs.lemmas.Bool.{and_parts, cases_Bool, cases_eq, eqb-true, not-true}
 use Rattle.std.proofs.Math.Logic.{∥∥₁_elim, ∥∥₁_map}
 use Rattle.export_machine.specs.declared.journal.JournalEntry.{JournalEntry}
 use Rattle.export_machine.specs.Cluster.{World}
@@ -7,9 +8,8 @@ use Rattle.export_machine.specs.Authority.{is_inside, from_of, named_of, has, ow
 use Rattle.export_machine.specs.Step.{Event, step, run, start}
 use Rattle.export_machine.specs.View.{IsReached}
 use Rattle.export_machine.specs.Promises.{IsTheAuthority, OneAuthority, ServedByAuthority, RequestsAtAuthority, IsBetweenLogAndNotify, MapNamed}
-use Rattle.export_machine.proofs.Tables.{same_or_other}
-use Rattle.export_machine.proofs.Safe.{Safe, either}
-use Rattle.export_machine.proofs.Lookups.{and_true, same_number, itself, holds_authority, authority_is, one_authority, first_some, first_none, inside_near}
+use Rattle.export_machine.proofs.Safe.{Safe}
+use Rattle.export_machine.proofs.Lookups.{itself, holds_authority, authority_is, one_authority, first_some, first_none, inside_near}
 use Rattle.export_machine.proofs.Theorem.{run_keeps, start_safe, safe_named}
 use Rattle.export_machine.proofs.Authorities.{tests_authority, found_or_not}
 use Rattle.export_machine.proofs.Walks.{authority_there}
@@ -27,7 +27,7 @@ by_safe w h k = ∥∥₁_elim h (λ x y. absurd x) (λ r. k (subst Safe r.4 (ru
 
 module _ (w : World) (reached : IsReached w) where
   the_one : (r d : ℕ) → IsAuthority w r d → IsTheAuthority w r d
-  the_one r d a = (a, λ s b. elim (same_or_other s r) [ inl e ↦ e | inr n ↦ absurd (by_safe w reached (λ safe. n (one_authority w safe s r d b a))) ])
+  the_one r d a = (a, λ s b. elim (cases_eq s r) [ inl e ↦ e | inr n ↦ absurd (by_safe w reached (λ safe. n (one_authority w safe s r d b a))) ])
 
   pub reached_authority : OneAuthority w
   reached_authority d p = elim (found_or_not (authority w d)) [
@@ -37,10 +37,10 @@ module _ (w : World) (reached : IsReached w) where
 
   pub reached_served : ServedByAuthority w
   unfolding serves
-  reached_served r d h = the_one r d (inl (and_true (owns w r d) (not (any_below (length w.orders) (is_held_in w r d))) h).0)
+  reached_served r d h = the_one r d (inl (and_parts (owns w r d) (not (any_below (length w.orders) (is_held_in w r d))) h).0)
 
   pub reached_requests : RequestsAtAuthority w
-  reached_requests t q h = elim (either (owns w q.rank q.dir)) [
+  reached_requests t q h = elim (cases_Bool (owns w q.rank q.dir)) [
     | inl o ↦ the_one q.rank q.dir (inl o)
     | inr f ↦ absurd (by_safe w reached (λ safe. cc (safe.running.stands t q h, f)))
   ]
@@ -51,13 +51,10 @@ module _ (w : World) (reached : IsReached w) where
   found_between : (r d x : ℕ) → is_between r d x ≡ true → IsBetweenLogAndNotify w r d
   unfolding is_between
   found_between r d x h =
-      let a = and_true (is_inside w x d) (eqb (from_of w x) r && (has w r (JournalEntry.Exported x) && not (has w r (JournalEntry.Notified x)))) h in
-      let b = and_true (eqb (from_of w x) r) (has w r (JournalEntry.Exported x) && not (has w r (JournalEntry.Notified x))) a.1 in
-      let c = and_true (has w r (JournalEntry.Exported x)) (not (has w r (JournalEntry.Notified x))) b.1 in
-      (x, a.0, same_number (from_of w x) r b.0, c.0, untrue (has w r (JournalEntry.Notified x)) c.1)
-    where
-      untrue : (b : Bool) → not b ≡ true → b ≡ false
-      untrue b k = grind arith
+      let a = and_parts (is_inside w x d) (eqb (from_of w x) r && (has w r (JournalEntry.Exported x) && not (has w r (JournalEntry.Notified x)))) h in
+      let b = and_parts (eqb (from_of w x) r) (has w r (JournalEntry.Exported x) && not (has w r (JournalEntry.Notified x))) a.1 in
+      let c = and_parts (has w r (JournalEntry.Exported x)) (not (has w r (JournalEntry.Notified x))) b.1 in
+      (x, a.0, eqb-true (from_of w x) r b.0, c.0, not-true (has w r (JournalEntry.Notified x)) c.1)
 
   tests_between : (r d : ℕ) (b : IsBetweenLogAndNotify w r d) → is_between r d b.0 ≡ true
   unfolding is_between
@@ -69,7 +66,7 @@ module _ (w : World) (reached : IsReached w) where
     | inr f ↦ (
       f.0,
       f.1,
-      elim (either (is_authority w f.0 d)) [
+      elim (cases_Bool (is_authority w f.0 d)) [
         | inl a ↦ inl (holds_authority w f.0 d a)
         | inr unknown ↦ inr (elim (found_or_not (first_below (length w.orders) (is_between f.0 d))) [
           | inr g ↦ found_between f.0 d g.0 (first_some (length w.orders) (is_between f.0 d) g.0 g.1).1

@@ -19,9 +19,6 @@ module _ (r : Records) (m : Message) (can : CanReceive r m) where
   pub known : about m < length r.orders.items
   known = as_order r.orders.items (about m) known_order
 
-  pub known_exporter : about m < length r.exporters.items
-  known_exporter = as_exporter (world_of r) can.kept.reached (about m) known_order
-
   pub known_importer : about m < length r.importers.items
   known_importer = as_importer (world_of r) can.kept.reached (about m) known_order
 

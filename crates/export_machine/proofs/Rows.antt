@@ -1,5 +1,6 @@
 -- How the tables by directory follow each message.
 use Rattle.std.proofs.Common.{◌≡◌, ◌≢◌, ℕ, zero, suc, ◌+◌, ◌<◌, ◌≤◌, Bool, true, false, ◌&&◌, ◌||◌, not, eqb, cond, List, [], ◌∷◌, ◌++◌, length, get_or, set, Option, Some, None, refl, sym, ap, ◌∙◌, subst, inl, inr, ◌⊎◌, arith}
+use Rattle.std.proofs.lemmas.Bool.{cases_eq}
 use Rattle.std.specs.List.{slice_get}
 use Rattle.std.proofs.lemmas.List.{get_or-set_same, get_or-set_other, get_or_past, length-set}
 use Rattle.export_machine.specs.declared.exporter.ExporterState.{ExporterState}
@@ -15,9 +16,9 @@ use Rattle.export_machine.specs.Step.{map_at, exporter_to, importer_to, journals
 use Rattle.export_machine.specs.View.{IsReached}
 use Rattle.export_machine.specs.Kept.{Indexes, IsIndexed}
 use Rattle.export_machine.proofs.Owning.{Phase, is_moving, is_over}
-use Rattle.export_machine.proofs.Tables.{same_or_other, together, is_imported, about}
+use Rattle.export_machine.proofs.Tables.{together, is_imported, about}
 use Rattle.export_machine.proofs.Views.{map_at_length, has_adds, owns_at, owns_other, not_past}
-use Rattle.export_machine.proofs.Safe.{Safe, phase_by, phase_of, either, exporter_at, exporter_phases, importer_at, importer_phases, started_safe, dropped_safe, imported_safe, notify_safe, same_phase, message_of}
+use Rattle.export_machine.proofs.Safe.{Safe, phase_by, phase_of, exporter_at, exporter_phases, importer_at, importer_phases, started_safe, dropped_safe, imported_safe, notify_safe, same_phase, message_of}
 use Rattle.export_machine.proofs.Lookups.{itself}
 use Rattle.export_machine.proofs.Deliver.{ack_started}
 use Rattle.export_machine.proofs.Walks.{quiet_authority, logged_inside, logged_outside}
@@ -25,67 +26,6 @@ use Rattle.export_machine.proofs.Owners.{finish_authority}
 use Rattle.export_machine.proofs.Reached.{by_safe}
 use Rattle.export_machine.proofs.Found.{options_by, orders_by}
 use Rattle.export_machine.proofs.Indexing.{same_indexed, open_stays, exporter_open, entry_open, inside_there, marked, shut_opened}
-
--- a state is another
-module _ (w : World) (x : ℕ) where
-  pub discover_else : (s : ImporterState) → (s ≡ Unknown → ⊥) → discover_comes w x s ≡ ignored w
-  discover_else Unknown n = absurd (n refl)
-  discover_else Discovered n = refl
-  discover_else Prepared n = refl
-  discover_else Started n = refl
-  discover_else Imported n = refl
-  discover_else Dropped n = refl
-
-  pub prep_else : (s : ImporterState) → (s ≡ Discovered → ⊥) → prep_comes w x s ≡ ignored w
-  prep_else Unknown n = refl
-  prep_else Discovered n = absurd (n refl)
-  prep_else Prepared n = refl
-  prep_else Started n = refl
-  prep_else Imported n = refl
-  prep_else Dropped n = refl
-
-  pub export_else : (s : ImporterState) → (s ≡ Prepared → ⊥) → export_comes w x s ≡ ignored w
-  export_else Unknown n = refl
-  export_else Discovered n = refl
-  export_else Prepared n = absurd (n refl)
-  export_else Started n = refl
-  export_else Imported n = refl
-  export_else Dropped n = refl
-
-  pub finish_else : (s : ImporterState) → (s ≡ Started → ⊥) → finish_comes w x s ≡ ignored w
-  finish_else Unknown n = refl
-  finish_else Discovered n = refl
-  finish_else Prepared n = refl
-  finish_else Started n = absurd (n refl)
-  finish_else Imported n = refl
-  finish_else Dropped n = refl
-
-  pub discover_ack_else : (s : ExporterState) → (s ≡ Discovering → ⊥) → discover_ack_comes w x s ≡ ignored w
-  discover_ack_else Discovering n = absurd (n refl)
-  discover_ack_else Freezing n = refl
-  discover_ack_else Preparing n = refl
-  discover_ack_else Exporting n = refl
-  discover_ack_else Logged n = refl
-  discover_ack_else Done n = refl
-  discover_ack_else Aborted n = refl
-
-  pub prep_ack_else : (s : ExporterState) → (s ≡ Preparing → ⊥) → prep_ack_comes w x s ≡ ignored w
-  prep_ack_else Discovering n = refl
-  prep_ack_else Freezing n = refl
-  prep_ack_else Preparing n = absurd (n refl)
-  prep_ack_else Exporting n = refl
-  prep_ack_else Logged n = refl
-  prep_ack_else Done n = refl
-  prep_ack_else Aborted n = refl
-
-  pub export_ack_else : (s : ExporterState) → (s ≡ Exporting → ⊥) → export_ack_comes w x s ≡ ignored w
-  export_ack_else Discovering n = refl
-  export_ack_else Freezing n = refl
-  export_ack_else Preparing n = refl
-  export_ack_else Exporting n = absurd (n refl)
-  export_ack_else Logged n = refl
-  export_ack_else Done n = refl
-  export_ack_else Aborted n = refl
 
 -- states and messages alone change
 
@@ -100,6 +40,7 @@ importer_indexed w i is importers ms = record {
   opened_places = is.opened_places;
   running_places = is.running_places;
   children_places = is.children_places;
+  unmarked = is.unmarked;
 }
 
 pub exporter_indexed : (w : World) (i : Indexes) (x : ℕ) (s : ExporterState) → IsIndexed w i → is_aborted (exporter_of w x) ≡ is_aborted s → (ms : List Message) →
@@ -116,7 +57,7 @@ module _ (w : World) (x : ℕ) (s : ImporterState) (e : JournalEntry) (ms : List
   noted = record (journals (importer_to w x s) (to_of w x) e) { sent = ms }
 
   noted_owns : (r d : ℕ) → owns (journals (importer_to w x s) (to_of w x) e) r d ≡ owns w r d
-  noted_owns r d = elim (same_or_other r (to_of w x)) [
+  noted_owns r d = elim (cases_eq r (to_of w x)) [
     | inl k ↦ rw k (owns_at (importer_to w x s) (to_of w x) e ranked d ∙ plain d (owns w (to_of w x) d))
     | inr n ↦ owns_other (importer_to w x s) (to_of w x) e ranked r d n
   ]
@@ -127,7 +68,7 @@ module _ (w : World) (x : ℕ) (s : ImporterState) (e : JournalEntry) (ms : List
       (λ y j m. (j, rw (phases y) m, refl)) (λ y j m. (j, rw (phases y) at m))
     where
       phases : (y : ℕ) → phase_of (importer_to w x s) y ≡ phase_of w y
-      phases y = elim (same_or_other y x) [
+      phases y = elim (cases_eq y x) [
         | inl k ↦ rw (k, importer_at w safe x s near) p
         | inr n ↦ importer_phases w safe x s near y n
       ]
@@ -185,6 +126,7 @@ module _ (w : World) (x k : ℕ) (was : exporter_of w x ≡ Exporting) (sent : s
     opened_places = is.opened_places;
     running_places = is.running_places;
     children_places = is.children_places;
+    unmarked = is.unmarked;
   }
 
 -- the importer imports: the export is over
@@ -230,6 +172,7 @@ module _ (w : World) (x k : ℕ) (was : importer_of w x ≡ Started) (sent : sli
     opened_places = map_at_length (λ c old. cond (is_inside w x c) None old) i.opened ∙ is.opened_places;
     running_places = is.running_places;
     children_places = is.children_places;
+    unmarked = is.unmarked;
   }
 
 -- the map names the importer
@@ -242,7 +185,7 @@ module _ (w : World) (x : ℕ) (was : exporter_of w x ≡ Logged) (ranked : from
   notified = record (names_importer (journals (exporter_to w x Done) (from_of w x) (JournalEntry.Notified x)) x) { sent = ms }
 
   notified_owns : (r d : ℕ) → owns notified r d ≡ owns w r d
-  notified_owns r d = elim (same_or_other r (from_of w x)) [
+  notified_owns r d = elim (cases_eq r (from_of w x)) [
     | inl k ↦ rw k (owns_at (exporter_to w x Done) (from_of w x) (JournalEntry.Notified x) ranked d)
     | inr n ↦ owns_other (exporter_to w x Done) (from_of w x) (JournalEntry.Notified x) ranked r d n
   ]
@@ -267,13 +210,13 @@ module _ (w : World) (x : ℕ) (was : exporter_of w x ≡ Logged) (ranked : from
       told Dropped h = absurd (cc)
 
       forth : (y : ℕ) → is_moving (phase_of w y) ≡ true → is_moving (phase_of (exporter_to w x Done) y) ≡ true
-      forth y m = elim (same_or_other y x) [
+      forth y m = elim (cases_eq y x) [
         | inl k ↦ rw (k, exporter_at w safe x Done near) (told (importer_of w x) started)
         | inr n ↦ rw (exporter_phases w safe x Done near y n) m
       ]
 
       back : (y : ℕ) → is_moving (phase_of (exporter_to w x Done) y) ≡ true → is_moving (phase_of w y) ≡ true
-      back y m = elim (same_or_other y x) [
+      back y m = elim (cases_eq y x) [
         | inl k ↦ rw (k, was) refl
         | inr n ↦ rw (exporter_phases w safe x Done near y n) at m
       ]

@@ -1,12 +1,13 @@
 -- One event after the other, and what holds then.
-use Rattle.std.proofs.Common.{◌≡◌, ℕ, zero, suc, ◌+◌, ◌<◌, ◌≤◌, true, List, [], ◌∷◌, ◌++◌, length, get_or, take, map, Ok, Err, Result, refl, sym, ap, ◌∙◌, subst, inl, inr, arith}
+use Rattle.std.proofs.Common.{◌≡◌, ◌≢◌, ℕ, zero, suc, ◌+◌, ◌<◌, ◌≤◌, true, List, [], ◌∷◌, ◌++◌, length, get_or, take, map, Ok, Err, Result, refl, sym, ap, ◌∙◌, subst, inl, inr, arith}
 use Rattle.export_machine.specs.declared.event.Reply.{Reply}
 use Rattle.export_machine.specs.declared.event.Request.{Request}
 use Rattle.export_machine.specs.declared.step_error.StepError.{StepError}
+use Rattle.export_machine.specs.declared.step_error.StepError.TheVariants.{Memory}
 use Rattle.export_machine.specs.Cluster.{World}
 use Rattle.export_machine.specs.Authority.{IsAuthority, is_authority, request_of}
-use Rattle.export_machine.specs.Step.{Event, step}
-use Rattle.export_machine.specs.View.{IsReached, IsAnswer, AreAnswers}
+use Rattle.export_machine.specs.Step.{Event, step, run, answers}
+use Rattle.export_machine.specs.View.{IsReached, IsAnswer, AreAnswers, NoneIsMemory}
 use Rattle.export_machine.specs.Promises.{Promised, KeepsAuthority}
 use Rattle.export_machine.proofs.Safe.{Safe}
 use Rattle.export_machine.proofs.Lookups.{holds_authority}
@@ -36,11 +37,19 @@ answers_next w u v [] (s ∷ rs) e r a b = absurd a
 answers_next w u v (f ∷ es) [] e r a b = absurd a
 answers_next w u v (f ∷ es) (s ∷ rs) e r a b = (a.0, a.1, answers_next a.0 u v es rs e r a.2 b)
 
-pub take_items : {A : Type 0} (xs : List A) (i : ℕ) → length xs ≤ i → take i xs ≡ xs
-take_items [] zero h = refl
-take_items [] (suc i) h = refl
-take_items (x ∷ xs) zero h = absurd (omega arith)
-take_items (x ∷ xs) (suc i) h = ap (λ ys. x ∷ ys) (take_items xs i (omega arith))
+-- with memory for each event the answers are the definition's
+pub answers_are : (w v : World) (es : List Event) (rs : List (Result Reply StepError)) → AreAnswers w es rs v → NoneIsMemory rs → (rs ≡ answers w es) × (v ≡ run w es)
+answers_are w v [] [] a n = (refl, a)
+answers_are w v [] (r ∷ rs) a n = absurd a
+answers_are w v (e ∷ es) [] a n = absurd a
+answers_are w v (e ∷ es) (r ∷ rs) a n =
+    let s : step w e ≡ (r, a.0) = stepped r (n 0 r (omega arith)) a.1 in
+    let rest : (rs ≡ answers a.0 es) × (v ≡ run a.0 es) = answers_are a.0 v es rs a.2 (λ k d h. n (suc k) d (omega arith)) in
+    rw s (ap (λ qs. r ∷ qs) rest.0, rest.1)
+  where
+    stepped : (q : Result Reply StepError) → q ≢ Err Memory → IsAnswer w e q a.0 → step w e ≡ (q, a.0)
+    stepped (Ok reply) m b = b
+    stepped (Err error) m b = elim b.0 [ inl s ↦ s ∙ ap (λ (u : World). (Err error, u)) (sym b.1) | inr f ↦ absurd (m (ap Err f.0)) ]
 
 pub map_next : {A B : Type 0} (f : A → B) (xs : List A) (i : ℕ) (a : A) → i < length xs → a ≡ get_or xs i a → map f (take (i + 1) xs) ≡ map f (take i xs) ++ f a ∷ []
 map_next {A = A} f xs i a h e = ap (λ k. map f (take k xs)) (succ i) ∙ go xs i h e

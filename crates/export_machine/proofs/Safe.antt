@@ -15,10 +15,10 @@ use Rattle.export_machine.specs.Authority.{is_inside, from_of, to_of, exporter_o
 use Rattle.export_machine.specs.Step.{exporter_to, importer_to, journals, names_importer, is_started, is_before_log}
 use Rattle.export_machine.proofs.Owning.{Phase, is_moving, Owning, Running, same_owning, same_running, held_owning, held_running, abort_owning, abort_running, log_owning, log_running, notify_owning, notify_running, import_owning, import_running}
 use Rattle.export_machine.proofs.Owning.Phase.{Early, Held, Moving, Told, Over}
-use Rattle.export_machine.proofs.Tables.{Tables, same_or_other, about, is_plain, together, is_imported, sent_plain, sent_finish, sent_cancel, sent_ack, early_tables, abort_tables, log_tables, notify_tables, import_early_tables, started_tables, imported_tables, dropped_tables}
+use Rattle.export_machine.proofs.Tables.{Tables, about, is_plain, together, is_imported, sent_plain, sent_finish, sent_cancel, sent_ack, early_tables, abort_tables, log_tables, notify_tables, import_early_tables, started_tables, imported_tables, dropped_tables}
 use Rattle.export_machine.proofs.Views.{push_get, not_past, has_adds, owns_at, owns_other, map_at_get, map_at_past, map_at_length}
 use Rattle.std.proofs.lemmas.List.{get_or-set_same, get_or-set_other, get_or_past, length-set}
-use Rattle.std.proofs.lemmas.Bool.{cases_lt}
+use Rattle.std.proofs.lemmas.Bool.{cases_lt, cases_Bool, cases_eq}
 
 abbrev pub phase_by : ExporterState → ImporterState → Phase
 phase_by Discovering i = Early
@@ -58,10 +58,6 @@ told_started Prepared h = refl
 told_started Started h = refl
 told_started Imported h = cc
 told_started Dropped h = refl
-
-pub either : (b : Bool) → (b ≡ true) ⊎ (b ≡ false)
-either true = inl refl
-either false = inr refl
 
 pub same_phase : (e : ExporterState) (i j : ImporterState) → is_imported i ≡ false → is_imported j ≡ false → phase_by e j ≡ phase_by e i
 same_phase Discovering i j h k = refl
@@ -136,7 +132,7 @@ module _ (w : World) (safe : Safe w) (x : ℕ) (s : ExporterState) (near : x < l
       phase_by s (importer_of w x) ≡ phase_of w x → Safe (exporter_to w x s)
   early_safe was is same =
       let phases : (y : ℕ) → phase_of (exporter_to w x s) y ≡ phase_of w y =
-      λ y. elim (same_or_other y x) [ inl e ↦ rw (e, exporter_at) same | inr n ↦ exporter_phases y n ] in
+      λ y. elim (cases_eq y x) [ inl e ↦ rw (e, exporter_at) same | inr n ↦ exporter_phases y n ] in
       record {
         tables = early_tables _ _ _ _ _ _ _ safe.tables (exporter_of (exporter_to w x s)) x exporter_others was (rw exporter_at is);
         owning = same_owning _ _ _ _ _ _ _ _ (request_of w) safe.owning safe.running phases (λ r d. refl);
@@ -191,7 +187,7 @@ module _ (w : World) (safe : Safe w) (x : ℕ) (was : exporter_of w x ≡ Export
   log_rank = (safe.ranked x (omega (arith, log_near, safe.exporting))).0
 
   pub log_outside : (r d : ℕ) → is_inside w x d ≡ false → owns (journals (exporter_to w x Logged) (from_of w x) (JournalEntry.Exported x)) r d ≡ owns w r d
-  log_outside r d h = elim (same_or_other r (from_of w x)) [
+  log_outside r d h = elim (cases_eq r (from_of w x)) [
     | inl e ↦ rw (e, owns_at (exporter_to w x Logged) (from_of w x) (JournalEntry.Exported x) log_rank d, h) refl
     | inr n ↦ owns_other (exporter_to w x Logged) (from_of w x) (JournalEntry.Exported x) log_rank r d n
   ]
@@ -228,7 +224,7 @@ module _ (w : World) (safe : Safe w) (x : ℕ) (was : exporter_of w x ≡ Logged
   notify_rank = (safe.ranked x (omega (arith, notify_near, safe.exporting))).0
 
   notify_owns : (r d : ℕ) → owns (journals (exporter_to w x Done) (from_of w x) (JournalEntry.Notified x)) r d ≡ owns w r d
-  notify_owns r d = elim (same_or_other r (from_of w x)) [
+  notify_owns r d = elim (cases_eq r (from_of w x)) [
     | inl e ↦ rw (e, owns_at (exporter_to w x Done) (from_of w x) (JournalEntry.Notified x) notify_rank d) refl
     | inr n ↦ owns_other (exporter_to w x Done) (from_of w x) (JournalEntry.Notified x) notify_rank r d n
   ]
@@ -251,7 +247,7 @@ module _ (w : World) (safe : Safe w) (x : ℕ) (was : exporter_of w x ≡ Logged
   ]
 
   notify_present : (d : ℕ) → is_present w d ≡ is_some (named_of (names_importer w x) d)
-  notify_present d = elim (either (is_inside w x d)) [
+  notify_present d = elim (cases_Bool (is_inside w x d)) [
     | inl h ↦ rw (notify_told d h, safe.present d, notify_named d h) refl
     | inr h ↦ rw (notify_outside d h) (safe.present d)
   ]
@@ -290,7 +286,7 @@ module _ (w : World) (safe : Safe w) (x : ℕ) (s : ImporterState) (near : x < l
   importer_phases y n = ap (λ i. phase_by (exporter_of w y) i) (importer_others y n)
 
   importer_same : is_imported (importer_of w x) ≡ false → is_imported s ≡ false → (y : ℕ) → phase_of (importer_to w x s) y ≡ phase_of w y
-  importer_same h k y = elim (same_or_other y x) [
+  importer_same h k y = elim (cases_eq y x) [
     | inl e ↦ rw (e, importer_at) (same_phase (exporter_of w x) (importer_of w x) s h k)
     | inr n ↦ importer_phases y n
   ]
@@ -318,7 +314,7 @@ module _ (w : World) (safe : Safe w) (x : ℕ) (s : ImporterState) (e : JournalE
   quiet_rank = (safe.ranked x (omega (arith, near, safe.importing))).1
 
   quiet_owns : (r d : ℕ) → owns (journals (importer_to w x s) (to_of w x) e) r d ≡ owns w r d
-  quiet_owns r d = elim (same_or_other r (to_of w x)) [
+  quiet_owns r d = elim (cases_eq r (to_of w x)) [
     | inl i ↦ rw (i, owns_at (importer_to w x s) (to_of w x) e quiet_rank d) (plain d (owns w (to_of w x) d))
     | inr n ↦ owns_other (importer_to w x s) (to_of w x) e quiet_rank r d n
   ]
@@ -364,7 +360,7 @@ module _ (w : World) (safe : Safe w) (x : ℕ) (was : importer_of w x ≡ Starte
   import_rank = (safe.ranked x (omega (arith, import_near, safe.importing))).1
 
   pub import_outside : (r d : ℕ) → is_inside w x d ≡ false → owns (journals (importer_to w x Imported) (to_of w x) (JournalEntry.Imported x)) r d ≡ owns w r d
-  import_outside r d h = elim (same_or_other r (to_of w x)) [
+  import_outside r d h = elim (cases_eq r (to_of w x)) [
     | inl e ↦ rw (e, owns_at (importer_to w x Imported) (to_of w x) (JournalEntry.Imported x) import_rank d, h) refl
     | inr n ↦ owns_other (importer_to w x Imported) (to_of w x) (JournalEntry.Imported x) import_rank r d n
   ]

@@ -1,7 +1,7 @@
 -- How the tables by directory follow an export that starts.
 use Rattle.std.proofs.Common.{◌≡◌, ◌≢◌, ℕ, zero, suc, ◌+◌, ◌<◌, ◌≤◌, Bool, true, false, ◌&&◌, ◌||◌, not, eqb, leb, cond, List, [], ◌∷◌, ◌++◌, length, get_or, Option, Some, None, refl, sym, ap, ◌∙◌, subst, inl, inr, ◌⊎◌, arith}
 use Rattle.std.specs.List.{list_all}
-use Rattle.std.proofs.lemmas.Bool.{cases_lt}
+use Rattle.std.proofs.lemmas.Bool.{cases_lt, leb-false, not-false}
 use Rattle.std.proofs.lemmas.List.{get_or_past}
 use Rattle.export_machine.specs.declared.journal.JournalEntry.{JournalEntry}
 use Rattle.export_machine.specs.declared.message.Message.{Message}
@@ -16,7 +16,7 @@ use Rattle.export_machine.specs.Step.Event.{Start}
 use Rattle.export_machine.specs.View.{IsReached}
 use Rattle.export_machine.specs.Kept.{Indexes, IsIndexed}
 use Rattle.export_machine.proofs.Owning.{is_over}
-use Rattle.export_machine.proofs.Tables.{same_or_other, is_imported}
+use Rattle.export_machine.proofs.Tables.{is_imported}
 use Rattle.export_machine.proofs.Views.{push_same, push_other, map_at_length}
 use Rattle.export_machine.proofs.Safe.{Safe, phase_of}
 use Rattle.export_machine.proofs.Lookups.{authority_is, no_open, free_owner, or_else_none}
@@ -25,10 +25,6 @@ use Rattle.export_machine.proofs.Theorem.{not_refused_causes}
 use Rattle.export_machine.proofs.Owners.{start_authority}
 use Rattle.export_machine.proofs.Found.{options_by, first_same}
 use Rattle.export_machine.proofs.Indexing.{marked}
-use Rattle.export_machine.proofs.Accepted.{below}
-
-not_false : (b : Bool) → not b ≡ false → b ≡ true
-not_false b h = grind arith
 
 and_no : (a b : Bool) → (not a && b) ≡ true → a ≡ false
 and_no a b h = grind arith
@@ -36,18 +32,18 @@ and_no a b h = grind arith
 module _ (w : World) (from to : ℕ) (dirs : List ℕ) (h : refusal w (Start from to dirs) ≡ None) where
   pub start_present : list_all (is_present w) dirs ≡ true
   unfolding causes
-  start_present = not_false (list_all (is_present w) dirs) (not_refused _ _ (not_refused_causes w (Start from to dirs) h).1.1.1.1.0)
+  start_present = not-false (list_all (is_present w) dirs) (not_refused _ _ (not_refused_causes w (Start from to dirs) h).1.1.1.1.0)
 
   pub start_there : (d : ℕ) → is_among dirs d ≡ true → d < length w.parents
   start_there d i = there_near w d (all_there w dirs start_present d i)
 
   pub start_distinct : repeats dirs ≡ false
   unfolding causes
-  start_distinct = and_no (repeats dirs) _ (not_false (is_connected w dirs) (not_refused _ _ (not_refused_causes w (Start from to dirs) h).1.1.1.1.1.0))
+  start_distinct = and_no (repeats dirs) _ (not-false (is_connected w dirs) (not_refused _ _ (not_refused_causes w (Start from to dirs) h).1.1.1.1.1.0))
 
   pub start_few : length w.orders < 65536
   unfolding causes
-  start_few = below 65536 (length w.orders) (not_refused _ _ (not_refused_causes w (Start from to dirs) h).1.1.1.1.1.1.1.0)
+  start_few = leb-false 65536 (length w.orders) (not_refused _ _ (not_refused_causes w (Start from to dirs) h).1.1.1.1.1.1.1.0)
 
   leaves : (d : ℕ) → is_among dirs d ≡ true → NoneOf (busy (open_export w d) ∷ elsewhere from (authority w d) ∷ [])
   unfolding causes
@@ -59,11 +55,11 @@ module _ (w : World) (from to : ℕ) (dirs : List ℕ) (h : refusal w (Start fro
 
   from_rank : from < w.ranks
   unfolding causes
-  from_rank = below w.ranks from (not_refused _ _ (not_refused_causes w (Start from to dirs) h).0)
+  from_rank = leb-false w.ranks from (not_refused _ _ (not_refused_causes w (Start from to dirs) h).0)
 
   to_rank : to < w.ranks
   unfolding causes
-  to_rank = below w.ranks to (not_refused _ _ (not_refused_causes w (Start from to dirs) h).1.0)
+  to_rank = leb-false w.ranks to (not_refused _ _ (not_refused_causes w (Start from to dirs) h).1.0)
 
   started_authority : Safe w → (d : ℕ) → authority (with_export w from to dirs) d ≡ authority w d
   started_authority safe d = start_authority w safe from to dirs (rw safe.all_ranks from_rank) (rw safe.all_ranks to_rank)
@@ -136,4 +132,5 @@ module _ (w : World) (from to : ℕ) (dirs : List ℕ) (h : refusal w (Start fro
     opened_places = map_at_length (λ k old. cond (is_among dirs k) (Some (length w.orders)) old) i.opened ∙ is.opened_places;
     running_places = is.running_places;
     children_places = is.children_places;
+    unmarked = is.unmarked;
   }

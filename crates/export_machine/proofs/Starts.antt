@@ -1,5 +1,6 @@
 -- The tables of a new cluster.
 use Rattle.std.proofs.Common.{◌≡◌, ℕ, zero, suc, ◌+◌, ◌<◌, ◌≤◌, Bool, true, false, ◌&&◌, not, eqb, cond, List, [], ◌∷◌, ◌++◌, length, get_or, set, map, Option, Some, None, refl, sym, ap, ◌∙◌, inl, inr, ◌⊎◌, arith}
+use Rattle.std.proofs.lemmas.Bool.{false≢true}
 use Rattle.std.specs.Prelude.{replicate}
 use Rattle.export_machine.specs.declared.journal.JournalEntry.{JournalEntry}
 use Rattle.export_machine.specs.Cluster.{World}
@@ -46,7 +47,7 @@ module _ (limit ranks : ℕ) (some : 1 ≤ ranks) where
   opened zero = refl
   opened (suc d) = refl
 
-  pub start_indexed : IsIndexed (start limit ranks) (record { owners = Some 0 ∷ []; opened = None ∷ []; running = 0 ∷ []; children = 0 ∷ [] })
+  pub start_indexed : IsIndexed (start limit ranks) (record { owners = Some 0 ∷ []; opened = None ∷ []; running = 0 ∷ []; children = 0 ∷ []; marks = false ∷ [] })
   unfolding start
   start_indexed = record {
     owners = owners;
@@ -57,6 +58,7 @@ module _ (limit ranks : ℕ) (some : 1 ≤ ranks) where
     opened_places = refl;
     running_places = refl;
     children_places = refl;
+    unmarked = refl;
   }
     where
       running : (d : ℕ) → get_or {A = ℕ} (0 ∷ []) d 0 ≡ running_on (start limit ranks) (d ∷ [])
@@ -67,21 +69,13 @@ module _ (limit ranks : ℕ) (some : 1 ≤ ranks) where
       children zero = no_child (eqb 0 0)
       children (suc d) = no_child (eqb 0 (suc d))
 
-pub replicate_push : {A : Type 0} (n : ℕ) (a : A) → replicate n a ++ a ∷ [] ≡ replicate (suc n) a
-replicate_push zero a = refl
-replicate_push (suc n) a = ap (λ xs. a ∷ xs) (replicate_push n a)
-
-pub map_push : {A B : Type 0} (f : A → B) (xs : List A) (a : A) → map f (xs ++ a ∷ []) ≡ map f xs ++ f a ∷ []
-map_push f [] a = refl
-map_push f (x ∷ xs) a = ap (λ ys. f x ∷ ys) (map_push f xs a)
-
 -- what is kept of a new cluster
 pub start_kept : (r : Records) (limit ranks : ℕ) → 1 ≤ limit → 1 ≤ ranks → world_of r ≡ start limit ranks → indexes_of r ≡ first_indexes → IsKept r
 unfolding start
 start_kept r limit ranks some_dirs some_ranks w i = record {
   reached = ∣ (limit, ranks, [], some_ranks, sym w) ∣₁;
   indexed = rw (w, i) (start_indexed limit ranks some_ranks);
-  distinct = λ x h. differ (ap (λ (v : World). repeats (order_in v.orders x).dirs) (sym w) ∙ h);
+  distinct = λ x h. false≢true (ap (λ (v : World). repeats (order_in v.orders x).dirs) (sym w) ∙ h);
   sent = bound (λ (v : World). length v.sent) (λ (v : World). v.events) (omega arith);
   tickets = bound (λ (v : World). length v.tickets) (λ (v : World). v.events) (omega arith);
   counted = bound (λ (v : World). v.events) (λ (v : World). 1048576) (omega arith);
@@ -90,6 +84,3 @@ start_kept r limit ranks some_dirs some_ranks w i = record {
   where
     bound : (f g : World → ℕ) → f (start limit ranks) ≤ g (start limit ranks) → f (world_of r) ≤ g (world_of r)
     bound f g h = (let a : f (world_of r) ≡ f (start limit ranks) = ap f w in let b : g (world_of r) ≡ g (start limit ranks) = ap g w in omega arith)
-
-    differ : false ≡ true → ⊥
-    differ e = cc

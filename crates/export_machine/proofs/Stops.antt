@@ -15,9 +15,9 @@ use Rattle.export_machine.proofs.Owning.Phase.{Over}
 use Rattle.export_machine.proofs.Tables.{is_imported, is_done, is_committed, halted_exporters, halted_importers}
 use Rattle.export_machine.proofs.Views.{map_at_get, map_at_past, map_at_length}
 use Rattle.export_machine.proofs.Safe.{Safe, phase_by, phase_of, before_moving, same_phase}
-use Rattle.export_machine.proofs.Lookups.{same_number, itself}
+use Rattle.export_machine.proofs.Lookups.{itself}
 use Rattle.std.proofs.lemmas.List.{get_or_past}
-use Rattle.std.proofs.lemmas.Bool.{cases_lt}
+use Rattle.std.proofs.lemmas.Bool.{cases_lt, eqb-true}
 
 -- An exporter's state stays, or it wasn't logged and is aborted.
 abbrev pub ExporterHalts : ExporterState → ExporterState → Type 0
@@ -98,7 +98,7 @@ module _ (w : World) (safe : Safe w) (rank : ℕ) where
     where
       go : (b : Bool) → eqb (to_of w x) rank ≡ b →
           ImporterHalts (has w (to_of w x) (JournalEntry.Dropped x)) (importer_of w x) (cond b (importer_at_stop (has w rank (JournalEntry.Dropped x)) (importer_of w x)) (importer_of w x))
-      go true e = rw (same_number (to_of w x) rank e) (stop_importer (has w rank (JournalEntry.Dropped x)) (importer_of w x))
+      go true e = rw (eqb-true (to_of w x) rank e) (stop_importer (has w rank (JournalEntry.Dropped x)) (importer_of w x))
       go false e = inl refl
 
   stop_tickets : (t : ℕ) (q : Request) → get_or (stops w rank).tickets t None ≡ Some q → request_of w t ≡ Some q
@@ -159,11 +159,11 @@ journal_importer Dropped true false false h k l = absurd (cc)
 journal_importer Dropped false false false h k l = refl
 
 module _ (w : World) (safe : Safe w) (rank : ℕ) where
-  exporter_journaled : (x : ℕ) → exporter_by_journal w (from_of w x) x ≡ exporter_at_stop (exporter_of w x)
+  pub exporter_journaled : (x : ℕ) → exporter_by_journal w (from_of w x) x ≡ exporter_at_stop (exporter_of w x)
   exporter_journaled x = journal_exporter (exporter_of w x) (has w (from_of w x) (JournalEntry.Notified x)) (has w (from_of w x) (JournalEntry.Exported x))
       (rw (safe.tables.notified (from_of w x) x, itself (from_of w x)) refl) (rw (safe.tables.exported (from_of w x) x, itself (from_of w x)) refl)
 
-  importer_journaled : (x : ℕ) → importer_by_journal w (to_of w x) x ≡ importer_at_stop (has w (to_of w x) (JournalEntry.Dropped x)) (importer_of w x)
+  pub importer_journaled : (x : ℕ) → importer_by_journal w (to_of w x) x ≡ importer_at_stop (has w (to_of w x) (JournalEntry.Dropped x)) (importer_of w x)
   importer_journaled x = journal_importer (importer_of w x) (has w (to_of w x) (JournalEntry.Started x)) (has w (to_of w x) (JournalEntry.Imported x)) (has w (to_of w x) (JournalEntry.Dropped x))
       (rw (safe.tables.imported (to_of w x) x, itself (to_of w x)) refl) (rw (safe.tables.importing (to_of w x) x, itself (to_of w x)) refl)
       (λ d. (safe.tables.dropped (to_of w x) x d).1)
@@ -176,7 +176,7 @@ module _ (w : World) (safe : Safe w) (rank : ℕ) where
     where
       go : (b : Bool) → eqb (from_of w x) rank ≡ b → ExporterHalts (exporter_of w x) (cond b (exporter_by_journal w rank x) (exporter_of w x))
       go true e =
-          let j : exporter_by_journal w rank x ≡ exporter_at_stop (exporter_of w x) = subst (λ r. exporter_by_journal w r x ≡ exporter_at_stop (exporter_of w x)) (same_number (from_of w x) rank e) (exporter_journaled x) in
+          let j : exporter_by_journal w rank x ≡ exporter_at_stop (exporter_of w x) = subst (λ r. exporter_by_journal w r x ≡ exporter_at_stop (exporter_of w x)) (eqb-true (from_of w x) rank e) (exporter_journaled x) in
           subst (λ s. ExporterHalts (exporter_of w x) s) (sym j) (stop_exporter (exporter_of w x))
       go false e = inl refl
 
@@ -190,7 +190,7 @@ module _ (w : World) (safe : Safe w) (rank : ℕ) where
           ImporterHalts (has w (to_of w x) (JournalEntry.Dropped x)) (importer_of w x) (cond b (importer_by_journal w rank x) (importer_of w x))
       go true e =
           let j : importer_by_journal w rank x ≡ importer_at_stop (has w (to_of w x) (JournalEntry.Dropped x)) (importer_of w x) =
-          subst (λ r. importer_by_journal w r x ≡ importer_at_stop (has w (to_of w x) (JournalEntry.Dropped x)) (importer_of w x)) (same_number (to_of w x) rank e) (importer_journaled x) in
+          subst (λ r. importer_by_journal w r x ≡ importer_at_stop (has w (to_of w x) (JournalEntry.Dropped x)) (importer_of w x)) (eqb-true (to_of w x) rank e) (importer_journaled x) in
           subst (λ s. ImporterHalts (has w (to_of w x) (JournalEntry.Dropped x)) (importer_of w x) s) (sym j) (stop_importer (has w (to_of w x) (JournalEntry.Dropped x)) (importer_of w x))
       go false e = inl refl
 

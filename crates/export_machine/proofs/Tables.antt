@@ -1,5 +1,6 @@
 -- What holds of the states at exporter and importer, their journals and the messages. No world is in it.
 use Rattle.std.proofs.Common.{◌≡◌, ◌≢◌, ℕ, ◌+◌, ◌<◌, Bool, true, false, ◌&&◌, ◌||◌, not, eqb, Option, Some, refl, sym, ap, ◌∙◌, inl, inr, ◌⊎◌, arith}
+use Rattle.std.proofs.lemmas.Bool.{cases_eq}
 use Rattle.export_machine.specs.declared.exporter.ExporterState.{ExporterState}
 use Rattle.export_machine.specs.declared.importer.ImporterState.{ImporterState}
 use Rattle.export_machine.specs.declared.journal.JournalEntry.{JournalEntry}
@@ -48,9 +49,6 @@ about (ExportAck x) = x
 about (Finish x) = x
 about (Cancel x) = x
 about (Query x) = x
-
-pub same_or_other : (y x : ℕ) → (y ≡ x) ⊎ (y ≢ x)
-same_or_other y x = grind arith
 
 -- before the log entry
 pub early_pair : (e : ExporterState) (i : ImporterState) → is_before_log e ≡ true → together e i ≡ (not (is_imported i) && not (is_dropped i))
@@ -209,15 +207,15 @@ module _ (count : ℕ) (from to : ℕ → ℕ) (exporter : ℕ → ExporterState
         is_done (exporter' x) ≡ is_done (exporter x) → (exporter x ≡ Done → exporter' x ≡ Done) → (exporter x ≡ Aborted → exporter' x ≡ Aborted) →
         Tables count from to exporter' importer has sent
     change_exporter pair commits dones done aborted = record {
-      paired = λ y. elim (same_or_other y x) [ inl e ↦ rw e pair | inr n ↦ rw (others y n) (old.paired y) ];
-      exported = λ r y. elim (same_or_other y x) [ inl e ↦ rw (e, commits) (old.exported r x) | inr n ↦ rw (others y n) (old.exported r y) ];
-      notified = λ r y. elim (same_or_other y x) [ inl e ↦ rw (e, dones) (old.notified r x) | inr n ↦ rw (others y n) (old.notified r y) ];
+      paired = λ y. elim (cases_eq y x) [ inl e ↦ rw e pair | inr n ↦ rw (others y n) (old.paired y) ];
+      exported = λ r y. elim (cases_eq y x) [ inl e ↦ rw (e, commits) (old.exported r x) | inr n ↦ rw (others y n) (old.exported r y) ];
+      notified = λ r y. elim (cases_eq y x) [ inl e ↦ rw (e, dones) (old.notified r x) | inr n ↦ rw (others y n) (old.notified r y) ];
       imported = old.imported;
       importing = old.importing;
       dropped = old.dropped;
       known = old.known;
-      finish = λ k y h. elim (same_or_other y x) [ inl e ↦ rw e (done (rw e at (old.finish k y h))) | inr n ↦ rw (others y n) (old.finish k y h) ];
-      cancel = λ k y h. elim (same_or_other y x) [ inl e ↦ rw e (aborted (rw e at (old.cancel k y h))) | inr n ↦ rw (others y n) (old.cancel k y h) ];
+      finish = λ k y h. elim (cases_eq y x) [ inl e ↦ rw e (done (rw e at (old.finish k y h))) | inr n ↦ rw (others y n) (old.finish k y h) ];
+      cancel = λ k y h. elim (cases_eq y x) [ inl e ↦ rw e (aborted (rw e at (old.cancel k y h))) | inr n ↦ rw (others y n) (old.cancel k y h) ];
       acked = old.acked;
     }
 
@@ -242,15 +240,15 @@ module _ (count : ℕ) (from to : ℕ → ℕ) (exporter : ℕ → ExporterState
       ((r : ℕ) (e : JournalEntry) → has' r e ≡ (has r e || (eqb r (from x) && is_same (JournalEntry.Exported x) e))) →
       exporter x ≡ Exporting → importer x ≡ Started → exporter' x ≡ Logged → Tables count from to exporter' importer has' sent
   log_tables exporter' has' x others adds was started is = record {
-    paired = λ y. elim (same_or_other y x) [ inl e ↦ rw (e, is, started) refl | inr n ↦ rw (others y n) (old.paired y) ];
-    exported = λ r y. grind (arith, old.exported r y, adds r (JournalEntry.Exported y), same_or_other y x, others y);
-    notified = λ r y. grind (arith, old.notified r y, adds r (JournalEntry.Notified y), same_or_other y x, others y);
+    paired = λ y. elim (cases_eq y x) [ inl e ↦ rw (e, is, started) refl | inr n ↦ rw (others y n) (old.paired y) ];
+    exported = λ r y. grind (arith, old.exported r y, adds r (JournalEntry.Exported y), cases_eq y x, others y);
+    notified = λ r y. grind (arith, old.notified r y, adds r (JournalEntry.Notified y), cases_eq y x, others y);
     imported = λ r y. rw (adds r (JournalEntry.Imported y), kept_flag (has r (JournalEntry.Imported y)) (eqb r (from x))) (old.imported r y);
     importing = λ r y. rw (adds r (JournalEntry.Started y), adds r (JournalEntry.Imported y), adds r (JournalEntry.Dropped y), kept_flag (has r (JournalEntry.Started y)) (eqb r (from x)), kept_flag (has r (JournalEntry.Imported y)) (eqb r (from x)), kept_flag (has r (JournalEntry.Dropped y)) (eqb r (from x))) (old.importing r y);
     dropped = λ r y h. old.dropped r y (rw (adds r (JournalEntry.Dropped y), kept_flag (has r (JournalEntry.Dropped y)) (eqb r (from x))) at h);
     known = old.known;
-    finish = λ k y h. grind (arith, old.finish k y h, same_or_other y x, others y);
-    cancel = λ k y h. grind (arith, old.cancel k y h, same_or_other y x, others y);
+    finish = λ k y h. grind (arith, old.finish k y h, cases_eq y x, others y);
+    cancel = λ k y h. grind (arith, old.cancel k y h, cases_eq y x, others y);
     acked = λ k y h. grind (arith, old.acked k y h, adds (to y) (JournalEntry.Dropped y));
   }
 
@@ -259,15 +257,15 @@ module _ (count : ℕ) (from to : ℕ → ℕ) (exporter : ℕ → ExporterState
       ((r : ℕ) (e : JournalEntry) → has' r e ≡ (has r e || (eqb r (from x) && is_same (JournalEntry.Notified x) e))) →
       exporter x ≡ Logged → exporter' x ≡ Done → Tables count from to exporter' importer has' sent
   notify_tables exporter' has' x others adds was is = record {
-    paired = λ y. elim (same_or_other y x) [ inl e ↦ rw (e, is) (let h : is_started (importer x) ≡ true = rw was at (old.paired x) in rw h refl) | inr n ↦ rw (others y n) (old.paired y) ];
-    exported = λ r y. grind (arith, old.exported r y, adds r (JournalEntry.Exported y), same_or_other y x, others y);
-    notified = λ r y. grind (arith, old.notified r y, adds r (JournalEntry.Notified y), same_or_other y x, others y);
+    paired = λ y. elim (cases_eq y x) [ inl e ↦ rw (e, is) (let h : is_started (importer x) ≡ true = rw was at (old.paired x) in rw h refl) | inr n ↦ rw (others y n) (old.paired y) ];
+    exported = λ r y. grind (arith, old.exported r y, adds r (JournalEntry.Exported y), cases_eq y x, others y);
+    notified = λ r y. grind (arith, old.notified r y, adds r (JournalEntry.Notified y), cases_eq y x, others y);
     imported = λ r y. rw (adds r (JournalEntry.Imported y), kept_flag (has r (JournalEntry.Imported y)) (eqb r (from x))) (old.imported r y);
     importing = λ r y. rw (adds r (JournalEntry.Started y), adds r (JournalEntry.Imported y), adds r (JournalEntry.Dropped y), kept_flag (has r (JournalEntry.Started y)) (eqb r (from x)), kept_flag (has r (JournalEntry.Imported y)) (eqb r (from x)), kept_flag (has r (JournalEntry.Dropped y)) (eqb r (from x))) (old.importing r y);
     dropped = λ r y h. old.dropped r y (rw (adds r (JournalEntry.Dropped y), kept_flag (has r (JournalEntry.Dropped y)) (eqb r (from x))) at h);
     known = old.known;
-    finish = λ k y h. grind (arith, old.finish k y h, same_or_other y x, others y);
-    cancel = λ k y h. grind (arith, old.cancel k y h, same_or_other y x, others y);
+    finish = λ k y h. grind (arith, old.finish k y h, cases_eq y x, others y);
+    cancel = λ k y h. grind (arith, old.cancel k y h, cases_eq y x, others y);
     acked = λ k y h. grind (arith, old.acked k y h, adds (to y) (JournalEntry.Dropped y));
   }
 
@@ -277,16 +275,16 @@ module _ (count : ℕ) (from to : ℕ → ℕ) (exporter : ℕ → ExporterState
       is_started (importer x) ≡ false → is_started (importer' x) ≡ false → (importer x ≡ Dropped → importer' x ≡ Dropped) →
       Tables count from to exporter importer' has sent
   import_early_tables importer' x others pair imp imp' sta sta' drop = record {
-    paired = λ y. elim (same_or_other y x) [ inl e ↦ rw e pair | inr n ↦ rw (others y n) (old.paired y) ];
+    paired = λ y. elim (cases_eq y x) [ inl e ↦ rw e pair | inr n ↦ rw (others y n) (old.paired y) ];
     exported = old.exported;
     notified = old.notified;
-    imported = λ r y. elim (same_or_other y x) [ inl e ↦ rw (e, imp') (rw imp at (old.imported r x)) | inr n ↦ rw (others y n) (old.imported r y) ];
-    importing = λ r y. elim (same_or_other y x) [ inl e ↦ rw (e, sta') (rw sta at (old.importing r x)) | inr n ↦ rw (others y n) (old.importing r y) ];
-    dropped = λ r y h. elim (same_or_other y x) [ inl e ↦ rw e ((rw e at (old.dropped r y h)).0, drop (rw e at (old.dropped r y h)).1) | inr n ↦ rw (others y n) (old.dropped r y h) ];
+    imported = λ r y. elim (cases_eq y x) [ inl e ↦ rw (e, imp') (rw imp at (old.imported r x)) | inr n ↦ rw (others y n) (old.imported r y) ];
+    importing = λ r y. elim (cases_eq y x) [ inl e ↦ rw (e, sta') (rw sta at (old.importing r x)) | inr n ↦ rw (others y n) (old.importing r y) ];
+    dropped = λ r y h. elim (cases_eq y x) [ inl e ↦ rw e ((rw e at (old.dropped r y h)).0, drop (rw e at (old.dropped r y h)).1) | inr n ↦ rw (others y n) (old.dropped r y h) ];
     known = old.known;
     finish = old.finish;
     cancel = old.cancel;
-    acked = λ k y h. elim (same_or_other y x) [ inl e ↦ rw (e, imp', sta') (rw (e, imp, sta) at (old.acked k y h)) | inr n ↦ rw (others y n) (old.acked k y h) ];
+    acked = λ k y h. elim (cases_eq y x) [ inl e ↦ rw (e, imp', sta') (rw (e, imp, sta) at (old.acked k y h)) | inr n ↦ rw (others y n) (old.acked k y h) ];
   }
 
   -- The importer starts.
@@ -294,19 +292,19 @@ module _ (count : ℕ) (from to : ℕ → ℕ) (exporter : ℕ → ExporterState
       ((r : ℕ) (e : JournalEntry) → has' r e ≡ (has r e || (eqb r (to x) && is_same (JournalEntry.Started x) e))) →
       importer x ≡ Prepared → importer' x ≡ Started → Tables count from to exporter importer' has' sent
   started_tables importer' has' x others adds was is = record {
-    paired = λ y. elim (same_or_other y x) [ inl e ↦ rw (e, is) (started_pair (exporter x) (rw was at (old.paired x))) | inr n ↦ rw (others y n) (old.paired y) ];
+    paired = λ y. elim (cases_eq y x) [ inl e ↦ rw (e, is) (started_pair (exporter x) (rw was at (old.paired x))) | inr n ↦ rw (others y n) (old.paired y) ];
     exported = λ r y. rw (adds r (JournalEntry.Exported y), kept_flag (has r (JournalEntry.Exported y)) (eqb r (to x))) (old.exported r y);
     notified = λ r y. rw (adds r (JournalEntry.Notified y), kept_flag (has r (JournalEntry.Notified y)) (eqb r (to x))) (old.notified r y);
-    imported = λ r y. grind (arith, old.imported r y, adds r (JournalEntry.Imported y), same_or_other y x, others y);
-    importing = λ r y. grind (arith, old.importing r y, old.imported r y, old.dropped r y, adds r (JournalEntry.Started y), adds r (JournalEntry.Imported y), adds r (JournalEntry.Dropped y), same_or_other y x, others y);
+    imported = λ r y. grind (arith, old.imported r y, adds r (JournalEntry.Imported y), cases_eq y x, others y);
+    importing = λ r y. grind (arith, old.importing r y, old.imported r y, old.dropped r y, adds r (JournalEntry.Started y), adds r (JournalEntry.Imported y), adds r (JournalEntry.Dropped y), cases_eq y x, others y);
     dropped = λ r y h.
         let k : has r (JournalEntry.Dropped y) ≡ true = rw (adds r (JournalEntry.Dropped y), kept_flag (has r (JournalEntry.Dropped y)) (eqb r (to x))) at h in
         let o : (r ≡ to y) × (importer y ≡ Dropped) = old.dropped r y k in
-        elim (same_or_other y x) [ inl e ↦ absurd (not_dropped (importer x) (ap is_dropped was) (rw e at o.1)) | inr n ↦ (o.0, others y n ∙ o.1) ];
+        elim (cases_eq y x) [ inl e ↦ absurd (not_dropped (importer x) (ap is_dropped was) (rw e at o.1)) | inr n ↦ (o.0, others y n ∙ o.1) ];
     known = old.known;
     finish = old.finish;
     cancel = old.cancel;
-    acked = λ k y h. grind (arith, old.acked k y h, adds (to y) (JournalEntry.Dropped y), same_or_other y x, others y);
+    acked = λ k y h. grind (arith, old.acked k y h, adds (to y) (JournalEntry.Dropped y), cases_eq y x, others y);
   }
 
   -- The importer imports.
@@ -314,25 +312,25 @@ module _ (count : ℕ) (from to : ℕ → ℕ) (exporter : ℕ → ExporterState
       ((r : ℕ) (e : JournalEntry) → has' r e ≡ (has r e || (eqb r (to x) && is_same (JournalEntry.Imported x) e))) →
       importer x ≡ Started → exporter x ≡ Done → importer' x ≡ Imported → Tables count from to exporter importer' has' sent
   imported_tables importer' has' x others adds was done is = record {
-    paired = λ y. elim (same_or_other y x) [ inl e ↦ rw (e, is, done) refl | inr n ↦ rw (others y n) (old.paired y) ];
+    paired = λ y. elim (cases_eq y x) [ inl e ↦ rw (e, is, done) refl | inr n ↦ rw (others y n) (old.paired y) ];
     exported = λ r y. rw (adds r (JournalEntry.Exported y), kept_flag (has r (JournalEntry.Exported y)) (eqb r (to x))) (old.exported r y);
     notified = λ r y. rw (adds r (JournalEntry.Notified y), kept_flag (has r (JournalEntry.Notified y)) (eqb r (to x))) (old.notified r y);
-    imported = λ r y. elim (same_or_other y x) [
+    imported = λ r y. elim (cases_eq y x) [
       | inl e ↦ rw (e, is, adds r (JournalEntry.Imported x)) (set_flag (has r (JournalEntry.Imported x)) (eqb r (to x)) x (rw was at (old.imported r x)))
       | inr n ↦ rw (others y n, adds r (JournalEntry.Imported y), other_flag (has r (JournalEntry.Imported y)) (eqb r (to x)) x y n) (old.imported r y)
     ];
-    importing = λ r y. elim (same_or_other y x) [
+    importing = λ r y. elim (cases_eq y x) [
       | inl e ↦ rw (e, is, adds r (JournalEntry.Started x), adds r (JournalEntry.Imported x), adds r (JournalEntry.Dropped x)) (imported_flags (has r (JournalEntry.Started x)) (has r (JournalEntry.Imported x)) (has r (JournalEntry.Dropped x)) (eqb r (to x)) x (rw was at (old.importing r x)))
       | inr n ↦ rw (others y n, adds r (JournalEntry.Started y), adds r (JournalEntry.Imported y), adds r (JournalEntry.Dropped y), kept_flag (has r (JournalEntry.Started y)) (eqb r (to x)), other_flag (has r (JournalEntry.Imported y)) (eqb r (to x)) x y n, kept_flag (has r (JournalEntry.Dropped y)) (eqb r (to x))) (old.importing r y)
     ];
     dropped = λ r y h.
         let k : has r (JournalEntry.Dropped y) ≡ true = rw (adds r (JournalEntry.Dropped y), kept_flag (has r (JournalEntry.Dropped y)) (eqb r (to x))) at h in
         let o : (r ≡ to y) × (importer y ≡ Dropped) = old.dropped r y k in
-        elim (same_or_other y x) [ inl e ↦ absurd (not_dropped (importer x) (ap is_dropped was) (rw e at o.1)) | inr n ↦ (o.0, others y n ∙ o.1) ];
+        elim (cases_eq y x) [ inl e ↦ absurd (not_dropped (importer x) (ap is_dropped was) (rw e at o.1)) | inr n ↦ (o.0, others y n ∙ o.1) ];
     known = old.known;
     finish = old.finish;
     cancel = old.cancel;
-    acked = λ k y h. grind (arith, old.acked k y h, adds (to y) (JournalEntry.Dropped y), same_or_other y x, others y);
+    acked = λ k y h. grind (arith, old.acked k y h, adds (to y) (JournalEntry.Dropped y), cases_eq y x, others y);
   }
 
   -- The importer drops what it had started.
@@ -340,22 +338,22 @@ module _ (count : ℕ) (from to : ℕ → ℕ) (exporter : ℕ → ExporterState
       ((r : ℕ) (e : JournalEntry) → has' r e ≡ (has r e || (eqb r (to x) && is_same (JournalEntry.Dropped x) e))) →
       importer x ≡ Started → exporter x ≡ Aborted → importer' x ≡ Dropped → Tables count from to exporter importer' has' sent
   dropped_tables importer' has' x others adds was aborted is = record {
-    paired = λ y. elim (same_or_other y x) [ inl e ↦ rw (e, is, aborted) refl | inr n ↦ rw (others y n) (old.paired y) ];
+    paired = λ y. elim (cases_eq y x) [ inl e ↦ rw (e, is, aborted) refl | inr n ↦ rw (others y n) (old.paired y) ];
     exported = λ r y. rw (adds r (JournalEntry.Exported y), kept_flag (has r (JournalEntry.Exported y)) (eqb r (to x))) (old.exported r y);
     notified = λ r y. rw (adds r (JournalEntry.Notified y), kept_flag (has r (JournalEntry.Notified y)) (eqb r (to x))) (old.notified r y);
-    imported = λ r y. grind (arith, old.imported r y, adds r (JournalEntry.Imported y), same_or_other y x, others y);
-    importing = λ r y. elim (same_or_other y x) [
+    imported = λ r y. grind (arith, old.imported r y, adds r (JournalEntry.Imported y), cases_eq y x, others y);
+    importing = λ r y. elim (cases_eq y x) [
       | inl e ↦ rw (e, is, adds r (JournalEntry.Started x), adds r (JournalEntry.Imported x), adds r (JournalEntry.Dropped x)) (dropped_flags (has r (JournalEntry.Started x)) (has r (JournalEntry.Imported x)) (has r (JournalEntry.Dropped x)) (eqb r (to x)) x (rw was at (old.importing r x)))
       | inr n ↦ rw (others y n, adds r (JournalEntry.Started y), adds r (JournalEntry.Imported y), adds r (JournalEntry.Dropped y), kept_flag (has r (JournalEntry.Started y)) (eqb r (to x)), kept_flag (has r (JournalEntry.Imported y)) (eqb r (to x)), other_flag (has r (JournalEntry.Dropped y)) (eqb r (to x)) x y n) (old.importing r y)
     ];
-    dropped = λ r y h. elim (same_or_other y x) [
+    dropped = λ r y h. elim (cases_eq y x) [
       | inl e ↦ rw e (drop_flag (has r (JournalEntry.Dropped x)) r (to x) x (rw (e, adds r (JournalEntry.Dropped x)) at h) (λ k. (old.dropped r x k).0), is)
       | inr n ↦ rw (others y n) (old.dropped r y (rw (adds r (JournalEntry.Dropped y), other_flag (has r (JournalEntry.Dropped y)) (eqb r (to x)) x y n) at h))
     ];
     known = old.known;
     finish = old.finish;
     cancel = old.cancel;
-    acked = λ k y h. grind (arith, old.acked k y h, adds (to y) (JournalEntry.Dropped y), same_or_other y x, others y);
+    acked = λ k y h. grind (arith, old.acked k y h, adds (to y) (JournalEntry.Dropped y), cases_eq y x, others y);
   }
 
   -- An export begins.
@@ -366,12 +364,12 @@ module _ (count : ℕ) (from to : ℕ → ℕ) (exporter : ℕ → ExporterState
       exporter count ≡ Aborted → importer count ≡ Unknown → exporter' count ≡ Discovering →
       Tables (count + 1) from' to' exporter' importer' has sent'
   begun_tables from' to' exporter' importer' sent' froms tos others importers news was new is = record {
-    paired = λ y. elim (same_or_other y count) [ inl e ↦ rw (e, is, importers count, new) refl | inr n ↦ rw (others y n, importers y) (old.paired y) ];
-    exported = λ r y. grind (arith, old.exported r y, same_or_other y count, others y, froms y);
-    notified = λ r y. grind (arith, old.notified r y, same_or_other y count, others y, froms y);
-    imported = λ r y. grind (arith, old.imported r y, same_or_other y count, importers y, tos y);
-    importing = λ r y. grind (arith, old.importing r y, same_or_other y count, importers y, tos y);
-    dropped = λ r y h. grind (arith, old.dropped r y h, same_or_other y count, importers y, tos y);
+    paired = λ y. elim (cases_eq y count) [ inl e ↦ rw (e, is, importers count, new) refl | inr n ↦ rw (others y n, importers y) (old.paired y) ];
+    exported = λ r y. grind (arith, old.exported r y, cases_eq y count, others y, froms y);
+    notified = λ r y. grind (arith, old.notified r y, cases_eq y count, others y, froms y);
+    imported = λ r y. grind (arith, old.imported r y, cases_eq y count, importers y, tos y);
+    importing = λ r y. grind (arith, old.importing r y, cases_eq y count, importers y, tos y);
+    dropped = λ r y h. grind (arith, old.dropped r y h, cases_eq y count, importers y, tos y);
     known = λ k m h. grind (arith, old.known k m, news k m h);
     finish = λ k y h. grind (arith, old.finish k y, old.known k (Finish y), news k (Finish y) h, others y);
     cancel = λ k y h. grind (arith, old.cancel k y, old.known k (Cancel y), news k (Cancel y) h, others y);

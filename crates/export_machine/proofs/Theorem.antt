@@ -1,5 +1,6 @@
 -- Each step keeps the invariant, so every list of events does, and the invariant gives what is promised.
 use Rattle.std.proofs.Common.{◌≡◌, ◌≢◌, ℕ, zero, suc, ◌<◌, ◌≤◌, Bool, true, false, ◌&&◌, not, eqb, leb, cond, List, [], ◌∷◌, length, get_or, set, Option, Some, None, refl, sym, ap, ◌∙◌, inl, inr, ◌⊎◌, arith, replicate}
+use Rattle.std.proofs.lemmas.Bool.{and_parts, cases_Bool, cases_eq}
 use Rattle.std.specs.Option.{is_some}
 use Rattle.std.specs.List.{slice_get}
 use Rattle.export_machine.specs.declared.exporter.ExporterState.{ExporterState}
@@ -16,9 +17,9 @@ use Rattle.export_machine.proofs.Views.{push_other, not_past}
 use Rattle.export_machine.specs.Promises.{IsTheAuthority, OneAuthority, ServedByAuthority, RequestsAtAuthority, IsBetweenLogAndNotify, MapNamed, NoneForGone, KeepsAuthority}
 use Rattle.export_machine.proofs.Owning.{Phase, is_moving}
 use Rattle.export_machine.proofs.Owning.Phase.{Early, Held, Moving, Told, Over}
-use Rattle.export_machine.proofs.Tables.{same_or_other, is_committed, is_done}
-use Rattle.export_machine.proofs.Safe.{Safe, phase_by, phase_of, either}
-use Rattle.export_machine.proofs.Lookups.{or_else_none, itself, and_true, one_authority, some_authority, takes_over, taking_over, moving_open}
+use Rattle.export_machine.proofs.Tables.{is_committed, is_done}
+use Rattle.export_machine.proofs.Safe.{Safe, phase_by, phase_of}
+use Rattle.export_machine.proofs.Lookups.{or_else_none, itself, one_authority, some_authority, takes_over, taking_over, moving_open}
 use Rattle.export_machine.proofs.Events.{NoneOf, none_of, froze_keeps, notify_keeps, abort_keeps, ask_keeps, delivered_keeps, end_keeps, begin_keeps, made_keeps, gone_keeps, start_keeps}
 use Rattle.export_machine.proofs.Frame.{delivered_frame}
 use Rattle.export_machine.proofs.Stops.{stop_keeps, restart_keeps}
@@ -87,7 +88,7 @@ module _ (w : World) (safe : Safe w) where
 
   pub safe_served : ServedByAuthority w
   unfolding serves
-  safe_served r d h = the_authority r d (inl (and_true (owns w r d) (not (any_below (length w.orders) (is_held_in w r d))) h).0)
+  safe_served r d h = the_authority r d (inl (and_parts (owns w r d) (not (any_below (length w.orders) (is_held_in w r d))) h).0)
 
   pub safe_requests : RequestsAtAuthority w
   safe_requests t q h = the_authority q.rank q.dir (inl (safe.running.stands t q h))
@@ -97,7 +98,7 @@ module _ (w : World) (safe : Safe w) where
       let n : (r : ℕ) × (named_of w d ≡ Some r) = named_there d p in (
         n.0,
         n.1,
-        elim (either (owns w n.0 d)) [
+        elim (cases_Bool (owns w n.0 d)) [
           | inl o ↦ inl (inl o)
           | inr f ↦ (let m : (x : ℕ) × (is_inside w x d ≡ true) × (is_moving (phase_of w x) ≡ true) = safe.owning.named_owns n.0 d n.1 f in
               where_moving m.0 n.0 d m.1 m.2 n.1)
@@ -163,14 +164,14 @@ module _ (limit ranks : ℕ) (some_rank : 1 ≤ ranks) where
 
   start_flag : (r : ℕ) (e : JournalEntry) → is_same (JournalEntry.Made 0) e ≡ false → has (start limit ranks) r e ≡ false
   unfolding start
-  start_flag r e h = elim (same_or_other r 0) [
+  start_flag r e h = elim (cases_eq r 0) [
     | inl i ↦ rw (i, start_journal, h) refl
     | inr n ↦ rw (start_journals r n) refl
   ]
 
   start_owner : (r d : ℕ) → owns (start limit ranks) r d ≡ true → (r ≡ 0) × (d ≡ 0)
   unfolding start
-  start_owner r d = elim (same_or_other r 0) as (λ v. owns (start limit ranks) r d ≡ true → (r ≡ 0) × (d ≡ 0)) [
+  start_owner r d = elim (cases_eq r 0) as (λ v. owns (start limit ranks) r d ≡ true → (r ≡ 0) × (d ≡ 0)) [
     | inl i ↦ (λ h. (i, root d (rw (i, start_journal) at h)))
     | inr n ↦ (λ h. absurd (cc (rw (start_journals r n) at h)))
   ]

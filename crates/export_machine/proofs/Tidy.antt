@@ -8,13 +8,12 @@ use Rattle.export_machine.specs.Cluster.{World}
 use Rattle.export_machine.specs.Authority.{is_present, request_of, is_stopped, authority}
 use Rattle.export_machine.specs.Step.{Event, causes, refusal, happens, step, answered, run, start, counted, journaled_by, changed, ignored, restarts, stops, ends_at}
 use Rattle.export_machine.specs.Step.Event.{Begin, End, Start, Deliver, Froze, Notify, Abort, Stop, Restart, Ask}
-use Rattle.export_machine.proofs.Tables.{same_or_other}
 use Rattle.export_machine.proofs.Views.{push_same, push_other, map_at_get, map_at_past}
 use Rattle.export_machine.proofs.Frame.{Framed, delivered_frame}
 use Rattle.export_machine.proofs.Events.{NoneOf, not_refused, there_near, set_none}
 use Rattle.export_machine.proofs.Theorem.{not_refused_causes}
 use Rattle.std.proofs.lemmas.List.{get_or-set_same, get_or-set_other, get_or_past, length-set}
-use Rattle.std.proofs.lemmas.Bool.{cases_lt}
+use Rattle.std.proofs.lemmas.Bool.{cases_lt, cases_eq, eqb-false, not-false}
 
 pub record Tidy (w : World) : Type 0 where
   pub smaller : (d p : ℕ) → get_or w.parents d None ≡ Some p → d ≢ 0 → p < d
@@ -39,22 +38,16 @@ set_false bs k = elim (cases_lt k (length bs)) [
   | inr m ↦ get_or_past (set bs k false) k false (rw (length-set bs k false) m)
 ]
 
-not_false : (b : Bool) → not b ≡ false → b ≡ true
-not_false b h = grind arith
-
 ended_elsewhere : (rank : ℕ) (o : Option Request) (q : Request) → ends_at rank o ≡ Some q → (o ≡ Some q) × (q.rank ≢ rank)
 ended_elsewhere rank None q h = absurd (cc)
 ended_elsewhere rank (Some p) q h = go (eqb p.rank rank) refl h
   where
-    unequal : (m n : ℕ) → eqb m n ≡ false → m ≢ n
-    unequal m n i = grind arith
-
     same : (r s : Request) → Some r ≡ Some s → r ≡ s
     same r s i = cc
 
     go : (b : Bool) → eqb p.rank rank ≡ b → cond b None (Some p) ≡ Some q → (Some p ≡ Some q) × (q.rank ≢ rank)
     go true e k = absurd (cc)
-    go false e k = (k, subst (λ (r : Request). r.rank ≢ rank) (same p q k) (unequal p.rank rank e))
+    go false e k = (k, subst (λ (r : Request). r.rank ≢ rank) (same p q k) (eqb-false p.rank rank e))
 
 module _ (w : World) (tidy : Tidy w) where
   made_tidy : (o : Option ℕ) (e : JournalEntry) (p : ℕ) (named : List (Option ℕ)) → p < length w.parents →
@@ -65,13 +58,13 @@ module _ (w : World) (tidy : Tidy w) where
       same a b i = cc
 
       small : (d q : ℕ) → get_or (w.parents ++ Some p ∷ []) d None ≡ Some q → d ≢ 0 → q < d
-      small d q h n = elim (same_or_other d (length w.parents)) [
+      small d q h n = elim (cases_eq d (length w.parents)) [
         | inl i ↦ (let k : p ≡ q = same p q (sym (push_same w.parents (Some p) None) ∙ rw i at h) in omega arith)
         | inr m ↦ tidy.smaller d q (sym (push_other w.parents (Some p) None d m) ∙ h) n
       ]
 
       low : (d q : ℕ) → get_or (w.parents ++ Some p ∷ []) d None ≡ Some q → q ≢ d → q < d
-      low d q h n = elim (same_or_other d (length w.parents)) [
+      low d q h n = elim (cases_eq d (length w.parents)) [
         | inl i ↦ (let k : p ≡ q = same p q (sym (push_same w.parents (Some p) None) ∙ rw i at h) in omega arith)
         | inr m ↦ tidy.lower d q (sym (push_other w.parents (Some p) None d m) ∙ h) n
       ]
@@ -85,13 +78,13 @@ module _ (w : World) (tidy : Tidy w) where
   gone_tidy o e c named = record { smaller = small; lower = low; awake = wakes o }
     where
       small : (d q : ℕ) → get_or (set w.parents c None) d None ≡ Some q → d ≢ 0 → q < d
-      small d q h n = elim (same_or_other d c) [
+      small d q h n = elim (cases_eq d c) [
         | inl i ↦ absurd (cc (set_none w.parents c, rw i at h))
         | inr m ↦ tidy.smaller d q (sym (get_or-set_other w.parents c d None None m) ∙ h) n
       ]
 
       low : (d q : ℕ) → get_or (set w.parents c None) d None ≡ Some q → q ≢ d → q < d
-      low d q h n = elim (same_or_other d c) [
+      low d q h n = elim (cases_eq d c) [
         | inl i ↦ absurd (cc (set_none w.parents c, rw i at h))
         | inr m ↦ tidy.lower d q (sym (get_or-set_other w.parents c d None None m) ∙ h) n
       ]
@@ -104,7 +97,7 @@ module _ (w : World) (tidy : Tidy w) where
   begin_tidy rank d up = record {
     smaller = tidy.smaller;
     lower = tidy.lower;
-    awake = λ t q h. elim (same_or_other t (length w.tickets)) [
+    awake = λ t q h. elim (cases_eq t (length w.tickets)) [
       | inl e ↦ subst (λ (r : Request). is_stopped w r.rank ≡ false) (same (record { rank = rank; dir = d }) q (sym (push_same w.tickets (Some (record { rank = rank; dir = d })) None) ∙ rw e at h)) up
       | inr n ↦ tidy.awake t q (sym (push_other w.tickets (Some (record { rank = rank; dir = d })) None t n) ∙ h)
     ];
@@ -117,7 +110,7 @@ module _ (w : World) (tidy : Tidy w) where
   end_tidy k = record {
     smaller = tidy.smaller;
     lower = tidy.lower;
-    awake = λ t q h. elim (same_or_other t k) [
+    awake = λ t q h. elim (cases_eq t k) [
       | inl e ↦ absurd (cc (set_none w.tickets k, rw e at h))
       | inr n ↦ tidy.awake t q (sym (get_or-set_other w.tickets k t None None n) ∙ h)
     ];
@@ -140,7 +133,7 @@ module _ (w : World) (tidy : Tidy w) where
   restart_tidy rank true = record {
     smaller = tidy.smaller;
     lower = tidy.lower;
-    awake = λ t q h. elim (same_or_other q.rank rank) [
+    awake = λ t q h. elim (cases_eq q.rank rank) [
       | inl e ↦ rw e (set_false w.stopped rank)
       | inr n ↦ get_or-set_other w.stopped rank q.rank false false n ∙ tidy.awake t q h
     ];
@@ -149,7 +142,7 @@ module _ (w : World) (tidy : Tidy w) where
   happens_tidy : (e : Event) → NoneOf (causes w e) → Tidy (happens w e).world
   unfolding happens causes
   happens_tidy (Event.Made p) h =
-      made_tidy (authority w p) (JournalEntry.Made (length w.parents)) p (w.named ++ authority w p ∷ []) (there_near w p (not_false (is_present w p) (not_refused (not (is_present w p)) StepError.NoDir h.0)))
+      made_tidy (authority w p) (JournalEntry.Made (length w.parents)) p (w.named ++ authority w p ∷ []) (there_near w p (not-false (is_present w p) (not_refused (not (is_present w p)) StepError.NoDir h.0)))
   happens_tidy (Event.Gone d) h = gone_tidy (authority w d) (JournalEntry.Gone d) d (set w.named d None)
   happens_tidy (Begin r d) h = begin_tidy r d (not_refused (is_stopped w r) (StepError.Stopped r) h.1.0)
   happens_tidy (End t) h = end_tidy t

@@ -5,9 +5,8 @@ use Rattle.export_machine.specs.declared.journal.JournalEntry.{JournalEntry}
 use Rattle.export_machine.specs.Cluster.{Order, World}
 use Rattle.export_machine.specs.Authority.{journal_of, is_same, has_entry, has, owned_after, owned_by, owns}
 use Rattle.export_machine.specs.Step.{journals, map_at}
-use Rattle.export_machine.proofs.Tables.{same_or_other}
 use Rattle.std.proofs.lemmas.List.{get_or-set_same, get_or-set_other, get_or_past}
-use Rattle.std.proofs.lemmas.Bool.{cases_lt}
+use Rattle.std.proofs.lemmas.Bool.{cases_lt, cases_eq}
 
 -- lists
 
@@ -75,7 +74,7 @@ module _ (w : World) (r : ℕ) (e : JournalEntry) (near : r < length w.journals)
   journal_other s n = get_or-set_other w.journals r s (journal_of w r ++ e ∷ []) [] n
 
   pub has_adds : (s : ℕ) (f : JournalEntry) → has (journals w r e) s f ≡ (has w s f || (eqb s r && is_same e f))
-  has_adds s f = elim (same_or_other s r) [
+  has_adds s f = elim (cases_eq s r) [
     | inl i ↦ rw (i, journal_at, has_push (journal_of w r) e f) (here (has w r f) r (is_same e f))
     | inr n ↦ rw (journal_other s n) (there (has w s f) s r (is_same e f) n)
   ]

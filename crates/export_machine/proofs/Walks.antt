@@ -18,16 +18,13 @@ use Rattle.export_machine.proofs.Owning.{is_moving}
 use Rattle.export_machine.proofs.Owning.Phase.{Moving}
 use Rattle.export_machine.proofs.Tidy.{Tidy, run_tidy, start_tidy}
 use Rattle.std.proofs.lemmas.List.{get_or_past}
-use Rattle.std.proofs.lemmas.Bool.{cases_lt}
+use Rattle.std.proofs.lemmas.Bool.{cases_lt, eqb-true}
 
 same_is : (a b : Option ℕ) → same_rank a b ≡ true → a ≡ b
 same_is None None h = refl
 same_is None (Some r) h = absurd (cc)
 same_is (Some r) None h = absurd (cc)
-same_is (Some r) (Some s) h = ap Some (same_number r s h)
-  where
-    same_number : (m n : ℕ) → eqb m n ≡ true → m ≡ n
-    same_number m n k = grind arith
+same_is (Some r) (Some s) h = ap Some (eqb-true r s h)
 
 module _ (w : World) (safe : Safe w) where
   -- an authority is one of the ranks

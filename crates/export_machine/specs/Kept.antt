@@ -1,5 +1,5 @@
 -- What the tables of a cluster stand for, and what always holds of them.
-use Rattle.std.specs.Prelude.{◌≡◌, ◌≤◌, ◌<◌, ℕ, ◌+◌, suc, Bool, true, ◌&&◌, nat_lt, List, [], ◌∷◌, map, length, Option, None, Some, Result, Ok, Err, slice_get, slice_index_or, slice_set, vec_len, vec_capacity, Vec, if◌then◌else◌}
+use Rattle.std.specs.Prelude.{◌≡◌, ◌≤◌, ◌<◌, ℕ, ◌+◌, suc, Bool, true, ◌&&◌, nat_lt, List, [], ◌∷◌, map, length, Option, None, Some, Result, Ok, Err, slice_get, slice_index_or, slice_set, vec_len, vec_capacity, Vec, if◌then◌else◌, replicate, false, not, ◌==◌, is_some}
 use Rattle.export_machine.specs.Cluster.{Order, World}
 use Rattle.export_machine.specs.Authority.{authority, open_export, order_in, from_of, exporter_of, importer_of}
 use Rattle.export_machine.specs.Step.{Event, running_on, is_child, receiver, repeats, comes}
@@ -24,6 +24,9 @@ event_of (Asked.Deliver message) = Event.Deliver message
 event_of (Asked.Froze export) = Event.Froze export
 event_of (Asked.Notify export) = Event.Notify export
 event_of (Asked.Abort export) = Event.Abort export
+event_of (Asked.Stop rank) = Event.Stop rank
+event_of (Asked.Restart rank) = Event.Restart rank
+event_of (Asked.Ask export) = Event.Ask export
 
 abbrev pub order_of : Moved → Order
 order_of o = record { from = o.from; to = o.to; dirs = o.dirs.items }
@@ -51,9 +54,10 @@ pub record Indexes : Type 0 where
   pub opened : List (Option ℕ)  -- the open export that it is in
   pub running : List ℕ  -- how many requests run on it
   pub children : List ℕ  -- how many children it has
+  pub marks : List Bool  -- none, between the tests of lists
 
 abbrev pub indexes_of : Records → Indexes
-indexes_of r = record { owners = r.owners.items; opened = r.opened.items; running = r.running.items; children = r.children.items }
+indexes_of r = record { owners = r.owners.items; opened = r.opened.items; running = r.running.items; children = r.children.items; marks = r.marks.items }
 
 -- how many places of a list pass the test
 abbrev pub count_at : {A : Type 0} → (ℕ → A → Bool) → List A → ℕ
@@ -72,6 +76,16 @@ pub record IsIndexed (w : World) (i : Indexes) : Type 0 where
   pub opened_places : length i.opened ≡ length w.parents
   pub running_places : length i.running ≡ length w.parents
   pub children_places : length i.children ≡ length w.parents
+  pub unmarked : i.marks ≡ replicate (length w.parents) false
+
+-- a directory that is there, and one whose parent is another directory with a mark
+
+abbrev pub is_listed : List (Option ℕ) → ℕ → Bool
+is_listed parents d = is_some (slice_index_or parents d None)
+
+abbrev pub parent_marked : List Bool → ℕ → Option ℕ → Bool
+parent_marked marks d None = false
+parent_marked marks d (Some p) = slice_index_or marks p false && not (p == d)
 
 -- some list of events led here, no message or ticket without an event, and the tables by directory are right
 pub record IsKept (r : Records) : Type 0 where
@@ -123,7 +137,7 @@ entered_at w _ = None
 
 abbrev pub has_dir_places : Records → Bool
 has_dir_places r =
-    has_spare r.parents && has_spare r.named && has_spare r.owners && has_spare r.opened && has_spare r.running && has_spare r.children
+    has_spare r.parents && has_spare r.named && has_spare r.owners && has_spare r.opened && has_spare r.running && has_spare r.children && has_spare r.marks
 
 abbrev pub has_export_places : Records → Bool
 has_export_places r = has_spare r.orders && has_spare r.exporters && has_spare r.importers && has_spare r.sent
@@ -230,4 +244,4 @@ states_of w x = if nat_lt x (length w.orders) then Some (exporter_of w x, import
 
 -- those of a new cluster
 abbrev pub first_indexes : Indexes
-first_indexes = record { owners = Some 0 ∷ []; opened = None ∷ []; running = 0 ∷ []; children = 0 ∷ [] }
+first_indexes = record { owners = Some 0 ∷ []; opened = None ∷ []; running = 0 ∷ []; children = 0 ∷ []; marks = false ∷ [] }

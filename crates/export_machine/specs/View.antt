@@ -1,5 +1,5 @@
 -- When an answer of the code is a step, and which worlds events lead to.
-use Rattle.std.specs.Prelude.{◌≡◌, ℕ, ◌≤◌, List, [], ◌∷◌, Result, Ok, Err, None, ◌⊎◌}
+use Rattle.std.specs.Prelude.{◌≡◌, ◌≢◌, ℕ, ◌≤◌, List, [], ◌∷◌, Result, Ok, Err, None, ◌⊎◌, All}
 use Rattle.export_machine.specs.declared.event.Reply.{Reply}
 use Rattle.export_machine.specs.declared.step_error.StepError.{StepError}
 use Rattle.export_machine.specs.declared.step_error.StepError.TheVariants.{Memory}
@@ -22,3 +22,7 @@ AreAnswers old [] [] new = new ≡ old
 AreAnswers old (e ∷ es) (r ∷ rs) new = (next : World) × IsAnswer old e r next × AreAnswers next es rs new
 AreAnswers old [] (r ∷ rs) new = ⊥
 AreAnswers old (e ∷ es) [] new = ⊥
+
+-- memory was wanted for none of them
+abbrev pub NoneIsMemory : List (Result Reply StepError) → Type 0
+NoneIsMemory rs = All (λ r. r ≢ Err Memory) rs

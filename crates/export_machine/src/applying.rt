@@ -36,7 +36,8 @@ impl Records {
         self.owners.reserve(1)?;
         self.opened.reserve(1)?;
         self.running.reserve(1)?;
-        self.children.reserve(1)
+        self.children.reserve(1)?;
+        self.marks.reserve(1)
     }
 
     /// Takes room for one more export.
@@ -71,6 +72,9 @@ impl Records {
             Event::Froze(export) => self.froze(export),
             Event::Notify(export) => self.notify(export),
             Event::Abort(export) => self.abort(export),
+            Event::Stop(rank) => self.stop(rank),
+            Event::Restart(rank) => self.restart(rank),
+            Event::Ask(export) => self.ask(export),
         }
     }
 
@@ -120,8 +124,11 @@ impl Records {
             Event::Froze(_) => self.sent.reserve(1),
             Event::Notify(_) => self.sent.reserve(1),
             Event::Abort(_) => self.sent.reserve(1),
+            Event::Ask(_) => self.sent.reserve(1),
             Event::Gone(_) => Ok(()),
             Event::End(_) => Ok(()),
+            Event::Stop(_) => Ok(()),
+            Event::Restart(_) => Ok(()),
         }
     }
 
@@ -146,7 +153,7 @@ impl Records {
         ensures kept { IsKept self.new }
         ensures ready { refusal (world_of self.old) (event_of event) ≡ None → has_room self.old (event_of event) ≡ true → IsOk result }
     {
-        if let Err(error) = self.check(&event) {
+        if let Err(error) = self.check_by_marks(&event) {
             return Err(error);
         }
         if self.grow(&event).is_err() {

@@ -33,6 +33,15 @@ pub(crate) fn enter(journals: &mut Vec<Vec<JournalEntry>>, rank: Rank, entry: Jo
     journals[rank.number() as usize].push_reserved(entry);
 }
 
+/// Writes into the table at one place, if it is there.
+pub(crate) fn put<T: Copy>(table: &mut Vec<T>, index: usize, value: T)
+    ensures { table.new.items ≡ slice_set table.old.items index value }
+{
+    if index < table.len() {
+        table[index] = value;
+    }
+}
+
 /// Writes the same into the table at each of the directories.
 pub(crate) fn mark<T: Copy>(table: &mut Vec<Option<T>>, dirs: &[Dir], value: Option<T>)
     requires near { (d : ℕ) → is_among dirs.now d ≡ true → d < length table.old.items }

@@ -2,8 +2,8 @@
 
 ghost use Rattle.std.specs.Prelude.{◌≡◌, ◌<◌, ◌≤◌, ◌↔◌, ℕ, length, map, None, true, Some, IsSome, IfSome, IfOk, IsOk, Err, OnOk, OnErr, slice_get};
 ghost use Rattle.export_machine.specs.Authority.{authority, serves, named_of, journal_of, order_in};
-ghost use Rattle.export_machine.specs.Step.{refusal, start};
-ghost use Rattle.export_machine.specs.View.{IsAnswer, AreAnswers};
+ghost use Rattle.export_machine.specs.Step.{refusal, start, answers as answers_to, run as state_after};
+ghost use Rattle.export_machine.specs.View.{IsAnswer, AreAnswers, NoneIsMemory};
 ghost use Rattle.export_machine.specs.Promises.{Promised, KeepsAuthority};
 ghost use Rattle.export_machine.specs.Kept.{event_of, order_of, cause_of, addressed, states_of, is_ready};
 
@@ -69,6 +69,9 @@ impl Cluster {
         events: &[Event],
     ) -> Result<Vec<Result<Reply, StepError>>, AllocError>
         ensures answers { IfOk result (λ answers. AreAnswers self.old.world (map event_of events.now) answers.items self.new.world) }
+        // Where no answer was want of memory they are the answers of the definition, and so is the state after them.
+        ensures exact { IfOk result (λ answers. NoneIsMemory answers.items → answers.items ≡ answers_to self.old.world (map event_of events.now)) }
+        ensures state { IfOk result (λ answers. NoneIsMemory answers.items → self.new.world ≡ state_after self.old.world (map event_of events.now)) }
         ensures err { OnErr result (self.new.world ≡ self.old.world) }
         ensures promised { Promised self.new.world }
     {
@@ -121,7 +124,7 @@ impl Cluster {
         ensures world { self.new.world ≡ self.old.world }
         ensures room { OnOk result (refusal self.new.world (event_of event.now) ≡ None → is_ready self.new (event_of event.now) ≡ true) }
     {
-        if self.records.check(event).is_err() {
+        if self.records.check_by_marks(event).is_err() {
             return Ok(());
         }
         self.records.grow(event)

@@ -89,6 +89,7 @@ impl Records {
         self.opened.push_reserved(None);
         self.running.push_reserved(0);
         self.children.push_reserved(0);
+        self.marks.push_reserved(false);
         self.children[parent.number() as usize] += 1;
         Reply::Dir(dir)
     }
@@ -151,5 +152,16 @@ impl Records {
         );
         mark(&mut self.named, &order.dirs, Some(order.to));
         send(&mut self.sent, Message::Finish(export))
+    }
+
+    /// The importer asks the exporter what became of the export.
+    pub(crate) fn ask(&mut self, export: u32) -> Reply
+        requires kept { IsKept self.old }
+        requires accepted { refusal (world_of self.old) (StepEvent.Ask export) ≡ None }
+        requires room { has_room self.old (StepEvent.Ask export) ≡ true }
+        ensures effect { happens (world_of self.old) (StepEvent.Ask export) ≡ record { reply = result; world = world_of self.new } }
+        ensures indexed { IsIndexed (world_of self.new) (indexes_of self.new) }
+    {
+        send(&mut self.sent, Message::Query(export))
     }
 }

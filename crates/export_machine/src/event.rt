@@ -27,6 +27,12 @@ pub enum Event {
     Notify(u32),
     /// The exporter gives the export up.
     Abort(u32),
+    /// A rank stops: its requests end, and what it keeps is its journal.
+    Stop(Rank),
+    /// A rank runs again, with what its journal tells.
+    Restart(Rank),
+    /// The importer asks what became of the export.
+    Ask(u32),
 }
 
 /// The answer to an accepted event.
@@ -70,6 +76,9 @@ impl Event {
             Event::Froze(export) => Event::Froze(*export),
             Event::Notify(export) => Event::Notify(*export),
             Event::Abort(export) => Event::Abort(*export),
+            Event::Stop(rank) => Event::Stop(*rank),
+            Event::Restart(rank) => Event::Restart(*rank),
+            Event::Ask(export) => Event::Ask(*export),
         })
     }
 }

@@ -7,6 +7,7 @@
 mod applying;
 mod changes;
 pub mod cluster;
+mod connecting;
 mod deliveries;
 mod effects;
 pub mod event;
@@ -18,6 +19,7 @@ pub mod message;
 mod records;
 mod refusals;
 pub mod step_error;
+mod stopping;
 
 pub use cluster::Cluster;
 pub use event::{Event, Reply, Request};

@@ -2,7 +2,7 @@
 //!
 //! Beside the journals, states, messages and map there are four tables by directory, which the rest determines: its
 //! authority, the open export that it is in, how many requests run on it and how many children it has. So no read
-//! folds a journal and no event searches the exports.
+//! folds a journal and no event searches the exports. A fifth, of marks, is for the test of a list of directories.
 
 ghost use Rattle.std.specs.Prelude.{◌≡◌, ℕ, ◌<◌, ◌≤◌, IfOk, map, replicate, slice_set, false, ◌∷◌, [], length, Some, slice_get};
 ghost use Rattle.export_machine.specs.Authority.{is_present, authority, open_export, is_stopped, exporter_of, importer_of, from_of, to_of, order_in, frozen_by, serves, named_of, journal_of, is_among};
@@ -42,6 +42,8 @@ pub struct Records {
     pub(crate) running: Vec<u32>,
     /// By directory: how many children it has.
     pub(crate) children: Vec<u32>,
+    /// By directory: whether the test of a list has come across it. Between tests none has its mark.
+    pub(crate) marks: Vec<bool>,
 }
 
 fn empty_journals(alloc: Global, ranks: u8) -> Result<Vec<Vec<JournalEntry>>, AllocError>
@@ -110,6 +112,7 @@ impl Records {
             opened: vec![in alloc; None]?,
             running: vec![in alloc; 0]?,
             children: vec![in alloc; 0]?,
+            marks: vec![in alloc; false]?,
         })
     }
 

@@ -32,11 +32,12 @@ ghost use Rattle.export_machine.specs.Step.{
   cannot_leave,
   least_fault,
 };
-ghost use Rattle.export_machine.specs.Kept.{world_of, event_of, cause_of, lesser, IsKept};
+ghost use Rattle.export_machine.specs.Kept.{world_of, indexes_of, has_room, event_of, cause_of, lesser, IsKept};
 ghost use Rattle.export_machine.specs.declared.step_error.StepError.TheVariants.{HistoryFull, NoDir, NotEmpty, IsRoot, TreeFull, NoTicket, NoMessage, SameRank, ExportsFull};
 
 use crate::event::Event;
 use crate::exporter::ExporterState;
+use crate::importer::ImporterState;
 use crate::records::Records;
 use crate::step_error::StepError;
 use mds_types::{Dir, Rank};
@@ -339,6 +340,36 @@ impl Records {
     }
 
     #[tactic(auto, unfolding(crate::specs::Step::refusal, crate::specs::Step::causes))]
+    fn check_stop(&self, rank: Rank) -> Result<(), StepError>
+        ensures { cause_of result ≡ refusal (world_of self.now) (StepEvent.Stop rank) }
+    {
+        self.check_history()?;
+        self.check_rank(rank)?;
+        self.check_runs(rank)
+    }
+
+    #[tactic(auto, unfolding(crate::specs::Step::refusal, crate::specs::Step::causes))]
+    fn check_restart(&self, rank: Rank) -> Result<(), StepError>
+        ensures { cause_of result ≡ refusal (world_of self.now) (StepEvent.Restart rank) }
+    {
+        self.check_history()?;
+        self.check_rank(rank)
+    }
+
+    #[tactic(auto, unfolding(crate::specs::Step::refusal, crate::specs::Step::causes))]
+    fn check_ask(&self, export: u32) -> Result<(), StepError>
+        ensures { cause_of result ≡ refusal (world_of self.now) (StepEvent.Ask export) }
+    {
+        self.check_history()?;
+        self.check_export(export)?;
+        self.check_runs(self.to(export))?;
+        match self.importer(export) {
+            ImporterState::Started => Ok(()),
+            _ => Err(StepError::Late(self.exporter(export))),
+        }
+    }
+
+    #[tactic(auto, unfolding(crate::specs::Step::refusal, crate::specs::Step::causes))]
     pub(crate) fn check_start(
         &self,
         from: Rank,
@@ -347,7 +378,7 @@ impl Records {
         connected: bool,
     ) -> Result<(), StepError>
         requires kept { IsKept self.now }
-        requires connected { connected ≡ is_connected (world_of self.now) dirs.now }
+        requires connected { list_all (is_present (world_of self.now)) dirs.now ≡ true → connected ≡ is_connected (world_of self.now) dirs.now }
         ensures { cause_of result ≡ refusal (world_of self.now) (StepEvent.Start from to dirs.now) }
     {
         self.check_history()?;
@@ -361,6 +392,23 @@ impl Records {
         }
         self.check_leaving(from, dirs)?;
         self.check_exports()
+    }
+
+    /// Why an event is refused, by the marks: a list of directories takes time that grows with its length alone.
+    pub(crate) fn check_by_marks(&mut self, event: &Event) -> Result<(), StepError>
+        requires kept { IsKept self.old }
+        ensures cause { cause_of result ≡ refusal (world_of self.old) (event_of event.now) }
+        ensures world { world_of self.new ≡ world_of self.old }
+        ensures indexes { indexes_of self.new ≡ indexes_of self.old }
+        ensures room { has_room self.old (event_of event.now) ≡ true → has_room self.new (event_of event.now) ≡ true }
+    {
+        match event {
+            Event::Start(from, to, dirs) => {
+                let connected = self.connects(dirs);
+                self.check_start(*from, *to, dirs, connected)
+            }
+            _ => self.check(event),
+        }
     }
 
     /// Why an event is refused. It asks for no memory.
@@ -383,6 +431,9 @@ impl Records {
             Event::Froze(export) => self.check_froze(*export),
             Event::Notify(export) => self.check_notify(*export),
             Event::Abort(export) => self.check_abort(*export),
+            Event::Stop(rank) => self.check_stop(*rank),
+            Event::Restart(rank) => self.check_restart(*rank),
+            Event::Ask(export) => self.check_ask(*export),
         }
     }
 }

@@ -106,6 +106,18 @@ mod tests {
                 StepError::Late(ExporterState::Discovering),
                 "23 Late discovering",
             ),
+            (StepError::Late(ExporterState::Freezing), "23 Late freezing"),
+            (
+                StepError::Late(ExporterState::Preparing),
+                "23 Late preparing",
+            ),
+            (
+                StepError::Late(ExporterState::Exporting),
+                "23 Late exporting",
+            ),
+            (StepError::Late(ExporterState::Logged), "23 Late logged"),
+            (StepError::Late(ExporterState::Done), "23 Late done"),
+            (StepError::Late(ExporterState::Aborted), "23 Late aborted"),
             (StepError::NoMessage, "24 NoMessage"),
             (StepError::NoTicket, "25 NoTicket"),
             (StepError::NotConnected, "26 NotConnected"),

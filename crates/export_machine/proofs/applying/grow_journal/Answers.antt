@@ -1,10 +1,11 @@
 use Rattle.std.proofs.Common.{◌≡◌, ◌<◌, ◌≤◌, ◌+◌, ℕ, zero, suc, true, ltb, List, [], ◌∷◌, length, get_or, set, Some, None, Vec, Global, refl, sym, ap, ◌∙◌, arith}
+use Rattle.std.proofs.lemmas.Bool.{ltb-true}
 use Rattle.std.specs.List.{slice_get}
 use Rattle.std.proofs.Math.Seq.{map-set_same}
 use Rattle.export_machine.specs.declared.journal.JournalEntry.{JournalEntry}
 use Rattle.export_machine.specs.Kept.{is_spare}
 use Rattle.std.specs.Vec.{vec_len, vec_capacity}
-use Rattle.export_machine.proofs.Accepted.{item_at, spare}
+use Rattle.export_machine.proofs.Accepted.{item_at}
 use Rattle.export_machine.proofs.Bounds.{on_ok}
 use Rattle.export_machine.proofs.applying.grow_journal.Goals as goal
 
@@ -34,5 +35,5 @@ returns-clause-ready c = λ h.
     (let near : c.number.result < length c.args.journals.now.items = rw c.number.ensures.value c.requires.near in
     let e = item_at c.args.journals.now.items c.number.result c.index_mut.result.now near c.index_mut.ensures.value in
     let s : is_spare (slice_get c.args.journals.now.items c.number.result) ≡ true = rw c.number.ensures.value h in
-    let l = spare _ _ (rw e at s) in
+    let l = ltb-true _ _ (rw e at s) in
     c.reserve.ensures.succeeds (omega arith))

@@ -1,7 +1,8 @@
-use Rattle.std.proofs.Common.{◌≡◌, ◌<◌, ◌++◌, ◌∷◌, [], length, map, take, refl, sym, ap, ◌∙◌, subst, arith}
+use Rattle.std.proofs.Common.{◌≡◌, ◌<◌, ◌≤◌, ◌++◌, ◌∷◌, [], length, map, take, refl, sym, ap, ◌∙◌, subst, arith}
+use Rattle.std.proofs.lemmas.List.{take_all}
 use Rattle.export_machine.specs.View.{AreAnswers}
 use Rattle.export_machine.specs.Kept.{event_of}
-use Rattle.export_machine.proofs.Runs.{answers_next, map_next}
+use Rattle.export_machine.proofs.Runs.{answers_next, answers_are, map_next}
 use Rattle.export_machine.proofs.cluster.Cluster.run.Goals as goal
 
 pub loop-event-preserved : goal.loop-event-preserved
@@ -15,3 +16,17 @@ loop-event-preserved c =
       count = omega arith;
       room = omega arith;
     }
+
+pub returns-clause-exact : goal.returns-clause-exact
+returns-clause-exact c = λ n.
+    (let past : length c.args.events.now ≤ c.loop-event.event-index = omega arith in
+    let answered : AreAnswers c.args.self.now.world (map event_of c.args.events.now) c.loop-event.answers.items c.loop-event.self.world =
+    rw (take_all c.loop-event.event-index c.args.events.now past) at c.loop-event.invariant.answered in
+    (answers_are c.args.self.now.world c.loop-event.self.world (map event_of c.args.events.now) c.loop-event.answers.items answered n).0)
+
+pub returns-clause-state : goal.returns-clause-state
+returns-clause-state c = λ n.
+    (let past : length c.args.events.now ≤ c.loop-event.event-index = omega arith in
+    let answered : AreAnswers c.args.self.now.world (map event_of c.args.events.now) c.loop-event.answers.items c.loop-event.self.world =
+    rw (take_all c.loop-event.event-index c.args.events.now past) at c.loop-event.invariant.answered in
+    (answers_are c.args.self.now.world c.loop-event.self.world (map event_of c.args.events.now) c.loop-event.answers.items answered n).1)

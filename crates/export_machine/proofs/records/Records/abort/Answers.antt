@@ -1,10 +1,12 @@
 use Rattle.std.proofs.Common.{◌≡◌, ◌<◌, ℕ, true, cond, length, map, Option, None, List, sym, ap, ◌∙◌, subst, refl, arith}
+use Rattle.std.proofs.lemmas.Bool.{and_parts, ltb-true}
 use Rattle.export_machine.specs.Authority.{is_among, is_inside, order_in}
 use Rattle.export_machine.specs.Step.{happens, map_at}
 use Rattle.export_machine.specs.Step.Event.{Abort}
 use Rattle.export_machine.specs.Kept.{world_of, indexes_of, has_room, order_of, Indexes, IsIndexed}
 use Rattle.export_machine.proofs.Indexing.{abort_there, abort_indexed, aborted}
-use Rattle.export_machine.proofs.Accepted.{both_parts, spare, room_left, as_exporter, as_order, dirs_here, abort_order, abort_state}
+use Rattle.export_machine.proofs.Reached.{by_safe}
+use Rattle.export_machine.proofs.Accepted.{room_left, as_exporter, as_order, dirs_here, abort_order, abort_state}
 use Rattle.export_machine.proofs.records.Records.abort.Goals as goal
 
 pub index_mut-requires : goal.index_mut-requires
@@ -23,12 +25,12 @@ mark-requires c =
     let e : (order_in (map order_of c.args.self.now.orders.items) c.args.export).dirs ≡ c.deref.result.now = dirs_here c.args.self.now.orders.items c.args.export c.index.result.now near c.index.ensures ∙ sym c.deref.ensures.value in
     record {
       near = λ d h. rw c.requires.kept.indexed.opened_places
-          (abort_there (world_of c.args.self.now) c.requires.kept.reached c.args.export (abort_state (world_of c.args.self.now) c.args.export c.requires.accepted) d (ap (λ (ds : List ℕ). is_among ds d) e ∙ h));
+          (abort_there (world_of c.args.self.now) (by_safe (world_of c.args.self.now) c.requires.kept.reached) c.args.export (abort_state (world_of c.args.self.now) c.args.export c.requires.accepted) d (ap (λ (ds : List ℕ). is_among ds d) e ∙ h));
     }
 
 pub send-requires-clause-room : goal.send-requires-clause-room
 unfolding has_room
-send-requires-clause-room c = spare _ _ (both_parts _ _ c.requires.room).1
+send-requires-clause-room c = ltb-true _ _ (and_parts _ _ c.requires.room).1
 
 pub send-requires-clause-few : goal.send-requires-clause-few
 send-requires-clause-few c = let left = room_left (world_of c.args.self.now) (Abort c.args.export) c.requires.accepted in omega (arith, c.requires.kept.sent)
@@ -45,5 +47,5 @@ returns-clause-indexed c =
     let marked : map_at (λ k old. cond (is_inside (world_of c.args.self.now) c.args.export k) None old) c.args.self.now.opened.items ≡ c.mark.new.table.items =
     ap (λ (ds : List ℕ). map_at (λ k old. cond (is_among ds k) None old) c.args.self.now.opened.items) e ∙ sym c.mark.ensures in
     subst (λ (xs : List (Option ℕ)). IsIndexed (aborted (world_of c.args.self.now) c.args.export (as_exporter (world_of c.args.self.now) c.requires.kept.reached c.args.export order) c.send.new.sent.items) (record (indexes_of c.args.self.now) { opened = xs })) marked
-    (abort_indexed (world_of c.args.self.now) c.args.export (as_exporter (world_of c.args.self.now) c.requires.kept.reached c.args.export order) c.send.new.sent.items c.requires.kept.reached (indexes_of c.args.self.now)
+    (abort_indexed (world_of c.args.self.now) c.args.export (as_exporter (world_of c.args.self.now) c.requires.kept.reached c.args.export order) c.send.new.sent.items (by_safe (world_of c.args.self.now) c.requires.kept.reached) (indexes_of c.args.self.now)
     c.requires.kept.indexed (abort_state (world_of c.args.self.now) c.args.export c.requires.accepted))

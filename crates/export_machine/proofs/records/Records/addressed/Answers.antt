@@ -1,10 +1,11 @@
 use Rattle.std.proofs.Common.{◌≡◌, ◌<◌, ℕ, zero, suc, List, [], ◌∷◌, true, false, ltb, length, get_or, Option, Some, None, refl, sym, ap, ◌∙◌, arith}
+use Rattle.std.proofs.lemmas.Bool.{ltb-true}
 use Rattle.std.specs.List.{slice_get}
 use Rattle.export_machine.specs.declared.message.Message.{Message}
 use Rattle.export_machine.specs.Step.{receiver}
 use Rattle.export_machine.specs.Kept.{world_of, about, addressed}
 use Rattle.export_machine.proofs.Found.{orders_by}
-use Rattle.export_machine.proofs.Accepted.{as_order, item_at, spare}
+use Rattle.export_machine.proofs.Accepted.{as_order, item_at}
 use Rattle.export_machine.proofs.records.Records.addressed.Goals as goal
 
 none_past : (xs : List Message) (k : ℕ) → false ≡ ltb k (length xs) → slice_get xs k ≡ None
@@ -21,14 +22,14 @@ none_past (x ∷ xs) (suc k) h = none_past xs k (lower h)
 
 pub receiver-requires : goal.receiver-requires
 receiver-requires c =
-    let near : c.args.message < length c.args.self.now.sent.items = rw (← c.deref.ensures.value) (spare c.args.message (length c.deref.result.now) (sym c.in-Some.ensures.lookup.0)) in
+    let near : c.args.message < length c.args.self.now.sent.items = rw (← c.deref.ensures.value) (ltb-true c.args.message (length c.deref.result.now) (sym c.in-Some.ensures.lookup.0)) in
     let sent : slice_get c.args.self.now.sent.items c.args.message ≡ Some c.in-Some.message.now = item_at c.args.self.now.sent.items c.args.message c.in-Some.message.now near (rw c.deref.ensures.value at c.in-Some.ensures.lookup.1) in
     as_order c.args.self.now.orders.items (about c.in-Some.message.now)
     (orders_by (world_of c.args.self.now) c.requires.kept.reached (about c.in-Some.message.now) (length (world_of c.args.self.now).orders) (λ safe. safe.tables.known c.args.message c.in-Some.message.now sent))
 
 pub returns-in-Some : goal.returns-in-Some
 returns-in-Some c =
-    let near : c.args.message < length c.args.self.now.sent.items = rw (← c.deref.ensures.value) (spare c.args.message (length c.deref.result.now) (sym c.in-Some.ensures.lookup.0)) in
+    let near : c.args.message < length c.args.self.now.sent.items = rw (← c.deref.ensures.value) (ltb-true c.args.message (length c.deref.result.now) (sym c.in-Some.ensures.lookup.0)) in
     let sent : slice_get c.args.self.now.sent.items c.args.message ≡ Some c.in-Some.message.now = item_at c.args.self.now.sent.items c.args.message c.in-Some.message.now near (rw c.deref.ensures.value at c.in-Some.ensures.lookup.1) in
     rw (sent, c.export.ensures, c.receiver.ensures) refl
 

@@ -1,6 +1,7 @@
 use Rattle.std.proofs.Common.{◌≡◌, ◌<◌, ◌≤◌, length, take, Some, None, sym, ap, ◌∙◌, subst, arith}
+use Rattle.std.proofs.lemmas.List.{take_all}
 use Rattle.export_machine.specs.Kept.{world_of}
-use Rattle.export_machine.proofs.Lists.{IsLeast, least_start, least_next, least_is, least_none, take_all}
+use Rattle.export_machine.proofs.Lists.{IsLeast, least_start, least_next, least_is, least_none}
 use Rattle.export_machine.proofs.records.Records.check_leaving.Goals as goal
 
 pub loop-dir-init : goal.loop-dir-init
@@ -17,7 +18,7 @@ returns-in-Some c =
     let past : length c.args.dirs.now ≤ c.loop-dir.dir-index = omega arith in
     let l : IsLeast (world_of c.args.self.now) c.args.from c.args.dirs.now (Some c.in-Some.dir) =
     subst (λ o. IsLeast (world_of c.args.self.now) c.args.from c.args.dirs.now o) c.in-Some.is
-    (subst (λ xs. IsLeast (world_of c.args.self.now) c.args.from xs c.loop-dir.least) (take_all c.args.dirs.now c.loop-dir.dir-index past) c.loop-dir.invariant) in
+    (subst (λ xs. IsLeast (world_of c.args.self.now) c.args.from xs c.loop-dir.least) (take_all c.loop-dir.dir-index c.args.dirs.now past) c.loop-dir.invariant) in
     c.check_can_leave.ensures ∙ sym (least_is (world_of c.args.self.now) c.args.from c.args.dirs.now c.in-Some.dir c.requires.present l)
 
 pub returns-in-None : goal.returns-in-None
@@ -25,5 +26,5 @@ returns-in-None c =
     let past : length c.args.dirs.now ≤ c.loop-dir.dir-index = omega arith in
     let l : IsLeast (world_of c.args.self.now) c.args.from c.args.dirs.now None =
     subst (λ o. IsLeast (world_of c.args.self.now) c.args.from c.args.dirs.now o) c.in-None.is
-    (subst (λ xs. IsLeast (world_of c.args.self.now) c.args.from xs c.loop-dir.least) (take_all c.args.dirs.now c.loop-dir.dir-index past) c.loop-dir.invariant) in
+    (subst (λ xs. IsLeast (world_of c.args.self.now) c.args.from xs c.loop-dir.least) (take_all c.loop-dir.dir-index c.args.dirs.now past) c.loop-dir.invariant) in
     sym (least_none (world_of c.args.self.now) c.args.from c.args.dirs.now l)

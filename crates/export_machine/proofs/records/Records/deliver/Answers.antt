@@ -1,11 +1,12 @@
 use Rattle.std.proofs.Common.{◌≡◌, ◌<◌, ℕ, true, false, length, Some, refl, sym, ap, ◌∙◌, arith}
+use Rattle.std.proofs.lemmas.Bool.{and_parts}
 use Rattle.std.specs.List.{slice_get}
 use Rattle.export_machine.specs.Authority.{is_stopped}
 use Rattle.export_machine.specs.Step.{happens, receiver}
 use Rattle.export_machine.specs.Step.Event.{Deliver}
 use Rattle.export_machine.specs.Kept.{world_of, has_room, entered_at, has_places, has_spare, receiver_of, about}
 use Rattle.export_machine.proofs.Found.{orders_by}
-use Rattle.export_machine.proofs.Accepted.{deliver_near, item_at, both_parts, room_left, as_order}
+use Rattle.export_machine.proofs.Accepted.{deliver_near, item_at, room_left, as_order}
 use Rattle.export_machine.proofs.records.Records.deliver.Goals as goal
 
 pub index-message-requires : goal.index-message-requires
@@ -32,7 +33,7 @@ unfolding has_room entered_at
 receive-requires c =
     let sent : slice_get c.args.self.now.sent.items c.args.message ≡ Some c.index-message.result.now =
     item_at c.args.self.now.sent.items c.args.message c.index-message.result.now (deliver_near (world_of c.args.self.now) c.args.message c.requires.accepted) c.index-message.ensures in
-    let room : (has_places c.args.self.now.journals.items (receiver_of (world_of c.args.self.now) (slice_get c.args.self.now.sent.items c.args.message)) ≡ true) × (has_spare c.args.self.now.sent ≡ true) = both_parts _ _ c.requires.room in
+    let room : (has_places c.args.self.now.journals.items (receiver_of (world_of c.args.self.now) (slice_get c.args.self.now.sent.items c.args.message)) ≡ true) × (has_spare c.args.self.now.sent ≡ true) = and_parts _ _ c.requires.room in
     record {
       kept = c.requires.kept;
       sent = (c.args.message, sent);

@@ -1,10 +1,11 @@
 use Rattle.std.proofs.Common.{◌≡◌, ◌<◌, length, sym, ap, ◌∙◌, refl, arith}
+use Rattle.std.proofs.lemmas.Bool.{and_parts, ltb-true}
 use Rattle.std.proofs.lemmas.List.{length-map}
 use Rattle.export_machine.specs.Step.{happens}
 use Rattle.export_machine.specs.Step.Event.{Froze}
 use Rattle.export_machine.specs.Kept.{world_of, indexes_of, has_room}
 use Rattle.export_machine.proofs.Indexing.{froze_indexed}
-use Rattle.export_machine.proofs.Accepted.{both_parts, spare, room_left, as_exporter, froze_order, froze_state}
+use Rattle.export_machine.proofs.Accepted.{room_left, as_exporter, froze_order, froze_state}
 use Rattle.export_machine.proofs.records.Records.froze.Goals as goal
 
 pub index_mut-requires : goal.index_mut-requires
@@ -14,7 +15,7 @@ index_mut-requires c =
 
 pub send-requires-clause-room : goal.send-requires-clause-room
 unfolding has_room
-send-requires-clause-room c = spare _ _ (both_parts _ _ c.requires.room).1
+send-requires-clause-room c = ltb-true _ _ (and_parts _ _ c.requires.room).1
 
 pub send-requires-clause-few : goal.send-requires-clause-few
 send-requires-clause-few c = let left = room_left (world_of c.args.self.now) (Froze c.args.export) c.requires.accepted in omega (arith, c.requires.kept.sent)

@@ -1,17 +1,15 @@
 use Rattle.std.proofs.Common.{◌≡◌, true, false, Ok, Err, Result, refl, sym, ap, ◌∙◌, subst, arith}
+use Rattle.std.proofs.lemmas.Bool.{false≢true}
 use Rattle.std.specs.Result.{IsOk}
 use Rattle.export_machine.specs.Kept.{world_of, event_of, has_room, has_places}
 use Rattle.export_machine.proofs.Bounds.{on_ok, list_places, room_parts, grown_room}
 use Rattle.export_machine.proofs.records.Records.grow.Goals as goal
 
-differ : false ≡ true → ⊥
-differ e = cc
-
 pub returns-in_err-grow_entry-clause-ready : goal.returns-in_err-grow_entry-clause-ready
 returns-in_err-grow_entry-clause-ready c = λ h.
     (let p = (room_parts c.args.self.now (event_of c.args.event.now) h).0 in
     let k : has_places c.args.self.now.journals.items c.journal_rank-rank.result ≡ true = rw c.journal_rank-rank.ensures.rank p in
-    absurd (differ (subst IsOk c.in_err-grow_entry.was (c.grow_entry.ensures.ready k))))
+    absurd (false≢true (subst IsOk c.in_err-grow_entry.was (c.grow_entry.ensures.ready k))))
 
 pub returns-clause-room : goal.returns-clause-room
 returns-clause-room c =

@@ -121,6 +121,9 @@ entered_else w (Asked.End t) a b c d = refl
 entered_else w (Asked.Start f t ds) a b c d = refl
 entered_else w (Asked.Froze x) a b c d = refl
 entered_else w (Asked.Abort x) a b c d = refl
+entered_else w (Asked.Stop r) a b c d = refl
+entered_else w (Asked.Restart r) a b c d = refl
+entered_else w (Asked.Ask x) a b c d = refl
 
 pub returns-in_default : goal.returns-in_default
 returns-in_default c =

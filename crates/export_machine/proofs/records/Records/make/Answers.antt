@@ -1,11 +1,12 @@
 use Rattle.std.proofs.Common.{◌≡◌, ◌≢◌, ◌<◌, ◌≤◌, ◌+◌, ◌++◌, ◌∷◌, [], ℕ, Some, None, length, get_or, refl, sym, ap, ◌∙◌, arith}
+use Rattle.std.proofs.lemmas.Bool.{and_parts, ltb-true}
 use Rattle.std.proofs.lemmas.List.{length-map}
 use Rattle.export_machine.specs.Authority.{authority}
 use Rattle.export_machine.specs.Step.{happens, is_child}
 use Rattle.export_machine.specs.Step.Event.{Made}
 use Rattle.export_machine.specs.Kept.{world_of, indexes_of, has_room, entered_at, children_of, has_places}
 use Rattle.export_machine.proofs.Growing.{made_indexed, children_is, count_within}
-use Rattle.export_machine.proofs.Accepted.{spare, both_parts, as_rank, made_parent, made_few, made_has}
+use Rattle.export_machine.proofs.Accepted.{as_rank, made_parent, made_few, made_has}
 use Rattle.export_machine.proofs.records.Records.make.Goals as goal
 
 pub returns-in_default-clause-effect : goal.returns-in_default-clause-effect
@@ -25,31 +26,35 @@ pub enter-requires-clause-room : goal.enter-requires-clause-room
 unfolding has_room entered_at
 enter-requires-clause-room c =
     let a : authority (world_of c.args.self.now) c.args.parent ≡ Some c.in-Some.rank = sym c.authority.ensures ∙ c.in-Some.is in
-    ap (has_places c.args.self.now.journals.items) (sym a) ∙ (both_parts _ _ c.requires.room).0
+    ap (has_places c.args.self.now.journals.items) (sym a) ∙ (and_parts _ _ c.requires.room).0
 
 pub push_reserved-requires : goal.push_reserved-requires
 unfolding has_room entered_at
-push_reserved-requires c = spare _ _ (both_parts _ _ (both_parts _ _ (both_parts _ _ (both_parts _ _ (both_parts _ _ (both_parts _ _ c.requires.room).1).0).0).0).0).0
+push_reserved-requires c = ltb-true _ _ (and_parts _ _ (and_parts _ _ (and_parts _ _ (and_parts _ _ (and_parts _ _ (and_parts _ _ (and_parts _ _ c.requires.room).1).0).0).0).0).0).0
 
 pub push_reserved-requires-2 : goal.push_reserved-requires-2
 unfolding has_room entered_at
-push_reserved-requires-2 c = spare _ _ (both_parts _ _ (both_parts _ _ (both_parts _ _ (both_parts _ _ (both_parts _ _ (both_parts _ _ c.requires.room).1).0).0).0).0).1
+push_reserved-requires-2 c = ltb-true _ _ (and_parts _ _ (and_parts _ _ (and_parts _ _ (and_parts _ _ (and_parts _ _ (and_parts _ _ (and_parts _ _ c.requires.room).1).0).0).0).0).0).1
 
 pub push_reserved-requires-3 : goal.push_reserved-requires-3
 unfolding has_room entered_at
-push_reserved-requires-3 c = spare _ _ (both_parts _ _ (both_parts _ _ (both_parts _ _ (both_parts _ _ (both_parts _ _ c.requires.room).1).0).0).0).1
+push_reserved-requires-3 c = ltb-true _ _ (and_parts _ _ (and_parts _ _ (and_parts _ _ (and_parts _ _ (and_parts _ _ (and_parts _ _ c.requires.room).1).0).0).0).0).1
 
 pub push_reserved-requires-4 : goal.push_reserved-requires-4
 unfolding has_room entered_at
-push_reserved-requires-4 c = spare _ _ (both_parts _ _ (both_parts _ _ (both_parts _ _ (both_parts _ _ c.requires.room).1).0).0).1
+push_reserved-requires-4 c = ltb-true _ _ (and_parts _ _ (and_parts _ _ (and_parts _ _ (and_parts _ _ (and_parts _ _ c.requires.room).1).0).0).0).1
 
 pub push_reserved-requires-5 : goal.push_reserved-requires-5
 unfolding has_room entered_at
-push_reserved-requires-5 c = spare _ _ (both_parts _ _ (both_parts _ _ (both_parts _ _ c.requires.room).1).0).1
+push_reserved-requires-5 c = ltb-true _ _ (and_parts _ _ (and_parts _ _ (and_parts _ _ (and_parts _ _ c.requires.room).1).0).0).1
 
 pub push_reserved-requires-6 : goal.push_reserved-requires-6
 unfolding has_room entered_at
-push_reserved-requires-6 c = spare _ _ (both_parts _ _ (both_parts _ _ c.requires.room).1).1
+push_reserved-requires-6 c = ltb-true _ _ (and_parts _ _ (and_parts _ _ (and_parts _ _ c.requires.room).1).0).1
+
+pub push_reserved-requires-7 : goal.push_reserved-requires-7
+unfolding has_room entered_at
+push_reserved-requires-7 c = ltb-true _ _ (and_parts _ _ (and_parts _ _ c.requires.room).1).1
 
 pub overflow_add-index_mut : goal.overflow_add-index_mut
 overflow_add-index_mut c =
@@ -74,5 +79,5 @@ returns-clause-indexed c =
     let k : c.in-Some.rank < length (world_of c.args.self.now).journals = as_rank (world_of c.args.self.now) c.requires.kept.reached c.args.parent c.in-Some.rank (sym c.authority.ensures ∙ c.in-Some.is) in
     let n : c.new-dir.result ≡ length c.args.self.now.parents.items = omega arith in
     let e : c.index_mut.result.now ≡ get_or (c.args.self.now.children.items ++ 0 ∷ []) c.args.parent c.index_mut.result.now = rw (← c.push_reserved-6.ensures.items, ← c.number.ensures) c.index_mut.ensures.value in
-    rw (c.enter.ensures.entered, c.push_reserved.ensures.items, c.push_reserved-2.ensures.items, c.push_reserved-3.ensures.items, c.push_reserved-4.ensures.items, c.push_reserved-5.ensures.items, c.push_reserved-6.ensures.items, c.number.ensures, n)
+    rw (c.enter.ensures.entered, c.push_reserved.ensures.items, c.push_reserved-2.ensures.items, c.push_reserved-3.ensures.items, c.push_reserved-4.ensures.items, c.push_reserved-5.ensures.items, c.push_reserved-6.ensures.items, c.push_reserved-7.ensures.items, c.number.ensures, n)
     (made_indexed (world_of c.args.self.now) c.in-Some.rank c.args.parent k c.requires.kept.reached (indexes_of c.args.self.now) c.requires.kept.indexed p c.index_mut.result.now e)

@@ -1,10 +1,11 @@
 use Rattle.std.proofs.Common.{◌≡◌, ◌<◌, ℕ, cond, List, Option, length, get_or, map, Some, None, refl, sym, ap, ◌∙◌, subst, arith}
+use Rattle.std.proofs.lemmas.Bool.{and_parts, ltb-true}
 use Rattle.std.proofs.lemmas.List.{length-map}
 use Rattle.export_machine.specs.Authority.{from_of, to_of, is_among, order_in}
 use Rattle.export_machine.specs.Step.{happens, map_at}
 use Rattle.export_machine.specs.Step.Event.{Notify}
 use Rattle.export_machine.specs.Kept.{world_of, indexes_of, order_of, has_room, entered_at}
-use Rattle.export_machine.proofs.Accepted.{spare, room_left, both_parts, as_exporter, as_order, exporter_rank, from_here, to_here, dirs_here, notify_order, notify_state}
+use Rattle.export_machine.proofs.Accepted.{room_left, as_exporter, as_order, exporter_rank, from_here, to_here, dirs_here, notify_order, notify_state}
 use Rattle.export_machine.proofs.Rows.{notify_there, notify_indexed}
 use Rattle.export_machine.proofs.records.Records.notify.Goals as goal
 
@@ -32,7 +33,7 @@ enter-requires-clause-room c =
     let order = notify_order (world_of c.args.self.now) c.args.export c.requires.accepted in
     let near : c.args.export < length c.args.self.now.orders.items = as_order c.args.self.now.orders.items c.args.export order in
     let t : from_of (world_of c.args.self.now) c.args.export ≡ c.index-order.result.now.from = from_here c.args.self.now.orders.items c.args.export c.index-order.result.now near c.index-order.ensures in
-    rw (← t) (both_parts _ _ c.requires.room).0
+    rw (← t) (and_parts _ _ c.requires.room).0
 
 pub mark-requires : goal.mark-requires
 mark-requires c =
@@ -46,7 +47,7 @@ mark-requires c =
 
 pub send-requires-clause-room : goal.send-requires-clause-room
 unfolding has_room entered_at
-send-requires-clause-room c = spare _ _ (both_parts _ _ c.requires.room).1
+send-requires-clause-room c = ltb-true _ _ (and_parts _ _ c.requires.room).1
 
 pub send-requires-clause-few : goal.send-requires-clause-few
 send-requires-clause-few c = let left = room_left (world_of c.args.self.now) (Notify c.args.export) c.requires.accepted in omega (arith, c.requires.kept.sent)

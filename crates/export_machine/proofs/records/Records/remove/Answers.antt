@@ -1,4 +1,5 @@
 use Rattle.std.proofs.Common.{◌≡◌, ◌≢◌, ◌<◌, ◌≤◌, ◌+◌, ℕ, zero, suc, List, [], ◌∷◌, Option, Some, None, length, get_or, Bool, true, refl, sym, ap, ◌∙◌, arith}
+use Rattle.std.proofs.lemmas.Bool.{and_parts}
 use Rattle.std.specs.Option.{is_some}
 use Rattle.std.proofs.lemmas.List.{length-map}
 use Rattle.export_machine.specs.Cluster.{World}
@@ -9,7 +10,7 @@ use Rattle.export_machine.specs.Kept.{world_of, indexes_of, has_room, entered_at
 use Rattle.export_machine.proofs.Events.{there_near}
 use Rattle.export_machine.proofs.Indexing.{default}
 use Rattle.export_machine.proofs.Growing.{gone_indexed, parent_below, some_child}
-use Rattle.export_machine.proofs.Accepted.{both_parts, numbers_by, as_rank, gone_dir, gone_there, gone_closed, gone_idle, gone_has}
+use Rattle.export_machine.proofs.Accepted.{numbers_by, as_rank, gone_dir, gone_there, gone_closed, gone_idle, gone_has}
 use Rattle.export_machine.proofs.records.Records.remove.Goals as goal
 
 differ : (r : ℕ) → None ≡ Some r → ⊥
@@ -48,7 +49,7 @@ pub enter-requires-clause-room : goal.enter-requires-clause-room
 unfolding has_room entered_at
 enter-requires-clause-room c =
     let a : authority (world_of c.args.self.now) c.args.dir ≡ Some c.in-Some.rank = sym c.authority.ensures ∙ c.in-Some.is in
-    ap (has_places c.args.self.now.journals.items) (sym a) ∙ (both_parts _ _ c.requires.room).0
+    ap (has_places c.args.self.now.journals.items) (sym a) ∙ (and_parts _ _ c.requires.room).0
 
 pub index_mut-requires-2 : goal.index_mut-requires-2
 index_mut-requires-2 c =

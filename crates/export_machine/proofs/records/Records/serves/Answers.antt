@@ -1,4 +1,5 @@
 use Rattle.std.proofs.Common.{◌≡◌, ◌≢◌, ℕ, Bool, true, false, not, eqb, Option, Some, None, refl, sym, ap, ◌∙◌, arith}
+use Rattle.std.proofs.lemmas.Bool.{eqb-true}
 use Rattle.std.specs.Option.{is_some}
 use Rattle.export_machine.specs.Authority.{authority, serves, frozen_by}
 use Rattle.export_machine.specs.Cluster.{World}
@@ -6,9 +7,6 @@ use Rattle.export_machine.specs.View.{IsReached}
 use Rattle.export_machine.specs.Kept.{world_of}
 use Rattle.export_machine.proofs.Found.{found_serving, found_not_serving, found_elsewhere}
 use Rattle.export_machine.proofs.records.Records.serves.Goals as goal
-
-same : (a b : ℕ) → eqb a b ≡ true → a ≡ b
-same a b e = grind arith
 
 other : (a b : ℕ) → eqb a b ≡ false → Some a ≢ Some b
 other a b e k = differ (cc)
@@ -24,7 +22,7 @@ by_frozen w h r d false (Some x) a f e = found_not_serving w h r d x f
 
 pub returns-then-eq : goal.returns-then-eq
 returns-then-eq c =
-    let s : c.in-Some.authority ≡ c.args.rank = same c.in-Some.authority c.args.rank (sym c.eq.ensures ∙ c.if-eq.true) in
+    let s : c.in-Some.authority ≡ c.args.rank = eqb-true c.in-Some.authority c.args.rank (sym c.eq.ensures ∙ c.if-eq.true) in
     let b : authority (world_of c.args.self.now) c.args.dir ≡ Some c.args.rank = sym c.authority.ensures ∙ (c.in-Some.is ∙ ap Some s) in
     by_frozen (world_of c.args.self.now) c.requires.reached c.args.rank c.args.dir c.is_none.result c.frozen_by.result b (sym (c.frozen_by.ensures c.args.rank b)) c.is_none.ensures
 

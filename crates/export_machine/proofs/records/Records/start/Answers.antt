@@ -1,11 +1,11 @@
 use Rattle.std.proofs.Common.{◌≡◌, ◌<◌, ℕ, List, [], ◌∷◌, ◌++◌, map, length, refl, sym, ap, ◌∙◌, arith}
+use Rattle.std.proofs.lemmas.Bool.{and_parts, ltb-true}
 use Rattle.std.proofs.lemmas.List.{length-map}
 use Rattle.mds_types.specs.declared.order.Order.{Order as Moved}
 use Rattle.export_machine.specs.Authority.{is_among}
 use Rattle.export_machine.specs.Step.{happens}
 use Rattle.export_machine.specs.Kept.{world_of, indexes_of, has_room, order_of}
 use Rattle.export_machine.proofs.Starting.{start_there, start_few, start_indexed}
-use Rattle.export_machine.proofs.Accepted.{spare, both_parts}
 use Rattle.export_machine.proofs.records.Records.start.Goals as goal
 
 pub overflow_cast-export : goal.overflow_cast-export
@@ -23,19 +23,19 @@ mark-requires c =
 
 pub push_reserved-requires : goal.push_reserved-requires
 unfolding has_room
-push_reserved-requires c = spare _ _ (both_parts _ _ (both_parts _ _ (both_parts _ _ (both_parts _ _ c.requires.room).1).0).0).0
+push_reserved-requires c = ltb-true _ _ (and_parts _ _ (and_parts _ _ (and_parts _ _ (and_parts _ _ c.requires.room).1).0).0).0
 
 pub push_reserved-requires-2 : goal.push_reserved-requires-2
 unfolding has_room
-push_reserved-requires-2 c = spare _ _ (both_parts _ _ (both_parts _ _ (both_parts _ _ (both_parts _ _ c.requires.room).1).0).0).1
+push_reserved-requires-2 c = ltb-true _ _ (and_parts _ _ (and_parts _ _ (and_parts _ _ (and_parts _ _ c.requires.room).1).0).0).1
 
 pub push_reserved-requires-3 : goal.push_reserved-requires-3
 unfolding has_room
-push_reserved-requires-3 c = spare _ _ (both_parts _ _ (both_parts _ _ (both_parts _ _ c.requires.room).1).0).1
+push_reserved-requires-3 c = ltb-true _ _ (and_parts _ _ (and_parts _ _ (and_parts _ _ c.requires.room).1).0).1
 
 pub push_reserved-requires-4 : goal.push_reserved-requires-4
 unfolding has_room
-push_reserved-requires-4 c = spare _ _ (both_parts _ _ (both_parts _ _ c.requires.room).1).1
+push_reserved-requires-4 c = ltb-true _ _ (and_parts _ _ (and_parts _ _ c.requires.room).1).1
 
 orders_pushed : (os : List Moved) (o : Moved) (ps : List Moved) → ps ≡ os ++ o ∷ [] → map order_of ps ≡ map order_of os ++ order_of o ∷ []
 orders_pushed os o ps e = ap (map order_of) e ∙ go os

@@ -1,0 +1,453 @@
+//! The export machine in plain Rust, as a measure for mdbal's: machine < events. Nothing here is proved.
+//!
+//! An event a line, as `machine_bench events LIST` prints them; those before the line `now` aren't timed. Prints how
+//! many of the timed events were accepted and the nanoseconds for all of them, the least of 9 runs, each event with a
+//! copy of it and its answer kept. With `reads` as its argument it times the reads after the list instead.
+use std::hint::black_box;
+use std::io::Read;
+use std::time::Instant;
+
+#[derive(Clone)]
+enum Event {
+    Made(u32),
+    Gone(u32),
+    Begin(u8, u32),
+    End(u32),
+    Start(u8, u8, Vec<u32>),
+    Deliver(u32),
+    Froze(u32),
+    Notify(u32),
+    Abort(u32),
+}
+
+#[derive(Clone, Copy, Debug)]
+#[allow(dead_code)]
+enum Reply {
+    Dir(u32),
+    Ticket(u32),
+    Export(u32, u32),
+    Sent(u32),
+    Changed,
+    Ignored,
+}
+
+#[derive(Clone, Copy)]
+#[allow(dead_code)]
+enum Entry {
+    Made(u32),
+    Gone(u32),
+    Started(u32),
+    Exported(u32),
+    Notified(u32),
+    Imported(u32),
+    Dropped(u32),
+}
+
+#[derive(Clone, Copy, PartialEq)]
+enum Kind {
+    Discover,
+    DiscoverAck,
+    Prep,
+    PrepAck,
+    Export,
+    ExportAck,
+    Finish,
+    Cancel,
+}
+
+#[derive(Clone, Copy, PartialEq)]
+enum Exporter {
+    Discovering,
+    Freezing,
+    Preparing,
+    Exporting,
+    Logged,
+    Done,
+    Aborted,
+}
+
+#[derive(Clone, Copy, PartialEq)]
+enum Importer {
+    Unknown,
+    Discovered,
+    Prepared,
+    Started,
+    Imported,
+    Dropped,
+}
+
+struct Export {
+    from: u8,
+    to: u8,
+    dirs: Vec<u32>,
+    exporter: Exporter,
+    importer: Importer,
+}
+
+/// A refusal's number.
+type Answer = Result<Reply, u8>;
+
+struct Machine {
+    ranks: u8,
+    limit: usize,
+    parents: Vec<Option<u32>>,
+    children: Vec<u32>,
+    owners: Vec<Option<u8>>,
+    open: Vec<Option<u32>>,
+    running: Vec<u32>,
+    named: Vec<Option<u8>>,
+    stamps: Vec<u32>,
+    stamp: u32,
+    journals: Vec<Vec<Entry>>,
+    exports: Vec<Export>,
+    sent: Vec<(Kind, u32)>,
+    tickets: Vec<Option<u32>>,
+    events: u32,
+}
+
+impl Machine {
+    fn new(limit: usize, ranks: u8) -> Machine {
+        let mut journals: Vec<Vec<Entry>> = (0..ranks).map(|_| vec![]).collect();
+        journals[0].push(Entry::Made(0));
+        Machine {
+            ranks,
+            limit,
+            parents: vec![Some(0)],
+            children: vec![0],
+            owners: vec![Some(0)],
+            open: vec![None],
+            running: vec![0],
+            named: vec![Some(0)],
+            stamps: vec![0],
+            stamp: 0,
+            journals,
+            exports: vec![],
+            sent: vec![],
+            tickets: vec![],
+            events: 0,
+        }
+    }
+
+    fn send(&mut self, kind: Kind, export: u32) -> Reply {
+        self.sent.push((kind, export));
+        Reply::Sent(self.sent.len() as u32 - 1)
+    }
+
+    fn enter(&mut self, rank: u8, entry: Entry) {
+        self.journals[rank as usize].push(entry);
+    }
+
+    fn owner(&self, dir: u32) -> Option<u8> {
+        self.owners.get(dir as usize).copied().flatten()
+    }
+
+    fn named(&self, dir: u32) -> Option<u8> {
+        self.named.get(dir as usize).copied().flatten()
+    }
+
+    fn frozen(&self, dir: u32) -> bool {
+        self.open[dir as usize].is_some_and(|x| self.exports[x as usize].exporter != Exporter::Discovering)
+    }
+
+    fn serves(&self, rank: u8, dir: u32) -> bool {
+        self.owner(dir) == Some(rank) && !self.frozen(dir)
+    }
+
+    fn export(&self, x: u32) -> Result<&Export, u8> {
+        self.exports.get(x as usize).ok_or(17)
+    }
+
+    fn made(&mut self, parent: u32) -> Answer {
+        let rank = self.owner(parent).ok_or(6)?;
+        if self.parents.len() >= self.limit {
+            return Err(11);
+        }
+        if self.frozen(parent) {
+            return Err(20);
+        }
+        let dir = self.parents.len() as u32;
+        self.enter(rank, Entry::Made(dir));
+        self.parents.push(Some(parent));
+        self.children.push(0);
+        self.owners.push(Some(rank));
+        self.open.push(None);
+        self.running.push(0);
+        self.named.push(Some(rank));
+        self.stamps.push(0);
+        self.children[parent as usize] += 1;
+        Ok(Reply::Dir(dir))
+    }
+
+    fn gone(&mut self, dir: u32) -> Answer {
+        if dir == 0 {
+            return Err(10);
+        }
+        let rank = self.owner(dir).ok_or(6)?;
+        let at = dir as usize;
+        if self.children[at] != 0 {
+            return Err(9);
+        }
+        if self.open[at].is_some() {
+            return Err(19);
+        }
+        if self.running[at] != 0 {
+            return Err(22);
+        }
+        self.enter(rank, Entry::Gone(dir));
+        self.children[self.parents[at].unwrap() as usize] -= 1;
+        self.parents[at] = None;
+        self.owners[at] = None;
+        self.named[at] = None;
+        Ok(Reply::Changed)
+    }
+
+    fn begin(&mut self, rank: u8, dir: u32) -> Answer {
+        if rank >= self.ranks {
+            return Err(12);
+        }
+        let owner = self.owner(dir).ok_or(6)?;
+        if owner != rank {
+            return Err(18);
+        }
+        if self.frozen(dir) {
+            return Err(20);
+        }
+        self.running[dir as usize] += 1;
+        self.tickets.push(Some(dir));
+        Ok(Reply::Ticket(self.tickets.len() as u32 - 1))
+    }
+
+    fn end(&mut self, ticket: u32) -> Answer {
+        let dir = self.tickets.get_mut(ticket as usize).and_then(Option::take).ok_or(25)?;
+        self.running[dir as usize] -= 1;
+        Ok(Reply::Changed)
+    }
+
+    /// By stamps: no directory twice, and only one whose parent hasn't this list's stamp.
+    fn connected(&mut self, dirs: &[u32]) -> bool {
+        self.stamp += 1;
+        for &dir in dirs {
+            if self.stamps[dir as usize] == self.stamp {
+                return false;
+            }
+            self.stamps[dir as usize] = self.stamp;
+        }
+        let tops = dirs.iter().filter(|&&dir| {
+            let parent = self.parents[dir as usize].unwrap();
+            parent == dir || self.stamps[parent as usize] != self.stamp
+        });
+        tops.count() == 1
+    }
+
+    fn start(&mut self, from: u8, to: u8, dirs: Vec<u32>) -> Answer {
+        if from >= self.ranks || to >= self.ranks {
+            return Err(12);
+        }
+        if from == to {
+            return Err(21);
+        }
+        if dirs.iter().any(|&dir| self.owner(dir).is_none()) {
+            return Err(6);
+        }
+        if !self.connected(&dirs) {
+            return Err(26);
+        }
+        let bad = |dir: &&u32| self.open[**dir as usize].is_some() || self.owner(**dir) != Some(from);
+        if let Some(&dir) = dirs.iter().filter(bad).min() {
+            return Err(if self.open[dir as usize].is_some() { 19 } else { 18 });
+        }
+        if self.exports.len() >= 65_536 {
+            return Err(27);
+        }
+        let x = self.exports.len() as u32;
+        for &dir in &dirs {
+            self.open[dir as usize] = Some(x);
+        }
+        self.exports.push(Export { from, to, dirs, exporter: Exporter::Discovering, importer: Importer::Unknown });
+        self.sent.push((Kind::Discover, x));
+        Ok(Reply::Export(x, self.sent.len() as u32 - 1))
+    }
+
+    fn froze(&mut self, x: u32) -> Answer {
+        let export = self.export(x)?;
+        if export.exporter != Exporter::Freezing {
+            return Err(23);
+        }
+        if export.dirs.iter().map(|&dir| self.running[dir as usize]).sum::<u32>() != 0 {
+            return Err(22);
+        }
+        self.exports[x as usize].exporter = Exporter::Preparing;
+        Ok(self.send(Kind::Prep, x))
+    }
+
+    fn notify(&mut self, x: u32) -> Answer {
+        let export = self.export(x)?;
+        if export.exporter != Exporter::Logged {
+            return Err(23);
+        }
+        let (from, to) = (export.from, export.to);
+        self.enter(from, Entry::Notified(x));
+        for &dir in &self.exports[x as usize].dirs {
+            self.named[dir as usize] = Some(to);
+        }
+        self.exports[x as usize].exporter = Exporter::Done;
+        Ok(self.send(Kind::Finish, x))
+    }
+
+    fn abort(&mut self, x: u32) -> Answer {
+        use Exporter::*;
+        let export = self.export(x)?;
+        if !matches!(export.exporter, Discovering | Freezing | Preparing | Exporting) {
+            return Err(23);
+        }
+        for &dir in &self.exports[x as usize].dirs {
+            self.open[dir as usize] = None;
+        }
+        self.exports[x as usize].exporter = Aborted;
+        Ok(self.send(Kind::Cancel, x))
+    }
+
+    fn deliver(&mut self, message: u32) -> Answer {
+        let &(kind, x) = self.sent.get(message as usize).ok_or(24)?;
+        let export = &mut self.exports[x as usize];
+        let (from, to) = (export.from, export.to);
+        Ok(match (kind, export.exporter, export.importer) {
+            (Kind::Discover, _, Importer::Unknown) => {
+                export.importer = Importer::Discovered;
+                self.send(Kind::DiscoverAck, x)
+            }
+            (Kind::DiscoverAck, Exporter::Discovering, _) => {
+                export.exporter = Exporter::Freezing;
+                Reply::Changed
+            }
+            (Kind::Prep, _, Importer::Discovered) => {
+                export.importer = Importer::Prepared;
+                self.send(Kind::PrepAck, x)
+            }
+            (Kind::PrepAck, Exporter::Preparing, _) => {
+                export.exporter = Exporter::Exporting;
+                self.send(Kind::Export, x)
+            }
+            (Kind::Export, _, Importer::Prepared) => {
+                export.importer = Importer::Started;
+                self.enter(to, Entry::Started(x));
+                self.send(Kind::ExportAck, x)
+            }
+            (Kind::ExportAck, Exporter::Exporting, _) => {
+                export.exporter = Exporter::Logged;
+                for &dir in &export.dirs {
+                    self.owners[dir as usize] = Some(to);
+                }
+                self.enter(from, Entry::Exported(x));
+                Reply::Changed
+            }
+            (Kind::Finish, _, Importer::Started) => {
+                export.importer = Importer::Imported;
+                for &dir in &export.dirs {
+                    self.open[dir as usize] = None;
+                }
+                self.enter(to, Entry::Imported(x));
+                Reply::Changed
+            }
+            (Kind::Cancel, _, Importer::Started) => {
+                export.importer = Importer::Dropped;
+                self.enter(to, Entry::Dropped(x));
+                Reply::Changed
+            }
+            (Kind::Cancel, _, Importer::Unknown | Importer::Discovered | Importer::Prepared) => {
+                export.importer = Importer::Dropped;
+                Reply::Changed
+            }
+            _ => Reply::Ignored,
+        })
+    }
+
+    fn apply(&mut self, event: Event) -> Answer {
+        if self.events >= 1_048_576 {
+            return Err(33);
+        }
+        let reply = match event {
+            Event::Made(parent) => self.made(parent),
+            Event::Gone(dir) => self.gone(dir),
+            Event::Begin(rank, dir) => self.begin(rank, dir),
+            Event::End(ticket) => self.end(ticket),
+            Event::Start(from, to, dirs) => self.start(from, to, dirs),
+            Event::Deliver(message) => self.deliver(message),
+            Event::Froze(x) => self.froze(x),
+            Event::Notify(x) => self.notify(x),
+            Event::Abort(x) => self.abort(x),
+        }?;
+        self.events += 1;
+        Ok(reply)
+    }
+}
+
+fn parsed(line: &str) -> Event {
+    let mut words = line.split(' ');
+    let name = words.next().unwrap();
+    let mut numbers = words.map(|word| word.parse::<u32>().unwrap());
+    let mut next = || numbers.next().unwrap();
+    match name {
+        "made" => Event::Made(next()),
+        "gone" => Event::Gone(next()),
+        "begin" => Event::Begin(next() as u8, next()),
+        "end" => Event::End(next()),
+        "deliver" => Event::Deliver(next()),
+        "froze" => Event::Froze(next()),
+        "notify" => Event::Notify(next()),
+        "abort" => Event::Abort(next()),
+        _ => {
+            let (from, to) = (next() as u8, next() as u8);
+            Event::Start(from, to, numbers.collect())
+        }
+    }
+}
+
+fn after(events: &[Event]) -> Machine {
+    let mut machine = Machine::new(65_536, 64);
+    for event in events {
+        let _ = machine.apply(event.clone());
+    }
+    machine
+}
+
+/// Times one read at 2^20 directories, and prints a line with the sum of its answers.
+fn time_read(name: &str, read: impl Fn(u32) -> u64) {
+    let (mut least, mut sum) = (u128::MAX, 0);
+    for _ in 0..9 {
+        let start = Instant::now();
+        sum = (0..1u32 << 20).map(|number| read(black_box(number.wrapping_mul(20_507) % 32_768))).sum::<u64>();
+        least = least.min(start.elapsed().as_nanos());
+    }
+    println!("{name} {sum} {least}");
+}
+
+fn main() {
+    let mut text = String::new();
+    std::io::stdin().read_to_string(&mut text).unwrap();
+    let (before, timed) = text.split_once("now\n").unwrap();
+    let before: Vec<Event> = before.lines().map(parsed).collect();
+    let timed: Vec<Event> = timed.lines().map(parsed).collect();
+    if std::env::args().nth(1).as_deref() == Some("reads") {
+        let machine = after(&[before, timed].concat());
+        time_read("authority", |dir| machine.owner(dir).map_or(64, u64::from));
+        time_read("serves", |dir| machine.serves(0, dir) as u64);
+        time_read("named", |dir| machine.named(dir).map_or(64, u64::from));
+        return;
+    }
+    let (mut least, mut accepted) = (u128::MAX, 0);
+    for _ in 0..9 {
+        let mut machine = after(&before);
+        let todo = timed.clone();
+        let mut history: Vec<(Event, Answer)> = vec![];
+        let start = Instant::now();
+        for event in todo {
+            let copy = event.clone();
+            let answer = machine.apply(event);
+            history.push((copy, answer));
+        }
+        least = least.min(start.elapsed().as_nanos());
+        accepted = history.iter().filter(|(_, answer)| answer.is_ok()).count();
+    }
+    println!("{accepted} {least}");
+}

@@ -1,0 +1,70 @@
+use Rattle.std.proofs.Common.{◌≡◌, ◌<◌, ◌≤◌, ℕ, List, Bool, Some, true, false, length, map, set, sym, ap, ◌∙◌, subst, refl, arith}
+use Rattle.std.proofs.lemmas.List.{length-map}
+use Rattle.export_machine.specs.declared.exporter.ExporterState.{ExporterState}
+use Rattle.export_machine.specs.declared.importer.ImporterState.{ImporterState}
+use Rattle.export_machine.specs.declared.importer.ImporterState.TheVariants.{Dropped}
+use Rattle.export_machine.specs.declared.journal.JournalEntry.{JournalEntry}
+use Rattle.export_machine.specs.declared.event.Request.{Request}
+use Rattle.export_machine.specs.declared.records.Records.{Records}
+use Rattle.export_machine.specs.Cluster.{World}
+use Rattle.export_machine.specs.Authority.{to_of, importer_of, has, request_of}
+use Rattle.export_machine.specs.Step.{happens, changed, stops, restarts}
+use Rattle.export_machine.specs.Kept.{world_of, indexes_of, order_of, IsIndexed}
+use Rattle.export_machine.proofs.Accepted.{numbers_by}
+use Rattle.export_machine.proofs.Indexing.{request_there}
+use Rattle.export_machine.proofs.Rows.{importer_indexed}
+use Rattle.export_machine.proofs.Halted.{aborts, forgets, ends, dropped_there, restarts_all, stopped_indexed, stop_rank, restart_rank, rank_there}
+use Rattle.export_machine.proofs.records.Records.stop.Goals as goal
+
+pub halt_imports-requires-clause-near : goal.halt_imports-requires-clause-near
+halt_imports-requires-clause-near c =
+    let w = world_of c.args.self.now in
+    let as_many : length w.importers ≡ length w.orders = numbers_by w c.requires.kept.reached (length w.importers) (length w.orders) (λ safe. safe.importing) in
+    ap (λ (r : Records). length r.importers.items) c.halt_exports.ensures.others
+    ∙ (as_many ∙ (length-map c.args.self.now.orders.items order_of ∙ sym (ap (λ (r : Records). length r.orders.items) c.halt_exports.ensures.others)))
+
+pub halt_imports-requires-clause-ranked : goal.halt_imports-requires-clause-ranked
+halt_imports-requires-clause-ranked c =
+    let w = world_of c.args.self.now in
+    let there : c.args.rank < length w.journals = rank_there w c.requires.kept.reached c.args.rank (stop_rank w c.args.rank c.requires.accepted) in
+    let same : length c.halt_exports.new.self.journals.items ≡ length c.args.self.now.journals.items = ap (λ (r : Records). length r.journals.items) c.halt_exports.ensures.others in
+    omega (arith, length-map c.args.self.now.journals.items (λ j. j.items))
+
+pub halt_imports-requires-clause-dropped : goal.halt_imports-requires-clause-dropped
+halt_imports-requires-clause-dropped c =
+    let w = world_of c.args.self.now in
+    let aborted : world_of c.halt_exports.new.self ≡ aborts c.args.rank w =
+    ap world_of c.halt_exports.ensures.others ∙ ap (λ (es : List ExporterState). record w { exporters = es }) c.halt_exports.ensures.exporters in
+    subst (λ (v : World). (x : ℕ) → has v c.args.rank (JournalEntry.Dropped x) ≡ true → (to_of v x ≡ c.args.rank) × (importer_of v x ≡ Dropped)) (sym aborted) (dropped_there w c.requires.kept.reached c.args.rank)
+
+pub end_requests-requires-clause-indexed : goal.end_requests-requires-clause-indexed
+end_requests-requires-clause-indexed c =
+    subst (λ (r : Records). IsIndexed (world_of r) (indexes_of r)) (sym c.halt_imports.ensures.others)
+    (importer_indexed (world_of c.halt_exports.new.self) (indexes_of c.halt_exports.new.self) c.halt_exports.ensures.indexed c.halt_imports.new.self.importers.items c.halt_exports.new.self.sent.items)
+
+pub end_requests-requires-clause-there : goal.end_requests-requires-clause-there
+end_requests-requires-clause-there c =
+    let w = world_of c.args.self.now in
+    let aborted : world_of c.halt_exports.new.self ≡ aborts c.args.rank w =
+    ap world_of c.halt_exports.ensures.others ∙ ap (λ (es : List ExporterState). record w { exporters = es }) c.halt_exports.ensures.exporters in
+    let forgot : world_of c.halt_imports.new.self ≡ forgets c.args.rank (world_of c.halt_exports.new.self) =
+    ap world_of c.halt_imports.ensures.others ∙ ap (λ (is : List ImporterState). record (world_of c.halt_exports.new.self) { importers = is }) c.halt_imports.ensures.importers in
+    subst (λ (v : World). (t : ℕ) (q : Request) → request_of v t ≡ Some q → q.dir < length v.parents) (sym (forgot ∙ ap (forgets c.args.rank) aborted)) (request_there w c.requires.kept.reached)
+
+pub returns-clause-effect : goal.returns-clause-effect
+unfolding happens
+returns-clause-effect c =
+    let w = world_of c.args.self.now in
+    let aborted : world_of c.halt_exports.new.self ≡ aborts c.args.rank w =
+    ap world_of c.halt_exports.ensures.others ∙ ap (λ (es : List ExporterState). record w { exporters = es }) c.halt_exports.ensures.exporters in
+    let forgot : world_of c.halt_imports.new.self ≡ forgets c.args.rank (world_of c.halt_exports.new.self) =
+    ap world_of c.halt_imports.ensures.others ∙ ap (λ (is : List ImporterState). record (world_of c.halt_exports.new.self) { importers = is }) c.halt_imports.ensures.importers in
+    let ended : world_of c.end_requests.new.self ≡ ends c.args.rank (world_of c.halt_imports.new.self) =
+    ap world_of c.end_requests.ensures.others ∙ ap (λ ts. record (world_of c.halt_imports.new.self) { tickets = ts }) c.end_requests.ensures.tickets in
+    let all : world_of c.end_requests.new.self ≡ ends c.args.rank (forgets c.args.rank (aborts c.args.rank w)) = ended ∙ ap (ends c.args.rank) (forgot ∙ ap (forgets c.args.rank) aborted) in
+    let stopped : c.put.new.table.items ≡ set w.stopped c.args.rank true =
+    c.put.ensures ∙ (ap (λ (v : World). set v.stopped c.number.result true) all ∙ ap (λ r. set w.stopped r true) c.number.ensures.value) in
+    ap changed (sym (ap (λ (v : World). record v { stopped = c.put.new.table.items }) all ∙ ap (λ (st : List Bool). record (ends c.args.rank (forgets c.args.rank (aborts c.args.rank w))) { stopped = st }) stopped))
+
+pub returns-clause-indexed : goal.returns-clause-indexed
+returns-clause-indexed c = stopped_indexed (world_of c.end_requests.new.self) (indexes_of c.end_requests.new.self) c.end_requests.ensures.indexed c.put.new.table.items

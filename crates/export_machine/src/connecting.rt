@@ -1,0 +1,89 @@
+//! Whether a list of directories hangs together, in three walks over it: mark, count and clear.
+
+ghost use Rattle.std.specs.Prelude.{◌≡◌, ℕ, true, false, None, IsTrue, not, length, count_by, slice_index_or};
+ghost use Rattle.std.specs.List.{list_all};
+ghost use Rattle.export_machine.specs.Authority.{is_among, is_present};
+ghost use Rattle.export_machine.specs.Step.{repeats, is_connected};
+ghost use Rattle.export_machine.specs.Kept.{world_of, is_listed, parent_marked, IsKept};
+
+use crate::changes::put;
+use crate::records::Records;
+use mds_types::Dir;
+
+fn is_listed(parents: &[Option<Dir>], dir: Dir) -> bool
+    ensures { result ≡ is_listed parents.now dir }
+{
+    match parents.get(dir.number() as usize) {
+        Some(Some(_)) => true,
+        _ => false,
+    }
+}
+
+/// Marks the directories, up to the first that isn't there or has its mark already.
+fn mark_once(marks: &mut Vec<bool>, parents: &[Option<Dir>], dirs: &[Dir]) -> bool
+    requires places { length marks.old.items ≡ length parents.now }
+    requires unmarked { (d : ℕ) → slice_index_or marks.old.items d false ≡ false }
+    ensures places { length marks.new.items ≡ length marks.old.items }
+    ensures within { (d : ℕ) → slice_index_or marks.new.items d false ≡ true → is_among dirs.now d ≡ true }
+    ensures all { IsTrue result → (d : ℕ) → slice_index_or marks.new.items d false ≡ is_among dirs.now d }
+    ensures once { list_all (is_listed parents.now) dirs.now ≡ true → result ≡ not (repeats dirs.now) }
+{
+    for dir in dirs {
+        let index = dir.number() as usize;
+        if !is_listed(parents, *dir) || marks[index] {
+            return false;
+        }
+        marks[index] = true;
+    }
+    true
+}
+
+/// Takes the marks of the directories away.
+fn unmark(marks: &mut Vec<bool>, dirs: &[Dir])
+    requires within { (d : ℕ) → slice_index_or marks.old.items d false ≡ true → is_among dirs.now d ≡ true }
+    ensures places { length marks.new.items ≡ length marks.old.items }
+    ensures unmarked { (d : ℕ) → slice_index_or marks.new.items d false ≡ false }
+{
+    for dir in dirs {
+        put(marks, dir.number() as usize, false);
+    }
+}
+
+fn has_marked_parent(parents: &[Option<Dir>], marks: &[bool], dir: Dir) -> bool
+    ensures { result ≡ parent_marked marks.now dir (slice_index_or parents.now dir None) }
+{
+    match parents.get(dir.number() as usize) {
+        Some(Some(parent)) if parent.number() != dir.number() => {
+            match marks.get(parent.number() as usize) {
+                Some(mark) => *mark,
+                None => false,
+            }
+        }
+        _ => false,
+    }
+}
+
+/// How many of the directories have no parent with a mark.
+fn tops(parents: &[Option<Dir>], marks: &[bool], dirs: &[Dir]) -> usize
+    ensures { result ≡ count_by (λ d. not (parent_marked marks.now d (slice_index_or parents.now d None))) dirs.now }
+{
+    dirs.iter()
+        .filter(|dir| !has_marked_parent(parents, marks, **dir))
+        .count()
+}
+
+impl Records {
+    /// Whether the directories are some, none twice, and hang together: only one of them has no parent among them. The
+    /// answer is to be used only where all of them are there.
+    pub(crate) fn connects(&mut self, dirs: &[Dir]) -> bool
+        requires kept { IsKept self.old }
+        ensures others { self.new ≡ record self.old { marks = self.new.marks } }
+        ensures marks { self.new.marks.items ≡ self.old.marks.items }
+        ensures connected { list_all (is_present (world_of self.old)) dirs.now ≡ true → result ≡ is_connected (world_of self.old) dirs.now }
+    {
+        let connected = mark_once(&mut self.marks, &self.parents, dirs)
+            && tops(&self.parents, &self.marks, dirs) == 1;
+        unmark(&mut self.marks, dirs);
+        connected
+    }
+}
