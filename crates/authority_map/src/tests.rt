@@ -86,15 +86,23 @@ fn readers_follow(rt: HostRuntime) -> Result<(), Fail> {
     Ok(())
 }
 
-// Reads directory 0 so many times. It says whether the rank never went back.
+// Where an answer on directory 0 stands in the order in which the writer gives them.
+fn place(found: Found) -> Option<u8> {
+    match found {
+        Found::NoDir => Some(0),
+        Found::Rank(rank) => Some(rank.number() + 1),
+        Found::Closed => None,
+    }
+}
+
+// Reads directory 0 so many times. It says whether the answers never went back.
 fn watch<J: Naming>(mut reader: MapReader<J>, times: u32) -> (MapReader<J>, bool) {
-    let mut last = 0;
+    let mut last = Some(0);
     let mut forward = true;
     for _read in 0..times {
-        if let Found::Rank(rank) = reader.find(Dir::new(0)) {
-            forward = forward && last <= rank.number();
-            last = rank.number();
-        }
+        let next = place(reader.find(Dir::new(0)));
+        forward = forward && next.is_some() && last <= next;
+        last = next;
     }
     (reader, forward)
 }
@@ -177,6 +185,170 @@ fn answers_never_go_back(rt: HostRuntime) -> Result<(), Fail> {
         assert_eq!(rt; found, Found::Rank(newest));
     }
     Ok(())
+}
+
+// What a reader finds at each of four directories, and past the limit.
+fn all_found<J: Naming>(reader: &mut MapReader<J>) -> [Found; 5] {
+    [
+        reader.find(Dir::new(0)),
+        reader.find(Dir::new(1)),
+        reader.find(Dir::new(2)),
+        reader.find(Dir::new(3)),
+        reader.find(Dir::new(4)),
+    ]
+}
+
+fn set_two<J: Naming, R: Wait + Drop>(
+    alloc: Global,
+    writer: &mut MapWriter<J, R>,
+    first: Dir,
+    second: Dir,
+    rank: Rank,
+) -> Result<(), MapError>
+    requires { (first < J.limit) × (second < J.limit) }
+{
+    let dirs = Vec::from_array(alloc, [first, second]).map_err(|_| MapError::Memory)?;
+    writer.reserve()?;
+    writer.set(dirs, rank);
+    Ok(())
+}
+
+// Directories 1 and 3 at rank 0, then 2 at rank 1, then 2 at rank 0 and 1 cleared.
+fn changed<J: Naming, R: Wait + Drop>(
+    alloc: Global,
+    writer: &mut MapWriter<J, R>,
+    reader: &mut MapReader<J>,
+    zero: Rank,
+    one: Rank,
+) -> Result<[[Found; 5]; 4], MapError>
+    requires { J.limit ≡ 4 }
+{
+    set_two(alloc, writer, Dir::new(1), Dir::new(3), zero)?;
+    writer.publish()?;
+    let first = all_found(reader);
+    set_two(alloc, writer, Dir::new(2), Dir::new(2), one)?;
+    let second = all_found(reader);
+    writer.publish()?;
+    let third = all_found(reader);
+    set_two(alloc, writer, Dir::new(2), Dir::new(3), zero)?;
+    writer.reserve()?;
+    writer.clear(Dir::new(1));
+    writer.publish()?;
+    Ok([first, second, third, all_found(reader)])
+}
+
+fn change<J: Naming, R: Wait + Drop>(
+    rt: R,
+    alloc: Global,
+    opened: Opened,
+    zero: Rank,
+    one: Rank,
+) -> Result<([[Found; 5]; 4], [Found; 5]), MapError>
+    requires name { opened ≡ J.map }
+    requires limit { J.limit ≡ 4 }
+{
+    match MapWriter::<J, R>::open(rt, alloc, opened, 4, 1) {
+        Err((error, _opened)) => Err(error),
+        Ok((mut writer, mut readers)) => {
+            let reader = &mut readers[0];
+            let found = changed(alloc, &mut writer, reader, zero, one);
+            writer.end();
+            let closed = all_found(reader);
+            Ok((found?, closed))
+        }
+    }
+}
+
+#[test]
+fn operations_change_their_directories(rt: HostRuntime) -> Result<(), Fail> {
+    let (zero, one) = (Rank::new(0).ok_or("rank")?, Rank::new(1).ok_or("rank")?);
+    let (none, r0, r1) = (Found::NoDir, Found::Rank(zero), Found::Rank(one));
+    let (found, closed) = change::<Brand, _>(&rt, rt.alloc(), Opened::new(), zero, one)?;
+    let [first, second, third, fourth] = found;
+    assert_eq!(rt; first, [none, r0, none, r0, none]);
+    assert_eq!(rt; second, [none, r0, none, r0, none]);
+    assert_eq!(rt; third, [none, r0, r1, r0, none]);
+    assert_eq!(rt; fourth, [none, none, r0, r0, none]);
+    assert_eq!(rt; closed, [Found::Closed; 5]);
+    Ok(())
+}
+
+// One operation. A call that is refused memory has changed nothing, and is made again.
+fn give_surely<J: Naming, R: Wait + Drop>(
+    alloc: Global,
+    writer: &mut MapWriter<J, R>,
+    reader: &mut MapReader<J>,
+    dir: Dir,
+    rank: Rank,
+) -> Result<bool, MapError>
+    requires { dir < J.limit }
+{
+    let before = reader.find(dir);
+    if give(alloc, writer, dir, rank).is_err() {
+        give(alloc, writer, dir, rank)?;
+    }
+    let kept = reader.find(dir) == before;
+    if writer.publish().is_err() {
+        let still = reader.find(dir) == before;
+        writer.publish()?;
+        return Ok(kept && still && reader.find(dir) == Found::Rank(rank));
+    }
+    Ok(kept && reader.find(dir) == Found::Rank(rank))
+}
+
+// Twenty operations on the four directories.
+fn give_many<J: Naming, R: Wait + Drop>(
+    alloc: Global,
+    writer: &mut MapWriter<J, R>,
+    reader: &mut MapReader<J>,
+) -> Result<bool, MapError>
+    requires { J.limit ≡ 4 }
+{
+    let mut kept = true;
+    for step in 0..20u32 {
+        if let Some(rank) = Rank::new(step as u8) {
+            let dir = Dir::new(step % 4);
+            kept = give_surely(alloc, writer, reader, dir, rank)? && kept;
+        }
+    }
+    Ok(kept)
+}
+
+// Opens a map, and opens it again where memory was refused. It says whether all went as it should.
+fn open_surely<J: Naming, R: Wait>(rt: &R, alloc: Global, opened: Opened) -> bool
+    requires name { opened ≡ J.map }
+    requires limit { J.limit ≡ 4 }
+{
+    let opened = match MapWriter::<J, &R>::open(rt, alloc, opened, 4, 2) {
+        Ok((writer, readers)) => return go_on(alloc, writer, readers),
+        Err((MapError::Memory, opened)) => opened,
+        Err((MapError::NoReader, _opened)) => return false,
+    };
+    match MapWriter::<J, &R>::open(rt, alloc, opened, 4, 2) {
+        Ok((writer, readers)) => go_on(alloc, writer, readers),
+        Err((_error, _opened)) => false,
+    }
+}
+
+fn go_on<J: Naming, R: Wait + Drop>(
+    alloc: Global,
+    mut writer: MapWriter<J, R>,
+    mut readers: Vec<MapReader<J>>,
+) -> bool
+    requires { J.limit ≡ 4 }
+{
+    let kept = match readers.pop() {
+        Some(mut reader) => give_many(alloc, &mut writer, &mut reader).unwrap_or(false),
+        None => false,
+    };
+    writer.end();
+    kept && readers.len() == 1
+}
+
+// With `rt try --test --fail-alloc N`, the N-th growth is refused.
+#[test]
+fn a_refused_growth_changes_nothing(rt: HostRuntime) {
+    assert!(rt; open_surely::<Brand, HostRuntime>(&rt, rt.alloc(), Opened::new()));
 }
 
 #[test]

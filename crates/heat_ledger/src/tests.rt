@@ -1,11 +1,11 @@
 //! Worked sequences of calls, whose numbers were counted by hand.
 ghost use Rattle.std.specs.Prelude.{◌≡◌, All, IfOk};
-ghost use Rattle.heat_ledger.specs.Ledger.{IsClean};
+ghost use Rattle.heat_ledger.specs.Ledger.{IsClean, weight_of};
 
 use crate::{Book, HitError, Missing, Opened, Share};
 use mds_types::Dir;
 use naming::Naming;
-use std::alloc::{AllocError, Global};
+use std::alloc::{AllocError, AllocFailed, Global};
 use std::marker::Brand;
 use std::process::Abort;
 use std::test::Fail;
@@ -138,6 +138,69 @@ fn a_share_moves_through_a_thread(rt: HostRuntime) -> Result<(), Fail> {
 fn joined_shares_close_a_book(rt: HostRuntime) -> Result<(), Fail> {
     let alloc: Global = rt.alloc();
     close_joined::<Brand, HostRuntime>(&rt, alloc, Opened::new(alloc)?)?;
+    Ok(())
+}
+
+// A book of two shares on four directories, opened again where memory was refused.
+fn open_surely<J: Naming>(
+    alloc: Global,
+    opened: Opened,
+) -> Result<(Book<J>, Vec<Share<J>>), AllocError>
+    requires name { opened ≡ J.ledger }
+    requires limit { J.limit ≡ 4 }
+    ensures { IfOk result (λ r. weight_of r.1.items ≡ r.0.shares) }
+{
+    match Book::<J>::open(alloc, opened, 4, 2) {
+        Ok((book, shares)) => Ok((book, shares)),
+        Err(refused) => {
+            let AllocFailed { value } = refused;
+            let (book, shares) = Book::<J>::open(alloc, value, 4, 2)?;
+            Ok((book, shares))
+        }
+    }
+}
+
+// An audit changes nothing, and the calls after `open` take no memory.
+fn count_surely<J: Naming, R: Abort>(
+    rt: &R,
+    alloc: Global,
+    opened: Opened,
+) -> Result<(), AllocError>
+    requires name { opened ≡ J.ledger }
+    requires limit { J.limit ≡ 4 }
+{
+    let (first, last) = (Dir::new(0), Dir::new(3));
+    let (mut book, mut shares) = open_surely::<J>(alloc, opened)?;
+    book.audit(&mut shares);
+    let mut share = worked(shares.pop().expect(rt, "a share"), last, 3);
+    assert_eq!(rt; share.hit(first), Ok(()));
+    assert_eq!(rt; (share.hits(first), share.hits(last)), (1, 3));
+    assert_eq!(rt; (share.pending(first), share.pending(last)), (1, 3));
+    if book.begun(last) == 0 {
+        book.begin(&mut share, last);
+    }
+    assert_eq!(rt; (share.begun(first), share.begun(last)), (0, 1));
+    assert_eq!(rt; (book.counted(last), book.begun(last)), (0, 1));
+    book.deposit(&mut share);
+    assert_eq!(rt; (book.counted(first), book.counted(last)), (1, 3));
+    assert_eq!(rt; (share.pending(last), share.hits(last)), (0, 3));
+    assert_eq!(rt;
+        (share.hits(Dir::new(4)), book.counted(Dir::new(4))),
+        (0, 0)
+    );
+    assert_eq!(rt; (book.limit(), share.weight()), (4, 1));
+    Ok(())
+}
+
+// With `rt try --test --fail-alloc N`, the N-th growth is refused.
+#[test]
+fn a_refused_growth_hands_back(rt: HostRuntime) -> Result<(), Fail> {
+    let alloc: Global = rt.alloc();
+    let opened = match Opened::new(alloc) {
+        Ok(opened) => opened,
+        Err(_) => Opened::new(alloc)?,
+    };
+    count_surely::<Brand, HostRuntime>(&rt, alloc, opened)?;
     Ok(())
 }
 
