@@ -14,7 +14,7 @@ use std::thread::Threads;
 ///
 /// It can fail for memory alone. The checker, `plan_checker::check`, says yes exactly where a plan
 /// is certified, so it accepts this one.
-pub fn solve<R: Threads + Sync>(
+pub fn solve<R: Threads>(
     rt: &R,
     alloc: Global,
     problem: &Problem,

@@ -12,7 +12,7 @@ use std::thread::Threads;
 ///
 /// The rows are read once, in the calling thread. The runtime is taken so that threads can share
 /// them.
-pub fn costs<R: Threads + Sync>(
+pub fn costs<R: Threads>(
     _rt: &R,
     alloc: Global,
     problem: &Problem,
