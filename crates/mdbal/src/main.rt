@@ -4,9 +4,6 @@
 //! where a device failed. `--help` ends with 0.
 #![tactic(auto)]
 
-ghost use Rattle.std.specs.Prelude.{◌≤◌};
-ghost use Rattle.mds_types.specs.declared.limits.TheConstants.{DIR_LIMIT};
-
 use command_line::{OptionsError, Settings, options};
 use script_engine::RunError;
 use script_session::run;
@@ -30,32 +27,14 @@ fn explain(rt: &HostRuntime, error: OptionsError) -> ExitCode {
     ExitCode::from(status)
 }
 
-/// Carries out the script.
-fn carry_out(rt: &HostRuntime, settings: Settings) -> ExitCode
-    requires some { 1 ≤ settings.limit }
-    requires few { settings.limit ≤ DIR_LIMIT }
-{
-    let mut reader = rt.reader();
-    let mut writer = io::writer(rt);
-    match run(
-        rt,
-        rt.alloc(),
-        &mut reader,
-        &mut writer,
-        settings.limit,
-        settings.strict,
-    ) {
-        Ok(true) => ExitCode::SUCCESS,
-        Ok(false) => ExitCode::FAILURE,
-        Err(failure) => {
-            let message = match failure {
-                RunError::Read => "read failed",
-                RunError::Write => "write failed",
-            };
-            let _ = eprintln!(rt; "mdbal: {message}");
-            ExitCode::from(3)
-        }
-    }
+/// Says which device failed.
+fn fail(rt: &HostRuntime, failure: RunError) -> ExitCode {
+    let message = match failure {
+        RunError::Read => "read failed",
+        RunError::Write => "write failed",
+    };
+    let _ = eprintln!(rt; "mdbal: {message}");
+    ExitCode::from(3)
 }
 
 fn main(rt: HostRuntime) -> ExitCode {
@@ -66,8 +45,15 @@ fn main(rt: HostRuntime) -> ExitCode {
             return ExitCode::from(2);
         }
     };
-    match options(rt.alloc(), words.as_slice()) {
-        Ok(settings) => carry_out(&rt, settings),
-        Err(error) => explain(&rt, error),
+    let Settings { limit, strict } = match options(rt.alloc(), words.as_slice()) {
+        Ok(settings) => settings,
+        Err(error) => return explain(&rt, error),
+    };
+    let mut reader = rt.reader();
+    let mut writer = io::writer(&rt);
+    match run(&rt, rt.alloc(), &mut reader, &mut writer, limit, strict) {
+        Ok(true) => ExitCode::SUCCESS,
+        Ok(false) => ExitCode::FAILURE,
+        Err(failure) => fail(&rt, failure),
     }
 }

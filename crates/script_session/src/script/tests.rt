@@ -157,6 +157,61 @@ fn answers_scripts(rt: HostRuntime) -> Result<(), Fail> {
     Ok(())
 }
 
+// Scripts behind `ranks 2` and `mask 0x3`, with what is written.
+const PLANS: [(&str, &str); 5] = [
+    ("", "plan greatest 0 moved 0 proof zero\npart / rank 0 heat 0 inodes 1\n"),
+    (
+        "dir /a 10\ndir /b 20\nload /a 4\nload /b 6\ngo\n",
+        "plan greatest 6 moved 11 proof heavy\npart / rank 1 heat 4 inodes 11\npart /b rank 0 heat 6 inodes 20\n",
+    ),
+    (
+        "dir /a 5\ndir /b 7\nload /a 100\nload /b 1\ngo\n",
+        "plan greatest 100 moved 5 proof heavy\npart / rank 0 heat 1 inodes 8\npart /a rank 1 heat 100 inodes 5\n",
+    ),
+    (
+        "dir /a 5\ndir /a/b 1\ndir /a/b/c 1\nload /a 3\nload /a/b 3\nload /a/b/c 3\ngo\n",
+        "plan greatest 6 moved 2 proof table\npart / rank 0 heat 3 inodes 6\npart /a/b rank 1 heat 6 inodes 2\n",
+    ),
+    ("pin / 1\n", "plan greatest 0 moved 0 proof zero\n"),
+];
+
+#[test]
+fn plans(rt: HostRuntime) -> Result<(), Fail> {
+    for (script, text) in PLANS {
+        let whole = format!(in rt.alloc(); "ranks 2\nmask 0x3\n{script}plan\n")?;
+        let mut source = source_of(&whole, 5);
+        let mut sink = sink_of(rt.alloc(), 3);
+        let result = run(&rt, rt.alloc(), &mut source, &mut sink, 65536, false);
+        assert_eq!(rt; result, Ok(true), "{whole}");
+        assert!(rt; sink.bytes.as_slice() == text.as_bytes(), "{whole}");
+    }
+    Ok(())
+}
+
+#[test]
+fn plans_for_usable_ranks_alone(rt: HostRuntime) -> Result<(), Fail> {
+    // (script, whether all lines are accepted, what is written)
+    let table = [
+        ("ranks 2\nplan\n", false, "line 2: refused 29 BalancerOff\n"),
+        ("ranks 2\nmask 0x0\nplan\n", false, "line 3: refused 29 BalancerOff\n"),
+        ("ranks 3\nmask 0x8\nplan\n", false, "line 3: refused 29 BalancerOff\n"),
+        (
+            "ranks 2\nmask 0x2\ndir /a 10\nload / 2\nload /a 5\ngo\nplan\n",
+            true,
+            "plan greatest 7 moved 11 proof table\npart / rank 1 heat 7 inodes 11\n",
+        ),
+        ("plan\nranks 1\nplan 1\n", false, "line 1: no ranks\nline 3: syntax\n"),
+    ];
+    for (script, accepted, text) in table {
+        let mut source = source_of(script, ENOUGH);
+        let mut sink = sink_of(rt.alloc(), ENOUGH);
+        let result = run(&rt, rt.alloc(), &mut source, &mut sink, 65536, false);
+        assert_eq!(rt; result, Ok(accepted), "{script}");
+        assert!(rt; sink.bytes.as_slice() == text.as_bytes(), "{script}");
+    }
+    Ok(())
+}
+
 #[test]
 fn a_strict_run_ends_at_the_first_fault(rt: HostRuntime) -> Result<(), Fail> {
     let mut source = source_of("ranks 1\nload /a\nranks 1\ncost\n", 3);
