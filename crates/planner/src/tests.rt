@@ -174,3 +174,63 @@ fn nothing_is_better(rt: HostRuntime) -> Result<(), Fail> {
     }
     Ok(())
 }
+
+/// Changes a number of a plan by at most 1, or the part of a row.
+fn change(plan: &mut Plan, random: &mut Random) {
+    let up = random.below(3);
+    let place = random.below(2) as usize;
+    match random.below(5) {
+        0 => plan.greatest = plan.greatest.wrapping_add(up).wrapping_sub(1),
+        1 => plan.moved = plan.moved.wrapping_add(up).wrapping_sub(1),
+        2 => {
+            if let Some(price) = plan.dual.part_price.get_mut(place) {
+                *price = price.wrapping_add(up as i64).wrapping_sub(1);
+            }
+        }
+        3 => {
+            if let Some(price) = plan.dual.rank_price.get_mut(place) {
+                *price = price.wrapping_add(up as i64).wrapping_sub(1);
+            }
+        }
+        _ => {
+            if let Some(part) = plan.part.get_mut(random.below(5) as usize) {
+                *part = random.below(3) as u32;
+            }
+        }
+    }
+}
+
+/// Whether no division and no placing is better than a plan of a problem with two ranks.
+fn is_best_by_trial<R: Abort>(rt: &R, problem: &Problem, plan: &Plan) -> bool {
+    let rows = problem.rows();
+    assert!(rt; rows.len() <= 8);
+    assert_eq!(rt; plan.part.len(), rows.len());
+    let parts = plan.rank.len() as u32;
+    assert!(rt; parts <= 2);
+    plan.greatest == least_greatest_heat(rows, 2)
+        && Some(plan.moved) == fewest_moved(rows, &plan.part, parts, problem.ranks())
+}
+
+#[test]
+fn what_passes_is_best(rt: HostRuntime) -> Result<(), Fail> {
+    let alloc = rt.alloc();
+    let mut random = Random::new(19);
+    let mut passed = 0u32;
+    for _ in 0..120 {
+        let rows = match random.rows(alloc, 5, 4) {
+            Ok(rows) => rows,
+            Err(_) => random.rows(alloc, 5, 4)?,
+        };
+        let Ok(problem) = Problem::new(rows, RankSet::from_bits(0x21)) else {
+            return Err("no problem")?;
+        };
+        let mut plan = solved(&rt, alloc, &problem)?;
+        change(&mut plan, &mut random);
+        if judged(alloc, &problem, &plan)? {
+            passed = passed.saturating_add(1);
+            assert!(rt; is_best_by_trial(&rt, &problem, &plan), "{plan:?}");
+        }
+    }
+    assert!(rt; passed > 20 && passed < 100, "{passed} passed");
+    Ok(())
+}

@@ -1,5 +1,3 @@
-use Rattle.std.proofs.Common.{◌≡◌, rules}
-use Rattle.mds_types.specs.Certificate.{IsCertified}
 use Rattle.mds_types.specs.Problem.{IsProblem}
 use Rattle.mds_types.proofs.CertificateLemmas.{best}
 use Rattle.planner.proofs.SolveLemmas.{solved}
