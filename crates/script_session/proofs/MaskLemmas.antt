@@ -58,6 +58,23 @@ mask_none text none = elim (cases_Bool (bytes_eq text (codes "-1"))) [
   ])
 ]
 
+same_bits : {a b : ℕ} → Some a ≡ Some b → b ≡ a
+same_bits is = cc
+
+-- what is found is a mask that the text writes
+pub mask_read : (text : List ℕ) (bits : ℕ) → mask_bits text ≡ Some bits → IsMask text bits
+mask_read text bits = elim (cases_Bool (bytes_eq text (codes "-1"))) [
+  | inl same ↦ λ is. inl ((bytes_eq-Decides text (codes "-1")).0 same, same_bits (rw same at is))
+  | inr other ↦ elim (cases_Bool (bytes_eq (take 2 text) (codes "0x") && is_hex (drop 2 text))) [
+    | inl hex ↦ λ is.
+        let parts = and_parts _ _ hex in
+        let value : bits ≡ digits_value 16 (drop 2 text) = same_bits (rw (other, hex) at is) in
+        let digits = tested_hex (drop 2 text) parts.1 in
+        inr (drop 2 text, parted text ((bytes_eq-Decides (take 2 text) (codes "0x")).0 parts.0), record { numeral = digits.numeral; few = digits.few; value = value })
+    | inr not ↦ λ is. (let none = rw (other, not) at is in cc)
+  ]
+]
+
 -- the ranks of a set that keeps the active ones
 pub usable_counted : (kept active mask : ℕ) → ((rank : ℕ) → has_rank kept rank ≡ (nat_lt rank active && has_rank mask rank)) → rank_count kept ≡ usable active mask
 unfolding rank_count usable

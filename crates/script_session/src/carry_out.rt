@@ -15,7 +15,12 @@ use std::thread::Threads;
 
 impl<J: Naming> Board<J> {
     /// Carries out a command. The reply is what it prints.
-    pub fn carry_out<R: Threads>(&mut self, rt: &R, alloc: Global, command: Command<'_>) -> Result<Reply, Fault>
+    pub fn carry_out<R: Threads>(
+        &mut self,
+        rt: &R,
+        alloc: Global,
+        command: Command<'_>,
+    ) -> Result<Reply, Fault>
         ensures done { IfOk result (λ reply. (on_board self.old (view command.entry) ≡ Ok (reply, self.new)) ⊎ ((view command.entry ≡ line.Plan) × IsPlanned self.old reply × (self.new ≡ self.old))) }
         ensures fault { IfErr result (IsDue (on_board self.old (view command.entry))) }
         ensures unchanged { OnErr result (self.new ≡ self.old) }

@@ -29,14 +29,21 @@ impl<J: Naming> Board<J> {
             return Err(Fault::BalancerOff);
         }
         let now = vec![in alloc; Rank::default(); self.numbers() as usize]?;
-        let Opened { problem, dirs } = open(alloc, &self.tree, &self.pins, &self.heat, &now, ranks)?;
+        let Opened { problem, dirs } = open(
+            alloc, &self.tree, &self.pins, &self.heat, &now, ranks,
+        )?;
         let plan = solve(rt, alloc, &problem)?;
         let parts = parts(alloc, &problem, &dirs, &plan)?;
         let text = self.plan_text(alloc, &plan, &parts)?;
         Ok(text)
     }
 
-    fn plan_text(&self, alloc: Global, plan: &Plan, parts: &[PlanPart]) -> Result<String, AllocError>
+    fn plan_text(
+        &self,
+        alloc: Global,
+        plan: &Plan,
+        parts: &[PlanPart],
+    ) -> Result<String, AllocError>
         requires { parts.now ≡ plan_parts (rows self.now) (unpinned self.now.directories.entries self.now.pins.own) plan.now }
         ensures { IfOk result (λ text. string_bytes text ≡ plan_text self.now plan.now) }
     {

@@ -159,7 +159,10 @@ fn answers_scripts(rt: HostRuntime) -> Result<(), Fail> {
 
 // Scripts behind `ranks 2` and `mask 0x3`, with what is written.
 const PLANS: [(&str, &str); 5] = [
-    ("", "plan greatest 0 moved 0 proof zero\npart / rank 0 heat 0 inodes 1\n"),
+    (
+        "",
+        "plan greatest 0 moved 0 proof zero\npart / rank 0 heat 0 inodes 1\n",
+    ),
     (
         "dir /a 10\ndir /b 20\nload /a 4\nload /b 6\ngo\n",
         "plan greatest 6 moved 11 proof heavy\npart / rank 1 heat 4 inodes 11\npart /b rank 0 heat 6 inodes 20\n",
@@ -193,14 +196,26 @@ fn plans_for_usable_ranks_alone(rt: HostRuntime) -> Result<(), Fail> {
     // (script, whether all lines are accepted, what is written)
     let table = [
         ("ranks 2\nplan\n", false, "line 2: refused 29 BalancerOff\n"),
-        ("ranks 2\nmask 0x0\nplan\n", false, "line 3: refused 29 BalancerOff\n"),
-        ("ranks 3\nmask 0x8\nplan\n", false, "line 3: refused 29 BalancerOff\n"),
+        (
+            "ranks 2\nmask 0x0\nplan\n",
+            false,
+            "line 3: refused 29 BalancerOff\n",
+        ),
+        (
+            "ranks 3\nmask 0x8\nplan\n",
+            false,
+            "line 3: refused 29 BalancerOff\n",
+        ),
         (
             "ranks 2\nmask 0x2\ndir /a 10\nload / 2\nload /a 5\ngo\nplan\n",
             true,
             "plan greatest 7 moved 11 proof table\npart / rank 1 heat 7 inodes 11\n",
         ),
-        ("plan\nranks 1\nplan 1\n", false, "line 1: no ranks\nline 3: syntax\n"),
+        (
+            "plan\nranks 1\nplan 1\n",
+            false,
+            "line 1: no ranks\nline 3: syntax\n",
+        ),
     ];
     for (script, accepted, text) in table {
         let mut source = source_of(script, ENOUGH);
