@@ -8,8 +8,9 @@ use Rattle.mds_types.specs.Sums.{count_below}
 use Rattle.mds_types.specs.CutTable.{is_child, cuts_at, rest_at, price_at, is_cut_at, no_cut}
 use Rattle.mds_types.proofs.SumsLemmas.{sum_below-term, sum_below-zero, count_below-le}
 use Rattle.residual_cut.specs.declared.child.Child.{Child}
-use Rattle.residual_cut.specs.Walk.{is_handled, IsSameBut, IsWalked}
+use Rattle.residual_cut.specs.Walk.{is_handled, IsWalked}
 use Rattle.residual_cut.proofs.HeapLemmas.{IsPopped}
+use Rattle.residual_cut.proofs.SeenLemmas.{IsSameBut}
 use Rattle.residual_cut.proofs.TableLemmas.{heats_le}
 use Rattle.residual_cut.proofs.WalkLemmas.{IsCutAt, child_above, handled_from, handled_parts, cut_child, one_more_cut}
 

@@ -29,15 +29,6 @@ limit_le n heat low m hot are k l =
     omega (arith, ap (limit_of n hot) same, limit_next n hot (k - 1), are.inside (k - 1) (omega arith)))
     (cases_eq k 0)
 
-pub hot_start : (n : ℕ) (heat : ℕ → ℕ) (low : ℕ) → AreHot n heat low n []
-hot_start n heat low = record {
-  inside = λ k l. absurd (omega arith);
-  from = λ k l. absurd (omega arith);
-  falls = λ k l. absurd (omega arith);
-  hotter = λ k l. absurd (omega arith);
-  light = λ k v l le before last. absurd (omega (arith, limit_first n [] k (omega arith)));
-}
-
 -- row i is listed
 pub hot_listed : (n : ℕ) (heat : ℕ → ℕ) (low i : ℕ) (hot : List ℕ) → i < n → low < heat i → AreHot n heat low (i + 1) hot
     → AreHot n heat low i (hot ++ i ∷ [])
@@ -107,16 +98,6 @@ hot_passed n heat low i hot cool are = record {
       ⊎_elim (λ (this : v ≡ i). omega (arith, ap heat this, cool))
       (λ (other : v ≢ i). are.light k v l (omega arith) before after)
       (cases_eq v i);
-}
-
--- all rows but row 0 were met
-pub hot_end : (n : ℕ) (heat : ℕ → ℕ) (low m : ℕ) (hot : List ℕ) → m ≤ 1 → (0 < n → 0 < m) → AreHot n heat low m hot → AreHot n heat low 1 hot
-hot_end n heat low m hot first some are = record {
-  inside = are.inside;
-  from = λ k l. omega (arith, are.from k l, some (omega (arith, are.inside k l)));
-  falls = are.falls;
-  hotter = are.hotter;
-  light = λ k v l le before after. are.light k v l (omega arith) before after;
 }
 
 -- the rows from the limit on are restored

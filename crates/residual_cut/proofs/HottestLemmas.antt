@@ -214,21 +214,6 @@ free_more rows rest cut i k k2 most old new x some l child above row_is rest_is 
     never_both false true = refl
     never_both false false = refl
 
--- after the last child all are met
-pub hottest_all :
-    (rows : List ProblemRow) (rest : ℕ → ℕ) (i k most floor : ℕ) (children : List Child) → k ≡ 0
-    → AreHottest rows rest (is_before k) i most floor children → AreHottest rows rest (λ _. true) i most floor children
-hottest_all rows rest i k most floor children none are =
-    hottest_retest rows rest (is_before k) (λ _. true) i most floor children
-    (λ j l child. before_from k j (λ some. absurd (omega arith))) are
-
-pub free_all :
-    (rows : List ProblemRow) (rest : ℕ → ℕ) (cut : ℕ → Bool) (i k most floor : ℕ) (children : List Child) → k ≡ 0
-    → AreHottest rows rest (free_before cut k) i most floor children → AreHottest rows rest (λ j. not (cut j)) i most floor children
-free_all rows rest cut i k most floor children none are =
-    hottest_retest rows rest (free_before cut k) (λ j. not (cut j)) i most floor children
-    (λ j l child. rw (before_from k j (λ some. absurd (omega arith))) refl) are
-
 -- the children in another order
 pub hottest_moved :
     (rows : List ProblemRow) (rest : ℕ → ℕ) (test : ℕ → Bool) (i most floor : ℕ) (children moved : List Child)

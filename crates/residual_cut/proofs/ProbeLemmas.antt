@@ -535,19 +535,6 @@ pub cutting_popped :
 cutting_popped rows heat rest bound i most seen children left x is moved upper =
     hottest_popped rows (rest_at is.probed.table) (is_cut_at is.probed.table) i most is.floor children left x is.are moved upper
 
--- a piece that is cut off is part of what is left at the row
-pub cutting_fits :
-    (rows : List ProblemRow) (heat rest : ℕ → ℕ) (bound i most : ℕ) (seen : Seen) (children : List Child) (x : Child) → IsForest rows
-    → i < length rows → (is : IsCutting rows heat rest bound i most seen children)
-    → IsPopped rows (rest_at is.probed.table) (is_cut_at is.probed.table) i x → x.rest ≤ rest i
-cutting_fits rows heat rest bound i most seen children x forest here is pop =
-    omega (
-      arith,
-      settled rows forest heat rest bound (i + 1) i seen is.probed i here (omega arith),
-      pop.rest_is,
-      rest_within_row rows forest is.probed.table bound i here is.probed.walked x.row.0 pop.inside pop.child pop.free,
-    )
-
 -- where the heap is empty, only the row's own heat is left
 pub cutting_empty :
     (rows : List ProblemRow) (heat rest : ℕ → ℕ) (bound i most : ℕ) (seen : Seen) (children : List Child) → IsForest rows

@@ -1,13 +1,19 @@
 -- The least sum above the bound that a walk has seen: with any bound below it the walk would have gone the same way.
-use Rattle.std.proofs.Common.{◌≡◌, ◌≢◌, ◌∙◌, ℕ, ◌+◌, ◌-◌, ◌<◌, ◌≤◌, ◌^◌, List, length, min, ap, sym, arith, ⊎_elim}
+use Rattle.std.proofs.Common.{◌≡◌, ◌≢◌, ◌∙◌, ℕ, ◌+◌, ◌<◌, ◌≤◌, false, List, length, min, ap, sym, arith, ⊎_elim}
 use Rattle.std.proofs.lemmas.Bool.{cases_eq, cases_lt, false_from_ne_true}
 use Rattle.mds_types.specs.declared.problem.ProblemRow.{ProblemRow}
 use Rattle.mds_types.specs.declared.cut_proof.Row.{Row}
 use Rattle.mds_types.specs.Problem.{IsForest}
 use Rattle.mds_types.specs.CutTable.{is_child, rest_at, price_at, is_cut_at}
 use Rattle.residual_cut.specs.Probing.{IsSeen}
-use Rattle.residual_cut.specs.Walk.{IsGivenRow, IsSameBut, IsWalked}
+use Rattle.residual_cut.specs.Walk.{IsGivenRow, IsWalked}
 use Rattle.residual_cut.proofs.WalkLemmas.{child_above, child_parent, one_parent}
+
+-- only row i's rest and price have changed, and whether its children are cut
+pub record IsSameBut (rows : List ProblemRow) (old new : List Row) (i : ℕ) : Type 0 where
+  pub rest : (v : ℕ) → v ≢ i → rest_at new v ≡ rest_at old v
+  pub price : (v : ℕ) → v ≢ i → price_at new v ≡ price_at old v
+  pub cut : (j : ℕ) → is_child rows i j ≡ false → is_cut_at new j ≡ is_cut_at old j
 
 -- at first nothing is cut
 pub seen_start :
@@ -80,14 +86,3 @@ walk_raise rows table bound bound2 above m s le less seen is = record {
     gathered = is.walk.gathered;
   };
 }
-
--- where something is cut, the least sum is above the bound
-pub above_more :
-    (bound cuts above count sum : ℕ) → (0 < cuts → bound < above) → (cuts ≡ 0 → above ≡ 2 ^ 64 - 1) → above < 2 ^ 64
-    → (0 < count → bound < sum) → (count ≡ 0 → sum ≡ 2 ^ 64 - 1) → sum < 2 ^ 64 → 0 < cuts + count → bound < min above sum
-above_more bound cuts above count sum a i f b j g some =
-    ⊎_elim
-    (λ (more : 0 < cuts).
-    ⊎_elim (λ (both : 0 < count). omega (arith, a more, b both)) (λ (old : count ≤ 0). omega (arith, a more, j (omega arith))) (cases_lt 0 count))
-    (λ (none : cuts ≤ 0). omega (arith, i (omega arith), b (omega arith)))
-    (cases_lt 0 cuts)

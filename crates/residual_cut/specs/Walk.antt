@@ -44,9 +44,3 @@ pub record IsGivenRow (old new : List Row) (parent i : ℕ) : Type 0 where
     cut = is_cut_at old parent;
   }
   pub other : (v : ℕ) → v ≢ parent → slice_index_or new v no_cut ≡ slice_index_or old v no_cut
-
--- only row i's rest and price have changed, and whether its children are cut
-pub record IsSameBut (rows : List ProblemRow) (old new : List Row) (i : ℕ) : Type 0 where
-  pub rest : (v : ℕ) → v ≢ i → rest_at new v ≡ rest_at old v
-  pub price : (v : ℕ) → v ≢ i → price_at new v ≡ price_at old v
-  pub cut : (j : ℕ) → is_child rows i j ≡ false → is_cut_at new j ≡ is_cut_at old j

@@ -91,8 +91,8 @@ fn cut_hot_row(
     Ok(())
 }
 
-/// Cuts the hottest children from row `i` until the rest is within the bound, or `most` rows are cut. Most
-/// rows are within the bound as they are.
+/// Cuts the hottest children from row `i` until the rest, which is `here`, is within the bound, or `most` rows
+/// are cut, and tells what is left. Most rows are within the bound as they are.
 #[inline(always)]
 fn cut_row(
     alloc: Global,
@@ -100,43 +100,78 @@ fn cut_row(
     trees: &Subtrees,
     rest: &mut [u64],
     i: usize,
+    here: u64,
     bound: u64,
     most: u32,
     seen: &mut Seen,
-) -> Result<(), AllocError>
+) -> Result<u64, AllocError>
     requires forest { IsForest rows.now }
     requires inside { i < length rows.now }
     requires trees { AreSubtrees rows.now trees.now }
     requires room { length rest.old ≡ length rows.now }
+    requires here { here ≡ slice_index rest.old i }
     requires cool { (v : ℕ) → v < length rows.now → heat_at rows.now v ≤ bound }
     requires few { seen.old.cuts < most }
     requires probed { IsProbed rows.now (slice_index trees.now.heat.items) (slice_index rest.old) bound (i + 1) (i + 1) seen.old }
     ensures room { length rest.new ≡ length rows.now }
     ensures probed { OnOk result (IsProbed rows.now (slice_index trees.now.heat.items) (slice_index rest.new) bound (i + 1) i seen.new) }
+    ensures left { IfOk result (λ left. left ≡ slice_index rest.new i) }
     ensures done { OnOk result (seen.new.cuts < most → slice_index rest.new i ≤ bound) }
 {
-    if rest[i] > bound {
-        return cut_hot_row(alloc, rows, trees, rest, i, bound, most, seen);
+    if here > bound {
+        cut_hot_row(alloc, rows, trees, rest, i, bound, most, seen)?;
+        return Ok(rest[i]);
     }
-    Ok(())
+    Ok(here)
 }
 
-/// What was cut off below row `i` is taken from its parent too.
+/// A row and what is left there, which is not read from memory again where the row comes next.
+#[derive(Clone, Copy)]
+struct Left {
+    row: usize,
+    rest: u64,
+}
+
+/// What is left at row `i`.
 #[inline(always)]
-fn take_from_parent(rows: &[ProblemRow], trees: &Subtrees, rest: &mut [u64], i: usize)
+fn rest_of(rest: &[u64], known: Left, i: usize) -> u64
+    requires inside { i < length rest.now }
+    requires known { known.rest ≡ slice_index rest.now known.row }
+    ensures { result ≡ slice_index rest.now i }
+{
+    if i == known.row { known.rest } else { rest[i] }
+}
+
+/// What was cut off below row `i`, where `left` is left, is taken from its parent too.
+#[inline(always)]
+fn take_from_parent(
+    rows: &[ProblemRow],
+    trees: &Subtrees,
+    rest: &mut [u64],
+    i: usize,
+    left: u64,
+) -> Left
     requires forest { IsForest rows.now }
     requires inside { i < length rows.now }
     requires deep { 0 < i }
     requires trees { AreSubtrees rows.now trees.now }
     requires room { length rest.old ≡ length rows.now }
+    requires left { left ≡ slice_index rest.old i }
     requires less { slice_index rest.old i ≤ slice_index trees.now.heat.items i }
     requires enough { slice_index trees.now.heat.items i - slice_index rest.old i ≤ slice_index rest.old (parent_at rows.now i) }
     ensures room { length rest.new ≡ length rows.now }
     ensures here { slice_index rest.new (parent_at rows.now i) ≡ slice_index rest.old (parent_at rows.now i)
         - (slice_index trees.now.heat.items i - slice_index rest.old i) }
     ensures other { (v : ℕ) → v ≢ parent_at rows.now i → slice_index rest.new v ≡ slice_index rest.old v }
+    ensures known { result.rest ≡ slice_index rest.new result.row }
 {
-    rest[rows[i].parent as usize] -= trees.heat[i] - rest[i];
+    let row = rows[i].parent as usize;
+    let rest_there = rest[row] - (trees.heat[i] - left);
+    rest[row] = rest_there;
+    Left {
+        row,
+        rest: rest_there,
+    }
 }
 
 /// Cuts rows from the last one up until each piece is within the bound, or `most` are cut.
@@ -168,15 +203,21 @@ fn probe_rows(
         above: u64::MAX,
         hottest: 0,
     };
+    let mut known = Left {
+        row: 0,
+        rest: rest[0],
+    };
     for k in 0..trees.hot.len() {
         let i = hot_row(rows, trees, k);
-        cut_row(alloc, rows, trees, rest, i, bound, most, &mut seen)?;
+        let here = rest_of(rest, known, i);
+        let left = cut_row(alloc, rows, trees, rest, i, here, bound, most, &mut seen)?;
         if seen.cuts >= most {
             return Ok(seen);
         }
-        take_from_parent(rows, trees, rest, i);
+        known = take_from_parent(rows, trees, rest, i, left);
     }
-    cut_row(alloc, rows, trees, rest, 0, bound, most, &mut seen)?;
+    let root = rest_of(rest, known, 0);
+    cut_row(alloc, rows, trees, rest, 0, root, bound, most, &mut seen)?;
     Ok(seen)
 }
 

@@ -12,6 +12,7 @@ loop-k-init c =
     (record { cuts = 0; above = 18446744073709551615; hottest = 0 }) in
     record {
       room = c.requires.room;
+      known = refl;
       few = c.requires.most;
       probed = subst P (sym (limit_first (length c.args.rows.now) c.args.trees.now.hot.items 0 refl))
           (probed_start c.args.rows.now (slice_index c.args.trees.now.heat.items) (slice_index c.args.rest.now) c.args.bound _
@@ -29,16 +30,16 @@ pub returns-then-seen-most-clause-more : goal.returns-then-seen-most-clause-more
 returns-then-seen-most-clause-more c =
     λ many.
     (probed_more c.args.rows.now (slice_index c.args.trees.now.heat.items) (slice_index c.cut_row.new.rest) c.args.bound c.hot_row-i.result
-    c.args.most c.cut_row.new.seen c.requires.forest c.hot_row-i.ensures.inside c.requires.most many c.in_ok-cut_row.ensures.probed).1
+    c.args.most c.cut_row.new.seen c.requires.forest c.hot_row-i.ensures.inside c.requires.most many c.in_ok-left.ensures.probed).1
 
-pub take_from_parent-requires-clause-less : goal.take_from_parent-requires-clause-less
-take_from_parent-requires-clause-less c = c.in_ok-cut_row.ensures.probed.less c.hot_row-i.result c.hot_row-i.ensures.inside
+pub take_from_parent-known-requires-clause-less : goal.take_from_parent-known-requires-clause-less
+take_from_parent-known-requires-clause-less c = c.in_ok-left.ensures.probed.less c.hot_row-i.result c.hot_row-i.ensures.inside
 
-pub take_from_parent-requires-clause-enough : goal.take_from_parent-requires-clause-enough
-take_from_parent-requires-clause-enough c =
+pub take_from_parent-known-requires-clause-enough : goal.take_from_parent-known-requires-clause-enough
+take_from_parent-known-requires-clause-enough c =
     enough_left c.args.rows.now (slice_index c.args.trees.now.heat.items) (slice_index c.cut_row.new.rest) c.args.bound c.hot_row-i.result
     (parent_at c.args.rows.now c.hot_row-i.result) c.cut_row.new.seen c.requires.forest c.hot_row-i.ensures.inside
-    c.hot_row-i.ensures.deep refl c.in_ok-cut_row.ensures.probed
+    c.hot_row-i.ensures.deep refl c.in_ok-left.ensures.probed
 
 pub loop-k-preserved : goal.loop-k-preserved
 loop-k-preserved c =
@@ -46,13 +47,14 @@ loop-k-preserved c =
     let next : limit_of (length c.args.rows.now) c.args.trees.now.hot.items (c.loop-k.k + 1) ≡ c.hot_row-i.result =
     limit_next (length c.args.rows.now) c.args.trees.now.hot.items c.loop-k.k ∙ sym c.hot_row-i.ensures.row in
     record {
-      room = c.take_from_parent.ensures.room;
+      room = c.take_from_parent-known.ensures.room;
+      known = c.take_from_parent-known.ensures.known;
       few = omega arith;
       probed = rw next
           (probed_given c.args.rows.now c.requires.forest (slice_index c.args.trees.now.heat.items) (slice_index c.cut_row.new.rest)
-          (slice_index c.take_from_parent.new.rest) c.args.bound i (parent_at c.args.rows.now c.hot_row-i.result) c.cut_row.new.seen
-          c.requires.trees.sums c.hot_row-i.ensures.inside c.hot_row-i.ensures.deep refl (c.in_ok-cut_row.ensures.done (omega arith))
-          c.in_ok-cut_row.ensures.probed c.take_from_parent.ensures.here c.take_from_parent.ensures.other);
+          (slice_index c.take_from_parent-known.new.rest) c.args.bound i (parent_at c.args.rows.now c.hot_row-i.result) c.cut_row.new.seen
+          c.requires.trees.sums c.hot_row-i.ensures.inside c.hot_row-i.ensures.deep refl (c.in_ok-left.ensures.done (omega arith))
+          c.in_ok-left.ensures.probed c.take_from_parent-known.ensures.here c.take_from_parent-known.ensures.other);
     }
 
 pub cut_row-requires-2-clause-probed : goal.cut_row-requires-2-clause-probed
@@ -67,11 +69,11 @@ cut_row-requires-2-clause-probed c =
 pub returns-clause-few : goal.returns-clause-few
 returns-clause-few c =
     λ few. (probed_end c.args.rows.now (slice_index c.args.trees.now.heat.items) (slice_index c.cut_row-2.new.rest) c.args.bound c.args.most
-    c.cut_row-2.new.seen c.requires.forest c.requires.some c.requires.cool (c.in_ok-cut_row-2.ensures.done few) few
-    c.in_ok-cut_row-2.ensures.probed).0
+    c.cut_row-2.new.seen c.requires.forest c.requires.some c.requires.cool (c.in_ok-cut_row.ensures.done few) few
+    c.in_ok-cut_row.ensures.probed).0
 
 pub returns-clause-more : goal.returns-clause-more
 returns-clause-more c =
     λ many.
     (probed_more c.args.rows.now (slice_index c.args.trees.now.heat.items) (slice_index c.cut_row-2.new.rest) c.args.bound 0 c.args.most
-    c.cut_row-2.new.seen c.requires.forest c.requires.some c.requires.most many c.in_ok-cut_row-2.ensures.probed).1
+    c.cut_row-2.new.seen c.requires.forest c.requires.some c.requires.most many c.in_ok-cut_row.ensures.probed).1
