@@ -1,5 +1,5 @@
 -- The cells follow the operations.
-use Rattle.std.proofs.Common.{◌≡◌, ℕ, add-one, zero, suc, ◌+◌, ◌-◌, ◌<◌, ◌≤◌, ◌≢◌, Bool, true, false, ◌||◌, ◌==◌, if◌then◌else◌, List, [], ◌∷◌, ◌++◌, length, get_or, take, append-nil, drop, set, replicate, refl, sym, ap, ◌∙◌, subst, arith, rules, fold, Option, Some, None, inl, inr, ⊎_elim, ◌⊎◌, get_or-set_other, get_or-set_same, eqb, slice_index}
+use Rattle.std.proofs.Common.{◌≡◌, ℕ, add-one, ◌+◌, ◌-◌, ◌<◌, ◌≤◌, ◌≢◌, Bool, true, false, ◌==◌, if◌then◌else◌, List, [], ◌∷◌, ◌++◌, length, get_or, take, append-nil, drop, set, replicate, refl, sym, ap, ◌∙◌, arith, Option, Some, None, slice_index}
 use Rattle.std.proofs.lemmas.Grind.{common_steps}
 use Rattle.std.proofs.lemmas.List.Sums.{fold-append}
 use Rattle.std.proofs.lemmas.List.{drop_all, take_all}

@@ -1,5 +1,5 @@
 -- Operations that were handed over, and those that wait.
-use Rattle.std.proofs.Common.{◌≡◌, ℕ, zero, suc, List, [], ◌∷◌, ◌++◌, All, refl, ap, sym, ◌∙◌, subst, arith, append-nil, append_assoc, fold, map}
+use Rattle.std.proofs.Common.{◌≡◌, zero, suc, List, [], ◌∷◌, ◌++◌, All, refl, ap, sym, ◌∙◌, subst, arith, append-nil, append_assoc, fold}
 use Rattle.std.proofs.lemmas.List.Elements.{All-append}
 use Rattle.authority_map.specs.Operations.{Operation}
 use Rattle.authority_map.specs.Changes.{Growth, changes}

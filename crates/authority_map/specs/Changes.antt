@@ -1,5 +1,5 @@
 -- What a change in memory stands for.
-use Rattle.std.specs.Prelude.{List, ◌++◌, ◌∷◌, [], map, Option, Some, None}
+use Rattle.std.specs.Prelude.{List, ◌∷◌, [], map, Option, Some, None}
 use Rattle.authority_map.specs.declared.change.What.{What}
 use Rattle.authority_map.specs.declared.change.What.TheVariants.{Set, Clear}
 use Rattle.authority_map.specs.Operations.{Operation}

@@ -16,6 +16,7 @@ pub struct Table<J: Naming> {
     cells: Vec<u8>,
     pub known: Known<J>,
     ghost kept: { AreCells cells.items known },
+    ghost sized: { length cells.items ≡ J.limit },
 }
 
 // Whether each directory has a cell.
@@ -44,7 +45,8 @@ fn cell_at(cells: &[u8], at: usize) -> u8
 
 impl<J: Naming> Table<J> {
     pub fn new(alloc: Global, limit: u32, known: Known<J>) -> Result<Table<J>, AllocError>
-        requires { known ≡ [] }
+        requires known { known ≡ [] }
+        requires limit { limit ≡ J.limit }
         ensures { IfOk result (λ t. t.known ≡ []) }
     {
         Ok(Table {

@@ -3,6 +3,7 @@
 //! `mdbal [--limit N] [--strict]`: what counts as such a line is `clap`'s own reading of it.
 #![tactic(auto)]
 
+pub mod laws;
 mod options_error;
 mod settings;
 #[cfg(test)]

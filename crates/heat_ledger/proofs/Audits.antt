@@ -1,9 +1,9 @@
 -- What the keeper learns while it has all that the shares have.
-use Rattle.std.proofs.Common.{◌≡◌, ℕ, ◌+◌, ◌-◌, ◌*◌, ◌≤◌, List, [], ◌∷◌, ◌++◌, sum_by, refl, sym, ap, ◌∙◌, true, ⊎_elim, arith}
+use Rattle.std.proofs.Common.{◌≡◌, ℕ, ◌+◌, ◌-◌, ◌*◌, ◌≤◌, List, [], ◌∷◌, ◌++◌, sum_by, refl, ap, ◌∙◌, true, ⊎_elim, arith}
 use Rattle.std.proofs.lemmas.List.Sums.{sum_by_push}
 use Rattle.heat_ledger.specs.declared.tally.Hand.{Hand}
-use Rattle.heat_ledger.specs.Rows.{at, sums}
-use Rattle.heat_ledger.specs.Tally.{most, all_parts, both_of, holding}
+use Rattle.heat_ledger.specs.Rows.{at}
+use Rattle.heat_ledger.specs.Tally.{most, both_of, holding}
 use Rattle.heat_ledger.specs.Ledger.{ShareData, hit_slot, begun_slot, laid_out, IsShare}
 use Rattle.heat_ledger.specs.Keeping.{IsAudited}
 use Rattle.heat_ledger.proofs.RowLemmas.{at_sums}

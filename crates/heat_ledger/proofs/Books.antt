@@ -1,5 +1,5 @@
 -- What a deposit and a begun request need of the book, and what they keep.
-use Rattle.std.proofs.Common.{◌≡◌, ◌≢◌, ℕ, ◌+◌, ◌*◌, ◌<◌, ◌≤◌, List, [], set, length, refl, sym, ap, ◌∙◌, true, ⊎_elim, arith}
+use Rattle.std.proofs.Common.{◌≡◌, ℕ, ◌+◌, ◌*◌, ◌<◌, ◌≤◌, List, [], set, length, refl, sym, ap, ◌∙◌, true, ⊎_elim, arith}
 use native.Mathlib.Decide.{ℕ_discrete}
 use Rattle.heat_ledger.specs.declared.tally.Hand.{Hand}
 use Rattle.heat_ledger.specs.Rows.{at, sums, raised}

@@ -3,9 +3,9 @@ use Rattle.std.proofs.Common.{◌≡◌, ℕ, zero, suc, ◌+◌, ◌-◌, ◌*�
 use Rattle.std.proofs.lemmas.List.Sums.{sum_by_push}
 use Rattle.std.proofs.lemmas.List.Elements.{All-append}
 use Rattle.heat_ledger.specs.declared.tally.Hand.{Hand}
-use Rattle.heat_ledger.specs.Rows.{at, sums}
+use Rattle.heat_ledger.specs.Rows.{at}
 use Rattle.heat_ledger.specs.Tally.{most, all_parts, both_of, after_issue, IsLearned}
-use Rattle.heat_ledger.specs.Ledger.{ShareData, IsClean, weight_of, hits_of, pending_of, begun_of, hit_slot, begun_slot, IsShare, IsBook}
+use Rattle.heat_ledger.specs.Ledger.{ShareData, IsClean, weight_of, hits_of, begun_of, hit_slot, begun_slot, IsShare, IsBook}
 use Rattle.heat_ledger.specs.Keeping.{IsGathered}
 use Rattle.heat_ledger.proofs.RowLemmas.{at_sums}
 

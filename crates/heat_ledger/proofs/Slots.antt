@@ -1,6 +1,6 @@
 -- The entries of a desk, which stand for directories.
-use Rattle.std.proofs.Common.{◌≡◌, ◌≢◌, ◌⊎◌, ℕ, zero, suc, ◌+◌, ◌-◌, ◌<◌, ◌≤◌, List, [], ◌∷◌, length, refl, ap, ◌∙◌, inl, inr, arith}
-use Rattle.heat_ledger.specs.Rows.{at, sums, differences}
+use Rattle.std.proofs.Common.{◌≡◌, ◌≢◌, ◌⊎◌, ℕ, zero, suc, ◌+◌, ◌-◌, List, [], ◌∷◌, refl, ap, inl, inr, arith}
+use Rattle.heat_ledger.specs.Rows.{at, differences}
 use Rattle.heat_ledger.specs.Ledger.{spread, laid_out, unit, hit_slot, begun_slot}
 use Rattle.heat_ledger.proofs.RowLemmas.{at_sums, at_differences}
 

@@ -1,5 +1,4 @@
 use Rattle.std.proofs.Common.{◌≡◌, ◌≤◌, [], All, vec_len, vec_capacity}
-use Rattle.left_right.specs.Handles.{published, pending}
 use Rattle.authority_map.proofs.map_writer.open_copies.Given as goal
 
 abbrev pub invariant-loop-made : goal.invariant-loop-made

@@ -1,8 +1,8 @@
-use Rattle.std.proofs.Common.{◌≡◌, ◌*◌, ◌≤◌, ℕ, [], ◌∷◌, ◌++◌, ◌∙◌, ap, rules, arith, subst, sym}
+use Rattle.std.proofs.Common.{◌≡◌, ◌*◌, ℕ, [], ◌∷◌, ◌++◌, ◌∙◌, ap, rules, arith, subst, sym}
 use Rattle.heat_ledger.specs.declared.tally.Hand.{Hand}
 use Rattle.heat_ledger.specs.Rows.{at}
-use Rattle.heat_ledger.specs.Tally.{most, both_of, holding}
-use Rattle.heat_ledger.specs.Ledger.{laid_out, IsShare}
+use Rattle.heat_ledger.specs.Tally.{most, both_of}
+use Rattle.heat_ledger.specs.Ledger.{IsShare}
 use Rattle.heat_ledger.proofs.RowLemmas.{at_sums}
 use Rattle.heat_ledger.proofs.Audits.{laid_amounts, laid_share, backed_both, rest_backed, audited_more}
 use Rattle.heat_ledger.proofs.auditing.+audit_all.Goals as goal

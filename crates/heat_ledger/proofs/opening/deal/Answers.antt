@@ -1,4 +1,4 @@
-use Rattle.std.proofs.Common.{◌≡◌, ◌+◌, ◌-◌, ℕ, suc, [], ◌∷◌, ◌++◌, All, replicate, vec_len, rules, sym, ap, ◌∙◌, subst, arith}
+use Rattle.std.proofs.Common.{◌≡◌, ◌+◌, ◌-◌, ℕ, suc, [], ◌∷◌, ◌++◌, All, replicate, vec_len, rules, ap, ◌∙◌, subst, arith}
 use Rattle.heat_ledger.specs.declared.tally.Hand.{Hand}
 use Rattle.heat_ledger.specs.Tally.{keeping, all_parts}
 use Rattle.heat_ledger.specs.Opening.{IsBlank, fresh_share}

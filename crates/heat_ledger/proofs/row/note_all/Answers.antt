@@ -1,4 +1,4 @@
-use Rattle.std.proofs.Common.{◌≡◌, ◌+◌, ◌<◌, ◌≤◌, ℕ, zero, suc, List, Bool, false, arith, rules, ap, sym, ◌∙◌, length}
+use Rattle.std.proofs.Common.{◌≡◌, ◌+◌, ◌<◌, ℕ, List, Bool, false, arith, rules, ap, sym, ◌∙◌, length}
 use native.Mathlib.Decide.{ℕ_discrete}
 use Rattle.heat_ledger.specs.Rows.{at}
 use Rattle.heat_ledger.specs.Touched.{IsUnmarked}

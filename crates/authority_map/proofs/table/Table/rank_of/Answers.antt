@@ -1,6 +1,5 @@
-use Rattle.std.proofs.Common.{ℕ, Option, Some, None, IsSome, IfSome, ◌≡◌, ◌∙◌, sym, ◌<◌, ◌-◌, ◌≤◌, arith, get_or, ap}
+use Rattle.std.proofs.Common.{ℕ, Option, Some, None, IsSome, IfSome, ◌≡◌, ◌∙◌, ◌<◌, ◌-◌, ◌≤◌, arith, get_or, ap}
 use Rattle.authority_map.specs.Operations.{rank_after}
-use Rattle.authority_map.specs.Cells.{cell_of}
 use Rattle.authority_map.proofs.CellLemmas.{rank_is, rank_none}
 use Rattle.authority_map.proofs.table.Table.rank_of.Goals as goal
 

@@ -1,4 +1,4 @@
-use Rattle.std.proofs.Common.{◌≡◌, ◌∙◌, sym, ◌<◌, ◌-◌, ◌+◌, ◌≤◌, ◌++◌, ◌∷◌, [], List, arith, get_or, ap, length, take, drop, rules}
+use Rattle.std.proofs.Common.{◌≡◌, ◌∙◌, ◌<◌, ◌++◌, ◌∷◌, [], List, arith, ap, length, rules}
 use Rattle.authority_map.specs.Operations.{Operation}
 use Rattle.authority_map.proofs.CellLemmas.{cells_set, cells_clear, whole_of}
 use Rattle.authority_map.proofs.table.TableAbsorbEntry.absorb_first.Goals as goal
@@ -14,6 +14,7 @@ invariant_of-self g c =
     record {
       kept = rw (whole, front, ← c.entry-inside.view_is, c.in-Set.is) (cells_set old new c.in-Set.dirs.items c.in-Set.rank c.args.self.now.known (rw (← c.number.ensures.value) c.number.ensures.small) c.args.self.now.kept
           (λ d. rw (← c.as_slice-in-Set.ensures.value, ← c.number.ensures.value, ← c.as_mut_slice.ensures.value) (c.write_all.ensures d)));
+      sized = rw whole (same ∙ c.args.self.now.sized);
     }
 
 pub invariant_of-self-in-Clear : goal.invariant_of-self-in-Clear
@@ -23,4 +24,4 @@ invariant_of-self-in-Clear g c =
     let here : c.entry.inside.before ≡ c.args.self.now.known = search rules in
     let got : c.copied-in-Clear.result ≡ c.entry.inside.after = search rules in
     let front : c.copied-in-Clear.result ≡ c.args.self.now.known ++ c.entry.inside.change ∷ [] = got ∙ c.entry.invariant ∙ ap (λ (l : List Operation). l ++ c.entry.inside.change ∷ []) here in
-    record { kept = rw (front, ← c.entry-inside.view_is, c.in-Clear.is, ← c.number-at.ensures) (cells_clear old c.number-at.result c.args.self.now.known within c.args.self.now.kept) }
+    record { kept = rw (front, ← c.entry-inside.view_is, c.in-Clear.is, ← c.number-at.ensures) (cells_clear old c.number-at.result c.args.self.now.known within c.args.self.now.kept); sized = search rules }

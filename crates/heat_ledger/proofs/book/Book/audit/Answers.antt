@@ -1,6 +1,6 @@
-use Rattle.std.proofs.Common.{◌≡◌, ◌-◌, [], ap, rules, arith, ◌∙◌}
+use Rattle.std.proofs.Common.{◌≡◌, [], ap, rules, arith, ◌∙◌}
 use Rattle.heat_ledger.specs.declared.tally.Hand.{Hand}
-use Rattle.heat_ledger.specs.Rows.{at, sums}
+use Rattle.heat_ledger.specs.Rows.{at}
 use Rattle.heat_ledger.specs.Tally.{after_issue}
 use Rattle.heat_ledger.proofs.RowLemmas.{at_sums}
 use Rattle.heat_ledger.proofs.Books.{same_book}

@@ -2,7 +2,7 @@ use Rattle.std.proofs.Common.{◌≡◌, ◌<◌, ◌∙◌, ℕ, List, length, 
 use Rattle.heat_ledger.specs.declared.tally.Hand.{Hand}
 use Rattle.heat_ledger.specs.Rows.{at, sums, raised}
 use Rattle.heat_ledger.specs.Tally.{holding, most}
-use Rattle.heat_ledger.specs.Ledger.{BookData, unit, begun_slot, IsShare, IsBook}
+use Rattle.heat_ledger.specs.Ledger.{BookData, unit, begun_slot, IsShare}
 use Rattle.heat_ledger.proofs.RowLemmas.{at_sums, at_within}
 use Rattle.heat_ledger.proofs.Shares.{begin_share}
 use Rattle.heat_ledger.proofs.Books.{begin_backed, begin_book_at, begin_fits}

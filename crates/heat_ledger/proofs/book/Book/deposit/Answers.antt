@@ -5,7 +5,7 @@ use Rattle.heat_ledger.specs.Tally.{holding}
 use Rattle.heat_ledger.specs.Ledger.{spread, IsShare, IsBook}
 use Rattle.heat_ledger.proofs.RowLemmas.{at_sums}
 use Rattle.heat_ledger.proofs.Shares.{deposit_share}
-use Rattle.heat_ledger.proofs.Books.{deposit_backed, deposit_book, deposit_fits}
+use Rattle.heat_ledger.proofs.Books.{deposit_backed, deposit_book}
 use Rattle.heat_ledger.proofs.book.Book.deposit.Goals as goal
 
 pub reissue-requires-clause-amounts : goal.reissue-requires-clause-amounts

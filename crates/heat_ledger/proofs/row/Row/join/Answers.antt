@@ -1,4 +1,4 @@
-use Rattle.std.proofs.Common.{◌≡◌, length, sym, ◌∙◌, ap}
+use Rattle.std.proofs.Common.{length, sym, ◌∙◌, ap}
 use Rattle.heat_ledger.proofs.RowLemmas.{sum_row}
 use Rattle.heat_ledger.proofs.row.Row.join.Goals as goal
 

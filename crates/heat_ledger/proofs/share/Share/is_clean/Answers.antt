@@ -1,4 +1,3 @@
-use Rattle.std.proofs.Common.{◌≡◌, ap}
 use Rattle.heat_ledger.proofs.share.Share.is_clean.Goals as goal
 
 pub returns : goal.returns

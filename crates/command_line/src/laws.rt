@@ -1,0 +1,33 @@
+//! What `clap`'s function makes of some lines that are written out.
+ghost use Rattle.std.specs.Prelude.{◌≡◌, ◌∷◌, [], codes, false, true};
+ghost use Rattle.clap.specs.Words.{fault_of};
+ghost use Rattle.clap.specs.declared.error.kind.ErrorKind.TheVariants.{DisplayHelp, ValueValidation};
+ghost use Rattle.command_line.specs.CommandLine.{is_strict, limit_of, mdbal};
+
+use mds_types::limits::DIR_LIMIT;
+
+/// A line without options is accepted, with the greatest limit, and isn't strict.
+pub fn no_options()
+    ensures accepted { fault_of mdbal (codes "mdbal" ∷ []) ≡ [] }
+    ensures limit { limit_of (codes "mdbal" ∷ []) ≡ DIR_LIMIT }
+    ensures strict { is_strict (codes "mdbal" ∷ []) ≡ false }
+{}
+
+/// A line with both options is accepted, with the limit that it names, and is strict.
+pub fn both_options()
+    ensures accepted { fault_of mdbal (codes "mdbal" ∷ codes "--limit" ∷ codes "2" ∷ codes "--strict" ∷ []) ≡ [] }
+    ensures limit { limit_of (codes "mdbal" ∷ codes "--limit" ∷ codes "2" ∷ codes "--strict" ∷ []) ≡ 2 }
+    ensures strict { is_strict (codes "mdbal" ∷ codes "--limit" ∷ codes "2" ∷ codes "--strict" ∷ []) ≡ true }
+{}
+
+/// Limits are 1 to 65536.
+pub fn limits()
+    ensures least { fault_of mdbal (codes "mdbal" ∷ codes "--limit" ∷ codes "0" ∷ []) ≡ ValueValidation ∷ [] }
+    ensures greatest { fault_of mdbal (codes "mdbal" ∷ codes "--limit" ∷ codes "65536" ∷ []) ≡ [] }
+    ensures past { fault_of mdbal (codes "mdbal" ∷ codes "--limit" ∷ codes "65537" ∷ []) ≡ ValueValidation ∷ [] }
+{}
+
+/// A line that asks for help has that as its one fault.
+pub fn help()
+    ensures { fault_of mdbal (codes "mdbal" ∷ codes "--help" ∷ []) ≡ DisplayHelp ∷ [] }
+{}
