@@ -1,21 +1,19 @@
 -- What an accepted event can rely on.
-use Rattle.std.proofs.Common.{◌≡◌, ◌≢◌, ℕ, zero, suc, ◌<◌, ◌≤◌, Bool, true, false, ◌&&◌, ◌||◌, not, eqb, ltb, leb, cond, List, [], ◌∷◌, ◌++◌, length, get_or, set, map, Option, Some, None, refl, sym, ap, ◌∙◌, subst, inl, inr, ◌⊎◌, arith}
-use Rattle.std.specs.Option.{is_some}
-use Rattle.std.specs.List.{slice_get, list_all}
+use Rattle.std.proofs.Common.{◌≡◌, ◌≢◌, ℕ, zero, suc, ◌<◌, true, false, not, eqb, List, [], ◌∷◌, length, get_or, map, Option, Some, None, sym, ap, ◌∙◌, inl, inr, arith}
+use Rattle.std.specs.List.{slice_get}
 use Rattle.std.proofs.lemmas.Bool.{cases_lt, cases_eq, leb-false, not-false}
 use Rattle.std.proofs.lemmas.List.{get_or-map, length-map, get_or_past}
 use Rattle.export_machine.specs.declared.exporter.ExporterState.TheVariants.{Freezing, Logged}
 use Rattle.export_machine.specs.declared.event.Request.{Request}
-use Rattle.export_machine.specs.declared.step_error.StepError.{StepError}
 use Rattle.export_machine.specs.Cluster.{World}
-use Rattle.export_machine.specs.Authority.{order_in, no_order, is_among, is_inside, from_of, to_of, exporter_of, authority, is_present, frozen_by, request_of, open_export}
-use Rattle.export_machine.specs.Step.{Event, refusal, causes, when, is_before_log, is_freezing, is_logged, is_running, held_at, history_limit, not_yet, running_on}
-use Rattle.export_machine.specs.Step.Event.{Begin, End, Start, Deliver, Froze, Notify, Abort}
+use Rattle.export_machine.specs.Authority.{order_in, no_order, from_of, to_of, exporter_of, authority, is_present, frozen_by, request_of, open_export}
+use Rattle.export_machine.specs.Step.{Event, refusal, causes, is_before_log, is_freezing, is_logged, is_running, not_yet, running_on}
+use Rattle.export_machine.specs.Step.Event.{Begin, End, Deliver, Froze, Notify, Abort}
 use Rattle.export_machine.specs.View.{IsReached}
 use Rattle.export_machine.specs.Kept.{order_of}
 use Rattle.export_machine.proofs.Safe.{Safe}
 use Rattle.export_machine.proofs.Lookups.{authority_is, or_else_none}
-use Rattle.export_machine.proofs.Events.{NoneOf, none_of, not_refused, there_near, freezing_is, logged_is, served, held_free, not_stopped, busy_none, is_here}
+use Rattle.export_machine.proofs.Events.{not_refused, there_near, freezing_is, logged_is, held_free, not_stopped, busy_none}
 use Rattle.export_machine.proofs.Theorem.{not_refused_causes}
 use Rattle.export_machine.proofs.Reached.{by_safe}
 use Rattle.export_machine.proofs.Found.{orders_by}

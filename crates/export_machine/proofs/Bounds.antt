@@ -1,5 +1,5 @@
 -- Counts that every event keeps within the count of events.
-use Rattle.std.proofs.Common.{◌≡◌, ◌≢◌, ℕ, zero, suc, ◌+◌, ◌<◌, ◌≤◌, Bool, true, false, ◌&&◌, not, cond, Vec, List, [], ◌∷◌, ◌++◌, length, get_or, set, map, Option, Some, None, Ok, Err, Result, refl, sym, ap, ◌∙◌, subst, inl, inr, ◌⊎◌, arith}
+use Rattle.std.proofs.Common.{◌≡◌, ℕ, zero, suc, ◌+◌, ◌<◌, ◌≤◌, Bool, true, false, ◌&&◌, cond, Vec, List, [], ◌∷◌, ◌++◌, length, get_or, set, map, Option, Some, None, Ok, Err, Result, refl, sym, ap, ◌∙◌, subst, inl, inr, arith}
 use Rattle.std.proofs.lemmas.Bool.{and_parts, cases_eq}
 use Rattle.std.specs.List.{slice_get}
 use Rattle.std.specs.Result.{OnOk}
@@ -16,12 +16,12 @@ use Rattle.export_machine.specs.declared.step_error.StepError.{StepError}
 use Rattle.export_machine.specs.declared.records.Records.{Records}
 use Rattle.export_machine.specs.Cluster.{Order, World}
 use Rattle.export_machine.specs.Authority.{no_order, order_in, exporter_of, importer_of, is_stopped, authority, open_export}
-use Rattle.export_machine.specs.Step.{Event, Outcome, refusal, happens, step, answered, counted, comes, delivered, ignored, receiver, discover_comes, discover_ack_comes, prep_comes, prep_ack_comes, export_comes, export_ack_comes, finish_comes, cancel_comes, query_comes, repeats, journaled_by, restarts, changed}
+use Rattle.export_machine.specs.Step.{Event, Outcome, refusal, happens, step, counted, comes, delivered, ignored, receiver, discover_comes, discover_ack_comes, prep_comes, prep_ack_comes, export_comes, export_ack_comes, finish_comes, cancel_comes, query_comes, repeats, journaled_by, restarts, changed}
 use Rattle.export_machine.specs.Step.Event.{Begin, End, Start, Deliver, Froze, Notify, Abort, Stop, Restart, Ask}
-use Rattle.export_machine.specs.View.{IsReached, IsAnswer}
-use Rattle.export_machine.specs.Kept.{world_of, indexes_of, IsKept, IsIndexed, Indexes, has_room, has_places, has_list_places, has_spare, is_spare, entered_at, is_ready, is_ready_entry, is_ready_list, state_of}
+use Rattle.export_machine.specs.View.{IsReached}
+use Rattle.export_machine.specs.Kept.{world_of, indexes_of, IsKept, IsIndexed, has_room, has_places, has_list_places, has_spare, is_spare, entered_at, is_ready, is_ready_entry, is_ready_list, state_of}
 use Rattle.export_machine.proofs.Views.{push_same, push_other, length_push, map_at_length}
-use Rattle.export_machine.proofs.Frame.{Framed, unframed, delivered_frame}
+use Rattle.export_machine.proofs.Frame.{Framed, delivered_frame}
 use Rattle.export_machine.proofs.Reached.{reached_step}
 use Rattle.export_machine.proofs.Accepted.{room_left, made_few}
 use Rattle.export_machine.proofs.Starting.{start_distinct}

@@ -1,16 +1,16 @@
 -- What the tables by directory find: what freezes a directory, and who serves it.
-use Rattle.std.proofs.Common.{◌≡◌, ◌≢◌, ℕ, zero, suc, ◌<◌, Bool, true, false, ◌&&◌, ◌||◌, not, eqb, cond, List, [], ◌∷◌, length, Option, Some, None, refl, sym, ap, ◌∙◌, subst, inl, inr, ◌⊎◌, arith}
+use Rattle.std.proofs.Common.{◌≡◌, ◌≢◌, ℕ, zero, suc, ◌<◌, Bool, true, false, ◌&&◌, ◌||◌, not, eqb, length, Option, Some, None, refl, sym, ap, ◌∙◌, subst, inl, inr, ◌⊎◌, arith}
 use Rattle.std.proofs.lemmas.Bool.{cases_lt, and_from, and_parts, cases_Bool, cases_eq, not-true, or_cases, or_left, or_parts, or_right}
 use Rattle.export_machine.specs.declared.exporter.ExporterState.{ExporterState}
 use Rattle.export_machine.specs.declared.importer.ImporterState.{ImporterState}
 use Rattle.export_machine.specs.declared.exporter.ExporterState.TheVariants.{Discovering, Freezing, Preparing, Exporting, Logged, Done, Aborted}
 use Rattle.export_machine.specs.Cluster.{World}
-use Rattle.export_machine.specs.Authority.{is_inside, from_of, to_of, exporter_of, importer_of, named_of, owns, IsAuthority, authority, any_below, first_below, or_else, is_holding, is_open, open_export, is_held_in, is_taking_over, serves, frozen_by}
+use Rattle.export_machine.specs.Authority.{is_inside, from_of, to_of, exporter_of, importer_of, named_of, owns, IsAuthority, authority, any_below, first_below, is_holding, is_open, open_export, is_held_in, is_taking_over, serves, frozen_by}
 use Rattle.export_machine.specs.View.{IsReached}
 use Rattle.export_machine.proofs.Owning.{Phase, is_moving, is_over, place}
 use Rattle.export_machine.proofs.Owning.Phase.{Early, Held, Moving, Told, Over}
 use Rattle.export_machine.proofs.Safe.{Safe, phase_by, phase_of}
-use Rattle.export_machine.proofs.Lookups.{itself, any_none, any_some, any_here, first_none, first_some, inside_near, authority_is, open_over, taking_over, takes_over, no_open, one_authority, moving_open}
+use Rattle.export_machine.proofs.Lookups.{itself, any_some, any_here, first_none, first_some, inside_near, authority_is, open_over, taking_over, takes_over, no_open, one_authority, moving_open}
 use Rattle.export_machine.proofs.Authorities.{authority_found, found_or_not}
 use Rattle.export_machine.proofs.Walks.{authority_near}
 use Rattle.export_machine.proofs.Reached.{by_safe}

@@ -1,21 +1,18 @@
 -- How the tables by directory follow a directory that is made or removed, and an export that starts.
-use Rattle.std.proofs.Common.{◌≡◌, ◌≢◌, ℕ, zero, suc, ◌+◌, ◌-◌, ◌<◌, ◌≤◌, Bool, true, false, ◌&&◌, ◌||◌, not, eqb, cond, List, [], ◌∷◌, ◌++◌, length, get_or, set, Option, Some, None, refl, sym, ap, ◌∙◌, subst, inl, inr, ◌⊎◌, arith}
-use Rattle.std.specs.List.{list_all}
+use Rattle.std.proofs.Common.{◌≡◌, ◌≢◌, ℕ, zero, suc, ◌+◌, ◌-◌, ◌<◌, ◌≤◌, Bool, true, false, ◌&&◌, not, eqb, cond, List, [], ◌∷◌, ◌++◌, length, get_or, set, Some, None, refl, sym, ap, ◌∙◌, subst, inl, inr, arith}
 use Rattle.std.specs.Prelude.{replicate}
 use Rattle.std.proofs.Math.Logic.{∥∥₁_elim}
 use Rattle.std.proofs.lemmas.Bool.{cases_lt, cases_eq, ne_eqb}
 use Rattle.std.proofs.lemmas.List.{get_or-set_same, get_or-set_other, get_or_past, length-set}
 use Rattle.export_machine.specs.declared.journal.JournalEntry.{JournalEntry}
 use Rattle.export_machine.specs.declared.event.Request.{Request}
-use Rattle.export_machine.specs.declared.message.Message.{Message}
 use Rattle.export_machine.specs.Cluster.{World}
-use Rattle.export_machine.specs.Authority.{is_among, is_present, authority, open_export, owns, request_of, frozen_by}
-use Rattle.export_machine.specs.Step.{Event, refusal, run, start, journals, is_child, not_yet, running_on}
+use Rattle.export_machine.specs.Authority.{authority, open_export, owns, request_of}
+use Rattle.export_machine.specs.Step.{start, journals, is_child, not_yet, running_on}
 use Rattle.export_machine.specs.View.{IsReached}
 use Rattle.export_machine.specs.Kept.{Indexes, IsIndexed, count_at, children_of}
-use Rattle.export_machine.proofs.Owning.{is_over}
 use Rattle.export_machine.proofs.Views.{push_same, push_other, length_push}
-use Rattle.export_machine.proofs.Safe.{Safe, phase_of}
+use Rattle.export_machine.proofs.Safe.{Safe}
 use Rattle.export_machine.proofs.Lookups.{itself, authority_is, no_open, free_owner}
 use Rattle.export_machine.proofs.Events.{no_requests, elsewhere_dir}
 use Rattle.export_machine.proofs.Tidy.{Tidy, run_tidy, start_tidy}

@@ -1,6 +1,6 @@
 -- What a stop and a restart leave of the states.
-use Rattle.std.proofs.Common.{◌≡◌, ◌≢◌, ℕ, zero, suc, ◌+◌, ◌<◌, ◌≤◌, Bool, true, false, ◌&&◌, ◌||◌, not, eqb, cond, List, [], ◌∷◌, length, get_or, set, map, Option, Some, None, refl, sym, ap, ◌∙◌, subst, inl, inr, ◌⊎◌, arith}
-use Rattle.std.proofs.lemmas.Bool.{cases_Bool, eqb-true, leb-false}
+use Rattle.std.proofs.Common.{◌≡◌, ◌≢◌, ℕ, ◌<◌, Bool, true, false, eqb, cond, List, length, set, None, refl, sym, ap, ◌∙◌, subst, inl, inr, ◌⊎◌, arith}
+use Rattle.std.proofs.lemmas.Bool.{eqb-true, leb-false}
 use Rattle.export_machine.specs.declared.exporter.ExporterState.{ExporterState}
 use Rattle.export_machine.specs.declared.importer.ImporterState.{ImporterState}
 use Rattle.export_machine.specs.declared.journal.JournalEntry.{JournalEntry}
@@ -8,7 +8,7 @@ use Rattle.export_machine.specs.declared.exporter.ExporterState.TheVariants.{Dis
 use Rattle.export_machine.specs.declared.importer.ImporterState.TheVariants.{Unknown, Discovered, Prepared, Started, Imported, Dropped}
 use Rattle.export_machine.specs.Cluster.{World}
 use Rattle.export_machine.specs.Authority.{from_of, to_of, exporter_of, importer_of, has, authority, open_export}
-use Rattle.export_machine.specs.Step.{Event, refusal, causes, map_at, is_before_log, exporter_at_stop, importer_at_stop, exporter_by_journal, importer_by_journal, ends_at, stops, restarts}
+use Rattle.export_machine.specs.Step.{refusal, causes, map_at, is_before_log, exporter_at_stop, importer_at_stop, exporter_by_journal, importer_by_journal, ends_at, stops, restarts}
 use Rattle.export_machine.specs.Step.Event.{Stop, Restart}
 use Rattle.export_machine.specs.View.{IsReached}
 use Rattle.export_machine.specs.Kept.{Indexes, IsIndexed}

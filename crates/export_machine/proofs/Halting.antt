@@ -1,5 +1,5 @@
 -- Tables that a loop changes place by place.
-use Rattle.std.proofs.Common.{◌≡◌, ◌≢◌, ℕ, zero, suc, ◌+◌, ◌<◌, ◌≤◌, Bool, true, false, ◌&&◌, ◌||◌, not, eqb, ltb, cond, List, [], ◌∷◌, ◌++◌, length, get_or, set, take, map, Option, Some, None, refl, sym, ap, ◌∙◌, subst, inl, inr, ◌⊎◌, arith}
+use Rattle.std.proofs.Common.{◌≡◌, ℕ, zero, suc, ◌+◌, ◌<◌, ◌≤◌, Bool, true, false, ◌||◌, cond, List, [], ◌∷◌, length, get_or, set, take, refl, sym, ap, ◌∙◌, arith}
 use Rattle.export_machine.specs.declared.importer.ImporterState.{ImporterState}
 use Rattle.export_machine.specs.declared.importer.ImporterState.TheVariants.{Dropped}
 use Rattle.export_machine.specs.declared.journal.JournalEntry.{JournalEntry}

@@ -1,7 +1,6 @@
 -- How the tables by directory follow each event.
-use Rattle.std.proofs.Common.{◌≡◌, ◌≢◌, ℕ, zero, suc, ◌+◌, ◌-◌, ◌<◌, ◌≤◌, Bool, true, false, ◌&&◌, ◌||◌, not, eqb, cond, List, [], ◌∷◌, ◌++◌, length, get_or, set, Option, Some, None, refl, sym, ap, ◌∙◌, subst, inl, inr, ◌⊎◌, arith}
+use Rattle.std.proofs.Common.{◌≡◌, ◌≢◌, ℕ, zero, suc, ◌+◌, ◌-◌, ◌<◌, ◌≤◌, Bool, true, false, ◌&&◌, ◌||◌, not, eqb, cond, List, [], ◌∷◌, ◌++◌, length, get_or, set, Option, Some, None, refl, sym, ap, ◌∙◌, inl, inr, ◌⊎◌, arith}
 use Rattle.std.specs.Prelude.{count_by, replicate}
-use Rattle.std.specs.List.{slice_get}
 use Rattle.std.proofs.lemmas.Bool.{cases_lt, and_parts, cases_Bool, cases_eq, eqb-true, not-true}
 use Rattle.std.proofs.lemmas.List.{get_or-set_same, get_or-set_other, get_or_past, length-set}
 use Rattle.export_machine.specs.declared.exporter.ExporterState.{ExporterState}
@@ -10,27 +9,17 @@ use Rattle.export_machine.specs.declared.journal.JournalEntry.{JournalEntry}
 use Rattle.export_machine.specs.declared.event.Request.{Request}
 use Rattle.export_machine.specs.declared.message.Message.{Message}
 use Rattle.export_machine.specs.declared.exporter.ExporterState.TheVariants.{Discovering, Freezing, Preparing, Exporting, Logged, Done, Aborted}
-use Rattle.export_machine.specs.declared.importer.ImporterState.TheVariants.{Unknown, Discovered, Prepared, Started, Imported, Dropped}
-use Rattle.export_machine.specs.declared.message.Message.TheVariants.{Discover, DiscoverAck, Prep, PrepAck, ExportAck, Finish, Cancel, Query}
 use Rattle.export_machine.specs.Cluster.{Order, World}
-use Rattle.export_machine.specs.Authority.{no_order, is_among, is_inside, from_of, to_of, exporter_of, importer_of, named_of, journal_of, has, owns, owned_after, is_same, authority, first_below, is_open, is_aborted, open_export, runs_on, request_of}
-use Rattle.export_machine.specs.Step.{Event, happens, causes, refusal, running_on, map_at, exporter_to, importer_to, journals, names_importer, is_before_log, is_started, is_child, is_freezing}
-use Rattle.export_machine.specs.Step.Event.{Begin, End, Start, Deliver, Froze, Notify, Abort}
+use Rattle.export_machine.specs.Authority.{no_order, is_among, is_inside, from_of, to_of, exporter_of, importer_of, named_of, has, is_same, authority, first_below, is_open, is_aborted, open_export, runs_on}
+use Rattle.export_machine.specs.Step.{running_on, map_at, exporter_to, journals, is_before_log, is_child}
 use Rattle.export_machine.specs.View.{IsReached}
-use Rattle.export_machine.specs.Kept.{Indexes, IsIndexed, children_of, count_at}
-use Rattle.export_machine.proofs.Owning.{Phase, is_moving, is_over, place}
-use Rattle.export_machine.proofs.Tables.{together, is_imported}
-use Rattle.export_machine.proofs.Views.{push_same, push_other, map_at_get, map_at_past, map_at_length, has_adds, owns_at, owns_other, not_past}
-use Rattle.export_machine.proofs.Safe.{Safe, phase_by, phase_of, exporter_at, exporter_phases, importer_at, importer_phases, aborted_safe, early_safe, notify_safe, started_safe, dropped_safe, imported_safe, log_safe, same_phase, message_of}
-use Rattle.export_machine.proofs.Lookups.{itself, first_none, first_some, inside_near, open_over, no_open}
-use Rattle.export_machine.proofs.Authorities.{found_or_not}
-use Rattle.export_machine.proofs.Walks.{quiet_authority, logged_inside, logged_outside}
-use Rattle.export_machine.proofs.Owners.{finish_authority, made_authority, made_others_authority, gone_authority, gone_others_authority, start_authority}
-use Rattle.export_machine.proofs.Events.{NoneOf, not_refused, there_near, freezing_is}
-use Rattle.export_machine.proofs.Theorem.{not_refused_causes}
-use Rattle.export_machine.proofs.Reached.{by_safe}
+use Rattle.export_machine.specs.Kept.{Indexes, IsIndexed, count_at}
+use Rattle.export_machine.proofs.Owning.{is_over, place}
+use Rattle.export_machine.proofs.Views.{map_at_get, map_at_past, map_at_length, has_adds}
+use Rattle.export_machine.proofs.Safe.{Safe, phase_by, phase_of}
+use Rattle.export_machine.proofs.Lookups.{itself, open_over}
 use Rattle.export_machine.proofs.Lists.{running_begun, running_ended, runs_here}
-use Rattle.export_machine.proofs.Found.{options_by, orders_by, first_is_none, first_is, first_same, open_is, Safely, options_safely, orders_safely}
+use Rattle.export_machine.proofs.Found.{orders_by, first_is_none, first_same, Safely, options_safely, orders_safely}
 
 -- authorities and open exports stay, requests and parents too
 pub same_indexed : (w v : World) (i : Indexes) → IsIndexed w i → ((d : ℕ) → authority v d ≡ authority w d) → ((d : ℕ) → open_export v d ≡ open_export w d) →

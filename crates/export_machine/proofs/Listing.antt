@@ -1,13 +1,12 @@
 -- Lists of directories and their marks.
-use Rattle.std.proofs.Common.{◌≡◌, ◌≢◌, ℕ, zero, suc, ◌+◌, ◌<◌, ◌≤◌, Bool, true, false, ◌||◌, ◌&&◌, not, eqb, List, [], ◌∷◌, ◌++◌, length, get_or, set, take, drop, Option, Some, None, is_some, refl, sym, ap, ◌∙◌, subst, inl, inr, ◌⊎◌, arith}
+use Rattle.std.proofs.Common.{◌≡◌, ℕ, zero, suc, ◌+◌, ◌<◌, Bool, true, false, ◌||◌, eqb, List, [], ◌∷◌, ◌++◌, length, get_or, set, take, Option, None, is_some, refl, sym, ap, ◌∙◌, inl, inr, arith}
 use Rattle.std.specs.List.{list_all}
-use Rattle.std.specs.Prelude.{count_by, replicate}
-use Rattle.std.proofs.lemmas.Bool.{cases_lt, and_parts, cases_Bool, cases_eq, eqb-true, false≢true, ne_eqb, or_cases, or_from, or_left, or_right}
-use Rattle.std.proofs.lemmas.List.{get_or-set_same, get_or-set_other, get_or_past, length-set}
+use Rattle.std.specs.Prelude.{replicate}
+use Rattle.std.proofs.lemmas.Bool.{cases_lt, and_parts, cases_Bool, cases_eq, false≢true, ne_eqb, or_cases, or_from, or_left, or_right}
+use Rattle.std.proofs.lemmas.List.{get_or-set_same, get_or-set_other, get_or_past}
 use Rattle.export_machine.specs.Authority.{is_among}
-use Rattle.export_machine.specs.Step.{repeats, parent_among}
-use Rattle.export_machine.specs.Kept.{is_listed, parent_marked}
-use Rattle.export_machine.proofs.Lookups.{itself}
+use Rattle.export_machine.specs.Step.{repeats}
+use Rattle.export_machine.specs.Kept.{is_listed}
 use Rattle.export_machine.proofs.Lists.{among_push, push_new, take_next, not_before}
 
 -- members of a part of the list

@@ -1,5 +1,5 @@
 -- What the reads of a world say where the invariant holds.
-use Rattle.std.proofs.Common.{◌≡◌, ℕ, zero, suc, ◌<◌, Bool, true, false, ◌&&◌, ◌||◌, not, eqb, cond, [], length, Option, Some, None, refl, sym, ap, ◌∙◌, inl, inr, ◌⊎◌, arith}
+use Rattle.std.proofs.Common.{◌≡◌, ℕ, zero, suc, ◌<◌, Bool, true, false, ◌&&◌, ◌||◌, not, eqb, cond, [], length, Option, Some, None, refl, sym, ap, ◌∙◌, inl, inr, arith}
 use Rattle.export_machine.specs.declared.exporter.ExporterState.{ExporterState}
 use Rattle.export_machine.specs.declared.importer.ImporterState.{ImporterState}
 use Rattle.export_machine.specs.declared.journal.JournalEntry.{JournalEntry}

@@ -1,10 +1,9 @@
 -- Tables in which a list of directories gets the same value.
-use Rattle.std.proofs.Common.{◌≡◌, ℕ, zero, suc, ◌+◌, ◌<◌, ◌≤◌, Bool, true, false, ◌||◌, eqb, cond, List, [], ◌∷◌, ◌++◌, length, get_or, set, take, refl, sym, ap, ◌∙◌, arith}
+use Rattle.std.proofs.Common.{◌≡◌, ℕ, zero, suc, ◌+◌, ◌<◌, ◌≤◌, Bool, true, ◌||◌, eqb, cond, List, [], ◌∷◌, length, get_or, set, take, refl, sym, ap, ◌∙◌, arith}
 use Rattle.std.proofs.lemmas.List.{take_all}
 use Rattle.export_machine.specs.Authority.{is_among}
 use Rattle.export_machine.specs.Step.{map_at}
 use Rattle.export_machine.proofs.Views.{map_at_length}
-use Rattle.export_machine.proofs.Lookups.{itself}
 use Rattle.export_machine.proofs.Lists.{among_push, take_next, among_at}
 
 pub map_at_same : {A B : Type 0} (f g : ℕ → A → B) → ((k : ℕ) (a : A) → f k a ≡ g k a) → (xs : List A) → map_at f xs ≡ map_at g xs

@@ -1,15 +1,13 @@
 -- What a rank can rely on where a message comes.
-use Rattle.std.proofs.Common.{◌≡◌, ℕ, ◌<◌, true, List, [], ◌∷◌, ◌++◌, length, get_or, map, Some, refl, sym, ap, ◌∙◌, subst, arith}
+use Rattle.std.proofs.Common.{◌≡◌, ◌<◌, length, get_or, arith}
 use Rattle.std.proofs.lemmas.List.{length-map}
 use Rattle.export_machine.specs.declared.message.Message.{Message}
 use Rattle.export_machine.specs.declared.records.Records.{Records}
-use Rattle.export_machine.specs.Cluster.{World}
 use Rattle.export_machine.specs.Authority.{from_of, to_of}
-use Rattle.export_machine.specs.Kept.{order_of, world_of, has_place, CanReceive}
+use Rattle.export_machine.specs.Kept.{world_of, CanReceive}
 use Rattle.export_machine.proofs.Tables.{about}
-use Rattle.export_machine.proofs.Safe.{Safe}
 use Rattle.export_machine.proofs.Found.{orders_by}
-use Rattle.export_machine.proofs.Accepted.{as_order, as_exporter, as_importer, exporter_rank, importer_rank, from_here, to_here}
+use Rattle.export_machine.proofs.Accepted.{as_order, as_importer, exporter_rank, importer_rank, from_here, to_here}
 use Rattle.mds_types.specs.declared.order.Order.{Order as Moved}
 
 module _ (r : Records) (m : Message) (can : CanReceive r m) where

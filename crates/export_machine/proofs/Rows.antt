@@ -1,29 +1,26 @@
 -- How the tables by directory follow each message.
-use Rattle.std.proofs.Common.{◌≡◌, ◌≢◌, ℕ, zero, suc, ◌+◌, ◌<◌, ◌≤◌, Bool, true, false, ◌&&◌, ◌||◌, not, eqb, cond, List, [], ◌∷◌, ◌++◌, length, get_or, set, Option, Some, None, refl, sym, ap, ◌∙◌, subst, inl, inr, ◌⊎◌, arith}
+use Rattle.std.proofs.Common.{◌≡◌, ◌≢◌, ℕ, ◌<◌, Bool, true, false, ◌&&◌, ◌||◌, not, eqb, cond, List, length, get_or, Some, None, refl, sym, ap, ◌∙◌, inl, inr, arith}
 use Rattle.std.proofs.lemmas.Bool.{cases_eq}
 use Rattle.std.specs.List.{slice_get}
-use Rattle.std.proofs.lemmas.List.{get_or-set_same, get_or-set_other, get_or_past, length-set}
 use Rattle.export_machine.specs.declared.exporter.ExporterState.{ExporterState}
 use Rattle.export_machine.specs.declared.importer.ImporterState.{ImporterState}
 use Rattle.export_machine.specs.declared.journal.JournalEntry.{JournalEntry}
 use Rattle.export_machine.specs.declared.message.Message.{Message}
-use Rattle.export_machine.specs.declared.exporter.ExporterState.TheVariants.{Discovering, Freezing, Preparing, Exporting, Logged, Done, Aborted}
+use Rattle.export_machine.specs.declared.exporter.ExporterState.TheVariants.{Exporting, Logged, Done, Aborted}
 use Rattle.export_machine.specs.declared.importer.ImporterState.TheVariants.{Unknown, Discovered, Prepared, Started, Imported, Dropped}
-use Rattle.export_machine.specs.declared.message.Message.TheVariants.{Discover, DiscoverAck, Prep, PrepAck, ExportAck, Finish, Cancel, Query}
+use Rattle.export_machine.specs.declared.message.Message.TheVariants.{ExportAck, Finish, Cancel}
 use Rattle.export_machine.specs.Cluster.{World}
-use Rattle.export_machine.specs.Authority.{is_inside, from_of, to_of, exporter_of, importer_of, named_of, has, owns, owned_after, is_same, authority, is_open, is_aborted, open_export}
-use Rattle.export_machine.specs.Step.{map_at, exporter_to, importer_to, journals, names_importer, is_started, ignored, discover_comes, discover_ack_comes, prep_comes, prep_ack_comes, export_comes, export_ack_comes, finish_comes, cancel_comes, query_comes}
+use Rattle.export_machine.specs.Authority.{is_inside, from_of, to_of, exporter_of, importer_of, has, owns, owned_after, is_same, authority, is_open, is_aborted, open_export}
+use Rattle.export_machine.specs.Step.{map_at, exporter_to, importer_to, journals, names_importer, is_started}
 use Rattle.export_machine.specs.View.{IsReached}
 use Rattle.export_machine.specs.Kept.{Indexes, IsIndexed}
-use Rattle.export_machine.proofs.Owning.{Phase, is_moving, is_over}
-use Rattle.export_machine.proofs.Tables.{together, is_imported, about}
+use Rattle.export_machine.proofs.Owning.{is_moving, is_over}
 use Rattle.export_machine.proofs.Views.{map_at_length, has_adds, owns_at, owns_other, not_past}
-use Rattle.export_machine.proofs.Safe.{Safe, phase_by, phase_of, exporter_at, exporter_phases, importer_at, importer_phases, started_safe, dropped_safe, imported_safe, notify_safe, same_phase, message_of}
+use Rattle.export_machine.proofs.Safe.{Safe, phase_by, phase_of, exporter_at, exporter_phases, importer_at, importer_phases, started_safe, dropped_safe, notify_safe, same_phase}
 use Rattle.export_machine.proofs.Lookups.{itself}
 use Rattle.export_machine.proofs.Deliver.{ack_started}
 use Rattle.export_machine.proofs.Walks.{quiet_authority, logged_inside, logged_outside}
 use Rattle.export_machine.proofs.Owners.{finish_authority}
-use Rattle.export_machine.proofs.Reached.{by_safe}
 use Rattle.export_machine.proofs.Found.{options_by, orders_by}
 use Rattle.export_machine.proofs.Indexing.{same_indexed, open_stays, exporter_open, entry_open, inside_there, marked, shut_opened}
 

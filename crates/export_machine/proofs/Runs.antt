@@ -1,15 +1,13 @@
 -- One event after the other, and what holds then.
-use Rattle.std.proofs.Common.{◌≡◌, ◌≢◌, ℕ, zero, suc, ◌+◌, ◌<◌, ◌≤◌, true, List, [], ◌∷◌, ◌++◌, length, get_or, take, map, Ok, Err, Result, refl, sym, ap, ◌∙◌, subst, inl, inr, arith}
+use Rattle.std.proofs.Common.{◌≡◌, ◌≢◌, ℕ, zero, suc, ◌+◌, ◌<◌, true, List, [], ◌∷◌, ◌++◌, length, get_or, take, map, Ok, Err, Result, refl, sym, ap, ◌∙◌, subst, inl, inr, arith}
 use Rattle.export_machine.specs.declared.event.Reply.{Reply}
-use Rattle.export_machine.specs.declared.event.Request.{Request}
 use Rattle.export_machine.specs.declared.step_error.StepError.{StepError}
 use Rattle.export_machine.specs.declared.step_error.StepError.TheVariants.{Memory}
 use Rattle.export_machine.specs.Cluster.{World}
-use Rattle.export_machine.specs.Authority.{IsAuthority, is_authority, request_of}
+use Rattle.export_machine.specs.Authority.{is_authority}
 use Rattle.export_machine.specs.Step.{Event, step, run, answers}
 use Rattle.export_machine.specs.View.{IsReached, IsAnswer, AreAnswers, NoneIsMemory}
 use Rattle.export_machine.specs.Promises.{Promised, KeepsAuthority}
-use Rattle.export_machine.proofs.Safe.{Safe}
 use Rattle.export_machine.proofs.Lookups.{holds_authority}
 use Rattle.export_machine.proofs.Authorities.{tests_authority}
 use Rattle.export_machine.proofs.Theorem.{safe_kept}

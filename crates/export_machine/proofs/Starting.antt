@@ -1,25 +1,21 @@
 -- How the tables by directory follow an export that starts.
-use Rattle.std.proofs.Common.{◌≡◌, ◌≢◌, ℕ, zero, suc, ◌+◌, ◌<◌, ◌≤◌, Bool, true, false, ◌&&◌, ◌||◌, not, eqb, leb, cond, List, [], ◌∷◌, ◌++◌, length, get_or, Option, Some, None, refl, sym, ap, ◌∙◌, subst, inl, inr, ◌⊎◌, arith}
+use Rattle.std.proofs.Common.{◌≡◌, ◌≢◌, ℕ, suc, ◌<◌, Bool, true, false, ◌&&◌, not, eqb, cond, List, [], ◌∷◌, ◌++◌, length, get_or, Option, Some, None, refl, sym, ap, ◌∙◌, arith}
 use Rattle.std.specs.List.{list_all}
-use Rattle.std.proofs.lemmas.Bool.{cases_lt, leb-false, not-false}
+use Rattle.std.proofs.lemmas.Bool.{leb-false, not-false}
 use Rattle.std.proofs.lemmas.List.{get_or_past}
 use Rattle.export_machine.specs.declared.journal.JournalEntry.{JournalEntry}
-use Rattle.export_machine.specs.declared.message.Message.{Message}
 use Rattle.export_machine.specs.declared.exporter.ExporterState.{ExporterState}
-use Rattle.export_machine.specs.declared.message.Message.TheVariants.{Discover}
 use Rattle.export_machine.specs.declared.exporter.ExporterState.TheVariants.{Discovering, Aborted}
 use Rattle.export_machine.specs.declared.importer.ImporterState.TheVariants.{Unknown}
 use Rattle.export_machine.specs.Cluster.{Order, World}
-use Rattle.export_machine.specs.Authority.{no_order, is_among, is_inside, is_present, to_of, exporter_of, importer_of, has, owns, authority, is_open, is_aborted, open_export, first_below, or_else}
-use Rattle.export_machine.specs.Step.{Event, refusal, causes, map_at, busy, elsewhere, repeats, is_connected, least_fault, export_limit, parent_among}
+use Rattle.export_machine.specs.Authority.{no_order, is_among, is_inside, is_present, to_of, importer_of, has, authority, is_open, is_aborted, open_export, or_else}
+use Rattle.export_machine.specs.Step.{refusal, causes, map_at, busy, elsewhere, repeats, is_connected}
 use Rattle.export_machine.specs.Step.Event.{Start}
 use Rattle.export_machine.specs.View.{IsReached}
 use Rattle.export_machine.specs.Kept.{Indexes, IsIndexed}
-use Rattle.export_machine.proofs.Owning.{is_over}
-use Rattle.export_machine.proofs.Tables.{is_imported}
 use Rattle.export_machine.proofs.Views.{push_same, push_other, map_at_length}
-use Rattle.export_machine.proofs.Safe.{Safe, phase_of}
-use Rattle.export_machine.proofs.Lookups.{authority_is, no_open, free_owner, or_else_none}
+use Rattle.export_machine.proofs.Safe.{Safe}
+use Rattle.export_machine.proofs.Lookups.{authority_is, no_open, free_owner}
 use Rattle.export_machine.proofs.Events.{NoneOf, none_of, not_refused, busy_none, is_here, least_none, all_there, there_near, with_export}
 use Rattle.export_machine.proofs.Theorem.{not_refused_causes}
 use Rattle.export_machine.proofs.Owners.{start_authority}

@@ -1,8 +1,6 @@
 -- The tables of a new cluster.
-use Rattle.std.proofs.Common.{◌≡◌, ℕ, zero, suc, ◌+◌, ◌<◌, ◌≤◌, Bool, true, false, ◌&&◌, not, eqb, cond, List, [], ◌∷◌, ◌++◌, length, get_or, set, map, Option, Some, None, refl, sym, ap, ◌∙◌, inl, inr, ◌⊎◌, arith}
+use Rattle.std.proofs.Common.{◌≡◌, ℕ, zero, suc, ◌+◌, ◌≤◌, Bool, true, false, ◌&&◌, not, eqb, cond, [], ◌∷◌, length, get_or, Some, None, refl, sym, ap, ◌∙◌, inl, inr, ◌⊎◌, arith}
 use Rattle.std.proofs.lemmas.Bool.{false≢true}
-use Rattle.std.specs.Prelude.{replicate}
-use Rattle.export_machine.specs.declared.journal.JournalEntry.{JournalEntry}
 use Rattle.export_machine.specs.Cluster.{World}
 use Rattle.export_machine.specs.Authority.{IsAuthority, authority, open_export, is_present, named_of, runs_on}
 use Rattle.export_machine.specs.Step.{start, running_on}
@@ -10,7 +8,7 @@ use Rattle.export_machine.specs.Promises.{IsBetweenLogAndNotify}
 use Rattle.export_machine.specs.declared.records.Records.{Records}
 use Rattle.export_machine.specs.Authority.{order_in}
 use Rattle.export_machine.specs.Step.{repeats}
-use Rattle.export_machine.specs.Kept.{IsIndexed, Indexes, IsKept, world_of, indexes_of, first_indexes}
+use Rattle.export_machine.specs.Kept.{IsIndexed, IsKept, world_of, indexes_of, first_indexes}
 use Rattle.export_machine.proofs.Safe.{Safe}
 use Rattle.export_machine.proofs.Theorem.{start_safe, safe_named, safe_gone}
 use Rattle.export_machine.proofs.Authorities.{authority_found, no_authority}

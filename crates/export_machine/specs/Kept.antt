@@ -1,5 +1,5 @@
 -- What the tables of a cluster stand for, and what always holds of them.
-use Rattle.std.specs.Prelude.{◌≡◌, ◌≤◌, ◌<◌, ℕ, ◌+◌, suc, Bool, true, ◌&&◌, nat_lt, List, [], ◌∷◌, map, length, Option, None, Some, Result, Ok, Err, slice_get, slice_index_or, slice_set, vec_len, vec_capacity, Vec, if◌then◌else◌, replicate, false, not, ◌==◌, is_some}
+use Rattle.std.specs.Prelude.{◌≡◌, ◌≤◌, ◌<◌, ℕ, ◌+◌, suc, Bool, true, ◌&&◌, nat_lt, List, [], ◌∷◌, map, length, Option, None, Some, Result, Ok, Err, slice_get, slice_index_or, vec_len, vec_capacity, Vec, if◌then◌else◌, replicate, false, not, ◌==◌, is_some}
 use Rattle.export_machine.specs.Cluster.{Order, World}
 use Rattle.export_machine.specs.Authority.{authority, open_export, order_in, from_of, exporter_of, importer_of}
 use Rattle.export_machine.specs.Step.{Event, running_on, is_child, receiver, repeats, comes}

@@ -294,6 +294,7 @@ impl Records {
     }
 
     /// Whether the directories are some, none twice, and hang together: only one of them has no parent among them.
+    /// Without marks it looks through the list for each of them.
     pub(crate) fn is_connected(&self, dirs: &[Dir]) -> bool
         ensures { result ≡ is_connected (world_of self.now) dirs.now }
     {

@@ -1,9 +1,9 @@
 //! Times the export machine on lists of events.
 //!
-//! Without an argument it prints nothing. With `times` it prints a line for each list, how many events it has and how many were accepted, and
-//! nanoseconds of processor time for all of them, the least of several runs; a copy of each event is kept with its
-//! answer. Then come the reads, with a sum of what they answered. With `events LIST` it prints the list, one event a
-//! line, so that other programs can be timed on it: those before the line `now` aren't timed.
+//! Without an argument it prints nothing. With `times` it prints a line for each list: how many events it has, how many
+//! were accepted, and nanoseconds of processor time for all of them, the least of several runs; a copy of each event is
+//! kept with its answer. Then come the reads, with a sum of what they answered. With `events LIST` it prints the list,
+//! one event a line, so that other programs can be timed on it: those before the line `now` aren't timed.
 #![tactic(auto)]
 
 mod lists;

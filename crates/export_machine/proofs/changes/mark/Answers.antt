@@ -1,4 +1,4 @@
-use Rattle.std.proofs.Common.{◌≡◌, ◌<◌, ◌≤◌, length, sym, ap, ◌∙◌, arith}
+use Rattle.std.proofs.Common.{◌<◌, ◌≤◌, length, arith}
 use Rattle.export_machine.proofs.Marks.{mark_start, mark_next, mark_near, mark_end}
 use Rattle.export_machine.proofs.changes.mark.Goals as goal
 

@@ -1,7 +1,5 @@
-use Rattle.std.proofs.Common.{◌≡◌, ◌<◌, ℕ, true, false, not, length, take, get_or, refl, sym, ap, ◌∙◌, arith}
+use Rattle.std.proofs.Common.{◌≡◌, ◌<◌, true, false, not, length, get_or, sym, ap, ◌∙◌, arith}
 use Rattle.std.proofs.lemmas.List.{get_or_read, length-set}
-use Rattle.export_machine.specs.Authority.{is_among}
-use Rattle.export_machine.specs.Step.{repeats}
 use Rattle.export_machine.specs.Kept.{is_listed}
 use Rattle.export_machine.proofs.Listing.{among_take, not_all, twice, once_next, marked_next, listed_near}
 use Rattle.export_machine.proofs.connecting.mark_once.Goals as goal

@@ -1,10 +1,10 @@
-use Rattle.std.proofs.Common.{◌≡◌, ◌<◌, ◌≤◌, ℕ, Bool, cond, eqb, false, map, length, get_or, set, sym, ap, ◌∙◌, refl, arith}
+use Rattle.std.proofs.Common.{◌≡◌, ◌<◌, ◌≤◌, ℕ, cond, eqb, false, map, length, get_or, set, sym, ap, ◌∙◌, arith}
 use Rattle.export_machine.specs.declared.importer.ImporterState.{ImporterState}
 use Rattle.mds_types.specs.declared.order.Order.{Order as Moved}
 use Rattle.export_machine.specs.Authority.{order_in}
 use Rattle.export_machine.specs.Step.{importer_at_stop}
 use Rattle.export_machine.specs.Kept.{order_of}
-use Rattle.export_machine.proofs.Halting.{changed_below, change_start, change_next, change_here, change_end}
+use Rattle.export_machine.proofs.Halting.{change_start, change_next, change_here, change_end}
 use Rattle.export_machine.proofs.Accepted.{to_here}
 use Rattle.export_machine.proofs.stopping.forget_all.Goals as goal
 

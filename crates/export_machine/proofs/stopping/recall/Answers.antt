@@ -1,4 +1,4 @@
-use Rattle.std.proofs.Common.{◌≡◌, ◌<◌, ◌≤◌, length, sym, ap, ◌∙◌, refl, arith}
+use Rattle.std.proofs.Common.{◌∙◌}
 use Rattle.export_machine.proofs.Halting.{tells_other, tells_dropped}
 use Rattle.export_machine.proofs.stopping.recall.Goals as goal
 

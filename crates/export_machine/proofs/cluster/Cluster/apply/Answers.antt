@@ -1,5 +1,4 @@
-use Rattle.std.proofs.Common.{◌≡◌, None, true, refl, sym, ap, ◌∙◌, subst}
-use Rattle.export_machine.specs.View.{IsReached}
+use Rattle.std.proofs.Common.{sym, ap, ◌∙◌, subst}
 use Rattle.export_machine.specs.Promises.{KeepsAuthority}
 use Rattle.export_machine.specs.Step.{refusal}
 use Rattle.export_machine.specs.Kept.{State, event_of, is_ready, world_of}

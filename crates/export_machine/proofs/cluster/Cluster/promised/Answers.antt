@@ -1,4 +1,4 @@
-use Rattle.std.proofs.Common.{◌≡◌, subst}
+use Rattle.std.proofs.Common.{subst}
 use Rattle.export_machine.specs.Promises.{Promised}
 use Rattle.export_machine.specs.Kept.{State, world_of}
 use Rattle.export_machine.proofs.Runs.{reached_promised}

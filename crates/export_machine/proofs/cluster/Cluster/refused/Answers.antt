@@ -1,4 +1,4 @@
-use Rattle.std.proofs.Common.{◌≡◌, refl, sym, ap, ◌∙◌, inl, inr}
+use Rattle.std.proofs.Common.{refl, sym, inl, inr}
 use Rattle.export_machine.specs.Kept.{event_of}
 use Rattle.export_machine.proofs.Bounds.{answer_refused}
 use Rattle.export_machine.proofs.cluster.Cluster.refused.Goals as goal

@@ -1,4 +1,4 @@
-use Rattle.std.proofs.Common.{◌≡◌, refl, sym, ap, ◌∙◌}
+use Rattle.std.proofs.Common.{◌∙◌}
 use Rattle.export_machine.specs.Kept.{event_of}
 use Rattle.export_machine.proofs.Bounds.{kept_same, on_ok, ready_is}
 use Rattle.export_machine.proofs.cluster.Cluster.reserve.Goals as goal

@@ -1,4 +1,4 @@
-use Rattle.std.proofs.Common.{◌≡◌, ◌<◌, ◌≤◌, ◌++◌, ◌∷◌, [], length, map, take, refl, sym, ap, ◌∙◌, subst, arith}
+use Rattle.std.proofs.Common.{◌<◌, ◌≤◌, length, map, take, arith}
 use Rattle.std.proofs.lemmas.List.{take_all}
 use Rattle.export_machine.specs.View.{AreAnswers}
 use Rattle.export_machine.specs.Kept.{event_of}

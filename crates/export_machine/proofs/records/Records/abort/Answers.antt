@@ -1,9 +1,9 @@
-use Rattle.std.proofs.Common.{◌≡◌, ◌<◌, ℕ, true, cond, length, map, Option, None, List, sym, ap, ◌∙◌, subst, refl, arith}
+use Rattle.std.proofs.Common.{◌≡◌, ◌<◌, ℕ, cond, length, map, Option, None, List, sym, ap, ◌∙◌, subst, refl, arith}
 use Rattle.std.proofs.lemmas.Bool.{and_parts, ltb-true}
 use Rattle.export_machine.specs.Authority.{is_among, is_inside, order_in}
 use Rattle.export_machine.specs.Step.{happens, map_at}
 use Rattle.export_machine.specs.Step.Event.{Abort}
-use Rattle.export_machine.specs.Kept.{world_of, indexes_of, has_room, order_of, Indexes, IsIndexed}
+use Rattle.export_machine.specs.Kept.{world_of, indexes_of, has_room, order_of, IsIndexed}
 use Rattle.export_machine.proofs.Indexing.{abort_there, abort_indexed, aborted}
 use Rattle.export_machine.proofs.Reached.{by_safe}
 use Rattle.export_machine.proofs.Accepted.{room_left, as_exporter, as_order, dirs_here, abort_order, abort_state}

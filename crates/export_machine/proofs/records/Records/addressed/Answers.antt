@@ -1,9 +1,8 @@
-use Rattle.std.proofs.Common.{◌≡◌, ◌<◌, ℕ, zero, suc, List, [], ◌∷◌, true, false, ltb, length, get_or, Option, Some, None, refl, sym, ap, ◌∙◌, arith}
+use Rattle.std.proofs.Common.{◌≡◌, ◌<◌, ℕ, zero, suc, List, [], ◌∷◌, false, ltb, length, Some, None, refl, sym, arith}
 use Rattle.std.proofs.lemmas.Bool.{ltb-true}
 use Rattle.std.specs.List.{slice_get}
 use Rattle.export_machine.specs.declared.message.Message.{Message}
-use Rattle.export_machine.specs.Step.{receiver}
-use Rattle.export_machine.specs.Kept.{world_of, about, addressed}
+use Rattle.export_machine.specs.Kept.{world_of, about}
 use Rattle.export_machine.proofs.Found.{orders_by}
 use Rattle.export_machine.proofs.Accepted.{as_order, item_at}
 use Rattle.export_machine.proofs.records.Records.addressed.Goals as goal

@@ -1,7 +1,7 @@
-use Rattle.std.proofs.Common.{◌≡◌, ◌<◌, ◌≤◌, ◌+◌, ℕ, None, Some, Ok, Err, Result, refl, sym, ap, ◌∙◌, subst, inl, inr, arith}
+use Rattle.std.proofs.Common.{◌≡◌, ◌<◌, None, refl, sym, ap, ◌∙◌, inl, inr, arith}
 use Rattle.export_machine.specs.Cluster.{World}
-use Rattle.export_machine.specs.Step.{Event, Outcome, refusal, happens, step}
-use Rattle.export_machine.specs.Kept.{Indexes, world_of, indexes_of, event_of, IsKept}
+use Rattle.export_machine.specs.Step.{Outcome, refusal, step}
+use Rattle.export_machine.specs.Kept.{world_of, event_of, IsKept}
 use Rattle.export_machine.proofs.Accepted.{room_left}
 use Rattle.export_machine.proofs.Bounds.{kept_same, kept_step, stepped, answer_refused, happens_events}
 use Rattle.export_machine.proofs.records.Records.apply.Goals as goal

@@ -1,13 +1,12 @@
-use Rattle.std.proofs.Common.{◌≡◌, ◌<◌, ◌≤◌, ◌∷◌, [], length, sym, ap, ◌∙◌, refl, arith}
+use Rattle.std.proofs.Common.{◌≡◌, ◌<◌, ◌≤◌, ◌∷◌, [], length, refl, arith}
 use Rattle.std.proofs.lemmas.Bool.{and_parts, ltb-true}
 use Rattle.std.proofs.Math.Nat.{le_trans}
 use Rattle.export_machine.specs.Authority.{runs_on}
 use Rattle.export_machine.specs.Step.{happens, running_on}
-use Rattle.export_machine.specs.Step.Event.{Begin}
 use Rattle.export_machine.specs.Kept.{world_of, indexes_of, has_room}
 use Rattle.export_machine.proofs.Lists.{count_within}
 use Rattle.export_machine.proofs.Indexing.{begin_indexed, running_is}
-use Rattle.export_machine.proofs.Accepted.{room_left, begin_dir}
+use Rattle.export_machine.proofs.Accepted.{begin_dir}
 use Rattle.export_machine.proofs.records.Records.begin.Goals as goal
 
 pub push_reserved-requires : goal.push_reserved-requires

@@ -1,7 +1,7 @@
-use Rattle.std.proofs.Common.{◌≡◌, Bool, List, true, refl, sym, ap, ◌∙◌}
+use Rattle.std.proofs.Common.{Bool, List, sym, ap, ◌∙◌}
 use Rattle.export_machine.specs.declared.event.Event.{Event as Asked}
 use Rattle.export_machine.specs.declared.records.Records.{Records}
-use Rattle.export_machine.specs.Kept.{world_of, indexes_of, event_of, has_room, entered_at, IsKept}
+use Rattle.export_machine.specs.Kept.{world_of, indexes_of, event_of, has_room, entered_at}
 use Rattle.export_machine.proofs.Bounds.{kept_same}
 use Rattle.export_machine.proofs.records.Records.check_by_marks.Goals as goal
 

@@ -1,4 +1,4 @@
-use Rattle.std.proofs.Common.{◌≡◌, ◌≢◌, ℕ, Bool, true, false, not, eqb, Some, None, List, Option, sym, ap, ◌∙◌, refl, arith}
+use Rattle.std.proofs.Common.{◌≡◌, ◌≢◌, ℕ, true, false, not, eqb, Some, None, List, Option, sym, ap, ◌∙◌, refl, arith}
 use Rattle.export_machine.specs.Kept.{count_at}
 use Rattle.export_machine.specs.Step.{any_at, is_child, when}
 use Rattle.export_machine.specs.declared.step_error.StepError.TheVariants.{NotEmpty}

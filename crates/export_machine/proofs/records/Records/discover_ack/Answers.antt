@@ -1,6 +1,5 @@
-use Rattle.std.proofs.Common.{◌≡◌, ◌<◌, length, refl, sym, ap, ◌∙◌, arith}
+use Rattle.std.proofs.Common.{◌≡◌, refl, sym, ◌∙◌}
 use Rattle.export_machine.specs.Kept.{world_of, indexes_of}
-use Rattle.export_machine.specs.declared.message.Message.{Message}
 use Rattle.export_machine.specs.declared.exporter.ExporterState.TheVariants.{Discovering, Freezing}
 use Rattle.export_machine.specs.Authority.{exporter_of}
 use Rattle.export_machine.proofs.Rows.{exporter_indexed}

@@ -1,7 +1,6 @@
-use Rattle.std.proofs.Common.{◌≡◌, ◌<◌, ℕ, zero, suc, List, [], ◌∷◌, length, get_or, Option, Some, None, sym, ap, ◌∙◌, refl, arith}
+use Rattle.std.proofs.Common.{◌≡◌, ◌<◌, ℕ, zero, suc, List, [], ◌∷◌, length, get_or, Option, Some, None, sym, ◌∙◌, refl, arith}
 use Rattle.export_machine.specs.declared.event.Request.{Request}
 use Rattle.export_machine.specs.Step.{happens}
-use Rattle.export_machine.specs.Step.Event.{End}
 use Rattle.export_machine.specs.Kept.{world_of, indexes_of}
 use Rattle.export_machine.proofs.Indexing.{end_indexed, end_runs, request_there}
 use Rattle.export_machine.proofs.Accepted.{end_ticket, end_near}

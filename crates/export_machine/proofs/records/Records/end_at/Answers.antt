@@ -1,4 +1,4 @@
-use Rattle.std.proofs.Common.{◌≡◌, ◌<◌, ℕ, get_or, length, Some, None, sym, ap, ◌∙◌, refl, arith}
+use Rattle.std.proofs.Common.{◌≡◌, ◌<◌, get_or, length, Some, None, sym, ◌∙◌, arith}
 use Rattle.std.proofs.lemmas.List.{get_or_read}
 use Rattle.export_machine.specs.Kept.{world_of, indexes_of}
 use Rattle.export_machine.proofs.Indexing.{end_indexed, end_runs}

@@ -1,9 +1,8 @@
-use Rattle.std.proofs.Common.{◌≡◌, ◌<◌, ◌≤◌, ℕ, List, Option, None, get_or, set, length, sym, ap, ◌∙◌, refl, arith}
+use Rattle.std.proofs.Common.{◌≡◌, ◌<◌, ◌≤◌, ℕ, Option, None, get_or, set, length, sym, ap, ◌∙◌, refl, arith}
 use Rattle.export_machine.specs.declared.event.Request.{Request}
 use Rattle.export_machine.specs.declared.records.Records.{Records}
 use Rattle.export_machine.specs.Step.{ends_at}
-use Rattle.export_machine.specs.Kept.{world_of}
-use Rattle.export_machine.proofs.Halting.{changed_below, change_start, change_next, change_here, change_length, change_end}
+use Rattle.export_machine.proofs.Halting.{change_start, change_next, change_here, change_length, change_end}
 use Rattle.export_machine.proofs.records.Records.end_requests.Goals as goal
 
 pub loop-ticket-init : goal.loop-ticket-init

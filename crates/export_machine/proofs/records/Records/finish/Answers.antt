@@ -1,4 +1,4 @@
-use Rattle.std.proofs.Common.{◌≡◌, ◌<◌, ℕ, cond, List, Option, length, get_or, map, Some, None, refl, sym, ap, ◌∙◌, subst, arith}
+use Rattle.std.proofs.Common.{◌≡◌, ◌<◌, ℕ, cond, List, length, map, None, refl, sym, ap, ◌∙◌, arith}
 use Rattle.export_machine.specs.Kept.{world_of, indexes_of, order_of}
 use Rattle.export_machine.specs.declared.message.Message.{Message}
 use Rattle.export_machine.specs.declared.importer.ImporterState.TheVariants.{Started}

@@ -1,6 +1,5 @@
-use Rattle.std.proofs.Common.{◌≡◌, ◌<◌, length, sym, ap, ◌∙◌, refl, arith}
+use Rattle.std.proofs.Common.{◌<◌, length, refl, arith}
 use Rattle.std.proofs.lemmas.Bool.{and_parts, ltb-true}
-use Rattle.std.proofs.lemmas.List.{length-map}
 use Rattle.export_machine.specs.Step.{happens}
 use Rattle.export_machine.specs.Step.Event.{Froze}
 use Rattle.export_machine.specs.Kept.{world_of, indexes_of, has_room}

@@ -1,7 +1,7 @@
-use Rattle.std.proofs.Common.{◌≡◌, true, false, Ok, Err, Result, refl, sym, ap, ◌∙◌, subst, arith}
+use Rattle.std.proofs.Common.{◌≡◌, true, ◌∙◌, subst}
 use Rattle.std.proofs.lemmas.Bool.{false≢true}
 use Rattle.std.specs.Result.{IsOk}
-use Rattle.export_machine.specs.Kept.{world_of, event_of, has_room, has_places}
+use Rattle.export_machine.specs.Kept.{event_of, has_places}
 use Rattle.export_machine.proofs.Bounds.{on_ok, list_places, room_parts, grown_room}
 use Rattle.export_machine.proofs.records.Records.grow.Goals as goal
 

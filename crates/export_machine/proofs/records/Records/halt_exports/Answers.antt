@@ -1,7 +1,6 @@
 use Rattle.std.proofs.Common.{◌≡◌, ◌<◌, ◌≤◌, ℕ, Bool, List, Option, None, true, false, cond, eqb, map, length, get_or, set, sym, ap, ◌∙◌, subst, refl, arith}
 use Rattle.std.proofs.lemmas.List.{get_or_read, length-map}
 use Rattle.std.specs.Vec.{with_item}
-use Rattle.mds_types.specs.declared.order.Order.{Order as Moved}
 use Rattle.export_machine.specs.declared.exporter.ExporterState.{ExporterState}
 use Rattle.export_machine.specs.declared.exporter.ExporterState.TheVariants.{Aborted}
 use Rattle.export_machine.specs.declared.records.Records.{Records}
@@ -11,8 +10,8 @@ use Rattle.export_machine.specs.Kept.{world_of, indexes_of, order_of, IsIndexed}
 use Rattle.export_machine.proofs.Safe.{aborted_safe}
 use Rattle.export_machine.proofs.Reached.{by_safe}
 use Rattle.export_machine.proofs.Indexing.{abort_there, abort_indexed, aborted}
-use Rattle.export_machine.proofs.Accepted.{numbers_by, as_exporter, as_order, dirs_here, from_here}
-use Rattle.export_machine.proofs.Halting.{changed_below, change_start, change_length, change_here, change_next, change_none, change_end}
+use Rattle.export_machine.proofs.Accepted.{numbers_by, as_exporter, dirs_here, from_here}
+use Rattle.export_machine.proofs.Halting.{change_start, change_length, change_here, change_next, change_none, change_end}
 use Rattle.export_machine.proofs.Halted.{before_stops, others_stay}
 use Rattle.export_machine.proofs.records.Records.halt_exports.Goals as goal
 use Rattle.export_machine.proofs.records.Records.halt_exports.Goals.{then-eq+then-is_before_log, else-eq, else-eq-via-then-eq+else-is_before_log, else-eq-via-else-eq}

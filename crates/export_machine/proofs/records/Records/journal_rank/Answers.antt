@@ -5,7 +5,7 @@ use Rattle.std.proofs.lemmas.List.{length-map}
 use Rattle.export_machine.specs.Cluster.{World}
 use Rattle.export_machine.specs.declared.event.Event.{Event as Asked}
 use Rattle.export_machine.specs.View.{IsReached}
-use Rattle.export_machine.specs.Authority.{authority, from_of}
+use Rattle.export_machine.specs.Authority.{authority}
 use Rattle.export_machine.specs.declared.message.Message.{Message}
 use Rattle.export_machine.specs.declared.message.Message.TheVariants.{Discover, DiscoverAck, Prep, PrepAck, ExportAck, Finish, Cancel, Query}
 use Rattle.export_machine.specs.Step.{Event, refusal, receiver}

@@ -1,9 +1,8 @@
-use Rattle.std.proofs.Common.{◌≡◌, ◌≢◌, ◌<◌, ◌≤◌, ◌+◌, ◌++◌, ◌∷◌, [], ℕ, Some, None, length, get_or, refl, sym, ap, ◌∙◌, arith}
+use Rattle.std.proofs.Common.{◌≡◌, ◌<◌, ◌≤◌, ◌++◌, ◌∷◌, [], ℕ, Some, None, length, get_or, refl, sym, ap, ◌∙◌, arith}
 use Rattle.std.proofs.lemmas.Bool.{and_parts, ltb-true}
 use Rattle.std.proofs.lemmas.List.{length-map}
 use Rattle.export_machine.specs.Authority.{authority}
 use Rattle.export_machine.specs.Step.{happens, is_child}
-use Rattle.export_machine.specs.Step.Event.{Made}
 use Rattle.export_machine.specs.Kept.{world_of, indexes_of, has_room, entered_at, children_of, has_places}
 use Rattle.export_machine.proofs.Growing.{made_indexed, children_is, count_within}
 use Rattle.export_machine.proofs.Accepted.{as_rank, made_parent, made_few, made_has}

@@ -1,4 +1,4 @@
-use Rattle.std.proofs.Common.{◌≡◌, ◌<◌, length, refl, sym, ap, ◌∙◌, arith}
+use Rattle.std.proofs.Common.{◌≡◌, refl, sym, ◌∙◌}
 use Rattle.export_machine.specs.Kept.{world_of, indexes_of}
 use Rattle.export_machine.specs.declared.exporter.ExporterState.TheVariants.{Done, Aborted}
 use Rattle.export_machine.specs.Authority.{exporter_of}

@@ -1,19 +1,17 @@
-use Rattle.std.proofs.Common.{◌≡◌, ◌<◌, ◌≤◌, ℕ, List, Bool, Some, true, false, cond, length, map, set, sym, ap, ◌∙◌, subst, refl, arith}
+use Rattle.std.proofs.Common.{◌≡◌, ◌<◌, ℕ, List, Bool, true, false, cond, length, set, sym, ap, ◌∙◌, subst, arith}
 use Rattle.std.proofs.lemmas.List.{length-map}
 use Rattle.export_machine.specs.declared.exporter.ExporterState.{ExporterState}
 use Rattle.export_machine.specs.declared.importer.ImporterState.{ImporterState}
 use Rattle.export_machine.specs.declared.importer.ImporterState.TheVariants.{Dropped}
 use Rattle.export_machine.specs.declared.journal.JournalEntry.{JournalEntry}
-use Rattle.export_machine.specs.declared.event.Request.{Request}
 use Rattle.export_machine.specs.declared.records.Records.{Records}
 use Rattle.export_machine.specs.Cluster.{World}
-use Rattle.export_machine.specs.Authority.{to_of, importer_of, has, request_of}
+use Rattle.export_machine.specs.Authority.{to_of, importer_of, has}
 use Rattle.export_machine.specs.Step.{happens, changed, ignored, restarts}
 use Rattle.export_machine.specs.Kept.{world_of, indexes_of, order_of, IsIndexed}
 use Rattle.export_machine.proofs.Accepted.{numbers_by}
-use Rattle.export_machine.proofs.Indexing.{request_there}
 use Rattle.export_machine.proofs.Rows.{importer_indexed}
-use Rattle.export_machine.proofs.Halted.{aborts, forgets, ends, dropped_there, restarts_all, stopped_indexed, stop_rank, restart_rank, rank_there}
+use Rattle.export_machine.proofs.Halted.{aborts, forgets, dropped_there, restarts_all, stopped_indexed, restart_rank, rank_there}
 use Rattle.export_machine.proofs.records.Records.restart.Goals as goal
 
 pub halt_imports-requires-clause-near : goal.halt_imports-requires-clause-near

@@ -1,8 +1,8 @@
-use Rattle.std.proofs.Common.{◌≡◌, ◌<◌, ◌≤◌, ◌+◌, Bool, true, false, List, ℕ, length, take, Some, None, sym, ap, ◌∙◌, subst, refl, arith}
+use Rattle.std.proofs.Common.{◌≡◌, ◌<◌, ◌≤◌, ◌+◌, false, length, take, sym, ap, ◌∙◌, arith}
 use Rattle.std.proofs.lemmas.List.{take_all}
 use Rattle.std.proofs.lemmas.Bool.{false_from_ne_true}
 use Rattle.std.proofs.Math.Nat.{le_trans}
-use Rattle.export_machine.specs.Authority.{order_in, runs_on}
+use Rattle.export_machine.specs.Authority.{runs_on}
 use Rattle.export_machine.specs.Step.{running_on, repeats}
 use Rattle.export_machine.specs.Kept.{world_of}
 use Rattle.export_machine.proofs.Lists.{running_none, running_next, count_within}
