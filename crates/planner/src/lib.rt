@@ -14,11 +14,7 @@ use std::thread::Threads;
 ///
 /// It can fail for memory alone. The checker, `plan_checker::check`, says yes exactly where a plan
 /// is certified, so it accepts this one.
-pub fn solve<R: Threads>(
-    rt: &R,
-    alloc: Global,
-    problem: &Problem,
-) -> Result<Plan, AllocError>
+pub fn solve<R: Threads>(rt: &R, alloc: Global, problem: &Problem) -> Result<Plan, AllocError>
     ensures certified { IfOk result (IsCertified problem.now) }
     ensures best { IfOk result (IsBest problem.now) }
 {
