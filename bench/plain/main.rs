@@ -1,4 +1,8 @@
 //! The commands of scripts in plain Rust, as a measure for mdbal. Nothing here is proved.
+#[allow(dead_code)]
+mod plan;
+
+use plan::{Problem, Proof, Row, solve};
 use std::collections::HashMap;
 use std::io::{self, Read, Write};
 
@@ -115,6 +119,33 @@ impl Tree {
         }
     }
 
+    /// The plan for the whole tree: the scripts that ask for one set no pin.
+    fn plan(&self, counts: &Counts, out: &mut Vec<u8>) {
+        let rows = self.dirs.iter().map(|dir| Row { heat: dir.heat, parent: dir.parent, inodes: dir.inodes as u32, now: 0 });
+        let problem = Problem { rows: rows.collect(), ranks: counts.usable() as usize };
+        let plan = solve(&problem);
+        let proof = match plan.cut {
+            Proof::Zero => "zero",
+            Proof::Heavy(_) => "heavy",
+            Proof::Table(_) => "table",
+        };
+        writeln!(out, "plan greatest {} moved {} proof {proof}", plan.greatest, plan.placing.moved).unwrap();
+        let mut sums = vec![(0u64, 0u64); plan.placing.rank.len()];
+        for (row, part) in problem.rows.iter().zip(&plan.part) {
+            let sum = &mut sums[*part as usize];
+            *sum = (sum.0 + row.heat, sum.1 + u64::from(row.inodes));
+        }
+        for (number, row) in problem.rows.iter().enumerate() {
+            let part = plan.part[number] as usize;
+            if number == 0 || plan.part[row.parent as usize] as usize != part {
+                write!(out, "part ").unwrap();
+                out.extend_from_slice(&self.path(number as u32));
+                let (heat, inodes) = sums[part];
+                writeln!(out, " rank {} heat {heat} inodes {inodes}", plan.placing.rank[part]).unwrap();
+            }
+        }
+    }
+
     fn serve(&mut self, counts: &mut Counts, dir: u32, hits: u64) {
         let share = &mut counts.shares[0];
         let counted = (0..hits).take_while(|_| share.hit(dir)).count() as u64;
@@ -180,6 +211,7 @@ fn main() {
             }
             [b"tick"] => tree.dirs.iter_mut().for_each(|dir| dir.heat /= 2),
             [b"stat"] => tree.stat(&counts, &mut out),
+            [b"plan"] => tree.plan(&counts, &mut out),
             [b"cost", paths @ ..] => {
                 let tops: Vec<u32> = paths.iter().map(|path| tree.find(path).unwrap()).collect();
                 tree.cost(&tops, &mut out);

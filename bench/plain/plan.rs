@@ -7,44 +7,44 @@ use std::io::Read;
 use std::time::Instant;
 
 #[derive(Clone, Copy)]
-struct Row {
-    heat: u64,
-    parent: u32,
-    inodes: u32,
-    now: u8,
+pub struct Row {
+    pub heat: u64,
+    pub parent: u32,
+    pub inodes: u32,
+    pub now: u8,
 }
 
-struct Problem {
-    rows: Vec<Row>,
-    ranks: usize,
+pub struct Problem {
+    pub rows: Vec<Row>,
+    pub ranks: usize,
 }
 
 #[derive(Clone, Copy, Default)]
-struct TableRow {
+pub struct TableRow {
     rest: u64,
     price: u64,
     cuts: u32,
     cut: bool,
 }
 
-enum Proof {
+pub enum Proof {
     Zero,
     Heavy(u32),
     Table(Vec<TableRow>),
 }
 
-struct Placing {
-    rank: Vec<u8>,
-    moved: u64,
-    part_price: Vec<i64>,
-    rank_price: Vec<i64>,
+pub struct Placing {
+    pub rank: Vec<u8>,
+    pub moved: u64,
+    pub part_price: Vec<i64>,
+    pub rank_price: Vec<i64>,
 }
 
-struct Plan {
-    part: Vec<u32>,
-    greatest: u64,
-    cut: Proof,
-    placing: Placing,
+pub struct Plan {
+    pub part: Vec<u32>,
+    pub greatest: u64,
+    pub cut: Proof,
+    pub placing: Placing,
 }
 
 /// The children of each row: those of row i are `list[at[i]..at[i + 1]]`.
@@ -298,7 +298,7 @@ fn assign(cells: &[u64], count: usize, ranks: usize) -> Placing {
     Placing { rank: place.iter().map(|rank| *rank as u8).collect(), moved, part_price, rank_price }
 }
 
-fn solve(problem: &Problem) -> Plan {
+pub fn solve(problem: &Problem) -> Plan {
     let (greatest, part, count, cut) = search(problem);
     let cells = costs(&problem.rows, &part, count, problem.ranks);
     Plan { placing: assign(&cells, count, problem.ranks), part, greatest, cut }
