@@ -1,11 +1,8 @@
 -- What commands leave of a board.
-use Rattle.std.proofs.Common.{◌≡◌, ℕ, zero, suc, ◌<◌, ◌+◌, ◌≤◌, List, [], ◌∷◌, ◌++◌, length, take, get_or, refl, sym, ap, ◌∙◌, arith, All, Option, Some, None, Result, Ok, Err}
-use Rattle.heat_decay.specs.Heat.{Heats}
-use Rattle.script_session.specs.declared.load.Load.{Load}
-use Rattle.script_session.specs.Board.{BoardData, IsBoard}
+use Rattle.std.proofs.Common.{◌≡◌, ℕ, List, refl, Some, Ok, Err}
+use Rattle.script_session.specs.Board.{BoardData}
 use Rattle.script_session.specs.declared.fault.Fault.{Fault}
 use Rattle.script_session.specs.Commands.{find, last_slash, make_child, make_dir, parent_path}
-use Rattle.std.specs.Prelude.{fold}
 
 -- where the parent is found, making a directory is making a child
 pub made_below : (b : BoardData) (text above name : List ℕ) (parent inodes : ℕ) → last_slash text ≡ Some (above, name) → find b (parent_path above) ≡ Ok parent → make_dir b text inodes ≡ make_child b parent name inodes

@@ -1,13 +1,13 @@
 -- The tops that paths name, one after another.
-use Rattle.std.proofs.Common.{◌≡◌, ℕ, zero, suc, ◌<◌, ◌+◌, ◌≤◌, Bool, true, false, ◌||◌, List, [], ◌∷◌, ◌++◌, length, map, take, set, get_or, refl, sym, ap, ◌∙◌, arith, All, Option, Some, None, Result, Ok, Err, ◌⊎◌, inl, inr, append_assoc, replicate, length-set, cond, drop, Bor, add-one}
-use Rattle.std.specs.List.{flat_map, list_any}
+use Rattle.std.proofs.Common.{◌≡◌, ℕ, zero, suc, ◌<◌, ◌+◌, Bool, true, false, ◌||◌, List, [], ◌∷◌, ◌++◌, length, map, take, set, get_or, refl, sym, ap, ◌∙◌, arith, All, Result, Ok, Err, inl, inr, replicate, length-set, cond, drop, Bor}
+use Rattle.std.specs.List.{list_any}
 use Rattle.std.specs.Prelude.{filter, is_none, nat_eq}
 use Rattle.std.proofs.lemmas.List.{get_or-set_same, get_or-set_other}
 use Rattle.std.proofs.lemmas.List.Elements.{All-cons, All-map, All-nil, All-weaker}
 use Rattle.std.proofs.lemmas.List.Folds.{list_any-append}
 use Rattle.std.proofs.lemmas.Bool.{cases_eq, and_parts, ne_eqb}
 use Rattle.std.proofs.lemmas.Bool.Decides.{Decides-eqb}
-use Rattle.dirtree.specs.Tree.{Entry, is_there}
+use Rattle.dirtree.specs.Tree.{is_there}
 use Rattle.dir_pins.specs.Pins.{below, is_unpinned, nearest_pin}
 use Rattle.division_cost.specs.declared.division.Part.{Part}
 use Rattle.division_cost.specs.Parts.{Marks, is_free_top, is_top, part_at, parts}

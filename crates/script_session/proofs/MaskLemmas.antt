@@ -1,6 +1,6 @@
 -- What a mask writes, as a relation and as a function.
-use Rattle.std.proofs.Common.{◌≡◌, ℕ, zero, suc, ◌+◌, ◌-◌, ◌<◌, ◌≤◌, ◌^◌, Bool, true, false, ◌&&◌, nat_lt, nat_le, cond, List, [], ◌∷◌, ◌++◌, length, take, drop, refl, sym, ap, ◌∙◌, arith, Option, Some, None, inl, inr, ◌⊎◌}
-use Rattle.std.specs.Prelude.{codes, sum_by}
+use Rattle.std.proofs.Common.{◌≡◌, ℕ, suc, ◌-◌, ◌<◌, ◌^◌, Bool, true, ◌&&◌, nat_lt, cond, List, [], ◌∷◌, ◌++◌, length, take, drop, refl, sym, ap, Some, None, inl, inr}
+use Rattle.std.specs.Prelude.{codes}
 use Rattle.std.specs.List.{list_all}
 use Rattle.std.specs.Char.{digit_value}
 use Rattle.std.specs.Str.{bytes_eq}
@@ -9,9 +9,8 @@ use Rattle.std.proofs.lemmas.Slice.Eq.{bytes_eq-Decides}
 use Rattle.std.proofs.lemmas.Bool.{and_parts, and_from, cases_Bool, ltb-true, leb-true, le-leb}
 use Rattle.mds_types.specs.Mask.{IsMask, IsHexNumber}
 use Rattle.mds_types.specs.RankSet.{has_rank, rank_count}
-use Rattle.mds_types.specs.Sums.{count_below}
 use Rattle.mds_types.proofs.SumsLemmas.{sum_below-same}
-use Rattle.script_session.specs.Mask.{is_hex, hex_bits, mask_bits}
+use Rattle.script_session.specs.Mask.{is_hex, mask_bits}
 use Rattle.script_session.specs.Stat.{usable}
 
 lt-ltb : (a b : ℕ) → a < b → nat_lt a b ≡ true

@@ -1,11 +1,10 @@
 -- The parts of a plan are directories that are there.
-use Rattle.std.proofs.Common.{◌≡◌, ℕ, zero, suc, ◌<◌, ◌+◌, Bool, true, false, ◌&&◌, not, cond, List, [], ◌∷◌, ◌++◌, length, map, get_or, refl, sym, ap, ◌∙◌, arith, All, Option, replicate, subst}
+use Rattle.std.proofs.Common.{◌≡◌, ℕ, zero, suc, ◌<◌, Bool, true, false, cond, List, [], ◌∷◌, length, refl, ◌∙◌, arith, All, Option, replicate}
 use Rattle.std.specs.Prelude.{filter, is_none, slice_index}
 use Rattle.std.proofs.lemmas.List.{length-map}
 use Rattle.std.proofs.lemmas.List.Elements.{All-append, All-cons, All-map, All-nil, All-weaker}
 use Rattle.std.proofs.lemmas.Bool.{and_parts}
 use Rattle.mds_types.specs.declared.plan.Plan.{Plan}
-use Rattle.mds_types.specs.declared.problem.ProblemRow.{ProblemRow}
 use Rattle.mds_types.specs.Certificate.{plan_label}
 use Rattle.dirtree.specs.Tree.{Entry, is_there}
 use Rattle.dir_pins.specs.Pins.{below, is_unpinned, nearest_pin, unpinned}

@@ -1,12 +1,11 @@
 -- Requests that are served in turn.
-use Rattle.std.proofs.Common.{◌≡◌, ◌≢◌, ℕ, zero, suc, add-one, ◌+◌, ◌-◌, ◌<◌, ◌≤◌, Bool, true, false, cond, List, [], ◌∷◌, ◌++◌, length, take, get_or, set, refl, sym, ap, ◌∙◌, arith, length-set, inl, inr, subst, replicate}
+use Rattle.std.proofs.Common.{◌≡◌, ℕ, zero, suc, ◌+◌, ◌<◌, Bool, true, false, cond, List, [], ◌∷◌, length, take, get_or, set, refl, sym, ap, ◌∙◌, arith, length-set, inl, inr, replicate}
 use Rattle.std.proofs.lemmas.Bool.{cases_eq}
 use Rattle.heat_ledger.specs.Rows.{at, raised}
 use Rattle.heat_ledger.specs.Ledger.{ShareData}
 use Rattle.heat_ledger.specs.Rows.{sums}
 use Rattle.heat_ledger.proofs.RowLemmas.{at_set_same, at_set_other, at_replicate, at_sums, length-sums, same_rows}
 use Rattle.std.specs.Prelude.{fold, filter}
-use Rattle.heat_decay.specs.Heat.{Heats}
 use Rattle.script_session.specs.declared.load.Load.{Load}
 use Rattle.dirtree.specs.Tree.{is_there}
 use Rattle.script_session.specs.Board.{BoardData}

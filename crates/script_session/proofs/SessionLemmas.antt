@@ -1,11 +1,9 @@
 -- What a session answers.
-use Rattle.std.proofs.Common.{◌≡◌, ℕ, Bool, true, false, List, refl, sym, ap, ◌∙◌, Option, Some, None, Result, Ok, Err, ◌⊎◌, inl, inr}
+use Rattle.std.proofs.Common.{◌≡◌, ℕ, false, List, refl, Ok, ◌⊎◌, inl, inr}
 use Rattle.script_engine.specs.Answers.{Answer, fault_text}
 use Rattle.script_session.specs.declared.fault.Fault.{Fault}
-use Rattle.script_session.specs.declared.fault.Fault.TheVariants.{Memory}
-use Rattle.script_session.specs.Board.{BoardData}
 use Rattle.script_session.specs.Fault.{IsDue, words}
-use Rattle.script_session.specs.Session.{Outcome, Printed, SessionData, answers, done_answer, fault_answer, held, line_outcome, out_of_memory, told, Plans}
+use Rattle.script_session.specs.Session.{Printed, SessionData, answers, done_answer, fault_answer, line_outcome, out_of_memory, Plans}
 
 pub answered : (old new : SessionData) (number : ℕ) (bytes : List ℕ) (p : Printed) → (line_outcome old bytes ≡ Ok (p, new)) ⊎ (Plans old bytes p × (new ≡ old)) → answers old number bytes (done_answer number p) new
 answered old new number bytes p (inl is) = inl (rw is refl)

@@ -1,11 +1,11 @@
 -- The last slash of a path.
-use Rattle.std.proofs.Common.{◌≡◌, ◌≢◌, ◌==◌, ℕ, zero, suc, ◌<◌, ◌+◌, Bool, true, false, cond, List, [], ◌∷◌, ◌++◌, length, take, drop, get_or, Option, Some, None, Bor, refl, sym, ap, ◌∙◌, arith, lit<}
+use Rattle.std.proofs.Common.{◌≡◌, ◌≢◌, ◌==◌, ℕ, suc, ◌<◌, List, [], ◌∷◌, ◌++◌, length, take, drop, get_or, Some, None, refl, sym, ap, ◌∙◌, arith, lit<}
 use Rattle.std.proofs.lemmas.Bool.{ne_eqb}
 use Rattle.std.proofs.lemmas.List.{take-append-drop}
 use Rattle.std.proofs.lemmas.Str.Pattern.{NoCharPasses-char, drop_at_char}
 use Rattle.std.specs.Str.{NoCharPasses}
-use Rattle.std.specs.Str.Pattern.{HasCharAt, RFindsChar}
-use Rattle.script_session.specs.Commands.{before_byte, last_slash}
+use Rattle.std.specs.Str.Pattern.{RFindsChar}
+use Rattle.script_session.specs.Commands.{last_slash}
 
 -- no byte is a slash
 abbrev HasNone : List ℕ → Type 0

@@ -1,5 +1,5 @@
 -- What a script has made: the tree with its pins, its heats and counts, the mask, and the requests that wait.
-use Rattle.std.specs.Prelude.{◌≡◌, ℕ, ◌<◌, List, [], ◌∷◌, length, replicate, All, Option, Some}
+use Rattle.std.specs.Prelude.{◌≡◌, ℕ, ◌<◌, List, [], ◌∷◌, length, replicate, All, Some}
 use Rattle.dirtree.specs.Tree.{Directories, root}
 use Rattle.dir_pins.specs.Pins.{PinTable, no_pins}
 use Rattle.heat_decay.specs.Heat.{Heats}

@@ -1,9 +1,8 @@
 -- Why a line is faulty, in the words that are printed.
-use Rattle.std.specs.Prelude.{◌≡◌, ℕ, List, ◌++◌, ◌⊎◌, Bool, true, false, codes, Result, Ok, Err}
+use Rattle.std.specs.Prelude.{◌≡◌, ℕ, List, ◌++◌, ◌⊎◌, Bool, true, false, codes, Result, Err}
 use Rattle.dirtree.specs.declared.tree_error.TreeError.{TreeError}
 use Rattle.dirtree.specs.declared.tree_error.TreeError.TheVariants as tree
 use Rattle.dirtree.specs.TreeError as tree_words
-use Rattle.dir_pins.specs.declared.pin_error.PinError.{PinError}
 use Rattle.dir_pins.specs.PinError as pin_words
 use Rattle.board_problem.specs.declared.open_error.OpenError.{OpenError}
 use Rattle.board_problem.specs.declared.open_error.OpenError.TheVariants as opens

@@ -6,7 +6,6 @@ use Rattle.mds_types.specs.declared.cut_proof.CutProof.TheVariants.{Zero, Heavy,
 use Rattle.mds_types.specs.declared.plan.Plan.{Plan}
 use Rattle.mds_types.specs.declared.problem.ProblemRow.{ProblemRow}
 use Rattle.mds_types.specs.Certificate.{IsBest}
-use Rattle.mds_types.specs.Problem.{ProblemData}
 use Rattle.mds_types.specs.RankSet.{has_rank}
 use Rattle.dirtree.specs.Path.{path_of}
 use Rattle.dir_pins.specs.Pins.{unpinned}

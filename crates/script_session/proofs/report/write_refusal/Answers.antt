@@ -1,9 +1,6 @@
-use Rattle.std.proofs.Common.{◌≡◌, List, ℕ, Option, ◌∷◌, [], ◌++◌, ◌∙◌, refl, sym, append_assoc}
+use Rattle.std.proofs.Common.{◌≡◌, List, ℕ, ◌∷◌, [], ◌++◌, ◌∙◌, refl, append_assoc}
 use Rattle.std.specs.Prelude.{codes, decimal}
-use Rattle.std.specs.Io.KnownBytes.{Appends}
 use Rattle.std.proofs.lemmas.Result.{err_from_is_err_and, on_err_weaker}
-use Rattle.script_engine.specs.Answers.{fault_text}
-use Rattle.script_engine.specs.Known.{AppendsFront}
 use Rattle.script_engine.proofs.KnownLemmas.{fails_1, fails_2, fails_3, fails_4, fails_5}
 use Rattle.script_session.proofs.report.write_refusal.Goals as goal
 

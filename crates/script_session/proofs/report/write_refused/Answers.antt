@@ -1,4 +1,4 @@
-use Rattle.std.proofs.Common.{add-one, ◌≡◌, ◌++◌, ℕ, suc, List, subst, sym, ◌∙◌}
+use Rattle.std.proofs.Common.{add-one, ◌++◌, ℕ, List, subst, sym}
 use Rattle.std.specs.Io.KnownBytes.{Appends}
 use Rattle.std.proofs.KnownBytes.{Appends-trans}
 use Rattle.std.proofs.lemmas.Result.{err_from_is_err_and}

@@ -1,4 +1,4 @@
-use Rattle.std.proofs.Common.{rules, ◌≡◌, ℕ, zero, suc, ◌+◌, ◌-◌, ◌<◌, ◌≤◌, List, [], arith, min, length, refl, sym, ◌∙◌, Err, subst}
+use Rattle.std.proofs.Common.{◌≡◌, ◌+◌, ◌-◌, ◌<◌, ◌≤◌, arith, length, refl, sym, ◌∙◌, Err}
 use Rattle.std.proofs.Math.Nat.{min-eq_right}
 use Rattle.heat_ledger.specs.Rows.{at}
 use Rattle.heat_ledger.specs.declared.hit_error.HitError.{HitError}

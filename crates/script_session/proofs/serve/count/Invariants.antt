@@ -1,4 +1,4 @@
-use Rattle.std.proofs.Common.{◌≡◌, ◌+◌, ◌-◌, ◌≤◌, length}
+use Rattle.std.proofs.Common.{◌≡◌, ◌+◌, ◌-◌, ◌≤◌}
 use Rattle.heat_ledger.specs.Rows.{at}
 use Rattle.heat_ledger.specs.declared.share.TheConstants.{HIT_LIMIT}
 use Rattle.std.specs.Prelude.{slice_set}

@@ -1,5 +1,4 @@
-use Rattle.std.proofs.Common.{◌≡◌, ℕ, ◌+◌, ◌<◌, length, sym, ◌∙◌, arith}
-use Rattle.heat_ledger.specs.Rows.{at}
+use Rattle.std.proofs.Common.{arith}
 use Rattle.script_session.proofs.ServeLemmas.{both_more}
 use Rattle.script_session.proofs.serve.serve.Goals as goal
 

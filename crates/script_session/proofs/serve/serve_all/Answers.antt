@@ -1,7 +1,6 @@
-use Rattle.std.proofs.Common.{add-one, ◌≡◌, ℕ, ◌+◌, ◌≤◌, ◌<◌, Bool, true, false, cond, List, length, take, get_or, sym, ap, ◌∙◌, arith, refl, subst}
+use Rattle.std.proofs.Common.{add-one, ◌≡◌, ℕ, ◌+◌, Bool, true, false, cond, List, take, sym, ap, ◌∙◌, arith}
 use Rattle.std.specs.Prelude.{fold, filter}
 use Rattle.dirtree.specs.Tree.{is_there}
-use Rattle.heat_ledger.specs.Rows.{at}
 use Rattle.script_session.specs.declared.load.Load.{Load}
 use Rattle.script_session.specs.Commands.{Counts, serve}
 use Rattle.script_session.proofs.ServeLemmas.{fold_more}

@@ -2,7 +2,7 @@ use Rattle.std.proofs.Common.{◌≡◌, ℕ, ◌+◌, ◌≤◌, take, length}
 use Rattle.std.specs.Prelude.{fold, filter}
 use Rattle.dirtree.specs.Tree.{is_there}
 use Rattle.heat_ledger.specs.Rows.{at}
-use Rattle.script_session.specs.Commands.{Counts, serve}
+use Rattle.script_session.specs.Commands.{serve}
 use Rattle.script_session.proofs.serve.serve_all.Given as goal
 
 -- the requests so far are served

@@ -1,4 +1,4 @@
-use Rattle.std.proofs.Common.{◌≡◌, sym, ap, refl, subst, inr}
+use Rattle.std.proofs.Common.{sym, ap, refl, subst, inr}
 use Rattle.script_commands.specs.View.{view}
 use Rattle.script_session.specs.Session.{IsPlanned, Printed}
 use Rattle.script_session.proofs.board.Board.carry_out.Goals as goal

@@ -1,5 +1,4 @@
-use Rattle.std.proofs.Common.{◌≡◌, ◌<◌, ℕ, Bool, true, false, List, length, get_or, ap, sym, ◌∙◌, refl, arith, All, subst}
-use Rattle.dirtree.specs.Tree.{is_there}
+use Rattle.std.proofs.Common.{◌≡◌, List, sym, ◌∙◌, subst}
 use Rattle.division_cost.specs.declared.division.Part.{Part}
 use Rattle.division_cost.specs.Parts.{Marks, parts}
 use Rattle.script_session.specs.Cost.{AreThere}

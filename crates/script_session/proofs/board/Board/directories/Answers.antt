@@ -1,4 +1,4 @@
-use Rattle.std.proofs.Common.{◌≡◌, ◌<◌, ℕ, List, [], ◌∷◌, ◌++◌, Option, Bool, true, false, cond, sym, ◌∙◌, refl, arith, length, append-nil, ◌+◌, All, subst}
+use Rattle.std.proofs.Common.{◌≡◌, ◌<◌, ℕ, List, [], ◌∷◌, ◌++◌, Option, true, false, cond, sym, ◌∙◌, refl, append-nil, ◌+◌, All, subst}
 use Rattle.std.specs.Prelude.{filter}
 use Rattle.dirtree.specs.Tree.{Entry, is_there}
 use Rattle.dir_pins.specs.Pins.{below}

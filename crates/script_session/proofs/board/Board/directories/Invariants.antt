@@ -1,4 +1,4 @@
-use Rattle.std.proofs.Common.{◌≡◌, ◌<◌, ◌≤◌, All, length, true}
+use Rattle.std.proofs.Common.{◌≡◌, ◌<◌, All}
 use Rattle.std.specs.Prelude.{filter}
 use Rattle.dirtree.specs.Tree.{is_there}
 use Rattle.dir_pins.specs.Pins.{below}

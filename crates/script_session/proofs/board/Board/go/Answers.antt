@@ -1,4 +1,4 @@
-use Rattle.std.proofs.Common.{◌≡◌, ℕ, List, [], length, sym, ap, ◌∙◌, refl, rules}
+use Rattle.std.proofs.Common.{◌≡◌, ℕ, List, length, sym, ap, ◌∙◌, refl, rules}
 use Rattle.script_session.specs.Board.{BoardData}
 use Rattle.script_session.specs.Commands.{Counts, go, served}
 use Rattle.script_session.proofs.ServeLemmas.{board_served, counts_served, deposited, limit_served}

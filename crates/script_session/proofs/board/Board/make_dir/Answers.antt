@@ -1,9 +1,6 @@
-use Rattle.std.proofs.Common.{◌≡◌, List, ℕ, Option, Some, None, Result, Ok, Err, ap, sym, refl, ◌∙◌, inl, inr, ◌⊎◌, subst, IfErr, OnOk}
+use Rattle.std.proofs.Common.{◌≡◌, Some, None, Ok, Err, sym, refl, ◌∙◌, inl}
 use Rattle.std.proofs.lemmas.Result.{err_from_is_err_and}
-use Rattle.script_session.specs.declared.fault.Fault.{Fault}
-use Rattle.script_session.specs.Board.{BoardData}
-use Rattle.script_session.specs.Fault.{IsDue}
-use Rattle.script_session.specs.Commands.{find, last_slash, make_below, make_child, make_dir, parent_path}
+use Rattle.script_session.specs.Commands.{find, last_slash, parent_path}
 use Rattle.script_session.proofs.SlashLemmas.{no_slash_passes, slash_found}
 use Rattle.script_session.proofs.BoardLemmas.{made_below, refused_below}
 use Rattle.script_session.proofs.board.Board.make_dir.Goals as goal

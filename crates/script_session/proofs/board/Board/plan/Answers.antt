@@ -1,4 +1,4 @@
-use Rattle.std.proofs.Common.{◌≡◌, ◌<◌, ℕ, List, ap, sym, ◌∙◌, refl, subst, inl, rules, arith, length, replicate}
+use Rattle.std.proofs.Common.{◌≡◌, ap, sym, ◌∙◌, refl, subst, inl, rules, arith, length, replicate}
 use Rattle.mds_types.specs.Certificate.{IsBest}
 use Rattle.mds_types.specs.Problem.{ProblemData}
 use Rattle.script_session.specs.Board.{BoardData}

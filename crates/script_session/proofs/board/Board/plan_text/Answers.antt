@@ -1,4 +1,4 @@
-use Rattle.std.proofs.Common.{◌≡◌, ◌++◌, ℕ, List, ap, sym, ◌∙◌, string_bytes, take, append_assoc, get_or, ◌+◌, All, subst, true}
+use Rattle.std.proofs.Common.{◌≡◌, ◌++◌, ℕ, List, ap, sym, ◌∙◌, take, append_assoc, ◌+◌, All, subst, true}
 use Rattle.std.specs.List.{flat_map}
 use Rattle.board_problem.specs.declared.plan_parts.PlanPart.{PlanPart}
 use Rattle.script_session.specs.Plan.{plan_line, plan_part_line}

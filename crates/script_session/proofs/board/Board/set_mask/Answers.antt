@@ -1,4 +1,4 @@
-use Rattle.std.proofs.Common.{◌≡◌, ap, refl}
+use Rattle.std.proofs.Common.{ap}
 use Rattle.script_session.specs.Commands.{with_mask}
 use Rattle.script_session.proofs.MaskLemmas.{mask_found, mask_none}
 use Rattle.script_session.proofs.board.Board.set_mask.Goals as goal

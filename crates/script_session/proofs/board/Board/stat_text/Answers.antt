@@ -1,4 +1,4 @@
-use Rattle.std.proofs.Common.{◌≡◌, ◌++◌, ℕ, List, ap, sym, ◌∙◌, string_bytes, take, append_assoc, get_or, ◌+◌}
+use Rattle.std.proofs.Common.{◌≡◌, ◌++◌, ℕ, List, ap, sym, ◌∙◌, take, append_assoc, ◌+◌}
 use Rattle.std.specs.List.{flat_map}
 use Rattle.script_session.specs.Stat.{cluster_line, dir_line}
 use Rattle.script_session.proofs.ReportLemmas.{flat_map_more}

@@ -1,8 +1,7 @@
-use Rattle.std.proofs.Common.{◌≡◌, ◌<◌, ◌+◌, ℕ, Bool, true, false, List, [], ◌∷◌, ◌++◌, Result, Ok, Err, Bor, length, map, take, drop, set, get_or, ap, sym, ◌∙◌, refl, arith, inl, replicate, length-set}
+use Rattle.std.proofs.Common.{◌≡◌, ◌<◌, ◌+◌, ℕ, Bool, false, List, [], ◌∷◌, ◌++◌, Bor, length, map, take, drop, get_or, ap, sym, ◌∙◌, refl, arith, inl, length-set}
 use Rattle.std.proofs.lemmas.Result.{err_from_is_err_and}
 use Rattle.std.proofs.lemmas.List.{map_more}
-use Rattle.division_cost.specs.Parts.{Marks}
-use Rattle.script_session.specs.Cost.{top, tops}
+use Rattle.script_session.specs.Cost.{tops}
 use Rattle.script_session.proofs.CostLemmas.{all_false, marked_more, marked_root, paths_at, tops_end, tops_more}
 use Rattle.script_session.proofs.board.Board.tops.Goals as goal
 

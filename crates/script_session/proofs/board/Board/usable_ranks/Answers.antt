@@ -1,4 +1,4 @@
-use Rattle.std.proofs.Common.{◌≡◌, ◌∙◌, ◌&&◌, nat_lt, ℕ, Bool, ap}
+use Rattle.std.proofs.Common.{◌∙◌, ◌&&◌, nat_lt, ℕ, ap}
 use Rattle.mds_types.specs.RankSet.{has_rank}
 use Rattle.script_session.specs.Board.{BoardData}
 use Rattle.script_session.specs.Stat.{usable}

@@ -1,7 +1,4 @@
-use Rattle.std.proofs.Common.{◌≡◌, ℕ, List, ap, sym, ◌∙◌, refl, true, false}
 use Rattle.std.proofs.lemmas.Result.{err_from_is_err_and, IfOk-weaker, on_err_weaker}
-use Rattle.std.specs.Io.KnownBytes.{Appends}
-use Rattle.script_engine.specs.Known.{AppendsFront}
 use Rattle.script_session.specs.Session.{done_answer}
 use Rattle.script_session.proofs.SessionLemmas.{answered, answered_fault}
 use Rattle.script_session.proofs.session.SessionInterpreter.answer.Goals as goal
