@@ -79,21 +79,10 @@ abbrev pub load : List (List ℕ) → Option Command
 load (path ∷ n ∷ []) = option_map (Load path) (number 1 1000000 n)
 load fields = None
 
-abbrev pub go : List (List ℕ) → Option Command
-go [] = Some Go
-go fields = None
-
-abbrev pub tick : List (List ℕ) → Option Command
-tick [] = Some Tick
-tick fields = None
-
-abbrev pub plan : List (List ℕ) → Option Command
-plan [] = Some Plan
-plan fields = None
-
-abbrev pub stat : List (List ℕ) → Option Command
-stat [] = Some Stat
-stat fields = None
+-- a command that has no fields behind its word
+abbrev pub alone : Command → List (List ℕ) → Option Command
+alone c [] = Some c
+alone c fields = None
 
 abbrev pub command : List (List ℕ) → Option Command
 command [] = None
@@ -104,11 +93,11 @@ command (word ∷ rest) =
     else if bytes_eq word (codes "rmdir") then remove_dir rest
     else if bytes_eq word (codes "pin") then pin rest
     else if bytes_eq word (codes "load") then load rest
-    else if bytes_eq word (codes "go") then go rest
-    else if bytes_eq word (codes "tick") then tick rest
+    else if bytes_eq word (codes "go") then alone Go rest
+    else if bytes_eq word (codes "tick") then alone Tick rest
     else if bytes_eq word (codes "cost") then Some (Cost rest)
-    else if bytes_eq word (codes "plan") then plan rest
-    else if bytes_eq word (codes "stat") then stat rest
+    else if bytes_eq word (codes "plan") then alone Plan rest
+    else if bytes_eq word (codes "stat") then alone Stat rest
     else None
 
 -- what a line asks for

@@ -2,7 +2,7 @@
 ghost use Rattle.std.specs.Prelude.{◌≡◌, ◌∷◌, map, IfOk, true};
 ghost use Rattle.std.specs.List.{list_all};
 ghost use Rattle.std.specs.Option.{option_map};
-ghost use Rattle.script_commands.specs.Commands.{is_plain, ranks, mask, make_dir, remove_dir, pin, load, go, tick, plan, stat, command};
+ghost use Rattle.script_commands.specs.Commands.{alone, command, is_plain, load, make_dir, mask, pin, ranks, remove_dir};
 ghost use Rattle.script_commands.specs.View.{view};
 
 use crate::fields::text;
@@ -113,38 +113,12 @@ fn load<'a>(rest: &[&'a [u8]]) -> Option<Command<'a>>
     }
 }
 
-fn go<'a>(rest: &[&'a [u8]]) -> Option<Command<'a>>
-    ensures { option_map view result ≡ go (map (λ field. field.now) rest.now) }
+/// A command that has no fields behind its word.
+fn alone<'a>(command: Command<'a>, rest: &[&'a [u8]]) -> Option<Command<'a>>
+    ensures { option_map view result ≡ alone (view command.entry) (map (λ field. field.now) rest.now) }
 {
     match rest {
-        [] => Some(Command::Go),
-        _ => None,
-    }
-}
-
-fn tick<'a>(rest: &[&'a [u8]]) -> Option<Command<'a>>
-    ensures { option_map view result ≡ tick (map (λ field. field.now) rest.now) }
-{
-    match rest {
-        [] => Some(Command::Tick),
-        _ => None,
-    }
-}
-
-fn plan<'a>(rest: &[&'a [u8]]) -> Option<Command<'a>>
-    ensures { option_map view result ≡ plan (map (λ field. field.now) rest.now) }
-{
-    match rest {
-        [] => Some(Command::Plan),
-        _ => None,
-    }
-}
-
-fn stat<'a>(rest: &[&'a [u8]]) -> Option<Command<'a>>
-    ensures { option_map view result ≡ stat (map (λ field. field.now) rest.now) }
-{
-    match rest {
-        [] => Some(Command::Stat),
+        [] => Some(command),
         _ => None,
     }
 }
@@ -185,15 +159,15 @@ pub fn find_command<'a>(
     } else if word == b"load".as_slice() {
         Ok(load(rest))
     } else if word == b"go".as_slice() {
-        Ok(go(rest))
+        Ok(alone(Command::Go, rest))
     } else if word == b"tick".as_slice() {
-        Ok(tick(rest))
+        Ok(alone(Command::Tick, rest))
     } else if word == b"cost".as_slice() {
         Ok(Some(Command::Cost(texts(alloc, rest)?)))
     } else if word == b"plan".as_slice() {
-        Ok(plan(rest))
+        Ok(alone(Command::Plan, rest))
     } else if word == b"stat".as_slice() {
-        Ok(stat(rest))
+        Ok(alone(Command::Stat, rest))
     } else {
         Ok(None)
     }
