@@ -15,6 +15,7 @@ mod history;
 mod map_error;
 mod map_reader;
 mod map_writer;
+mod publisher;
 mod queue;
 mod table;
 #[cfg(test)]
@@ -25,3 +26,4 @@ pub use history::Opened;
 pub use map_error::MapError;
 pub use map_reader::{MapReader, Told};
 pub use map_writer::{MapWriter, WriterOf};
+pub use publisher::Publisher;

@@ -1,14 +1,15 @@
 //! A reader of the map.
-ghost use Rattle.std.specs.Prelude.{◌≡◌, ◌≢◌};
+ghost use Rattle.std.specs.Prelude.{◌≡◌, ◌≢◌, IsTrue};
 ghost use mathlib.Core.List.{IsPrefix};
 ghost use Rattle.authority_map.specs.Operations.{rank_after};
 ghost use Rattle.authority_map.specs.Answer.{found_of};
 
 use crate::found::Found;
 use crate::history::Known;
+use crate::publisher::Publisher;
 use crate::table::Table;
 use left_right::ReadHandle;
-use mds_types::Dir;
+use mds_types::{Dir, Rank};
 use naming::Naming;
 use std::marker::Model;
 
@@ -76,6 +77,32 @@ impl<J: Naming> MapReader<J> {
         match table.rank_of(dir) {
             Some(rank) => Found::Rank(rank),
             None => Found::NoDir,
+        }
+    }
+
+    /// Whether the answers hold just what the writer told, and nothing later.
+    pub fn is_at(&self, told: &Told<J>) -> bool
+        ensures { IsTrue result → self.now ≡ told.now }
+    {
+        self.known.is_same(&told.known)
+    }
+
+    /// The rank of a directory in all that is published, for a reader beside the writer. It is what
+    /// the reader finds. Where the reader is closed or holds more, which a writer that lives rules
+    /// out, the writer's own copy answers.
+    pub fn find_latest<P: Publisher<J>>(&mut self, publisher: &P, dir: Dir) -> Option<Rank>
+        ensures rank { result ≡ rank_after (P.published publisher.now) dir }
+        ensures known { IsPrefix self.old self.new }
+    {
+        self.learn(publisher.tell());
+        let found = self.find(dir);
+        if !self.is_at(&publisher.tell()) {
+            return publisher.rank_of(dir);
+        }
+        match found {
+            Found::Rank(rank) => Some(rank),
+            Found::NoDir => None,
+            Found::Closed => publisher.rank_of(dir),
         }
     }
 

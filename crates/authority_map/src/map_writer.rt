@@ -1,14 +1,12 @@
 //! The writer of the map.
-ghost use Rattle.std.specs.Prelude.{◌≡◌, ◌-◌, ◌<◌, ◌≤◌, ◌∷◌, [], ◌++◌, All, IfOk, IfErr, OnOk, OnErr, vec_len};
+ghost use Rattle.std.specs.Prelude.{◌≡◌, ◌≤◌, [], All, IfOk, IfErr, vec_len};
 ghost use Rattle.left_right.specs.Handles.{published, pending};
-ghost use Rattle.authority_map.specs.Operations.{SetTo};
-ghost use Rattle.authority_map.specs.Operations as op;
-ghost use Rattle.authority_map.specs.Changes.{changes};
 
 use crate::change::What;
 use crate::history::{Known, Opened};
 use crate::map_error::MapError;
 use crate::map_reader::{MapReader, Told};
+use crate::publisher::Publisher;
 use crate::queue::{Entry, Queue, hand_all};
 use crate::table::Table;
 use left_right::{Absorb, WriteHandle};
@@ -85,45 +83,32 @@ impl<J: Naming, R: Wait + Drop> WriterOf<J, Table<J>, Entry<J>, R> {
             }
         }
     }
+}
 
-    /// Makes room for one operation.
-    pub fn reserve(&mut self) -> Result<(), MapError>
-        ensures room { OnOk result (1 ≤ self.new.queue.room) }
-        ensures refused { IfErr result (λ e. e ≡ MapError.Memory) }
-        ensures same { (self.new.queue.waiting ≡ self.old.queue.waiting) × (self.new.copies ≡ self.old.copies) }
-    {
+impl<J: Naming, R: Wait + Drop> Publisher<J> for WriterOf<J, Table<J>, Entry<J>, R> {
+    ghost use Rattle.std.specs.Prelude.{◌++◌};
+    ghost use Rattle.left_right.specs.Handles.{published, pending};
+    ghost use Rattle.authority_map.specs.Changes.{changes};
+
+    ghost published = { λ writer. (published writer.copies).known };
+
+    ghost pending = { λ writer. changes (pending writer.copies) ++ writer.queue.waiting };
+
+    ghost room = { λ writer. writer.queue.room };
+
+    fn reserve(&mut self) -> Result<(), MapError> {
         self.queue.reserve()
     }
 
-    /// Gives the directories the rank, from the next `publish` on.
-    pub fn set(&mut self, dirs: Vec<Dir>, rank: Rank)
-        requires room { 1 ≤ self.old.queue.room }
-        requires inside { All (λ dir. dir < J.limit) dirs.items }
-        ensures appended { self.new.queue ≡ record { waiting = self.old.queue.waiting ++ SetTo dirs.items rank ∷ []; room = self.old.queue.room - 1 } }
-        ensures same { self.new.copies ≡ self.old.copies }
-    {
+    fn set(&mut self, dirs: Vec<Dir>, rank: Rank) {
         self.queue.push(What::Set(dirs, rank));
     }
 
-    /// Takes the directory's rank away, from the next `publish` on.
-    pub fn clear(&mut self, dir: Dir)
-        requires room { 1 ≤ self.old.queue.room }
-        requires inside { dir < J.limit }
-        ensures appended { self.new.queue ≡ record { waiting = self.old.queue.waiting ++ op.Clear dir ∷ []; room = self.old.queue.room - 1 } }
-        ensures same { self.new.copies ≡ self.old.copies }
-    {
+    fn clear(&mut self, dir: Dir) {
         self.queue.push(What::Clear(dir));
     }
 
-    /// Shows readers all that is pending. It waits for readers that are still in the copy of the
-    /// publish before the last.
-    pub fn publish(&mut self) -> Result<(), MapError>
-        ensures ok { OnOk result ((published self.new.copies).known ≡ (published self.old.copies).known ++ (changes (pending self.old.copies) ++ self.old.queue.waiting)) }
-        ensures all { OnOk result ((pending self.new.copies ≡ []) × (self.new.queue.waiting ≡ [])) }
-        ensures refused { IfErr result (λ e. e ≡ MapError.Memory) }
-        ensures shown { OnErr result (published self.new.copies ≡ published self.old.copies) }
-        ensures pending { OnErr result (changes (pending self.new.copies) ++ self.new.queue.waiting ≡ changes (pending self.old.copies) ++ self.old.queue.waiting) }
-    {
+    fn publish(&mut self) -> Result<(), MapError> {
         if !hand_all(&mut self.copies, &mut self.queue) {
             return Err(MapError::Memory);
         }
@@ -133,15 +118,15 @@ impl<J: Naming, R: Wait + Drop> WriterOf<J, Table<J>, Entry<J>, R> {
         }
     }
 
-    /// A token of what is published.
-    pub fn tell(&self) -> Told<J>
-        ensures { result ≡ (published self.now.copies).known }
-    {
+    fn tell(&self) -> Told<J> {
         Told::of(self.copies.published().known.copied())
     }
 
-    /// Ends the map: readers find it closed from now on. It waits for readers that are still in it.
-    pub fn end(self) {
+    fn rank_of(&self, dir: Dir) -> Option<Rank> {
+        self.copies.published().rank_of(dir)
+    }
+
+    fn end(self) {
         let WriterOf {
             copies,
             queue: _queue,

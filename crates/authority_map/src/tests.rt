@@ -1,7 +1,7 @@
 //! Worked sequences of calls, one of them with readers in threads.
 ghost use Rattle.std.specs.Prelude.{◌≡◌, ◌<◌};
 
-use crate::{Found, MapError, MapReader, MapWriter, Opened};
+use crate::{Found, MapError, MapReader, MapWriter, Opened, Publisher};
 use mds_types::{Dir, Rank};
 use naming::Naming;
 use std::alloc::Global;
@@ -83,6 +83,55 @@ fn readers_follow(rt: HostRuntime) -> Result<(), Fail> {
     assert_eq!(rt; other, Found::NoDir);
     assert_eq!(rt; cleared, Found::NoDir);
     assert_eq!(rt; closed, Found::Closed);
+    Ok(())
+}
+
+// Rank 0 is published, rank 1 at first not: what a reader beside the writer finds each time.
+fn latest<J: Naming, R: Wait + Drop>(
+    alloc: Global,
+    writer: &mut MapWriter<J, R>,
+    reader: &mut MapReader<J>,
+    zero: Rank,
+    one: Rank,
+) -> Result<[Option<Rank>; 4], MapError>
+    requires { J.limit ≡ 4 }
+{
+    let dir = Dir::new(1);
+    let none = reader.find_latest(writer, dir);
+    give(alloc, writer, dir, zero)?;
+    writer.publish()?;
+    let first = reader.find_latest(writer, dir);
+    give(alloc, writer, dir, one)?;
+    let before = reader.find_latest(writer, dir);
+    writer.publish()?;
+    Ok([none, first, before, reader.find_latest(writer, dir)])
+}
+
+fn find_latest<J: Naming, R: Wait + Drop>(
+    rt: R,
+    alloc: Global,
+    opened: Opened,
+    zero: Rank,
+    one: Rank,
+) -> Result<[Option<Rank>; 4], MapError>
+    requires name { opened ≡ J.map }
+    requires limit { J.limit ≡ 4 }
+{
+    match MapWriter::<J, R>::open(rt, alloc, opened, 4, 1) {
+        Err((error, _opened)) => Err(error),
+        Ok((mut writer, mut readers)) => {
+            let found = latest(alloc, &mut writer, &mut readers[0], zero, one);
+            writer.end();
+            found
+        }
+    }
+}
+
+#[test]
+fn a_reader_beside_the_writer_finds_the_latest(rt: HostRuntime) -> Result<(), Fail> {
+    let (zero, one) = (Rank::new(0).ok_or("rank")?, Rank::new(1).ok_or("rank")?);
+    let found = find_latest::<Brand, _>(&rt, rt.alloc(), Opened::new(), zero, one)?;
+    assert_eq!(rt; found, [None, Some(zero), Some(zero), Some(one)]);
     Ok(())
 }
 

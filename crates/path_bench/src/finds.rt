@@ -2,7 +2,7 @@
 ghost use Rattle.std.specs.Prelude.{◌≡◌, ◌≤◌};
 
 use crate::clock::{RUNS, keys, now, per_step};
-use authority_map::{Found, MapError, MapReader, MapWriter, Opened};
+use authority_map::{Found, MapError, MapReader, MapWriter, Opened, Publisher};
 use mds_types::limits::DIR_LIMIT;
 use mds_types::{Dir, Rank};
 use naming::Naming;

@@ -1,5 +1,6 @@
 pub mod BoardLemmas
 pub mod CostLemmas
+pub mod MapLemmas
 pub mod MaskLemmas
 pub mod PlanLemmas
 pub mod ReportLemmas

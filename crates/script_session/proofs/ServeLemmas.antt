@@ -1,8 +1,11 @@
 -- Requests that are served in turn.
-use Rattle.std.proofs.Common.{◌≡◌, ℕ, zero, suc, ◌+◌, ◌<◌, Bool, true, false, cond, List, [], ◌∷◌, length, take, get_or, set, refl, sym, ap, ◌∙◌, arith, length-set, inl, inr, replicate}
+use Rattle.std.proofs.Common.{◌≡◌, ℕ, zero, suc, ◌+◌, ◌*◌, ◌<◌, Bool, true, false, cond, List, [], ◌∷◌, ◌++◌, length, take, get_or, set, refl, sym, ap, ◌∙◌, arith, length-set, inl, inr, replicate}
 use Rattle.std.proofs.lemmas.Bool.{cases_eq}
 use Rattle.heat_ledger.specs.Rows.{at, raised}
-use Rattle.heat_ledger.specs.Ledger.{ShareData}
+use Rattle.heat_ledger.specs.Ledger.{ShareData, weight_of}
+use Rattle.std.proofs.Math.Seq.{get_or-append_seam}
+use Rattle.std.proofs.lemmas.List.Folds.{sum_by-replicate}
+use Rattle.std.proofs.lemmas.List.Sums.{sum_by-append}
 use Rattle.heat_ledger.specs.Rows.{sums}
 use Rattle.heat_ledger.proofs.RowLemmas.{at_set_same, at_set_other, at_replicate, at_sums, length-sums, same_rows}
 use Rattle.std.specs.Prelude.{fold, filter}
@@ -90,3 +93,24 @@ module _ (b : BoardData) (now : Counts) (hits : List ℕ) (loads : List Load) (i
 
   pub limit_served : now.heats.limit ≡ b.heats.limit
   limit_served = ap (λ (s : Counts). s.heats.limit) counts_served ∙ serve_limit (record { heats = b.heats; counted = b.counted; refused = 0 }) (waiting b)
+
+mul_unit : (n : ℕ) → n * 1 ≡ n
+mul_unit n = omega arith
+
+-- the weights of equal shares of weight 1, one of them taken out
+pub dealt : (count : ℕ) (one share : ShareData) (rest all : List ShareData) → one.weight ≡ 1 → all ≡ replicate count one → all ≡ rest ++ share ∷ [] → share.weight + weight_of rest ≡ count
+dealt count one share rest all single equal parted =
+    let first : weight_of all ≡ count * one.weight = ap weight_of equal ∙ sum_by-replicate (λ (s : ShareData). s.weight) count one in
+    let second : weight_of all ≡ weight_of rest + weight_of (share ∷ []) = ap weight_of parted ∙ sum_by-append (λ (s : ShareData). s.weight) rest (share ∷ []) in
+    let whole : count * one.weight ≡ count = ap (λ (w : ℕ). count * w) single ∙ mul_unit count in
+    omega (arith, first, second, whole)
+
+all_same : (count k : ℕ) (one : ShareData) → get_or (replicate count one) k one ≡ one
+all_same zero k one = refl
+all_same (suc count) zero one = refl
+all_same (suc count) (suc k) one = all_same count k one
+
+-- any of equal shares is like the others
+pub alike : (count : ℕ) (one share : ShareData) (rest all : List ShareData) → all ≡ replicate count one → all ≡ rest ++ share ∷ [] → share ≡ one
+alike count one share rest all equal parted =
+    sym (get_or-append_seam rest share [] one) ∙ ap (λ (l : List ShareData). get_or l (length rest) one) (sym parted ∙ equal) ∙ all_same count (length rest) one

@@ -1,5 +1,6 @@
 -- What each command does to a board.
-use Rattle.std.specs.Prelude.{ℕ, ℤ, ◌+◌, ◌-◌, min, if◌then◌else◌, ◌==◌, nat_lt, List, [], ◌∷◌, ◌++◌, map, filter, fold, slice_index, slice_index_or, slice_set, codes, Option, Some, None, Result, Ok, Err}
+use Rattle.std.specs.Prelude.{ℕ, ℤ, ◌+◌, ◌-◌, min, if◌then◌else◌, ◌==◌, nat_lt, List, [], ◌∷◌, ◌++◌, map, filter, fold, length, slice_index, slice_index_or, slice_set, codes, Option, Some, None, Result, Ok, Err}
+use Rattle.authority_map.specs.Operations.{SetTo, Clear}
 use Rattle.dirtree.specs.declared.tree_error.TreeError.{TreeError}
 use Rattle.dirtree.specs.declared.tree_error.TreeError.TheVariants.{BadName}
 use Rattle.dirtree.specs.Tree as tree
@@ -48,8 +49,15 @@ abbrev pub tree_allows : {A : Type 0} → Option TreeError → A → Result A Fa
 tree_allows None x = Ok x
 tree_allows (Some e) x = Err (tree_fault e)
 
+-- a new directory is at the rank of its parent: until exports exist, at rank 0
+abbrev pub with_child : BoardData → ℕ → List ℕ → ℕ → BoardData
+with_child b parent name inodes = record b {
+  directories = tree.with_child b.directories parent name inodes;
+  pending = b.pending ++ SetTo (length b.directories.entries ∷ []) 0 ∷ [];
+}
+
 abbrev pub make_child : BoardData → ℕ → List ℕ → ℕ → Result BoardData Fault
-make_child b parent name inodes = tree_allows (tree.make_refusal b.directories parent name) (record b { directories = tree.with_child b.directories parent name inodes })
+make_child b parent name inodes = tree_allows (tree.make_refusal b.directories parent name) (with_child b parent name inodes)
 
 abbrev pub make_below : BoardData → Option (List ℕ × List ℕ) → ℕ → Result BoardData Fault
 make_below b None inodes = Err (fault.Tree BadName)
@@ -58,8 +66,12 @@ make_below b (Some parts) inodes = find b (parent_path parts.0) >>= λ parent. m
 abbrev pub make_dir : BoardData → List ℕ → ℕ → Result BoardData Fault
 make_dir b text inodes = make_below b (last_slash text) inodes
 
+-- a directory that is gone has no rank
+abbrev pub without : BoardData → ℕ → BoardData
+without b d = record b { directories = tree.without b.directories d; pending = b.pending ++ Clear d ∷ [] }
+
 abbrev pub remove_found : BoardData → ℕ → Result BoardData Fault
-remove_found b d = tree_allows (tree.remove_refusal b.directories d) (record b { directories = tree.without b.directories d })
+remove_found b d = tree_allows (tree.remove_refusal b.directories d) (without b d)
 
 abbrev pub remove_dir : BoardData → List ℕ → Result BoardData Fault
 remove_dir b text = find b text >>= remove_found b

@@ -1,12 +1,13 @@
 -- What a line of a script does, and what is written for it.
 use Rattle.std.specs.Prelude.{◌≡◌, ℕ, ◌==◌, Bool, true, false, not, if◌then◌else◌, List, [], ◌++◌, ◌⊎◌, Option, Some, None, Result, Ok, Err}
 use Prim.Native.Nat.{zero, suc}
+use Rattle.std.specs.Option.{option_map}
 use Rattle.script_engine.specs.Answers.{Answer, fault_text}
 use Rattle.script_commands.specs.Commands as line
 use Rattle.script_commands.specs.Commands.{Command, Asked, asked}
 use Rattle.script_session.specs.declared.fault.Fault.{Fault}
 use Rattle.script_session.specs.declared.fault.Fault.TheVariants.{Syntax, NoRanks, RanksAgain, Memory, ShareFull, BalancerOff}
-use Rattle.script_session.specs.Board.{BoardData, empty_board}
+use Rattle.script_session.specs.Board.{BoardData, empty_board, publish}
 use Rattle.script_session.specs.Fault.{is_memory, words}
 use Rattle.mds_types.specs.declared.plan.Plan.{Plan}
 use Rattle.script_session.specs.Plan.{IsBestFor, plan_text}
@@ -90,8 +91,16 @@ done_answer number p = record { text = p.text ++ repeated p.refused (fault_text 
 abbrev pub fault_answer : ℕ → Fault → Answer
 fault_answer number fault = record { text = fault_text number (words fault); accepted = false; ample = not (is_memory fault) }
 
+-- the session with its map published, if it has a board
+abbrev pub published : SessionData → SessionData
+published s = record s { board = option_map publish s.board }
+
+-- after each line that is accepted the map is published
+abbrev pub settled : Printed → SessionData → SessionData
+settled p s = if p.refused == 0 then published s else s
+
 abbrev pub told : SessionData → ℕ → LineOutcome → Answer × SessionData
-told s number (Ok done) = (done_answer number done.0, done.1)
+told s number (Ok done) = (done_answer number done.0, settled done.0 done.1)
 told s number (Err fault) = (fault_answer number fault, s)
 
 -- the answer to a line where memory suffices, and the session after it
@@ -112,11 +121,22 @@ PlansFor s what p = (what ≡ line.Asks line.Plan) × (b : BoardData) × (s.boar
 abbrev pub Plans : SessionData → List ℕ → Printed → Type 0
 Plans s bytes p = PlansFor s (asked bytes) p
 
--- A line is answered so. Where a plan is printed or memory is refused, nothing has changed.
+-- What is asked for is done: this is printed, and this is the session before the map is published.
+abbrev pub IsDone : SessionData → LineOutcome → Asked → Printed → SessionData → Type 0
+IsDone old outcome what p mid = (outcome ≡ Ok (p, mid)) ⊎ (PlansFor old what p × (mid ≡ old))
+
+-- The line is answered, and the map is published, or there was no memory for that: then the operations stay pending, and
+-- the answer is the same.
+abbrev pub IsSettled : ℕ → Printed → SessionData → Answer → SessionData → Type 0
+IsSettled number p mid a new =
+    ((a ≡ done_answer number p) × (new ≡ settled p mid))
+    ⊎ ((a ≡ record (done_answer number p) { ample = false }) × (new ≡ mid))
+
+-- A line is answered so. Where the line is faulty, nothing has changed.
 abbrev pub answers : SessionData → ℕ → List ℕ → Answer → SessionData → Type 0
 answers old number bytes a new =
-    ((a, new) ≡ answer_to old number bytes)
-    ⊎ ((p : Printed) × Plans old bytes p × (a ≡ done_answer number p) × (new ≡ old))
+    ((p : Printed) × (mid : SessionData) × IsDone old (line_outcome old bytes) (asked bytes) p mid × IsSettled number p mid a new)
+    ⊎ ((fault : Fault) × (line_outcome old bytes ≡ Err fault) × (a ≡ fault_answer number fault) × (new ≡ old))
     ⊎ ((a ≡ out_of_memory number) × (new ≡ old))
 
 -- whether a line asks for a plan

@@ -1,29 +1,34 @@
-//! The tree with its pins, its heats, its book of hits, the mask, and the requests that wait.
-ghost use Rattle.std.specs.Prelude.{◌≡◌, ◌<◌, ◌≤◌, All, ℕ, List, IfErr, IfOk, IsTrue, OnErr, OnOk, Ok, Err, length, slice_index, slice_index_or, string_bytes, true, false};
+//! The tree with its pins, its heats, its book of hits, the mask, the requests that wait, and the map.
+ghost use Rattle.std.specs.Prelude.{◌≡◌, ◌<◌, ◌≤◌, [], All, ℕ, List, IfErr, MatchBool, vec_capacity, IfOk, IsTrue, OnErr, OnOk, Ok, Err, length, slice_index, slice_index_or, string_bytes, true, false};
 ghost use Rattle.dirtree.specs.Path.{path_of};
 ghost use Rattle.dirtree.specs.Tree.{is_there};
 ghost use Rattle.dir_pins.specs.Pins.{nearest_pin};
 ghost use Rattle.division_cost.specs.Parts.{Marks, parts};
-ghost use Rattle.script_session.specs.Board.{empty_board};
+ghost use Rattle.authority_map.specs.Operations.{rank_after};
+ghost use Rattle.script_session.specs.Board.{authority, empty_board, publish};
 
+use crate::board_parts::BoardParts;
 use crate::fault::Fault;
 use crate::load::Load;
+use authority_map::{MapReader, Publisher};
 use dir_pins::Pins;
 use dirtree::{Tree, TreeError};
 use division_cost::Part;
 use heat_decay::Heat;
-use heat_ledger::{Book, Opened, Share};
+use heat_ledger::{Book, Share};
 use mds_types::{Dir, Rank, RankSet};
 use naming::Naming;
-use std::alloc::{AllocError, AllocFailed, Global};
+use std::alloc::{AllocError, Global};
 use std::marker::Model;
 
 /// What a script has made once `ranks` was accepted. `J` names it.
 ///
 /// The book has a share for each rank. One of them counts the hits of all requests; what it has
 /// counted is deposited when `go` ends, so that nothing is pending between commands.
-#[derive(Drop)]
-pub struct Board<J: Naming> {
+///
+/// The board writes the map from directory to rank, and has a reader of it for its report. It can't be dropped, only
+/// ended, as it has the map's writer.
+pub struct Board<J: Naming, M: Publisher<J>> {
     pub(crate) tree: Tree,
     pub(crate) pins: Pins,
     pub(crate) heat: Heat,
@@ -32,21 +37,25 @@ pub struct Board<J: Naming> {
     pub(crate) others: Vec<Share<J>>,
     pub(crate) mask: RankSet,
     pub(crate) loads: Vec<Load>,
+    pub(crate) map: M,
+    pub(crate) reader: MapReader<J>,
 }
 
-impl<J: Naming> Model for Board<J> {
-    ghost use Rattle.std.specs.Prelude.{◌≡◌, replicate};
+impl<J: Naming, M: Publisher<J>> Model for Board<J, M> {
+    ghost use Rattle.std.specs.Prelude.{◌≡◌, ◌+◌, replicate};
+    ghost use Rattle.heat_ledger.specs.Ledger.{weight_of};
     ghost use Rattle.script_session.specs.Board.{BoardData, IsBoard};
 
     ghost Value = { BoardData };
 
-    ghost view = { λ board. record { directories = board.tree; pins = board.pins; heats = board.heat; counted = board.book.counted; mask = board.mask; loads = board.loads.items } };
+    ghost view = { λ board. record { directories = board.tree; pins = board.pins; heats = board.heat; counted = board.book.counted; mask = board.mask; loads = board.loads.items; published = M.published board.map; pending = M.pending board.map } };
 
-    ghost invariant = { λ board. IsBoard (record { directories = board.tree; pins = board.pins; heats = board.heat; counted = board.book.counted; mask = board.mask; loads = board.loads.items })
-        × (board.tree.limit ≡ J.limit) × (board.share.hits ≡ board.book.counted) × (board.share.pending ≡ replicate J.limit 0) };
+    ghost invariant = { λ board. IsBoard (record { directories = board.tree; pins = board.pins; heats = board.heat; counted = board.book.counted; mask = board.mask; loads = board.loads.items; published = M.published board.map; pending = M.pending board.map })
+        × (board.tree.limit ≡ J.limit) × (board.share.hits ≡ board.book.counted) × (board.share.pending ≡ replicate J.limit 0)
+        × (board.book.shares ≡ board.pins.active) × (board.share.weight + weight_of board.others.items ≡ board.book.shares) };
 }
 
-impl<J: Naming> Board<J> {
+impl<J: Naming, M: Publisher<J>> Board<J, M> {
     ghost use Rattle.script_session.specs.Commands.{find, load, make_child, make_dir, parent_path, remove_dir, set_mask, set_pin, tick};
     ghost use Rattle.script_session.specs.Fault.{IsDue};
     ghost use Rattle.mds_types.specs.RankSet.{rank_count};
@@ -54,29 +63,46 @@ impl<J: Naming> Board<J> {
     ghost use Rattle.script_session.specs.Stat.{usable};
 
     /// The root alone, in a cluster with this many active ranks, and room for the directory numbers below `limit`.
-    /// Where memory is refused, what was opened is handed back.
+    /// Where memory is refused, the parts are handed back.
     pub fn new(
         alloc: Global,
-        opened: Opened,
+        parts: BoardParts<J, M>,
         limit: u32,
         active: u8,
-    ) -> Result<Board<J>, AllocFailed<Opened>>
-        requires name { opened ≡ J.ledger }
+    ) -> Result<Board<J, M>, BoardParts<J, M>>
         requires limit { limit ≡ J.limit }
         requires low { 1 ≤ limit }
         requires high { limit ≤ 65536 }
         requires some { 1 ≤ active }
         requires few { active ≤ 64 }
         ensures board { IfOk result (λ board. board ≡ empty_board limit active) }
-        ensures handed_back { IfErr result (λ e. e.value ≡ opened) }
     {
-        let Ok((tree, pins, heat)) = new_tables(alloc, limit, active) else {
-            return Err(AllocFailed { value: opened });
+        let BoardParts {
+            book,
+            mut map,
+            reader,
+        } = parts;
+        let (Ok(mut root), Ok((tree, pins, heat))) = (
+            make_room(alloc, &mut map),
+            new_tables(alloc, limit, active),
+        ) else {
+            return Err(BoardParts { book, map, reader });
         };
-        let (book, mut others) = Book::open(alloc, opened, limit, active)?;
+        let (book, mut others) = match Book::open(alloc, book, limit, active) {
+            Ok(opened) => opened,
+            Err(failed) => {
+                return Err(BoardParts {
+                    book: failed.value,
+                    map,
+                    reader,
+                });
+            }
+        };
         let Some(share) = others.pop() else {
             unreachable!()
         };
+        root.push_reserved(Dir::ROOT);
+        map.set(root, Rank::default());
         Ok(Board {
             tree,
             pins,
@@ -86,7 +112,42 @@ impl<J: Naming> Board<J> {
             others,
             mask: RankSet::from_bits(0),
             loads: Vec::new(alloc),
+            map,
+            reader,
         })
+    }
+
+    /// Ends the map: its readers find it closed.
+    pub fn end(self) {
+        let Board {
+            tree: _tree,
+            pins: _pins,
+            heat: _heat,
+            book: _book,
+            share: _share,
+            others: _others,
+            mask: _mask,
+            loads: _loads,
+            map,
+            reader: _reader,
+        } = self;
+        map.end();
+    }
+
+    /// Publishes the map, and says whether memory sufficed. Where it didn't, nothing has changed.
+    pub fn publish(&mut self) -> bool
+        ensures { MatchBool result (self.new ≡ publish self.old) (self.new ≡ self.old) }
+    {
+        self.map.publish().is_ok()
+    }
+
+    /// The rank that a reader of the map finds for a directory. Once all is published, it is the directory's authority.
+    pub(crate) fn rank_of(&mut self, dir: Dir) -> Option<Rank>
+        ensures rank { result ≡ rank_after self.old.published dir }
+        ensures authority { self.old.pending ≡ [] → result ≡ authority self.old.directories.entries dir }
+        ensures same { self.new ≡ self.old }
+    {
+        self.reader.find_latest(&self.map, dir)
     }
 
     /// How many directory numbers were given.
@@ -211,7 +272,13 @@ impl<J: Naming> Board<J> {
         ensures fault { IfErr result (IsDue (make_child self.old parent name.now inodes)) }
         ensures unchanged { OnErr result (self.new ≡ self.old) }
     {
-        self.tree.make(alloc, parent, name, inodes)?;
+        let Ok(mut dirs) = make_room(alloc, &mut self.map) else {
+            self.tree.can_make(parent, name)?;
+            return Err(Fault::Memory);
+        };
+        let dir = self.tree.make(alloc, parent, name, inodes)?;
+        dirs.push_reserved(dir);
+        self.map.set(dirs, Rank::default());
         Ok(())
     }
 
@@ -239,14 +306,19 @@ impl<J: Naming> Board<J> {
         Ok(())
     }
 
-    /// Removes a directory that has no child. Requests that wait for it are served no more. It takes no memory.
+    /// Removes a directory that has no child. Requests that wait for it are served no more.
     pub fn remove_dir(&mut self, path: &str) -> Result<(), Fault>
         ensures done { OnOk result (remove_dir self.old path.now ≡ Ok self.new) }
-        ensures fault { IfErr result (λ fault. remove_dir self.old path.now ≡ Err fault) }
+        ensures fault { IfErr result (IsDue (remove_dir self.old path.now)) }
         ensures unchanged { OnErr result (self.new ≡ self.old) }
     {
         let dir = self.find(path)?;
+        if self.map.reserve().is_err() {
+            self.tree.can_remove(dir)?;
+            return Err(Fault::Memory);
+        }
         self.tree.remove(dir)?;
+        self.map.clear(dir);
         Ok(())
     }
 
@@ -275,6 +347,19 @@ impl<J: Naming> Board<J> {
             Ok(()) => Ok(()),
             Err(_) => Err(Fault::Ticks),
         }
+    }
+}
+
+// Room for an operation on a directory, and for the directory's number.
+fn make_room<J: Naming, M: Publisher<J>>(alloc: Global, map: &mut M) -> Result<Vec<Dir>, AllocError>
+    ensures dirs { IfOk result (λ dirs. (dirs.items ≡ []) × (1 ≤ vec_capacity dirs)) }
+    ensures room { OnOk result (1 ≤ M.room map.new) }
+    ensures same { (M.published map.new ≡ M.published map.old) × (M.pending map.new ≡ M.pending map.old) }
+{
+    let dirs = Vec::with_capacity(alloc, 1)?;
+    match map.reserve() {
+        Ok(()) => Ok(dirs),
+        Err(_) => Err(AllocError),
     }
 }
 

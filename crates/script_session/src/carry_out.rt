@@ -8,12 +8,13 @@ ghost use Rattle.script_session.specs.Session.{IsPlanned, on_board};
 use crate::board::Board;
 use crate::fault::Fault;
 use crate::reply::Reply;
+use authority_map::Publisher;
 use naming::Naming;
 use script_commands::Command;
 use std::alloc::Global;
 use std::thread::Threads;
 
-impl<J: Naming> Board<J> {
+impl<J: Naming, M: Publisher<J>> Board<J, M> {
     /// Carries out a command. The reply is what it prints.
     pub fn carry_out<R: Threads>(
         &mut self,

@@ -7,12 +7,13 @@ ghost use Rattle.script_session.specs.Fault.{IsDue};
 
 use crate::board::Board;
 use crate::fault::Fault;
+use authority_map::Publisher;
 use division_cost::{Part, greatest_heat, parts};
 use mds_types::Dir;
 use naming::Naming;
 use std::alloc::{AllocError, Global};
 
-impl<J: Naming> Board<J> {
+impl<J: Naming, M: Publisher<J>> Board<J, M> {
     /// The lines that say what the division at these tops costs. The root is a top too.
     pub fn cost(&self, alloc: Global, paths: &[&str]) -> Result<String, Fault>
         ensures done { IfOk result (λ text. cost self.now (map (λ path. path.now) paths.now) ≡ Ok (string_bytes text)) }

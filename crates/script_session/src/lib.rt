@@ -2,6 +2,7 @@
 #![tactic(auto)]
 
 pub mod board;
+pub mod board_parts;
 mod carry_out;
 mod cost;
 pub mod fault;
@@ -16,6 +17,7 @@ pub mod session;
 mod stat;
 
 pub use board::Board;
+pub use board_parts::BoardParts;
 pub use fault::Fault;
 pub use load::Load;
 pub use reply::Reply;

@@ -11,6 +11,7 @@ ghost use Rattle.script_commands.specs.Commands as line;
 
 use crate::board::Board;
 use crate::fault::Fault;
+use authority_map::Publisher;
 use board_problem::{Opened, PlanPart, open, parts};
 use mds_types::{CutProof, Plan, Rank};
 use naming::Naming;
@@ -18,7 +19,7 @@ use planner::solve;
 use std::alloc::{AllocError, Global};
 use std::thread::Threads;
 
-impl<J: Naming> Board<J> {
+impl<J: Naming, M: Publisher<J>> Board<J, M> {
     /// The lines on a best plan and on each of its parts, by the rising numbers of their tops. Nothing moves yet.
     pub fn plan<R: Threads>(&self, rt: &R, alloc: Global) -> Result<String, Fault>
         ensures done { IfOk result (λ text. IsPlanned self.now (only_text (string_bytes text))) }

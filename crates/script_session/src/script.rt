@@ -6,19 +6,21 @@ ghost use Rattle.script_engine.specs.Known.{AppendsFront};
 ghost use Rattle.script_engine.specs.Lines.{lines_of, whole_lines};
 ghost use Rattle.script_session.specs.Session.{SessionData, answers, beginning};
 
+use crate::board_parts::BoardParts;
 use crate::session::Session;
-use heat_ledger::Opened;
+use authority_map::MapWriter;
 use naming::Naming;
 use script_engine::{RunError, run_script};
 use std::alloc::Global;
 use std::io::{Read, Write};
 use std::marker::Brand;
+use std::sync::Wait;
 use std::thread::Threads;
 
 /// Carries out a script, and says whether each of its lines was accepted. A tree has numbers below `limit`.
 ///
 /// A strict run ends with the first line that isn't accepted. A device that fails ends the run.
-pub fn run<T: Threads, R: Read, W: Write>(
+pub fn run<T: Threads + Wait, R: Read, W: Write>(
     rt: &T,
     alloc: Global,
     reader: &mut R,
@@ -51,21 +53,24 @@ pub fn run<T: Threads, R: Read, W: Write>(
         × Run answers strict (beginning limit) 1 lines replies last
         × AppendsFront (W.contents writer.old) (W.contents writer.new) (text_of replies) }
 {
-    let opened = Opened::new(alloc).ok();
-    run_named::<Brand, T, R, W>(rt, alloc, opened, reader, writer, limit, strict)
+    let book = heat_ledger::Opened::new(alloc).ok();
+    let map = authority_map::Opened::new();
+    run_named::<Brand, T, R, W>(rt, alloc, book, map, reader, writer, limit, strict)
 }
 
 // The same for a board whose name was picked.
-fn run_named<J: Naming, T: Threads, R: Read, W: Write>(
+fn run_named<J: Naming, T: Threads + Wait, R: Read, W: Write>(
     rt: &T,
     alloc: Global,
-    opened: Option<Opened>,
+    book: Option<heat_ledger::Opened>,
+    map: authority_map::Opened,
     reader: &mut R,
     writer: &mut W,
     limit: u32,
     strict: bool,
 ) -> Result<bool, RunError>
-    requires name { IfSome opened (λ opened. opened ≡ J.ledger) }
+    requires book { IfSome book (λ opened. opened ≡ J.ledger) }
+    requires map { map ≡ J.map }
     requires limit { limit ≡ J.limit }
     requires some { 1 ≤ limit }
     requires few { limit ≤ 65536 }
@@ -92,8 +97,35 @@ fn run_named<J: Naming, T: Threads, R: Read, W: Write>(
         × Run answers strict (beginning limit) 1 lines replies last
         × AppendsFront (W.contents writer.old) (W.contents writer.new) (text_of replies) }
 {
-    let mut session = Session::<J, T>::new(rt, limit, opened);
-    run_script(alloc, &mut session, reader, writer, strict)
+    let parts = open_parts(rt, alloc, book, map, limit);
+    let mut session = Session::<J, MapWriter<J, &T>, T>::new(rt, limit, parts);
+    let done = run_script(alloc, &mut session, reader, writer, strict);
+    session.end();
+    done
+}
+
+// The parts of a board, if there is memory for them.
+fn open_parts<'r, J: Naming, T: Wait>(
+    rt: &'r T,
+    alloc: Global,
+    book: Option<heat_ledger::Opened>,
+    map: authority_map::Opened,
+    limit: u32,
+) -> Option<BoardParts<J, MapWriter<J, &'r T>>>
+    requires book { IfSome book (λ opened. opened ≡ J.ledger) }
+    requires map { map ≡ J.map }
+    requires limit { limit ≡ J.limit }
+    requires some { 1 ≤ limit }
+    requires few { limit ≤ 65536 }
+{
+    let book = book?;
+    match MapWriter::<J, &T>::open(rt, alloc, map, limit, 1) {
+        Ok((writer, mut readers)) => match readers.pop() {
+            Some(reader) => Some(BoardParts::new(book, writer, reader)),
+            None => unreachable!(),
+        },
+        Err(_) => None,
+    }
 }
 
 #[cfg(test)]

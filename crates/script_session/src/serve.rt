@@ -7,13 +7,14 @@ ghost use Rattle.script_session.specs.Commands.{Counts, serve};
 
 use crate::board::Board;
 use crate::load::Load;
+use authority_map::Publisher;
 use dirtree::Tree;
 use heat_decay::Heat;
 use heat_ledger::{Book, HIT_LIMIT, Share};
 use mds_types::Dir;
 use naming::Naming;
 
-impl<J: Naming> Board<J> {
+impl<J: Naming, M: Publisher<J>> Board<J, M> {
     ghost use Rattle.script_session.specs.Commands.{go, served};
 
     /// Serves the waiting requests, and says how many of them met a full share. It takes no memory.
@@ -50,6 +51,7 @@ fn serve<J: Naming>(heat: &mut Heat, share: &mut Share<J>, load: Load) -> u64
     ensures served { (refused : ℕ) → record { heats = heat.new; counted = share.new.hits; refused = refused + result } ≡ serve (record { heats = heat.old; counted = share.old.hits; refused = refused }) load }
     ensures one { result ≤ 1 }
     ensures lengths { (length share.new.hits ≡ length share.old.hits) × (length share.new.pending ≡ length share.old.pending) }
+    ensures weight { share.new.weight ≡ share.old.weight }
     ensures limit { heat.new.limit ≡ heat.old.limit }
     ensures pending { (dir : ℕ) → at share.new.hits dir + at share.old.pending dir ≡ at share.old.hits dir + at share.new.pending dir }
 {
@@ -64,6 +66,7 @@ fn serve_all<J: Naming>(tree: &Tree, heat: &mut Heat, share: &mut Share<J>, load
     requires rows { (length share.old.hits ≡ J.limit) × (length share.old.pending ≡ J.limit) }
     ensures served { record { heats = heat.new; counted = share.new.hits; refused = result } ≡ fold serve (record { heats = heat.old; counted = share.old.hits; refused = 0 }) (filter (λ l. is_there tree.now.entries l.dir) loads.now) }
     ensures lengths { (length share.new.hits ≡ J.limit) × (length share.new.pending ≡ J.limit) }
+    ensures weight { share.new.weight ≡ share.old.weight }
     ensures pending { (dir : ℕ) → at share.new.hits dir + at share.old.pending dir ≡ at share.old.hits dir + at share.new.pending dir }
 {
     let mut refused = 0;

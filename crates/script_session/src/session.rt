@@ -1,51 +1,63 @@
 //! A session: the board that `ranks` makes, and the lines that come before it.
-ghost use Rattle.std.specs.Prelude.{◌≡◌, ◌≤◌, ◌⊎◌, IfErr, IfOk, IfSome, OnErr, OnOk, Ok, None};
-ghost use Rattle.script_commands.specs.Commands.{Ranks};
+ghost use Rattle.std.specs.Prelude.{◌≡◌, ◌≤◌, ◌⊎◌, IfErr, IfOk, OnErr, OnOk, Ok, Some, None};
+ghost use Rattle.script_commands.specs.Commands.{Ranks, asked};
 ghost use Rattle.script_commands.specs.Commands as words;
-ghost use Rattle.script_session.specs.Session.{before_ranks};
+ghost use Rattle.script_session.specs.Session.{SessionData, before_ranks};
 ghost use Rattle.script_commands.specs.View.{view};
 ghost use Rattle.script_session.specs.Fault.{IsDue};
 
 use crate::board::Board;
+use crate::board_parts::BoardParts;
 use crate::fault::Fault;
 use crate::reply::Reply;
 use crate::report::{write_fault, write_reply};
-use heat_ledger::Opened;
+use authority_map::Publisher;
 use naming::Naming;
 use script_commands::{Asked, Command, RankCount, read_line};
 use script_engine::{Interpreter, WriteFailed};
 use std::alloc::{AllocError, Global};
 use std::io::Write;
 use std::marker::Model;
+use std::mem;
 use std::thread::Threads;
 
 /// What a script has made so far: nothing, or a board once `ranks` was accepted. `J` names the board.
-#[derive(Drop)]
-pub struct Session<'r, J: Naming, R: Threads> {
+/// It can't be dropped, only ended, as it has the writer of the board's map.
+pub struct Session<'r, J: Naming, M: Publisher<J>, R: Threads> {
     rt: &'r R,
     limit: u32,
-    opened: Option<Opened>,
-    board: Option<Board<J>>,
+    parts: Option<BoardParts<J, M>>,
+    board: Option<Board<J, M>>,
 }
 
-impl<'r, J: Naming, R: Threads> Model for Session<'r, J, R> {
-    ghost use Rattle.std.specs.Prelude.{◌≡◌, ◌≤◌, IfSome};
+impl<'r, J: Naming, M: Publisher<J>, R: Threads> Model for Session<'r, J, M, R> {
+    ghost use Rattle.std.specs.Prelude.{◌≡◌, ◌≤◌};
     ghost use Rattle.script_session.specs.Session.{SessionData};
 
     ghost Value = { SessionData };
 
     ghost view = { λ session. record { limit = session.limit; board = session.board } };
 
-    ghost invariant = { λ session. (session.limit ≡ J.limit) × (1 ≤ session.limit) × (session.limit ≤ 65536) × IfSome session.opened (λ opened. opened ≡ J.ledger) };
+    ghost invariant = { λ session. (session.limit ≡ J.limit) × (1 ≤ session.limit) × (session.limit ≤ 65536) };
 }
 
-impl<'r, J: Naming, R: Threads> Session<'r, J, R> {
-    ghost use Rattle.script_session.specs.Session.{beginning, line_outcome, held, outcome_at, Plans, PlansFor};
+// Fills a place that is empty.
+fn fill<T>(place: &mut Option<T>, value: T)
+    requires { place.old ≡ None }
+    ensures { place.new ≡ Some value }
+{
+    match mem::replace(place, Some(value)) {
+        None => {}
+        Some(_) => unreachable!(),
+    }
+}
 
-    /// The session at the beginning of a script. Its tree is to give at most `limit` numbers. Where nothing was
-    /// opened for the board's book, for want of memory, `ranks` will be refused.
-    pub fn new(rt: &'r R, limit: u32, opened: Option<Opened>) -> Session<'r, J, R>
-        requires name { IfSome opened (λ opened. opened ≡ J.ledger) }
+impl<'r, J: Naming, M: Publisher<J>, R: Threads> Session<'r, J, M, R> {
+    ghost use Rattle.script_session.specs.Session.{beginning, line_outcome, held, outcome_at, published, settled, IsDone};
+
+    /// The session at the beginning of a script. Its tree is to give at most `limit` numbers. Where no parts of a
+    /// board could be opened, for want of memory, `ranks` will be refused.
+    pub fn new(rt: &'r R, limit: u32, parts: Option<BoardParts<J, M>>) -> Session<'r, J, M, R>
         requires limit { limit ≡ J.limit }
         requires some { 1 ≤ limit }
         requires few { limit ≤ 65536 }
@@ -54,8 +66,24 @@ impl<'r, J: Naming, R: Threads> Session<'r, J, R> {
         Session {
             rt,
             limit,
-            opened,
+            parts,
             board: None,
+        }
+    }
+
+    /// Ends the map, if there is one.
+    pub fn end(self) {
+        let Session {
+            rt: _rt,
+            limit: _limit,
+            parts,
+            board,
+        } = self;
+        if let Some(parts) = parts {
+            parts.end();
+        }
+        if let Some(board) = board {
+            board.end();
         }
     }
 
@@ -66,16 +94,16 @@ impl<'r, J: Naming, R: Threads> Session<'r, J, R> {
         ensures fault { IfErr result (λ fault. fault ≡ Fault.Memory) }
         ensures unchanged { OnErr result (self.new ≡ self.old) }
     {
-        let Some(opened) = self.opened.take() else {
+        let Some(parts) = self.parts.take() else {
             return Err(Fault::Memory);
         };
-        match Board::new(alloc, opened, self.limit, active.number) {
+        match Board::new(alloc, parts, self.limit, active.number) {
             Ok(board) => {
-                self.board = Some(board);
+                fill(&mut self.board, board);
                 Ok(Reply::silent(alloc))
             }
-            Err(failed) => {
-                self.opened = Some(failed.value);
+            Err(parts) => {
+                fill(&mut self.parts, parts);
                 Err(Fault::Memory)
             }
         }
@@ -83,7 +111,7 @@ impl<'r, J: Naming, R: Threads> Session<'r, J, R> {
 
     /// Carries out a command. Before `ranks` was accepted no other is.
     pub fn carry_out(&mut self, alloc: Global, command: Command<'_>) -> Result<Reply, Fault>
-        ensures done { IfOk result (λ reply. (held self.old (outcome_at self.old.limit self.old.board (view command.entry)) ≡ Ok (reply, self.new)) ⊎ (PlansFor self.old (words.Asks (view command.entry)) reply × (self.new ≡ self.old))) }
+        ensures done { IfOk result (λ reply. IsDone self.old (held self.old (outcome_at self.old.limit self.old.board (view command.entry))) (words.Asks (view command.entry)) reply self.new) }
         ensures fault { IfErr result (IsDue (outcome_at self.old.limit self.old.board (view command.entry))) }
         ensures unchanged { OnErr result (self.new ≡ self.old) }
     {
@@ -96,9 +124,32 @@ impl<'r, J: Naming, R: Threads> Session<'r, J, R> {
         }
     }
 
-    /// Reads a line and carries out what it asks for. The reply is what it prints.
+    // Publishes the map, if there is a board and memory suffices.
+    fn publish(&mut self)
+        ensures { (self.new ≡ published self.old) ⊎ (self.new ≡ self.old) }
+    {
+        if let Some(board) = &mut self.board {
+            let _is_published = board.publish();
+        }
+    }
+
+    /// Reads a line, carries out what it asks for, and publishes the map if the line is accepted. The reply is what it
+    /// prints.
     pub fn take_line(&mut self, alloc: Global, line: &[u8]) -> Result<Reply, Fault>
-        ensures done { IfOk result (λ reply. (line_outcome self.old line.now ≡ Ok (reply, self.new)) ⊎ (Plans self.old line.now reply × (self.new ≡ self.old))) }
+        ensures done { IfOk result (λ reply. (mid : SessionData) × IsDone self.old (line_outcome self.old line.now) (asked line.now) reply mid × ((self.new ≡ settled reply mid) ⊎ (self.new ≡ mid))) }
+        ensures fault { IfErr result (IsDue (line_outcome self.old line.now)) }
+        ensures unchanged { OnErr result (self.new ≡ self.old) }
+    {
+        let reply = self.obey(alloc, line)?;
+        if reply.refused() == 0 {
+            self.publish();
+        }
+        Ok(reply)
+    }
+
+    // Reads a line and carries out what it asks for.
+    fn obey(&mut self, alloc: Global, line: &[u8]) -> Result<Reply, Fault>
+        ensures done { IfOk result (λ reply. IsDone self.old (line_outcome self.old line.now) (asked line.now) reply self.new) }
         ensures fault { IfErr result (IsDue (line_outcome self.old line.now)) }
         ensures unchanged { OnErr result (self.new ≡ self.old) }
     {
@@ -110,7 +161,7 @@ impl<'r, J: Naming, R: Threads> Session<'r, J, R> {
     }
 }
 
-impl<'r, J: Naming, R: Threads> Interpreter for Session<'r, J, R> {
+impl<'r, J: Naming, M: Publisher<J>, R: Threads> Interpreter for Session<'r, J, M, R> {
     ghost use Rattle.script_session.specs.Session.{answers};
 
     ghost answers = { answers };

@@ -1,31 +1,34 @@
 //! The command `stat`: the report on all directories.
 ghost use Rattle.std.specs.Prelude.{◌≡◌, ◌<◌, ◌≤◌, All, IfOk, string_bytes, true};
 ghost use Rattle.dirtree.specs.Tree.{is_there};
-ghost use Rattle.script_session.specs.Stat.{directories, pin_text};
+ghost use Rattle.script_session.specs.Stat.{directories, rank_text};
 
 use crate::board::Board;
+use authority_map::Publisher;
 use itoa::Buffer;
 use mds_types::{Dir, Rank};
 use naming::Naming;
 use std::alloc::{AllocError, Global};
 
-impl<J: Naming> Board<J> {
+impl<J: Naming, M: Publisher<J>> Board<J, M> {
     ghost use Rattle.std.specs.Prelude.{length};
     ghost use Rattle.script_session.specs.Stat.{cluster_line, dir_line, stat, usable};
 
     /// The lines on the cluster and on each directory, by rising numbers.
-    pub fn stat(&self, alloc: Global) -> Result<String, AllocError>
-        ensures { IfOk result (λ text. string_bytes text ≡ stat self.now) }
+    pub fn stat(&mut self, alloc: Global) -> Result<String, AllocError>
+        ensures text { IfOk result (λ text. string_bytes text ≡ stat self.old) }
+        ensures same { self.new ≡ self.old }
     {
         let dirs = self.directories(alloc)?;
         self.stat_text(alloc, &dirs)
     }
 
-    fn stat_text(&self, alloc: Global, dirs: &[Dir]) -> Result<String, AllocError>
-        requires all { dirs.now ≡ directories self.now.directories.entries }
-        requires there { All (λ dir. is_there self.now.directories.entries dir ≡ true) dirs.now }
-        requires below { All (λ dir. dir < self.now.directories.limit) dirs.now }
-        ensures { IfOk result (λ text. string_bytes text ≡ stat self.now) }
+    fn stat_text(&mut self, alloc: Global, dirs: &[Dir]) -> Result<String, AllocError>
+        requires all { dirs.now ≡ directories self.old.directories.entries }
+        requires there { All (λ dir. is_there self.old.directories.entries dir ≡ true) dirs.now }
+        requires below { All (λ dir. dir < self.old.directories.limit) dirs.now }
+        ensures text { IfOk result (λ text. string_bytes text ≡ stat self.old) }
+        ensures same { self.new ≡ self.old }
     {
         let mut text = self.cluster_line(alloc, dirs.len())?;
         for dir in dirs {
@@ -60,25 +63,28 @@ impl<J: Naming> Board<J> {
         format!(in alloc; "stat ranks {active} usable {usable} directories {count}\n")
     }
 
-    fn dir_line(&self, alloc: Global, dir: Dir) -> Result<String, AllocError>
-        requires there { is_there self.now.directories.entries dir ≡ true }
-        requires below { dir < self.now.directories.limit }
-        ensures { IfOk result (λ line. string_bytes line ≡ dir_line self.now dir) }
+    fn dir_line(&mut self, alloc: Global, dir: Dir) -> Result<String, AllocError>
+        requires there { is_there self.old.directories.entries dir ≡ true }
+        requires below { dir < self.old.directories.limit }
+        ensures line { IfOk result (λ line. string_bytes line ≡ dir_line self.old dir) }
+        ensures same { self.new ≡ self.old }
     {
         let number = dir.number();
         let path = self.path(alloc, dir)?;
-        let mut buffer = Buffer::new();
-        let pin = pin_text(&mut buffer, self.pin_of(dir));
+        let (mut pin_buffer, mut rank_buffer) = (Buffer::new(), Buffer::new());
+        let pin = rank_text(&mut pin_buffer, self.pin_of(dir));
+        let rank = rank_text(&mut rank_buffer, self.rank_of(dir));
         let heat = self.heat_of(dir);
         let hits = self.hits_of(dir);
-        format!(in alloc; "dir {number} {path} pin {pin} rank 0 heat {heat} hits {hits}\n")
+        format!(in alloc; "dir {number} {path} pin {pin} rank {rank} heat {heat} hits {hits}\n")
     }
 }
 
-fn pin_text(buffer: &mut Buffer, pin: Option<Rank>) -> &str
-    ensures { result.now ≡ pin_text pin }
+// A rank, or `-` where there is none.
+fn rank_text(buffer: &mut Buffer, rank: Option<Rank>) -> &str
+    ensures { result.now ≡ rank_text rank }
 {
-    match pin {
+    match rank {
         Some(rank) => buffer.format(rank.number()),
         None => "-",
     }

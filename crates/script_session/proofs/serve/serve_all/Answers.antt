@@ -28,6 +28,7 @@ loop-load-preserved g c =
             limit = rw w.heat-is (w.serve-refused.ensures.limit ∙ inv.limit);
             few = omega (arith, w.refused-is, inv.few, w.serve-refused.ensures.one);
             lengths = rw w.share-is (w.serve-refused.ensures.lengths.0 ∙ inv.lengths.0, w.serve-refused.ensures.lengths.1 ∙ inv.lengths.1);
+            weight = rw w.share-is (w.serve-refused.ensures.weight ∙ inv.weight);
             pending = λ d. rw w.share-is (omega (arith, inv.pending d, w.serve-refused.ensures.pending d));
           }
       | else-contains w ↦
@@ -37,6 +38,7 @@ loop-load-preserved g c =
             limit = rw w.heat-is inv.limit;
             few = omega (arith, w.refused-is, inv.few);
             lengths = rw w.share-is inv.lengths;
+            weight = rw w.share-is inv.weight;
             pending = λ d. rw w.share-is (inv.pending d);
           }
     ]

@@ -12,5 +12,6 @@ invariant-loop-load g l = record {
   limit : l.heat.limit ≡ l.initial.heat.limit;
   few : l.refused ≤ l.load-index;
   lengths : (length l.share.hits ≡ length l.initial.share.hits) × (length l.share.pending ≡ length l.initial.share.pending);
+  weight : l.share.weight ≡ l.initial.share.weight;
   pending : (dir : ℕ) → at l.share.hits dir + at l.initial.share.pending dir ≡ at l.initial.share.hits dir + at l.share.pending dir;
 }

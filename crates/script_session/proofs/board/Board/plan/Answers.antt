@@ -16,7 +16,7 @@ returns-then-is_empty-clause-fault g c =
 pub returns-clause-done : goal.returns-clause-done
 returns-clause-done g c =
     let some : usable c.args.self.now.pins.active c.args.self.now.mask ≡ 0 → ⊥ = λ none. (let empty = c.is_empty.ensures.1 (c.usable_ranks-ranks.ensures.count ∙ none) in let not = c.if-is_empty.false in cc) in
-    let was : BoardData = record { directories = c.self.inside.tree; pins = c.self.inside.pins; heats = c.self.inside.heat; counted = c.self.inside.book.counted; mask = c.self.inside.mask; loads = c.self.inside.loads.items } in
+    let was : BoardData = record { directories = c.self.inside.tree; pins = c.self.inside.pins; heats = c.self.inside.heat; counted = c.self.inside.book.counted; mask = c.self.inside.mask; loads = c.self.inside.loads.items; published = g.M.Publisher.published c.self.inside.map; pending = g.M.Publisher.pending c.self.inside.map } in
     let first : c.default.result ≡ 0 = search rules in
     let count : c.numbers.result ≡ length was.directories.entries = c.numbers.ensures.count ∙ sym (ap (λ (b : BoardData). length b.directories.entries) c.self.view_is) in
     let now : c.deref.result.now ≡ replicate c.numbers.result c.default.result = c.deref.ensures.value ∙ c.in_ok-now.ensures.items_if_clones_equal (λ y e. e) in
