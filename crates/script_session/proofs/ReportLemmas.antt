@@ -1,6 +1,7 @@
 -- Texts that are written one after another.
-use Rattle.std.proofs.Common.{◌≡◌, ℕ, zero, suc, ◌+◌, ◌<◌, List, [], ◌∷◌, ◌++◌, length, take, get_or, add-one, refl, sym, ap, ◌∙◌, arith, append_assoc, append-nil}
+use Rattle.std.proofs.Common.{◌≡◌, ℕ, zero, suc, ◌+◌, ◌<◌, List, [], ◌∷◌, ◌++◌, length, take, drop, get_or, add-one, refl, sym, ap, ◌∙◌, arith, append_assoc, append-nil}
 use Rattle.std.specs.List.{flat_map}
+use Rattle.script_session.specs.Printed.{joined}
 use Rattle.script_session.specs.Session.{repeated}
 
 pub repeated_end : (n : ℕ) (text : List ℕ) → repeated n text ++ text ≡ repeated (suc n) text
@@ -23,3 +24,14 @@ flat_map_more {A} f xs i d h = rw add-one (grown xs i h)
     grown [] i h = absurd (omega arith)
     grown (x ∷ xs) zero h = append-nil (f x)
     grown (x ∷ xs) (suc i) h = ap (λ (t : List ℕ). f x ++ t) (grown xs i (omega arith)) ∙ sym (append_assoc (f x) (flat_map f (take i xs)) (f (get_or xs i d)))
+
+-- one more line, and those behind it
+pub joined_within : (lines : List (List ℕ)) (i : ℕ) → i < length lines → joined lines ≡ (joined (take i lines) ++ get_or lines i []) ++ joined (drop (i + 1) lines)
+joined_within lines i h = rw add-one (within lines i h)
+  where
+    within : (lines : List (List ℕ)) (i : ℕ) → i < length lines → joined lines ≡ (joined (take i lines) ++ get_or lines i []) ++ joined (drop (suc i) lines)
+    within [] i h = absurd (omega arith)
+    within (x ∷ lines) zero h = refl
+    within (x ∷ lines) (suc i) h =
+        ap (λ (t : List ℕ). x ++ t) (within lines i (omega arith)) ∙ sym (append_assoc x (joined (take i lines) ++ get_or lines i []) (joined (drop (suc i) lines)))
+        ∙ ap (λ (t : List ℕ). t ++ joined (drop (suc i) lines)) (sym (append_assoc x (joined (take i lines)) (get_or lines i [])))

@@ -1,6 +1,5 @@
 -- What the command `cost` prints.
-use Rattle.std.specs.Prelude.{◌≡◌, ℕ, true, List, [], ◌∷◌, ◌++◌, length, codes, decimal, All, Option, Some, None, Result, Ok, Err}
-use Rattle.std.specs.List.{flat_map}
+use Rattle.std.specs.Prelude.{◌≡◌, ℕ, true, List, [], ◌∷◌, ◌++◌, length, map, codes, decimal, All, Option, Some, None, Result, Ok, Err}
 use Rattle.dirtree.specs.Tree.{is_there}
 use Rattle.dirtree.specs.Path.{path_of}
 use Rattle.dir_pins.specs.Pins.{nearest_pin}
@@ -32,11 +31,12 @@ abbrev pub part_line : BoardData → Part → List ℕ
 part_line b p = codes "part " ++ path_of b.directories.entries p.top ++ codes " heat " ++ decimal p.heat ++ codes " inodes " ++ decimal p.inodes ++ 10 ∷ []
 
 -- the line on all parts, and then a line a part
-abbrev pub cost_text : BoardData → List Part → List ℕ
-cost_text b ps = cost_line ps ++ flat_map (part_line b) ps
+abbrev pub cost_lines : BoardData → List Part → List (List ℕ)
+cost_lines b ps = cost_line ps ∷ map (part_line b) ps
 
-abbrev pub cost : BoardData → List (List ℕ) → Result (List ℕ) Fault
-cost b paths = tops b paths >>= λ ts. Ok (cost_text b (parts b.directories.entries b.pins.own b.heats.heats ts))
+-- the parts below the tops that paths name
+abbrev pub cost : BoardData → List (List ℕ) → Result (List Part) Fault
+cost b paths = tops b paths >>= λ ts. Ok (parts b.directories.entries b.pins.own b.heats.heats ts)
 
 -- the tops of these parts are directories of the board
 abbrev pub AreThere : BoardData → List Part → Type 0

@@ -4,5 +4,7 @@ pub mod Cost
 pub mod Fault
 pub mod Mask
 pub mod Plan
+pub mod Printed
+pub mod Reply
 pub mod Session
 pub mod Stat

@@ -1,6 +1,5 @@
 -- What the command `plan` prints.
-use Rattle.std.specs.Prelude.{◌≡◌, ◌<◌, ℕ, ◌&&◌, nat_lt, List, [], ◌∷◌, ◌++◌, length, replicate, codes, decimal}
-use Rattle.std.specs.List.{flat_map}
+use Rattle.std.specs.Prelude.{◌≡◌, ◌<◌, ℕ, ◌&&◌, nat_lt, List, [], ◌∷◌, ◌++◌, length, map, replicate, codes, decimal}
 use Rattle.mds_types.specs.declared.cut_proof.CutProof.{CutProof}
 use Rattle.mds_types.specs.declared.cut_proof.CutProof.TheVariants.{Zero, Heavy, Table}
 use Rattle.mds_types.specs.declared.plan.Plan.{Plan}
@@ -40,5 +39,5 @@ abbrev pub plan_part_line : BoardData → PlanPart → List ℕ
 plan_part_line b part = codes "part " ++ path_of b.directories.entries part.top ++ codes " rank " ++ decimal part.rank ++ codes " heat " ++ decimal part.heat ++ codes " inodes " ++ decimal part.inodes ++ 10 ∷ []
 
 -- the line on the plan, and then a line a part
-abbrev pub plan_text : BoardData → Plan → List ℕ
-plan_text b plan = plan_line plan ++ flat_map (plan_part_line b) (plan_parts (rows b) (unpinned b.directories.entries b.pins.own) plan)
+abbrev pub plan_lines : BoardData → Plan → List (List ℕ)
+plan_lines b plan = plan_line plan ∷ map (plan_part_line b) (plan_parts (rows b) (unpinned b.directories.entries b.pins.own) plan)

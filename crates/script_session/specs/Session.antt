@@ -1,5 +1,5 @@
 -- What a line of a script does, and what is written for it.
-use Rattle.std.specs.Prelude.{◌≡◌, ℕ, ◌==◌, Bool, true, false, not, if◌then◌else◌, List, [], ◌++◌, ◌⊎◌, Option, Some, None, Result, Ok, Err}
+use Rattle.std.specs.Prelude.{◌≡◌, ◌<◌, ℕ, ◌==◌, Bool, true, false, not, if◌then◌else◌, List, [], ◌++◌, length, take, ◌⊎◌, Option, Some, None, Result, Ok, Err}
 use Prim.Native.Nat.{zero, suc}
 use Rattle.std.specs.Option.{option_map}
 use Rattle.script_engine.specs.Answers.{Answer, fault_text}
@@ -9,36 +9,30 @@ use Rattle.script_session.specs.declared.fault.Fault.{Fault}
 use Rattle.script_session.specs.declared.fault.Fault.TheVariants.{Syntax, NoRanks, RanksAgain, Memory, ShareFull, BalancerOff}
 use Rattle.script_session.specs.Board.{BoardData, empty_board, publish}
 use Rattle.script_session.specs.Fault.{is_memory, words}
+use Rattle.division_cost.specs.declared.division.Part.{Part}
 use Rattle.mds_types.specs.declared.plan.Plan.{Plan}
-use Rattle.script_session.specs.Plan.{IsBestFor, plan_text}
+use Rattle.script_session.specs.Plan.{IsBestFor, plan_lines}
 use Rattle.script_session.specs.Commands.{make_dir, remove_dir, set_pin, set_mask, load, go, served, tick}
-use Rattle.script_session.specs.Cost.{cost}
-use Rattle.script_session.specs.Stat.{stat, usable}
+use Rattle.script_session.specs.Cost.{cost, cost_lines}
+use Rattle.script_session.specs.Printed.{Printed, joined, only_lines}
+use Rattle.script_session.specs.Stat.{stat_lines, usable}
 
 -- what a script has made so far, in a tree that gives numbers below the limit: nothing until `ranks` was accepted
 pub record SessionData : Type 0 where
   pub limit : ℕ
   pub board : Option BoardData
 
--- what a command prints, and how many requests it refused since a share was full
-pub record Printed : Type 0 where
-  pub text : List ℕ
-  pub refused : ℕ
-
-abbrev pub only_text : List ℕ → Printed
-only_text text = record { text = text; refused = 0 }
-
 -- what a command prints, and the board after it
 abbrev pub Outcome : Type 0
 Outcome = Result (Printed × BoardData) Fault
 
 abbrev pub silent : Result BoardData Fault → Outcome
-silent (Ok b) = Ok (only_text [], b)
+silent (Ok b) = Ok (only_lines [], b)
 silent (Err e) = Err e
 
-abbrev pub printed : BoardData → Result (List ℕ) Fault → Outcome
-printed b (Ok text) = Ok (only_text text, b)
-printed b (Err e) = Err e
+abbrev pub costed : BoardData → Result (List Part) Fault → Outcome
+costed b (Ok parts) = Ok (only_lines (cost_lines b parts), b)
+costed b (Err e) = Err e
 
 -- What a plan is, a board doesn't determine: where a rank is usable this says that no fault but want of memory is due, and
 -- IsPlanned says what is printed.
@@ -49,14 +43,14 @@ on_board b (line.MakeDir path inodes) = silent (make_dir b path inodes)
 on_board b (line.RemoveDir path) = silent (remove_dir b path)
 on_board b (line.Pin path value) = silent (set_pin b path value)
 on_board b (line.Load path hits) = silent (load b path hits)
-on_board b line.Go = Ok (record { text = []; refused = (served b).refused }, go b)
+on_board b line.Go = Ok (record { lines = []; refused = (served b).refused }, go b)
 on_board b line.Tick = silent (tick b)
-on_board b (line.Cost paths) = printed b (cost b paths)
+on_board b (line.Cost paths) = costed b (cost b paths)
 on_board b line.Plan = if usable b.pins.active b.mask == 0 then Err BalancerOff else Err Memory
-on_board b line.Stat = Ok (only_text (stat b), b)
+on_board b line.Stat = Ok (only_lines (stat_lines b), b)
 
 abbrev pub before_ranks : ℕ → Command → Outcome
-before_ranks limit (line.Ranks n) = Ok (only_text [], empty_board limit n)
+before_ranks limit (line.Ranks n) = Ok (only_lines [], empty_board limit n)
 before_ranks limit command = Err NoRanks
 
 abbrev pub outcome_at : ℕ → Option BoardData → Command → Outcome
@@ -72,7 +66,7 @@ held s (Ok done) = Ok (done.0, record s { board = Some done.1 })
 held s (Err fault) = Err fault
 
 abbrev pub asked_outcome : SessionData → Asked → LineOutcome
-asked_outcome s line.Nothing = Ok (only_text [], s)
+asked_outcome s line.Nothing = Ok (only_lines [], s)
 asked_outcome s line.Syntax = Err Syntax
 asked_outcome s (line.Asks command) = held s (outcome_at s.limit s.board command)
 
@@ -86,7 +80,7 @@ repeated (suc n) text = text ++ repeated n text
 
 -- A line that refused a request isn't accepted; it prints a refusal for each.
 abbrev pub done_answer : ℕ → Printed → Answer
-done_answer number p = record { text = p.text ++ repeated p.refused (fault_text number (words ShareFull)); accepted = p.refused == 0; ample = true }
+done_answer number p = record { text = joined p.lines ++ repeated p.refused (fault_text number (words ShareFull)); accepted = p.refused == 0; ample = true }
 
 abbrev pub fault_answer : ℕ → Fault → Answer
 fault_answer number fault = record { text = fault_text number (words fault); accepted = false; ample = not (is_memory fault) }
@@ -110,16 +104,13 @@ answer_to s number bytes = told s number (line_outcome s bytes)
 abbrev pub out_of_memory : ℕ → Answer
 out_of_memory number = record { text = fault_text number (words Memory); accepted = false; ample = false }
 
--- the text is that of a best plan for the board
+-- the lines are those of a best plan for the board
 abbrev pub IsPlanned : BoardData → Printed → Type 0
-IsPlanned b p = (plan : Plan) × IsBestFor b plan × (p ≡ only_text (plan_text b plan))
+IsPlanned b p = (plan : Plan) × IsBestFor b plan × (p ≡ only_lines (plan_lines b plan))
 
 -- a plan is asked for, and the session prints one
 abbrev pub PlansFor : SessionData → Asked → Printed → Type 0
 PlansFor s what p = (what ≡ line.Asks line.Plan) × (b : BoardData) × (s.board ≡ Some b) × IsPlanned b p
-
-abbrev pub Plans : SessionData → List ℕ → Printed → Type 0
-Plans s bytes p = PlansFor s (asked bytes) p
 
 -- What is asked for is done: this is printed, and this is the session before the map is published.
 abbrev pub IsDone : SessionData → LineOutcome → Asked → Printed → SessionData → Type 0
@@ -132,10 +123,18 @@ IsSettled number p mid a new =
     ((a ≡ done_answer number p) × (new ≡ settled p mid))
     ⊎ ((a ≡ record (done_answer number p) { ample = false }) × (new ≡ mid))
 
+-- the answer where memory was refused for a line of a reply: the lines before it stand
+abbrev pub cut_answer : ℕ → List (List ℕ) → Answer
+cut_answer number lines = record { text = joined lines ++ fault_text number (words Memory); accepted = false; ample = false }
+
+-- What was done is printed and the map published, or memory was refused for a line of it.
+abbrev pub IsTold : ℕ → Printed → SessionData → Answer → SessionData → Type 0
+IsTold number p mid a new = IsSettled number p mid a new ⊎ ((count : ℕ) × (count < length p.lines) × (a ≡ cut_answer number (take count p.lines)) × (new ≡ mid))
+
 -- A line is answered so. Where the line is faulty, nothing has changed.
 abbrev pub answers : SessionData → ℕ → List ℕ → Answer → SessionData → Type 0
 answers old number bytes a new =
-    ((p : Printed) × (mid : SessionData) × IsDone old (line_outcome old bytes) (asked bytes) p mid × IsSettled number p mid a new)
+    ((p : Printed) × (mid : SessionData) × IsDone old (line_outcome old bytes) (asked bytes) p mid × IsTold number p mid a new)
     ⊎ ((fault : Fault) × (line_outcome old bytes ≡ Err fault) × (a ≡ fault_answer number fault) × (new ≡ old))
     ⊎ ((a ≡ out_of_memory number) × (new ≡ old))
 

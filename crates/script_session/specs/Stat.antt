@@ -1,6 +1,5 @@
 -- What the command `stat` prints.
-use Rattle.std.specs.Prelude.{ℕ, ◌&&◌, nat_lt, List, [], ◌∷◌, ◌++◌, length, filter, codes, decimal, slice_index, slice_index_or, Option, Some, None}
-use Rattle.std.specs.List.{flat_map}
+use Rattle.std.specs.Prelude.{ℕ, ◌&&◌, nat_lt, List, [], ◌∷◌, ◌++◌, length, map, filter, codes, decimal, slice_index, slice_index_or, Option, Some, None}
 use Rattle.authority_map.specs.Operations.{rank_after}
 use Rattle.mds_types.specs.RankSet.{has_rank}
 use Rattle.mds_types.specs.Sums.{count_below}
@@ -31,5 +30,5 @@ abbrev pub dir_line : BoardData → ℕ → List ℕ
 dir_line b d = codes "dir " ++ decimal d ++ codes " " ++ path_of b.directories.entries d ++ codes " pin " ++ rank_text (nearest_pin b.directories.entries b.pins.own d) ++ codes " rank " ++ rank_text (rank_after b.published d) ++ codes " heat " ++ decimal (slice_index b.heats.heats d) ++ codes " hits " ++ decimal (slice_index_or b.counted d 0) ++ 10 ∷ []
 
 -- the line on the cluster, and then a line a directory
-abbrev pub stat : BoardData → List ℕ
-stat b = cluster_line b ++ flat_map (dir_line b) (directories b.directories.entries)
+abbrev pub stat_lines : BoardData → List (List ℕ)
+stat_lines b = cluster_line b ∷ map (dir_line b) (directories b.directories.entries)

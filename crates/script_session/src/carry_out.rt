@@ -1,8 +1,9 @@
 //! What each command does to a board.
-ghost use Rattle.std.specs.Prelude.{◌≡◌, ◌⊎◌, IfErr, IfOk, OnErr, Ok};
+ghost use Rattle.std.specs.Prelude.{◌≡◌, ◌⊎◌, IfErr, IfOk, OnErr, Ok, Some};
 ghost use Rattle.script_commands.specs.View.{view};
 ghost use Rattle.script_session.specs.Fault.{IsDue};
 ghost use Rattle.script_commands.specs.Commands as line;
+ghost use Rattle.script_session.specs.Reply.{IsPrintable, shown};
 ghost use Rattle.script_session.specs.Session.{IsPlanned, on_board};
 
 use crate::board::Board;
@@ -22,7 +23,8 @@ impl<J: Naming, M: Publisher<J>> Board<J, M> {
         alloc: Global,
         command: Command<'_>,
     ) -> Result<Reply, Fault>
-        ensures done { IfOk result (λ reply. (on_board self.old (view command.entry) ≡ Ok (reply, self.new)) ⊎ ((view command.entry ≡ line.Plan) × IsPlanned self.old reply × (self.new ≡ self.old))) }
+        ensures done { IfOk result (λ reply. (on_board self.old (view command.entry) ≡ Ok (shown (Some self.new) reply, self.new)) ⊎ ((view command.entry ≡ line.Plan) × IsPlanned self.old (shown (Some self.new) reply) × (self.new ≡ self.old))) }
+        ensures printable { IfOk result (IsPrintable self.new) }
         ensures fault { IfErr result (IsDue (on_board self.old (view command.entry))) }
         ensures unchanged { OnErr result (self.new ≡ self.old) }
     {
@@ -33,12 +35,15 @@ impl<J: Naming, M: Publisher<J>> Board<J, M> {
             Command::RemoveDir(path) => self.remove_dir(path)?,
             Command::Pin(path, pin) => self.set_pin(path, pin)?,
             Command::Load(path, hits) => self.load(path, hits)?,
-            Command::Go => return Ok(Reply::only_refused(alloc, self.go())),
+            Command::Go => return Ok(Reply::Refused(self.go())),
             Command::Tick => self.tick()?,
-            Command::Cost(paths) => return Ok(Reply::only_text(self.cost(alloc, &paths)?)),
-            Command::Plan => return Ok(Reply::only_text(self.plan(rt, alloc)?)),
-            Command::Stat => return Ok(Reply::only_text(self.stat(alloc)?)),
+            Command::Cost(paths) => return Ok(Reply::Cost(self.cost(alloc, &paths)?)),
+            Command::Plan => {
+                let (plan, parts) = self.plan(rt, alloc)?;
+                return Ok(Reply::Plan(plan, parts));
+            }
+            Command::Stat => return Ok(Reply::Stat(self.directories(alloc)?)),
         }
-        Ok(Reply::silent(alloc))
+        Ok(Reply::Nothing)
     }
 }

@@ -2,7 +2,7 @@
 ghost use Rattle.std.specs.Prelude.{◌≡◌, ◌<◌, ◌≤◌, ℕ, List, All, IfErr, IfOk, Ok, length, map, slice_index_or, string_bytes, true, false};
 ghost use Rattle.dirtree.specs.Tree.{is_there};
 ghost use Rattle.division_cost.specs.Parts.{Marks};
-ghost use Rattle.script_session.specs.Cost.{AreThere, cost, cost_line, cost_text, part_line, top, tops};
+ghost use Rattle.script_session.specs.Cost.{AreThere, cost, cost_line, part_line, top, tops};
 ghost use Rattle.script_session.specs.Fault.{IsDue};
 
 use crate::board::Board;
@@ -14,15 +14,15 @@ use naming::Naming;
 use std::alloc::{AllocError, Global};
 
 impl<J: Naming, M: Publisher<J>> Board<J, M> {
-    /// The lines that say what the division at these tops costs. The root is a top too.
-    pub fn cost(&self, alloc: Global, paths: &[&str]) -> Result<String, Fault>
-        ensures done { IfOk result (λ text. cost self.now (map (λ path. path.now) paths.now) ≡ Ok (string_bytes text)) }
+    /// The parts of the division at these tops. The root is a top too.
+    pub fn cost(&self, alloc: Global, paths: &[&str]) -> Result<Vec<Part>, Fault>
+        ensures done { IfOk result (λ parts. cost self.now (map (λ path. path.now) paths.now) ≡ Ok parts.items) }
+        ensures there { IfOk result (λ parts. AreThere self.now parts.items) }
         ensures fault { IfErr result (IsDue (cost self.now (map (λ path. path.now) paths.now))) }
     {
         let is_top = self.tops(alloc, paths)?;
         let parts = self.parts(alloc, &is_top)?;
-        let text = self.cost_text(alloc, &parts)?;
-        Ok(text)
+        Ok(parts)
     }
 
     /// The directory that a path names, which no pin may hold.
@@ -53,19 +53,7 @@ impl<J: Naming, M: Publisher<J>> Board<J, M> {
         Ok(is_top)
     }
 
-    fn cost_text(&self, alloc: Global, parts: &[Part]) -> Result<String, AllocError>
-        requires { AreThere self.now parts.now }
-        ensures { IfOk result (λ text. string_bytes text ≡ cost_text self.now parts.now) }
-    {
-        let mut text = cost_line(alloc, parts)?;
-        for part in parts {
-            let line = self.part_line(alloc, *part)?;
-            text.push_str(&line)?;
-        }
-        Ok(text)
-    }
-
-    fn part_line(&self, alloc: Global, part: Part) -> Result<String, AllocError>
+    pub(crate) fn part_line(&self, alloc: Global, part: Part) -> Result<String, AllocError>
         requires { is_there self.now.directories.entries part.top ≡ true }
         ensures { IfOk result (λ line. string_bytes line ≡ part_line self.now part) }
     {
@@ -76,7 +64,7 @@ impl<J: Naming, M: Publisher<J>> Board<J, M> {
     }
 }
 
-fn cost_line(alloc: Global, parts: &[Part]) -> Result<String, AllocError>
+pub(crate) fn cost_line(alloc: Global, parts: &[Part]) -> Result<String, AllocError>
     ensures { IfOk result (λ line. string_bytes line ≡ cost_line parts.now) }
 {
     let greatest = greatest_heat(parts);

@@ -9,6 +9,7 @@ pub mod fault;
 pub mod laws;
 pub mod load;
 mod plan;
+mod print;
 pub mod reply;
 pub mod report;
 pub mod script;

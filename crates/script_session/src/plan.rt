@@ -4,8 +4,8 @@ ghost use Rattle.mds_types.specs.declared.plan.Plan.{Plan};
 ghost use Rattle.dirtree.specs.Tree.{is_there};
 ghost use Rattle.board_problem.specs.PlanParts.{plan_parts};
 ghost use Rattle.dir_pins.specs.Pins.{unpinned};
-ghost use Rattle.script_session.specs.Plan.{IsBestFor, plan_line, plan_part_line, plan_text, proof_word, rows};
-ghost use Rattle.script_session.specs.Session.{IsPlanned, on_board, only_text};
+ghost use Rattle.script_session.specs.Plan.{IsBestFor, plan_line, plan_part_line, proof_word, rows};
+ghost use Rattle.script_session.specs.Session.{on_board};
 ghost use Rattle.script_session.specs.Fault.{IsDue};
 ghost use Rattle.script_commands.specs.Commands as line;
 
@@ -20,9 +20,10 @@ use std::alloc::{AllocError, Global};
 use std::thread::Threads;
 
 impl<J: Naming, M: Publisher<J>> Board<J, M> {
-    /// The lines on a best plan and on each of its parts, by the rising numbers of their tops. Nothing moves yet.
-    pub fn plan<R: Threads>(&self, rt: &R, alloc: Global) -> Result<String, Fault>
-        ensures done { IfOk result (λ text. IsPlanned self.now (only_text (string_bytes text))) }
+    /// A best plan and its parts, by the rising numbers of their tops. Nothing moves yet.
+    pub fn plan<R: Threads>(&self, rt: &R, alloc: Global) -> Result<(Plan, Vec<PlanPart>), Fault>
+        ensures best { IfOk result (λ found. IsBestFor self.now found.0) }
+        ensures parts { IfOk result (λ found. found.1.items ≡ plan_parts (rows self.now) (unpinned self.now.directories.entries self.now.pins.own) found.0) }
         ensures fault { IfErr result (IsDue (on_board self.now line.Plan)) }
     {
         let ranks = self.usable_ranks();
@@ -35,28 +36,10 @@ impl<J: Naming, M: Publisher<J>> Board<J, M> {
         )?;
         let plan = solve(rt, alloc, &problem)?;
         let parts = parts(alloc, &problem, &dirs, &plan)?;
-        let text = self.plan_text(alloc, &plan, &parts)?;
-        Ok(text)
+        Ok((plan, parts))
     }
 
-    fn plan_text(
-        &self,
-        alloc: Global,
-        plan: &Plan,
-        parts: &[PlanPart],
-    ) -> Result<String, AllocError>
-        requires { parts.now ≡ plan_parts (rows self.now) (unpinned self.now.directories.entries self.now.pins.own) plan.now }
-        ensures { IfOk result (λ text. string_bytes text ≡ plan_text self.now plan.now) }
-    {
-        let mut text = plan_line(alloc, plan)?;
-        for part in parts {
-            let line = self.plan_part_line(alloc, *part)?;
-            text.push_str(&line)?;
-        }
-        Ok(text)
-    }
-
-    fn plan_part_line(&self, alloc: Global, part: PlanPart) -> Result<String, AllocError>
+    pub(crate) fn plan_part_line(&self, alloc: Global, part: PlanPart) -> Result<String, AllocError>
         requires { is_there self.now.directories.entries part.top ≡ true }
         ensures { IfOk result (λ line. string_bytes line ≡ plan_part_line self.now part) }
     {
@@ -68,7 +51,7 @@ impl<J: Naming, M: Publisher<J>> Board<J, M> {
     }
 }
 
-fn plan_line(alloc: Global, plan: &Plan) -> Result<String, AllocError>
+pub(crate) fn plan_line(alloc: Global, plan: &Plan) -> Result<String, AllocError>
     ensures { IfOk result (λ line. string_bytes line ≡ plan_line plan.now) }
 {
     let greatest = plan.greatest;

@@ -1,61 +1,46 @@
 //! What a command prints.
-ghost use Rattle.std.specs.Prelude.{◌≡◌, [], string_bytes};
+ghost use Rattle.std.specs.Prelude.{◌≡◌, length};
+ghost use Rattle.script_session.specs.Board.{BoardData};
+ghost use Rattle.script_session.specs.Reply.{refused_by, reply_lines};
 
-use std::alloc::Global;
-use std::marker::Model;
+use board_problem::PlanPart;
+use division_cost::Part;
+use mds_types::{Dir, Plan};
 
-/// What a command prints: a text, and then a refusal for each request that met a full share.
-#[derive(Debug, Drop)]
-pub struct Reply {
-    text: String,
-    refused: u64,
-}
-
-impl Model for Reply {
-    ghost use Rattle.std.specs.Prelude.{string_bytes};
-    ghost use Rattle.script_session.specs.Session.{Printed};
-
-    ghost Value = { Printed };
-
-    ghost view = { λ reply. record { text = string_bytes reply.text; refused = reply.refused } };
+/// What a command prints, from which its lines are made one by one as they are written.
+#[derive(Drop)]
+pub enum Reply {
+    Nothing,
+    /// A refusal for each request that met a full share.
+    Refused(u64),
+    /// The parts of a division.
+    Cost(Vec<Part>),
+    /// A plan, and its parts.
+    Plan(Plan, Vec<PlanPart>),
+    /// A report on these directories.
+    Stat(Vec<Dir>),
 }
 
 impl Reply {
-    ghost use Rattle.script_session.specs.Session.{only_text};
-
-    /// Nothing is printed.
-    pub fn silent(alloc: Global) -> Reply
-        ensures { result ≡ only_text [] }
+    /// How many lines a board prints for it.
+    pub fn line_count(&self) -> usize
+        ensures { (board : BoardData) → result ≡ length (reply_lines board self.now) }
     {
-        Reply::only_text(String::new(alloc))
-    }
-
-    /// A text is printed.
-    pub fn only_text(text: String) -> Reply
-        ensures { result ≡ only_text (string_bytes text) }
-    {
-        Reply { text, refused: 0 }
-    }
-
-    /// So many requests met a full share.
-    pub fn only_refused(alloc: Global, refused: u64) -> Reply
-        ensures { result ≡ record { text = []; refused = refused } }
-    {
-        let text = String::new(alloc);
-        Reply { text, refused }
-    }
-
-    /// The text.
-    pub fn text(&self) -> &str
-        ensures { result.now ≡ self.now.text }
-    {
-        &self.text
+        match self {
+            Reply::Nothing | Reply::Refused(_) => 0,
+            Reply::Cost(parts) => parts.len() + 1,
+            Reply::Plan(_, parts) => parts.len() + 1,
+            Reply::Stat(dirs) => dirs.len() + 1,
+        }
     }
 
     /// How many requests met a full share.
     pub fn refused(&self) -> u64
-        ensures { result ≡ self.now.refused }
+        ensures { result ≡ refused_by self.now }
     {
-        self.refused
+        match self {
+            Reply::Refused(requests) => *requests,
+            _ => 0,
+        }
     }
 }

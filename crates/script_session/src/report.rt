@@ -1,14 +1,13 @@
 //! What is written for a faulty line, and for refused requests.
-ghost use Rattle.std.specs.Prelude.{◌≡◌, ◌++◌, codes, IfOk, OnOk, OnErr};
+ghost use Rattle.std.specs.Prelude.{◌≡◌, ◌++◌, codes, OnOk, OnErr};
 ghost use Rattle.script_session.specs.declared.fault.Fault.TheVariants.{ShareFull};
 ghost use Rattle.std.specs.Io.KnownBytes.{Appends};
 ghost use Rattle.script_engine.specs.Answers.{fault_text};
 ghost use Rattle.script_engine.specs.Known.{AppendsFront};
 ghost use Rattle.script_session.specs.Fault.{words};
-ghost use Rattle.script_session.specs.Session.{done_answer, repeated};
+ghost use Rattle.script_session.specs.Session.{repeated};
 
 use crate::fault::Fault;
-use crate::reply::Reply;
 use itoa::Buffer;
 use script_engine::{WriteFailed, write_whole};
 use std::io::Write;
@@ -47,7 +46,7 @@ pub fn write_fault<W: Write>(writer: &mut W, number: u64, fault: Fault) -> Resul
 }
 
 /// Writes a refusal for each of so many requests that met a full share.
-fn write_refused<W: Write>(writer: &mut W, number: u64, refused: u64) -> Result<(), WriteFailed>
+pub fn write_refused<W: Write>(writer: &mut W, number: u64, refused: u64) -> Result<(), WriteFailed>
     ensures ok { OnOk result (Appends (W.contents writer.old) (W.contents writer.new) (repeated refused (fault_text number (words ShareFull)))) }
     ensures err { OnErr result (AppendsFront (W.contents writer.old) (W.contents writer.new) (repeated refused (fault_text number (words ShareFull)))) }
 {
@@ -55,18 +54,4 @@ fn write_refused<W: Write>(writer: &mut W, number: u64, refused: u64) -> Result<
         write_fault(writer, number, Fault::ShareFull)?;
     }
     Ok(())
-}
-
-/// Writes what a command has done, and says whether its line is accepted.
-pub fn write_reply<W: Write>(
-    writer: &mut W,
-    number: u64,
-    reply: &Reply,
-) -> Result<bool, WriteFailed>
-    ensures ok { IfOk result (λ accepted. (accepted ≡ (done_answer number reply.now).accepted) × Appends (W.contents writer.old) (W.contents writer.new) (done_answer number reply.now).text) }
-    ensures err { OnErr result (AppendsFront (W.contents writer.old) (W.contents writer.new) (done_answer number reply.now).text) }
-{
-    write_whole(writer, reply.text().as_bytes())?;
-    write_refused(writer, number, reply.refused())?;
-    Ok(reply.refused() == 0)
 }

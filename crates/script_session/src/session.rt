@@ -1,16 +1,17 @@
 //! A session: the board that `ranks` makes, and the lines that come before it.
-ghost use Rattle.std.specs.Prelude.{◌≡◌, ◌≤◌, ◌⊎◌, IfErr, IfOk, OnErr, OnOk, Ok, Some, None};
+ghost use Rattle.std.specs.Prelude.{◌≡◌, ◌<◌, ◌≤◌, ◌⊎◌, ℕ, IfErr, IfOk, IsErrOf, OnErr, OnOk, Ok, Some, None, [], length, take};
 ghost use Rattle.script_commands.specs.Commands.{Ranks, asked};
 ghost use Rattle.script_commands.specs.Commands as words;
-ghost use Rattle.script_session.specs.Session.{SessionData, before_ranks};
+ghost use Rattle.script_session.specs.Session.{before_ranks};
 ghost use Rattle.script_commands.specs.View.{view};
 ghost use Rattle.script_session.specs.Fault.{IsDue};
 
 use crate::board::Board;
 use crate::board_parts::BoardParts;
 use crate::fault::Fault;
+use crate::print::Unprinted;
 use crate::reply::Reply;
-use crate::report::{write_fault, write_reply};
+use crate::report::{write_fault, write_refused};
 use authority_map::Publisher;
 use naming::Naming;
 use script_commands::{Asked, Command, RankCount, read_line};
@@ -53,7 +54,12 @@ fn fill<T>(place: &mut Option<T>, value: T)
 }
 
 impl<'r, J: Naming, M: Publisher<J>, R: Threads> Session<'r, J, M, R> {
-    ghost use Rattle.script_session.specs.Session.{beginning, line_outcome, held, outcome_at, published, settled, IsDone};
+    ghost use Rattle.script_session.specs.Session.{beginning, line_outcome, held, outcome_at, published, IsDone, IsTold};
+    ghost use Rattle.script_session.specs.Printed.{joined, only_lines};
+    ghost use Rattle.script_session.specs.Reply.{IsShowable, shown};
+    ghost use Rattle.script_engine.specs.Answers.{Answer};
+    ghost use Rattle.script_engine.specs.Known.{AppendsFront};
+    ghost use Rattle.std.specs.Io.KnownBytes.{Appends};
 
     /// The session at the beginning of a script. Its tree is to give at most `limit` numbers. Where no parts of a
     /// board could be opened, for want of memory, `ranks` will be refused.
@@ -90,7 +96,7 @@ impl<'r, J: Naming, M: Publisher<J>, R: Threads> Session<'r, J, M, R> {
     /// Makes the board.
     fn begin(&mut self, alloc: Global, active: RankCount) -> Result<Reply, Fault>
         requires { self.old.board ≡ None }
-        ensures done { IfOk result (λ reply. held self.old (before_ranks self.old.limit (Ranks active.number)) ≡ Ok (reply, self.new)) }
+        ensures done { IfOk result (λ reply. (reply ≡ Reply.Nothing) × (held self.old (before_ranks self.old.limit (Ranks active.number)) ≡ Ok (only_lines [], self.new))) }
         ensures fault { IfErr result (λ fault. fault ≡ Fault.Memory) }
         ensures unchanged { OnErr result (self.new ≡ self.old) }
     {
@@ -100,7 +106,7 @@ impl<'r, J: Naming, M: Publisher<J>, R: Threads> Session<'r, J, M, R> {
         match Board::new(alloc, parts, self.limit, active.number) {
             Ok(board) => {
                 fill(&mut self.board, board);
-                Ok(Reply::silent(alloc))
+                Ok(Reply::Nothing)
             }
             Err(parts) => {
                 fill(&mut self.parts, parts);
@@ -111,7 +117,8 @@ impl<'r, J: Naming, M: Publisher<J>, R: Threads> Session<'r, J, M, R> {
 
     /// Carries out a command. Before `ranks` was accepted no other is.
     pub fn carry_out(&mut self, alloc: Global, command: Command<'_>) -> Result<Reply, Fault>
-        ensures done { IfOk result (λ reply. IsDone self.old (held self.old (outcome_at self.old.limit self.old.board (view command.entry))) (words.Asks (view command.entry)) reply self.new) }
+        ensures done { IfOk result (λ reply. IsDone self.old (held self.old (outcome_at self.old.limit self.old.board (view command.entry))) (words.Asks (view command.entry)) (shown self.new.board reply) self.new) }
+        ensures showable { IfOk result (IsShowable self.new.board) }
         ensures fault { IfErr result (IsDue (outcome_at self.old.limit self.old.board (view command.entry))) }
         ensures unchanged { OnErr result (self.new ≡ self.old) }
     {
@@ -124,6 +131,20 @@ impl<'r, J: Naming, M: Publisher<J>, R: Threads> Session<'r, J, M, R> {
         }
     }
 
+    /// Reads a line and carries out what it asks for. The reply is what it prints.
+    pub fn take_line(&mut self, alloc: Global, line: &[u8]) -> Result<Reply, Fault>
+        ensures done { IfOk result (λ reply. IsDone self.old (line_outcome self.old line.now) (asked line.now) (shown self.new.board reply) self.new) }
+        ensures showable { IfOk result (IsShowable self.new.board) }
+        ensures fault { IfErr result (IsDue (line_outcome self.old line.now)) }
+        ensures unchanged { OnErr result (self.new ≡ self.old) }
+    {
+        match read_line(alloc, line)? {
+            Asked::Nothing => Ok(Reply::Nothing),
+            Asked::Syntax => Err(Fault::Syntax),
+            Asked::Asks(command) => self.carry_out(alloc, command),
+        }
+    }
+
     // Publishes the map, if there is a board and memory suffices.
     fn publish(&mut self)
         ensures { (self.new ≡ published self.old) ⊎ (self.new ≡ self.old) }
@@ -133,31 +154,51 @@ impl<'r, J: Naming, M: Publisher<J>, R: Threads> Session<'r, J, M, R> {
         }
     }
 
-    /// Reads a line, carries out what it asks for, and publishes the map if the line is accepted. The reply is what it
-    /// prints.
-    pub fn take_line(&mut self, alloc: Global, line: &[u8]) -> Result<Reply, Fault>
-        ensures done { IfOk result (λ reply. (mid : SessionData) × IsDone self.old (line_outcome self.old line.now) (asked line.now) reply mid × ((self.new ≡ settled reply mid) ⊎ (self.new ≡ mid))) }
-        ensures fault { IfErr result (IsDue (line_outcome self.old line.now)) }
-        ensures unchanged { OnErr result (self.new ≡ self.old) }
+    // Writes the lines of a reply.
+    fn print<W: Write>(
+        &mut self,
+        alloc: Global,
+        reply: &Reply,
+        writer: &mut W,
+    ) -> Result<(), Unprinted>
+        requires { IsShowable self.old.board reply.now }
+        ensures done { OnOk result (Appends (W.contents writer.old) (W.contents writer.new) (joined (shown self.old.board reply.now).lines)) }
+        ensures memory { IsErrOf result Unprinted.Memory → (count : ℕ) × (count < length (shown self.old.board reply.now).lines) × Appends (W.contents writer.old) (W.contents writer.new) (joined (take count (shown self.old.board reply.now).lines)) }
+        ensures write { IsErrOf result Unprinted.Write → AppendsFront (W.contents writer.old) (W.contents writer.new) (joined (shown self.old.board reply.now).lines) }
+        ensures same { self.new ≡ self.old }
     {
-        let reply = self.obey(alloc, line)?;
-        if reply.refused() == 0 {
-            self.publish();
+        match &mut self.board {
+            Some(board) => board.print(alloc, reply, writer),
+            None => Ok(()),
         }
-        Ok(reply)
     }
 
-    // Reads a line and carries out what it asks for.
-    fn obey(&mut self, alloc: Global, line: &[u8]) -> Result<Reply, Fault>
-        ensures done { IfOk result (λ reply. IsDone self.old (line_outcome self.old line.now) (asked line.now) reply self.new) }
-        ensures fault { IfErr result (IsDue (line_outcome self.old line.now)) }
-        ensures unchanged { OnErr result (self.new ≡ self.old) }
+    // Writes a reply, and publishes the map if the line is accepted. It says whether it is.
+    fn settle<W: Write>(
+        &mut self,
+        alloc: Global,
+        number: u64,
+        reply: &Reply,
+        writer: &mut W,
+    ) -> Result<bool, WriteFailed>
+        requires { IsShowable self.old.board reply.now }
+        ensures ok { IfOk result (λ accepted. (a : Answer) × IsTold number (shown self.old.board reply.now) self.old a self.new × (accepted ≡ a.accepted) × Appends (W.contents writer.old) (W.contents writer.new) a.text) }
+        ensures err { OnErr result ((a : Answer) × IsTold number (shown self.old.board reply.now) self.old a self.new × AppendsFront (W.contents writer.old) (W.contents writer.new) a.text) }
     {
-        match read_line(alloc, line)? {
-            Asked::Nothing => Ok(Reply::silent(alloc)),
-            Asked::Syntax => Err(Fault::Syntax),
-            Asked::Asks(command) => self.carry_out(alloc, command),
+        match self.print(alloc, reply, writer) {
+            Ok(()) => {}
+            Err(Unprinted::Memory) => {
+                write_fault(writer, number, Fault::Memory)?;
+                return Ok(false);
+            }
+            Err(Unprinted::Write) => return Err(WriteFailed),
         }
+        write_refused(writer, number, reply.refused())?;
+        if reply.refused() > 0 {
+            return Ok(false);
+        }
+        self.publish();
+        Ok(true)
     }
 }
 
@@ -174,7 +215,7 @@ impl<'r, J: Naming, M: Publisher<J>, R: Threads> Interpreter for Session<'r, J, 
         writer: &mut W,
     ) -> Result<bool, WriteFailed> {
         match self.take_line(alloc, line) {
-            Ok(reply) => write_reply(writer, number, &reply),
+            Ok(reply) => self.settle(alloc, number, &reply, writer),
             Err(fault) => {
                 write_fault(writer, number, fault)?;
                 Ok(false)

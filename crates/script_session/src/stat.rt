@@ -12,34 +12,10 @@ use std::alloc::{AllocError, Global};
 
 impl<J: Naming, M: Publisher<J>> Board<J, M> {
     ghost use Rattle.std.specs.Prelude.{length};
-    ghost use Rattle.script_session.specs.Stat.{cluster_line, dir_line, stat, usable};
-
-    /// The lines on the cluster and on each directory, by rising numbers.
-    pub fn stat(&mut self, alloc: Global) -> Result<String, AllocError>
-        ensures text { IfOk result (λ text. string_bytes text ≡ stat self.old) }
-        ensures same { self.new ≡ self.old }
-    {
-        let dirs = self.directories(alloc)?;
-        self.stat_text(alloc, &dirs)
-    }
-
-    fn stat_text(&mut self, alloc: Global, dirs: &[Dir]) -> Result<String, AllocError>
-        requires all { dirs.now ≡ directories self.old.directories.entries }
-        requires there { All (λ dir. is_there self.old.directories.entries dir ≡ true) dirs.now }
-        requires below { All (λ dir. dir < self.old.directories.limit) dirs.now }
-        ensures text { IfOk result (λ text. string_bytes text ≡ stat self.old) }
-        ensures same { self.new ≡ self.old }
-    {
-        let mut text = self.cluster_line(alloc, dirs.len())?;
-        for dir in dirs {
-            let line = self.dir_line(alloc, *dir)?;
-            text.push_str(&line)?;
-        }
-        Ok(text)
-    }
+    ghost use Rattle.script_session.specs.Stat.{cluster_line, dir_line, usable};
 
     /// The directories, by rising numbers.
-    fn directories(&self, alloc: Global) -> Result<Vec<Dir>, AllocError>
+    pub(crate) fn directories(&self, alloc: Global) -> Result<Vec<Dir>, AllocError>
         ensures dirs { IfOk result (λ dirs. dirs.items ≡ directories self.now.directories.entries) }
         ensures there { IfOk result (λ dirs. All (λ dir. is_there self.now.directories.entries dir ≡ true) dirs.items) }
         ensures below { IfOk result (λ dirs. All (λ dir. dir < self.now.directories.limit) dirs.items) }
@@ -54,7 +30,7 @@ impl<J: Naming, M: Publisher<J>> Board<J, M> {
         Ok(dirs)
     }
 
-    fn cluster_line(&self, alloc: Global, count: usize) -> Result<String, AllocError>
+    pub(crate) fn cluster_line(&self, alloc: Global, count: usize) -> Result<String, AllocError>
         requires { count ≡ length (directories self.now.directories.entries) }
         ensures { IfOk result (λ line. string_bytes line ≡ cluster_line self.now) }
     {
@@ -63,7 +39,7 @@ impl<J: Naming, M: Publisher<J>> Board<J, M> {
         format!(in alloc; "stat ranks {active} usable {usable} directories {count}\n")
     }
 
-    fn dir_line(&mut self, alloc: Global, dir: Dir) -> Result<String, AllocError>
+    pub(crate) fn dir_line(&mut self, alloc: Global, dir: Dir) -> Result<String, AllocError>
         requires there { is_there self.old.directories.entries dir ≡ true }
         requires below { dir < self.old.directories.limit }
         ensures line { IfOk result (λ line. string_bytes line ≡ dir_line self.old dir) }

@@ -1,6 +1,6 @@
-use Rattle.std.proofs.Common.{◌≡◌, List, sym, ◌∙◌, subst}
+use Rattle.std.proofs.Common.{List, sym, subst}
 use Rattle.division_cost.specs.declared.division.Part.{Part}
-use Rattle.division_cost.specs.Parts.{Marks, parts}
+use Rattle.division_cost.specs.Parts.{Marks}
 use Rattle.script_session.specs.Cost.{AreThere}
 use Rattle.script_session.proofs.CostLemmas.{parts_there, root_marked}
 use Rattle.script_session.proofs.board.Board.cost.Goals as goal
@@ -10,9 +10,8 @@ parts-requires-clause-root g c =
     let named = c.in_ok-is_top.ensures.tops in
     rw c.deref.ensures.value (root_marked c.in_ok-is_top.is_top.items named.0 c.in_ok-is_top.ensures.some named.2)
 
-pub cost_text-requires : goal.cost_text-requires
-cost_text-requires g c =
+pub returns-clause-there : goal.returns-clause-there
+returns-clause-there g c =
     let named = c.in_ok-is_top.ensures.tops in
     let marked : Marks c.deref.result.now named.0 = rw c.deref.ensures.value named.2 in
-    let items : c.deref-2.result.now ≡ parts c.args.self.now.directories.entries c.args.self.now.pins.own c.args.self.now.heats.heats named.0 = c.deref-2.ensures.value ∙ c.in_ok-parts.ensures.parts named.0 marked in
-    subst (λ (ps : List Part). AreThere c.args.self.now ps) (sym items) (parts_there c.args.self.now named.0)
+    subst (λ (ps : List Part). AreThere c.args.self.now ps) (sym (c.in_ok-parts.ensures.parts named.0 marked)) (parts_there c.args.self.now named.0)

@@ -1,4 +1,4 @@
-use Rattle.std.proofs.Common.{◌≡◌, ℕ, List, rules}
+use Rattle.std.proofs.Common.{◌≡◌, rules}
 use Rattle.script_session.proofs.MapLemmas.{mapped_made}
 use Rattle.script_session.proofs.board.Board.make_child.Goals as goal
 

@@ -1,7 +1,7 @@
-use Rattle.std.proofs.Common.{◌≡◌, ℕ, [], ◌∷◌, ◌++◌, ◌<◌, ◌∙◌, List, None, Some, ap, refl, replicate, rules, sym}
+use Rattle.std.proofs.Common.{◌≡◌, ℕ, [], ◌∷◌, ◌<◌, ◌∙◌, None, Some, ap, refl, replicate, rules, sym}
 use Rattle.std.proofs.lemmas.List.{length-replicate}
 use Rattle.std.proofs.lemmas.List.Elements.{All-nil}
-use Rattle.authority_map.specs.Operations.{Operation, SetTo}
+use Rattle.authority_map.specs.Operations.{SetTo}
 use Rattle.heat_ledger.specs.Ledger.{ShareData}
 use Rattle.dirtree.specs.Tree.{root}
 use Rattle.script_session.specs.declared.load.Load.{Load}

@@ -1,17 +1,16 @@
 use Rattle.std.proofs.lemmas.Result.{err_from_is_err_and, IfOk-weaker, on_err_weaker}
-use Rattle.std.proofs.Common.{sym, ◌∙◌}
 use Rattle.script_session.proofs.SessionLemmas.{answered, answered_fault}
 use Rattle.script_session.proofs.session.SessionInterpreter.answer.Goals as goal
 
 pub returns-in-Ok-clause-ok : goal.returns-in-Ok-clause-ok
 returns-in-Ok-clause-ok g c =
-    let a = answered c.args.self.now c.take_line.new.self c.args.number c.args.line.now c.in-Ok.reply c.in-Ok.ensures.done in
-    IfOk-weaker c.write_reply.result _ _ (λ accepted done. (a.0, a.1, done.0 ∙ sym a.3, rw a.2 done.1)) c.write_reply.ensures.ok
+    let done = c.in-Ok.ensures.done in
+    IfOk-weaker c.settle.result _ _ (λ accepted told. (told.0, answered c.args.self.now c.take_line.new.self c.settle.new.self c.args.number c.args.line.now _ told.0 done told.1, told.2, told.3)) c.settle.ensures.ok
 
 pub returns-in-Ok-clause-err : goal.returns-in-Ok-clause-err
 returns-in-Ok-clause-err g c =
-    let a = answered c.args.self.now c.take_line.new.self c.args.number c.args.line.now c.in-Ok.reply c.in-Ok.ensures.done in
-    on_err_weaker c.write_reply.result (λ front. (a.0, a.1, rw a.2 front)) c.write_reply.ensures.err
+    let done = c.in-Ok.ensures.done in
+    on_err_weaker c.settle.result (λ told. (told.0, answered c.args.self.now c.take_line.new.self c.settle.new.self c.args.number c.args.line.now _ told.0 done told.1, told.2)) c.settle.ensures.err
 
 pub returns-in_err-write_fault-in-Err-clause-err : goal.returns-in_err-write_fault-in-Err-clause-err
 returns-in_err-write_fault-in-Err-clause-err g c =
