@@ -3,21 +3,16 @@
 //!
 //! A problem is `rows ranks` and then `parent heat inodes now` a line. Prints the parts of the cut and its microseconds, then
 //! the least greatest heat, the microseconds of the bisection and its passes. Times are the least of 15.
+mod walk;
+
 use std::io::Read;
 use std::time::Instant;
+use walk::{Links, TableRow, cut_children};
 
 #[derive(Clone, Copy)]
 struct Row {
     parent: usize,
     heat: u64,
-}
-
-#[derive(Clone, Copy, Default)]
-struct TableRow {
-    rest: u64,
-    price: u64,
-    cuts: u32,
-    cut: bool,
 }
 
 /// Rests, prices and cuts against the bound, and the part of each row.
@@ -33,42 +28,21 @@ fn cut(rows: &[Row], bound: u64) -> (Vec<TableRow>, Vec<u32>) {
         next[i] = first[rows[i].parent];
         first[rows[i].parent] = i as u32;
     }
-    let mut lost = vec![0u64; n];
-    let mut children: Vec<(u64, u32)> = vec![];
+    let links = Links { first, next };
+    let (mut lost, mut hot) = (vec![0u64; n], vec![]);
     for i in (0..n).rev() {
-        let mut coolest = None;
+        let mut coolest = 0;
         if too_hot[i] {
             let mut rest = table[i].rest - lost[i];
             if rest > bound {
-                children.clear();
-                let mut child = first[i];
-                while child != 0 {
-                    children.push((table[child as usize].rest, !child));
-                    child = next[child as usize];
-                }
-                // the hottest first, among equals the smaller row
-                let (mut at, mut sorted) = (0, 0);
-                while rest > bound {
-                    if at == sorted {
-                        sorted = (at + 64).min(children.len());
-                        if sorted < children.len() {
-                            children[at..].select_nth_unstable_by(sorted - at, |x, y| y.cmp(x));
-                        }
-                        children[at..sorted].sort_unstable_by(|x, y| y.cmp(x));
-                    }
-                    let (heat, child) = children[at];
-                    at += 1;
-                    table[!child as usize].cut = true;
-                    table[i].cuts += 1;
-                    lost[i] += heat;
-                    rest -= heat;
-                    coolest = Some(heat);
-                }
+                let before = rest;
+                (rest, coolest) = cut_children(&mut table, &links, &mut hot, i, rest, bound);
+                lost[i] += before - rest;
             }
             table[i].rest = rest;
         }
-        if let Some(heat) = coolest {
-            table[i].price = heat;
+        if coolest > 0 {
+            table[i].price = coolest;
         }
         if i > 0 {
             let parent = rows[i].parent;

@@ -2,9 +2,12 @@
 //!
 //! A problem is `rows ranks` and then `parent heat inodes now` a line. Prints greatest heat, moved inodes, and the
 //! nanoseconds of each part, the least of 31 runs.
+mod walk;
+
 use std::hint::black_box;
 use std::io::Read;
 use std::time::Instant;
+use walk::{Links, TableRow, cut_children};
 
 #[derive(Clone, Copy)]
 pub struct Row {
@@ -17,14 +20,6 @@ pub struct Row {
 pub struct Problem {
     pub rows: Vec<Row>,
     pub ranks: usize,
-}
-
-#[derive(Clone, Copy, Default)]
-pub struct TableRow {
-    rest: u64,
-    price: u64,
-    cuts: u32,
-    cut: bool,
 }
 
 pub enum Proof {
@@ -150,6 +145,7 @@ fn table(rows: &[Row], bound: u64) -> Vec<TableRow> {
             first[parent] = i as u32;
         }
     }
+    let links = Links { first, next };
     let (mut lost, mut hot) = (vec![0u64; n], vec![]);
     for i in (0..n).rev() {
         let mut coolest = 0;
@@ -157,29 +153,9 @@ fn table(rows: &[Row], bound: u64) -> Vec<TableRow> {
         if whole > bound {
             let mut rest = whole - lost[i];
             if rest > bound {
-                hot.clear();
-                let mut child = first[i];
-                while child != 0 {
-                    hot.push((table[child as usize].rest, !child));
-                    child = next[child as usize];
-                }
-                let (mut at, mut sorted) = (0, 0);
-                while rest > bound {
-                    if at == sorted {
-                        sorted = (at + 64).min(hot.len());
-                        if sorted < hot.len() {
-                            hot[at..].select_nth_unstable_by(sorted - at, |x, y| y.cmp(x));
-                        }
-                        hot[at..sorted].sort_unstable_by(|x, y| y.cmp(x));
-                    }
-                    let (piece, child) = hot[at];
-                    at += 1;
-                    table[!child as usize].cut = true;
-                    table[i].cuts += 1;
-                    lost[i] += piece;
-                    rest -= piece;
-                    coolest = piece;
-                }
+                let before = rest;
+                (rest, coolest) = cut_children(&mut table, &links, &mut hot, i, rest, bound);
+                lost[i] += before - rest;
             }
             table[i].rest = rest;
         }

@@ -14,4 +14,6 @@ pub use plan_parts::{PlanPart, parts};
 #[cfg(test)]
 mod random_boards;
 #[cfg(test)]
+mod refused_growths;
+#[cfg(test)]
 mod tests;

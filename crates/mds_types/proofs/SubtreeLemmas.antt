@@ -1,12 +1,12 @@
 -- What is gathered at a row, once all rows after it are handled, is the sum over its subtree.
-use Rattle.std.proofs.Common.{◌≡◌, ◌≢◌, ◌∙◌, ℕ, zero, suc, ◌+◌, ◌-◌, ◌<◌, ◌≤◌, Bool, true, false, cond, ◌&&◌, ◌||◌, not, eqb, ltb, List, length, refl, sym, ap, arith, ⊎_elim, ◌⊎◌, inl, inr}
-use Rattle.std.proofs.lemmas.Bool.{cases_Bool, cases_eq, cases_lt, eq-eqb, eqb-true, ne_eqb, and_parts, ltb-true, lt-ltb, le-ltb, or_left, false≢true}
+use Rattle.std.proofs.Common.{◌≡◌, ◌≢◌, ◌∙◌, ℕ, zero, suc, ◌+◌, ◌<◌, ◌≤◌, Bool, true, false, cond, ◌&&◌, not, eqb, ltb, List, length, refl, sym, ap, arith, ⊎_elim}
+use Rattle.std.proofs.lemmas.Bool.{cases_Bool, cases_eq, cases_lt, eq-eqb, eqb-true, ne_eqb, lt-ltb, le-ltb, false≢true}
 use Rattle.mds_types.specs.declared.problem.ProblemRow.{ProblemRow}
 use Rattle.mds_types.specs.Problem.{IsForest, parent_at, heat_at}
 use Rattle.mds_types.specs.Sums.{sum_below, some_below}
 use Rattle.mds_types.specs.Subtree.{climb, in_subtree, edges_below, top_heat}
 use Rattle.mds_types.specs.Division.{joins_parent}
-use Rattle.mds_types.proofs.SumsLemmas.{sum_below-le, sum_below-add, sum_below-same, sum_below-only, sum_below-term, some_below-found, some_below-none}
+use Rattle.mds_types.proofs.SumsLemmas.{sum_below-add, sum_below-same, sum_below-only, sum_below-term, some_below-found, some_below-none}
 use Rattle.mds_types.proofs.Pieces.{child, heat_acc, edge_acc, edge}
 
 -- the row before row m that a climb from row j comes to first, where the d rows from m on are passed

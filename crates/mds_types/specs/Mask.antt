@@ -1,15 +1,18 @@
--- The texts of masks.
-use Rattle.std.specs.Prelude.{◌≡◌, ◌≤◌, ◌-◌, ◌^◌, ◌⊎◌, ◌++◌, ℕ, List, length, codes}
-use Rattle.std.specs.Str.Parse.{IsNumeral, digits_value}
+-- The mask that a text writes.
+use Rattle.std.specs.Prelude.{ℕ, ◌-◌, ◌^◌, Bool, ◌&&◌, if◌then◌else◌, nat_lt, nat_le, List, length, take, drop, codes, Option, Some, None}
+use Rattle.std.specs.List.{list_all}
+use Rattle.std.specs.Char.{digit_value}
+use Rattle.std.specs.Str.{bytes_eq}
+use Rattle.std.specs.Str.Parse.{digits_value}
 
--- the bytes are 1 to 16 hexadecimal digits of either case, and write this number
-pub record IsHexNumber (digits : List ℕ) (number : ℕ) : Type 0 where
-  pub numeral : IsNumeral 16 digits
-  pub few : length digits ≤ 16
-  pub value : number ≡ digits_value 16 digits
+-- one to sixteen hexadecimal digits of either case
+abbrev pub is_hex : List ℕ → Bool
+is_hex digits = nat_lt 0 (length digits) && (nat_le (length digits) 16 && list_all (λ c. nat_lt (digit_value c) 16) digits)
 
--- the text is a mask of this bit map: `-1` has all 64 bits, and else `0x` stands before its hexadecimal digits
-abbrev pub IsMask : List ℕ → ℕ → Type 0
-IsMask text bits =
-    ((text ≡ codes "-1") × (bits ≡ 2 ^ 64 - 1))
-    ⊎ ((digits : List ℕ) × (text ≡ codes "0x" ++ digits) × IsHexNumber digits bits)
+-- the bits that stand behind 0x
+abbrev pub hex_bits : List ℕ → Option ℕ
+hex_bits text = if bytes_eq (take 2 text) (codes "0x") && is_hex (drop 2 text) then Some (digits_value 16 (drop 2 text)) else None
+
+-- -1 is all ranks
+abbrev pub mask_bits : List ℕ → Option ℕ
+mask_bits text = if bytes_eq text (codes "-1") then Some (2 ^ 64 - 1) else hex_bits text

@@ -2,8 +2,9 @@
 //!
 //! A mask is written `-1`, for all ranks, or `0x` and 1 to 16 hexadecimal digits. (The CephFS
 //! documentation, "Configuring multiple active MDS daemons".)
-ghost use Rattle.std.specs.Prelude.{ℕ, IfNone, IfSome};
-ghost use Rattle.mds_types.specs.Mask.{IsHexNumber};
+ghost use Rattle.std.specs.Prelude.{◌≡◌, ℕ, if◌then◌else◌, Some, None};
+ghost use Rattle.std.specs.Str.Parse.{digits_value};
+ghost use Rattle.mds_types.specs.Mask.{is_hex};
 
 use crate::limits::RANK_LIMIT;
 use crate::rank::Rank;
@@ -31,21 +32,24 @@ impl Model for RankSet {
 #[error("1 BadMask")]
 pub struct BadMask;
 
+// One digit stands for four ranks.
+const DIGIT_LIMIT: usize = 16;
+
 /// The number that 1 to 16 hexadecimal digits write.
 fn from_hex(digits: &str) -> Option<u64>
-    ensures number { IfSome result (λ bits. IsHexNumber digits.now bits) }
-    ensures refused { IfNone result ((bits : ℕ) → ¬ (IsHexNumber digits.now bits)) }
+    ensures { result ≡ (if is_hex digits.now then Some (digits_value 16 digits.now) else None) }
 {
-    if digits.len() > 16 || digits.starts_with('+') {
+    if digits.len() > DIGIT_LIMIT || digits.starts_with('+') {
         return None;
     }
     u64::from_str_radix(digits, 16).ok()
 }
 
 impl RankSet {
-    ghost use Rattle.std.specs.Prelude.{◌≡◌, ◌<◌, ◌≤◌, ◌↔◌, ◌&&◌, IfErr, IfOk, IsTrue, nat_lt, true};
+    ghost use Rattle.std.specs.Prelude.{◌≡◌, ◌<◌, ◌≤◌, ◌↔◌, ◌&&◌, IsTrue, nat_lt, true};
+    ghost use Rattle.std.specs.Result.{result_ok};
+    ghost use Rattle.mds_types.specs.Mask.{mask_bits};
     ghost use Rattle.mds_types.specs.RankSet.{has_rank, rank_count};
-    ghost use Rattle.mds_types.specs.Mask.{IsMask};
 
     /// The set of the ranks whose bit is 1.
     pub fn from_bits(bits: u64) -> RankSet
@@ -56,8 +60,7 @@ impl RankSet {
 
     /// The set that a mask writes.
     pub fn parse(text: &str) -> Result<RankSet, BadMask>
-        ensures ok { IfOk result (IsMask text.now) }
-        ensures err { IfErr result (λ _. (bits : ℕ) → ¬ (IsMask text.now bits)) }
+        ensures { result_ok result ≡ mask_bits text.now }
     {
         if text == "-1" {
             return Ok(RankSet { bits: u64::MAX });

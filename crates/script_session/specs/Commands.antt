@@ -10,12 +10,12 @@ use Rattle.dir_pins.specs.Pins as pins
 use Rattle.heat_decay.specs.Heat.{Heats, after_deposit, after_tick}
 use Rattle.heat_decay.specs.declared.heat.TheConstants.{TICK_LIMIT}
 use Rattle.heat_ledger.specs.declared.share.TheConstants.{HIT_LIMIT}
+use Rattle.mds_types.specs.Mask.{mask_bits}
 use Rattle.script_session.specs.declared.load.Load.{Load}
 use Rattle.script_session.specs.declared.fault.Fault.{Fault}
 use Rattle.script_session.specs.declared.fault.Fault.TheVariants as fault
 use Rattle.script_session.specs.Board.{BoardData}
 use Rattle.script_session.specs.Fault.{tree_fault}
-use Rattle.script_session.specs.Mask.{mask_bits}
 
 infixl 10 ◌>>=◌
 abbrev pub ◌>>=◌ : {A B : Type 0} → Result A Fault → (A → Result B Fault) → Result B Fault

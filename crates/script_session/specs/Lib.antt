@@ -2,7 +2,6 @@ pub mod Board
 pub mod Commands
 pub mod Cost
 pub mod Fault
-pub mod Mask
 pub mod Plan
 pub mod Printed
 pub mod Reply
