@@ -18,6 +18,7 @@ pub mod laws;
 pub mod message;
 mod records;
 mod refusals;
+mod searching;
 pub mod step_error;
 mod stopping;
 

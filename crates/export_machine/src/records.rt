@@ -5,10 +5,9 @@
 //! folds a journal and no event searches the exports. A fifth, of marks, is for the test of a list of directories.
 
 ghost use Rattle.std.specs.Prelude.{◌≡◌, ℕ, ◌<◌, ◌≤◌, IfOk, map, replicate, slice_set, false, ◌∷◌, [], length, Some, slice_get};
-ghost use Rattle.export_machine.specs.Authority.{is_present, authority, open_export, is_stopped, exporter_of, importer_of, from_of, to_of, order_in, frozen_by, serves, named_of, journal_of, is_among};
-ghost use Rattle.export_machine.specs.Step.{running_on, repeats, parent_among, is_connected, start};
+ghost use Rattle.export_machine.specs.Authority.{is_present, authority, open_export, is_stopped, exporter_of, importer_of, from_of, to_of, order_in, frozen_by, serves, named_of, journal_of};
+ghost use Rattle.export_machine.specs.Step.{running_on, start};
 ghost use Rattle.std.specs.List.{list_all};
-ghost use Rattle.export_machine.specs.Roots.{parent_of};
 ghost use Rattle.export_machine.specs.Kept.{world_of, indexes_of, first_indexes, children_of, IsKept};
 
 use crate::event::Request;
@@ -274,52 +273,4 @@ impl Records {
         }
         requests
     }
-
-    fn parent(&self, dir: Dir) -> Option<Dir>
-        ensures { result ≡ parent_of (world_of self.now) dir }
-    {
-        match self.parents.get(dir.number() as usize) {
-            Some(parent) => *parent,
-            None => None,
-        }
-    }
-
-    fn has_parent_among(&self, dirs: &[Dir], dir: Dir) -> bool
-        ensures { result ≡ parent_among dirs.now dir (parent_of (world_of self.now) dir) }
-    {
-        match self.parent(dir) {
-            Some(parent) => is_among(dirs, parent) && parent.number() != dir.number(),
-            None => false,
-        }
-    }
-
-    /// Whether the directories are some, none twice, and hang together: only one of them has no parent among them.
-    /// Without marks it looks through the list for each of them.
-    pub(crate) fn is_connected(&self, dirs: &[Dir]) -> bool
-        ensures { result ≡ is_connected (world_of self.now) dirs.now }
-    {
-        !repeats(dirs)
-            && dirs
-                .iter()
-                .filter(|dir| !self.has_parent_among(dirs, **dir))
-                .count()
-                == 1
-    }
-}
-
-fn is_among(dirs: &[Dir], dir: Dir) -> bool
-    ensures { result ≡ is_among dirs.now dir }
-{
-    dirs.iter().any(|other| other.number() == dir.number())
-}
-
-fn repeats(dirs: &[Dir]) -> bool
-    ensures { result ≡ repeats dirs.now }
-{
-    for at in 0..dirs.len() {
-        if is_among(&dirs[at + 1..], dirs[at]) {
-            return true;
-        }
-    }
-    false
 }
