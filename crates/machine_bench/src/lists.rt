@@ -33,15 +33,6 @@ pub enum Kind {
 }
 
 impl Kind {
-    /// Each kind.
-    pub const ALL: [Kind; 5] = [
-        Kind::Made,
-        Kind::Requests,
-        Kind::Mixed,
-        Kind::Export,
-        Kind::Disorder,
-    ];
-
     /// The kind of this name.
     pub fn named(name: &str) -> Option<Kind> {
         match name {

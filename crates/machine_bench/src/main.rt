@@ -1,11 +1,11 @@
 //! Times the export machine on lists of events.
 //!
-//! Without an argument it prints nothing. With `times` it prints a line for each list: how many events it has, how many
-//! were accepted, and nanoseconds of processor time for all of them, the least of several runs; a copy of each event is
-//! kept with its answer. Then come the reads, with a sum of what they answered, and the start of an export of 32,768
-//! directories by rising numbers: asked for, and applied. With `alone` it times the lists with nothing kept. With
-//! `events LIST` it prints the list, one event a line, so that other programs can be timed on it: those before the line
-//! `now` aren't timed.
+//! Without an argument it prints nothing. `times LIST` prints how many events the list has, how many were accepted, and
+//! nanoseconds of processor time for all of them, the least of several runs; a copy of each event is kept with its
+//! answer, in room that the first run takes. `alone LIST` is the same with nothing kept. `reads` times the reads, with a sum
+//! of what they answered. `start` times the start of an export of 32,768 directories by rising numbers: asked for, and
+//! applied. `events LIST` prints the list, one event a line, so that other programs can be timed on it: those before
+//! the line `now` aren't timed.
 #![tactic(auto)]
 
 mod lists;
@@ -37,7 +37,7 @@ fn nanos(from: Duration, to: Duration) -> u128 {
 }
 
 fn copies(alloc: Global, events: &[Event]) -> io::Result<Vec<Event>> {
-    let mut copies = Vec::new(alloc);
+    let mut copies = Vec::with_capacity(alloc, events.len())?;
     for event in events {
         copies.push(event.copied(alloc)?)?;
     }
@@ -54,11 +54,11 @@ fn prepared(alloc: Global, before: &[Event]) -> io::Result<Cluster> {
 }
 
 /// The time of one run that keeps each event with its answer, and how many events were accepted.
-fn time_kept(rt: &HostRuntime, list: &Events) -> io::Result<(u128, u64)> {
+fn time_kept(rt: &HostRuntime, list: &Events, history: &mut Vec<Entry>) -> io::Result<(u128, u64)> {
     let alloc = rt.alloc();
     let mut cluster = prepared(alloc, &list.before)?;
     let todo = copies(alloc, &list.timed)?;
-    let mut history: Vec<Entry> = Vec::new(alloc);
+    history.clear();
     let start = rt.thread_cpu_time()?;
     for event in todo {
         let copy = event.copied(alloc)?;
@@ -70,7 +70,7 @@ fn time_kept(rt: &HostRuntime, list: &Events) -> io::Result<(u128, u64)> {
     }
     let time = nanos(start, rt.thread_cpu_time()?);
     let mut accepted: u64 = 0;
-    for entry in &history {
+    for entry in history.iter() {
         if entry.answer.is_ok() {
             accepted = accepted.wrapping_add(1);
         }
@@ -95,10 +95,11 @@ fn time_alone(rt: &HostRuntime, list: &Events) -> io::Result<(u128, u64)> {
 /// Times a list, each run with a copy of each event kept with its answer, or the events alone.
 fn time_list(rt: &HostRuntime, kind: Kind, keeps: bool) -> io::Result<()> {
     let list = make_events(rt.alloc(), kind)?;
+    let mut history = Vec::new(rt.alloc());
     let mut least = (u128::MAX, 0);
     for _ in 0..RUNS {
         let run = if keeps {
-            time_kept(rt, &list)?
+            time_kept(rt, &list, &mut history)?
         } else {
             time_alone(rt, &list)?
         };
@@ -107,13 +108,6 @@ fn time_list(rt: &HostRuntime, kind: Kind, keeps: bool) -> io::Result<()> {
     let (time, accepted) = least;
     let count = list.timed.len();
     println!(rt; "{kind} events {count} accepted {accepted} nanos {time}")
-}
-
-fn time_lists(rt: &HostRuntime, keeps: bool) -> io::Result<()> {
-    for kind in Kind::ALL {
-        time_list(rt, kind, keeps)?;
-    }
-    Ok(())
 }
 
 /// The directory of the next read.
@@ -237,17 +231,14 @@ fn print_list(rt: &HostRuntime, kind: Kind) -> io::Result<()> {
 
 fn main(rt: HostRuntime) -> io::Result<()> {
     let words: Vec<String> = std::env::args(&rt)?.collect(rt.alloc())?;
-    match words.get(1).map(|word| word.as_str()) {
-        Some("times") => {
-            time_lists(&rt, true)?;
-            time_reads(&rt)?;
-            time_start(&rt)
-        }
-        Some("alone") => time_lists(&rt, false),
-        Some("events") => match words.get(2).and_then(|word| Kind::named(word.as_str())) {
-            Some(kind) => print_list(&rt, kind),
-            None => Ok(()),
-        },
+    let asked = words.get(1).map(|word| word.as_str());
+    let kind = words.get(2).and_then(|word| Kind::named(word.as_str()));
+    match (asked, kind) {
+        (Some("times"), Some(kind)) => time_list(&rt, kind, true),
+        (Some("alone"), Some(kind)) => time_list(&rt, kind, false),
+        (Some("reads"), _) => time_reads(&rt),
+        (Some("start"), _) => time_start(&rt),
+        (Some("events"), Some(kind)) => print_list(&rt, kind),
         _ => Ok(()),
     }
 }
