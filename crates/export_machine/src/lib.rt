@@ -6,6 +6,7 @@
 
 mod applying;
 mod changes;
+mod checks;
 pub mod cluster;
 mod connecting;
 mod deliveries;
