@@ -157,6 +157,7 @@ impl Records {
     }
 
     #[tactic(auto)]
+    #[inline(always)]
     fn check_causes(&self, event: &Event) -> Result<(), StepError>
         requires kept { IsKept self.now }
         ensures { cause_of result ≡ first (causes (world_of self.now) (event_of event.now)) }
