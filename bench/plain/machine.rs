@@ -2,7 +2,8 @@
 //!
 //! An event a line, as `machine_bench events LIST` prints them; those before the line `now` aren't timed. Prints how
 //! many of the timed events were accepted and the nanoseconds for all of them, the least of 9 runs, each event with a
-//! copy of it and its answer kept. With `reads` as its argument it times the reads after the list instead.
+//! copy of it and its answer kept. With `alone` as its argument it keeps nothing; with `reads` it times the reads after
+//! the list instead.
 use std::hint::black_box;
 use std::io::Read;
 use std::time::Instant;
@@ -422,32 +423,48 @@ fn time_read(name: &str, read: impl Fn(u32) -> u64) {
     println!("{name} {sum} {least}");
 }
 
+/// The nanoseconds of one run that keeps each event with its answer, and how many events were accepted.
+fn time_kept(mut machine: Machine, todo: Vec<Event>, history: &mut Vec<(Event, Answer)>) -> (u128, usize) {
+    history.clear();
+    let start = Instant::now();
+    for event in todo {
+        let copy = event.clone();
+        let answer = machine.apply(event);
+        history.push((copy, answer));
+    }
+    let time = start.elapsed().as_nanos();
+    (time, history.iter().filter(|(_, answer)| answer.is_ok()).count())
+}
+
+/// The nanoseconds of one run that keeps nothing, and how many events were accepted.
+fn time_alone(mut machine: Machine, todo: Vec<Event>) -> (u128, usize) {
+    let mut accepted = 0;
+    let start = Instant::now();
+    for event in todo {
+        accepted += machine.apply(event).is_ok() as usize;
+    }
+    (start.elapsed().as_nanos(), accepted)
+}
+
 fn main() {
     let mut text = String::new();
     std::io::stdin().read_to_string(&mut text).unwrap();
     let (before, timed) = text.split_once("now\n").unwrap();
     let before: Vec<Event> = before.lines().map(parsed).collect();
     let timed: Vec<Event> = timed.lines().map(parsed).collect();
-    if std::env::args().nth(1).as_deref() == Some("reads") {
+    let asked = std::env::args().nth(1);
+    if asked.as_deref() == Some("reads") {
         let machine = after(&[before, timed].concat());
         time_read("authority", |dir| machine.owner(dir).map_or(64, u64::from));
         time_read("serves", |dir| machine.serves(0, dir) as u64);
         time_read("named", |dir| machine.named(dir).map_or(64, u64::from));
         return;
     }
-    let (mut least, mut accepted) = (u128::MAX, 0);
-    for _ in 0..9 {
-        let mut machine = after(&before);
-        let todo = timed.clone();
-        let mut history: Vec<(Event, Answer)> = vec![];
-        let start = Instant::now();
-        for event in todo {
-            let copy = event.clone();
-            let answer = machine.apply(event);
-            history.push((copy, answer));
-        }
-        least = least.min(start.elapsed().as_nanos());
-        accepted = history.iter().filter(|(_, answer)| answer.is_ok()).count();
-    }
+    let mut history = vec![];
+    let mut time = || match asked.as_deref() {
+        Some("alone") => time_alone(after(&before), timed.clone()),
+        _ => time_kept(after(&before), timed.clone(), &mut history),
+    };
+    let (least, accepted) = (0..9).map(|_| time()).min().unwrap();
     println!("{accepted} {least}");
 }

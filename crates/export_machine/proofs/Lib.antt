@@ -30,3 +30,4 @@ pub mod Starts
 pub mod Listing
 pub mod Halting
 pub mod Halted
+pub mod Ascending

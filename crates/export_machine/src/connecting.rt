@@ -7,16 +7,13 @@ ghost use Rattle.export_machine.specs.Step.{repeats, is_connected};
 ghost use Rattle.export_machine.specs.Kept.{world_of, is_listed, parent_marked, IsKept};
 
 use crate::changes::put;
-use crate::records::Records;
+use crate::records::{Records, value_at};
 use mds_types::Dir;
 
 fn is_listed(parents: &[Option<Dir>], dir: Dir) -> bool
     ensures { result ≡ is_listed parents.now dir }
 {
-    match parents.get(dir.number() as usize) {
-        Some(Some(_)) => true,
-        _ => false,
-    }
+    value_at(parents, dir.number() as usize, None).is_some()
 }
 
 /// Marks the directories, up to the first that isn't there or has its mark already.
@@ -52,14 +49,11 @@ fn unmark(marks: &mut Vec<bool>, dirs: &[Dir])
 fn has_marked_parent(parents: &[Option<Dir>], marks: &[bool], dir: Dir) -> bool
     ensures { result ≡ parent_marked marks.now dir (slice_index_or parents.now dir None) }
 {
-    match parents.get(dir.number() as usize) {
-        Some(Some(parent)) if parent.number() != dir.number() => {
-            match marks.get(parent.number() as usize) {
-                Some(mark) => *mark,
-                None => false,
-            }
+    match value_at(parents, dir.number() as usize, None) {
+        Some(parent) => {
+            parent.number() != dir.number() && value_at(marks, parent.number() as usize, false)
         }
-        _ => false,
+        None => false,
     }
 }
 

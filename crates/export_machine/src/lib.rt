@@ -6,6 +6,7 @@
 
 mod applying;
 mod changes;
+mod checks;
 pub mod cluster;
 mod connecting;
 mod deliveries;
@@ -18,6 +19,7 @@ pub mod laws;
 pub mod message;
 mod records;
 mod refusals;
+mod searching;
 pub mod step_error;
 mod stopping;
 

@@ -4,11 +4,10 @@
 //! authority, the open export that it is in, how many requests run on it and how many children it has. So no read
 //! folds a journal and no event searches the exports. A fifth, of marks, is for the test of a list of directories.
 
-ghost use Rattle.std.specs.Prelude.{◌≡◌, ℕ, ◌<◌, ◌≤◌, IfOk, map, replicate, slice_set, false, ◌∷◌, [], length, Some, slice_get};
-ghost use Rattle.export_machine.specs.Authority.{is_present, authority, open_export, is_stopped, exporter_of, importer_of, from_of, to_of, order_in, frozen_by, serves, named_of, journal_of, is_among};
-ghost use Rattle.export_machine.specs.Step.{running_on, repeats, parent_among, is_connected, start};
+ghost use Rattle.std.specs.Prelude.{◌≡◌, ℕ, ◌<◌, ◌≤◌, IfOk, map, replicate, slice_set, false, ◌∷◌, [], length, Some, slice_index_or};
+ghost use Rattle.export_machine.specs.Authority.{is_present, authority, open_export, is_stopped, exporter_of, importer_of, from_of, to_of, order_in, frozen_by, serves, named_of, journal_of};
+ghost use Rattle.export_machine.specs.Step.{running_on, start};
 ghost use Rattle.std.specs.List.{list_all};
-ghost use Rattle.export_machine.specs.Roots.{parent_of};
 ghost use Rattle.export_machine.specs.Kept.{world_of, indexes_of, first_indexes, children_of, IsKept};
 
 use crate::event::Request;
@@ -66,22 +65,22 @@ fn first_journals(alloc: Global, ranks: u8) -> Result<Vec<Vec<JournalEntry>>, Al
     Ok(journals)
 }
 
-fn all_running(alloc: Global, ranks: u8) -> Result<Vec<bool>, AllocError>
-    ensures { IfOk result (λ stopped. stopped.items ≡ replicate ranks false) }
-{
-    let mut stopped = Vec::new(alloc);
-    for _ in 0..ranks {
-        stopped.push(false)?;
-    }
-    Ok(stopped)
-}
-
 fn first_rank() -> Rank
     ensures { result ≡ 0 }
 {
     match Rank::new(0) {
         Some(rank) => rank,
         None => Rank::default(),
+    }
+}
+
+/// What the table has at one place, or the given value past its end.
+pub(crate) fn value_at<T: Copy>(table: &[T], index: usize, past_end: T) -> T
+    ensures { result ≡ slice_index_or table.now index past_end }
+{
+    match table.get(index) {
+        Some(value) => *value,
+        None => past_end,
     }
 }
 
@@ -94,7 +93,6 @@ impl Records {
         ensures indexes { IfOk result (λ records. indexes_of records ≡ first_indexes) }
     {
         let journals = first_journals(alloc, ranks)?;
-        let stopped = all_running(alloc, ranks)?;
         Ok(Records {
             limit,
             ranks,
@@ -106,7 +104,7 @@ impl Records {
             sent: Vec::new(alloc),
             tickets: Vec::new(alloc),
             named: vec![in alloc; Some(first_rank())]?,
-            stopped,
+            stopped: vec![in alloc; false; ranks as usize]?,
             events: 0,
             owners: vec![in alloc; Some(first_rank())]?,
             opened: vec![in alloc; None]?,
@@ -119,10 +117,7 @@ impl Records {
     pub(crate) fn is_present(&self, dir: Dir) -> bool
         ensures { result ≡ is_present (world_of self.now) dir }
     {
-        match self.parents.get(dir.number() as usize) {
-            Some(Some(_)) => true,
-            _ => false,
-        }
+        value_at(&self.parents, dir.number() as usize, None).is_some()
     }
 
     pub(crate) fn are_present(&self, dirs: &[Dir]) -> bool
@@ -135,49 +130,34 @@ impl Records {
         requires { IsKept self.now }
         ensures { result ≡ authority (world_of self.now) dir }
     {
-        match self.owners.get(dir.number() as usize) {
-            Some(owner) => *owner,
-            None => None,
-        }
+        value_at(&self.owners, dir.number() as usize, None)
     }
 
     pub(crate) fn open_export(&self, dir: Dir) -> Option<u32>
         requires { IsKept self.now }
         ensures { result ≡ open_export (world_of self.now) dir }
     {
-        match self.opened.get(dir.number() as usize) {
-            Some(export) => *export,
-            None => None,
-        }
+        value_at(&self.opened, dir.number() as usize, None)
     }
 
     pub(crate) fn running_on(&self, dir: Dir) -> u32
         requires { IsKept self.now }
         ensures { result ≡ running_on (world_of self.now) (dir ∷ []) }
     {
-        match self.running.get(dir.number() as usize) {
-            Some(requests) => *requests,
-            None => 0,
-        }
+        value_at(&self.running, dir.number() as usize, 0)
     }
 
     pub(crate) fn children(&self, dir: Dir) -> u32
         requires { IsKept self.now }
         ensures { result ≡ children_of (world_of self.now) dir }
     {
-        match self.children.get(dir.number() as usize) {
-            Some(children) => *children,
-            None => 0,
-        }
+        value_at(&self.children, dir.number() as usize, 0)
     }
 
     pub(crate) fn named(&self, dir: Dir) -> Option<Rank>
         ensures { result ≡ named_of (world_of self.now) dir }
     {
-        match self.named.get(dir.number() as usize) {
-            Some(rank) => *rank,
-            None => None,
-        }
+        value_at(&self.named, dir.number() as usize, None)
     }
 
     pub(crate) fn journal(&self, rank: Rank) -> &[JournalEntry]
@@ -192,28 +172,19 @@ impl Records {
     pub(crate) fn is_stopped(&self, rank: Rank) -> bool
         ensures { result ≡ is_stopped (world_of self.now) rank }
     {
-        match self.stopped.get(rank.number() as usize) {
-            Some(stopped) => *stopped,
-            None => false,
-        }
+        value_at(&self.stopped, rank.number() as usize, false)
     }
 
     pub(crate) fn exporter(&self, export: u32) -> ExporterState
         ensures { result ≡ exporter_of (world_of self.now) export }
     {
-        match self.exporters.get(export as usize) {
-            Some(state) => *state,
-            None => ExporterState::Aborted,
-        }
+        value_at(&self.exporters, export as usize, ExporterState::Aborted)
     }
 
     pub(crate) fn importer(&self, export: u32) -> ImporterState
         ensures { result ≡ importer_of (world_of self.now) export }
     {
-        match self.importers.get(export as usize) {
-            Some(state) => *state,
-            None => ImporterState::Unknown,
-        }
+        value_at(&self.importers, export as usize, ImporterState::Unknown)
     }
 
     pub(crate) fn from(&self, export: u32) -> Rank
@@ -274,52 +245,4 @@ impl Records {
         }
         requests
     }
-
-    fn parent(&self, dir: Dir) -> Option<Dir>
-        ensures { result ≡ parent_of (world_of self.now) dir }
-    {
-        match self.parents.get(dir.number() as usize) {
-            Some(parent) => *parent,
-            None => None,
-        }
-    }
-
-    fn has_parent_among(&self, dirs: &[Dir], dir: Dir) -> bool
-        ensures { result ≡ parent_among dirs.now dir (parent_of (world_of self.now) dir) }
-    {
-        match self.parent(dir) {
-            Some(parent) => is_among(dirs, parent) && parent.number() != dir.number(),
-            None => false,
-        }
-    }
-
-    /// Whether the directories are some, none twice, and hang together: only one of them has no parent among them.
-    /// Without marks it looks through the list for each of them.
-    pub(crate) fn is_connected(&self, dirs: &[Dir]) -> bool
-        ensures { result ≡ is_connected (world_of self.now) dirs.now }
-    {
-        !repeats(dirs)
-            && dirs
-                .iter()
-                .filter(|dir| !self.has_parent_among(dirs, **dir))
-                .count()
-                == 1
-    }
-}
-
-fn is_among(dirs: &[Dir], dir: Dir) -> bool
-    ensures { result ≡ is_among dirs.now dir }
-{
-    dirs.iter().any(|other| other.number() == dir.number())
-}
-
-fn repeats(dirs: &[Dir]) -> bool
-    ensures { result ≡ repeats dirs.now }
-{
-    for at in 0..dirs.len() {
-        if is_among(&dirs[at + 1..], dirs[at]) {
-            return true;
-        }
-    }
-    false
 }

@@ -33,15 +33,6 @@ pub enum Kind {
 }
 
 impl Kind {
-    /// Each kind.
-    pub const ALL: [Kind; 5] = [
-        Kind::Made,
-        Kind::Requests,
-        Kind::Mixed,
-        Kind::Export,
-        Kind::Disorder,
-    ];
-
     /// The kind of this name.
     pub fn named(name: &str) -> Option<Kind> {
         match name {
@@ -189,31 +180,31 @@ impl Maker {
         }
     }
 
-    /// Each directory, by rising numbers or in disorder.
-    fn all_dirs(&self, disorder: bool) -> io::Result<Vec<Dir>> {
-        let mut dirs = Vec::new(self.alloc);
-        for number in 0..DIRS {
-            let dir = if disorder {
-                number * 20_507 % DIRS
-            } else {
-                number
-            };
-            dirs.push(Dir::new(dir))?;
-        }
-        Ok(dirs)
-    }
-
     fn great_exports(&mut self, disorder: bool) -> io::Result<()> {
         let first = Rank::default();
         let second = Rank::new(1).unwrap_or_default();
         for _ in 0..TURNS {
-            let there = self.all_dirs(disorder)?;
+            let there = all_dirs(self.alloc, disorder)?;
             self.export(first, second, there)?;
-            let back = self.all_dirs(disorder)?;
+            let back = all_dirs(self.alloc, disorder)?;
             self.export(second, first, back)?;
         }
         Ok(())
     }
+}
+
+/// Each directory, by rising numbers or in disorder.
+pub fn all_dirs(alloc: Global, disorder: bool) -> io::Result<Vec<Dir>> {
+    let mut dirs = Vec::new(alloc);
+    for number in 0..DIRS {
+        let dir = if disorder {
+            number * 20_507 % DIRS
+        } else {
+            number
+        };
+        dirs.push(Dir::new(dir))?;
+    }
+    Ok(dirs)
 }
 
 /// A tree in which each directory has two children.

@@ -1,14 +1,16 @@
 //! Times the export machine on lists of events.
 //!
-//! Without an argument it prints nothing. With `times` it prints a line for each list: how many events it has, how many
-//! were accepted, and nanoseconds of processor time for all of them, the least of several runs; a copy of each event is
-//! kept with its answer. Then come the reads, with a sum of what they answered. With `events LIST` it prints the list,
-//! one event a line, so that other programs can be timed on it: those before the line `now` aren't timed.
+//! Without an argument it prints nothing. `times LIST` prints how many events the list has, how many were accepted, and
+//! nanoseconds of processor time for all of them, the least of several runs; a copy of each event is kept with its
+//! answer, in room that the first run takes. `alone LIST` is the same with nothing kept. `reads` times the reads, with a sum
+//! of what they answered. `start` times the start of an export of 32,768 directories by rising numbers: asked for, and
+//! applied. `events LIST` prints the list, one event a line, so that other programs can be timed on it: those before
+//! the line `now` aren't timed.
 #![tactic(auto)]
 
 mod lists;
 
-use crate::lists::{Events, Kind, make_events};
+use crate::lists::{Events, Kind, all_dirs, make_events};
 use export_machine::{Cluster, Event, Reply, StepError};
 use mds_types::{Dir, Rank};
 use std::alloc::Global;
@@ -35,7 +37,7 @@ fn nanos(from: Duration, to: Duration) -> u128 {
 }
 
 fn copies(alloc: Global, events: &[Event]) -> io::Result<Vec<Event>> {
-    let mut copies = Vec::new(alloc);
+    let mut copies = Vec::with_capacity(alloc, events.len())?;
     for event in events {
         copies.push(event.copied(alloc)?)?;
     }
@@ -51,12 +53,12 @@ fn prepared(alloc: Global, before: &[Event]) -> io::Result<Cluster> {
     Ok(cluster)
 }
 
-/// The time of one run, and how many events were accepted.
-fn time_once(rt: &HostRuntime, list: &Events) -> io::Result<(u128, u64)> {
+/// The time of one run that keeps each event with its answer, and how many events were accepted.
+fn time_kept(rt: &HostRuntime, list: &Events, history: &mut Vec<Entry>) -> io::Result<(u128, u64)> {
     let alloc = rt.alloc();
     let mut cluster = prepared(alloc, &list.before)?;
     let todo = copies(alloc, &list.timed)?;
-    let mut history: Vec<Entry> = Vec::new(alloc);
+    history.clear();
     let start = rt.thread_cpu_time()?;
     for event in todo {
         let copy = event.copied(alloc)?;
@@ -68,7 +70,7 @@ fn time_once(rt: &HostRuntime, list: &Events) -> io::Result<(u128, u64)> {
     }
     let time = nanos(start, rt.thread_cpu_time()?);
     let mut accepted: u64 = 0;
-    for entry in &history {
+    for entry in history.iter() {
         if entry.answer.is_ok() {
             accepted = accepted.wrapping_add(1);
         }
@@ -76,17 +78,36 @@ fn time_once(rt: &HostRuntime, list: &Events) -> io::Result<(u128, u64)> {
     Ok((time, accepted))
 }
 
-fn time_list(rt: &HostRuntime, kind: Kind) -> io::Result<()> {
-    let list = make_events(rt.alloc(), kind)?;
-    let mut least = u128::MAX;
-    let mut accepted = 0;
-    for _ in 0..RUNS {
-        let (time, count) = time_once(rt, &list)?;
-        least = time.min(least);
-        accepted = count;
+/// The time of one run that keeps nothing, and how many events were accepted.
+fn time_alone(rt: &HostRuntime, list: &Events) -> io::Result<(u128, u64)> {
+    let mut cluster = prepared(rt.alloc(), &list.before)?;
+    let todo = copies(rt.alloc(), &list.timed)?;
+    let mut accepted: u64 = 0;
+    let start = rt.thread_cpu_time()?;
+    for event in todo {
+        if cluster.apply(event).is_ok() {
+            accepted = accepted.wrapping_add(1);
+        }
     }
+    Ok((nanos(start, rt.thread_cpu_time()?), accepted))
+}
+
+/// Times a list, each run with a copy of each event kept with its answer, or the events alone.
+fn time_list(rt: &HostRuntime, kind: Kind, keeps: bool) -> io::Result<()> {
+    let list = make_events(rt.alloc(), kind)?;
+    let mut history = Vec::new(rt.alloc());
+    let mut least = (u128::MAX, 0);
+    for _ in 0..RUNS {
+        let run = if keeps {
+            time_kept(rt, &list, &mut history)?
+        } else {
+            time_alone(rt, &list)?
+        };
+        least = run.min(least);
+    }
+    let (time, accepted) = least;
     let count = list.timed.len();
-    println!(rt; "{kind} events {count} accepted {accepted} nanos {least}")
+    println!(rt; "{kind} events {count} accepted {accepted} nanos {time}")
 }
 
 /// The directory of the next read.
@@ -146,6 +167,32 @@ fn time_reads(rt: &HostRuntime) -> io::Result<()> {
     time_named(rt, &cluster)
 }
 
+/// The least times of `can_apply` and of `apply`, of the same start. Each start is given up, so that the next is accepted.
+fn time_start(rt: &HostRuntime) -> io::Result<()> {
+    let list = make_events(rt.alloc(), Kind::Requests)?;
+    let mut cluster = prepared(rt.alloc(), &list.before)?;
+    let to = Rank::new(1).unwrap_or_default();
+    let mut least = (u128::MAX, u128::MAX);
+    let mut accepted: u64 = 0;
+    for number in 0..RUNS {
+        let dirs = all_dirs(rt.alloc(), false)?;
+        let event = Event::Start(Rank::default(), to, dirs);
+        let start = rt.thread_cpu_time()?;
+        let able = cluster.can_apply(&event);
+        let middle = rt.thread_cpu_time()?;
+        let answer = cluster.apply(event);
+        let end = rt.thread_cpu_time()?;
+        least.0 = nanos(start, middle).min(least.0);
+        least.1 = nanos(middle, end).min(least.1);
+        if able.is_ok() && answer.is_ok() {
+            accepted = accepted.wrapping_add(1);
+        }
+        let _ = cluster.apply(Event::Abort(number));
+    }
+    println!(rt; "can_apply events 1 accepted {accepted} nanos {}", least.0)?;
+    println!(rt; "apply events 1 accepted {accepted} nanos {}", least.1)
+}
+
 fn print_event(out: &mut impl Write, event: &Event) -> io::Result<()> {
     match event {
         Event::Made(parent) => writeln!(out, "made {}", parent.number()),
@@ -184,17 +231,14 @@ fn print_list(rt: &HostRuntime, kind: Kind) -> io::Result<()> {
 
 fn main(rt: HostRuntime) -> io::Result<()> {
     let words: Vec<String> = std::env::args(&rt)?.collect(rt.alloc())?;
-    match words.get(1).map(|word| word.as_str()) {
-        Some("times") => {
-            for kind in Kind::ALL {
-                time_list(&rt, kind)?;
-            }
-            time_reads(&rt)
-        }
-        Some("events") => match words.get(2).and_then(|word| Kind::named(word.as_str())) {
-            Some(kind) => print_list(&rt, kind),
-            None => Ok(()),
-        },
+    let asked = words.get(1).map(|word| word.as_str());
+    let kind = words.get(2).and_then(|word| Kind::named(word.as_str()));
+    match (asked, kind) {
+        (Some("times"), Some(kind)) => time_list(&rt, kind, true),
+        (Some("alone"), Some(kind)) => time_list(&rt, kind, false),
+        (Some("reads"), _) => time_reads(&rt),
+        (Some("start"), _) => time_start(&rt),
+        (Some("events"), Some(kind)) => print_list(&rt, kind),
         _ => Ok(()),
     }
 }

@@ -238,6 +238,50 @@ fn refuses_by_the_first_cause(rt: HostRuntime) -> Result<(), Fail> {
     run_rows(&rt, rt.alloc(), &mut cluster, &rows)
 }
 
+/// A cluster in which directory d has the children 2d + 1 and 2d + 2, up to 14.
+fn with_two_children_each(rt: &impl Abort, alloc: Global) -> Result<Cluster, Fail> {
+    let mut cluster = Cluster::new(alloc, 64, 2)?;
+    for number in 1u32..15 {
+        let made = cluster.apply(Event::Made(Dir::new((number - 1) / 2)));
+        assert_eq!(rt; made, Ok(Reply::Dir(Dir::new(number))));
+    }
+    Ok(cluster)
+}
+
+#[test]
+fn can_apply_names_the_refusal_of_a_start(rt: HostRuntime) -> Result<(), Fail> {
+    // (directories, why their export is refused)
+    let table: [(&'static [u32], Option<StepError>); 18] = [
+        // rising
+        (&[0], None),
+        (&[9], None),
+        (&[0, 1, 2, 3, 4, 5, 6, 7, 8, 9, 10, 11, 12, 13, 14], None),
+        (&[1, 3, 8], None),
+        (&[2, 5, 6, 11, 14], None),
+        (&[3, 4], Some(StepError::NotConnected)),
+        (&[0, 2, 3], Some(StepError::NotConnected)),
+        (&[1, 3, 4, 9, 12], Some(StepError::NotConnected)),
+        (&[0, 1, 15], Some(StepError::NoDir)),
+        // not rising
+        (&[8, 3, 1], None),
+        (&[14, 2, 6, 5, 11], None),
+        (&[13, 0, 7, 3, 1, 6, 9, 2, 12, 4, 10, 5, 14, 8, 11], None),
+        (&[4, 3], Some(StepError::NotConnected)),
+        (&[1, 1, 3], Some(StepError::NotConnected)),
+        (&[0, 1, 1], Some(StepError::NotConnected)),
+        (&[1, 3, 1], Some(StepError::NotConnected)),
+        (&[15, 1], Some(StepError::NoDir)),
+        (&[], Some(StepError::NotConnected)),
+    ];
+    for (dirs, want) in table {
+        let mut cluster = with_two_children_each(&rt, rt.alloc())?;
+        let start = event(rt.alloc(), Do::Start(0, 1, dirs))?;
+        assert_eq!(rt; cluster.can_apply(&start).err(), want, "{dirs:?}");
+        assert_eq!(rt; cluster.apply(start).err(), want, "{dirs:?}");
+    }
+    Ok(())
+}
+
 #[test]
 fn aborts_before_the_log_entry_only(rt: HostRuntime) -> Result<(), Fail> {
     // (rows of the schedule done, the abort's answer, the cancel's message)

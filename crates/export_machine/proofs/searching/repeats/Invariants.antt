@@ -1,6 +1,6 @@
 use Rattle.std.proofs.Common.{◌≡◌, drop}
 use Rattle.export_machine.specs.Step.{repeats}
-use Rattle.export_machine.proofs.records.repeats.Given as goal
+use Rattle.export_machine.proofs.searching.repeats.Given as goal
 
 -- no directory so far stands again later
 abbrev pub invariant-loop-at : goal.invariant-loop-at
