@@ -1,5 +1,5 @@
 //! Writing a reply, line by line.
-ghost use Rattle.std.specs.Prelude.{◌≡◌, ◌<◌, ℕ, IfOk, IsErrOf, OnOk, [], length, slice_index_or, string_bytes, take};
+ghost use Rattle.std.specs.Prelude.{◌≡◌, ◌<◌, ℕ, IfOk, IsErrOf, OnErr, OnOk, ◌++◌, [], length, slice_index_or, string_bytes, take};
 ghost use Rattle.std.specs.Io.KnownBytes.{Appends};
 ghost use Rattle.script_engine.specs.Known.{AppendsFront};
 ghost use Rattle.script_session.specs.Printed.{joined};
@@ -15,6 +15,9 @@ use script_engine::{WriteFailed, write_whole};
 use std::alloc::{AllocError, Global};
 use std::io::Write;
 
+/// How many bytes of lines are written at once, in bytes.
+const CHUNK_SIZE: usize = 65536;
+
 /// Why the lines of a reply weren't all written.
 #[derive(Clone, Copy, Debug, PartialEq, Eq)]
 pub enum Unprinted {
@@ -22,17 +25,6 @@ pub enum Unprinted {
     Memory,
     /// A write failed.
     Write,
-}
-
-impl From<AllocError> for Unprinted {
-    ghost use Rattle.std.specs.Prelude.{◌≡◌};
-    ghost use Rattle.script_session.specs.declared.print.Unprinted.TheVariants.{Memory};
-
-    ghost from_gives = { λ _ e. e ≡ Memory };
-
-    fn from(_e: AllocError) -> Unprinted {
-        Unprinted::Memory
-    }
 }
 
 impl From<WriteFailed> for Unprinted {
@@ -47,7 +39,7 @@ impl From<WriteFailed> for Unprinted {
 }
 
 impl<J: Naming, M: Publisher<J>> Board<J, M> {
-    /// Writes the lines of a reply, each before memory is taken for the next.
+    /// Writes the lines of a reply, in pieces of 64 KB or a little more.
     pub(crate) fn print<W: Write>(
         &mut self,
         alloc: Global,
@@ -60,11 +52,40 @@ impl<J: Naming, M: Publisher<J>> Board<J, M> {
         ensures write { IsErrOf result Unprinted.Write → AppendsFront (W.contents writer.old) (W.contents writer.new) (joined (reply_lines self.old reply.now)) }
         ensures same { self.new ≡ self.old }
     {
+        let mut chunk = String::new(alloc);
         for index in 0..reply.line_count() {
-            let line = self.line(alloc, reply, index)?;
-            write_whole(writer, line.as_bytes())?;
+            match self.push_line(alloc, reply, index, &mut chunk) {
+                Ok(()) => {}
+                Err(_) => {
+                    write_whole(writer, chunk.as_bytes())?;
+                    return Err(Unprinted::Memory);
+                }
+            }
+            if chunk.len() >= CHUNK_SIZE {
+                write_whole(writer, chunk.as_bytes())?;
+                chunk.clear();
+            }
         }
+        write_whole(writer, chunk.as_bytes())?;
         Ok(())
+    }
+
+    // One line more in a chunk.
+    fn push_line(
+        &mut self,
+        alloc: Global,
+        reply: &Reply,
+        index: usize,
+        chunk: &mut String,
+    ) -> Result<(), AllocError>
+        requires there { IsPrintable self.old reply.now }
+        requires inside { index < length (reply_lines self.old reply.now) }
+        ensures more { OnOk result (string_bytes chunk.new ≡ string_bytes chunk.old ++ slice_index_or (reply_lines self.old reply.now) index []) }
+        ensures unchanged { OnErr result (string_bytes chunk.new ≡ string_bytes chunk.old) }
+        ensures same { self.new ≡ self.old }
+    {
+        let line = self.line(alloc, reply, index)?;
+        chunk.push_str(&line)
     }
 
     // One line of a reply.
