@@ -1,7 +1,6 @@
 use Rattle.std.proofs.Common.{◌≡◌, ◌++◌, ◌+◌, ◌<◌, ℕ, [], List, ap, append-nil, append_assoc, arith, get_or, length, rules, string_bytes, subst, sym, take, ◌∙◌}
 use Rattle.std.specs.Io.KnownBytes.{Appends}
 use Rattle.std.proofs.KnownBytes.{Appends-trans}
-use Rattle.script_engine.specs.Known.{AppendsFront}
 use Rattle.script_session.specs.Board.{BoardData}
 use Rattle.script_session.specs.Printed.{joined}
 use Rattle.script_session.specs.Reply.{reply_lines}
