@@ -2,6 +2,7 @@
 //!
 //! A problem is `rows ranks` and then `parent heat inodes now` a line. Prints greatest heat, moved inodes, and the
 //! nanoseconds of each part, the least of 31 runs.
+#[path = "walk.rs"]
 mod walk;
 
 use std::hint::black_box;
