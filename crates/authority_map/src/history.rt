@@ -190,7 +190,8 @@ impl<J: Naming> Known<J> {
 
     /// Whether both are the same.
     pub(crate) fn is_same(&self, other: &Known<J>) -> bool
-        ensures { IsTrue result → self.now ≡ other.now }
+        ensures same { IsTrue result → self.now ≡ other.now }
+        ensures found { self.now ≡ other.now → IsTrue result }
     {
         let _whole = self.beside(other);
         self.count == other.count

@@ -82,7 +82,8 @@ impl<J: Naming> MapReader<J> {
 
     /// Whether the answers hold just what the writer told, and nothing later.
     pub fn is_at(&self, told: &Told<J>) -> bool
-        ensures { IsTrue result → self.now ≡ told.now }
+        ensures same { IsTrue result → self.now ≡ told.now }
+        ensures found { self.now ≡ told.now → IsTrue result }
     {
         self.known.is_same(&told.known)
     }

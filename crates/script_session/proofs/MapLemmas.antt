@@ -1,5 +1,5 @@
 -- The map follows the tree.
-use Rattle.std.proofs.Common.{◌≡◌, ◌≢◌, ◌==◌, ℕ, cond, List, [], ◌∷◌, ◌++◌, length, set, refl, sym, ap, ◌∙◌, append_assoc, append-nil, inl, inr, Option, Some, None, ◌⊎◌}
+use Rattle.std.proofs.Common.{◌≡◌, ◌≢◌, ◌==◌, ℕ, cond, List, [], ◌∷◌, ◌++◌, length, set, refl, sym, ap, ◌∙◌, append_assoc, inl, inr, Option, Some, None, ◌⊎◌}
 use Rattle.std.specs.Prelude.{is_some}
 use Rattle.std.proofs.lemmas.Bool.{cases_eq, eq-eqb, ne_eqb}
 use Rattle.authority_map.specs.Operations.{Operation, SetTo, Clear, entry_after, rank_after}
@@ -38,7 +38,3 @@ mapped_removed published pending es c d was =
 -- the root alone has a rank
 pub mapped_root : (root : Entry) (d : ℕ) → rank_after (SetTo (0 ∷ []) 0 ∷ []) d ≡ authority (Some root ∷ []) d
 mapped_root root d = mapped_made [] [] [] root d (rank_after-none d)
-
--- publishing changes no rank
-pub mapped_published : (published pending : List Operation) (d : ℕ) → rank_after ((published ++ pending) ++ []) d ≡ rank_after (published ++ pending) d
-mapped_published published pending d = ap (λ (ops : List Operation). rank_after ops d) (append-nil (published ++ pending))

@@ -2,8 +2,8 @@ use Rattle.std.proofs.Common.{◌≡◌, ap, length, sym, ◌∙◌, rules}
 use Rattle.authority_map.proofs.HistoryLemmas.{same_length_same}
 use Rattle.authority_map.proofs.history.Known.is_same.Goals as goal
 
-pub returns : goal.returns
-returns g c equal =
+pub returns-clause-same : goal.returns-clause-same
+returns-clause-same g c equal =
     let both = c.beside-whole.ensures in
     let counts : c.self.inside.count ≡ c.other.inside.count = search rules in
     same_length_same c.args.self.now c.args.other.now c.beside-whole.result.log both.mine both.theirs
