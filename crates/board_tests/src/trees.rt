@@ -1,6 +1,9 @@
+//! Trees: paths, names, the order of refusals, numbers that are never given again, and refused growths.
 ghost use Rattle.std.specs.Prelude.{◌≤◌};
 
-use super::*;
+use dirtree::{Tree, TreeError, TreeRow};
+use mds_types::Dir;
+use std::alloc::Global;
 use std::process::Abort;
 use std::test::Fail;
 
@@ -213,7 +216,7 @@ fn names_end_at_the_limits(rt: HostRuntime) -> Result<(), Fail> {
         (longer.as_str(), false),
     ];
     for (text, named) in table {
-        assert_eq!(rt; crate::name::is_name(text), named, "{text}");
+        assert_eq!(rt; dirtree::is_name(text), named, "{text}");
     }
     Ok(())
 }
