@@ -1,9 +1,9 @@
 -- What is left of touches, one after another.
-use Rattle.std.proofs.Common.{◌≡◌, ℕ, zero, suc, ◌+◌, ◌-◌, ◌/◌, ◌^◌, ◌<◌, ◌≤◌, List, [], ◌∷◌, length, map, replicate, set, All, get_or, refl, ap, sym, ◌∙◌, arith}
+use Rattle.std.proofs.Common.{◌≡◌, ℕ, zero, suc, ◌+◌, ◌-◌, ◌/◌, ◌^◌, ◌<◌, ◌≤◌, List, [], ◌∷◌, map, replicate, set, All, refl, ap, sym, ◌∙◌, arith}
 use Rattle.std.proofs.lemmas.Nat.{shr-shr, shr_le, shr_below, pow_below}
-use Rattle.std.proofs.lemmas.List.{map-set, get_or-map}
+use Rattle.std.proofs.lemmas.List.{map-set}
 use Rattle.heat_decay.specs.declared.touch.Touch.{Touch}
-use Rattle.heat_decay.specs.Heat.{Heats, after_tick, all_cold, cooled, heats_of, touched}
+use Rattle.heat_decay.specs.Heat.{after_tick, all_cold, cooled, heats_of, touched}
 
 -- one tick more
 one_more : (touch : Touch) (ticks : ℕ) → touch.tick ≤ ticks → cooled (ticks + 1) touch ≡ after_tick (cooled ticks touch)

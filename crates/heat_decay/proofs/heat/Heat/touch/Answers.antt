@@ -1,4 +1,4 @@
-use Rattle.std.proofs.Common.{◌≡◌, ◌∙◌, ap, length, map, set, arith, get_or-set_same, slice_index}
+use Rattle.std.proofs.Common.{ap, map, arith, get_or-set_same}
 use Rattle.std.proofs.lemmas.List.{length-map}
 use Rattle.heat_decay.specs.Heat.{Heats, cooled}
 use Rattle.heat_decay.proofs.Touches.{set_now}
