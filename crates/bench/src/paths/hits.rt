@@ -1,7 +1,7 @@
 //! Times of shares and their book.
 ghost use Rattle.std.specs.Prelude.{◌≡◌, ◌≤◌};
 
-use crate::clock::{RUNS, keys, now, per_step};
+use crate::paths::clock::{RUNS, keys, now, per_step};
 use heat_ledger::{Book, Opened, Share};
 use mds_types::Dir;
 use mds_types::limits::DIR_LIMIT;

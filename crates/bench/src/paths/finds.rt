@@ -1,7 +1,7 @@
 //! Times of the published map.
 ghost use Rattle.std.specs.Prelude.{◌≡◌, ◌≤◌};
 
-use crate::clock::{RUNS, keys, now, per_step};
+use crate::paths::clock::{RUNS, keys, now, per_step};
 use authority_map::{Found, MapError, MapReader, MapWriter, Opened, Publisher};
 use mds_types::limits::DIR_LIMIT;
 use mds_types::{Dir, Rank};

@@ -4,11 +4,10 @@
 //! of ranks, in microseconds of processor time, the least of several runs: the whole search, then the cut at the
 //! least bound, and the cut just below it. With `rows SHAPE RANKS` it prints the problem, one row a
 //! line, so that other programs can be timed on it.
-#![tactic(auto)]
 
 mod shape;
 
-use crate::shape::{Shape, problem};
+use crate::cuts::shape::{Shape, problem};
 use mds_types::Problem;
 use minmax_search::search;
 use residual_cut::cut_at;
@@ -78,22 +77,22 @@ fn print_rows(rt: &HostRuntime, shape: Shape, ranks: u8) -> io::Result<()> {
     out.flush()
 }
 
-fn main(rt: HostRuntime) -> io::Result<()> {
-    let words: Vec<String> = std::env::args(&rt)?.collect(rt.alloc())?;
-    match words.get(1).map(|word| word.as_str()) {
+/// Carries out what the words ask for.
+pub fn run(rt: &HostRuntime, words: &[String]) -> io::Result<()> {
+    match words.first().map(|word| word.as_str()) {
         Some("times") => {
             for shape in Shape::ALL {
                 for ranks in [2, 8, 64] {
-                    time_all(&rt, shape, ranks)?;
+                    time_all(rt, shape, ranks)?;
                 }
             }
             Ok(())
         }
         Some("rows") => {
-            let shape = words.get(2).and_then(|word| Shape::named(word.as_str()));
-            let ranks = words.get(3).and_then(|word| word.parse::<u8>().ok());
+            let shape = words.get(1).and_then(|word| Shape::named(word.as_str()));
+            let ranks = words.get(2).and_then(|word| word.parse::<u8>().ok());
             match (shape, ranks) {
-                (Some(shape), Some(ranks)) => print_rows(&rt, shape, ranks),
+                (Some(shape), Some(ranks)) => print_rows(rt, shape, ranks),
                 _ => Ok(()),
             }
         }

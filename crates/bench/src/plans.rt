@@ -3,13 +3,12 @@
 //! With `times` it reads a problem from standard input: `rows ranks`, and then `parent heat inodes now`
 //! a line. It prints the plan's greatest heat and moved inodes, and for each call its nanoseconds of
 //! processor time, the least of several runs. Without an argument it prints nothing.
-#![tactic(auto)]
 
 mod call;
 mod given;
 
-use crate::call::{Call, costs_of};
-use crate::given::read_problem;
+use crate::plans::call::{Call, costs_of};
+use crate::plans::given::read_problem;
 use mds_types::{Plan, Problem};
 use planner::solve;
 use rank_assign::Costs;
@@ -57,10 +56,14 @@ fn time_all<R: Threads + Sync + AllocGlobal + CpuClock + Print>(
     println!(rt; "")
 }
 
-fn main(rt: HostRuntime) -> io::Result<()> {
-    let words: Vec<String> = std::env::args(&rt)?.collect(rt.alloc())?;
-    if words.get(1).is_some_and(|word| word.as_str() == "times") {
-        time_all(&rt, &read_problem(&rt)?)?;
+/// Carries out what the words ask for. The problem is read from the standard input of `input`.
+pub fn run<R: Threads + Sync + AllocGlobal + CpuClock + Print>(
+    rt: &R,
+    input: &HostRuntime,
+    words: &[String],
+) -> io::Result<()> {
+    if words.first().is_some_and(|word| word.as_str() == "times") {
+        time_all(rt, &read_problem(input)?)?;
     }
     Ok(())
 }

@@ -3,14 +3,13 @@
 //! Without an argument it prints nothing. With `times` it prints a name and picoseconds of
 //! processor time a line, the least of several runs. With `ledger LIMIT SHARES` it opens a ledger,
 //! and with `map LIMIT` it publishes in a map, so that a limit's memory and time can be seen.
-#![tactic(auto)]
 
 mod clock;
 mod finds;
 mod hits;
 
-use crate::finds::{publish_in, time_map};
-use crate::hits::{open_ledger, time_ledger};
+use crate::paths::finds::{publish_in, time_map};
+use crate::paths::hits::{open_ledger, time_ledger};
 use mds_types::Rank;
 use mds_types::limits::DIR_LIMIT;
 use std::alloc::Global;
@@ -71,20 +70,23 @@ fn print_map<R: Wait + CpuClock + Print>(
     }
 }
 
-fn main(rt: HostRuntime) -> io::Result<()> {
-    let words: Vec<String> = std::env::args(&rt)?.collect(rt.alloc())?;
-    let limit = words.get(2).and_then(|word| word.parse::<u32>().ok());
-    let shares = words.get(3).and_then(|word| word.parse::<u8>().ok());
+/// Carries out what the words ask for.
+pub fn run<R: Threads + Wait + CpuClock + Print + AllocGlobal + Sync>(
+    rt: &R,
+    words: &[String],
+) -> io::Result<()> {
+    let limit = words.get(1).and_then(|word| word.parse::<u32>().ok());
+    let shares = words.get(2).and_then(|word| word.parse::<u8>().ok());
     let Some(rank) = Rank::new(1) else {
         return Ok(());
     };
-    match (words.get(1).map(|word| word.as_str()), limit, shares) {
+    match (words.first().map(|word| word.as_str()), limit, shares) {
         (Some("times"), _, _) => {
-            print_hits(&rt, rt.alloc())?;
-            print_finds(&rt, rt.alloc(), rank)
+            print_hits(rt, rt.alloc())?;
+            print_finds(rt, rt.alloc(), rank)
         }
-        (Some("ledger"), Some(limit), Some(shares)) => print_ledger(&rt, rt.alloc(), limit, shares),
-        (Some("map"), Some(limit), _) => print_map(&rt, rt.alloc(), limit, rank),
+        (Some("ledger"), Some(limit), Some(shares)) => print_ledger(rt, rt.alloc(), limit, shares),
+        (Some("map"), Some(limit), _) => print_map(rt, rt.alloc(), limit, rank),
         _ => Ok(()),
     }
 }

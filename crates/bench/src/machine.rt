@@ -6,11 +6,10 @@
 //! of what they answered. `start` times the start of an export of 32,768 directories by rising numbers: asked for, and
 //! applied. `events LIST` prints the list, one event a line, so that other programs can be timed on it: those before
 //! the line `now` aren't timed.
-#![tactic(auto)]
 
 mod lists;
 
-use crate::lists::{Events, Kind, all_dirs, make_events};
+use crate::machine::lists::{Events, Kind, all_dirs, make_events};
 use export_machine::{Cluster, Event, Reply, StepError};
 use mds_types::{Dir, Rank};
 use std::alloc::Global;
@@ -229,16 +228,16 @@ fn print_list(rt: &HostRuntime, kind: Kind) -> io::Result<()> {
     out.flush()
 }
 
-fn main(rt: HostRuntime) -> io::Result<()> {
-    let words: Vec<String> = std::env::args(&rt)?.collect(rt.alloc())?;
-    let asked = words.get(1).map(|word| word.as_str());
-    let kind = words.get(2).and_then(|word| Kind::named(word.as_str()));
+/// Carries out what the words ask for.
+pub fn run(rt: &HostRuntime, words: &[String]) -> io::Result<()> {
+    let asked = words.first().map(|word| word.as_str());
+    let kind = words.get(1).and_then(|word| Kind::named(word.as_str()));
     match (asked, kind) {
-        (Some("times"), Some(kind)) => time_list(&rt, kind, true),
-        (Some("alone"), Some(kind)) => time_list(&rt, kind, false),
-        (Some("reads"), _) => time_reads(&rt),
-        (Some("start"), _) => time_start(&rt),
-        (Some("events"), Some(kind)) => print_list(&rt, kind),
+        (Some("times"), Some(kind)) => time_list(rt, kind, true),
+        (Some("alone"), Some(kind)) => time_list(rt, kind, false),
+        (Some("reads"), _) => time_reads(rt),
+        (Some("start"), _) => time_start(rt),
+        (Some("events"), Some(kind)) => print_list(rt, kind),
         _ => Ok(()),
     }
 }
