@@ -94,10 +94,12 @@ mod tests {
             entry(0, 4, 0, true),
             entry(0, 3, 0, false),
         ]?;
-        assert_eq!(rt; two.proof, CutProof::Table(table));
+        assert!(rt;
+            matches!(&two.proof, CutProof::Table(shown) if shown.rows() == table.as_slice())
+        );
         let three = search(&problem(&rt, rows, 3), rt.alloc())?;
         assert_eq!(rt; three.greatest, 5);
-        assert_eq!(rt; three.proof, CutProof::Heavy(1));
+        assert!(rt; matches!(&three.proof, CutProof::Heavy(1)));
         Ok(())
     }
 
@@ -105,13 +107,13 @@ mod tests {
     fn searches_no_rows_and_no_heat(rt: HostRuntime) -> Result<(), Fail> {
         let none = search(&problem(&rt, Vec::new(rt.alloc()), 2), rt.alloc())?;
         assert_eq!(rt; (none.greatest, none.cut.count), (0, 0));
-        assert_eq!(rt; none.proof, CutProof::Zero);
+        assert!(rt; matches!(&none.proof, CutProof::Zero));
         let cold = search(
             &problem(&rt, vec![in rt.alloc(); row(0, 0), row(0, 0)]?, 2),
             rt.alloc(),
         )?;
         assert_eq!(rt; (cold.greatest, cold.cut.count), (0, 1));
-        assert_eq!(rt; cold.proof, CutProof::Zero);
+        assert!(rt; matches!(&cold.proof, CutProof::Zero));
         Ok(())
     }
 
@@ -129,7 +131,7 @@ mod tests {
         assert!(rt; (3..=60).contains(&long.passes), "{} passes", long.passes);
         match &long.proof {
             CutProof::Table(table) => {
-                assert_eq!(rt; table.first().map(|row| row.cuts), Some(64));
+                assert_eq!(rt; table.rows().first().map(|row| row.cuts), Some(64));
             }
             _ => panic!(rt; "a chain needs a table"),
         }

@@ -7,7 +7,7 @@ ghost use Rattle.mds_types.specs.Problem.{IsForest, heat_at};
 ghost use Rattle.minmax_search.specs.Found.{IsRowOf};
 ghost use Rattle.residual_cut.specs.Links.{IsLinked};
 
-use mds_types::{CutProof, ProblemRow};
+use mds_types::{CutProof, CutTable, ProblemRow};
 use residual_cut::{Links, table_linked};
 use std::alloc::{AllocError, Global};
 
@@ -48,5 +48,5 @@ pub fn prove_least(
         return Ok((CutProof::Heavy(row), 0));
     }
     let below = table_linked(alloc, rows, links, greatest - 1)?;
-    Ok((CutProof::Table(below), 1))
+    Ok((CutProof::Table(CutTable::new(below)), 1))
 }
