@@ -8,7 +8,7 @@ use std::fmt;
 /// Why the pins refused a call, which left them as they were.
 ///
 /// It prints as its number and its name. A number never changes its meaning and is never used again.
-#[derive(Clone, Copy, Debug, PartialEq, Eq, Hash)]
+#[derive(Clone, Copy, Debug, PartialEq, Eq)]
 pub enum PinError {
     /// There is no such directory.
     NoDir,
@@ -29,6 +29,10 @@ impl PinError {
 }
 
 impl fmt::Display for PinError {
+    ghost use Rattle.std.specs.Prelude.{Some};
+
+    ghost output = { λ e. Some (words e) };
+
     fn fmt<W: fmt::Write>(&self, f: &mut fmt::Formatter<W>) -> fmt::Result {
         f.write_str(self.text())
     }

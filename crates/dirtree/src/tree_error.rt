@@ -10,7 +10,7 @@ use std::fmt;
 /// Why a tree refused a call, which left it as it was.
 ///
 /// It prints as its number and its name. A number never changes its meaning and is never used again.
-#[derive(Clone, Copy, Debug, PartialEq, Eq, Hash)]
+#[derive(Clone, Copy, Debug, PartialEq, Eq)]
 pub enum TreeError {
     /// The allocator refused a growth.
     Memory,
