@@ -19,17 +19,18 @@ fn search_rows(alloc: Global, rows: &[ProblemRow], ranks: u32) -> Result<Found, 
     requires ranks { 0 < ranks }
     ensures { IfOk result (IsFound rows.now ranks) }
 {
+    let mut passes = 0;
     let from = start(rows, ranks);
     let trees = weigh(alloc, rows, from.low)?;
     let mut rest = trees.heat.clone()?;
-    let (greatest, probes) = narrow(alloc, rows, &trees, &mut rest, ranks, from)?;
-    let cut = cut_linked(alloc, rows, &trees.links, greatest)?;
-    let (proof, extra) = prove_least(alloc, rows, &trees.links, ranks, greatest)?;
+    let greatest = narrow(alloc, rows, &trees, &mut rest, ranks, from, &mut passes)?;
+    let cut = cut_linked(alloc, rows, &trees.links, greatest, &mut passes)?;
+    let proof = prove_least(alloc, rows, &trees.links, ranks, greatest, &mut passes)?;
     Ok(Found {
         cut,
         greatest,
         proof,
-        passes: probes + 1 + extra,
+        passes,
     })
 }
 
@@ -39,11 +40,12 @@ pub fn search(problem: &Problem, alloc: Global) -> Result<Found, AllocError>
 {
     let rows = problem.rows();
     if rows.is_empty() {
+        let mut passes = 0;
         return Ok(Found {
-            cut: cut_cool(alloc, rows, 0)?,
+            cut: cut_cool(alloc, rows, 0, &mut passes)?,
             greatest: 0,
             proof: CutProof::Zero,
-            passes: 1,
+            passes,
         });
     }
     search_rows(alloc, rows, u32::from(problem.ranks().len()))

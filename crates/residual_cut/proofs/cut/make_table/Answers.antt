@@ -4,7 +4,7 @@ use Rattle.std.proofs.lemmas.List.{with_items_is}
 use Rattle.mds_types.specs.CutTable.{cuts_at}
 use Rattle.residual_cut.proofs.CutIs.{few_from_table}
 use Rattle.residual_cut.proofs.TableLemmas.{first_walked}
-use Rattle.residual_cut.proofs.cut.table_linked.Goals as goal
+use Rattle.residual_cut.proofs.cut.make_table.Goals as goal
 
 pub cut_table-requires-clause-walked : goal.cut_table-requires-clause-walked
 cut_table-requires-clause-walked c =
