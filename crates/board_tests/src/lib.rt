@@ -2,6 +2,8 @@
 #![tactic(auto)]
 
 #[cfg(test)]
+mod heats;
+#[cfg(test)]
 mod pins;
 #[cfg(test)]
 mod trees;
