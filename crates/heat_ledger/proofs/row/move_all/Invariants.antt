@@ -1,8 +1,8 @@
 use Rattle.std.proofs.Common.{◌≡◌, ℕ, ◌+◌, ◌<◌, ◌≤◌, length}
 use Rattle.heat_ledger.specs.Rows.{at}
-use Rattle.heat_ledger.proofs.row.move_marked.Given as goal
+use Rattle.heat_ledger.proofs.row.move_all.Given as goal
 
--- what left one list is in the other, and the marked entries up to here are 0
+-- what left one list is in the other, and the noted entries up to here are 0
 abbrev pub invariant-loop-j : goal.invariant-loop-j
 invariant-loop-j l =
     (length l.into.items ≡ length l.fn.into.items)
