@@ -18,6 +18,7 @@ mod map_reader;
 mod map_writer;
 mod publisher;
 mod queue;
+mod runs;
 mod table;
 #[cfg(test)]
 mod tests;
