@@ -4,3 +4,4 @@ pub mod Log
 pub mod Runs
 pub mod Cells
 pub mod Answer
+pub mod Refused
