@@ -22,7 +22,7 @@ use Rattle.export_machine.specs.View.{IsReached, IsAnswer}
 use Rattle.export_machine.specs.Room.{IsRefusal, IsAsRoomy, KeepsRoom}
 use Rattle.export_machine.specs.Kept.{world_of, indexes_of, IsKept, IsIndexed, has_room, has_places, has_list_places, has_dir_places, has_export_places, has_spare, is_spare, entered_at, is_ready, is_ready_entry, is_ready_list, state_of}
 use Rattle.export_machine.proofs.Views.{push_same, push_other, length_push, map_at_length}
-use Rattle.export_machine.proofs.Frame.{Framed, delivered_frame}
+use Rattle.export_machine.proofs.Frame.{Framed, delivered_frame, happens_fixed}
 use Rattle.export_machine.proofs.Reached.{reached_step}
 use Rattle.export_machine.proofs.Accepted.{room_left, made_few}
 use Rattle.export_machine.proofs.Starting.{start_distinct}
@@ -293,6 +293,8 @@ module _ (old new : Records) (e : Event) (reply : Reply) (kept : IsKept old) (ac
     tickets = bounded.tickets;
     counted = (let room : old.events < 1048576 = room_left (world_of old) e accepted in let same : new.events ≡ old.events = events_same in omega arith);
     within = bounded.within;
+    few_dirs = rw (ap (λ (v : World). v.limit) (sym happened) ∙ (happens_fixed (world_of old) e).limit) kept.few_dirs;
+    few_ranks = rw (ap (λ (v : World). v.ranks) (sym happened) ∙ (happens_fixed (world_of old) e).ranks) kept.few_ranks;
   }
 
 -- memory
@@ -311,6 +313,8 @@ kept_same old new w i k = record {
   tickets = bound (λ (v : World). length v.tickets) (λ (v : World). v.events) k.tickets;
   counted = bound (λ (v : World). v.events) (λ (v : World). 1048576) k.counted;
   within = bound (λ (v : World). length v.parents) (λ (v : World). v.limit) k.within;
+  few_dirs = bound (λ (v : World). v.limit) (λ (v : World). 65536) k.few_dirs;
+  few_ranks = bound (λ (v : World). v.ranks) (λ (v : World). 64) k.few_ranks;
 }
   where
     bound : (f g : World → ℕ) → f (world_of old) ≤ g (world_of old) → f (world_of new) ≤ g (world_of new)

@@ -20,7 +20,7 @@ use Rattle.export_machine.specs.Entries.{Entry, IsRecorded, entered, entered_by,
 use Rattle.export_machine.proofs.Views.{journal_at, journal_other, push_same, push_other, map_at_get, map_at_past}
 use Rattle.export_machine.proofs.Tables.{about}
 use Rattle.export_machine.proofs.Lookups.{itself}
-use Rattle.export_machine.proofs.Frame.{Framed, delivered_frame}
+use Rattle.export_machine.proofs.Frame.{delivered_frame, happens_fixed}
 use Rattle.export_machine.proofs.Events.{set_none}
 use Rattle.export_machine.proofs.Found.{orders_by}
 use Rattle.export_machine.proofs.Accepted.{as_rank, exporter_rank, importer_rank, numbers_by, notify_order, notify_state, made_has, gone_has}
@@ -234,35 +234,6 @@ module _ (w : World) (reached : IsReached w) where
       go false = refl
   happens_parents (Event.Made p) = refl
   happens_parents _ = refl
-
--- what never changes
-
-record Fixed (w v : World) : Type 0 where
-  limit : v.limit ≡ w.limit
-  ranks : v.ranks ≡ w.ranks
-
-fixed : (w : World) → Fixed w w
-fixed w = record { limit = refl; ranks = refl }
-
-by_limit : (w : World) (o : Option ℕ) (e : JournalEntry) → (journaled_by w o e).limit ≡ w.limit
-by_limit w None e = refl
-by_limit w (Some a) e = refl
-
-by_ranks : (w : World) (o : Option ℕ) (e : JournalEntry) → (journaled_by w o e).ranks ≡ w.ranks
-by_ranks w None e = refl
-by_ranks w (Some a) e = refl
-
-happens_fixed : (w : World) (e : Event) → Fixed w (happens w e).world
-unfolding happens
-happens_fixed w (Deliver k) = (let f : Framed w (delivered w (slice_get w.sent k)).world = delivered_frame w (slice_get w.sent k) in record { limit = f.limit; ranks = f.ranks })
-happens_fixed w (Restart k) = go (is_stopped w k)
-  where
-    go : (b : Bool) → Fixed w (cond b (changed (restarts w k)) (ignored w)).world
-    go true = record { limit = refl; ranks = refl }
-    go false = fixed w
-happens_fixed w (Event.Made p) = record { limit = by_limit w (authority w p) (JournalEntry.Made (length w.parents)); ranks = by_ranks w (authority w p) (JournalEntry.Made (length w.parents)) }
-happens_fixed w (Event.Gone d) = record { limit = by_limit w (authority w d) (JournalEntry.Gone d); ranks = by_ranks w (authority w d) (JournalEntry.Gone d) }
-happens_fixed w _ = record { limit = refl; ranks = refl }
 
 module _ (w : World) (reached : IsReached w) (e : Event) where
   pub is_recorded : IsRecorded w e

@@ -35,3 +35,5 @@ pub mod Local
 pub mod Entries
 pub mod Noted
 pub mod Named
+pub mod Resting
+pub mod Logging

@@ -38,7 +38,7 @@ adds r (Some e) f = eqb e.rank r && is_same e.entry f
 or_false : (b : Bool) → b ≡ (b || false)
 or_false b = grind arith
 
-entered_has : (r : ℕ) (o : Option Entry) (j : List JournalEntry) (f : JournalEntry) → has_entry (entered r o j) f ≡ (has_entry j f || adds r o f)
+pub entered_has : (r : ℕ) (o : Option Entry) (j : List JournalEntry) (f : JournalEntry) → has_entry (entered r o j) f ≡ (has_entry j f || adds r o f)
 entered_has r None j f = or_false (has_entry j f)
 entered_has r (Some e) j f = go (eqb e.rank r)
   where

@@ -1,8 +1,10 @@
 //! A cluster of metadata ranks that move directories by exports.
 
-ghost use Rattle.std.specs.Prelude.{◌≡◌, ◌<◌, ◌≤◌, ◌↔◌, ℕ, length, map, None, true, Some, IsSome, IfSome, IfOk, IfErr, IsOk, Ok, Err, OnOk, OnErr, slice_get};
+ghost use Rattle.std.specs.Prelude.{◌≡◌, ◌<◌, ◌≤◌, ◌↔◌, ℕ, length, map, None, true, Some, IsSome, IfSome, IfOk, IfErr, IsOk, Ok, Err, OnOk, OnErr, All, slice_get};
 ghost use Rattle.export_machine.specs.Authority.{authority, serves, named_of, journal_of, order_in};
 ghost use Rattle.export_machine.specs.Step.{refusal, start, step, happens, counted, answers as answers_to, run as state_after};
+ghost use Rattle.export_machine.specs.Entries.{logs_export};
+ghost use Rattle.export_machine.specs.Roots.{roots};
 ghost use Rattle.export_machine.specs.Room.{KeepsRoom, IsRefusal};
 ghost use Rattle.export_machine.specs.View.{IsAnswer, AreAnswers, NoneIsMemory, IsReached};
 ghost use Rattle.export_machine.specs.Promises.{Promised, KeepsAuthority};
@@ -141,9 +143,13 @@ impl Cluster {
         let _ = &self.records;
     }
 
-    /// Some list of events leads from the start to this cluster. It does nothing.
+    /// Some list of events leads from the start to this cluster, and its numbers are small. It does nothing.
     pub fn reached(&self)
-        ensures { IsReached self.now.world }
+        ensures reached { IsReached self.now.world }
+        ensures few_events { self.now.world.events ≤ 1048576 }
+        ensures numbers { length self.now.world.parents ≤ self.now.world.limit }
+        ensures few_dirs { self.now.world.limit ≤ 65536 }
+        ensures few_ranks { self.now.world.ranks ≤ 64 }
     {
         let _ = &self.records;
     }
@@ -153,6 +159,13 @@ impl Cluster {
         ensures { cause_of result ≡ refusal self.now.world (event_of event.now) }
     {
         self.records.check(event)
+    }
+
+    /// Whether this event, if it comes next, is the log entry of an export: from then on the export can only go on.
+    pub fn logs_export(&self, event: &Event) -> bool
+        ensures { result ≡ logs_export self.now.world (event_of event.now) }
+    {
+        self.records.logs_export(event)
     }
 
     /// Takes the memory that an `apply` of this event as the next change needs.
@@ -172,6 +185,14 @@ impl Cluster {
         ensures { result ≡ authority self.now.world dir }
     {
         self.records.authority(dir)
+    }
+
+    /// The roots of subtrees, by rising numbers, each with its authority: directory 0, and each directory whose
+    /// authority isn't its parent's.
+    pub fn roots(&self, alloc: Global) -> Result<Vec<(Dir, Rank)>, AllocError>
+        ensures { IfOk result (λ found. found.items ≡ roots self.now.world) }
+    {
+        self.records.roots(alloc)
     }
 
     /// Whether a rank serves a directory.
@@ -213,6 +234,7 @@ impl Cluster {
     pub fn export(&self, export: u32) -> Option<&Order>
         ensures found { IsSome result ↔ (export < length self.now.world.orders) }
         ensures order { IfSome result (λ order. order_of order.now ≡ order_in self.now.world.orders export) }
+        ensures near { IfSome result (λ order. All (λ d. d < self.now.world.limit) order.now.dirs.items) }
     {
         self.records.orders.get(export as usize)
     }

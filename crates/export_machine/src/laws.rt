@@ -1,12 +1,12 @@
 //! What holds after every list of events: refused ones included, messages lost, repeated or reordered.
 
-ghost use Rattle.std.specs.Prelude.{ℕ, ◌≤◌, ◌≡◌, ◌≢◌, ◌↔◌, List, None, Some, false};
+ghost use Rattle.std.specs.Prelude.{ℕ, ◌≤◌, ◌≡◌, ◌≢◌, ◌↔◌, List, None, Some, true, false};
 ghost use Rattle.export_machine.specs.Cluster.{World};
-ghost use Rattle.export_machine.specs.Authority.{authority, is_present};
+ghost use Rattle.export_machine.specs.Authority.{authority, is_present, is_stopped};
 ghost use Rattle.export_machine.specs.View.{IsReached};
 ghost use Rattle.export_machine.specs.Step.{run, start, refusal, Event as StepEvent};
 ghost use Rattle.export_machine.specs.Local.{IsLocal};
-ghost use Rattle.export_machine.specs.Entries.{IsRecorded, AreInJournals, AreMade};
+ghost use Rattle.export_machine.specs.Entries.{IsRecorded, AreInJournals, AreMade, IsRecovered};
 ghost use Rattle.export_machine.specs.declared.step_error.StepError.TheVariants.{Memory};
 ghost use Rattle.export_machine.specs.Promises.{
   Promised,
@@ -73,6 +73,11 @@ pub fn recorded()
     ensures never_memory { (w : World) (e : StepEvent) → refusal w e ≢ Some Memory }
     ensures there { (w : World) → IsReached w → AreInJournals w }
     ensures made { (w : World) → IsReached w → AreMade w }
+{}
+
+/// Between a stop and a restart nothing changes what a rank knows: it is what its journal tells.
+pub fn recovered()
+    ensures { (w : World) (r : ℕ) → IsReached w → is_stopped w r ≡ true → IsRecovered w r }
 {}
 
 /// Where owners are kept at the roots of subtrees alone, the walk up finds the authority, after every list of events.
