@@ -9,3 +9,4 @@ pub mod Connected
 pub mod Local
 pub mod Room
 pub mod Entries
+pub mod Refused

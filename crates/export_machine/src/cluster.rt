@@ -249,6 +249,3 @@ impl Cluster {
         Some((self.records.exporter(export), self.records.importer(export)))
     }
 }
-
-#[cfg(test)]
-mod tests;
