@@ -2,6 +2,16 @@
 #![tactic(auto)]
 
 #[cfg(test)]
+mod boards;
+#[cfg(test)]
+mod divisions;
+#[cfg(test)]
 mod pins;
+#[cfg(test)]
+mod problems;
+#[cfg(test)]
+mod random_boards;
+#[cfg(test)]
+mod refused_boards;
 #[cfg(test)]
 mod trees;
