@@ -16,7 +16,7 @@ use std::thread::Threads;
 /// Parent, heat, inodes and present rank of a row.
 type Given = (u32, u64, u32, u8);
 
-/// Three parts' worth of chunk sizes.
+/// How many rows a chunk has.
 const CHUNKS: [usize; 4] = [1, 3, 4, 100];
 
 /// What a call gives, or gives when it is made again, where a growth was refused the first time.
@@ -188,19 +188,35 @@ fn costs_the_parts_of_a_chain(rt: HostRuntime) -> Result<(), Fail> {
     Ok(())
 }
 
+/// Whether rows 1 and 2 of a chain have 5 inodes of part 0 at rank 0 and 1 of part 1, and no others.
+fn sums_so(alloc: Global, chain: &Problem) -> Result<bool, Fail> {
+    let sums = sums_between(alloc, chain, &[0, 0, 1, 1], 2, 1, 3)?;
+    let is_due = |cell: usize, sum: u64| match cell {
+        0 => sum == 5,
+        64 => sum == 1,
+        _ => sum == 0,
+    };
+    Ok(
+        sums.len() == 128
+            && sums
+                .iter()
+                .enumerate()
+                .all(|(cell, sum)| is_due(cell, *sum)),
+    )
+}
+
 #[test]
 fn sums_some_rows_of_a_chain(rt: HostRuntime) -> Result<(), Fail> {
     let chain = chain(rt.alloc())?;
-    let sums = sums_between(rt.alloc(), &chain, &[0, 0, 1, 1], 2, 1, 3)?;
-    assert_eq!(rt; sums.len(), 128);
-    for (cell, sum) in sums.iter().enumerate() {
-        let due = match cell {
-            0 => 5,
-            64 => 1,
-            _ => 0,
-        };
-        assert_eq!(rt; *sum, due, "cell {cell}");
-    }
+    assert!(rt; sums_so(rt.alloc(), &chain)?);
+    Ok(())
+}
+
+#[test]
+fn a_refused_growth_is_asked_for_again(rt: HostRuntime) -> Result<(), Fail> {
+    let chain = chain(rt.alloc())?;
+    assert!(rt; costs_so(&rt, rt.alloc(), &chain, &[0, 0, 1, 1], &[0, 6, 0, 2], 2)?);
+    assert!(rt; sums_so(rt.alloc(), &chain)?);
     Ok(())
 }
 
