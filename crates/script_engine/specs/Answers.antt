@@ -11,7 +11,7 @@ pub record Answer : Type 0 where
 abbrev pub fault_text : ℕ → List ℕ → List ℕ
 fault_text number why = codes "line " ++ decimal number ++ codes ": " ++ why ++ 10 ∷ []
 
--- the answer to a line whose bytes found no room
+-- the answer to a line whose bytes or fields found no room
 abbrev pub no_room : ℕ → Answer
 no_room number = record { text = fault_text number (codes "refused 0 Memory"); accepted = false; ample = false }
 
@@ -29,7 +29,7 @@ all_ample [] = true
 all_ample (a ∷ more) = a.ample && all_ample more
 
 module _ {S : Type 0} (answers : S → ℕ → List ℕ → Answer → S → Type 0) where
-  -- The line with this number is answered as its command says, or refused since there was no room for it.
+  -- The line with this number is answered as its command says, or refused since there was no room for it, whatever it says.
   abbrev pub Takes : S → ℕ → List ℕ → Answer → S → Type 0
   Takes old number line a new = answers old number line a new ⊎ ((a ≡ no_room number) × (new ≡ old))
 

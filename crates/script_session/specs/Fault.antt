@@ -1,5 +1,5 @@
 -- Why a line is faulty, in the words that are printed.
-use Rattle.std.specs.Prelude.{◌≡◌, ℕ, List, ◌++◌, ◌⊎◌, Bool, true, false, codes, Result, Err}
+use Rattle.std.specs.Prelude.{◌≡◌, ℕ, List, ◌++◌, ◌⊎◌, Bool, true, false, codes, Result, Err, IsOk}
 use Rattle.dirtree.specs.declared.tree_error.TreeError.{TreeError}
 use Rattle.dirtree.specs.declared.tree_error.TreeError.TheVariants as tree
 use Rattle.dirtree.specs.TreeError as tree_words
@@ -36,9 +36,13 @@ abbrev pub open_fault : OpenError → Fault
 open_fault opens.Memory = Memory
 open_fault opens.BalancerOff = BalancerOff
 
--- the fault is the one that is due, or want of memory
+-- the fault is the one that is due, or want of memory where none is
 abbrev pub IsDue : {A : Type 0} → Result A Fault → Fault → Type 0
-IsDue due fault = (due ≡ Err fault) ⊎ (fault ≡ Memory)
+IsDue due fault = (due ≡ Err fault) ⊎ ((fault ≡ Memory) × IsOk due)
+
+-- the same of a line, which may also have found no room for its fields, whatever it says
+abbrev pub IsDueOrNoRoom : {A : Type 0} → Result A Fault → Fault → Type 0
+IsDueOrNoRoom due fault = IsDue due fault ⊎ (fault ≡ Memory)
 
 abbrev pub is_memory : Fault → Bool
 is_memory Memory = true

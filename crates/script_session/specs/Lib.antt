@@ -5,5 +5,6 @@ pub mod Fault
 pub mod Plan
 pub mod Printed
 pub mod Reply
+pub mod Script
 pub mod Session
 pub mod Stat
