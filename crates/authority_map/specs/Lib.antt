@@ -1,5 +1,6 @@
 pub mod Operations
 pub mod Changes
 pub mod Log
+pub mod Runs
 pub mod Cells
 pub mod Answer

@@ -1,14 +1,15 @@
 -- The rows of a board's problem are a forest, whose tree is that of the directories that no pin holds.
-use Rattle.std.proofs.Common.{◌≡◌, ℕ, zero, suc, ◌<◌, ◌≤◌, ◌+◌, List, [], ◌∷◌, ◌++◌, length, map, ap, ◌∙◌, refl, arith, Bool, true, false, get_or, set, append-nil, Option, ◌⊎◌, inl, inr}
+use Rattle.std.proofs.Common.{◌≡◌, ℕ, zero, suc, ◌<◌, ◌≤◌, ◌^◌, ◌+◌, List, [], ◌∷◌, ◌++◌, length, map, ap, ◌∙◌, refl, arith, Bool, true, false, get_or, set, append-nil, Option, ◌⊎◌, inl, inr}
 use Rattle.std.specs.Prelude.{filter, slice_index}
 use Rattle.std.specs.List.{All}
 use Rattle.std.specs.Option.{option_map_or}
 use Rattle.std.proofs.lemmas.Bool.{cases_eq, cases_lt}
 use Rattle.std.proofs.lemmas.List.{get_or-map, get_or-set_same, get_or-set_other, get_or_past, length-map, map-append}
-use Rattle.std.proofs.lemmas.List.Elements.{All-get_or}
-use Rattle.mds_types.specs.declared.limits.TheConstants.{DIR_LIMIT, HEAT_LIMIT}
+use Rattle.std.proofs.lemmas.List.Elements.{All-get_or, All-map}
+use Rattle.mds_types.specs.declared.limits.TheConstants.{DIR_LIMIT}
 use Rattle.mds_types.specs.declared.problem.ProblemRow.{ProblemRow}
-use Rattle.mds_types.specs.Problem.{IsForest, IsParentBefore, no_row, parent_at, row_at}
+use Rattle.mds_types.specs.Problem.{IsForest, IsParentBefore, IsProblem, no_row, parent_at, row_at}
+use Rattle.mds_types.specs.RankSet.{rank_count}
 use Rattle.dirtree.specs.Tree.{Entry, IsTree, inodes_of, parent_of}
 use Rattle.dirtree.proofs.Walks.{above}
 use Rattle.dir_pins.specs.Pins.{below, is_unpinned, unpinned}
@@ -34,6 +35,13 @@ set_more xs f n v inside is before d h = elim (cases_eq d n) [
 -- a row whose parent's place was read
 pub row_read : (es : List (Option Entry)) (heats now dirs : List ℕ) (d p : ℕ) → p ≡ place_of dirs (parent_of es d) → record { parent = p; heat = slice_index heats d; inodes = inodes_of es d; now = slice_index now d } ≡ row_of es heats now dirs d
 row_read es heats now dirs d p is = let of : ℕ → ProblemRow = λ (q : ℕ). record { parent = q; heat = slice_index heats d; inodes = inodes_of es d; now = slice_index now d } in ap of is
+
+-- a directory without a heat has heat 0
+cool_at : (heats : List ℕ) → All (λ heat. heat ≤ 2 ^ 40) heats → (d : ℕ) → slice_index heats d ≤ 2 ^ 40
+cool_at heats cool d = elim (cases_lt d (length heats)) [
+  | inl inside ↦ All-get_or (λ heat. heat ≤ 2 ^ 40) heats d 0 inside cool
+  | inr past ↦ let none : get_or heats d 0 ≡ 0 = get_or_past heats d 0 past in omega (arith, none)
+]
 
 module _ (es : List (Option Entry)) (own : List (Option ℕ)) (heats now : List ℕ) (tree : IsTree es) where
   -- a parent has an earlier place than its child
@@ -69,7 +77,7 @@ module _ (es : List (Option Entry)) (own : List (Option ℕ)) (heats now : List 
             (λ _. parent_is i h ∙ none, λ some. absurd (omega (arith, some, first, kept.place_is)))
       ]
 
-  pub forest : length es ≤ DIR_LIMIT → All (λ row. row.heat ≤ HEAT_LIMIT) (problem_rows es own heats now) → IsForest (problem_rows es own heats now)
+  pub forest : length es ≤ DIR_LIMIT → All (λ row. row.heat ≤ 2 ^ 40) (problem_rows es own heats now) → IsForest (problem_rows es own heats now)
   forest small cool =
       let dirs : List ℕ = unpinned es own in
       let rows : List ProblemRow = problem_rows es own heats now in
@@ -82,7 +90,16 @@ module _ (es : List (Option Entry)) (own : List (Option ℕ)) (heats now : List 
           | inr none ↦ ap (λ (r : ProblemRow). r.parent) (get_or_past rows 0 no_row (omega (arith, size, none)))
         ];
         above = λ i some h. (before i (omega (arith, size, h))).1 some;
-        cool = λ i h. All-get_or (λ row. row.heat ≤ HEAT_LIMIT) rows i no_row h cool;
+        cool = λ i h. All-get_or (λ row. row.heat ≤ 2 ^ 40) rows i no_row h cool;
+      }
+
+  -- so where heats are within their limit, the rows are those of a problem
+  pub problem : (ranks : ℕ) → length es ≤ DIR_LIMIT → All (λ heat. heat ≤ 2 ^ 40) heats → 0 < rank_count ranks → IsProblem (record { rows = problem_rows es own heats now; ranks = ranks })
+  problem ranks small cool some =
+      let dirs : List ℕ = unpinned es own in
+      record {
+        forest = forest small (All-map (λ row. row.heat ≤ 2 ^ 40) (row_of es heats now dirs) dirs (λ k d h. cool_at heats cool (get_or dirs k d)));
+        ranked = some;
       }
 
   -- it is the row of the directory's parent

@@ -90,8 +90,8 @@ module _ (rows : List ProblemRow) (k : ℕ) (label : ℕ → ℕ) (forest : IsFo
       ∙ sum_below-swap k n (λ part i. cond (eqb (label i) part) (f i) 0)
       ∙ by_row
 
-pub heats_add_up : (rows : List ProblemRow) (dirs : List ℕ) (plan : Plan) → IsForest rows → IsPartition rows (length plan.rank.items) (plan_label plan) → sum_by (λ part. part.heat) (plan_parts rows dirs plan) ≡ sum_below (length rows) (heat_at rows)
-heats_add_up rows dirs plan forest parts = sum_listed (λ part. part.heat) (part_of_top rows dirs plan) (is_part_top rows (plan_label plan)) (length rows) ∙ add_up rows (length plan.rank.items) (plan_label plan) forest parts (heat_at rows)
+pub heats_add_up : (rows : List ProblemRow) (dirs : List ℕ) (plan : Plan) → IsForest rows → IsPartition rows (length plan.rank) (plan_label plan) → sum_by (λ part. part.heat) (plan_parts rows dirs plan) ≡ sum_below (length rows) (heat_at rows)
+heats_add_up rows dirs plan forest parts = sum_listed (λ part. part.heat) (part_of_top rows dirs plan) (is_part_top rows (plan_label plan)) (length rows) ∙ add_up rows (length plan.rank) (plan_label plan) forest parts (heat_at rows)
 
-pub inodes_add_up : (rows : List ProblemRow) (dirs : List ℕ) (plan : Plan) → IsForest rows → IsPartition rows (length plan.rank.items) (plan_label plan) → sum_by (λ part. part.inodes) (plan_parts rows dirs plan) ≡ sum_below (length rows) (inodes_at rows)
-inodes_add_up rows dirs plan forest parts = sum_listed (λ part. part.inodes) (part_of_top rows dirs plan) (is_part_top rows (plan_label plan)) (length rows) ∙ add_up rows (length plan.rank.items) (plan_label plan) forest parts (inodes_at rows)
+pub inodes_add_up : (rows : List ProblemRow) (dirs : List ℕ) (plan : Plan) → IsForest rows → IsPartition rows (length plan.rank) (plan_label plan) → sum_by (λ part. part.inodes) (plan_parts rows dirs plan) ≡ sum_below (length rows) (inodes_at rows)
+inodes_add_up rows dirs plan forest parts = sum_listed (λ part. part.inodes) (part_of_top rows dirs plan) (is_part_top rows (plan_label plan)) (length rows) ∙ add_up rows (length plan.rank) (plan_label plan) forest parts (inodes_at rows)

@@ -1,2 +1,3 @@
+pub mod OpenError
 pub mod PlanParts
 pub mod ProblemRows

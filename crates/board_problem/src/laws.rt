@@ -1,14 +1,22 @@
 //! Laws of a board's problem and of a plan's parts, each the contract of a function that does nothing.
-ghost use Rattle.std.specs.Prelude.{◌≡◌, ◌<◌, ℕ, List, Option, length, slice_index, sum_by};
+ghost use Rattle.std.specs.Prelude.{◌≡◌, ◌<◌, ◌≤◌, ◌^◌, ℕ, All, List, Option, length, slice_index, sum_by};
 ghost use Rattle.mds_types.specs.declared.plan.Plan.{Plan};
 ghost use Rattle.mds_types.specs.declared.problem.ProblemRow.{ProblemRow};
 ghost use Rattle.mds_types.specs.Certificate.{IsPartition, plan_label};
-ghost use Rattle.mds_types.specs.Problem.{IsForest, heat_at, inodes_at, parent_at};
+ghost use Rattle.mds_types.specs.Problem.{IsForest, IsProblem, heat_at, inodes_at, parent_at};
+ghost use Rattle.mds_types.specs.RankSet.{rank_count};
 ghost use Rattle.mds_types.specs.Sums.{sum_below};
 ghost use Rattle.dirtree.specs.Tree.{Entry, IsTree, parent_of};
 ghost use Rattle.dir_pins.specs.Pins.{unpinned};
 ghost use Rattle.board_problem.specs.PlanParts.{IsTopOf, plan_parts};
 ghost use Rattle.board_problem.specs.ProblemRows.{problem_rows};
+
+/// The rows of a tree's unpinned directories, over ranks that are there, are a problem.
+pub fn opened_is_problem()
+    ensures { (entries : List (Option Entry)) (own : List (Option ℕ)) (heats now : List ℕ) (ranks : ℕ) →
+        IsTree entries → length entries ≤ 2 ^ 16 → All (λ heat. heat ≤ 2 ^ 40) heats → 0 < rank_count ranks →
+        IsProblem (record { rows = problem_rows entries own heats now; ranks = ranks }) }
+{}
 
 /// The row of a directory's parent is the row that its row names: the problem's tree is that of the unpinned directories.
 pub fn parents_are_rows()
@@ -24,8 +32,8 @@ pub fn each_part_has_one_top()
 
 /// The parts of a plan have together what the rows have: none is left out, and none counted twice.
 pub fn parts_add_up()
-    ensures heats { (rows : List ProblemRow) (dirs : List ℕ) (plan : Plan) → IsForest rows → IsPartition rows (length plan.rank.items) (plan_label plan)
+    ensures heats { (rows : List ProblemRow) (dirs : List ℕ) (plan : Plan) → IsForest rows → IsPartition rows (length plan.rank) (plan_label plan)
         → sum_by (λ part. part.heat) (plan_parts rows dirs plan) ≡ sum_below (length rows) (heat_at rows) }
-    ensures inodes { (rows : List ProblemRow) (dirs : List ℕ) (plan : Plan) → IsForest rows → IsPartition rows (length plan.rank.items) (plan_label plan)
+    ensures inodes { (rows : List ProblemRow) (dirs : List ℕ) (plan : Plan) → IsForest rows → IsPartition rows (length plan.rank) (plan_label plan)
         → sum_by (λ part. part.inodes) (plan_parts rows dirs plan) ≡ sum_below (length rows) (inodes_at rows) }
 {}

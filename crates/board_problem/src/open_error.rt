@@ -1,20 +1,46 @@
 //! Why a board has no problem.
 
+use mds_types::Refusal;
 use std::alloc::AllocError;
-use thiserror::Error;
+use std::error::Error;
+use std::fmt;
 
 /// Why a board has no problem now.
-///
-/// It prints as its number and its name. A number never changes its meaning and is never used again.
-#[derive(Clone, Copy, Debug, PartialEq, Eq, Hash, Error)]
+#[derive(Clone, Copy, Debug, PartialEq, Eq)]
 pub enum OpenError {
     /// The allocator refused a growth.
-    #[error("0 Memory")]
     Memory,
     /// No rank may have a part: none that is active is in the mask.
-    #[error("29 BalancerOff")]
     BalancerOff,
 }
+
+impl From<OpenError> for Refusal {
+    ghost use Rattle.std.specs.Prelude.{◌≡◌};
+    ghost use Rattle.board_problem.specs.OpenError.{refusal_of};
+
+    ghost from_gives = { λ error refusal. refusal ≡ refusal_of error };
+
+    fn from(error: OpenError) -> Refusal {
+        match error {
+            OpenError::Memory => Refusal::Memory,
+            OpenError::BalancerOff => Refusal::BalancerOff,
+        }
+    }
+}
+
+impl fmt::Display for OpenError {
+    ghost use Rattle.std.specs.Prelude.{Some};
+    ghost use Rattle.mds_types.specs.Refusal.{words};
+    ghost use Rattle.board_problem.specs.OpenError.{refusal_of};
+
+    ghost output = { λ error. Some (words (refusal_of error)) };
+
+    fn fmt<W: fmt::Write>(&self, f: &mut fmt::Formatter<W>) -> fmt::Result {
+        fmt::Display::fmt(&Refusal::from(*self), f)
+    }
+}
+
+impl Error for OpenError {}
 
 impl From<AllocError> for OpenError {
     ghost use Rattle.std.specs.Prelude.{◌≡◌};

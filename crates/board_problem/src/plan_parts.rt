@@ -83,8 +83,8 @@ pub fn parts(
     plan: &Plan,
 ) -> Result<Vec<PlanPart>, AllocError>
     requires dirs { length dirs.now ≡ length problem.now.rows }
-    requires size { length plan.now.part.items ≡ length problem.now.rows }
-    requires labels { (i : ℕ) → i < length problem.now.rows → plan_label plan.now i < length plan.now.rank.items }
+    requires size { length plan.now.part ≡ length problem.now.rows }
+    requires labels { (i : ℕ) → i < length problem.now.rows → plan_label plan.now i < length plan.now.rank }
     ensures { IfOk result (λ parts. parts.items ≡ plan_parts problem.now.rows dirs.now plan.now) }
 {
     let rows = problem.rows();

@@ -188,7 +188,9 @@ fn a_refused_growth_changes_nothing(rt: HostRuntime) -> Result<(), Fail> {
         Ok(found) => found,
         Err(_) => {
             assert!(rt; is_the_board(&opened));
-            assert_eq!(rt; plan, new_plan(alloc)?);
+            let fresh = new_plan(alloc)?;
+            assert_eq!(rt; plan.part, fresh.part);
+            assert_eq!(rt; plan.rank.as_slice(), fresh.rank.as_slice());
             parts(alloc, &opened.problem, &opened.dirs, &plan)?
         }
     };

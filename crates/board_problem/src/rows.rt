@@ -1,6 +1,5 @@
 //! The rows of a board's problem, in one pass over the directories' numbers.
-ghost use Rattle.std.specs.Prelude.{◌≡◌, ◌<◌, ◌≤◌, true, length, map, slice_index, slice_index_or, IfOk};
-ghost use Rattle.mds_types.specs.declared.limits.TheConstants.{HEAT_LIMIT};
+ghost use Rattle.std.specs.Prelude.{◌≡◌, ◌<◌, ◌≤◌, ◌^◌, true, length, map, slice_index, slice_index_or, IfOk};
 ghost use Rattle.mds_types.specs.Problem.{IsForest};
 ghost use Rattle.dirtree.specs.Tree.{inodes_of, is_there, parent_of};
 ghost use Rattle.dir_pins.specs.Pins.{unpinned};
@@ -26,7 +25,7 @@ fn row(tree: &Tree, heat: &Heat, now: &[Rank], places: &[u32], dir: Dir) -> Prob
     requires now { dir < length now.now }
     requires places { dir < length places.now }
     ensures row { result ≡ record { parent = slice_index places.now (parent_of tree.now.entries dir); heat = slice_index heat.now.heats dir; inodes = inodes_of tree.now.entries dir; now = slice_index_or now.now dir 0 } }
-    ensures cool { result.heat ≤ HEAT_LIMIT }
+    ensures cool { result.heat ≤ 2 ^ 40 }
 {
     let Some(found) = tree.row(dir) else {
         unreachable!()

@@ -6,8 +6,8 @@ use Rattle.mds_types.specs.RankSet.{has_rank, rank_count}
 
 -- the conditions of a dual proof, where k parts have these costs at the ranks of the set
 pub record ArePrices (ranks k : ℕ) (cost : ℕ → ℕ → ℕ) (rank : ℕ → ℕ) (dual : DualProof) : Type 0 where
-  pub part_prices : length dual.part_price.items ≡ k
-  pub rank_prices : length dual.rank_price.items ≡ rank_count ranks
+  pub part_prices : length dual.part_price ≡ k
+  pub rank_prices : length dual.rank_price ≡ rank_count ranks
   pub below : (part r : ℕ) → part < k → has_rank ranks r ≡ true
       → (part_price_at dual part +ℤ rank_price_at dual ranks r) ≤ℤ pos (cost part r)
   pub not_above : (r : ℕ) → has_rank ranks r ≡ true → rank_price_at dual ranks r ≤ℤ pos 0

@@ -5,16 +5,21 @@ use Rattle.dirtree.specs.Tree.{Entry, is_there, parent_of, walk_up}
 use Rattle.dir_pins.specs.declared.pin_error.PinError.{PinError}
 use Rattle.dir_pins.specs.declared.pin_error.PinError.TheVariants.{NoDir, NoRank}
 
--- own is the directories' own pins, by their numbers
+-- own is the directories' own pins, by their numbers, which are below the limit; the ranks below active can be pinned on
 pub record PinTable : Type 0 where
+  pub limit : ℕ
   pub active : ℕ
   pub own : List (Option ℕ)
 
 abbrev pub no_pins : ℕ → ℕ → PinTable
-no_pins limit active = record { active = active; own = replicate limit None }
+no_pins limit active = record { limit = limit; active = active; own = replicate limit None }
 
 abbrev pub own_pin : List (Option ℕ) → ℕ → Option ℕ
 own_pin own d = slice_index_or own d None
+
+-- each directory's own pin is an active rank
+abbrev pub AreActive : ℕ → List (Option ℕ) → Type 0
+AreActive active own = (d rank : ℕ) → own_pin own d ≡ Some rank → rank < active
 
 -- what stands first counts
 abbrev pub nearer : Option ℕ → Option ℕ → Option ℕ

@@ -1,5 +1,5 @@
 //! The pins that were set, by the numbers of the directories.
-ghost use Rattle.std.specs.Prelude.{◌≡◌, ℕ, ◌+◌, ◌<◌, ◌≤◌, Some, None, Ok, Err, length, true, false, negsuc, ◌≢◌, IsOk, IfOk, IfErr, OnOk, OnErr, slice_set, slice_index_or, is_some};
+ghost use Rattle.std.specs.Prelude.{◌≡◌, ℕ, ◌+◌, ◌<◌, ◌≤◌, Some, None, Ok, Err, length, true, false, negsuc, ◌≢◌, IsOk, IfOk, IfErr, IfSome, OnOk, OnErr, slice_set, slice_index_or, is_some};
 ghost use Rattle.dirtree.specs.Tree.{is_there};
 
 use crate::pin_error::PinError;
@@ -16,18 +16,18 @@ pub struct Pins {
 }
 
 impl Model for Pins {
-    ghost use Rattle.std.specs.Prelude.{◌≤◌};
-    ghost use Rattle.dir_pins.specs.Pins.{PinTable};
+    ghost use Rattle.std.specs.Prelude.{◌≤◌, length};
+    ghost use Rattle.dir_pins.specs.Pins.{AreActive, PinTable};
 
     ghost Value = { PinTable };
 
-    ghost view = { λ pins. record { active = pins.active; own = pins.own.items } };
+    ghost view = { λ pins. record { limit = length pins.own.items; active = pins.active; own = pins.own.items } };
 
-    ghost invariant = { λ pins. pins.active ≤ 64 };
+    ghost invariant = { λ pins. (pins.active ≤ 64) × (length pins.own.items ≤ 65536) × AreActive pins.active pins.own.items };
 }
 
 impl Pins {
-    ghost use Rattle.dir_pins.specs.Pins.{is_pin, is_unpinned, no_pins, pin_refusal, pin_value, nearest_pin, unpinned, with_pin};
+    ghost use Rattle.dir_pins.specs.Pins.{AreActive, is_pin, is_unpinned, no_pins, pin_refusal, pin_value, nearest_pin, unpinned, with_pin};
 
     /// No pin, with room for the numbers below `limit`, and the ranks below `active` to pin on.
     pub fn new(alloc: Global, limit: u32, active: u8) -> Result<Pins, AllocError>
@@ -45,8 +45,45 @@ impl Pins {
     pub fn active(&self) -> u8
         ensures active { result ≡ self.now.active }
         ensures few { result ≤ 64 }
+        ensures held { AreActive self.now.active self.now.own }
     {
+        let _ = &self.own;
         self.active
+    }
+
+    /// How many directories there is room for: the pins of those below this number.
+    pub fn limit(&self) -> u32
+        ensures limit { result ≡ self.now.limit }
+        ensures size { length self.now.own ≡ self.now.limit }
+        ensures small { result ≤ 65536 }
+    {
+        self.own.len() as u32
+    }
+
+    /// What `set` would refuse.
+    pub fn can_set(&self, tree: &Tree, dir: Dir, pin: i32) -> Result<(), PinError>
+        ensures refused { IfErr result (λ e. pin_refusal self.now.active tree.now.entries dir pin ≡ Some e) }
+        ensures allowed { OnOk result (pin_refusal self.now.active tree.now.entries dir pin ≡ None) }
+    {
+        self.pinned(tree, dir, pin)?;
+        Ok(())
+    }
+
+    /// The own pin that a value gives a directory.
+    fn pinned(&self, tree: &Tree, dir: Dir, pin: i32) -> Result<Option<Rank>, PinError>
+        ensures pin { IfOk result (λ own. own ≡ pin_value pin) }
+        ensures active { IfOk result (λ own. IfSome own (λ rank. rank < self.now.active)) }
+        ensures below { OnOk result (dir < tree.now.limit) }
+        ensures refused { IfErr result (λ e. pin_refusal self.now.active tree.now.entries dir pin ≡ Some e) }
+        ensures allowed { OnOk result (pin_refusal self.now.active tree.now.entries dir pin ≡ None) }
+    {
+        if !tree.contains(dir) {
+            return Err(PinError::NoDir);
+        }
+        if pin == -1 {
+            return Ok(None);
+        }
+        Ok(Some(self.active_rank(pin)?))
     }
 
     /// Pins a directory on a rank, or takes its own pin away where the value is -1. It takes no memory.
@@ -57,15 +94,8 @@ impl Pins {
         ensures refused { IfErr result (λ e. pin_refusal self.old.active tree.now.entries dir pin ≡ Some e) }
         ensures allowed { OnOk result (pin_refusal self.old.active tree.now.entries dir pin ≡ None) }
     {
-        if !tree.contains(dir) {
-            return Err(PinError::NoDir);
-        }
-        let rank = if pin == -1 {
-            None
-        } else {
-            Some(self.active_rank(pin)?)
-        };
-        self.own[dir.number() as usize] = rank;
+        let own = self.pinned(tree, dir, pin)?;
+        self.own[dir.number() as usize] = own;
         Ok(())
     }
 
@@ -73,6 +103,7 @@ impl Pins {
     fn active_rank(&self, pin: i32) -> Result<Rank, PinError>
         requires { pin ≢ negsuc 0 }
         ensures rank { IfOk result (λ rank. pin_value pin ≡ Some rank) }
+        ensures below { IfOk result (λ rank. rank < self.now.active) }
         ensures active { OnOk result (is_pin self.now.active pin ≡ true) }
         ensures refused { IfErr result (λ e. (is_pin self.now.active pin ≡ false) × (e ≡ PinError.NoRank)) }
     {
@@ -153,6 +184,3 @@ impl Pins {
         Ok(dirs)
     }
 }
-
-#[cfg(test)]
-mod tests;

@@ -157,6 +157,7 @@ impl Tree {
     ) -> Result<Dir, TreeError>
         ensures made { OnOk result (self.new ≡ with_child self.old parent name.now inodes) }
         ensures number { IfOk result (λ dir. dir ≡ length self.old.entries) }
+        ensures below { IfOk result (λ dir. dir < self.old.limit) }
         ensures unchanged { OnErr result (self.new ≡ self.old) }
         ensures refused { (e : TreeError) → make_refusal self.old parent name.now ≡ Some e → result ≡ Err e }
         ensures memory { make_refusal self.old parent name.now ≡ None → IsOkUnless result TreeError.Memory }
@@ -203,6 +204,7 @@ impl Tree {
     /// Removes a directory that has no child. It takes no memory, and the number is never given again.
     pub fn remove(&mut self, dir: Dir) -> Result<(), TreeError>
         ensures removed { OnOk result (self.new ≡ without self.old dir) }
+        ensures below { OnOk result (dir < self.old.limit) }
         ensures unchanged { OnErr result (self.new ≡ self.old) }
         ensures refused { IfErr result (λ e. remove_refusal self.old dir ≡ Some e) }
         ensures allowed { OnOk result (remove_refusal self.old dir ≡ None) }
@@ -231,6 +233,3 @@ impl Tree {
         Ok(rows)
     }
 }
-
-#[cfg(test)]
-mod tests;

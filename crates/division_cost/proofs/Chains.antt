@@ -3,6 +3,7 @@ use Rattle.std.proofs.Common.{◌≡◌, ◌≢◌, ℕ, zero, suc, ◌<◌, ◌
 use Rattle.std.specs.Prelude.{filter, is_none}
 use Rattle.std.specs.List.{Contains}
 use Rattle.std.proofs.lemmas.Bool.{and_from, and_parts, cases_Bool, cases_eq, cases_lt, cases_order, eq-eqb, eqb-true, false≢true}
+use Rattle.mds_types.specs.Connected.{IsChain}
 use Rattle.dirtree.specs.Tree.{Entry, IsTree, is_there, parent_of}
 use Rattle.dirtree.proofs.Changes.{inside}
 use Rattle.dirtree.proofs.Walks.{above}
@@ -10,12 +11,12 @@ use Rattle.dir_pins.specs.Pins.{below, is_unpinned, nearest_pin, own_pin}
 use Rattle.dir_pins.proofs.NearestPin.{pinned, unpinned_by_parent}
 use Rattle.division_cost.specs.declared.division.Part.{Part}
 use Rattle.division_cost.specs.Parts.{greatest, is_free_top, is_member, is_top, members, part_at, parts, top_of}
-use Rattle.division_cost.specs.Division.{InPart, IsChain, IsDivision, IsEdge, IsGreatest}
+use Rattle.division_cost.specs.Division.{InPart, IsDivision, IsEdge, IsGreatest}
 use Rattle.division_cost.proofs.Elements.{Contains-map, Contains-mapped, kept_below, passes_below}
 use Rattle.division_cost.proofs.Passes.{top_of-other, top_of-top}
 
 -- a chain with one member more at its end
-chain_more : (es : List (Option Entry)) (Member : ℕ → Type 0) (from : ℕ) (chain : List ℕ) (mid to : ℕ) → IsChain es Member from chain mid → IsEdge es mid to → Member to → IsChain es Member from (chain ++ to ∷ []) to
+chain_more : (es : List (Option Entry)) (Member : ℕ → Type 0) (from : ℕ) (chain : List ℕ) (mid to : ℕ) → IsChain (IsEdge es) Member from chain mid → IsEdge es mid to → Member to → IsChain (IsEdge es) Member from (chain ++ to ∷ []) to
 chain_more es Member from [] mid to linked edge member = let P : ℕ → Type 0 = λ x. IsEdge es x to in (subst P (sym linked) edge, member, refl)
 chain_more es Member from (next ∷ chain) mid to linked edge member = (linked.0, linked.1, chain_more es Member next chain mid to linked.2 edge member)
 
@@ -87,7 +88,7 @@ module _ (es : List (Option Entry)) (own : List (Option ℕ)) (tops : List ℕ) 
   ]
 
   -- any two members are joined: the one with the larger number isn't the top, and its parent is a member
-  joined : (n t c d : ℕ) → c + d ≤ n → is_member es own tops t c ≡ true → is_member es own tops t d ≡ true → (chain : List ℕ) × IsChain es (Contains (members es own tops t)) c chain d
+  joined : (n t c d : ℕ) → c + d ≤ n → is_member es own tops t c ≡ true → is_member es own tops t d ≡ true → (chain : List ℕ) × IsChain (IsEdge es) (Contains (members es own tops t)) c chain d
   joined zero t c d few mc md = ([], omega arith)
   joined (suc n) t c d few mc md = elim (cases_order c d) [
     | inl same ↦ ([], same)

@@ -1,6 +1,7 @@
 -- What it says that the parts divide the directories that no pin holds, and that a heat is the greatest.
-use Rattle.std.specs.Prelude.{◌≡◌, ◌<◌, ◌≤◌, ◌⊎◌, ℕ, true, List, [], ◌∷◌, length, sum_by, slice_index, Option}
+use Rattle.std.specs.Prelude.{◌≡◌, ◌<◌, ◌≤◌, ℕ, true, List, length, sum_by, slice_index, Option}
 use Rattle.std.specs.List.{Contains}
+use Rattle.mds_types.specs.Connected.{IsConnected, IsParentOrChild}
 use Rattle.dirtree.specs.Tree.{Entry, inodes_of, parent_of}
 use Rattle.dir_pins.specs.Pins.{is_unpinned}
 use Rattle.division_cost.specs.declared.division.Part.{Part}
@@ -8,16 +9,7 @@ use Rattle.division_cost.specs.Parts.{is_top, members, top_of}
 
 -- one directory is the other's parent. (The root names itself, which joins it to no other directory.)
 abbrev pub IsEdge : List (Option Entry) → ℕ → ℕ → Type 0
-IsEdge entries c d = (parent_of entries c ≡ d) ⊎ (parent_of entries d ≡ c)
-
--- a chain of members from one directory to another, each the parent or a child of the one before
-abbrev pub IsChain : List (Option Entry) → (ℕ → Type 0) → ℕ → List ℕ → ℕ → Type 0
-IsChain entries Member from [] to = from ≡ to
-IsChain entries Member from (next ∷ chain) to = IsEdge entries from next × Member next × IsChain entries Member next chain to
-
--- any two members are joined by a chain of members
-abbrev pub IsConnected : List (Option Entry) → (ℕ → Type 0) → Type 0
-IsConnected entries Member = (c d : ℕ) → Member c → Member d → (chain : List ℕ) × IsChain entries Member c chain d
+IsEdge entries = IsParentOrChild (parent_of entries)
 
 -- d is one of the directories of part p
 abbrev pub InPart : List (Option Entry) → List (Option ℕ) → List ℕ → Part → ℕ → Type 0
@@ -30,7 +22,7 @@ pub record IsDivision (entries : List (Option Entry)) (own : List (Option ℕ)) 
   pub apart : (p q : Part) (d : ℕ) → Contains parts p → Contains parts q → InPart entries own tops p d → InPart entries own tops q d → p ≡ q
   pub unpinned : (p : Part) (d : ℕ) → Contains parts p → InPart entries own tops p d → is_unpinned entries own d ≡ true
   pub nearest : (p : Part) (d : ℕ) → Contains parts p → InPart entries own tops p d → top_of entries tops d ≡ p.top
-  pub connected : (p : Part) → Contains parts p → IsConnected entries (InPart entries own tops p)
+  pub connected : (p : Part) → Contains parts p → IsConnected (IsEdge entries) (InPart entries own tops p)
   pub top : (p : Part) → Contains parts p → is_top tops p.top ≡ true
   pub has_top : (p : Part) → Contains parts p → InPart entries own tops p p.top
   pub heat : (p : Part) → Contains parts p → p.heat ≡ sum_by (slice_index heats) (members entries own tops p.top)

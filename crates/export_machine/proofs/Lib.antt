@@ -31,3 +31,7 @@ pub mod Listing
 pub mod Halting
 pub mod Halted
 pub mod Ascending
+pub mod Local
+pub mod Entries
+pub mod Noted
+pub mod Named

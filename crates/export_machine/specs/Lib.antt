@@ -6,3 +6,6 @@ pub mod View
 pub mod Roots
 pub mod Kept
 pub mod Connected
+pub mod Local
+pub mod Room
+pub mod Entries

@@ -12,7 +12,7 @@
 use std::fmt;
 
 /// Where an export stands at its exporter.
-#[derive(Clone, Copy, Debug, PartialEq, Eq, Hash)]
+#[derive(Clone, Copy, Debug, PartialEq, Eq)]
 pub enum ExporterState {
     /// The importer was asked whether it knows the directories.
     Discovering,

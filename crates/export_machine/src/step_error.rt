@@ -12,7 +12,7 @@ use thiserror::Error;
 ///
 /// It prints as its number, its name, and the value where there is one. A number never changes
 /// its meaning.
-#[derive(Clone, Copy, Debug, PartialEq, Eq, Hash, Error)]
+#[derive(Clone, Copy, Debug, PartialEq, Eq, Error)]
 pub enum StepError {
     /// The allocator refused a growth.
     #[error("0 Memory")]

@@ -47,11 +47,11 @@ lower_bound rows k greatest (Table table) forest some holds label division =
     (let most = max_below-term k part (part_heat rows label) l in omega arith) in
     ⊎_elim
     (λ (rows_there : 0 < length rows).
-    let more = part_count-more rows table.items (greatest - 1) k label forest rows_there holds.1 division within in
+    let more = part_count-more rows table (greatest - 1) k label forest rows_there holds.1 division within in
     let most = count_below-le k (λ part. some_below (length rows) (λ i. eqb (label i) part)) in
     absurd (omega (arith, more, most, holds.2)))
     (λ (no_rows : length rows ≤ 0).
-    absurd (omega (arith, no_cuts table.items (omega (arith, holds.1.size)), holds.2)))
+    absurd (omega (arith, no_cuts table (omega (arith, holds.1.size)), holds.2)))
     (cases_lt 0 (length rows)))
     (λ (enough : greatest ≤ greatest_heat rows k label). enough)
     (cases_lt (greatest_heat rows k label) greatest)
@@ -108,29 +108,31 @@ AreRanks-le ranks k rank are =
 pub best :
     (problem : ProblemData) (plan : Plan) → IsProblem problem → IsCertified problem plan → IsBest problem plan
 best problem plan valid is =
-    let few = AreRanks-le problem.ranks (length plan.rank.items) (plan_rank plan) is.ranks in
+    let few = AreRanks-le problem.ranks (length plan.rank) (plan_rank plan) is.ranks in
     record {
-      division = IsDivision-more problem.rows (length plan.rank.items) (rank_count problem.ranks) (plan_label plan) few
+      size = is.size;
+      placed = is.parts.division.below;
+      division = IsDivision-more problem.rows (length plan.rank) (rank_count problem.ranks) (plan_label plan) few
           is.parts.division;
-      greatest = greatest_heat-more problem.rows (length plan.rank.items) (rank_count problem.ranks) (plan_label plan) few
+      greatest = greatest_heat-more problem.rows (length plan.rank) (rank_count problem.ranks) (plan_label plan) few
           is.parts.division
           ∙ is.greatest;
       least = lower_bound problem.rows (rank_count problem.ranks) plan.greatest plan.cut valid.forest valid.ranked is.cut;
-      placing = ranks_placing problem.rows problem.ranks (length plan.rank.items) (plan_label plan) (plan_rank plan)
+      placing = ranks_placing problem.rows problem.ranks (length plan.rank) (plan_label plan) (plan_rank plan)
           is.parts.division.below is.ranks;
       moved_is = is.moved_is;
       cheapest = λ other placing.
           rw (← is.moved_is)
-          (moved-least problem.rows problem.ranks (length plan.rank.items) (plan_label plan) (plan_rank plan) plan.dual
+          (moved-least problem.rows problem.ranks (length plan.rank) (plan_label plan) (plan_rank plan) plan.dual
           is.parts is.ranks is.dual other placing);
     }
 
 -- a certified plan has a certified division
 pub IsCutCertified-of :
     (problem : ProblemData) (plan : Plan) → IsCertified problem plan
-    → IsCutCertified problem.rows (rank_count problem.ranks) plan.part.items (length plan.rank.items) plan.greatest plan.cut
+    → IsCutCertified problem.rows (rank_count problem.ranks) plan.part (length plan.rank) plan.greatest plan.cut
 IsCutCertified-of problem plan is = record {
-  few = AreRanks-le problem.ranks (length plan.rank.items) (plan_rank plan) is.ranks;
+  few = AreRanks-le problem.ranks (length plan.rank) (plan_rank plan) is.ranks;
   size = is.size;
   parts = is.parts;
   greatest_is = is.greatest;
@@ -139,10 +141,10 @@ IsCutCertified-of problem plan is = record {
 
 -- a plan with a certified division, different ranks, its moved inodes and a dual proof is certified
 pub IsCertified-from :
-    (problem : ProblemData) (plan : Plan) → AreRanks problem.ranks (length plan.rank.items) (plan_rank plan)
-    → IsCutCertified problem.rows (rank_count problem.ranks) plan.part.items (length plan.rank.items) plan.greatest plan.cut
+    (problem : ProblemData) (plan : Plan) → AreRanks problem.ranks (length plan.rank) (plan_rank plan)
+    → IsCutCertified problem.rows (rank_count problem.ranks) plan.part (length plan.rank) plan.greatest plan.cut
     → moved problem.rows (plan_label plan) (plan_rank plan) ≡ plan.moved
-    → IsDualProof problem.rows problem.ranks (length plan.rank.items) (plan_label plan) (plan_rank plan) plan.dual
+    → IsDualProof problem.rows problem.ranks (length plan.rank) (plan_label plan) (plan_rank plan) plan.dual
     → IsCertified problem plan
 IsCertified-from problem plan are division moved_is dual = record {
   size = division.size;

@@ -2,8 +2,9 @@
 use Rattle.std.proofs.Common.{◌≡◌, ℕ, suc, ◌+◌, ◌-◌, ◌<◌, ◌≤◌, Bool, cond, List, [], ◌∷◌, length, refl, ap, sym, ◌∙◌, arith, ⊎_elim, inl, inr}
 use Rattle.mds_types.specs.declared.problem.ProblemRow.{ProblemRow}
 use Rattle.mds_types.specs.declared.cut_proof.Row.{Row}
+use Rattle.mds_types.specs.Connected.{IsChain}
 use Rattle.mds_types.specs.Problem.{IsForest, parent_at, heat_at}
-use Rattle.mds_types.specs.Division.{IsChain, InPart, IsDivision, part_count, part_heat, IsWithin}
+use Rattle.mds_types.specs.Division.{IsEdge, InPart, IsDivision, part_count, part_heat, IsWithin}
 use Rattle.mds_types.specs.CutTable.{IsCutTable, cuts_at, rest_at, price_at, is_cut_at}
 use Rattle.mds_types.specs.Sums.{sum_below}
 use Rattle.mds_types.proofs.SumsLemmas.{sum_from, sum_below-split, sum_below-fewer}
@@ -16,7 +17,7 @@ use Rattle.mds_types.proofs.Tops.{top, top_from, top_from-top, top_from-parent, 
 -- along a chain within a part, each row has the same top
 same_top :
     (rows : List ProblemRow) → IsForest rows → (label : ℕ → ℕ) (part : ℕ) (chain : List ℕ) (from to : ℕ)
-    → InPart rows label part from → IsChain rows (InPart rows label part) from chain to
+    → InPart rows label part from → IsChain (IsEdge rows) (InPart rows label part) from chain to
     → top_from (parent_at rows) label from from ≡ top_from (parent_at rows) label to to
 same_top rows forest label part [] from to inside linked = ap (λ x. top_from (parent_at rows) label x x) linked
 same_top rows forest label part (next ∷ chain) from to inside linked =

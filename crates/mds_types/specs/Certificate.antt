@@ -17,19 +17,19 @@ abbrev pub IsCutProof : List ProblemRow → ℕ → ℕ → CutProof → Type 0
 IsCutProof rows k greatest Zero = greatest ≡ 0
 IsCutProof rows k greatest (Heavy i) = (0 < greatest) × (i < length rows) × (heat_at rows i ≡ greatest)
 IsCutProof rows k greatest (Table table) =
-    (0 < greatest) × IsCutTable rows table.items (greatest - 1) × (k < cuts_at table.items 0 + 1)
+    (0 < greatest) × IsCutTable rows table (greatest - 1) × (k < cuts_at table 0 + 1)
 
 abbrev pub part_price_at : DualProof → ℕ → ℤ
-part_price_at dual part = slice_index_or dual.part_price.items part (pos 0)
+part_price_at dual part = slice_index_or dual.part_price part (pos 0)
 
 -- the price of a rank, which stands at its place among the ranks of the set
 abbrev pub rank_price_at : DualProof → ℕ → ℕ → ℤ
-rank_price_at dual ranks r = slice_index_or dual.rank_price.items (count_below r (has_rank ranks)) (pos 0)
+rank_price_at dual ranks r = slice_index_or dual.rank_price (count_below r (has_rank ranks)) (pos 0)
 
 -- why no placing of these k parts moves fewer inodes
 pub record IsDualProof (rows : List ProblemRow) (ranks k : ℕ) (label rank : ℕ → ℕ) (dual : DualProof) : Type 0 where
-  pub part_prices : length dual.part_price.items ≡ k
-  pub rank_prices : length dual.rank_price.items ≡ rank_count ranks
+  pub part_prices : length dual.part_price ≡ k
+  pub rank_prices : length dual.rank_price ≡ rank_count ranks
   pub below : (part r : ℕ) → part < k → has_rank ranks r ≡ true
       → (part_price_at dual part +ℤ rank_price_at dual ranks r) ≤ℤ pos (cost rows label part r)
   pub not_above : (r : ℕ) → has_rank ranks r ≡ true → rank_price_at dual ranks r ≤ℤ pos 0
@@ -57,24 +57,26 @@ pub record AreRanks (ranks k : ℕ) (rank : ℕ → ℕ) : Type 0 where
   pub distinct : (p q : ℕ) → p < k → q < k → rank p ≡ rank q → p ≡ q
 
 abbrev pub plan_label : Plan → ℕ → ℕ
-plan_label plan i = slice_index plan.part.items i
+plan_label plan i = slice_index plan.part i
 
 abbrev pub plan_rank : Plan → ℕ → ℕ
-plan_rank plan part = slice_index plan.rank.items part
+plan_rank plan part = slice_index plan.rank part
 
 -- a plan whose proofs hold
 pub record IsCertified (problem : ProblemData) (plan : Plan) : Type 0 where
-  pub size : length plan.part.items ≡ length problem.rows
-  pub parts : IsPartition problem.rows (length plan.rank.items) (plan_label plan)
-  pub ranks : AreRanks problem.ranks (length plan.rank.items) (plan_rank plan)
-  pub greatest : greatest_heat problem.rows (length plan.rank.items) (plan_label plan) ≡ plan.greatest
+  pub size : length plan.part ≡ length problem.rows
+  pub parts : IsPartition problem.rows (length plan.rank) (plan_label plan)
+  pub ranks : AreRanks problem.ranks (length plan.rank) (plan_rank plan)
+  pub greatest : greatest_heat problem.rows (length plan.rank) (plan_label plan) ≡ plan.greatest
   pub moved_is : moved problem.rows (plan_label plan) (plan_rank plan) ≡ plan.moved
   pub cut : IsCutProof problem.rows (rank_count problem.ranks) plan.greatest plan.cut
-  pub dual : IsDualProof problem.rows problem.ranks (length plan.rank.items) (plan_label plan) (plan_rank plan) plan.dual
+  pub dual : IsDualProof problem.rows problem.ranks (length plan.rank) (plan_label plan) (plan_rank plan) plan.dual
 
--- no division into as many parts as there are ranks has a smaller greatest heat, and no placing of the plan's parts
--- moves fewer inodes
+-- each row has a part and each part a rank, no division into as many parts as there are ranks has a smaller greatest
+-- heat, and no placing of the plan's parts moves fewer inodes
 pub record IsBest (problem : ProblemData) (plan : Plan) : Type 0 where
+  pub size : length plan.part ≡ length problem.rows
+  pub placed : (i : ℕ) → i < length problem.rows → plan_label plan i < length plan.rank
   pub division : IsDivision problem.rows (rank_count problem.ranks) (plan_label plan)
   pub greatest : greatest_heat problem.rows (rank_count problem.ranks) (plan_label plan) ≡ plan.greatest
   pub least : IsLowerBound problem.rows (rank_count problem.ranks) plan.greatest

@@ -11,8 +11,9 @@ pub mod plan;
 pub mod problem;
 pub mod rank;
 pub mod rank_set;
+pub mod refusal;
 
-pub use cut_proof::{CutProof, Row};
+pub use cut_proof::{CutProof, CutTable, Row};
 pub use dir::Dir;
 pub use dual_proof::DualProof;
 pub use order::Order;
@@ -20,3 +21,4 @@ pub use plan::Plan;
 pub use problem::{Problem, ProblemError, ProblemRow};
 pub use rank::Rank;
 pub use rank_set::{BadMask, RankSet};
+pub use refusal::{ExportStage, Refusal};

@@ -8,9 +8,11 @@ ghost use Rattle.mds_types.specs.Problem.{IsFirstFault, IsSoundBefore};
 use crate::limits::{DIR_LIMIT, HEAT_LIMIT};
 use crate::rank::Rank;
 use crate::rank_set::RankSet;
+use crate::refusal::Refusal;
 use std::alloc::{AllocError, Global};
+use std::error::Error;
+use std::fmt;
 use std::marker::Model;
-use thiserror::Error;
 
 /// A directory that is to be placed.
 #[derive(Clone, Copy, Debug, PartialEq, Eq)]
@@ -44,21 +46,47 @@ impl Model for Problem {
 }
 
 /// What is wrong with the rows or the ranks of a problem.
-#[derive(Clone, Copy, Debug, PartialEq, Eq, Hash, Error)]
+#[derive(Clone, Copy, Debug, PartialEq, Eq)]
 pub enum ProblemError {
     /// This row doesn't name a smaller row, or row 0 doesn't name itself.
-    #[error("2 BadParent {0}")]
     BadParent(u32),
     /// This row is hotter than `HEAT_LIMIT`.
-    #[error("3 TooHot {0}")]
     TooHot(u32),
     /// There are more rows than `DIR_LIMIT`.
-    #[error("4 TooMany")]
     TooMany,
     /// The set of ranks is empty.
-    #[error("5 NoRanks")]
     NoRanks,
 }
+
+impl From<ProblemError> for Refusal {
+    ghost use Rattle.std.specs.Prelude.{◌≡◌};
+    ghost use Rattle.mds_types.specs.Problem.{refusal_of};
+
+    ghost from_gives = { λ error refusal. refusal ≡ refusal_of error };
+
+    fn from(error: ProblemError) -> Refusal {
+        match error {
+            ProblemError::BadParent(row) => Refusal::BadParent(row),
+            ProblemError::TooHot(row) => Refusal::TooHot(row),
+            ProblemError::TooMany => Refusal::TooMany,
+            ProblemError::NoRanks => Refusal::NoRanks,
+        }
+    }
+}
+
+impl fmt::Display for ProblemError {
+    ghost use Rattle.std.specs.Prelude.{Some};
+    ghost use Rattle.mds_types.specs.Problem.{refusal_of};
+    ghost use Rattle.mds_types.specs.Refusal.{words};
+
+    ghost output = { λ error. Some (words (refusal_of error)) };
+
+    fn fmt<W: fmt::Write>(&self, f: &mut fmt::Formatter<W>) -> fmt::Result {
+        fmt::Display::fmt(&Refusal::from(*self), f)
+    }
+}
+
+impl Error for ProblemError {}
 
 /// The first thing that is wrong, if anything is.
 fn first_fault(rows: &[ProblemRow], ranks: RankSet) -> Option<ProblemError>

@@ -8,11 +8,13 @@ ghost use Rattle.mds_types.specs.Mask.{is_hex};
 
 use crate::limits::RANK_LIMIT;
 use crate::rank::Rank;
+use crate::refusal::Refusal;
+use std::error::Error;
+use std::fmt;
 use std::marker::Model;
-use thiserror::Error;
 
 /// A set of ranks. To a contract it is a number whose bit r is 1 where rank r is in the set.
-#[derive(Clone, Copy, Debug, PartialEq, Eq, Hash)]
+#[derive(Clone, Copy, Debug, PartialEq, Eq)]
 pub struct RankSet {
     bits: u64,
 }
@@ -28,9 +30,31 @@ impl Model for RankSet {
 }
 
 /// The text is not a mask.
-#[derive(Clone, Copy, Debug, PartialEq, Eq, Hash, Error)]
-#[error("1 BadMask")]
+#[derive(Clone, Copy, Debug, PartialEq, Eq)]
 pub struct BadMask;
+
+impl From<BadMask> for Refusal {
+    ghost use Rattle.mds_types.specs.declared.refusal.Refusal.TheVariants as refusal;
+
+    ghost from_gives = { λ _ given. given ≡ refusal.BadMask };
+
+    fn from(_: BadMask) -> Refusal {
+        Refusal::BadMask
+    }
+}
+
+impl fmt::Display for BadMask {
+    ghost use Rattle.mds_types.specs.declared.refusal.Refusal.TheVariants as refusal;
+    ghost use Rattle.mds_types.specs.Refusal.{words};
+
+    ghost output = { λ _. Some (words refusal.BadMask) };
+
+    fn fmt<W: fmt::Write>(&self, f: &mut fmt::Formatter<W>) -> fmt::Result {
+        fmt::Display::fmt(&Refusal::from(*self), f)
+    }
+}
+
+impl Error for BadMask {}
 
 // One digit stands for four ranks.
 const DIGIT_LIMIT: usize = 16;
@@ -49,7 +73,7 @@ impl RankSet {
     ghost use Rattle.std.specs.Prelude.{◌≡◌, ◌<◌, ◌≤◌, ◌↔◌, ◌&&◌, IsTrue, nat_lt, true};
     ghost use Rattle.std.specs.Result.{result_ok};
     ghost use Rattle.mds_types.specs.Mask.{mask_bits};
-    ghost use Rattle.mds_types.specs.RankSet.{has_rank, rank_count};
+    ghost use Rattle.mds_types.specs.RankSet.{below_rank, has_rank, rank_count};
 
     /// The set of the ranks whose bit is 1.
     pub fn from_bits(bits: u64) -> RankSet
@@ -72,7 +96,8 @@ impl RankSet {
 
     /// The ranks of the set below `active`.
     pub fn among(self, active: u8) -> RankSet
-        ensures { (rank : ℕ) → has_rank result rank ≡ (nat_lt rank active && has_rank self rank) }
+        ensures ranks { (rank : ℕ) → has_rank result rank ≡ (nat_lt rank active && has_rank self rank) }
+        ensures bits { result ≡ below_rank self active }
     {
         if active >= RANK_LIMIT {
             return self;

@@ -19,17 +19,18 @@ fn search_rows(alloc: Global, rows: &[ProblemRow], ranks: u32) -> Result<Found, 
     requires ranks { 0 < ranks }
     ensures { IfOk result (IsFound rows.now ranks) }
 {
+    let mut passes = 0;
     let from = start(rows, ranks);
     let trees = weigh(alloc, rows, from.low)?;
     let mut rest = trees.heat.clone()?;
-    let (greatest, probes) = narrow(alloc, rows, &trees, &mut rest, ranks, from)?;
-    let cut = cut_linked(alloc, rows, &trees.links, greatest)?;
-    let (proof, extra) = prove_least(alloc, rows, &trees.links, ranks, greatest)?;
+    let greatest = narrow(alloc, rows, &trees, &mut rest, ranks, from, &mut passes)?;
+    let cut = cut_linked(alloc, rows, &trees.links, greatest, &mut passes)?;
+    let proof = prove_least(alloc, rows, &trees.links, ranks, greatest, &mut passes)?;
     Ok(Found {
         cut,
         greatest,
         proof,
-        passes: probes + 1 + extra,
+        passes,
     })
 }
 
@@ -39,11 +40,12 @@ pub fn search(problem: &Problem, alloc: Global) -> Result<Found, AllocError>
 {
     let rows = problem.rows();
     if rows.is_empty() {
+        let mut passes = 0;
         return Ok(Found {
-            cut: cut_cool(alloc, rows, 0)?,
+            cut: cut_cool(alloc, rows, 0, &mut passes)?,
             greatest: 0,
             proof: CutProof::Zero,
-            passes: 1,
+            passes,
         });
     }
     search_rows(alloc, rows, u32::from(problem.ranks().len()))
@@ -94,10 +96,12 @@ mod tests {
             entry(0, 4, 0, true),
             entry(0, 3, 0, false),
         ]?;
-        assert_eq!(rt; two.proof, CutProof::Table(table));
+        assert!(rt;
+            matches!(&two.proof, CutProof::Table(shown) if shown.rows() == table.as_slice())
+        );
         let three = search(&problem(&rt, rows, 3), rt.alloc())?;
         assert_eq!(rt; three.greatest, 5);
-        assert_eq!(rt; three.proof, CutProof::Heavy(1));
+        assert!(rt; matches!(&three.proof, CutProof::Heavy(1)));
         Ok(())
     }
 
@@ -105,13 +109,13 @@ mod tests {
     fn searches_no_rows_and_no_heat(rt: HostRuntime) -> Result<(), Fail> {
         let none = search(&problem(&rt, Vec::new(rt.alloc()), 2), rt.alloc())?;
         assert_eq!(rt; (none.greatest, none.cut.count), (0, 0));
-        assert_eq!(rt; none.proof, CutProof::Zero);
+        assert!(rt; matches!(&none.proof, CutProof::Zero));
         let cold = search(
             &problem(&rt, vec![in rt.alloc(); row(0, 0), row(0, 0)]?, 2),
             rt.alloc(),
         )?;
         assert_eq!(rt; (cold.greatest, cold.cut.count), (0, 1));
-        assert_eq!(rt; cold.proof, CutProof::Zero);
+        assert!(rt; matches!(&cold.proof, CutProof::Zero));
         Ok(())
     }
 
@@ -129,7 +133,7 @@ mod tests {
         assert!(rt; (3..=60).contains(&long.passes), "{} passes", long.passes);
         match &long.proof {
             CutProof::Table(table) => {
-                assert_eq!(rt; table.first().map(|row| row.cuts), Some(64));
+                assert_eq!(rt; table.rows().first().map(|row| row.cuts), Some(64));
             }
             _ => panic!(rt; "a chain needs a table"),
         }

@@ -4,7 +4,7 @@ use mds_types::CutProof;
 use residual_cut::Cut;
 
 /// A division with the least greatest heat, and the proof that none has a smaller one.
-#[derive(Debug, PartialEq, Drop)]
+#[derive(Debug, Drop)]
 pub struct Found {
     /// The cut at the least greatest heat.
     pub cut: Cut,

@@ -13,15 +13,15 @@ use Rattle.cost_table.proofs.PriceLemmas.{prices_over, dual_from_prices, prices_
 -- a plan with a certified division and different ranks is certified where its placing holds
 pub certified_by_placing :
     (problem : ProblemData) (plan : Plan) (cells : List ℕ) (answer : Bool)
-    → AreRanks problem.ranks (length plan.rank.items) (plan_rank plan)
-    → IsCutCertified problem.rows (rank_count problem.ranks) plan.part.items (length plan.rank.items) plan.greatest plan.cut
-    → AreCosts problem.rows (plan_label plan) (length plan.rank.items) problem.ranks cells
+    → AreRanks problem.ranks (length plan.rank) (plan_rank plan)
+    → IsCutCertified problem.rows (rank_count problem.ranks) plan.part (length plan.rank) plan.greatest plan.cut
+    → AreCosts problem.rows (plan_label plan) (length plan.rank) problem.ranks cells
     → (IsTrue answer
-    ↔ ((chosen_cost problem.ranks cells (length plan.rank.items) (plan_rank plan) ≡ plan.moved)
-    × ArePrices problem.ranks (length plan.rank.items) (cell_at problem.ranks cells) (plan_rank plan) plan.dual))
+    ↔ ((chosen_cost problem.ranks cells (length plan.rank) (plan_rank plan) ≡ plan.moved)
+    × ArePrices problem.ranks (length plan.rank) (cell_at problem.ranks cells) (plan_rank plan) plan.dual))
     → IsTrue answer ↔ IsCertified problem plan
 certified_by_placing problem plan cells answer are division costs holds =
-    let k = length plan.rank.items in
+    let k = length plan.rank in
     let moved_is = moved-cells problem.rows k problem.ranks (plan_label plan) (plan_rank plan) cells division.parts.division.below
     are costs in (
       λ yes_is.

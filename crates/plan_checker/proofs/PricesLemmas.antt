@@ -11,7 +11,7 @@ use Rattle.plan_checker.specs.Prices.{RankPriceHolds}
 -- prices hold where they hold at each rank of the set
 pub ArePrices-from_ranks :
     (ranks k : ℕ) (cost : ℕ → ℕ → ℕ) (rank : ℕ → ℕ) (dual : DualProof) → AreRanks ranks k rank
-    → length dual.part_price.items ≡ k → length dual.rank_price.items ≡ rank_count ranks
+    → length dual.part_price ≡ k → length dual.rank_price ≡ rank_count ranks
     → ((r : ℕ) → r < 64 → has_rank ranks r ≡ true
     → RankPriceHolds k rank (part_price_at dual) (λ p. cost p r) r (rank_price_at dual ranks r))
     → ArePrices ranks k cost rank dual

@@ -38,8 +38,8 @@ fn is_cut_proof(
         ),
         CutProof::Table(table) => Ok(
             greatest > 0
-                && is_cut_table(alloc, rows, table, greatest - 1)?
-                && table.first().map_or(0, |root| root.cuts) >= u32::from(ranks),
+                && is_cut_table(alloc, rows, table.rows(), greatest - 1)?
+                && table.rows().first().map_or(0, |root| root.cuts) >= u32::from(ranks),
         ),
     }
 }

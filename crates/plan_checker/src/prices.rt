@@ -6,7 +6,7 @@ ghost use Rattle.mds_types.specs.Certificate.{AreRanks};
 ghost use Rattle.mds_types.specs.RankSet.{rank_count};
 ghost use Rattle.cost_table.specs.Costs.{cell_at, cell_at_place};
 ghost use Rattle.cost_table.specs.Prices.{ArePrices};
-ghost use Rattle.plan_checker.specs.Prices.{RankPriceHolds};
+ghost use Rattle.plan_checker.specs.Prices.{RankPriceHolds, dual_of};
 
 use cost_table::cell_at_place;
 use mds_types::{DualProof, Rank, RankSet};
@@ -84,6 +84,41 @@ fn rank_price_holds(
     true
 }
 
+/// Whether these prices of the parts, and of the ranks in rising order, show that no placing of the
+/// same parts moves fewer inodes.
+fn prices_hold(
+    cells: &[u64],
+    ranks: RankSet,
+    rank: &[Rank],
+    part_price: &[i64],
+    rank_price: &[i64],
+) -> bool
+    requires parts { length rank.now ≤ 64 }
+    requires cells { length cells.now ≡ length rank.now * rank_count ranks }
+    requires ranks { AreRanks ranks (length rank.now) (slice_index rank.now) }
+    ensures { IsTrue result ↔ ArePrices ranks (length rank.now) (cell_at ranks cells.now) (slice_index rank.now)
+        (dual_of part_price.now rank_price.now) }
+{
+    let width = usize::from(ranks.len());
+    if part_price.len() != rank.len() || rank_price.len() != width {
+        return false;
+    }
+    let mut place = 0;
+    for number in 0..64 {
+        let Some(r) = Rank::new(number) else {
+            continue;
+        };
+        if ranks.has(r) {
+            let price = rank_price[place];
+            if !rank_price_holds(cells, width, place, rank, part_price, r, price) {
+                return false;
+            }
+            place += 1;
+        }
+    }
+    true
+}
+
 /// Whether the prices show that no placing of the same parts moves fewer inodes. `cells` are what
 /// each part moves at each rank of the set.
 pub fn are_prices(cells: &[u64], ranks: RankSet, rank: &[Rank], dual: &DualProof) -> bool
@@ -93,22 +128,5 @@ pub fn are_prices(cells: &[u64], ranks: RankSet, rank: &[Rank], dual: &DualProof
     ensures { IsTrue result ↔
         ArePrices ranks (length rank.now) (cell_at ranks cells.now) (slice_index rank.now) dual.now }
 {
-    let width = usize::from(ranks.len());
-    if dual.part_price.len() != rank.len() || dual.rank_price.len() != width {
-        return false;
-    }
-    let mut place = 0;
-    for number in 0..64 {
-        let Some(r) = Rank::new(number) else {
-            continue;
-        };
-        if ranks.has(r) {
-            let price = dual.rank_price[place];
-            if !rank_price_holds(cells, width, place, rank, &dual.part_price, r, price) {
-                return false;
-            }
-            place += 1;
-        }
-    }
-    true
+    prices_hold(cells, ranks, rank, &dual.part_price, &dual.rank_price)
 }

@@ -8,7 +8,7 @@ mod plans;
 mod star;
 
 use crate::{check, check_cut};
-use mds_types::{CutProof, Plan, Problem, ProblemRow, Rank, RankSet, Row};
+use mds_types::{CutProof, CutTable, Plan, Problem, ProblemRow, Rank, RankSet, Row};
 use std::alloc::{AllocError, Global};
 use std::test::Fail;
 
@@ -77,7 +77,7 @@ fn table(alloc: Global, rows: &[InTable]) -> Result<CutProof, Fail> {
             cut,
         })?;
     }
-    Ok(CutProof::Table(table))
+    Ok(CutProof::Table(CutTable::new(table)))
 }
 
 /// Four directories, each below the one before.

@@ -38,14 +38,14 @@ found_certified rows ranks found is =
 -- with the cheapest placing it is a certified plan
 pub plan_certified :
     (problem : ProblemData) (plan : Plan) (cells : List ℕ)
-    → IsCutCertified problem.rows (rank_count problem.ranks) plan.part.items (length plan.rank.items) plan.greatest plan.cut
-    → AreRanks problem.ranks (length plan.rank.items) (plan_rank plan)
-    → AreCosts problem.rows (plan_label plan) (length plan.rank.items) problem.ranks cells
-    → plan.moved ≡ chosen_cost problem.ranks cells (length plan.rank.items) (plan_rank plan)
-    → ArePrices problem.ranks (length plan.rank.items) (cell_at problem.ranks cells) (plan_rank plan) plan.dual
+    → IsCutCertified problem.rows (rank_count problem.ranks) plan.part (length plan.rank) plan.greatest plan.cut
+    → AreRanks problem.ranks (length plan.rank) (plan_rank plan)
+    → AreCosts problem.rows (plan_label plan) (length plan.rank) problem.ranks cells
+    → plan.moved ≡ chosen_cost problem.ranks cells (length plan.rank) (plan_rank plan)
+    → ArePrices problem.ranks (length plan.rank) (cell_at problem.ranks cells) (plan_rank plan) plan.dual
     → IsCertified problem plan
 plan_certified problem plan cells division are costs moved prices =
-    let k = length plan.rank.items in
+    let k = length plan.rank in
     IsCertified-from problem plan are division
     (omega (
       arith,
@@ -66,8 +66,8 @@ pub solved :
     → assigned.moved ≡ chosen_cost costs.ranks costs.cells costs.count (slice_index assigned.ranks.items)
     → ArePrices costs.ranks costs.count (cell_at costs.ranks costs.cells) (slice_index assigned.ranks.items) assigned.proof
     → IsCertified problem (record {
-      part = found.cut.part;
-      rank = assigned.ranks;
+      part = found.cut.part.items;
+      rank = assigned.ranks.items;
       greatest = found.greatest;
       moved = assigned.moved;
       cut = found.proof;
@@ -77,8 +77,8 @@ solved problem found costs assigned is count_is ranks_is cells size are moved pr
     let k_is : length assigned.ranks.items ≡ found.cut.count = size ∙ count_is in
     plan_certified problem
     (record {
-      part = found.cut.part;
-      rank = assigned.ranks;
+      part = found.cut.part.items;
+      rank = assigned.ranks.items;
       greatest = found.greatest;
       moved = assigned.moved;
       cut = found.proof;

@@ -144,9 +144,9 @@ pub are_prices :
     (k ranks : ℕ) (cells : List ℕ) (u w owner rank : ℕ → ℕ) (dual : DualProof)
     → IsMatching k (rank_count ranks) (cell_at_place cells (rank_count ranks)) u w owner k
     → ((p x : ℕ) → has_rank ranks x ≡ true → owner (rank_place ranks x) ≡ p + 1 → rank p ≡ x)
-    → length dual.part_price.items ≡ k → length dual.rank_price.items ≡ rank_count ranks
-    → ((p : ℕ) → p < k → slice_index_or dual.part_price.items p (pos 0) ≡ pos (u p))
-    → ((j : ℕ) → j < rank_count ranks → slice_index_or dual.rank_price.items j (pos 0) ≡ neg_ℤ (pos (w j)))
+    → length dual.part_price ≡ k → length dual.rank_price ≡ rank_count ranks
+    → ((p : ℕ) → p < k → slice_index_or dual.part_price p (pos 0) ≡ pos (u p))
+    → ((j : ℕ) → j < rank_count ranks → slice_index_or dual.rank_price j (pos 0) ≡ neg_ℤ (pos (w j)))
     → ArePrices ranks k (cell_at ranks cells) rank dual
 are_prices k ranks cells u w owner rank dual matching given part_size rank_size parts owed =
     let cell : ℕ → ℕ → ℕ = cell_at_place cells (rank_count ranks) in

@@ -1,5 +1,7 @@
 -- The answers of a cut that fails.
 use Rattle.std.specs.Prelude.{ℕ, Bool, true, false, Result, Ok, Err}
+use Rattle.mds_types.specs.declared.refusal.Refusal.{Refusal}
+use Rattle.mds_types.specs.declared.refusal.Refusal.TheVariants as refusal
 use Rattle.residual_cut.specs.declared.cut.Cut.{Cut}
 use Rattle.residual_cut.specs.declared.cut.CutError.{CutError}
 use Rattle.residual_cut.specs.declared.cut.CutError.TheVariants.{Memory, Heavy}
@@ -17,3 +19,8 @@ is_memory_error (Heavy i) = false
 abbrev pub is_memory : Result Cut CutError → Bool
 is_memory (Ok cut) = false
 is_memory (Err e) = is_memory_error e
+
+-- what is printed for it
+abbrev pub refusal_of : CutError → Refusal
+refusal_of Memory = refusal.Memory
+refusal_of (Heavy i) = refusal.Heavy i

@@ -1,6 +1,6 @@
 //! The cut of a problem at a bound.
 
-ghost use Rattle.std.specs.Prelude.{◌≡◌, ◌<◌, ◌≤◌, ◌+◌, ◌-◌, ◌^◌, ℕ, true, false, length, IfOk, IfErr, IfNone, IfSome, if◌then◌else◌};
+ghost use Rattle.std.specs.Prelude.{◌≡◌, ◌<◌, ◌≤◌, ◌+◌, ◌-◌, ◌^◌, ℕ, true, false, length, IfOk, IfErr, IfNone, IfSome, OnErr, OnOk, if◌then◌else◌};
 ghost use Rattle.mds_types.specs.CutTable.{IsCutTable, cuts_at, is_cut_at};
 ghost use Rattle.mds_types.specs.Division.{HasFew};
 ghost use Rattle.mds_types.specs.Problem.{IsForest, heat_at};
@@ -12,9 +12,10 @@ ghost use Rattle.residual_cut.specs.CutError.{IfHeavy, is_memory};
 use crate::links::{Links, link};
 use crate::numbering::parts;
 use crate::walk::{cut_table, first_table};
-use mds_types::{Problem, ProblemRow, Row};
+use mds_types::{CutTable, Problem, ProblemRow, Refusal, Row};
 use std::alloc::{AllocError, Global};
-use thiserror::Error;
+use std::error::Error;
+use std::fmt;
 
 /// A division into the fewest connected parts within a bound, and the table that shows that none
 /// has fewer.
@@ -29,15 +30,41 @@ pub struct Cut {
 }
 
 /// Why there is no cut.
-#[derive(Clone, Copy, Debug, PartialEq, Eq, Hash, Error)]
+#[derive(Clone, Copy, Debug, PartialEq, Eq)]
 pub enum CutError {
     /// The allocator refused a growth.
-    #[error("0 Memory")]
     Memory,
     /// This row, the least such, is hotter than the bound.
-    #[error("16 Heavy {0}")]
     Heavy(u32),
 }
+
+impl From<CutError> for Refusal {
+    ghost use Rattle.std.specs.Prelude.{◌≡◌};
+    ghost use Rattle.residual_cut.specs.CutError.{refusal_of};
+
+    ghost from_gives = { λ error refusal. refusal ≡ refusal_of error };
+
+    fn from(error: CutError) -> Refusal {
+        match error {
+            CutError::Memory => Refusal::Memory,
+            CutError::Heavy(row) => Refusal::Heavy(row),
+        }
+    }
+}
+
+impl fmt::Display for CutError {
+    ghost use Rattle.std.specs.Prelude.{Some};
+    ghost use Rattle.mds_types.specs.Refusal.{words};
+    ghost use Rattle.residual_cut.specs.CutError.{refusal_of};
+
+    ghost output = { λ error. Some (words (refusal_of error)) };
+
+    fn fmt<W: fmt::Write>(&self, f: &mut fmt::Formatter<W>) -> fmt::Result {
+        fmt::Display::fmt(&Refusal::from(*self), f)
+    }
+}
+
+impl Error for CutError {}
 
 impl From<AllocError> for CutError {
     ghost use Rattle.std.specs.Prelude.{◌≡◌};
@@ -65,7 +92,7 @@ fn first_hot(rows: &[ProblemRow], bound: u64) -> Option<u32>
 }
 
 /// The table against the bound of rows that are linked and none of which is hotter than the bound.
-pub fn table_linked(
+fn make_table(
     alloc: Global,
     rows: &[ProblemRow],
     links: &Links,
@@ -84,21 +111,51 @@ pub fn table_linked(
     Ok(table)
 }
 
-/// Cuts rows that are linked and none of which is hotter than the bound.
+/// The table against the bound of rows that are linked and none of which is hotter than the bound. The
+/// walk is counted in `passes`.
+pub fn table_linked(
+    alloc: Global,
+    rows: &[ProblemRow],
+    links: &Links,
+    bound: u64,
+    passes: &mut u32,
+) -> Result<CutTable, AllocError>
+    requires count { passes.old < 2 ^ 32 - 1 }
+    requires forest { IsForest rows.now }
+    requires some { 0 < length rows.now }
+    requires linked { IsLinked rows.now links.now.first.items links.now.next.items 1 }
+    requires cool { (i : ℕ) → i < length rows.now → heat_at rows.now i ≤ bound }
+    ensures table { IfOk result (λ table. IsCutTable rows.now table bound) }
+    ensures few { IfOk result (λ table. HasFew rows.now (cuts_at table 0 + 1) bound) }
+    ensures passes { OnOk result (passes.new ≡ passes.old + 1) }
+    ensures uncounted { OnErr result (passes.new ≡ passes.old) }
+{
+    let table = make_table(alloc, rows, links, bound)?;
+    *passes += 1;
+    Ok(CutTable::new(table))
+}
+
+/// Cuts rows that are linked and none of which is hotter than the bound. The walk is counted in
+/// `passes`.
 pub fn cut_linked(
     alloc: Global,
     rows: &[ProblemRow],
     links: &Links,
     bound: u64,
+    passes: &mut u32,
 ) -> Result<Cut, AllocError>
+    requires count { passes.old < 2 ^ 32 - 1 }
     requires forest { IsForest rows.now }
     requires some { 0 < length rows.now }
     requires linked { IsLinked rows.now links.now.first.items links.now.next.items 1 }
     requires cool { (i : ℕ) → i < length rows.now → heat_at rows.now i ≤ bound }
-    ensures { IfOk result (IsCut rows.now bound) }
+    ensures cut { IfOk result (IsCut rows.now bound) }
+    ensures passes { OnOk result (passes.new ≡ passes.old + 1) }
+    ensures uncounted { OnErr result (passes.new ≡ passes.old) }
 {
-    let table = table_linked(alloc, rows, links, bound)?;
+    let table = make_table(alloc, rows, links, bound)?;
     let (part, count) = parts(alloc, rows, &table)?;
+    *passes += 1;
     Ok(Cut {
         part,
         count,
@@ -106,13 +163,22 @@ pub fn cut_linked(
     })
 }
 
-/// Cuts rows none of which is hotter than the bound.
-pub fn cut_cool(alloc: Global, rows: &[ProblemRow], bound: u64) -> Result<Cut, AllocError>
+/// Cuts rows none of which is hotter than the bound. The walk is counted in `passes`.
+pub fn cut_cool(
+    alloc: Global,
+    rows: &[ProblemRow],
+    bound: u64,
+    passes: &mut u32,
+) -> Result<Cut, AllocError>
+    requires count { passes.old < 2 ^ 32 - 1 }
     requires forest { IsForest rows.now }
     requires cool { (i : ℕ) → i < length rows.now → heat_at rows.now i ≤ bound }
-    ensures { IfOk result (IsCut rows.now bound) }
+    ensures cut { IfOk result (IsCut rows.now bound) }
+    ensures passes { OnOk result (passes.new ≡ passes.old + 1) }
+    ensures uncounted { OnErr result (passes.new ≡ passes.old) }
 {
     if rows.is_empty() {
+        *passes += 1;
         return Ok(Cut {
             part: Vec::new(alloc),
             count: 0,
@@ -120,10 +186,11 @@ pub fn cut_cool(alloc: Global, rows: &[ProblemRow], bound: u64) -> Result<Cut, A
         });
     }
     let links = link(alloc, rows)?;
-    cut_linked(alloc, rows, &links, bound)
+    cut_linked(alloc, rows, &links, bound, passes)
 }
 
-/// Divides the rows into the fewest connected parts whose heat is at most the bound. Parts are numbered by rising top row.
+/// Divides the rows into the fewest connected parts whose heat is at most the bound. Parts are
+/// numbered by rising top row. A row that is too hot is told before any memory is asked for.
 pub fn cut_at(
     problem: &Problem,
     alloc: Global,
@@ -133,6 +200,7 @@ pub fn cut_at(
     requires { passes.old < 2 ^ 32 - 1 }
     ensures cut { IfOk result (IsCut problem.now.rows bound) }
     ensures heavy { IfErr result (λ e. IfHeavy e (IsFirstHot problem.now.rows bound)) }
+    ensures named { is_memory result ≡ true → (i : ℕ) → i < length problem.now.rows → heat_at problem.now.rows i ≤ bound }
     ensures passes { passes.new ≡ (if is_memory result then passes.old else passes.old + 1) }
 {
     let rows = problem.rows();
@@ -140,9 +208,7 @@ pub fn cut_at(
         *passes += 1;
         return Err(CutError::Heavy(row));
     }
-    let cut = cut_cool(alloc, rows, bound)?;
-    *passes += 1;
-    Ok(cut)
+    Ok(cut_cool(alloc, rows, bound, passes)?)
 }
 
 #[cfg(test)]

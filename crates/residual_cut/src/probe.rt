@@ -4,7 +4,7 @@
 //! row is taken from its parent too. Only rows whose subtree is hotter than the lower end of the bounds are
 //! walked over, as nothing is cut in the other subtrees.
 
-ghost use Rattle.std.specs.Prelude.{◌≡◌, ◌<◌, ◌≤◌, ◌+◌, ◌-◌, ◌^◌, ◌≢◌, ℕ, min, max, length, slice_index, IfOk, OnOk};
+ghost use Rattle.std.specs.Prelude.{◌≡◌, ◌<◌, ◌≤◌, ◌+◌, ◌-◌, ◌^◌, ◌≢◌, ℕ, min, max, length, slice_index, IfOk, OnOk, OnErr};
 ghost use Rattle.mds_types.specs.Division.{HasFew, NeedsMore};
 ghost use Rattle.mds_types.specs.Problem.{IsForest, heat_at, parent_at};
 ghost use Rattle.residual_cut.specs.Probe.{IfFits, IfTooMany};
@@ -74,6 +74,7 @@ fn cut_hot_row(
     ensures room { length rest.new ≡ length rows.now }
     ensures probed { OnOk result (IsProbed rows.now (slice_index trees.now.heat.items) (slice_index rest.new) bound (i + 1) i seen.new) }
     ensures done { OnOk result (seen.new.cuts < most → slice_index rest.new i ≤ bound) }
+    ensures same { OnErr result (rest.new ≡ rest.old) }
 {
     let left = (most - seen.cuts) as usize;
     let hottest = hottest_children(alloc, rows, &trees.links, rest, i, left)?;
@@ -117,6 +118,7 @@ fn cut_row(
     ensures probed { OnOk result (IsProbed rows.now (slice_index trees.now.heat.items) (slice_index rest.new) bound (i + 1) i seen.new) }
     ensures left { IfOk result (λ left. left ≡ slice_index rest.new i) }
     ensures done { OnOk result (seen.new.cuts < most → slice_index rest.new i ≤ bound) }
+    ensures same { OnErr result (rest.new ≡ rest.old) }
 {
     if here > bound {
         cut_hot_row(alloc, rows, trees, rest, i, bound, most, seen)?;
@@ -194,7 +196,7 @@ fn probe_rows(
     ensures few { IfOk result (λ seen. seen.cuts < most → HasFew rows.now most (max seen.hottest (slice_index rest.new 0))) }
     ensures within { IfOk result (λ seen. seen.cuts < most → max seen.hottest (slice_index rest.new 0) ≤ bound) }
     ensures room { length rest.new ≡ length rows.now }
-    ensures light { IfOk result (λ _. AreLightWhole (length rows.now) trees.now.low (slice_index trees.now.heat.items) (slice_index rest.new)) }
+    ensures light { AreLightWhole (length rows.now) trees.now.low (slice_index trees.now.heat.items) (slice_index rest.new) }
     ensures above { IfOk result (λ seen. most ≤ seen.cuts → bound < seen.above) }
     ensures more { IfOk result (λ seen. most ≤ seen.cuts → NeedsMore rows.now most (seen.above - 1)) }
 {
@@ -222,10 +224,10 @@ fn probe_rows(
 }
 
 /// Whether the rows, none of which is hotter than the bound, can be divided into at most `ranks`
-/// parts within the bound. It ends as soon as too many rows are cut, and counts as a pass.
+/// parts within the bound. It ends as soon as too many rows are cut, and is counted in `passes`.
 ///
-/// The room of `rest` is used for the walk. Before it and after it each row whose subtree is within the
-/// lower end has the heat of its whole subtree there.
+/// The room of `rest` is used for the walk. Before it and after it, for want of memory too, each row
+/// whose subtree is within the lower end has the heat of its whole subtree there.
 pub fn try_bound(
     alloc: Global,
     rows: &[ProblemRow],
@@ -233,7 +235,9 @@ pub fn try_bound(
     rest: &mut [u64],
     bound: u64,
     ranks: u32,
+    passes: &mut u32,
 ) -> Result<Probe, AllocError>
+    requires count { passes.old < 2 ^ 32 - 1 }
     requires forest { IsForest rows.now }
     requires some { 0 < length rows.now }
     requires trees { AreSubtrees rows.now trees.now }
@@ -243,12 +247,15 @@ pub fn try_bound(
     requires room { length rest.old ≡ length rows.now }
     requires light { AreLightWhole (length rows.now) trees.now.low (slice_index trees.now.heat.items) (slice_index rest.old) }
     ensures room { length rest.new ≡ length rows.now }
-    ensures light { IfOk result (λ _. AreLightWhole (length rows.now) trees.now.low (slice_index trees.now.heat.items) (slice_index rest.new)) }
+    ensures light { AreLightWhole (length rows.now) trees.now.low (slice_index trees.now.heat.items) (slice_index rest.new) }
     ensures fits { IfOk result (IfFits (λ heat. HasFew rows.now ranks heat × (heat ≤ bound))) }
     ensures too_many { IfOk result (IfTooMany (λ above. (bound < above) × NeedsMore rows.now ranks (above - 1))) }
+    ensures passes { OnOk result (passes.new ≡ passes.old + 1) }
+    ensures uncounted { OnErr result (passes.new ≡ passes.old) }
 {
     restore(rows, trees, rest);
     let seen = probe_rows(alloc, rows, trees, rest, bound, ranks)?;
+    *passes += 1;
     if seen.cuts >= ranks {
         return Ok(Probe::TooMany(seen.above));
     }

@@ -33,8 +33,12 @@ proof_word Zero = codes "zero"
 proof_word (Heavy row) = codes "heavy"
 proof_word (Table table) = codes "table"
 
+abbrev pub first_line : ℕ → ℕ → List ℕ → List ℕ
+first_line greatest moved word =
+    codes "plan greatest " ++ decimal greatest ++ codes " moved " ++ decimal moved ++ codes " proof " ++ word ++ 10 ∷ []
+
 abbrev pub plan_line : Plan → List ℕ
-plan_line plan = codes "plan greatest " ++ decimal plan.greatest ++ codes " moved " ++ decimal plan.moved ++ codes " proof " ++ proof_word plan.cut ++ 10 ∷ []
+plan_line plan = first_line plan.greatest plan.moved (proof_word plan.cut)
 
 abbrev pub plan_part_line : BoardData → PlanPart → List ℕ
 plan_part_line b part = codes "part " ++ path_of b.directories.entries part.top ++ codes " rank " ++ decimal part.rank ++ codes " heat " ++ decimal part.heat ++ codes " inodes " ++ decimal part.inodes ++ 10 ∷ []

@@ -4,7 +4,7 @@ ghost use Rattle.mds_types.specs.declared.plan.Plan.{Plan};
 ghost use Rattle.dirtree.specs.Tree.{is_there};
 ghost use Rattle.board_problem.specs.PlanParts.{plan_parts};
 ghost use Rattle.dir_pins.specs.Pins.{unpinned};
-ghost use Rattle.script_session.specs.Plan.{IsBestFor, plan_line, plan_part_line, proof_word, rows};
+ghost use Rattle.script_session.specs.Plan.{IsBestFor, first_line, plan_line, plan_part_line, proof_word, rows};
 ghost use Rattle.script_session.specs.Session.{on_board};
 ghost use Rattle.script_session.specs.Fault.{IsDue};
 ghost use Rattle.script_commands.specs.Commands as line;
@@ -51,13 +51,16 @@ impl<J: Naming, M: Publisher<J>> Board<J, M> {
     }
 }
 
+fn first_line(alloc: Global, greatest: u64, moved: u64, proof: &str) -> Result<String, AllocError>
+    ensures { IfOk result (λ line. string_bytes line ≡ first_line greatest moved proof.now) }
+{
+    format!(in alloc; "plan greatest {greatest} moved {moved} proof {proof}\n")
+}
+
 pub(crate) fn plan_line(alloc: Global, plan: &Plan) -> Result<String, AllocError>
     ensures { IfOk result (λ line. string_bytes line ≡ plan_line plan.now) }
 {
-    let greatest = plan.greatest;
-    let moved = plan.moved;
-    let proof = proof_word(&plan.cut);
-    format!(in alloc; "plan greatest {greatest} moved {moved} proof {proof}\n")
+    first_line(alloc, plan.greatest, plan.moved, proof_word(&plan.cut))
 }
 
 fn proof_word(proof: &CutProof) -> &'static str

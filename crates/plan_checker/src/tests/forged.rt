@@ -2,7 +2,7 @@
 
 use super::{CHAIN, InTable, judged, list_of, problem, table};
 use arrayvec::ArrayVec;
-use mds_types::{CutProof, DualProof, Plan, Problem, Rank, Row};
+use mds_types::{CutProof, CutTable, DualProof, Plan, Problem, Rank, Row};
 use std::alloc::Global;
 use std::test::Fail;
 
@@ -234,8 +234,10 @@ fn with_list(alloc: Global, list: List, longer: bool) -> Result<Plan, Fail> {
                 price: 0,
                 cut: false,
             };
-            if let CutProof::Table(rows) = &mut plan.cut {
-                resize(rows, longer, last)?;
+            if let CutProof::Table(table) = &plan.cut {
+                let mut rows = list_of(alloc, table.rows())?;
+                resize(&mut rows, longer, last)?;
+                plan.cut = CutProof::Table(CutTable::new(rows));
             }
         }
     }

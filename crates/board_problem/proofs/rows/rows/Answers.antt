@@ -1,8 +1,7 @@
-use Rattle.std.proofs.Common.{◌≡◌, ◌<◌, ◌≤◌, ◌+◌, ◌∙◌, ℕ, List, Option, Bool, true, false, refl, ap, sym, arith, length, length-append, length-set, set, append-nil, [], ◌∷◌}
+use Rattle.std.proofs.Common.{◌≡◌, ◌<◌, ◌≤◌, ◌^◌, ◌+◌, ◌∙◌, ℕ, List, Option, Bool, true, false, refl, ap, sym, arith, length, length-append, length-set, set, append-nil, [], ◌∷◌}
 use Rattle.std.proofs.lemmas.List.{length-map}
 use Rattle.std.specs.Prelude.{filter, slice_index}
 use Rattle.std.proofs.lemmas.List.Elements.{All-push}
-use Rattle.mds_types.specs.declared.limits.TheConstants.{HEAT_LIMIT}
 use Rattle.mds_types.specs.declared.problem.ProblemRow.{ProblemRow}
 use Rattle.dirtree.specs.Tree.{Entry, parent_of}
 use Rattle.dir_pins.specs.Pins.{below, is_unpinned, unpinned}
@@ -44,7 +43,7 @@ loop-number-preserved c =
             places = placed;
             dirs = rw (c.loop-number.invariant.dirs, at, below_more test n, is) refl;
             rows = rw (c.loop-number.invariant.rows, row) (sym (map_one of test n is));
-            cool = All-push (λ row. row.heat ≤ HEAT_LIMIT) c.loop-number.rows.items w.row.result c.loop-number.invariant.cool w.row.ensures.cool;
+            cool = All-push (λ row. row.heat ≤ 2 ^ 40) c.loop-number.rows.items w.row.result c.loop-number.invariant.cool w.row.ensures.cool;
           })
       | else-is_free w ↦
           let is : test n ≡ false = sym marked ∙ w.if-is_free.false in

@@ -1,7 +1,6 @@
-use Rattle.std.proofs.Common.{◌≡◌, ◌<◌, ◌≤◌, ℕ, length, map}
+use Rattle.std.proofs.Common.{◌≡◌, ◌<◌, ◌≤◌, ◌^◌, ℕ, length, map}
 use Rattle.std.specs.Prelude.{filter, slice_index}
 use Rattle.std.specs.List.{All}
-use Rattle.mds_types.specs.declared.limits.TheConstants.{HEAT_LIMIT}
 use Rattle.dir_pins.specs.Pins.{below, is_unpinned, unpinned}
 use Rattle.board_problem.specs.ProblemRows.{place_of, row_of}
 use Rattle.board_problem.proofs.rows.rows.Given as goal
@@ -15,5 +14,5 @@ invariant-loop-number l = record {
   places : (d : ℕ) → d < l.number → slice_index l.places.items d ≡ place_of (unpinned l.tree.entries l.pins.own) d;
   dirs : l.dirs.items ≡ filter (is_unpinned l.tree.entries l.pins.own) (below l.number);
   rows : l.rows.items ≡ map (row_of l.tree.entries l.heat.heats l.now (unpinned l.tree.entries l.pins.own)) (filter (is_unpinned l.tree.entries l.pins.own) (below l.number));
-  cool : All (λ row. row.heat ≤ HEAT_LIMIT) l.rows.items;
+  cool : All (λ row. row.heat ≤ 2 ^ 40) l.rows.items;
 }

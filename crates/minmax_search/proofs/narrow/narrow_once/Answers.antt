@@ -6,7 +6,7 @@ use Rattle.minmax_search.proofs.narrow.narrow_once.Goals as goal
 pub returns-in-Fits-clause-width : goal.returns-in-Fits-clause-width
 returns-in-Fits-clause-width c =
     let fits = rw c.in-Fits.is at c.in_ok-hottest.ensures.fits in
-    width_fits (c.args.gap.high - c.args.gap.low) c.args.passes (c.in-Fits.hottest - c.args.gap.low) c.requires.passes
+    width_fits (c.args.gap.high - c.args.gap.low) c.args.passes.now (c.in-Fits.hottest - c.args.gap.low) c.requires.passes
     c.requires.width (omega (arith, fits.1, c.next_bound-bound.ensures.below))
     (λ long. omega (arith, fits.1, c.next_bound-bound.ensures.half long))
 
@@ -20,6 +20,6 @@ returns-in-TooMany-clause-lower c =
 pub returns-in-TooMany-clause-width : goal.returns-in-TooMany-clause-width
 returns-in-TooMany-clause-width c =
     let more = rw c.in-TooMany.is at c.in_ok-hottest.ensures.too_many in
-    width_fits (c.args.gap.high - c.args.gap.low) c.args.passes (c.args.gap.high - c.in-TooMany.above) c.requires.passes
+    width_fits (c.args.gap.high - c.args.gap.low) c.args.passes.now (c.args.gap.high - c.in-TooMany.above) c.requires.passes
     c.requires.width (omega (arith, more.0, c.next_bound-bound.ensures.from))
     (λ long. omega (arith, more.0, c.next_bound-bound.ensures.half long))

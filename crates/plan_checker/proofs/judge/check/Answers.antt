@@ -1,5 +1,6 @@
 use Rattle.std.proofs.Common.{◌∙◌, ◌↔◌, sym, length, IsTrue}
 use Rattle.std.proofs.lemmas.Bool.{false≢true}
+use Rattle.mds_types.specs.declared.plan.Plan.{Plan}
 use Rattle.mds_types.specs.Certificate.{IsCutCertified, AreRanks, plan_rank, plan_label}
 use Rattle.mds_types.specs.Problem.{IsProblem}
 use Rattle.mds_types.specs.RankSet.{rank_count}
@@ -11,40 +12,62 @@ use Rattle.plan_checker.proofs.judge.check.Goals as goal
 pub returns-then-not-branch-clause-exact : goal.returns-then-not-branch-clause-exact
 returns-then-not-branch-clause-exact c =
     let problem = c.args.problem.now in
-    let plan = c.args.plan.now in
+    let plan : Plan = record {
+      part = c.plan.inside.part.items;
+      rank = c.plan.inside.rank.items;
+      greatest = c.plan.inside.greatest;
+      moved = c.plan.inside.moved;
+      cut = c.plan.inside.cut;
+      dual = c.plan.inside.dual;
+    } in
     let division : IsTrue c.in_ok-check_cut.field-0
-    ↔ IsCutCertified problem.rows (rank_count problem.ranks) plan.part.items (length plan.rank.items) plan.greatest plan.cut =
+    ↔ IsCutCertified problem.rows (rank_count problem.ranks) plan.part (length plan.rank) plan.greatest plan.cut =
     rw (c.as_slice-part.ensures.value, c.as_slice-rank.ensures.value) at c.in_ok-check_cut.ensures.exact in
+    rw (← c.plan.view_is)
     (λ no. absurd (false≢true no), λ is. sym c.if-not-branch.true ∙ division.1 (IsCutCertified-of problem plan is))
 
 pub returns-clause-exact : goal.returns-clause-exact
 returns-clause-exact c =
     let problem = c.args.problem.now in
-    let plan = c.args.plan.now in
+    let plan : Plan = record {
+      part = c.plan.inside.part.items;
+      rank = c.plan.inside.rank.items;
+      greatest = c.plan.inside.greatest;
+      moved = c.plan.inside.moved;
+      cut = c.plan.inside.cut;
+      dual = c.plan.inside.dual;
+    } in
     let cells = c.in_ok-cells.cells.items in
-    let are : AreRanks c.args.problem.now.ranks (length c.args.plan.now.rank.items) (plan_rank c.args.plan.now) =
+    let are : AreRanks c.args.problem.now.ranks (length plan.rank) (plan_rank plan) =
     rw (c.ranks-ranks.ensures.value, c.as_slice-rank.ensures.value) at (c.are_ranks.ensures.0 c.if-not-are_ranks.false) in
-    let division : IsCutCertified c.args.problem.now.rows (rank_count c.args.problem.now.ranks) c.args.plan.now.part.items
-    (length c.args.plan.now.rank.items) c.args.plan.now.greatest c.args.plan.now.cut =
+    let division : IsCutCertified c.args.problem.now.rows (rank_count c.args.problem.now.ranks) plan.part
+    (length plan.rank) plan.greatest plan.cut =
     rw (c.as_slice-part.ensures.value, c.as_slice-rank.ensures.value) at (c.in_ok-check_cut.ensures.exact.0 c.if-not-branch.false) in
-    let costs : AreCosts c.args.problem.now.rows (plan_label c.args.plan.now) (length c.args.plan.now.rank.items)
+    let costs : AreCosts c.args.problem.now.rows (plan_label plan) (length plan.rank)
     c.args.problem.now.ranks c.in_ok-cells.cells.items =
     rw (c.rows.ensures.value, c.ranks-ranks.ensures.value, c.as_slice-part.ensures.value, c.as_slice-rank.ensures.value) at
     c.in_ok-cells.ensures in
     let holds = rw (c.ranks-ranks.ensures.value, c.as_slice-rank.ensures.value, c.deref.ensures.value) at c.placing_holds.ensures in
-    certified_by_placing problem plan cells c.placing_holds.result are division costs holds
+    rw (← c.plan.view_is) (certified_by_placing problem plan cells c.placing_holds.result are division costs holds)
 
 pub returns-clause-best : goal.returns-clause-best
 returns-clause-best c =
     let problem = c.args.problem.now in
-    let plan = c.args.plan.now in
+    let plan : Plan = record {
+      part = c.plan.inside.part.items;
+      rank = c.plan.inside.rank.items;
+      greatest = c.plan.inside.greatest;
+      moved = c.plan.inside.moved;
+      cut = c.plan.inside.cut;
+      dual = c.plan.inside.dual;
+    } in
     let cells = c.in_ok-cells.cells.items in
-    let are : AreRanks c.args.problem.now.ranks (length c.args.plan.now.rank.items) (plan_rank c.args.plan.now) =
+    let are : AreRanks c.args.problem.now.ranks (length plan.rank) (plan_rank plan) =
     rw (c.ranks-ranks.ensures.value, c.as_slice-rank.ensures.value) at (c.are_ranks.ensures.0 c.if-not-are_ranks.false) in
-    let division : IsCutCertified c.args.problem.now.rows (rank_count c.args.problem.now.ranks) c.args.plan.now.part.items
-    (length c.args.plan.now.rank.items) c.args.plan.now.greatest c.args.plan.now.cut =
+    let division : IsCutCertified c.args.problem.now.rows (rank_count c.args.problem.now.ranks) plan.part
+    (length plan.rank) plan.greatest plan.cut =
     rw (c.as_slice-part.ensures.value, c.as_slice-rank.ensures.value) at (c.in_ok-check_cut.ensures.exact.0 c.if-not-branch.false) in
-    let costs : AreCosts c.args.problem.now.rows (plan_label c.args.plan.now) (length c.args.plan.now.rank.items)
+    let costs : AreCosts c.args.problem.now.rows (plan_label plan) (length plan.rank)
     c.args.problem.now.ranks c.in_ok-cells.cells.items =
     rw (c.rows.ensures.value, c.ranks-ranks.ensures.value, c.as_slice-part.ensures.value, c.as_slice-rank.ensures.value) at
     c.in_ok-cells.ensures in
@@ -53,5 +76,5 @@ returns-clause-best c =
       forest = rw c.rows.ensures.value at c.rows.ensures.forest;
       ranked = rw c.ranks-ranks.ensures.value at c.ranks-ranks.ensures.ranked;
     } in
-    λ says. best problem plan valid
-    ((certified_by_placing problem plan cells c.placing_holds.result are division costs holds).0 says)
+    rw (← c.plan.view_is) (λ says. best problem plan valid
+    ((certified_by_placing problem plan cells c.placing_holds.result are division costs holds).0 says))

@@ -58,7 +58,7 @@ returns-clause-prices c =
     are_prices c.args.costs.now.count c.args.costs.now.ranks c.args.costs.now.cells
     (slice_index c.in_ok-placed.placed.prices.items) (slice_index c.in_ok-placed.placed.debts.items)
     (slice_index c.in_ok-placed.placed.owners.items) (slice_index c.ranks_of-ranks.result.items)
-    (record { part_price = c.in_ok-part_prices.field-0; rank_price = c.in_ok-rank_prices.field-0 })
+    (record { part_price = c.in_ok-part_prices.field-0.items; rank_price = c.in_ok-rank_prices.field-0.items })
     c.in_ok-placed.ensures.matching given (search rules) (search rules)
     (λ p l. parts p (omega (arith, c.in_ok-placed.ensures.prices)))
     (λ j l. owed j (omega (arith, c.in_ok-placed.ensures.debts)))

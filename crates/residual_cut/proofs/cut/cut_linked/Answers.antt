@@ -1,8 +1,8 @@
 use Rattle.residual_cut.proofs.CutIs.{cut_is}
 use Rattle.residual_cut.proofs.cut.cut_linked.Goals as goal
 
-pub returns : goal.returns
-returns c =
+pub returns-clause-cut : goal.returns-clause-cut
+returns-clause-cut c =
     cut_is c.args.rows.now c.args.bound (record {
       part = c.in_ok-part.part;
       count = c.in_ok-part.count;

@@ -1,0 +1,243 @@
+//! Times the export machine on lists of events.
+//!
+//! Without an argument it prints nothing. `times LIST` prints how many events the list has, how many were accepted, and
+//! nanoseconds of processor time for all of them, the least of several runs; a copy of each event is kept with its
+//! answer, in room that the first run takes. `alone LIST` is the same with nothing kept. `reads` times the reads, with a sum
+//! of what they answered. `start` times the start of an export of 32,768 directories by rising numbers: asked for, and
+//! applied. `events LIST` prints the list, one event a line, so that other programs can be timed on it: those before
+//! the line `now` aren't timed.
+
+mod lists;
+
+use crate::machine::lists::{Events, Kind, all_dirs, make_events};
+use export_machine::{Cluster, Event, Reply, StepError};
+use mds_types::{Dir, Rank};
+use std::alloc::Global;
+use std::io;
+use std::io::Write;
+use std::time::{CpuClock, Duration};
+
+/// How often each list is timed.
+const RUNS: u32 = 9;
+
+/// How many reads of each kind are timed.
+const READS: u32 = 1 << 20;
+
+/// An event with its answer.
+#[derive(Drop)]
+struct Entry {
+    event: Event,
+    answer: Result<Reply, StepError>,
+}
+
+/// The processor time from one reading of the clock to a later one.
+fn nanos(from: Duration, to: Duration) -> u128 {
+    to.saturating_sub(from).as_nanos()
+}
+
+fn copies(alloc: Global, events: &[Event]) -> io::Result<Vec<Event>> {
+    let mut copies = Vec::with_capacity(alloc, events.len())?;
+    for event in events {
+        copies.push(event.copied(alloc)?)?;
+    }
+    Ok(copies)
+}
+
+/// The cluster after the events that aren't timed.
+fn prepared(alloc: Global, before: &[Event]) -> io::Result<Cluster> {
+    let mut cluster = Cluster::new(alloc, 65_536, 64)?;
+    for event in before {
+        let _ = cluster.apply(event.copied(alloc)?);
+    }
+    Ok(cluster)
+}
+
+/// The time of one run that keeps each event with its answer, and how many events were accepted.
+fn time_kept(rt: &HostRuntime, list: &Events, history: &mut Vec<Entry>) -> io::Result<(u128, u64)> {
+    let alloc = rt.alloc();
+    let mut cluster = prepared(alloc, &list.before)?;
+    let todo = copies(alloc, &list.timed)?;
+    history.clear();
+    let start = rt.thread_cpu_time()?;
+    for event in todo {
+        let copy = event.copied(alloc)?;
+        let answer = cluster.apply(event);
+        history.push(Entry {
+            event: copy,
+            answer,
+        })?;
+    }
+    let time = nanos(start, rt.thread_cpu_time()?);
+    let mut accepted: u64 = 0;
+    for entry in history.iter() {
+        if entry.answer.is_ok() {
+            accepted = accepted.wrapping_add(1);
+        }
+    }
+    Ok((time, accepted))
+}
+
+/// The time of one run that keeps nothing, and how many events were accepted.
+fn time_alone(rt: &HostRuntime, list: &Events) -> io::Result<(u128, u64)> {
+    let mut cluster = prepared(rt.alloc(), &list.before)?;
+    let todo = copies(rt.alloc(), &list.timed)?;
+    let mut accepted: u64 = 0;
+    let start = rt.thread_cpu_time()?;
+    for event in todo {
+        if cluster.apply(event).is_ok() {
+            accepted = accepted.wrapping_add(1);
+        }
+    }
+    Ok((nanos(start, rt.thread_cpu_time()?), accepted))
+}
+
+/// Times a list, each run with a copy of each event kept with its answer, or the events alone.
+fn time_list(rt: &HostRuntime, kind: Kind, keeps: bool) -> io::Result<()> {
+    let list = make_events(rt.alloc(), kind)?;
+    let mut history = Vec::new(rt.alloc());
+    let mut least = (u128::MAX, 0);
+    for _ in 0..RUNS {
+        let run = if keeps {
+            time_kept(rt, &list, &mut history)?
+        } else {
+            time_alone(rt, &list)?
+        };
+        least = run.min(least);
+    }
+    let (time, accepted) = least;
+    let count = list.timed.len();
+    println!(rt; "{kind} events {count} accepted {accepted} nanos {time}")
+}
+
+/// The directory of the next read.
+fn next_dir(number: u32) -> Dir {
+    Dir::new(number.wrapping_mul(20_507) % 32_768)
+}
+
+fn number_of(rank: Option<Rank>) -> u64 {
+    match rank {
+        Some(rank) => u64::from(rank.number()),
+        None => 64,
+    }
+}
+
+fn time_authority(rt: &HostRuntime, cluster: &Cluster) -> io::Result<()> {
+    let mut sum: u64 = 0;
+    let start = rt.thread_cpu_time()?;
+    for number in 0..READS {
+        sum = sum.wrapping_add(number_of(cluster.authority(next_dir(number))));
+    }
+    let time = nanos(start, rt.thread_cpu_time()?);
+    println!(rt; "authority events {READS} accepted {sum} nanos {time}")
+}
+
+fn time_serves(rt: &HostRuntime, cluster: &Cluster) -> io::Result<()> {
+    let mut sum: u64 = 0;
+    let rank = Rank::default();
+    let start = rt.thread_cpu_time()?;
+    for number in 0..READS {
+        if cluster.serves(rank, next_dir(number)) {
+            sum = sum.wrapping_add(1);
+        }
+    }
+    let time = nanos(start, rt.thread_cpu_time()?);
+    println!(rt; "serves events {READS} accepted {sum} nanos {time}")
+}
+
+fn time_named(rt: &HostRuntime, cluster: &Cluster) -> io::Result<()> {
+    let mut sum: u64 = 0;
+    let start = rt.thread_cpu_time()?;
+    for number in 0..READS {
+        sum = sum.wrapping_add(number_of(cluster.named(next_dir(number))));
+    }
+    let time = nanos(start, rt.thread_cpu_time()?);
+    println!(rt; "named events {READS} accepted {sum} nanos {time}")
+}
+
+/// Times the reads of the cluster after the mixed list.
+fn time_reads(rt: &HostRuntime) -> io::Result<()> {
+    let list = make_events(rt.alloc(), Kind::Mixed)?;
+    let mut cluster = prepared(rt.alloc(), &list.before)?;
+    for event in &list.timed {
+        let _ = cluster.apply(event.copied(rt.alloc())?);
+    }
+    time_authority(rt, &cluster)?;
+    time_serves(rt, &cluster)?;
+    time_named(rt, &cluster)
+}
+
+/// The least times of `can_apply` and of `apply`, of the same start. Each start is given up, so that the next is accepted.
+fn time_start(rt: &HostRuntime) -> io::Result<()> {
+    let list = make_events(rt.alloc(), Kind::Requests)?;
+    let mut cluster = prepared(rt.alloc(), &list.before)?;
+    let to = Rank::new(1).unwrap_or_default();
+    let mut least = (u128::MAX, u128::MAX);
+    let mut accepted: u64 = 0;
+    for number in 0..RUNS {
+        let dirs = all_dirs(rt.alloc(), false)?;
+        let event = Event::Start(Rank::default(), to, dirs);
+        let start = rt.thread_cpu_time()?;
+        let able = cluster.can_apply(&event);
+        let middle = rt.thread_cpu_time()?;
+        let answer = cluster.apply(event);
+        let end = rt.thread_cpu_time()?;
+        least.0 = nanos(start, middle).min(least.0);
+        least.1 = nanos(middle, end).min(least.1);
+        if able.is_ok() && answer.is_ok() {
+            accepted = accepted.wrapping_add(1);
+        }
+        let _ = cluster.apply(Event::Abort(number));
+    }
+    println!(rt; "can_apply events 1 accepted {accepted} nanos {}", least.0)?;
+    println!(rt; "apply events 1 accepted {accepted} nanos {}", least.1)
+}
+
+fn print_event(out: &mut impl Write, event: &Event) -> io::Result<()> {
+    match event {
+        Event::Made(parent) => writeln!(out, "made {}", parent.number()),
+        Event::Gone(dir) => writeln!(out, "gone {}", dir.number()),
+        Event::Begin(rank, dir) => writeln!(out, "begin {} {}", rank.number(), dir.number()),
+        Event::End(ticket) => writeln!(out, "end {ticket}"),
+        Event::Start(from, to, dirs) => {
+            write!(out, "start {} {}", from.number(), to.number())?;
+            for dir in dirs {
+                write!(out, " {}", dir.number())?;
+            }
+            writeln!(out)
+        }
+        Event::Deliver(message) => writeln!(out, "deliver {message}"),
+        Event::Froze(export) => writeln!(out, "froze {export}"),
+        Event::Notify(export) => writeln!(out, "notify {export}"),
+        Event::Abort(export) => writeln!(out, "abort {export}"),
+        Event::Stop(rank) => writeln!(out, "stop {}", rank.number()),
+        Event::Restart(rank) => writeln!(out, "restart {}", rank.number()),
+        Event::Ask(export) => writeln!(out, "ask {export}"),
+    }
+}
+
+fn print_list(rt: &HostRuntime, kind: Kind) -> io::Result<()> {
+    let list = make_events(rt.alloc(), kind)?;
+    let mut out = io::BufWriter::new(rt.alloc(), io::writer(rt))?;
+    for event in &list.before {
+        print_event(&mut out, event)?;
+    }
+    writeln!(out, "now")?;
+    for event in &list.timed {
+        print_event(&mut out, event)?;
+    }
+    out.flush()
+}
+
+/// Carries out what the words ask for.
+pub fn run(rt: &HostRuntime, words: &[String]) -> io::Result<()> {
+    let asked = words.first().map(|word| word.as_str());
+    let kind = words.get(1).and_then(|word| Kind::named(word.as_str()));
+    match (asked, kind) {
+        (Some("times"), Some(kind)) => time_list(rt, kind, true),
+        (Some("alone"), Some(kind)) => time_list(rt, kind, false),
+        (Some("reads"), _) => time_reads(rt),
+        (Some("start"), _) => time_start(rt),
+        (Some("events"), Some(kind)) => print_list(rt, kind),
+        _ => Ok(()),
+    }
+}

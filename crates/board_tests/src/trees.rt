@@ -1,0 +1,310 @@
+//! Trees: paths, names, the order of refusals, numbers that are never given again, and refused growths.
+ghost use Rattle.std.specs.Prelude.{◌≤◌};
+
+use dirtree::{Tree, TreeError, TreeRow};
+use mds_types::Dir;
+use std::alloc::Global;
+use std::process::Abort;
+use std::test::Fail;
+
+fn tree_with(alloc: Global, limit: u32, names: &[(u32, &str)]) -> Result<Tree, TreeError>
+    requires low { 1 ≤ limit }
+    requires high { limit ≤ 65536 }
+{
+    let mut tree = Tree::new(alloc, limit)?;
+    for (parent, name) in names {
+        tree.make(alloc, Dir::new(*parent), name, 1)?;
+    }
+    Ok(tree)
+}
+
+/// Numbers from 0: `/`, `/a`, `/a/b`, `/a/b/c`, `/a/d`, `/e`.
+const NAMES: [(u32, &str); 5] = [(0, "a"), (1, "b"), (2, "c"), (1, "d"), (0, "e")];
+
+#[test]
+fn finds_each_directory_by_its_path(rt: HostRuntime) -> Result<(), Fail> {
+    let tree = tree_with(rt.alloc(), 16, &NAMES)?;
+    assert_eq!(rt; tree.numbers(), 6);
+    assert_eq!(rt; tree.limit(), 16);
+    // (number, path)
+    let table = [
+        (0, "/"),
+        (1, "/a"),
+        (2, "/a/b"),
+        (3, "/a/b/c"),
+        (4, "/a/d"),
+        (5, "/e"),
+    ];
+    for (number, path) in table {
+        assert_eq!(rt; tree.find(path), Ok(Dir::new(number)), "{path}");
+        assert_eq!(rt; tree.path(rt.alloc(), Dir::new(number))?.as_str(), path);
+        assert!(rt; tree.contains(Dir::new(number)), "{path}");
+    }
+    assert!(rt; !tree.contains(Dir::new(6)));
+    Ok(())
+}
+
+#[test]
+fn the_first_component_that_fails_decides(rt: HostRuntime) -> Result<(), Fail> {
+    let tree = tree_with(rt.alloc(), 16, &NAMES)?;
+    // (path, refusal)
+    let table = [
+        ("", TreeError::BadName),
+        ("a", TreeError::BadName),
+        ("//", TreeError::BadName),
+        ("//a", TreeError::BadName),
+        ("/a/", TreeError::BadName),
+        ("/a//b", TreeError::BadName),
+        ("/a/..", TreeError::BadName),
+        ("/./a", TreeError::BadName),
+        ("/a b", TreeError::BadName),
+        ("/b", TreeError::NoDir),
+        ("/a/b/d", TreeError::NoDir),
+        ("/zz/..", TreeError::NoDir),
+        ("/../zz", TreeError::BadName),
+    ];
+    for (path, refusal) in table {
+        assert_eq!(rt; tree.find(path), Err(refusal), "{path}");
+    }
+    assert_eq!(rt;
+        tree.path(rt.alloc(), Dir::new(6)).err(),
+        Some(TreeError::NoDir)
+    );
+    Ok(())
+}
+
+#[test]
+fn refusals_print_their_number_and_name(rt: HostRuntime) -> Result<(), Fail> {
+    // (refusal, its text)
+    let table = [
+        (TreeError::Memory, "0 Memory"),
+        (TreeError::NoDir, "6 NoDir"),
+        (TreeError::Exists, "7 Exists"),
+        (TreeError::BadName, "8 BadName"),
+        (TreeError::NotEmpty, "9 NotEmpty"),
+        (TreeError::IsRoot, "10 IsRoot"),
+        (TreeError::TreeFull, "11 TreeFull"),
+    ];
+    for (refusal, text) in table {
+        assert_eq!(rt; refusal.text(), text);
+        assert_eq!(rt; format!(in rt.alloc(); "{refusal}")?.as_str(), text);
+    }
+    Ok(())
+}
+
+#[test]
+fn making_refuses_in_order(rt: HostRuntime) -> Result<(), Fail> {
+    let mut tree = tree_with(rt.alloc(), 3, &[(0, "a")])?;
+    // (parent, name, answer): a tree with two numbers of three given
+    let table = [
+        (9, "/", Err(TreeError::NoDir)),
+        (2, "a", Err(TreeError::NoDir)),
+        (0, "/", Err(TreeError::BadName)),
+        (0, "", Err(TreeError::BadName)),
+        (0, "a", Err(TreeError::Exists)),
+        (0, "b", Ok(Dir::new(2))),
+        (9, "/", Err(TreeError::NoDir)),
+        (0, "..", Err(TreeError::BadName)),
+        (0, "b", Err(TreeError::Exists)),
+        (0, "c", Err(TreeError::TreeFull)),
+    ];
+    for (parent, name, answer) in table {
+        let parent = Dir::new(parent);
+        assert_eq!(rt; tree.can_make(parent, name).err(), answer.err(), "{name}");
+        assert_eq!(rt; tree.make(rt.alloc(), parent, name, 1), answer, "{name}");
+    }
+    assert_eq!(rt; tree.numbers(), 3);
+    Ok(())
+}
+
+#[test]
+fn removing_refuses_in_order(rt: HostRuntime) -> Result<(), Fail> {
+    let mut tree = tree_with(rt.alloc(), 16, &NAMES)?;
+    // (directory, answer)
+    let table = [
+        (0, Err(TreeError::IsRoot)),
+        (6, Err(TreeError::NoDir)),
+        (1, Err(TreeError::NotEmpty)),
+        (2, Err(TreeError::NotEmpty)),
+        (3, Ok(())),
+        (3, Err(TreeError::NoDir)),
+        (2, Ok(())),
+        (1, Err(TreeError::NotEmpty)),
+        (4, Ok(())),
+        (1, Ok(())),
+        (5, Ok(())),
+        (0, Err(TreeError::IsRoot)),
+    ];
+    for (number, answer) in table {
+        assert_eq!(rt; tree.can_remove(Dir::new(number)), answer, "{number}");
+        assert_eq!(rt; tree.remove(Dir::new(number)), answer, "{number}");
+    }
+    assert_eq!(rt; tree.numbers(), 6);
+    Ok(())
+}
+
+#[test]
+fn numbers_are_never_given_again(rt: HostRuntime) -> Result<(), Fail> {
+    let mut tree = tree_with(rt.alloc(), 4, &[(0, "a")])?;
+    for number in [2, 3] {
+        assert_eq!(rt; tree.remove(Dir::new(number - 1)), Ok(()));
+        assert_eq!(rt; tree.find("/a"), Err(TreeError::NoDir));
+        assert_eq!(rt;
+            tree.make(rt.alloc(), Dir::ROOT, "a", 1),
+            Ok(Dir::new(number))
+        );
+        assert_eq!(rt; tree.find("/a"), Ok(Dir::new(number)));
+    }
+    assert_eq!(rt; tree.remove(Dir::new(3)), Ok(()));
+    assert_eq!(rt;
+        tree.make(rt.alloc(), Dir::ROOT, "a", 1),
+        Err(TreeError::TreeFull)
+    );
+    assert_eq!(rt; tree.numbers(), 4);
+    Ok(())
+}
+
+#[test]
+fn rows_leave_out_what_was_removed(rt: HostRuntime) -> Result<(), Fail> {
+    let mut tree = Tree::new(rt.alloc(), 16)?;
+    for (parent, name, inodes) in [(0, "a", 5), (1, "b", 7), (0, "c", 4294967295)] {
+        tree.make(rt.alloc(), Dir::new(parent), name, inodes)?;
+    }
+    tree.remove(Dir::new(2))?;
+    tree.make(rt.alloc(), Dir::new(3), "b", 0)?;
+    // (number, parent, inodes)
+    let table = [(0, 0, 1), (1, 0, 5), (3, 0, 4294967295), (4, 3, 0)];
+    let rows = tree.rows(rt.alloc())?;
+    assert_eq!(rt; rows.len(), table.len());
+    for (row, (number, parent, inodes)) in rows.iter().zip(table) {
+        let wanted = TreeRow {
+            dir: Dir::new(number),
+            parent: Dir::new(parent),
+            inodes,
+        };
+        assert_eq!(rt; *row, wanted);
+        assert_eq!(rt; tree.row(row.dir), Some(wanted));
+    }
+    assert_eq!(rt; tree.row(Dir::new(2)), None);
+    Ok(())
+}
+
+#[test]
+fn names_end_at_the_limits(rt: HostRuntime) -> Result<(), Fail> {
+    let mut longest = String::new(rt.alloc());
+    for _ in 0..255 {
+        longest.push_str("n")?;
+    }
+    let mut longer = String::from_str(rt.alloc(), longest.as_str())?;
+    longer.push_str("n")?;
+    // (text, whether it is a name)
+    let table = [
+        ("", false),
+        ("!", true),
+        ("~", true),
+        (" ", false),
+        ("\u{7f}", false),
+        ("\u{e9}", false),
+        ("a\tb", false),
+        ("a/b", false),
+        ("/", false),
+        (".", false),
+        ("..", false),
+        ("...", true),
+        (".a", true),
+        (longest.as_str(), true),
+        (longer.as_str(), false),
+    ];
+    for (text, named) in table {
+        assert_eq!(rt; dirtree::is_name(text), named, "{text}");
+    }
+    Ok(())
+}
+
+#[test]
+fn a_long_chain_is_found_by_its_path(rt: HostRuntime) -> Result<(), Fail> {
+    let mut tree = Tree::new(rt.alloc(), 65536)?;
+    let mut path = String::new(rt.alloc());
+    for parent in 0..3000 {
+        assert_eq!(rt;
+            tree.make(rt.alloc(), Dir::new(parent), "a", 1),
+            Ok(Dir::new(parent + 1))
+        );
+        path.push_str("/a")?;
+    }
+    assert_eq!(rt; tree.find(path.as_str()), Ok(Dir::new(3000)));
+    assert_eq!(rt;
+        tree.path(rt.alloc(), Dir::new(3000))?.as_str(),
+        path.as_str()
+    );
+    path.push_str("/a")?;
+    assert_eq!(rt; tree.find(path.as_str()), Err(TreeError::NoDir));
+    Ok(())
+}
+
+#[test]
+fn a_wide_star_is_found_name_by_name(rt: HostRuntime) -> Result<(), Fail> {
+    let mut tree = Tree::new(rt.alloc(), 65536)?;
+    for number in 1..3001 {
+        let name = format!(in rt.alloc(); "d{number}")?;
+        assert_eq!(rt;
+            tree.make(rt.alloc(), Dir::ROOT, name.as_str(), 1),
+            Ok(Dir::new(number))
+        );
+    }
+    for number in 1..3001 {
+        let path = format!(in rt.alloc(); "/d{number}")?;
+        assert_eq!(rt; tree.find(path.as_str()), Ok(Dir::new(number)));
+        assert_eq!(rt;
+            tree.path(rt.alloc(), Dir::new(number))?.as_str(),
+            path.as_str()
+        );
+    }
+    assert_eq!(rt; tree.find("/d3001"), Err(TreeError::NoDir));
+    Ok(())
+}
+
+/// Makes a directory below the root. Where a growth is refused nothing has changed, and the next call makes it.
+fn made_at_last(
+    rt: &impl Abort,
+    alloc: Global,
+    tree: &mut Tree,
+    name: &str,
+) -> Result<Dir, TreeError> {
+    let before = tree.numbers();
+    let first = tree.make(alloc, Dir::ROOT, name, 1);
+    if first != Err(TreeError::Memory) {
+        return first;
+    }
+    assert_eq!(rt; tree.numbers(), before, "{name}");
+    assert_eq!(rt; tree.can_make(Dir::ROOT, name), Ok(()), "{name}");
+    tree.make(alloc, Dir::ROOT, name, 1)
+}
+
+#[test]
+fn a_refused_growth_changes_nothing(rt: HostRuntime) -> Result<(), Fail> {
+    let mut tree = match Tree::new(rt.alloc(), 8) {
+        Ok(tree) => tree,
+        Err(_) => Tree::new(rt.alloc(), 8)?,
+    };
+    for (number, name) in [(1, "a"), (2, "b"), (3, "c"), (4, "d"), (5, "e")] {
+        assert_eq!(rt;
+            made_at_last(&rt, rt.alloc(), &mut tree, name),
+            Ok(Dir::new(number))
+        );
+    }
+    let rows = match tree.rows(rt.alloc()) {
+        Ok(rows) => rows,
+        Err(_) => tree.rows(rt.alloc())?,
+    };
+    assert_eq!(rt; rows.len(), 6);
+    let path = match tree.path(rt.alloc(), Dir::new(5)) {
+        Ok(path) => path,
+        Err(refusal) => {
+            assert_eq!(rt; refusal, TreeError::Memory);
+            tree.path(rt.alloc(), Dir::new(5))?
+        }
+    };
+    assert_eq!(rt; path.as_str(), "/e");
+    Ok(())
+}

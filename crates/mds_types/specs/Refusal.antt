@@ -1,0 +1,70 @@
+-- The numbered refusals, and the bytes that are printed for each.
+use Rattle.std.specs.Prelude.{ℕ, List, [], ◌∷◌, ◌++◌, codes, decimal}
+use Rattle.mds_types.specs.declared.refusal.Refusal.{Refusal}
+use Rattle.mds_types.specs.declared.refusal.Refusal.TheVariants as refusal
+use Rattle.mds_types.specs.declared.refusal.ExportStage.{ExportStage}
+use Rattle.mds_types.specs.declared.refusal.ExportStage.TheVariants as stage
+
+-- how far an export has come
+abbrev pub stage_word : ExportStage → List ℕ
+stage_word stage.Discovering = codes "discovering"
+stage_word stage.Freezing = codes "freezing"
+stage_word stage.Preparing = codes "preparing"
+stage_word stage.Exporting = codes "exporting"
+stage_word stage.Logged = codes "logged"
+stage_word stage.Done = codes "done"
+stage_word stage.Aborted = codes "aborted"
+
+-- the number and the name
+abbrev pub name : Refusal → List ℕ
+name refusal.Memory = codes "0 Memory"
+name refusal.BadMask = codes "1 BadMask"
+name (refusal.BadParent row) = codes "2 BadParent"
+name (refusal.TooHot row) = codes "3 TooHot"
+name refusal.TooMany = codes "4 TooMany"
+name refusal.NoRanks = codes "5 NoRanks"
+name refusal.NoDir = codes "6 NoDir"
+name refusal.Exists = codes "7 Exists"
+name refusal.BadName = codes "8 BadName"
+name refusal.NotEmpty = codes "9 NotEmpty"
+name refusal.IsRoot = codes "10 IsRoot"
+name refusal.TreeFull = codes "11 TreeFull"
+name refusal.NoRank = codes "12 NoRank"
+name refusal.ShareFull = codes "13 ShareFull"
+name (refusal.Missing weight) = codes "14 Missing"
+name refusal.TicksFull = codes "15 TicksFull"
+name (refusal.Heavy row) = codes "16 Heavy"
+name refusal.NoExport = codes "17 NoExport"
+name (refusal.Elsewhere rank) = codes "18 Elsewhere"
+name (refusal.Busy export) = codes "19 Busy"
+name (refusal.Frozen export) = codes "20 Frozen"
+name refusal.SameRank = codes "21 SameRank"
+name (refusal.NotYet requests) = codes "22 NotYet"
+name (refusal.Late stage) = codes "23 Late"
+name refusal.NoMessage = codes "24 NoMessage"
+name refusal.NoTicket = codes "25 NoTicket"
+name refusal.NotConnected = codes "26 NotConnected"
+name refusal.ExportsFull = codes "27 ExportsFull"
+name (refusal.Stopped rank) = codes "28 Stopped"
+name refusal.BalancerOff = codes "29 BalancerOff"
+name refusal.HistoryFull = codes "33 HistoryFull"
+name refusal.NoReader = codes "34 NoReader"
+name refusal.Pinned = codes "35 Pinned"
+
+-- the value behind it, where there is one
+abbrev pub value : Refusal → List ℕ
+value (refusal.BadParent row) = 32 ∷ decimal row
+value (refusal.TooHot row) = 32 ∷ decimal row
+value (refusal.Missing weight) = 32 ∷ decimal weight
+value (refusal.Heavy row) = 32 ∷ decimal row
+value (refusal.Elsewhere rank) = 32 ∷ decimal rank
+value (refusal.Busy export) = 32 ∷ decimal export
+value (refusal.Frozen export) = 32 ∷ decimal export
+value (refusal.NotYet requests) = 32 ∷ decimal requests
+value (refusal.Late stage) = 32 ∷ stage_word stage
+value (refusal.Stopped rank) = 32 ∷ decimal rank
+value _ = []
+
+-- what is printed
+abbrev pub words : Refusal → List ℕ
+words refusal = name refusal ++ value refusal
