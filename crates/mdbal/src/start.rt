@@ -83,3 +83,6 @@ fn explain<W: Write, E: Write>(error: &OptionsError, writer: &mut W, errors: &mu
     };
     status
 }
+
+#[cfg(test)]
+mod tests;

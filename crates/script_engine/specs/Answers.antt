@@ -1,4 +1,6 @@
 -- What is written for the lines of a script, one after another.
+use Rattle.mds_types.specs.Refusal.{name}
+use Rattle.mds_types.specs.declared.refusal.Refusal.TheVariants.{Memory}
 use Rattle.std.specs.Prelude.{◌≡◌, ℕ, ◌+◌, Bool, true, false, not, ◌&&◌, MatchBool, List, [], ◌∷◌, ◌++◌, ◌⊎◌, codes, decimal, if◌then◌else◌}
 
 -- what is written for a line, whether the line was accepted, and whether memory sufficed for it
@@ -13,7 +15,7 @@ fault_text number why = codes "line " ++ decimal number ++ codes ": " ++ why ++ 
 
 -- the answer to a line whose bytes or fields found no room
 abbrev pub no_room : ℕ → Answer
-no_room number = record { text = fault_text number (codes "refused 0 Memory"); accepted = false; ample = false }
+no_room number = record { text = fault_text number (codes "refused " ++ name Memory); accepted = false; ample = false }
 
 abbrev pub text_of : List Answer → List ℕ
 text_of [] = []

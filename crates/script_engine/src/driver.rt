@@ -14,7 +14,7 @@ use thiserror::Error;
 #[derive(Clone, Copy, Debug, PartialEq, Eq, Hash, Error)]
 pub enum RunError {
     /// There was no memory to begin with. No device was touched.
-    #[error("0 Memory")]
+    #[error("no memory to begin with")]
     Memory,
     /// A read failed, or reads came to no end.
     #[error("read failed")]

@@ -17,4 +17,4 @@ pub use driver::{RunError, run_script};
 pub use input::{Input, ReadFailed};
 pub use interpreter::Interpreter;
 pub use output::Output;
-pub use writes::{WriteFailed, write_fault, write_whole};
+pub use writes::{WriteFailed, write_fault, write_refusal, write_whole};

@@ -6,7 +6,8 @@ ghost use Rattle.script_engine.specs.Answers.{Answer, Takes};
 ghost use Rattle.script_engine.specs.Progress.{Holds, Stands, Broken, Ends, Cut};
 
 use crate::interpreter::Interpreter;
-use crate::writes::{WriteFailed, write_fault};
+use crate::writes::{WriteFailed, write_refusal};
+use mds_types::Refusal;
 use std::alloc::Global;
 use std::io::Write;
 
@@ -38,7 +39,7 @@ impl Progress {
         if self.has_room {
             interpreter.answer(alloc, self.number, &self.line, writer)
         } else {
-            write_fault(writer, self.number, "refused 0 Memory")?;
+            write_refusal(writer, self.number, Refusal::Memory.text())?;
             Ok(false)
         }
     }

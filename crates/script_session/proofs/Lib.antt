@@ -8,3 +8,4 @@ pub mod ScriptLemmas
 pub mod ServeLemmas
 pub mod SessionLemmas
 pub mod SlashLemmas
+pub mod VisibleLemmas

@@ -8,3 +8,4 @@ pub mod Reply
 pub mod Script
 pub mod Session
 pub mod Stat
+pub mod Visible
