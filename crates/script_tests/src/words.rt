@@ -1,6 +1,6 @@
 //! Command lines and what they come to.
 
-use crate::{OptionsError, Settings, options};
+use command_line::{OptionsError, Settings, options};
 use std::test::Fail;
 
 // (words after the program's name, limit, strict)
@@ -25,7 +25,7 @@ fn reads_settings(rt: HostRuntime) -> Result<(), Fail> {
 
 #[test]
 fn refuses_other_lines(rt: HostRuntime) -> Result<(), Fail> {
-    let table: [&[&str]; 11] = [
+    let table: [&[&str]; 10] = [
         &["mdbal", "--limit", "0"],
         &["mdbal", "--limit", "65537"],
         &["mdbal", "--limit", "4294967297"],
@@ -35,7 +35,6 @@ fn refuses_other_lines(rt: HostRuntime) -> Result<(), Fail> {
         &["mdbal", "--limit", "2", "--limit", "2"],
         &["mdbal", "--strict", "--strict"],
         &["mdbal", "--strict=yes"],
-        &["mdbal", "--version"],
         &["mdbal", "script"],
     ];
     for words in table {
@@ -68,6 +67,22 @@ fn tells_help_apart(rt: HostRuntime) -> Result<(), Fail> {
                 assert!(rt; text.contains("--strict"), "{words:?}");
             }
             Ok(settings) => assert!(rt; false, "{words:?} gave {settings:?}"),
+        }
+    }
+    Ok(())
+}
+
+#[test]
+fn tells_the_version_apart(rt: HostRuntime) -> Result<(), Fail> {
+    let table: [&[&str]; 2] = [&["mdbal", "--version"], &["mdbal", "-V"]];
+    for words in table {
+        match options(rt.alloc(), words) {
+            Err(OptionsError::Version(error)) => {
+                let text = format!(in rt.alloc(); "{error}")?;
+                assert_eq!(rt; text.as_str(), "mdbal 0.1.0\n", "{words:?}");
+                assert_eq!(rt; OptionsError::Version(error).status(), 0, "{words:?}");
+            }
+            other => assert!(rt; false, "{words:?} gave {other:?}"),
         }
     }
     Ok(())

@@ -1,8 +1,10 @@
-//! Scripts over devices that give and take a few bytes at a time, and that fail.
-use super::{RunError, run_script};
-use crate::interpreter::Interpreter;
-use crate::writes::{WriteFailed, write_fault, write_whole};
+//! Lines of a script over devices that give and take a few bytes at a time, and that fail.
+use crate::devices::{ENOUGH, Sink, Source, sink_of, source_of};
+use script_engine::{
+    Input, Interpreter, RunError, WriteFailed, run_script, write_fault, write_whole,
+};
 use std::alloc::Global;
+use std::cell::Cell;
 use std::io;
 use std::io::{Read, Write};
 use std::test::Fail;
@@ -13,6 +15,8 @@ struct Echo;
 
 impl Interpreter for Echo {
     ghost answers = { λ _ _ _ _ _. Unit {0} };
+
+    ghost ready = { Unit {0} };
 
     fn answer<W: Write>(
         &mut self,
@@ -31,67 +35,15 @@ impl Interpreter for Echo {
     }
 }
 
-/// Gives at most `step` bytes at a read, and fails after so many reads.
-#[derive(Drop)]
-struct Source<'a> {
-    rest: &'a [u8],
-    step: usize,
-    reads: usize,
-}
-
-impl Read for Source<'_> {
-    fn read(&mut self, buf: &mut [u8]) -> io::Result<usize> {
-        if self.reads == 0 {
-            return Err(io::Error::from(io::ErrorKind::BrokenPipe));
-        }
-        self.reads -= 1;
-        let count = self.step.min(self.rest.len()).min(buf.len());
-        buf[..count].copy_from_slice(&self.rest[..count]);
-        self.rest = &self.rest[count..];
-        Ok(count)
-    }
-}
-
-/// Takes at most `step` bytes at a write, and fails after so many writes.
-#[derive(Drop)]
-struct Sink {
-    bytes: Vec<u8>,
-    step: usize,
-    writes: usize,
-}
-
-impl Write for Sink {
-    fn write(&mut self, buf: &[u8]) -> io::Result<usize> {
-        if self.writes == 0 {
-            return Err(io::Error::from(io::ErrorKind::BrokenPipe));
-        }
-        self.writes -= 1;
-        let count = self.step.min(buf.len());
-        self.bytes.extend_from_slice(&buf[..count])?;
-        Ok(count)
-    }
-
-    fn flush(&mut self) -> io::Result<()> {
-        Ok(())
-    }
-}
-
-const ENOUGH: usize = 1_000_000;
-
-fn source_of(script: &[u8], step: usize) -> Source<'_> {
-    Source {
-        rest: script,
-        step,
-        reads: ENOUGH,
-    }
-}
-
-fn sink_of(alloc: Global, step: usize) -> Sink {
-    Sink {
-        bytes: Vec::new(alloc),
-        step,
-        writes: ENOUGH,
-    }
+// What a run answers.
+fn repeated(
+    alloc: Global,
+    source: Source<'_>,
+    sink: &mut Sink,
+    strict: bool,
+) -> Result<bool, RunError> {
+    let mut input = Input::new(source);
+    run_script(alloc, &mut Echo, &mut input, sink, strict)
 }
 
 #[test]
@@ -112,9 +64,9 @@ fn answers_each_line(rt: HostRuntime) -> Result<(), Fail> {
     ];
     for (script, strict, accepted, text) in table {
         for step in [1, 2, 7, 4096] {
-            let mut source = source_of(script.as_bytes(), step);
             let mut sink = sink_of(rt.alloc(), step);
-            let result = run_script(rt.alloc(), &mut Echo, &mut source, &mut sink, strict);
+            let source = source_of(script.as_bytes(), step);
+            let result = repeated(rt.alloc(), source, &mut sink, strict);
             assert_eq!(rt; result, Ok(accepted), "{script} by {step}");
             assert!(rt;
                 sink.bytes.as_slice() == text.as_bytes(),
@@ -129,9 +81,8 @@ fn answers_each_line(rt: HostRuntime) -> Result<(), Fail> {
 fn answers_a_long_line(rt: HostRuntime) -> Result<(), Fail> {
     let mut script = vec![in rt.alloc(); b'x'; 100_000]?;
     script.extend_from_slice(b"\n!\nz\n")?;
-    let mut source = source_of(&script, ENOUGH);
     let mut sink = sink_of(rt.alloc(), ENOUGH);
-    let result = run_script(rt.alloc(), &mut Echo, &mut source, &mut sink, false);
+    let result = repeated(rt.alloc(), source_of(&script, ENOUGH), &mut sink, false);
     assert_eq!(rt; result, Ok(false));
     assert!(rt; sink.bytes.get(..100_001) == script.get(..100_001));
     assert!(rt; sink.bytes.get(100_001..) == Some(b"line 2: bad\nz\n".as_slice()));
@@ -152,7 +103,7 @@ fn ends_at_a_failed_read(rt: HostRuntime) -> Result<(), Fail> {
         let mut source = source_of(b"a\nbc\n!\nd", 2);
         source.reads = reads;
         let mut sink = sink_of(rt.alloc(), ENOUGH);
-        let result = run_script(rt.alloc(), &mut Echo, &mut source, &mut sink, false);
+        let result = repeated(rt.alloc(), source, &mut sink, false);
         assert_eq!(rt; result, Err(RunError::Read), "after {reads}");
         assert!(rt; sink.bytes.as_slice() == text.as_bytes(), "after {reads}");
     }
@@ -167,10 +118,10 @@ fn ends_at_a_failed_read(rt: HostRuntime) -> Result<(), Fail> {
 fn ends_at_a_failed_write(rt: HostRuntime) -> Result<(), Fail> {
     let text = b"a\nline 2: bad\n\nz\n".as_slice();
     for (writes, _) in text.iter().enumerate() {
-        let mut source = source_of(b"a\n!\n\nz", 3);
+        let source = source_of(b"a\n!\n\nz", 3);
         let mut sink = sink_of(rt.alloc(), 1);
         sink.writes = writes;
-        let result = run_script(rt.alloc(), &mut Echo, &mut source, &mut sink, false);
+        let result = repeated(rt.alloc(), source, &mut sink, false);
         assert_eq!(rt; result, Err(RunError::Write), "after {writes}");
         assert!(rt;
             text.get(..writes) == Some(sink.bytes.as_slice()),
@@ -186,14 +137,71 @@ fn ends_at_a_failed_write(rt: HostRuntime) -> Result<(), Fail> {
 
 #[test]
 fn fails_where_a_write_takes_nothing(rt: HostRuntime) -> Result<(), Fail> {
-    let mut source = source_of(b"a\n", 2);
     let mut sink = sink_of(rt.alloc(), 0);
-    let result = run_script(rt.alloc(), &mut Echo, &mut source, &mut sink, false);
+    let result = repeated(rt.alloc(), source_of(b"a\n", 2), &mut sink, false);
     assert_eq!(rt; result, Err(RunError::Write));
     assert!(rt; sink.bytes.is_empty());
     assert_eq!(rt; write_whole(&mut sink, b"a"), Err(WriteFailed));
     assert_eq!(rt; write_whole(&mut sink, b""), Ok(()));
     assert_eq!(rt; write_fault(&mut sink, 1, "bad"), Err(WriteFailed));
     assert_eq!(rt; WriteFailed.to_string(rt.alloc())?.as_str(), "write failed");
+    Ok(())
+}
+
+/// Gives two bytes at a read, and notes how many bytes were written before each of the first reads.
+#[derive(Drop)]
+struct Watcher<'a> {
+    rest: &'a [u8],
+    written: &'a Cell<usize>,
+    noted: Vec<usize>,
+}
+
+impl Read for Watcher<'_> {
+    fn read(&mut self, buf: &mut [u8]) -> io::Result<usize> {
+        self.noted.push(self.written.get())?;
+        let count = self.rest.len().min(buf.len()).min(2);
+        buf[..count].copy_from_slice(&self.rest[..count]);
+        self.rest = &self.rest[count..];
+        Ok(count)
+    }
+}
+
+/// Counts the bytes that it takes.
+#[derive(Drop)]
+struct Counter<'a> {
+    written: &'a Cell<usize>,
+}
+
+impl Write for Counter<'_> {
+    fn write(&mut self, buf: &[u8]) -> io::Result<usize> {
+        self.written
+            .set(self.written.get().saturating_add(buf.len()));
+        Ok(buf.len())
+    }
+
+    fn flush(&mut self) -> io::Result<()> {
+        Ok(())
+    }
+}
+
+// How many bytes were written before each read.
+fn written_before_reads(alloc: Global, script: &[u8]) -> Vec<usize> {
+    let written = Cell::new(0);
+    let mut counter = Counter { written: &written };
+    let mut input = Input::new(Watcher {
+        rest: script,
+        written: &written,
+        noted: Vec::new(alloc),
+    });
+    let _result = run_script(alloc, &mut Echo, &mut input, &mut counter, false);
+    input.into_inner().noted
+}
+
+// Each answer stands written before the next piece is read.
+#[test]
+fn answers_before_it_reads_on(rt: HostRuntime) -> Result<(), Fail> {
+    let noted = written_before_reads(rt.alloc(), b"a\nbc\n!\nd");
+    let wanted: [usize; 5] = [0, 2, 2, 5, 17];
+    assert!(rt; noted.as_slice() == wanted.as_slice(), "{noted:?}");
     Ok(())
 }

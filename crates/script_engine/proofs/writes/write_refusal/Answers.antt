@@ -2,7 +2,7 @@ use Rattle.std.proofs.Common.{◌≡◌, List, ℕ, ◌∷◌, [], ◌++◌, ◌
 use Rattle.std.specs.Prelude.{codes, decimal}
 use Rattle.std.proofs.lemmas.Result.{err_from_is_err_and, on_err_weaker}
 use Rattle.script_engine.proofs.KnownLemmas.{fails_1, fails_2, fails_3, fails_4, fails_5}
-use Rattle.script_session.proofs.report.write_refusal.Goals as goal
+use Rattle.script_engine.proofs.writes.write_refusal.Goals as goal
 
 regrouped : (a n b r w z : List ℕ) → a ++ n ++ (b ++ r) ++ w ++ z ≡ a ++ n ++ b ++ (r ++ w) ++ z
 regrouped a n b r w z = simp append_assoc

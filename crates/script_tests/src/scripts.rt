@@ -1,72 +1,52 @@
 //! Scripts with their answers, over devices that give and take a few bytes at a time, and that fail.
-use super::run;
-use script_engine::RunError;
+use crate::devices::{ENOUGH, Sink, Source, sink_of, source_of};
+use script_engine::{Input, RunError};
+use script_session::run;
 use std::alloc::Global;
-use std::io;
-use std::io::{Read, Write};
+use std::sync::Wait;
 use std::test::Fail;
+use std::thread::Threads;
 
-/// Gives at most `step` bytes at a read, and fails after so many reads.
-#[derive(Drop)]
-struct Source<'a> {
-    rest: &'a [u8],
+// What a run answers, and how many reads it left to its source.
+fn carried_out<T: Threads + Wait>(
+    rt: &T,
+    alloc: Global,
+    source: Source<'_>,
+    sink: &mut Sink,
+    limit: u32,
+    strict: bool,
+) -> (Result<bool, RunError>, usize)
+    requires some { 1 ≤ limit }
+    requires few { limit ≤ 65536 }
+{
+    let mut input = Input::new(source);
+    let result = run(rt, alloc, &mut input, sink, limit, strict);
+    (result, input.into_inner().reads)
+}
+
+// Whether a run over the whole script ends so, and writes this text.
+fn answers_so<T: Threads + Wait>(
+    rt: &T,
+    alloc: Global,
+    script: &str,
     step: usize,
-    reads: usize,
-}
-
-impl Read for Source<'_> {
-    fn read(&mut self, buf: &mut [u8]) -> io::Result<usize> {
-        if self.reads == 0 {
-            return Err(io::Error::from(io::ErrorKind::BrokenPipe));
-        }
-        self.reads -= 1;
-        let count = self.step.min(self.rest.len()).min(buf.len());
-        buf[..count].copy_from_slice(&self.rest[..count]);
-        self.rest = &self.rest[count..];
-        Ok(count)
-    }
-}
-
-/// Takes at most `step` bytes at a write, and fails after so many writes.
-#[derive(Drop)]
-struct Sink {
-    bytes: Vec<u8>,
-    step: usize,
-    writes: usize,
-}
-
-impl Write for Sink {
-    fn write(&mut self, buf: &[u8]) -> io::Result<usize> {
-        if self.writes == 0 {
-            return Err(io::Error::from(io::ErrorKind::BrokenPipe));
-        }
-        self.writes -= 1;
-        let count = self.step.min(buf.len());
-        self.bytes.extend_from_slice(&buf[..count])?;
-        Ok(count)
-    }
-
-    fn flush(&mut self) -> io::Result<()> {
-        Ok(())
-    }
-}
-
-const ENOUGH: usize = 1_000_000;
-
-fn source_of(script: &str, step: usize) -> Source<'_> {
-    Source {
-        rest: script.as_bytes(),
-        step,
-        reads: ENOUGH,
-    }
-}
-
-fn sink_of(alloc: Global, step: usize) -> Sink {
-    Sink {
-        bytes: Vec::new(alloc),
-        step,
-        writes: ENOUGH,
-    }
+    limit: u32,
+    accepted: bool,
+    text: &str,
+) -> bool
+    requires some { 1 ≤ limit }
+    requires few { limit ≤ 65536 }
+{
+    let mut sink = sink_of(alloc, step);
+    let (result, _reads) = carried_out(
+        rt,
+        alloc,
+        source_of(script.as_bytes(), step),
+        &mut sink,
+        limit,
+        false,
+    );
+    result == Ok(accepted) && sink.bytes.as_slice() == text.as_bytes()
 }
 
 const TWO_PARTS: &str = "ranks 1\ndir /a 10\ndir /b 20\nload /a 4\nload /b 6\ngo\ncost /b\ncost\n";
@@ -144,14 +124,8 @@ fn answers_scripts(rt: HostRuntime) -> Result<(), Fail> {
     ];
     for (script, accepted, text) in table {
         for step in [1, 7, 4096] {
-            let mut source = source_of(script, step);
-            let mut sink = sink_of(rt.alloc(), step);
-            let result = run(&rt, rt.alloc(), &mut source, &mut sink, 4, false);
-            assert_eq!(rt; result, Ok(accepted), "{script} by {step}");
-            assert!(rt;
-                sink.bytes.as_slice() == text.as_bytes(),
-                "{script} by {step}"
-            );
+            let is_as_said = answers_so(&rt, rt.alloc(), script, step, 4, accepted, text);
+            assert!(rt; is_as_said, "{script} by {step}");
         }
     }
     Ok(())
@@ -182,11 +156,8 @@ const PLANS: [(&str, &str); 5] = [
 fn plans(rt: HostRuntime) -> Result<(), Fail> {
     for (script, text) in PLANS {
         let whole = format!(in rt.alloc(); "ranks 2\nmask 0x3\n{script}plan\n")?;
-        let mut source = source_of(&whole, 5);
-        let mut sink = sink_of(rt.alloc(), 3);
-        let result = run(&rt, rt.alloc(), &mut source, &mut sink, 65536, false);
-        assert_eq!(rt; result, Ok(true), "{whole}");
-        assert!(rt; sink.bytes.as_slice() == text.as_bytes(), "{whole}");
+        let is_as_said = answers_so(&rt, rt.alloc(), &whole, 5, 65536, true, text);
+        assert!(rt; is_as_said, "{whole}");
     }
     Ok(())
 }
@@ -218,52 +189,79 @@ fn plans_for_usable_ranks_alone(rt: HostRuntime) -> Result<(), Fail> {
         ),
     ];
     for (script, accepted, text) in table {
-        let mut source = source_of(script, ENOUGH);
-        let mut sink = sink_of(rt.alloc(), ENOUGH);
-        let result = run(&rt, rt.alloc(), &mut source, &mut sink, 65536, false);
-        assert_eq!(rt; result, Ok(accepted), "{script}");
-        assert!(rt; sink.bytes.as_slice() == text.as_bytes(), "{script}");
+        let is_as_said = answers_so(&rt, rt.alloc(), script, ENOUGH, 65536, accepted, text);
+        assert!(rt; is_as_said, "{script}");
     }
     Ok(())
 }
 
+// Behind the read in which the faulty line ends a strict run reads nothing.
 #[test]
 fn a_strict_run_ends_at_the_first_fault(rt: HostRuntime) -> Result<(), Fail> {
-    let mut source = source_of("ranks 1\nload /a\nranks 1\ncost\n", 3);
+    let script = "ranks 1\nload /a\nranks 1\ncost\n";
     let mut sink = sink_of(rt.alloc(), ENOUGH);
-    let result = run(&rt, rt.alloc(), &mut source, &mut sink, 65536, true);
+    let source = source_of(script.as_bytes(), 3);
+    let (result, left) = carried_out(&rt, rt.alloc(), source, &mut sink, 65536, true);
     assert_eq!(rt; result, Ok(false));
     assert!(rt; sink.bytes.as_slice() == b"line 2: syntax\n".as_slice());
+    assert_eq!(rt; ENOUGH - left, 6);
     Ok(())
+}
+
+// The answers to whole lines stand written before the next read is asked for, of which each fails here in turn.
+fn stops_at_read<T: Threads + Wait>(rt: &T, alloc: Global, reads: usize) -> bool {
+    let mut source = source_of(TWO_PARTS.as_bytes(), 7);
+    source.reads = reads;
+    let mut sink = sink_of(alloc, ENOUGH);
+    let (result, _left) = carried_out(rt, alloc, source, &mut sink, 65536, false);
+    result == Err(RunError::Read) && TWO_PARTS_COST.as_bytes().starts_with(&sink.bytes)
 }
 
 #[test]
 fn each_failed_read_ends_a_run(rt: HostRuntime) -> Result<(), Fail> {
     for reads in 0..11usize {
-        let mut source = source_of(TWO_PARTS, 7);
-        source.reads = reads;
-        let mut sink = sink_of(rt.alloc(), ENOUGH);
-        let result = run(&rt, rt.alloc(), &mut source, &mut sink, 65536, false);
-        assert_eq!(rt; result, Err(RunError::Read), "after {reads}");
-        assert!(rt;
-            TWO_PARTS_COST.as_bytes().starts_with(&sink.bytes),
-            "after {reads}"
-        );
+        let is_as_said = stops_at_read(&rt, rt.alloc(), reads);
+        assert!(rt; is_as_said, "after {reads}");
     }
     Ok(())
+}
+
+fn stops_at_write<T: Threads + Wait>(rt: &T, alloc: Global, writes: usize) -> bool {
+    let mut sink = sink_of(alloc, 1);
+    sink.writes = writes;
+    let source = source_of(TWO_PARTS.as_bytes(), ENOUGH);
+    let (result, _left) = carried_out(rt, alloc, source, &mut sink, 65536, false);
+    result == Err(RunError::Write)
+        && TWO_PARTS_COST.as_bytes().get(..writes) == Some(sink.bytes.as_slice())
 }
 
 #[test]
 fn each_failed_write_ends_a_run(rt: HostRuntime) -> Result<(), Fail> {
     for (writes, _) in TWO_PARTS_COST.as_bytes().iter().enumerate() {
-        let mut source = source_of(TWO_PARTS, ENOUGH);
-        let mut sink = sink_of(rt.alloc(), 1);
-        sink.writes = writes;
-        let result = run(&rt, rt.alloc(), &mut source, &mut sink, 65536, false);
-        assert_eq!(rt; result, Err(RunError::Write), "after {writes}");
+        let is_as_said = stops_at_write(&rt, rt.alloc(), writes);
+        assert!(rt; is_as_said, "after {writes}");
+    }
+    Ok(())
+}
+
+// With `rt try --test --fail-alloc N`, the N-th growth is refused: one answer at most says so, and a `ranks` that was
+// refused is accepted when it is tried again.
+#[test]
+fn a_refused_ranks_is_tried_again(rt: HostRuntime) -> Result<(), Fail> {
+    let mut sink = sink_of(rt.alloc(), ENOUGH);
+    let source = source_of(b"ranks 1\nranks 1\nstat\n", ENOUGH);
+    let (result, _left) = carried_out(&rt, rt.alloc(), source, &mut sink, 4, false);
+    let text = str::from_utf8(&sink.bytes).unwrap_or("");
+    let says = text.matches("refused 0 Memory").count();
+    assert!(rt; says <= 1, "{text}");
+    assert!(rt;
+        result == Ok(false) || (result == Err(RunError::Memory) && text.is_empty()),
+        "{text}"
+    );
+    if text.starts_with("line 1: refused 0 Memory\n") {
         assert!(rt;
-            TWO_PARTS_COST.as_bytes().get(..writes) == Some(sink.bytes.as_slice()),
-            "after {writes}"
+            text.contains("stat ranks 1") && !text.contains("line 2:"),
+            "{text}"
         );
     }
     Ok(())
