@@ -1,4 +1,6 @@
 //! Scripts with their answers, over devices that give and take a few bytes at a time, and that fail.
+ghost use Rattle.std.specs.Prelude.{◌≤◌};
+
 use crate::devices::{ENOUGH, Sink, Source, sink_of, source_of};
 use script_engine::{Input, RunError};
 use script_session::run;
