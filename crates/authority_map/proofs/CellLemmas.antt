@@ -1,11 +1,11 @@
--- The cells follow the operations.
-use Rattle.std.proofs.Common.{◌≡◌, ℕ, add-one, ◌+◌, ◌-◌, ◌<◌, ◌≤◌, ◌≢◌, Bool, true, false, ◌==◌, if◌then◌else◌, List, [], ◌∷◌, ◌++◌, length, get_or, take, append-nil, drop, set, replicate, refl, sym, ap, ◌∙◌, arith, Option, Some, None, slice_index}
-use Rattle.std.proofs.lemmas.Grind.{common_steps}
+-- The runs' cells follow the operations.
+use Rattle.std.proofs.Common.{◌≡◌, ℕ, zero, suc, ◌+◌, ◌-◌, ◌<◌, ◌≤◌, ◌≢◌, Bool, true, false, ◌==◌, if◌then◌else◌, List, [], ◌∷◌, ◌++◌, length, get_or, refl, sym, ap, ◌∙◌, arith, Option, Some, None, All}
 use Rattle.std.proofs.lemmas.List.Sums.{fold-append}
-use Rattle.std.proofs.lemmas.List.{drop_all, take_all}
-use Rattle.std.proofs.Math.Seq.{drop-cons}
+use Rattle.std.proofs.lemmas.Bool.Decides.{nat_tests}
 use Rattle.authority_map.specs.Operations.{Operation, SetTo, Clear, names, entry_after, rank_after}
+use Rattle.authority_map.specs.Runs.{IsIn, AreRuns, HasCells}
 use Rattle.authority_map.specs.Cells.{AreCells, cell_of}
+use Rattle.authority_map.proofs.RunLemmas.{same_cells}
 
 pub rank_after-snoc : (xs : List Operation) (x : Operation) (dir : ℕ) → rank_after (xs ++ x ∷ []) dir ≡ entry_after dir (rank_after xs dir) x
 unfolding rank_after
@@ -15,15 +15,6 @@ pub rank_after-none : (dir : ℕ) → rank_after [] dir ≡ None
 unfolding rank_after
 rank_after-none dir = refl
 
--- one more cell is written: what the others get stays
-written : (cells rest : List ℕ) (x value dir : ℕ) → x < length cells
-    → (if names rest dir then value else get_or (set cells x value) dir 0) ≡ (if names (x ∷ rest) dir then value else get_or cells dir 0)
-written cells rest x value dir within = grind (arith, common_steps)
-
-pub written_at : (cells dirs : List ℕ) (i value dir : ℕ) → i < length dirs → get_or dirs i 0 < length cells
-    → (if names (drop (i + 1) dirs) dir then value else get_or (set cells (get_or dirs i 0) value) dir 0) ≡ (if names (drop i dirs) dir then value else get_or cells dir 0)
-written_at cells dirs i value dir here within = let cut : drop i dirs ≡ get_or dirs i 0 ∷ drop (i + 1) dirs = rw add-one (drop-cons dirs i 0 here) in rw cut (written cells (drop (i + 1) dirs) (get_or dirs i 0) value dir within)
-
 cell_of_if : (b : Bool) (rank : ℕ) (entry : Option ℕ) → cell_of (if b then Some rank else entry) ≡ (if b then rank + 1 else cell_of entry)
 cell_of_if true rank entry = refl
 cell_of_if false rank entry = refl
@@ -32,30 +23,48 @@ cell_of_clear : (b : Bool) (entry : Option ℕ) → cell_of (if b then None else
 cell_of_clear true entry = refl
 cell_of_clear false entry = refl
 
-small_if : (b : Bool) (x y : ℕ) → x ≤ 64 → y ≤ 64 → (if b then x else y) ≤ 64
-small_if true x y p q = p
-small_if false x y p q = q
+differs : (d e : ℕ) → d ≢ e → (d == e) ≡ false
+differs d e n = grind (arith, nat_tests)
 
-pub cells_set : (cells new dirs : List ℕ) (rank : ℕ) (ops : List Operation) → rank < 64 → AreCells cells ops
-    → ((dir : ℕ) → slice_index new dir ≡ (if names dirs dir then rank + 1 else slice_index cells dir)) → AreCells new (ops ++ SetTo dirs rank ∷ [])
-cells_set cells new dirs rank ops low old is = record {
-  each = λ dir. let tail = old.each dir in is dir ∙ ap (λ (k : ℕ). (if names dirs dir then rank + 1 else k)) tail ∙ sym (cell_of_if (names dirs dir) rank (rank_after ops dir)) ∙ sym (ap cell_of (rank_after-snoc ops (SetTo dirs rank) dir));
-  small = λ dir. rw is (small_if (names dirs dir) (rank + 1) (slice_index cells dir) (omega arith) (old.small dir));
+turned : (d e : ℕ) → (d == e) ≡ (e == d)
+turned d e = grind (arith, nat_tests)
+
+-- a directory past the limit isn't named
+not_named : (dirs : List ℕ) (limit dir : ℕ) → All (λ d. d < limit) dirs → limit ≤ dir → names dirs dir ≡ false
+not_named [] limit dir below past = refl
+not_named (d ∷ ds) limit dir below past =
+    let n : (d == dir) ≡ false = differs d dir (λ e. absurd (omega (arith, below 0 0 (omega arith)))) in
+    let rest : names ds dir ≡ false = not_named ds limit dir (λ k e less. below (suc k) e (omega arith)) past in
+    rw n rest
+
+pub cells_set : (limit : ℕ) (starts cells dirs : List ℕ) (rank : ℕ) (ops : List Operation) → AreRuns limit starts cells → All (λ d. d < limit) dirs
+    → HasCells limit starts cells (λ d. if names dirs d then rank + 1 else cell_of (rank_after ops d)) 0 0 → ((d : ℕ) → limit ≤ d → rank_after ops d ≡ None) → AreCells limit starts cells (ops ++ SetTo dirs rank ∷ [])
+cells_set limit starts cells dirs rank ops runs below new past = record {
+  shape = runs;
+  held = same_cells limit starts cells (λ d. if names dirs d then rank + 1 else cell_of (rank_after ops d)) (λ d. cell_of (rank_after (ops ++ SetTo dirs rank ∷ []) d)) 0 0 new
+      (λ d. sym (ap cell_of (rank_after-snoc ops (SetTo dirs rank) d) ∙ cell_of_if (names dirs d) rank (rank_after ops d)));
+  past = λ d h. rank_after-snoc ops (SetTo dirs rank) d ∙ ap (λ (b : Bool). (if b then Some rank else rank_after ops d)) (not_named dirs limit d below h) ∙ past d h;
 }
 
-cleared : (cells : List ℕ) (d dir : ℕ) → d < length cells → get_or (set cells d 0) dir 0 ≡ (if d == dir then 0 else get_or cells dir 0)
-cleared cells d dir within = grind (arith, common_steps)
-
-pub cells_clear : (cells : List ℕ) (d : ℕ) (ops : List Operation) → d < length cells → AreCells cells ops → AreCells (set cells d 0) (ops ++ Clear d ∷ [])
-cells_clear cells d ops within old = record {
-  each = λ dir. cleared cells d dir within ∙ ap (λ (k : ℕ). (if d == dir then 0 else k)) (old.each dir) ∙ sym (cell_of_clear (d == dir) (rank_after ops dir)) ∙ sym (ap cell_of (rank_after-snoc ops (Clear d) dir));
-  small = λ dir. rw (cleared cells d dir within) (small_if (d == dir) 0 (get_or cells dir 0) (omega arith) (old.small dir));
+pub cells_clear : (limit : ℕ) (starts cells : List ℕ) (dir : ℕ) (ops : List Operation) → AreRuns limit starts cells → dir < limit
+    → HasCells limit starts cells (λ d. if d == dir then 0 else cell_of (rank_after ops d)) 0 0 → ((d : ℕ) → limit ≤ d → rank_after ops d ≡ None) → AreCells limit starts cells (ops ++ Clear dir ∷ [])
+cells_clear limit starts cells dir ops runs inside new past = record {
+  shape = runs;
+  held = same_cells limit starts cells (λ d. if d == dir then 0 else cell_of (rank_after ops d)) (λ d. cell_of (rank_after (ops ++ Clear dir ∷ []) d)) 0 0 new
+      (λ d. sym (ap cell_of (rank_after-snoc ops (Clear dir) d) ∙ cell_of_clear (dir == d) (rank_after ops d) ∙ ap (λ (b : Bool). (if b then 0 else cell_of (rank_after ops d))) (turned dir d)));
+  past = λ d h. rank_after-snoc ops (Clear dir) d ∙ ap (λ (b : Bool). (if b then None else rank_after ops d)) (differs dir d (λ e. absurd (omega arith))) ∙ past d h;
 }
 
-pub cells_none : (cells : List ℕ) → ((dir : ℕ) → get_or cells dir 0 ≡ 0) → AreCells cells []
-cells_none cells zeros = record {
-  each = λ dir. zeros dir ∙ sym (ap cell_of (rank_after-none dir));
-  small = λ dir. let e = zeros dir in omega arith;
+lone : (x k : ℕ) → get_or (x ∷ []) k x ≡ x
+lone x zero = refl
+lone x (suc k) = refl
+
+-- one run without a rank
+pub cells_none : (limit : ℕ) → 1 ≤ limit → AreCells limit (0 ∷ []) (0 ∷ []) []
+cells_none limit some = record {
+  shape = record { order = record { some = omega arith; first = refl; rising = λ run h. absurd (omega arith) }; sized = refl; below = λ run h. omega (arith, lone 0 run); small = λ run. omega (arith, lone 0 run) };
+  held = record { each = λ run d h i. lone 0 run ∙ sym (ap cell_of (rank_after-none d)); apart = λ run h a b. absurd (omega arith) };
+  past = λ d h. rank_after-none d;
 }
 
 -- a cell with a rank in it
@@ -66,12 +75,3 @@ rank_is cell (Some rank) e n = let p : cell - 1 ≡ rank = omega arith in ap (λ
 pub rank_none : (cell : ℕ) (entry : Option ℕ) → cell ≡ cell_of entry → cell ≡ 0 → None ≡ entry
 rank_none cell None e n = refl
 rank_none cell (Some rank) e n = absurd (omega arith)
-
-pub written_end : (cells dirs : List ℕ) (i value dir : ℕ) → length dirs ≤ i → get_or cells dir 0 ≡ (if names (drop i dirs) dir then value else get_or cells dir 0)
-written_end cells dirs i value dir past = let none : drop i dirs ≡ [] = drop_all i dirs past in rw none refl
-
-pub replicated : (n x dir : ℕ) → get_or (replicate n x) dir x ≡ x
-replicated n x dir = grind (arith, common_steps)
-
-pub whole_of : (n : ℕ) (new old : List ℕ) → length new ≡ length old → length new ≡ n → take n (new ++ drop (length new) old) ≡ new
-whole_of n new old same long = let rest : drop (length new) old ≡ [] = drop_all (length new) old (omega arith) in rw (rest, append-nil) (take_all n new (omega arith))

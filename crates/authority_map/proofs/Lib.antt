@@ -1,3 +1,6 @@
+pub mod RunLemmas
+pub mod Cuts
+pub mod Unions
 pub mod CellLemmas
 pub mod HistoryLemmas
 pub mod WriterLemmas

@@ -8,7 +8,8 @@ abbrev pub found_of : Option ℕ → Found
 found_of None = NoDir
 found_of (Some rank) = Rank rank
 
--- the operations that wait, and for how many more there is room
+-- the operations that were handed to the copies, those that wait, and for how many more there is room
 pub record Queued : Type 0 where
+  pub end : List Operation
   pub waiting : List Operation
   pub room : ℕ

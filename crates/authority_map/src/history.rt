@@ -4,7 +4,7 @@
 //! length: the writer's word `Count`, and a number in each `Known`, which is a beginning of the
 //! list. Any two beginnings of one list are parts of one another, so the shorter one is known by
 //! its number.
-ghost use Rattle.std.specs.Prelude.{◌≡◌, ◌<◌, ◌^◌, ◌++◌, ◌∷◌, [], length, IfSome, IsTrue, MatchBool};
+ghost use Rattle.std.specs.Prelude.{◌≡◌, ◌<◌, ◌^◌, ◌++◌, ◌∷◌, [], ◌⊎◌, length, IfSome, IsTrue, MatchBool};
 ghost use mathlib.Core.List.{IsPrefix};
 ghost use Rattle.authority_map.specs.Log.{counter_of};
 
@@ -178,6 +178,13 @@ impl<J: Naming> Known<J> {
         let mut whole = self.seen.again();
         whole.learn(&other.seen);
         whole
+    }
+
+    /// Both are beginnings of one list, so one of them is a beginning of the other.
+    pub(crate) fn are_of_one(&self, other: &Known<J>)
+        ensures { IsPrefix self.now other.now ⊎ IsPrefix other.now self.now }
+    {
+        let _part = self.is_part_of(other);
     }
 
     /// Whether the other one begins with this one. Where it doesn't, this one begins with the other.

@@ -1,5 +1,5 @@
 //! A reader of the map.
-ghost use Rattle.std.specs.Prelude.{◌≡◌, ◌≢◌, IsTrue};
+ghost use Rattle.std.specs.Prelude.{◌≡◌, ◌≢◌, ◌⊎◌, IsTrue};
 ghost use mathlib.Core.List.{IsPrefix};
 ghost use Rattle.authority_map.specs.Operations.{rank_after};
 ghost use Rattle.authority_map.specs.Answer.{found_of};
@@ -52,6 +52,13 @@ impl<J: Naming> Told<J> {
     {
         Told { known }
     }
+
+    /// Of what two tokens tell, one is a beginning of the other.
+    pub fn beside(&self, other: &Told<J>)
+        ensures { IsPrefix self.now other.now ⊎ IsPrefix other.now self.now }
+    {
+        self.known.are_of_one(&other.known);
+    }
 }
 
 impl<J: Naming> MapReader<J> {
@@ -78,6 +85,20 @@ impl<J: Naming> MapReader<J> {
             Some(rank) => Found::Rank(rank),
             None => Found::NoDir,
         }
+    }
+
+    /// What the answers hold is a beginning of what was told, or what was told is one of it.
+    pub fn beside(&self, told: &Told<J>)
+        ensures { IsPrefix self.now told.now ⊎ IsPrefix told.now self.now }
+    {
+        self.known.are_of_one(&told.known);
+    }
+
+    /// Of what the answers of two readers hold, one is a beginning of the other.
+    pub fn beside_reader(&self, other: &MapReader<J>)
+        ensures { IsPrefix self.now other.now ⊎ IsPrefix other.now self.now }
+    {
+        self.known.are_of_one(&other.known);
     }
 
     /// Whether the answers hold just what the writer told, and nothing later.

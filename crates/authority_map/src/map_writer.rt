@@ -37,7 +37,7 @@ fn open_copies<J: Naming, R: Wait + Drop>(
     readers: u8,
 ) -> Result<(WriteHandle<Table<J>, Entry<J>, R>, Vec<MapReader<J>>), MapError>
     requires start { start.now ≡ [] }
-    requires limit { limit ≡ J.limit }
+    requires limit { (limit ≡ J.limit) × (1 ≤ limit) }
     requires readers { 1 ≤ readers }
     ensures copies { IfOk result (λ t. ((published t.0).known ≡ []) × (pending t.0 ≡ [])) }
     ensures count { IfOk result (λ t. vec_len t.1 ≡ readers) }

@@ -34,7 +34,7 @@ impl<J: Naming> Model for Entry<J> {
 }
 
 /// The operations that wait, in order. One of them may be in the list of all operations already:
-/// it is kept `ready` where the copies had no memory for it.
+/// it is kept `ready` where the copies had no memory for it, and comes right after `end`.
 #[derive(Drop)]
 pub struct Queue<J: Naming> {
     count: Count<J>,
@@ -45,14 +45,16 @@ pub struct Queue<J: Naming> {
 }
 
 impl<J: Naming> Model for Queue<J> {
-    ghost use Rattle.std.specs.Prelude.{◌-◌, ◌++◌};
+    ghost use Rattle.std.specs.Prelude.{◌≡◌, ◌-◌, ◌++◌, IfSome};
     ghost use Rattle.std.specs.VecDeque.{deque_len, deque_capacity};
     ghost use Rattle.authority_map.specs.Changes.{ready_change};
     ghost use Rattle.authority_map.specs.Answer.{Queued};
 
     ghost Value = { Queued };
 
-    ghost view = { λ queue. record { waiting = ready_change queue.ready ++ queue.waiting.items; room = deque_capacity queue.waiting - deque_len queue.waiting } };
+    ghost view = { λ queue. record { end = queue.end; waiting = ready_change queue.ready ++ queue.waiting.items; room = deque_capacity queue.waiting - deque_len queue.waiting } };
+
+    ghost invariant = { λ queue. IfSome queue.ready (λ entry. entry.before ≡ queue.end) };
 }
 
 /// The greatest number of operations that a map can have.
@@ -79,7 +81,7 @@ impl<J: Naming> Queue<J> {
     pub(crate) fn reserve(&mut self) -> Result<(), MapError>
         ensures room { OnOk result (1 ≤ self.new.room) }
         ensures refused { IfErr result (λ e. e ≡ MapError.Memory) }
-        ensures same { self.new.waiting ≡ self.old.waiting }
+        ensures same { (self.new.waiting ≡ self.old.waiting) × (self.new.end ≡ self.old.end) }
     {
         self.waiting.reserve(1).map_err(|_| MapError::Memory)
     }
@@ -87,7 +89,7 @@ impl<J: Naming> Queue<J> {
     /// One more operation waits.
     pub(crate) fn push(&mut self, what: What)
         requires { 1 ≤ self.old.room }
-        ensures { self.new ≡ record { waiting = self.old.waiting ++ operation_of what ∷ []; room = self.old.room - 1 } }
+        ensures { self.new ≡ record self.old { waiting = self.old.waiting ++ operation_of what ∷ []; room = self.old.room - 1 } }
     {
         self.waiting.push_back_reserved(Change { what });
     }
@@ -107,6 +109,7 @@ impl<J: Naming> Queue<J> {
         ensures shown { published copies.new ≡ published copies.old }
         ensures order { changes (pending copies.new) ++ self.new.waiting ≡ changes (pending copies.old) ++ self.old.waiting }
         ensures fewer { IsTrue result → length self.new.waiting + 1 ≡ length self.old.waiting }
+        ensures end { self.new.end ++ self.new.waiting ≡ self.old.end ++ self.old.waiting }
     {
         let Some(entry) = next_entry(&mut self.ready, &self.count, &self.end, &mut self.waiting)
         else {
@@ -133,7 +136,9 @@ fn next_entry<J: Naming>(
     end: &Known<J>,
     waiting: &mut VecDeque<Change>,
 ) -> Option<Entry<J>>
+    requires { IfSome ready.old (λ entry. entry.before ≡ end.now) }
     ensures some { IfSome result (λ entry. (ready.new ≡ None) × (entry.change ∷ waiting.new.items ≡ ready_change ready.old ++ waiting.old.items)) }
+    ensures before { IfSome result (λ entry. entry.before ≡ end.now) }
     ensures none { IfNone result ((ready.new ≡ ready.old) × (waiting.new.items ≡ waiting.old.items)) }
 {
     match ready.take() {
@@ -149,6 +154,7 @@ fn first_entry<J: Naming>(
     waiting: &mut VecDeque<Change>,
 ) -> Option<Entry<J>>
     ensures some { IfSome result (λ entry. entry.change ∷ waiting.new.items ≡ waiting.old.items) }
+    ensures before { IfSome result (λ entry. entry.before ≡ end.now) }
     ensures none { IfNone result (waiting.new.items ≡ waiting.old.items) }
 {
     if end.len() >= OPERATION_LIMIT {

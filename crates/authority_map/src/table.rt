@@ -1,11 +1,12 @@
-//! One copy of the map: a byte for each directory, which is 0 or the rank and one.
-ghost use Rattle.std.specs.Prelude.{◌≡◌, ℕ, ◌+◌, ◌<◌, ◌≤◌, [], ◌∷◌, ◌++◌, All, Some, None, length, slice_index, if◌then◌else◌, IsTrue, ◌↔◌, IfOk, MatchOption, vec_len};
-ghost use Rattle.authority_map.specs.Operations.{Operation, names, rank_after};
-ghost use Rattle.authority_map.specs.Cells.{AreCells, cell_of};
+//! One copy of the map: runs of neighbouring directories with the same rank, or with none.
+ghost use Rattle.std.specs.Prelude.{◌≡◌, ◌<◌, ◌≤◌, [], ◌∷◌, ◌++◌, All, IsTrue, ◌↔◌, IfOk, vec_capacity};
+ghost use Rattle.authority_map.specs.Operations.{rank_after};
+ghost use Rattle.authority_map.specs.Cells.{AreCells};
 
 use crate::change::{Change, What};
 use crate::history::Known;
 use crate::queue::Entry;
+use crate::runs::{run_of, write, write_all};
 use left_right::Absorb;
 use mds_types::{Dir, Rank};
 use naming::Naming;
@@ -13,44 +14,39 @@ use std::alloc::{AllocError, Global};
 
 #[derive(Drop)]
 pub struct Table<J: Naming> {
+    limit: u32,
+    // The first directory of each run.
+    starts: Vec<u32>,
+    // What its directories have: 0 for no rank, or the rank and one.
     cells: Vec<u8>,
     pub known: Known<J>,
-    ghost kept: { AreCells cells.items known },
-    ghost sized: { length cells.items ≡ J.limit },
+    ghost kept: { AreCells limit starts.items cells.items known },
+    ghost room: { (limit ≤ vec_capacity starts) × (limit ≤ vec_capacity cells) },
+    ghost sized: { limit ≡ J.limit },
 }
 
-// Whether each directory has a cell.
-fn have_cells(dirs: &[Dir], cells: usize) -> bool
-    ensures { IsTrue result ↔ All (λ d. d < cells) dirs.now }
+// Whether the directories are below the limit.
+fn are_below(dirs: &[Dir], limit: u32) -> bool
+    ensures { IsTrue result ↔ All (λ d. d < limit) dirs.now }
 {
-    dirs.iter().all(|dir| (dir.number() as usize) < cells)
-}
-
-// Writes the value into the cell of each directory.
-fn write_all(cells: &mut [u8], dirs: &[Dir], value: u8)
-    requires { All (λ d. d < length cells.old) dirs.now }
-    ensures { (d : ℕ) → slice_index cells.new d ≡ (if names dirs.now d then value else slice_index cells.old d) }
-{
-    for dir in dirs {
-        cells[dir.number() as usize] = value;
-    }
-}
-
-// The cell at a place, or 0 where there is none.
-fn cell_at(cells: &[u8], at: usize) -> u8
-    ensures { result ≡ slice_index cells.now at }
-{
-    cells.get(at).copied().unwrap_or(0)
+    dirs.iter().all(|dir| dir.number() < limit)
 }
 
 impl<J: Naming> Table<J> {
+    /// No directory has a rank. There is room for a run for each directory.
     pub fn new(alloc: Global, limit: u32, known: Known<J>) -> Result<Table<J>, AllocError>
         requires known { known ≡ [] }
-        requires limit { limit ≡ J.limit }
+        requires limit { (limit ≡ J.limit) × (1 ≤ limit) }
         ensures { IfOk result (λ t. t.known ≡ []) }
     {
+        let mut starts = Vec::with_capacity(alloc, limit as usize)?;
+        let mut cells = Vec::with_capacity(alloc, limit as usize)?;
+        starts.push_reserved(0);
+        cells.push_reserved(0);
         Ok(Table {
-            cells: vec![in alloc; 0u8; limit as usize]?,
+            limit,
+            starts,
+            cells,
             known,
         })
     }
@@ -58,7 +54,10 @@ impl<J: Naming> Table<J> {
     pub fn rank_of(&self, dir: Dir) -> Option<Rank>
         ensures { result ≡ rank_after self.now.known dir }
     {
-        let cell = cell_at(self.cells.as_slice(), dir.number() as usize);
+        if dir.number() >= self.limit {
+            return None;
+        }
+        let cell = self.cells[run_of(&self.starts, dir.number())];
         if cell == 0 { None } else { Rank::new(cell - 1) }
     }
 }
@@ -77,11 +76,13 @@ impl<J: Naming> Absorb<Entry<J>> for Table<J> {
         }
         match &entry.change.what {
             What::Set(dirs, rank) => {
-                if !have_cells(dirs.as_slice(), self.cells.len()) {
+                if !are_below(dirs.as_slice(), self.limit) {
                     return Err(AllocError);
                 }
                 write_all(
-                    self.cells.as_mut_slice(),
+                    &mut self.starts,
+                    &mut self.cells,
+                    self.limit,
                     dirs.as_slice(),
                     rank.number() + 1,
                 );
@@ -89,11 +90,16 @@ impl<J: Naming> Absorb<Entry<J>> for Table<J> {
                 Ok(())
             }
             What::Clear(dir) => {
-                let at = dir.number() as usize;
-                if at >= self.cells.len() {
+                if dir.number() >= self.limit {
                     return Err(AllocError);
                 }
-                self.cells[at] = 0;
+                write(
+                    &mut self.starts,
+                    &mut self.cells,
+                    self.limit,
+                    dir.number(),
+                    0,
+                );
                 self.known = entry.after.copied();
                 Ok(())
             }

@@ -6,6 +6,8 @@ mod boards;
 #[cfg(test)]
 mod divisions;
 #[cfg(test)]
+mod heats;
+#[cfg(test)]
 mod pins;
 #[cfg(test)]
 mod problems;

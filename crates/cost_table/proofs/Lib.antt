@@ -1,3 +1,4 @@
+pub mod BetweenLemmas
 pub mod InodeLemmas
 pub mod PlaceLemmas
 pub mod PriceLemmas

@@ -1,7 +1,7 @@
 //! The table of costs, from one pass over the rows.
 ghost use Rattle.std.specs.Prelude.{◌≡◌, ◌≢◌, ◌<◌, ◌≤◌, ◌+◌, ◌-◌, ◌*◌, ◌^◌, ℕ, true, length, slice_index, vec_len, All, IfOk};
 ghost use Rattle.mds_types.specs.RankSet.{has_rank, rank_count};
-ghost use Rattle.cost_table.specs.Costs.{cell_at, part_total, AreCosts};
+ghost use Rattle.cost_table.specs.Costs.{cell_at, part_total, AreCells, AreCosts};
 
 use crate::chosen::has_number;
 use crate::inodes::{sums, total};
@@ -45,6 +45,23 @@ fn fill(cells: &mut [u64], sums: &[u64], count: usize, ranks: RankSet)
     }
 }
 
+/// The table of costs from the sums of all rows, part by part with the ranks rising.
+pub fn cells_of_sums(
+    alloc: Global,
+    sums: &[u64],
+    count: u32,
+    ranks: RankSet,
+) -> Result<Vec<u64>, AllocError>
+    requires parts { count ≤ 64 }
+    requires size { length sums.now ≡ count * 64 }
+    requires few { (p : ℕ) → p < count → part_total sums.now p ≤ 2 ^ 48 }
+    ensures { IfOk result (λ cells. AreCells sums.now count ranks cells.items) }
+{
+    let mut cells = vec![in alloc; 0; count as usize * usize::from(ranks.len())]?;
+    fill(&mut cells, sums, count as usize, ranks);
+    Ok(cells)
+}
+
 /// What each part moves at each rank of the set, in inodes, part by part with the ranks rising.
 ///
 /// `part[i]` is the part of row i. The rows are read once.
@@ -61,8 +78,6 @@ pub fn costs(
     requires below { (i : ℕ) → i < length rows.now → slice_index part.now i < count }
     ensures { IfOk result (λ cells. AreCosts rows.now (slice_index part.now) count ranks cells.items) }
 {
-    let sums = sums(alloc, rows, part, count)?;
-    let mut cells = vec![in alloc; 0; count as usize * usize::from(ranks.len())]?;
-    fill(&mut cells, &sums, count as usize, ranks);
-    Ok(cells)
+    let sums = sums(alloc, rows, part, count, 0, rows.len())?;
+    cells_of_sums(alloc, &sums, count, ranks)
 }

@@ -1,5 +1,5 @@
 -- The unpinned directories, from one up to the root.
-use Rattle.std.proofs.Common.{◌≡◌, ℕ, zero, suc, ◌<◌, ◌≤◌, ◌+◌, List, [], ◌∷◌, ◌++◌, length, sym, ap, ◌∙◌, refl, subst, arith, Bool, true, false, ◌&&◌, Option, Some, None, ◌⊎◌, inl, inr}
+use Rattle.std.proofs.Common.{◌≡◌, ℕ, zero, suc, ◌<◌, ◌≤◌, List, [], ◌∷◌, ◌++◌, length, sym, ap, ◌∙◌, refl, subst, arith, Bool, true, false, Option, Some, None, ◌⊎◌, inl, inr}
 use Rattle.std.specs.Prelude.{Contains, is_none, filter}
 use Rattle.std.proofs.lemmas.Bool.{and_parts, and_right, cases_eq}
 use Rattle.std.proofs.lemmas.List.Elements.{All-contains, Contains-append_cases, Contains-append_left, Contains-push, Contains-push_cases, filter-append, filter_passes}

@@ -1,13 +1,14 @@
 //! Why a pin was refused.
 ghost use Rattle.std.specs.Prelude.{◌≡◌};
-ghost use Rattle.dir_pins.specs.PinError.{words};
+ghost use Rattle.dir_pins.specs.PinError.{refusal_of, words};
 
+use mds_types::Refusal;
 use std::error::Error;
 use std::fmt;
 
 /// Why the pins refused a call, which left them as they were.
 ///
-/// It prints as its number and its name. A number never changes its meaning and is never used again.
+/// It prints as the numbered refusal that it is.
 #[derive(Clone, Copy, Debug, PartialEq, Eq)]
 pub enum PinError {
     /// There is no such directory.
@@ -21,9 +22,17 @@ impl PinError {
     pub fn text(self) -> &'static str
         ensures { result.now ≡ words self }
     {
-        match self {
-            PinError::NoDir => "6 NoDir",
-            PinError::NoRank => "12 NoRank",
+        Refusal::from(self).text()
+    }
+}
+
+impl From<PinError> for Refusal {
+    ghost from_gives = { λ error refusal. refusal ≡ refusal_of error };
+
+    fn from(error: PinError) -> Refusal {
+        match error {
+            PinError::NoDir => Refusal::NoDir,
+            PinError::NoRank => Refusal::NoRank,
         }
     }
 }

@@ -1,15 +1,16 @@
 //! Why a tree refused a call.
 ghost use Rattle.std.specs.Prelude.{◌≡◌};
 ghost use Rattle.dirtree.specs.declared.tree_error.TreeError.TheVariants.{Memory};
-ghost use Rattle.dirtree.specs.TreeError.{words};
+ghost use Rattle.dirtree.specs.TreeError.{refusal_of, words};
 
+use mds_types::Refusal;
 use std::alloc::{AllocError, AllocFailed};
 use std::error::Error;
 use std::fmt;
 
 /// Why a tree refused a call, which left it as it was.
 ///
-/// It prints as its number and its name. A number never changes its meaning and is never used again.
+/// It prints as the numbered refusal that it is.
 #[derive(Clone, Copy, Debug, PartialEq, Eq)]
 pub enum TreeError {
     /// The allocator refused a growth.
@@ -33,14 +34,22 @@ impl TreeError {
     pub fn text(self) -> &'static str
         ensures { result.now ≡ words self }
     {
-        match self {
-            TreeError::Memory => "0 Memory",
-            TreeError::NoDir => "6 NoDir",
-            TreeError::Exists => "7 Exists",
-            TreeError::BadName => "8 BadName",
-            TreeError::NotEmpty => "9 NotEmpty",
-            TreeError::IsRoot => "10 IsRoot",
-            TreeError::TreeFull => "11 TreeFull",
+        Refusal::from(self).text()
+    }
+}
+
+impl From<TreeError> for Refusal {
+    ghost from_gives = { λ error refusal. refusal ≡ refusal_of error };
+
+    fn from(error: TreeError) -> Refusal {
+        match error {
+            TreeError::Memory => Refusal::Memory,
+            TreeError::NoDir => Refusal::NoDir,
+            TreeError::Exists => Refusal::Exists,
+            TreeError::BadName => Refusal::BadName,
+            TreeError::NotEmpty => Refusal::NotEmpty,
+            TreeError::IsRoot => Refusal::IsRoot,
+            TreeError::TreeFull => Refusal::TreeFull,
         }
     }
 }

@@ -2,7 +2,7 @@
 use Rattle.std.proofs.Common.{◌≡◌, ℕ, zero, suc, ◌+◌, ◌<◌, ◌≤◌, Bool, true, false, ◌&&◌, cond, Vec, List, [], ◌∷◌, ◌++◌, length, get_or, set, map, Option, Some, None, Ok, Err, Result, refl, sym, ap, ◌∙◌, subst, inl, inr, arith}
 use Rattle.std.proofs.lemmas.Bool.{and_parts, cases_eq}
 use Rattle.std.specs.List.{slice_get}
-use Rattle.std.specs.Result.{OnOk}
+use Rattle.std.specs.Result.{OnOk, OnErr}
 use Rattle.std.proofs.lemmas.List.{length-set}
 use Rattle.export_machine.specs.declared.exporter.ExporterState.{ExporterState}
 use Rattle.export_machine.specs.declared.importer.ImporterState.{ImporterState}
@@ -18,10 +18,11 @@ use Rattle.export_machine.specs.Cluster.{Order, World}
 use Rattle.export_machine.specs.Authority.{no_order, order_in, exporter_of, importer_of, is_stopped, authority, open_export}
 use Rattle.export_machine.specs.Step.{Event, Outcome, refusal, happens, step, counted, comes, delivered, ignored, receiver, discover_comes, discover_ack_comes, prep_comes, prep_ack_comes, export_comes, export_ack_comes, finish_comes, cancel_comes, query_comes, repeats, journaled_by, restarts, changed}
 use Rattle.export_machine.specs.Step.Event.{Begin, End, Start, Deliver, Froze, Notify, Abort, Stop, Restart, Ask}
-use Rattle.export_machine.specs.View.{IsReached}
-use Rattle.export_machine.specs.Kept.{world_of, indexes_of, IsKept, IsIndexed, has_room, has_places, has_list_places, has_spare, is_spare, entered_at, is_ready, is_ready_entry, is_ready_list, state_of}
+use Rattle.export_machine.specs.View.{IsReached, IsAnswer}
+use Rattle.export_machine.specs.Room.{IsRefusal, IsAsRoomy, KeepsRoom}
+use Rattle.export_machine.specs.Kept.{world_of, indexes_of, IsKept, IsIndexed, has_room, has_places, has_list_places, has_dir_places, has_export_places, has_spare, is_spare, entered_at, is_ready, is_ready_entry, is_ready_list, state_of}
 use Rattle.export_machine.proofs.Views.{push_same, push_other, length_push, map_at_length}
-use Rattle.export_machine.proofs.Frame.{Framed, delivered_frame}
+use Rattle.export_machine.proofs.Frame.{Framed, delivered_frame, happens_fixed}
 use Rattle.export_machine.proofs.Reached.{reached_step}
 use Rattle.export_machine.proofs.Accepted.{room_left, made_few}
 use Rattle.export_machine.proofs.Starting.{start_distinct}
@@ -229,6 +230,27 @@ pub answer_refused : (w : World) (e : Event) (r : StepError) → refusal w e ≡
 unfolding step
 answer_refused w e r h = rw h refl
 
+-- a refusal, or want of memory
+pub answer_refusal : (w v : World) (e : Event) (error : StepError) → IsRefusal w e error → v ≡ w → IsAnswer w e (Err error) v
+answer_refusal w v e error (inl r) same = (inl (answer_refused w e error r), same)
+answer_refusal w v e error (inr m) same = (inr (m.1, m.0), same)
+
+-- the parts of one step that is told twice
+pub step_reply : {p : Result Reply StepError × World} (r q : Reply) (v u : World) → p ≡ (Ok r, v) → p ≡ (Ok q, u) → (r ≡ q) × (v ≡ u)
+step_reply {p = p} r q v u h k = (same p.0 (ap (λ (x : Result Reply StepError × World). x.0) h) (ap (λ (x : Result Reply StepError × World). x.0) k), sym (ap (λ (x : Result Reply StepError × World). x.1) h) ∙ ap (λ (x : Result Reply StepError × World). x.1) k)
+  where
+    same : (x : Result Reply StepError) → x ≡ Ok r → x ≡ Ok q → r ≡ q
+    same x e f = cc
+
+-- what is answered by a refusal leaves the world
+pub answered_same : (w v : World) (e : Event) (r : Result Reply StepError) → IsAnswer w e r v → OnErr r (v ≡ w)
+answered_same w v e (Ok a) h = tt
+answered_same w v e (Err f) h = h.1
+
+pub on_err : {A E : Type 0} {P Q R : Type 0} (r : Result A E) → (P → Q → R) → OnErr r P → OnErr r Q → OnErr r R
+on_err (Ok a) f h k = tt
+on_err (Err e) f h k = f h k
+
 -- after an accepted event
 module _ (old new : Records) (e : Event) (reply : Reply) (kept : IsKept old) (accepted : refusal (world_of old) e ≡ None)
     (effect : happens (world_of old) e ≡ record { reply = reply; world = world_of new }) (indexed : IsIndexed (world_of new) (indexes_of new)) where
@@ -271,6 +293,8 @@ module _ (old new : Records) (e : Event) (reply : Reply) (kept : IsKept old) (ac
     tickets = bounded.tickets;
     counted = (let room : old.events < 1048576 = room_left (world_of old) e accepted in let same : new.events ≡ old.events = events_same in omega arith);
     within = bounded.within;
+    few_dirs = rw (ap (λ (v : World). v.limit) (sym happened) ∙ (happens_fixed (world_of old) e).limit) kept.few_dirs;
+    few_ranks = rw (ap (λ (v : World). v.ranks) (sym happened) ∙ (happens_fixed (world_of old) e).ranks) kept.few_ranks;
   }
 
 -- memory
@@ -289,6 +313,8 @@ kept_same old new w i k = record {
   tickets = bound (λ (v : World). length v.tickets) (λ (v : World). v.events) k.tickets;
   counted = bound (λ (v : World). v.events) (λ (v : World). 1048576) k.counted;
   within = bound (λ (v : World). length v.parents) (λ (v : World). v.limit) k.within;
+  few_dirs = bound (λ (v : World). v.limit) (λ (v : World). 65536) k.few_dirs;
+  few_ranks = bound (λ (v : World). v.ranks) (λ (v : World). 64) k.few_ranks;
 }
   where
     bound : (f g : World → ℕ) → f (world_of old) ≤ g (world_of old) → f (world_of new) ≤ g (world_of new)
@@ -351,3 +377,41 @@ pub grown_room : (old mid new : Records) (e : Event) (rank : Option ℕ) → ran
     has_places mid.journals.items rank ≡ true → has_list_places new e ≡ true → has_room new e ≡ true
 unfolding has_room
 grown_room old mid new e rank r w j p l = rw (l, w, ← r, j, p) refl
+
+-- room that is kept list by list is kept for each event
+
+and_keeps : (a b c d : Bool) → (a ≡ true → c ≡ true) → (b ≡ true → d ≡ true) → (a && b) ≡ true → (c && d) ≡ true
+and_keeps a b c d h k i = (let p = and_parts a b i in rw (h p.0, k p.1) refl)
+
+module _ (old new : Records) (roomy : IsAsRoomy old new) (world : world_of new ≡ world_of old) where
+  dir_places : has_dir_places old ≡ true → has_dir_places new ≡ true
+  dir_places = and_keeps _ _ _ _ (and_keeps _ _ _ _ (and_keeps _ _ _ _ (and_keeps _ _ _ _ (and_keeps _ _ _ _ (and_keeps _ _ _ _ roomy.parents roomy.named) roomy.owners) roomy.opened) roomy.running) roomy.children) roomy.marks
+
+  export_places : has_export_places old ≡ true → has_export_places new ≡ true
+  export_places = and_keeps _ _ _ _ (and_keeps _ _ _ _ (and_keeps _ _ _ _ roomy.orders roomy.exporters) roomy.importers) roomy.sent
+
+  lists_kept : (e : Event) → has_list_places old e ≡ true → has_list_places new e ≡ true
+  lists_kept (Event.Made p) h = dir_places h
+  lists_kept (Event.Gone d) h = refl
+  lists_kept (Begin r d) h = roomy.tickets h
+  lists_kept (End t) h = refl
+  lists_kept (Start f t ds) h = export_places h
+  lists_kept (Deliver k) h = roomy.sent h
+  lists_kept (Froze x) h = roomy.sent h
+  lists_kept (Notify x) h = roomy.sent h
+  lists_kept (Abort x) h = roomy.sent h
+  lists_kept (Stop r) h = refl
+  lists_kept (Restart r) h = refl
+  lists_kept (Ask x) h = roomy.sent h
+
+  places_kept : (o : Option ℕ) → has_places old.journals.items o ≡ true → has_places new.journals.items o ≡ true
+  places_kept None h = refl
+  places_kept (Some rank) h = roomy.journals rank h
+
+  room_kept : (e : Event) → has_room old e ≡ true → has_room new e ≡ true
+  unfolding has_room
+  room_kept e h =
+      rw world (and_keeps _ _ _ _ (places_kept (entered_at (world_of old) e)) (lists_kept e) h)
+
+  pub keeps_room : KeepsRoom (state_of old) (state_of new)
+  keeps_room e h = ready_is new e ∙ room_kept e (sym (ready_is old e) ∙ h)

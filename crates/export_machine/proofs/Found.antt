@@ -98,7 +98,7 @@ held_or_moving Done i h n = inr (told (phase_by Done i) (not_early i) h)
     told p (inr e) k = absurd (cc (rw e at k))
 held_or_moving Aborted i h n = absurd (cc)
 
-place_early : (p : Phase) (from to : ℕ) → is_moving p ≡ false → place from to p ≡ from
+pub place_early : (p : Phase) (from to : ℕ) → is_moving p ≡ false → place from to p ≡ from
 place_early Early from to h = refl
 place_early Held from to h = refl
 place_early Moving from to h = refl

@@ -1,5 +1,9 @@
 -- A message that comes changes states, journals and messages alone.
-use Rattle.std.proofs.Common.{◌≡◌, ℕ, Bool, true, false, cond, Option, Some, None, refl}
+use Rattle.std.proofs.Common.{◌≡◌, ℕ, Bool, true, false, cond, length, Option, Some, None, refl}
+use Rattle.std.specs.List.{slice_get}
+use Rattle.export_machine.specs.declared.journal.JournalEntry.{JournalEntry}
+use Rattle.export_machine.specs.Step.{Event, happens, journaled_by, changed, restarts}
+use Rattle.export_machine.specs.Step.Event.{Deliver, Restart}
 use Rattle.export_machine.specs.declared.exporter.ExporterState.{ExporterState}
 use Rattle.export_machine.specs.declared.importer.ImporterState.{ImporterState}
 use Rattle.export_machine.specs.declared.message.Message.{Message}
@@ -7,7 +11,7 @@ use Rattle.export_machine.specs.declared.exporter.ExporterState.TheVariants.{Dis
 use Rattle.export_machine.specs.declared.importer.ImporterState.TheVariants.{Unknown, Discovered, Prepared, Started, Imported, Dropped}
 use Rattle.export_machine.specs.declared.message.Message.TheVariants.{Discover, DiscoverAck, Prep, PrepAck, ExportAck, Finish, Cancel, Query}
 use Rattle.export_machine.specs.Cluster.{World}
-use Rattle.export_machine.specs.Authority.{exporter_of, importer_of, is_stopped}
+use Rattle.export_machine.specs.Authority.{exporter_of, importer_of, is_stopped, authority}
 use Rattle.export_machine.specs.Step.{Outcome, discover_comes, discover_ack_comes, prep_comes, prep_ack_comes, export_comes, export_ack_comes, finish_comes, cancel_comes, query_comes, comes, receiver, delivered, ignored}
 
 -- nothing else changed
@@ -119,3 +123,32 @@ module _ (w : World) where
   pub delivered_frame : (o : Option Message) → Framed w (delivered w o).world
   delivered_frame None = unframed w
   delivered_frame (Some m) = either_frame (is_stopped w (receiver w m)) (ignored w) (comes w m) (unframed w) (comes_frame m)
+
+-- what never changes
+
+pub record Fixed (w v : World) : Type 0 where
+  pub limit : v.limit ≡ w.limit
+  pub ranks : v.ranks ≡ w.ranks
+
+fixed : (w : World) → Fixed w w
+fixed w = record { limit = refl; ranks = refl }
+
+by_limit : (w : World) (o : Option ℕ) (e : JournalEntry) → (journaled_by w o e).limit ≡ w.limit
+by_limit w None e = refl
+by_limit w (Some a) e = refl
+
+by_ranks : (w : World) (o : Option ℕ) (e : JournalEntry) → (journaled_by w o e).ranks ≡ w.ranks
+by_ranks w None e = refl
+by_ranks w (Some a) e = refl
+
+pub happens_fixed : (w : World) (e : Event) → Fixed w (happens w e).world
+unfolding happens
+happens_fixed w (Deliver k) = (let f : Framed w (delivered w (slice_get w.sent k)).world = delivered_frame w (slice_get w.sent k) in record { limit = f.limit; ranks = f.ranks })
+happens_fixed w (Restart k) = go (is_stopped w k)
+  where
+    go : (b : Bool) → Fixed w (cond b (changed (restarts w k)) (ignored w)).world
+    go true = record { limit = refl; ranks = refl }
+    go false = fixed w
+happens_fixed w (Event.Made p) = record { limit = by_limit w (authority w p) (JournalEntry.Made (length w.parents)); ranks = by_ranks w (authority w p) (JournalEntry.Made (length w.parents)) }
+happens_fixed w (Event.Gone d) = record { limit = by_limit w (authority w d) (JournalEntry.Gone d); ranks = by_ranks w (authority w d) (JournalEntry.Gone d) }
+happens_fixed w _ = record { limit = refl; ranks = refl }

@@ -23,7 +23,7 @@ use Rattle.export_machine.proofs.Halting.{fused, same_here}
 
 -- states by the invariant
 
-same_exporter : (a b : ExporterState) → (a ≡ b) ⊎ (a ≢ b)
+pub same_exporter : (a b : ExporterState) → (a ≡ b) ⊎ (a ≢ b)
 same_exporter Discovering Discovering = inl refl
 same_exporter Freezing Freezing = inl refl
 same_exporter Preparing Preparing = inl refl
@@ -33,7 +33,7 @@ same_exporter Done Done = inl refl
 same_exporter Aborted Aborted = inl refl
 same_exporter a b = inr (λ e. cc)
 
-same_importer : (a b : ImporterState) → (a ≡ b) ⊎ (a ≢ b)
+pub same_importer : (a b : ImporterState) → (a ≡ b) ⊎ (a ≢ b)
 same_importer Unknown Unknown = inl refl
 same_importer Discovered Discovered = inl refl
 same_importer Prepared Prepared = inl refl

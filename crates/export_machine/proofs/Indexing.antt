@@ -147,7 +147,7 @@ froze_indexed w i x is e ms = same_indexed w (record (exporter_to w x Preparing)
 
 -- Abort
 
-before_over : (e : ExporterState) (j : ImporterState) → is_before_log e ≡ true → is_over (phase_by e j) ≡ false
+pub before_over : (e : ExporterState) (j : ImporterState) → is_before_log e ≡ true → is_over (phase_by e j) ≡ false
 before_over Discovering j h = refl
 before_over Freezing j h = refl
 before_over Preparing j h = refl

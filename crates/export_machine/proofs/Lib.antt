@@ -31,3 +31,9 @@ pub mod Listing
 pub mod Halting
 pub mod Halted
 pub mod Ascending
+pub mod Local
+pub mod Entries
+pub mod Noted
+pub mod Named
+pub mod Resting
+pub mod Logging

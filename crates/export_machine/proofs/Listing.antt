@@ -1,7 +1,7 @@
 -- Lists of directories and their marks.
 use Rattle.std.proofs.Common.{◌≡◌, ℕ, zero, suc, ◌+◌, ◌<◌, Bool, true, false, ◌||◌, eqb, List, [], ◌∷◌, ◌++◌, length, get_or, set, take, Option, None, is_some, refl, sym, ap, ◌∙◌, inl, inr, arith}
 use Rattle.std.specs.List.{list_all}
-use Rattle.std.specs.Prelude.{replicate}
+use Rattle.std.specs.Prelude.{replicate, IfSome, MatchOption, Some}
 use Rattle.std.proofs.lemmas.Bool.{cases_lt, and_parts, cases_Bool, cases_eq, false≢true, ne_eqb, or_cases, or_from, or_left, or_right}
 use Rattle.std.proofs.lemmas.List.{get_or-set_same, get_or-set_other, get_or_past}
 use Rattle.export_machine.specs.Authority.{is_among}
@@ -76,3 +76,7 @@ marked_next ms xs i d l e near h k = elim (cases_eq k d) [
 pub all_clear : (ms : List Bool) → ((k : ℕ) → get_or ms k false ≡ false) → ms ≡ replicate (length ms) false
 all_clear [] h = refl
 all_clear (m ∷ ms) h = rw (← all_clear ms (λ k. h (suc k))) (ap (λ b. b ∷ ms) (h 0))
+
+pub if_both : {A : Type 0} (P : Type 0) {Q S R : A → Type 0} (o : Option A) → ((a : A) → Q a → S a → R a) → IfSome o Q → MatchOption o P S → IfSome o R
+if_both P None f h k = tt
+if_both P (Some a) f h k = f a h k

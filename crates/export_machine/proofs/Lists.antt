@@ -176,7 +176,7 @@ some_else : {A : Type 0} (a b : Option A) → a ≢ None → or_else a b ≡ a
 some_else None b h = absurd (h refl)
 some_else (Some x) b h = refl
 
-no_fault : (w : World) (from : ℕ) (dirs : List ℕ) (n : ℕ) → ((d : ℕ) → d < n → is_among dirs d ≡ true → cannot_leave w from d ≡ None) → least_fault w from dirs n ≡ None
+pub no_fault : (w : World) (from : ℕ) (dirs : List ℕ) (n : ℕ) → ((d : ℕ) → d < n → is_among dirs d ≡ true → cannot_leave w from d ≡ None) → least_fault w from dirs n ≡ None
 no_fault w from dirs zero h = refl
 no_fault w from dirs (suc n) h =
     none_else (least_fault w from dirs n) (cond (is_among dirs n) (cannot_leave w from n) None) None (no_fault w from dirs n (λ d l i. h d (omega arith) i))

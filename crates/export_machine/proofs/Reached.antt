@@ -1,5 +1,5 @@
 -- What holds of a world that some list of events leads to.
-use Rattle.std.proofs.Common.{◌≡◌, ℕ, Bool, true, false, ◌&&◌, not, eqb, List, [], ◌∷◌, ◌++◌, length, Some, None, refl, sym, ap, ◌∙◌, subst, inl, inr, ◌⊎◌}
+use Rattle.std.proofs.Common.{◌≡◌, ◌≤◌, ℕ, Bool, true, false, ◌&&◌, not, eqb, List, [], ◌∷◌, ◌++◌, length, Some, None, refl, sym, ap, ◌∙◌, subst, inl, inr, ◌⊎◌}
 use Rattle.std.proofs.lemmas.Bool.{and_parts, cases_Bool, cases_eq, eqb-true, not-true}
 use Rattle.std.proofs.Math.Logic.{∥∥₁_elim, ∥∥₁_map}
 use Rattle.export_machine.specs.declared.journal.JournalEntry.{JournalEntry}
@@ -18,6 +18,10 @@ run_more : (es : List Event) (w : World) (e : Event) → run w (es ++ e ∷ []) 
 run_more [] w e = refl
 run_more (f ∷ es) w e = run_more es (step w f).1 e
 
+-- the start leads to itself
+pub started : (limit ranks : ℕ) → 1 ≤ ranks → IsReached (start limit ranks)
+started limit ranks some = ∣ (limit, ranks, [], some, refl) ∣₁
+
 -- a step leads to one more
 pub reached_step : (w : World) → IsReached w → (e : Event) → IsReached (step w e).1
 reached_step w h e = ∥∥₁_map h (λ r. (r.0, r.1, r.2 ++ e ∷ [], r.3, run_more r.2 (start r.0 r.1) e ∙ ap (λ (v : World). (step v e).1) r.4))
@@ -26,7 +30,7 @@ pub by_safe : (w : World) → IsReached w → (Safe w → ⊥) → ⊥
 by_safe w h k = ∥∥₁_elim h (λ x y. absurd x) (λ r. k (subst Safe r.4 (run_keeps r.2 (start r.0 r.1) (start_safe r.0 r.1 r.3))))
 
 module _ (w : World) (reached : IsReached w) where
-  the_one : (r d : ℕ) → IsAuthority w r d → IsTheAuthority w r d
+  pub the_one : (r d : ℕ) → IsAuthority w r d → IsTheAuthority w r d
   the_one r d a = (a, λ s b. elim (cases_eq s r) [ inl e ↦ e | inr n ↦ absurd (by_safe w reached (λ safe. n (one_authority w safe s r d b a))) ])
 
   pub reached_authority : OneAuthority w

@@ -68,9 +68,9 @@ module _ (limit ranks : ℕ) (some : 1 ≤ ranks) where
       children (suc d) = no_child (eqb 0 (suc d))
 
 -- what is kept of a new cluster
-pub start_kept : (r : Records) (limit ranks : ℕ) → 1 ≤ limit → 1 ≤ ranks → world_of r ≡ start limit ranks → indexes_of r ≡ first_indexes → IsKept r
+pub start_kept : (r : Records) (limit ranks : ℕ) → 1 ≤ limit → limit ≤ 65536 → 1 ≤ ranks → ranks ≤ 64 → world_of r ≡ start limit ranks → indexes_of r ≡ first_indexes → IsKept r
 unfolding start
-start_kept r limit ranks some_dirs some_ranks w i = record {
+start_kept r limit ranks some_dirs few_dirs some_ranks few_ranks w i = record {
   reached = ∣ (limit, ranks, [], some_ranks, sym w) ∣₁;
   indexed = rw (w, i) (start_indexed limit ranks some_ranks);
   distinct = λ x h. false≢true (ap (λ (v : World). repeats (order_in v.orders x).dirs) (sym w) ∙ h);
@@ -78,6 +78,8 @@ start_kept r limit ranks some_dirs some_ranks w i = record {
   tickets = bound (λ (v : World). length v.tickets) (λ (v : World). v.events) (omega arith);
   counted = bound (λ (v : World). v.events) (λ (v : World). 1048576) (omega arith);
   within = bound (λ (v : World). length v.parents) (λ (v : World). v.limit) some_dirs;
+  few_dirs = bound (λ (v : World). v.limit) (λ (v : World). 65536) few_dirs;
+  few_ranks = bound (λ (v : World). v.ranks) (λ (v : World). 64) few_ranks;
 }
   where
     bound : (f g : World → ℕ) → f (start limit ranks) ≤ g (start limit ranks) → f (world_of r) ≤ g (world_of r)

@@ -32,7 +32,7 @@ steady_tidy w v s t = record {
   awake = λ k q h. ap (λ bs. get_or bs q.rank false) s.stopped ∙ t.awake k q (sym (ap (λ ts. get_or ts k None) s.tickets) ∙ h);
 }
 
-set_false : (bs : List Bool) (k : ℕ) → get_or (set bs k false) k false ≡ false
+pub set_false : (bs : List Bool) (k : ℕ) → get_or (set bs k false) k false ≡ false
 set_false bs k = elim (cases_lt k (length bs)) [
   | inl m ↦ get_or-set_same bs k false false m
   | inr m ↦ get_or_past (set bs k false) k false (rw (length-set bs k false) m)

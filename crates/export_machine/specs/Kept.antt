@@ -96,6 +96,8 @@ pub record IsKept (r : Records) : Type 0 where
   pub tickets : length r.tickets.items ≤ r.events
   pub counted : r.events ≤ 1048576
   pub within : length r.parents.items ≤ r.limit
+  pub few_dirs : r.limit ≤ 65536
+  pub few_ranks : r.ranks ≤ 64
 
 -- why a call is refused, if it is
 abbrev pub cause_of : {A : Type 0} → Result A StepError → Option StepError

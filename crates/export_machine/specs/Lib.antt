@@ -6,3 +6,7 @@ pub mod View
 pub mod Roots
 pub mod Kept
 pub mod Connected
+pub mod Local
+pub mod Room
+pub mod Entries
+pub mod Refused

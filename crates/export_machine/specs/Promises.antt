@@ -37,13 +37,6 @@ IsBetweenLogAndNotify w r d =
 abbrev pub MapNamed : World → Type 0
 MapNamed w = (d : ℕ) → is_present w d ≡ true → (r : ℕ) × (named_of w d ≡ Some r) × (IsAuthority w r d ⊎ IsBetweenLogAndNotify w r d)
 
--- what holds of every cluster at any time
-pub record Promised (w : World) : Type 0 where
-  pub authority : OneAuthority w
-  pub served : ServedByAuthority w
-  pub requests : RequestsAtAuthority w
-  pub named : MapNamed w
-
 -- what isn't there is named nowhere and has no authority
 abbrev pub NoneForGone : World → Type 0
 NoneForGone w = (d : ℕ) → is_present w d ≡ false → (named_of w d ≡ None) × ((r : ℕ) → IsAuthority w r d → ⊥)
@@ -51,6 +44,16 @@ NoneForGone w = (d : ℕ) → is_present w d ≡ false → (named_of w d ≡ Non
 -- no request runs at a stopped rank
 abbrev pub NoneAtStopped : World → Type 0
 NoneAtStopped w = (t : ℕ) (q : Request) → request_of w t ≡ Some q → is_stopped w q.rank ≡ false
+
+-- what holds of every cluster at any time
+pub record Promised (w : World) : Type 0 where
+  pub authority : OneAuthority w
+  pub served : ServedByAuthority w
+  pub requests : RequestsAtAuthority w
+  pub kept : (e : Event) → KeepsAuthority w e
+  pub named : MapNamed w
+  pub gone : NoneForGone w
+  pub ended : NoneAtStopped w
 
 -- the owner that is nearest on the walk up is the authority
 abbrev pub NearestOwns : World → Type 0

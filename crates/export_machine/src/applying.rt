@@ -1,8 +1,9 @@
 //! One event: its refusal, its memory, its effect, in this order.
 
-ghost use Rattle.std.specs.Prelude.{◌≡◌, ◌<◌, length, map, Some, None, true, OnOk, IsOk, IfSome};
-ghost use Rattle.export_machine.specs.Step.{Event as StepEvent, refusal, happens};
+ghost use Rattle.std.specs.Prelude.{◌≡◌, ◌<◌, ℕ, length, map, Some, None, true, Ok, OnOk, OnErr, IsOk, IfSome, IfErr};
+ghost use Rattle.export_machine.specs.Step.{Event as StepEvent, refusal, happens, step};
 ghost use Rattle.export_machine.specs.View.{IsAnswer};
+ghost use Rattle.export_machine.specs.Room.{IsAsRoomy, IsRefusal};
 ghost use Rattle.export_machine.specs.Kept.{world_of, indexes_of, event_of, has_room, has_place, has_places, has_list_places, has_dir_places, has_export_places, entered_at, IsKept, IsIndexed};
 
 use crate::event::{Event, Reply};
@@ -18,6 +19,7 @@ fn grow_journal(journals: &mut Vec<Vec<JournalEntry>>, rank: Rank) -> Result<(),
     ensures entries { map (λ journal. journal.items) journals.new.items ≡ map (λ journal. journal.items) journals.old.items }
     ensures room { OnOk result (has_place journals.new.items rank ≡ true) }
     ensures ready { has_place journals.old.items rank ≡ true → IsOk result }
+    ensures spare { (other : ℕ) → has_place journals.old.items other ≡ true → has_place journals.new.items other ≡ true }
 {
     journals[rank.number() as usize].reserve(1)
 }
@@ -30,6 +32,7 @@ impl Records {
         ensures journals { self.new.journals ≡ self.old.journals }
         ensures room { OnOk result (has_dir_places self.new ≡ true) }
         ensures ready { has_dir_places self.old ≡ true → IsOk result }
+        ensures spare { IsAsRoomy self.old self.new }
     {
         self.parents.reserve(1)?;
         self.named.reserve(1)?;
@@ -47,6 +50,7 @@ impl Records {
         ensures journals { self.new.journals ≡ self.old.journals }
         ensures room { OnOk result (has_export_places self.new ≡ true) }
         ensures ready { has_export_places self.old ≡ true → IsOk result }
+        ensures spare { IsAsRoomy self.old self.new }
     {
         self.orders.reserve(1)?;
         self.exporters.reserve(1)?;
@@ -101,6 +105,7 @@ impl Records {
         ensures others { self.new ≡ record self.old { journals = self.new.journals } }
         ensures room { OnOk result (has_places self.new.journals.items rank ≡ true) }
         ensures ready { has_places self.old.journals.items rank ≡ true → IsOk result }
+        ensures spare { (other : ℕ) → has_place self.old.journals.items other ≡ true → has_place self.new.journals.items other ≡ true }
     {
         match rank {
             Some(rank) => grow_journal(&mut self.journals, rank),
@@ -115,6 +120,7 @@ impl Records {
         ensures journals { self.new.journals ≡ self.old.journals }
         ensures room { OnOk result (has_list_places self.new (event_of event.now) ≡ true) }
         ensures ready { has_list_places self.old (event_of event.now) ≡ true → IsOk result }
+        ensures spare { IsAsRoomy self.old self.new }
     {
         match event {
             Event::Made(_) => self.grow_dirs(),
@@ -140,10 +146,42 @@ impl Records {
         ensures indexes { indexes_of self.new ≡ indexes_of self.old }
         ensures room { OnOk result (has_room self.new (event_of event.now) ≡ true) }
         ensures ready { has_room self.old (event_of event.now) ≡ true → IsOk result }
+        ensures spare { IsAsRoomy self.old self.new }
     {
         let rank = self.journal_rank(event);
         self.grow_entry(rank)?;
         self.grow_lists(event)
+    }
+
+    /// Refuses an event, or takes the memory that it needs.
+    pub(crate) fn prepare(&mut self, event: &Event) -> Result<(), StepError>
+        requires kept { IsKept self.old }
+        ensures accepted { OnOk result (refusal (world_of self.old) (event_of event.now) ≡ None) }
+        ensures room { OnOk result (has_room self.new (event_of event.now) ≡ true) }
+        ensures err { IfErr result (IsRefusal (world_of self.old) (event_of event.now)) }
+        ensures ready { refusal (world_of self.old) (event_of event.now) ≡ None → has_room self.old (event_of event.now) ≡ true → IsOk result }
+        ensures world { world_of self.new ≡ world_of self.old }
+        ensures kept { IsKept self.new }
+        ensures spare { IsAsRoomy self.old self.new }
+    {
+        self.check_by_marks(event)?;
+        match self.grow(event) {
+            Ok(()) => Ok(()),
+            Err(_) => Err(StepError::Memory),
+        }
+    }
+
+    /// An event that is prepared happens, and is counted.
+    pub(crate) fn perform(&mut self, event: Event) -> Reply
+        requires kept { IsKept self.old }
+        requires accepted { refusal (world_of self.old) (event_of event) ≡ None }
+        requires room { has_room self.old (event_of event) ≡ true }
+        ensures step { step (world_of self.old) (event_of event) ≡ (Ok result, world_of self.new) }
+        ensures kept { IsKept self.new }
+    {
+        let reply = self.happen(event);
+        self.events += 1;
+        reply
     }
 
     /// Applies an event.
@@ -152,15 +190,9 @@ impl Records {
         ensures answer { IsAnswer (world_of self.old) (event_of event) result (world_of self.new) }
         ensures kept { IsKept self.new }
         ensures ready { refusal (world_of self.old) (event_of event) ≡ None → has_room self.old (event_of event) ≡ true → IsOk result }
+        ensures spare { OnErr result (IsAsRoomy self.old self.new) }
     {
-        if let Err(error) = self.check_by_marks(&event) {
-            return Err(error);
-        }
-        if self.grow(&event).is_err() {
-            return Err(StepError::Memory);
-        }
-        let reply = self.happen(event);
-        self.events += 1;
-        Ok(reply)
+        self.prepare(&event)?;
+        Ok(self.perform(event))
     }
 }

@@ -35,7 +35,8 @@ pub(crate) fn enter(journals: &mut Vec<Vec<JournalEntry>>, rank: Rank, entry: Jo
 
 /// Writes into the table at one place, if it is there.
 pub(crate) fn put<T: Copy>(table: &mut Vec<T>, index: usize, value: T)
-    ensures { table.new.items ≡ slice_set table.old.items index value }
+    ensures items { table.new.items ≡ slice_set table.old.items index value }
+    ensures capacity { vec_capacity table.new ≡ vec_capacity table.old }
 {
     if index < table.len() {
         table[index] = value;

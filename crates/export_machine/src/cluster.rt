@@ -1,9 +1,12 @@
 //! A cluster of metadata ranks that move directories by exports.
 
-ghost use Rattle.std.specs.Prelude.{◌≡◌, ◌<◌, ◌≤◌, ◌↔◌, ℕ, length, map, None, true, Some, IsSome, IfSome, IfOk, IsOk, Err, OnOk, OnErr, slice_get};
+ghost use Rattle.std.specs.Prelude.{◌≡◌, ◌<◌, ◌≤◌, ◌↔◌, ℕ, length, map, None, true, Some, IsSome, IfSome, IfOk, IfErr, IsOk, Ok, Err, OnOk, OnErr, All, slice_get};
 ghost use Rattle.export_machine.specs.Authority.{authority, serves, named_of, journal_of, order_in};
-ghost use Rattle.export_machine.specs.Step.{refusal, start, answers as answers_to, run as state_after};
-ghost use Rattle.export_machine.specs.View.{IsAnswer, AreAnswers, NoneIsMemory};
+ghost use Rattle.export_machine.specs.Step.{refusal, start, step, happens, counted, answers as answers_to, run as state_after};
+ghost use Rattle.export_machine.specs.Entries.{logs_export};
+ghost use Rattle.export_machine.specs.Roots.{roots};
+ghost use Rattle.export_machine.specs.Room.{KeepsRoom, IsRefusal};
+ghost use Rattle.export_machine.specs.View.{IsAnswer, AreAnswers, NoneIsMemory, IsReached};
 ghost use Rattle.export_machine.specs.Promises.{Promised, KeepsAuthority};
 ghost use Rattle.export_machine.specs.Kept.{event_of, order_of, cause_of, addressed, states_of, is_ready};
 
@@ -55,11 +58,38 @@ impl Cluster {
     pub fn apply(&mut self, event: Event) -> Result<Reply, StepError>
         ensures answer { IsAnswer self.old.world (event_of event) result self.new.world }
         ensures ready { refusal self.old.world (event_of event) ≡ None → is_ready self.old (event_of event) ≡ true → IsOk result }
+        // Room that was taken for any event is still there where this one is refused.
+        ensures spare { OnErr result (KeepsRoom self.old self.new) }
         ensures promised { Promised self.new.world }
         // The event changed the authority of no directory on which a request runs.
         ensures kept { KeepsAuthority self.old.world (event_of event) }
     {
         self.records.apply(event)
+    }
+
+    /// Refuses an event, or takes the memory that it needs as the next change: then it can `happen`. A list of
+    /// directories takes time that grows with its length alone.
+    pub fn prepare(&mut self, event: &Event) -> Result<(), StepError>
+        ensures accepted { OnOk result (refusal self.old.world (event_of event.now) ≡ None) }
+        ensures room { OnOk result (is_ready self.new (event_of event.now) ≡ true) }
+        ensures err { IfErr result (IsRefusal self.old.world (event_of event.now)) }
+        ensures ready { refusal self.old.world (event_of event.now) ≡ None → is_ready self.old (event_of event.now) ≡ true → IsOk result }
+        ensures world { self.new.world ≡ self.old.world }
+        ensures spare { KeepsRoom self.old self.new }
+    {
+        self.records.prepare(event)
+    }
+
+    /// An event that is prepared happens.
+    pub fn happen(&mut self, event: Event) -> Reply
+        requires accepted { refusal self.old.world (event_of event) ≡ None }
+        requires room { is_ready self.old (event_of event) ≡ true }
+        ensures step { step self.old.world (event_of event) ≡ (Ok result, self.new.world) }
+        ensures reply { result ≡ (happens self.old.world (event_of event)).reply }
+        ensures world { self.new.world ≡ counted (happens self.old.world (event_of event)).world }
+        ensures promised { Promised self.new.world }
+    {
+        self.records.perform(event)
     }
 
     /// Applies the events one after the other. Memory for the answers is asked for before the first event.
@@ -103,11 +133,23 @@ impl Cluster {
         }
     }
 
-    /// What holds of every cluster: each directory that is there has exactly one authority, who serves a directory is
-    /// its authority, each running request stands at its directory's authority, and the map names the authority or,
-    /// between log and notify, the exporter. It does nothing.
+    /// What holds of every cluster: each directory that is there has exactly one authority, and no other has one; who
+    /// serves a directory is its authority, each running request stands at its directory's authority, at a rank that
+    /// runs, and no event changes that; the map names the authority or, between log and notify, the exporter. It does
+    /// nothing.
     pub fn promised(&self)
         ensures { Promised self.now.world }
+    {
+        let _ = &self.records;
+    }
+
+    /// Some list of events leads from the start to this cluster, and its numbers are small. It does nothing.
+    pub fn reached(&self)
+        ensures reached { IsReached self.now.world }
+        ensures few_events { self.now.world.events ≤ 1048576 }
+        ensures numbers { length self.now.world.parents ≤ self.now.world.limit }
+        ensures few_dirs { self.now.world.limit ≤ 65536 }
+        ensures few_ranks { self.now.world.ranks ≤ 64 }
     {
         let _ = &self.records;
     }
@@ -119,10 +161,18 @@ impl Cluster {
         self.records.check(event)
     }
 
+    /// Whether this event, if it comes next, is the log entry of an export: from then on the export can only go on.
+    pub fn logs_export(&self, event: &Event) -> bool
+        ensures { result ≡ logs_export self.now.world (event_of event.now) }
+    {
+        self.records.logs_export(event)
+    }
+
     /// Takes the memory that an `apply` of this event as the next change needs.
     pub fn reserve(&mut self, event: &Event) -> Result<(), AllocError>
         ensures world { self.new.world ≡ self.old.world }
         ensures room { OnOk result (refusal self.new.world (event_of event.now) ≡ None → is_ready self.new (event_of event.now) ≡ true) }
+        ensures spare { KeepsRoom self.old self.new }
     {
         if self.records.check_by_marks(event).is_err() {
             return Ok(());
@@ -135,6 +185,14 @@ impl Cluster {
         ensures { result ≡ authority self.now.world dir }
     {
         self.records.authority(dir)
+    }
+
+    /// The roots of subtrees, by rising numbers, each with its authority: directory 0, and each directory whose
+    /// authority isn't its parent's.
+    pub fn roots(&self, alloc: Global) -> Result<Vec<(Dir, Rank)>, AllocError>
+        ensures { IfOk result (λ found. found.items ≡ roots self.now.world) }
+    {
+        self.records.roots(alloc)
     }
 
     /// Whether a rank serves a directory.
@@ -176,6 +234,7 @@ impl Cluster {
     pub fn export(&self, export: u32) -> Option<&Order>
         ensures found { IsSome result ↔ (export < length self.now.world.orders) }
         ensures order { IfSome result (λ order. order_of order.now ≡ order_in self.now.world.orders export) }
+        ensures near { IfSome result (λ order. All (λ d. d < self.now.world.limit) order.now.dirs.items) }
     {
         self.records.orders.get(export as usize)
     }
@@ -190,6 +249,3 @@ impl Cluster {
         Some((self.records.exporter(export), self.records.importer(export)))
     }
 }
-
-#[cfg(test)]
-mod tests;

@@ -1,6 +1,6 @@
 //! Whether a list of directories hangs together, in three walks over it: mark, count and clear.
 
-ghost use Rattle.std.specs.Prelude.{◌≡◌, ℕ, true, false, None, IsTrue, not, length, count_by, slice_index_or};
+ghost use Rattle.std.specs.Prelude.{◌≡◌, ℕ, true, false, None, IsTrue, not, length, count_by, slice_index_or, vec_capacity};
 ghost use Rattle.std.specs.List.{list_all};
 ghost use Rattle.export_machine.specs.Authority.{is_among, is_present};
 ghost use Rattle.export_machine.specs.Step.{repeats, is_connected};
@@ -23,6 +23,7 @@ fn mark_once(marks: &mut Vec<bool>, parents: &[Option<Dir>], dirs: &[Dir]) -> bo
     ensures places { length marks.new.items ≡ length marks.old.items }
     ensures within { (d : ℕ) → slice_index_or marks.new.items d false ≡ true → is_among dirs.now d ≡ true }
     ensures all { IsTrue result → (d : ℕ) → slice_index_or marks.new.items d false ≡ is_among dirs.now d }
+    ensures capacity { vec_capacity marks.new ≡ vec_capacity marks.old }
     ensures once { list_all (is_listed parents.now) dirs.now ≡ true → result ≡ not (repeats dirs.now) }
 {
     for dir in dirs {
@@ -40,6 +41,7 @@ fn unmark(marks: &mut Vec<bool>, dirs: &[Dir])
     requires within { (d : ℕ) → slice_index_or marks.old.items d false ≡ true → is_among dirs.now d ≡ true }
     ensures places { length marks.new.items ≡ length marks.old.items }
     ensures unmarked { (d : ℕ) → slice_index_or marks.new.items d false ≡ false }
+    ensures capacity { vec_capacity marks.new ≡ vec_capacity marks.old }
 {
     for dir in dirs {
         put(marks, dir.number() as usize, false);
@@ -73,6 +75,7 @@ impl Records {
         requires kept { IsKept self.old }
         ensures others { self.new ≡ record self.old { marks = self.new.marks } }
         ensures marks { self.new.marks.items ≡ self.old.marks.items }
+        ensures capacity { vec_capacity self.new.marks ≡ vec_capacity self.old.marks }
         ensures connected { list_all (is_present (world_of self.old)) dirs.now ≡ true → result ≡ is_connected (world_of self.old) dirs.now }
     {
         let connected = mark_once(&mut self.marks, &self.parents, dirs)

@@ -4,10 +4,11 @@
 
 ghost use Rattle.std.specs.Prelude.{◌≡◌, ◌<◌, length, Some, None, true, slice_get};
 ghost use Rattle.export_machine.specs.Step.{Event as StepEvent, refusal, happens, receiver};
-ghost use Rattle.export_machine.specs.Kept.{world_of, indexes_of, has_room, IsKept, IsIndexed, CanReceive, IsReceived, about, addressed};
+ghost use Rattle.export_machine.specs.Entries.{logs_export, is_log, delivered_entry};
+ghost use Rattle.export_machine.specs.Kept.{world_of, indexes_of, has_room, IsKept, IsIndexed, CanReceive, IsReceived, about, addressed, event_of};
 
 use crate::changes::{enter, mark, send};
-use crate::event::Reply;
+use crate::event::{Event, Reply};
 use crate::exporter::ExporterState;
 use crate::importer::ImporterState;
 use crate::journal::JournalEntry;
@@ -201,6 +202,33 @@ impl Records {
             return Reply::Ignored;
         }
         self.receive(message)
+    }
+
+    /// Whether a message makes the rank that it is for log the export.
+    fn logs(&self, message: Message) -> bool
+        requires { about message < length self.now.orders.items }
+        ensures { result ≡ is_log (delivered_entry (world_of self.now) (Some message)) }
+    {
+        match message {
+            Message::ExportAck(export) => {
+                !self.is_stopped(self.from(export))
+                    && matches!(self.exporter(export), ExporterState::Exporting)
+            }
+            _ => false,
+        }
+    }
+
+    /// Whether an event, if it comes next, logs an export.
+    pub(crate) fn logs_export(&self, event: &Event) -> bool
+        requires kept { IsKept self.now }
+        ensures { result ≡ logs_export (world_of self.now) (event_of event.now) }
+    {
+        match event {
+            Event::Deliver(message) => {
+                self.check(event).is_ok() && self.logs(self.sent[*message as usize])
+            }
+            _ => false,
+        }
     }
 
     pub(crate) fn addressed(&self, message: u32) -> Option<(u32, Rank)>

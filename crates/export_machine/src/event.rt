@@ -36,7 +36,7 @@ pub enum Event {
 }
 
 /// The answer to an accepted event.
-#[derive(Clone, Copy, Debug, PartialEq, Eq, Hash)]
+#[derive(Clone, Copy, Debug, PartialEq, Eq)]
 pub enum Reply {
     /// The number of the directory that was made.
     Dir(Dir),
@@ -53,7 +53,7 @@ pub enum Reply {
 }
 
 /// A running request.
-#[derive(Clone, Copy, Debug, PartialEq, Eq, Hash)]
+#[derive(Clone, Copy, Debug, PartialEq, Eq)]
 pub struct Request {
     /// The rank that it runs at.
     pub rank: Rank,

@@ -9,10 +9,11 @@
 //! The export is committed by the journal entry that leads to `Logged`: before it an abort is
 //! allowed, after it the export can only go on.
 
+use mds_types::ExportStage;
 use std::fmt;
 
 /// Where an export stands at its exporter.
-#[derive(Clone, Copy, Debug, PartialEq, Eq, Hash)]
+#[derive(Clone, Copy, Debug, PartialEq, Eq)]
 pub enum ExporterState {
     /// The importer was asked whether it knows the directories.
     Discovering,
@@ -30,16 +31,34 @@ pub enum ExporterState {
     Aborted,
 }
 
+impl ExporterState {
+    ghost use Rattle.std.specs.Prelude.{◌≡◌};
+    ghost use Rattle.export_machine.specs.Refused.{stage_of};
+
+    /// The same, as a refusal tells it.
+    pub fn stage(self) -> ExportStage
+        ensures { result ≡ stage_of self }
+    {
+        match self {
+            ExporterState::Discovering => ExportStage::Discovering,
+            ExporterState::Freezing => ExportStage::Freezing,
+            ExporterState::Preparing => ExportStage::Preparing,
+            ExporterState::Exporting => ExportStage::Exporting,
+            ExporterState::Logged => ExportStage::Logged,
+            ExporterState::Done => ExportStage::Done,
+            ExporterState::Aborted => ExportStage::Aborted,
+        }
+    }
+}
+
 impl fmt::Display for ExporterState {
+    ghost use Rattle.std.specs.Prelude.{Some};
+    ghost use Rattle.mds_types.specs.Refusal.{stage_word};
+    ghost use Rattle.export_machine.specs.Refused.{stage_of};
+
+    ghost output = { λ state. Some (stage_word (stage_of state)) };
+
     fn fmt<W: fmt::Write>(&self, f: &mut fmt::Formatter<W>) -> fmt::Result {
-        f.write_str(match self {
-            ExporterState::Discovering => "discovering",
-            ExporterState::Freezing => "freezing",
-            ExporterState::Preparing => "preparing",
-            ExporterState::Exporting => "exporting",
-            ExporterState::Logged => "logged",
-            ExporterState::Done => "done",
-            ExporterState::Aborted => "aborted",
-        })
+        f.write_str(self.stage().text())
     }
 }

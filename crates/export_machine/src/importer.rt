@@ -9,7 +9,7 @@
 //! A started import is journaled. From then on only the exporter's `Finish` or `Cancel` settles it.
 
 /// Where an export stands at its importer.
-#[derive(Clone, Copy, Debug, PartialEq, Eq, Hash)]
+#[derive(Clone, Copy, Debug, PartialEq, Eq)]
 pub enum ImporterState {
     /// Nothing came yet.
     Unknown,

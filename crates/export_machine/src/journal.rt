@@ -6,7 +6,7 @@ use mds_types::Dir;
 ///
 /// A rank owns the directories that its own journal gives it: `Made` and `Imported` add, `Gone` and `Exported` take
 /// away, the others change nothing.
-#[derive(Clone, Copy, Debug, PartialEq, Eq, Hash)]
+#[derive(Clone, Copy, Debug, PartialEq, Eq)]
 pub enum JournalEntry {
     /// The directory was made.
     Made(Dir),

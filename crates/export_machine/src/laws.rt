@@ -1,8 +1,16 @@
 //! What holds after every list of events: refused ones included, messages lost, repeated or reordered.
 
-ghost use Rattle.std.specs.Prelude.{ℕ, ◌≤◌, List};
-ghost use Rattle.export_machine.specs.Step.{run, start, Event as StepEvent};
+ghost use Rattle.std.specs.Prelude.{ℕ, ◌≤◌, ◌≡◌, ◌≢◌, ◌↔◌, List, None, Some, true, false};
+ghost use Rattle.export_machine.specs.Cluster.{World};
+ghost use Rattle.export_machine.specs.Authority.{authority, is_present, is_stopped};
+ghost use Rattle.export_machine.specs.View.{IsReached};
+ghost use Rattle.export_machine.specs.Step.{run, start, refusal, Event as StepEvent};
+ghost use Rattle.export_machine.specs.Local.{IsLocal};
+ghost use Rattle.export_machine.specs.Entries.{IsRecorded, AreInJournals, AreMade, IsRecovered};
+ghost use Rattle.export_machine.specs.declared.step_error.StepError.TheVariants.{Memory};
 ghost use Rattle.export_machine.specs.Promises.{
+  Promised,
+  IsTheAuthority,
   OneAuthority,
   ServedByAuthority,
   RequestsAtAuthority,
@@ -42,6 +50,34 @@ pub fn one_authority()
     // What is gone is named nowhere and has no authority.
     ensures gone { (limit ranks : ℕ) (events : List StepEvent) → 1 ≤ ranks →
         NoneForGone (run (start limit ranks) events) }
+{}
+
+/// What holds of every cluster that some list of events leads to, as each value of `Cluster` is.
+pub fn reached()
+    ensures promised { (w : World) → IsReached w → Promised w }
+    // What is answered as the authority is the one that there is.
+    ensures found { (w : World) (r d : ℕ) → IsReached w → (authority w d ≡ Some r) ↔ IsTheAuthority w r d }
+    ensures absent { (w : World) (d : ℕ) → IsReached w → (authority w d ≡ None) ↔ (is_present w d ≡ false) }
+{}
+
+/// A rank decides by its own journal, the states of its own exports and the requests that run at it.
+pub fn local()
+    ensures { (w : World) → IsReached w → IsLocal w }
+{}
+
+/// What an event leaves of the journals, the map and the tree.
+pub fn recorded()
+    // Each journal is the one before, with at most the event's entry, and by that the map changes.
+    ensures recorded { (w : World) (e : StepEvent) → IsReached w → IsRecorded w e }
+    // The definition never refuses for want of memory.
+    ensures never_memory { (w : World) (e : StepEvent) → refusal w e ≢ Some Memory }
+    ensures there { (w : World) → IsReached w → AreInJournals w }
+    ensures made { (w : World) → IsReached w → AreMade w }
+{}
+
+/// Between a stop and a restart nothing changes what a rank knows: it is what its journal tells.
+pub fn recovered()
+    ensures { (w : World) (r : ℕ) → IsReached w → is_stopped w r ≡ true → IsRecovered w r }
 {}
 
 /// Where owners are kept at the roots of subtrees alone, the walk up finds the authority, after every list of events.

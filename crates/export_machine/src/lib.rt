@@ -19,6 +19,7 @@ pub mod laws;
 pub mod message;
 mod records;
 mod refusals;
+mod roots;
 mod searching;
 pub mod step_error;
 mod stopping;

@@ -1,7 +1,7 @@
 //! What the two ranks of an export tell each other.
 
 /// A message about the export of this number.
-#[derive(Clone, Copy, Debug, PartialEq, Eq, Hash)]
+#[derive(Clone, Copy, Debug, PartialEq, Eq)]
 pub enum Message {
     /// To the importer: do you know these directories?
     Discover(u32),

@@ -8,6 +8,7 @@ ghost use Rattle.std.specs.Prelude.{◌≡◌, ℕ, ◌<◌, ◌≤◌, IfOk, ma
 ghost use Rattle.export_machine.specs.Authority.{is_present, authority, open_export, is_stopped, exporter_of, importer_of, from_of, to_of, order_in, frozen_by, serves, named_of, journal_of};
 ghost use Rattle.export_machine.specs.Step.{running_on, start};
 ghost use Rattle.std.specs.List.{list_all};
+ghost use Rattle.export_machine.specs.Roots.{parent_of, root_rank};
 ghost use Rattle.export_machine.specs.Kept.{world_of, indexes_of, first_indexes, children_of, IsKept};
 
 use crate::event::Request;
@@ -131,6 +132,25 @@ impl Records {
         ensures { result ≡ authority (world_of self.now) dir }
     {
         value_at(&self.owners, dir.number() as usize, None)
+    }
+
+    pub(crate) fn parent(&self, dir: Dir) -> Option<Dir>
+        ensures { result ≡ parent_of (world_of self.now) dir }
+    {
+        value_at(&self.parents, dir.number() as usize, None)
+    }
+
+    /// The authority of a directory that is the root of a subtree.
+    pub(crate) fn root_rank(&self, dir: Dir) -> Option<Rank>
+        requires { IsKept self.now }
+        ensures { result ≡ root_rank (world_of self.now) dir }
+    {
+        match self.parent(dir) {
+            Some(parent) if dir.number() == 0 || self.authority(dir) != self.authority(parent) => {
+                self.authority(dir)
+            }
+            _ => None,
+        }
     }
 
     pub(crate) fn open_export(&self, dir: Dir) -> Option<u32>

@@ -5,6 +5,7 @@ ghost use Rattle.std.specs.Prelude.{◌≡◌, true};
 ghost use Rattle.std.specs.List.{list_all};
 ghost use Rattle.export_machine.specs.Authority.{is_present};
 ghost use Rattle.export_machine.specs.Step.{Event as StepEvent, refusal, first, causes, is_connected};
+ghost use Rattle.export_machine.specs.Room.{IsAsRoomy};
 ghost use Rattle.export_machine.specs.Kept.{world_of, indexes_of, has_room, event_of, cause_of, IsKept};
 
 use crate::checks::{check_different, check_not_root};
@@ -201,6 +202,7 @@ impl Records {
         ensures world { world_of self.new ≡ world_of self.old }
         ensures indexes { indexes_of self.new ≡ indexes_of self.old }
         ensures room { has_room self.old (event_of event.now) ≡ true → has_room self.new (event_of event.now) ≡ true }
+        ensures spare { IsAsRoomy self.old self.new }
     {
         self.check_history()?;
         match event {

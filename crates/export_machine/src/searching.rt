@@ -7,7 +7,7 @@ ghost use Rattle.export_machine.specs.Step.{repeats, parent_among, is_connected}
 ghost use Rattle.export_machine.specs.Roots.{parent_of};
 ghost use Rattle.export_machine.specs.Kept.{world_of};
 
-use crate::records::{Records, value_at};
+use crate::records::Records;
 use mds_types::Dir;
 
 /// A list of directories in which members are looked up: by halves where it rises, else one after the other.
@@ -76,12 +76,6 @@ impl<'a> Members<'a> {
 }
 
 impl Records {
-    fn parent(&self, dir: Dir) -> Option<Dir>
-        ensures { result ≡ parent_of (world_of self.now) dir }
-    {
-        value_at(&self.parents, dir.number() as usize, None)
-    }
-
     fn has_parent_in(&self, members: &Members<'_>, dir: Dir) -> bool
         ensures { result ≡ parent_among members.now.dirs.now dir (parent_of (world_of self.now) dir) }
     {

@@ -1,1 +1,1 @@
-pub mod HeatFold
+pub mod Touches

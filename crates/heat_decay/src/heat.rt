@@ -4,11 +4,14 @@
 //! down. So a directory that nobody uses is cold after 41 ticks. The heat of a set of directories
 //! is the sum: a directory's own heat doesn't hold that of the directories below it. After the
 //! decaying counters of Weil et al., "Ceph", OSDI 2006.
+//!
+//! Kept are a directory's heat as the last deposit left it and the tick of that deposit. The halvings
+//! since are made where the heat is read, so a tick takes no longer with more directories.
 
-ghost use Rattle.std.specs.Prelude.{◌≡◌, map};
-ghost use Rattle.heat_decay.specs.Heat.{after_tick};
+ghost use Rattle.std.specs.Prelude.{◌≡◌, ◌<◌, ◌≤◌, ◌^◌};
 
 use crate::ticks_full::TicksFull;
+use crate::touch::Touch;
 use mds_types::Dir;
 use mds_types::limits::{DIR_LIMIT, HEAT_LIMIT};
 use std::alloc::{AllocError, Global};
@@ -18,61 +21,85 @@ use std::marker::Model;
 pub const TICK_LIMIT: u64 = 1 << 40;
 
 /// The heats of the directories whose numbers are below a limit. A contract sees the limit, the
-/// number of ticks made, and the heats, in accesses, by number.
+/// number of ticks made, the heats, in accesses, by number, and how each heat was left.
 #[derive(Drop)]
 pub struct Heat {
     limit: u32,
     ticks: u64,
-    heats: Vec<u64>,
+    touches: Vec<Touch>,
 }
 
 impl Model for Heat {
-    ghost use Rattle.std.specs.Prelude.{◌≡◌, ◌≤◌, All, length};
-    ghost use Rattle.heat_decay.specs.Heat.{Heats};
-    ghost use Rattle.mds_types.specs.declared.limits.TheConstants.{HEAT_LIMIT};
+    ghost use Rattle.heat_decay.specs.Heat.{AreKept, Heats, heats_of};
 
     ghost Value = { Heats };
 
-    ghost view = { λ heat. record { limit = heat.limit; ticks = heat.ticks; heats = heat.heats.items } };
+    ghost view = { λ heat. heats_of heat.limit heat.ticks heat.touches.items };
 
-    ghost invariant = { λ heat. (length heat.heats.items ≡ heat.limit) × All (λ accesses. accesses ≤ HEAT_LIMIT) heat.heats.items };
+    ghost invariant = { λ heat. AreKept heat.limit heat.ticks heat.touches.items };
 }
 
 impl Heat {
-    ghost use Rattle.std.specs.Prelude.{◌≡◌, ◌+◌, ◌<◌, ◌≤◌, ◌↔◌, IfOk, IsErr, OnOk, OnErr, map, replicate, slice_index, slice_set};
-    ghost use Rattle.heat_decay.specs.Heat.{Heats, after_deposit, after_tick};
+    ghost use Rattle.std.specs.Prelude.{◌+◌, ◌-◌, ◌/◌, ◌↔◌, All, IfOk, IsErr, OnOk, OnErr, length, map, slice_index, slice_index_or};
+    ghost use Rattle.heat_decay.specs.Heat.{Heats, after_deposit, after_tick, all_cold, touched};
 
-    /// No directory has heat. It takes all memory that the heats will need.
+    /// No directory has heat, and no tick was made. It takes all memory that the heats will need.
     pub fn new(alloc: Global, limit: u32) -> Result<Heat, AllocError>
         requires limit { (1 ≤ limit) × (limit ≤ DIR_LIMIT) }
-        ensures { IfOk result (λ heat. heat ≡ record { limit = limit; ticks = 0; heats = replicate limit 0 }) }
+        ensures { IfOk result (λ heat. heat ≡ all_cold limit 0) }
     {
+        Heat::resumed(alloc, limit, 0)
+    }
+
+    /// No directory has heat after so many ticks. It takes all memory that the heats will need.
+    pub fn resumed(alloc: Global, limit: u32, ticks: u64) -> Result<Heat, AllocError>
+        requires limit { (1 ≤ limit) × (limit ≤ DIR_LIMIT) }
+        requires ticks { ticks ≤ 2 ^ 40 }
+        ensures { IfOk result (λ heat. heat ≡ all_cold limit ticks) }
+    {
+        let cold = Touch {
+            heat: 0,
+            tick: ticks,
+        };
+        let touches = vec![in alloc; cold; limit as usize]?;
         Ok(Heat {
             limit,
-            ticks: 0,
-            heats: vec![in alloc; 0u64; limit as usize]?,
+            ticks,
+            touches,
         })
+    }
+
+    /// Gives a directory a heat now.
+    fn touch(&mut self, dir: Dir, heat: u64)
+        requires dir { dir < self.old.limit }
+        requires cool { heat ≤ 2 ^ 40 }
+        ensures heats { self.new ≡ touched self.old dir heat }
+        ensures here { slice_index self.new.heats dir ≡ heat }
+    {
+        let tick = self.ticks;
+        self.touches[dir.number() as usize] = Touch { heat, tick };
     }
 
     /// Deposits hits on a directory.
     pub fn add(&mut self, dir: Dir, hits: u64)
         requires { dir < self.old.limit }
-        ensures { self.new ≡ record self.old { heats = slice_set self.old.heats dir (after_deposit (slice_index self.old.heats dir) hits) } }
+        ensures heats { self.new ≡ touched self.old dir (after_deposit (slice_index self.old.heats dir) hits) }
+        ensures here { slice_index self.new.heats dir ≡ after_deposit (slice_index self.old.heats dir) hits }
     {
-        let heat = &mut self.heats[dir.number() as usize];
-        *heat = heat.saturating_add(hits).min(HEAT_LIMIT);
+        let heat = self.heat(dir);
+        self.touch(dir, heat.saturating_add(hits).min(HEAT_LIMIT));
     }
 
-    /// Halves all heats.
+    /// Halves all heats. It goes to no directory: what is kept of each stays as it was.
     pub fn tick(&mut self) -> Result<(), TicksFull>
-        ensures ok { OnOk result (self.new ≡ record self.old { ticks = self.old.ticks + 1; heats = map after_tick self.old.heats }) }
-        ensures full { IsErr result ↔ (TICK_LIMIT ≤ self.old.ticks) }
+        ensures ok { OnOk result (self.new
+            ≡ record self.old { ticks = self.old.ticks + 1; heats = map after_tick self.old.heats }) }
+        ensures full { IsErr result ↔ (2 ^ 40 ≤ self.old.ticks) }
         ensures err { OnErr result (self.new ≡ self.old) }
     {
         if self.ticks >= TICK_LIMIT {
             return Err(TicksFull);
         }
-        halve(&mut self.heats);
         self.ticks += 1;
         Ok(())
     }
@@ -80,90 +107,42 @@ impl Heat {
     /// Makes a directory cold, as one that was just made.
     pub fn clear(&mut self, dir: Dir)
         requires { dir < self.old.limit }
-        ensures { self.new ≡ record self.old { heats = slice_set self.old.heats dir 0 } }
+        ensures heats { self.new ≡ touched self.old dir 0 }
+        ensures here { slice_index self.new.heats dir ≡ 0 }
     {
-        self.heats[dir.number() as usize] = 0;
+        self.touch(dir, 0);
     }
 
     /// The heat of a directory, in accesses.
     pub fn heat(&self, dir: Dir) -> u64
         requires { dir < self.now.limit }
         ensures value { result ≡ slice_index self.now.heats dir }
-        ensures limited { result ≤ HEAT_LIMIT }
+        ensures limited { result ≤ 2 ^ 40 }
     {
-        let row = dir.number() as usize;
-        self.heats[row]
-    }
-}
-
-// Halves each entry.
-fn halve(heats: &mut Vec<u64>)
-    ensures { heats.new.items ≡ map after_tick heats.old.items }
-{
-    for heat in heats.iter_mut() {
-        *heat /= 2;
-    }
-}
-
-#[cfg(test)]
-mod tests {
-    use super::*;
-    use std::test::Fail;
-
-    // (deposits, heat after them, after one tick, after two)
-    #[test]
-    fn deposits_and_ticks(rt: HostRuntime) -> Result<(), Fail> {
-        let table = [
-            ((0, 0), 0, 0, 0),
-            ((7, 0), 7, 3, 1),
-            ((3, 4), 7, 3, 1),
-            (
-                (HEAT_LIMIT, 1),
-                HEAT_LIMIT,
-                549_755_813_888,
-                274_877_906_944,
-            ),
-            (
-                (1, u64::MAX),
-                1_099_511_627_776,
-                549_755_813_888,
-                274_877_906_944,
-            ),
-        ];
-        for ((first, second), deposited, once, twice) in table {
-            let dir = Dir::new(1);
-            let mut heat = Heat::new(rt.alloc(), 4)?;
-            heat.add(dir, first);
-            heat.add(dir, second);
-            assert_eq!(rt; heat.heat(dir), deposited, "{first} and {second}");
-            heat.tick()?;
-            assert_eq!(rt; heat.heat(dir), once, "{first} and {second}");
-            heat.tick()?;
-            assert_eq!(rt; heat.heat(dir), twice, "{first} and {second}");
-            assert_eq!(rt; heat.heat(Dir::new(2)), 0, "the neighbour");
-            heat.clear(dir);
-            assert_eq!(rt; heat.heat(dir), 0, "cleared");
-        }
-        Ok(())
+        let touch = self.touches[dir.number() as usize];
+        touch.cooled(self.ticks)
     }
 
-    #[test]
-    fn is_cold_after_41_ticks(rt: HostRuntime) -> Result<(), Fail> {
-        let dir = Dir::new(0);
-        let mut heat = Heat::new(rt.alloc(), 1)?;
-        heat.add(dir, HEAT_LIMIT);
-        for ticks in 0..41u32 {
-            assert_eq!(rt; heat.heat(dir), HEAT_LIMIT >> ticks, "after {ticks}");
-            heat.tick()?;
-        }
-        assert_eq!(rt; heat.heat(dir), 0);
-        Ok(())
+    /// A directory's heat as the last deposit or `clear` left it, in accesses, and how many ticks had
+    /// been made by then: 0 and the ticks at the opening where there was none.
+    pub fn kept(&self, dir: Dir) -> (u64, u64)
+        requires { dir < self.now.limit }
+        ensures kept { record { heat = result.0; tick = result.1 }
+            ≡ slice_index_or self.now.kept dir (record { heat = result.0; tick = result.1 }) }
+        ensures heat { slice_index self.now.heats dir ≡ result.0 / 2 ^ (self.now.ticks - result.1) }
+        ensures past { result.1 ≤ self.now.ticks }
+    {
+        let Touch { heat, tick } = self.touches[dir.number() as usize];
+        (heat, tick)
     }
 
-    #[test]
-    fn prints_its_refusal(rt: HostRuntime) -> Result<(), Fail> {
-        let text = format!(in rt.alloc(); "{TicksFull}")?;
-        assert_eq!(rt; text.as_str(), "15 TicksFull");
-        Ok(())
+    /// The number from which on directories have no heat here.
+    pub fn limit(&self) -> u32
+        ensures value { result ≡ self.now.limit }
+        ensures size { (length self.now.heats ≡ self.now.limit) × (length self.now.kept ≡ self.now.limit) }
+        ensures cool { All (λ heat. heat ≤ 2 ^ 40) self.now.heats }
+        ensures ticks { self.now.ticks ≤ 2 ^ 40 }
+    {
+        self.limit
     }
 }

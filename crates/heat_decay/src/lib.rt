@@ -3,6 +3,7 @@
 
 mod heat;
 mod ticks_full;
+mod touch;
 
 pub use heat::{Heat, TICK_LIMIT};
 pub use ticks_full::TicksFull;

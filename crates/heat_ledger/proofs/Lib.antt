@@ -1,4 +1,6 @@
 pub mod RowLemmas
+pub mod Marks
+pub mod Listed
 pub mod Totals
 pub mod Moves
 pub mod Slots

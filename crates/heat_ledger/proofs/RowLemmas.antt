@@ -1,8 +1,7 @@
--- Entries of rows, and marks of directories.
+-- Entries of rows.
 use Rattle.std.proofs.Common.{◌≡◌, ◌≢◌, ℕ, zero, suc, ◌+◌, ◌-◌, ◌<◌, ◌≤◌, List, [], ◌∷◌, Bool, true, false, true≢false, set, length, replicate, refl, sym, ap, ◌∙◌, arith, length-set, get_or}
 use native.Mathlib.Decide.{ℕ_discrete}
 use Rattle.heat_ledger.specs.Rows.{at, sums, differences, raised, IsZero}
-use Rattle.heat_ledger.specs.Touched.{IsUnmarked, IsTracked}
 
 pub at_set_same : (xs : List ℕ) (d y : ℕ) → d < length xs → at (set xs d y) d ≡ y
 at_set_same [] d y h = absurd (omega arith)
@@ -77,55 +76,3 @@ zero_row xs n e zeros = same_rows xs (replicate n 0) (e ∙ sym (length-replicat
 
 pub sum_row : (new xs ys : List ℕ) → length new ≡ length xs → length ys ≡ length xs → ((k : ℕ) → at new k ≡ at xs k + at ys k) → new ≡ sums xs ys
 sum_row new xs ys e f h = same_rows new (sums xs ys) (e ∙ sym (length-sums xs ys f)) (λ k. h k ∙ sym (at_sums xs ys k))
-
-pub tracked_zero : (counts touched : List ℕ) → IsZero counts → IsTracked counts touched 0 false
-tracked_zero counts touched none = record { within = omega arith; inside = λ j h. absurd (omega arith); all = λ _ d _. none d }
-
-pub tracked_every : (counts new touched : List ℕ) (marks : ℕ) (every : Bool) → length new ≡ length counts → IsTracked counts touched marks every → IsTracked new touched marks true
-tracked_every counts new touched marks every l t = record {
-  within = t.within;
-  inside = λ j h. (let i = t.inside j h in omega arith);
-  all = λ off d h. absurd (true≢false off);
-}
-
-pub tracked_more : (counts touched : List ℕ) (marks dir : ℕ) (every : Bool) → marks < length touched → dir < length counts → IsTracked counts touched marks every → IsTracked counts (set touched marks dir) (marks + 1) every
-tracked_more counts touched marks dir every room inside t = record {
-  within = (let l = length-set touched marks dir in omega arith);
-  inside = λ j h. inner j h (ℕ_discrete j marks);
-  all = λ off d h. t.all off d (λ j less e. h j (omega arith) (at_set_other touched marks dir j (λ s. absurd (omega arith)) ∙ e));
-}
-  where
-    inner : (j : ℕ) → j < marks + 1 → Dec (j ≡ marks) → at (set touched marks dir) j < length counts
-    inner j h (yes e) = (let v : at (set touched marks dir) j ≡ dir = ap (at (set touched marks dir)) e ∙ at_set_same touched marks dir room in omega arith)
-    inner j h (no n) = (let v = at_set_other touched marks dir j n in let i = t.inside j (omega arith) in omega arith)
-
-pub marked_last : (touched : List ℕ) (marks dir : ℕ) → marks < length touched → IsUnmarked (set touched marks dir) (marks + 1) dir → ⊥
-marked_last touched marks dir room un = un marks (omega arith) (at_set_same touched marks dir room)
-
-pub unmarked_before : (touched : List ℕ) (marks dir other : ℕ) → marks < length touched → IsUnmarked (set touched marks dir) (marks + 1) other → IsUnmarked touched marks other
-unmarked_before touched marks dir other room un j less e = un j (omega arith) (at_set_other touched marks dir j (λ s. absurd (omega arith)) ∙ e)
-
-pub tracked_raised : (counts touched : List ℕ) (marks dir y : ℕ) (every : Bool) → IsTracked counts touched marks every → (every ≡ false → IsUnmarked touched marks dir → ⊥) → IsTracked (set counts dir y) touched marks every
-tracked_raised counts touched marks dir y every t noted = record {
-  within = t.within;
-  inside = λ j h. (let i = t.inside j h in let l = length-set counts dir y in omega arith);
-  all = λ off d h. each off d h (ℕ_discrete d dir);
-}
-  where
-    each : every ≡ false → (d : ℕ) → IsUnmarked touched marks d → Dec (d ≡ dir) → at (set counts dir y) d ≡ 0
-    each off d h (yes e) = absurd (noted off (λ j less s. h j less (s ∙ sym e)))
-    each off d h (no n) = at_set_other counts dir y d n ∙ t.all off d h
-
-pub tracked_joined : (counts others new touched other_touched : List ℕ) (marks other_marks : ℕ) (every : Bool) → IsTracked counts touched marks every → IsTracked others other_touched other_marks false
-    → (every ≡ false → (j : ℕ) → j < other_marks → IsUnmarked touched marks (at other_touched j) → ⊥)
-    → length new ≡ length counts → ((k : ℕ) → at new k ≡ at counts k + at others k) → IsTracked new touched marks every
-tracked_joined counts others new touched other_touched marks other_marks every t u noted l h = record {
-  within = t.within;
-  inside = λ j less. (let i = t.inside j less in omega arith);
-  all = λ off d un. (let a = t.all off d un in let b = u.all refl d (λ j less e. noted off j less (λ i small s. un i small (s ∙ e))) in let c = h d in omega arith);
-}
-
--- where the marked entries are 0, and the others were, all are
-pub settled : (new old touched : List ℕ) (marks d : ℕ) → (IsUnmarked touched marks d → at old d ≡ 0) → at new d ≤ at old d → ((k : ℕ) → k < marks → at new (at touched k) ≡ 0) → Dec (at new d ≡ 0) → at new d ≡ 0
-settled new old touched marks d all less zeros (yes e) = e
-settled new old touched marks d all less zeros (no n) = let o = all (λ j h e. n (ap (at new) (sym e) ∙ zeros j h)) in omega arith

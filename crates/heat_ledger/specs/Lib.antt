@@ -4,3 +4,4 @@ pub mod Tally
 pub mod Ledger
 pub mod Opening
 pub mod Keeping
+pub mod Refused

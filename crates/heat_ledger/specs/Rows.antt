@@ -1,5 +1,5 @@
 -- Rows of counts, one count for each directory number below a limit.
-use Rattle.std.specs.Prelude.{◌≡◌, ℕ, ◌+◌, ◌-◌, List, [], ◌∷◌, slice_index_or, slice_set}
+use Rattle.std.specs.Prelude.{◌≡◌, ℕ, ◌+◌, ◌-◌, List, [], ◌∷◌, slice_index_or, slice_set, filter, nat_lt}
 
 -- the count of a directory, and 0 past the limit
 abbrev pub at : List ℕ → ℕ → ℕ
@@ -24,3 +24,16 @@ raised counts dir = slice_set counts dir (at counts dir + 1)
 -- no directory has a count
 abbrev pub IsZero : List ℕ → Type 0
 IsZero counts = (dir : ℕ) → at counts dir ≡ 0
+
+-- each directory from this number on, with its count
+abbrev pub numbered : ℕ → List ℕ → List (ℕ × ℕ)
+numbered dir [] = []
+numbered dir (x ∷ xs) = (dir, x) ∷ numbered (dir + 1) xs
+
+-- the directories that have a count, rising, each with its count
+abbrev pub counted_rows : List ℕ → List (ℕ × ℕ)
+counted_rows counts = filter (λ row. nat_lt 0 row.1) (numbered 0 counts)
+
+-- the counts, with one directory's row added
+abbrev pub with_row : List ℕ → ℕ × ℕ → List ℕ
+with_row counts row = slice_set counts row.0 (at counts row.0 + row.1)

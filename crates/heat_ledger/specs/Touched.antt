@@ -1,13 +1,17 @@
--- Which directories of a row may have a count.
-use Rattle.std.specs.Prelude.{◌≡◌, ◌≢◌, ℕ, ◌<◌, ◌≤◌, Bool, false, List, length}
+-- Which directories of a row have a count.
+use Rattle.std.specs.Prelude.{◌≡◌, ℕ, zero, suc, ◌+◌, ◌==◌, List, [], ◌∷◌, if◌then◌else◌}
 use Rattle.heat_ledger.specs.Rows.{at}
 
--- none of the first marks is this directory
-abbrev pub IsUnmarked : List ℕ → ℕ → ℕ → Type 0
-IsUnmarked touched marks dir = (j : ℕ) → j < marks → at touched j ≢ dir
+-- how often a directory stands in a list
+abbrev pub times : List ℕ → ℕ → ℕ
+times [] dir = 0
+times (d ∷ ds) dir = if d == dir then 1 + times ds dir else times ds dir
 
--- a directory without a mark has no count, unless there was no room for a mark
-pub record IsTracked (counts touched : List ℕ) (marks : ℕ) (every : Bool) : Type 0 where
-  pub within : marks ≤ length touched
-  pub inside : (j : ℕ) → j < marks → at touched j < length counts
-  pub all : every ≡ false → (dir : ℕ) → IsUnmarked touched marks dir → at counts dir ≡ 0
+-- 1 where there is a count, and else 0
+abbrev pub mark : ℕ → ℕ
+mark zero = 0
+mark (suc count) = 1
+
+-- each directory stands in the list once where it has a count, and else not at all
+pub record IsTracked (counts touched : List ℕ) : Type 0 where
+  pub once : (dir : ℕ) → times touched dir ≡ mark (at counts dir)

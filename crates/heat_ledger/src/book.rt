@@ -6,7 +6,7 @@ use crate::missing::Missing;
 use crate::opened::Opened;
 use crate::opening::{Room, deal, lay_out};
 use crate::row::Row;
-use crate::share::{HIT_LIMIT, Share};
+use crate::share::Share;
 use crate::tally::{Desk, Place, grant, issue, learn, reissue};
 use mds_types::Dir;
 use mds_types::limits::DIR_LIMIT;
@@ -46,7 +46,7 @@ impl<J: Naming> Model for Book<J> {
 }
 
 impl<J: Naming> Book<J> {
-    ghost use Rattle.std.specs.Prelude.{◌≡◌, ℕ, ◌+◌, ◌<◌, ◌≤◌, true, false, All, IsErr, IfOk, IfErr, OnOk, OnErr, length, replicate};
+    ghost use Rattle.std.specs.Prelude.{◌≡◌, ℕ, ◌+◌, ◌^◌, ◌<◌, ◌≤◌, true, false, All, IsErr, IfOk, IfErr, OnOk, OnErr, length, replicate};
     ghost use Rattle.heat_ledger.specs.Rows.{at, sums, raised};
     ghost use Rattle.heat_ledger.specs.Ledger.{IsClean, weight_of, hits_of, pending_of, begun_of};
 
@@ -132,7 +132,7 @@ impl<J: Naming> Book<J> {
     /// Counts a request that begins.
     pub fn begin(&mut self, share: &mut Share<J>, dir: Dir)
         requires inside { dir < J.limit }
-        requires room { at self.old.begun dir < HIT_LIMIT }
+        requires room { at self.old.begun dir < 2 ^ 56 }
         ensures book { self.new ≡ record self.old { begun = raised self.old.begun dir } }
         ensures share { share.new ≡ record share.old { begun = raised share.old.begun dir } }
     {

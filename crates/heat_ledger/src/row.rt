@@ -1,12 +1,10 @@
 //! Counts by directory, and which directories have one.
 //!
 //! A row notes each directory at its first count, so that what is done with all counts takes time
-//! for the directories that were counted, and not for all that there could be. `touched` has a
-//! place for each directory, of which the first `marks` are used. Were there ever no place left,
-//! `every` says that each directory may have a count.
-ghost use Rattle.std.specs.Prelude.{◌≡◌, ◌≢◌, ℕ, ◌+◌, ◌^◌, ◌<◌, ◌≤◌, ◌↔◌, IsTrue, IfOk, false, length, replicate};
+//! for the directories that were counted, and not for all that there could be.
+ghost use Rattle.std.specs.Prelude.{◌≡◌, ℕ, ◌+◌, ◌^◌, ◌<◌, ◌≤◌, ◌↔◌, [], IsTrue, IfOk, length, map, slice_set, vec_capacity};
 ghost use Rattle.heat_ledger.specs.Rows.{at, IsZero};
-ghost use Rattle.heat_ledger.specs.Touched.{IsUnmarked, IsTracked};
+ghost use Rattle.heat_ledger.specs.Touched.{IsTracked};
 
 use mds_types::Dir;
 use std::alloc::{AllocError, Global};
@@ -16,38 +14,32 @@ use std::marker::Model;
 #[derive(Drop)]
 pub(crate) struct Row {
     counts: Vec<u64>,
+    // The directories that have a count, in the order of their first ones.
     touched: Vec<u32>,
-    marks: usize,
-    every: bool,
 }
 
 impl Model for Row {
-    ghost use Rattle.std.specs.Prelude.{List, ℕ};
+    ghost use Rattle.std.specs.Prelude.{List, ℕ, ◌≤◌, length, vec_capacity};
     ghost use Rattle.heat_ledger.specs.Touched.{IsTracked};
 
     ghost Value = { List ℕ };
 
     ghost view = { λ row. row.counts.items };
 
-    ghost invariant = { λ row. IsTracked row.counts.items row.touched.items row.marks row.every };
+    ghost invariant = { λ row. IsTracked row.counts.items row.touched.items × (length row.counts.items ≤ vec_capacity row.touched) };
 }
 
 impl Row {
     ghost use Rattle.std.specs.Prelude.{◌≡◌, ℕ, ◌+◌, ◌^◌, ◌<◌, ◌↔◌, IsTrue, IfOk, length, replicate};
-    ghost use Rattle.heat_ledger.specs.Rows.{at, sums, raised, IsZero};
+    ghost use Rattle.heat_ledger.specs.Rows.{at, sums, raised, counted_rows, IsZero};
 
     /// No directory has a count.
     pub(crate) fn new(alloc: Global, limit: u32) -> Result<Row, AllocError>
         ensures { IfOk result (λ row. row ≡ replicate limit 0) }
     {
         let counts = vec![in alloc; 0u64; limit as usize]?;
-        let touched = vec![in alloc; 0u32; limit as usize]?;
-        Ok(Row {
-            counts,
-            touched,
-            marks: 0,
-            every: false,
-        })
+        let touched = Vec::with_capacity(alloc, limit as usize)?;
+        Ok(Row { counts, touched })
     }
 
     /// How many directories there are room for.
@@ -70,26 +62,24 @@ impl Row {
         requires fits { at self.old dir + 1 < 2 ^ 64 }
         ensures { self.new ≡ raised self.old dir }
     {
-        let number = dir.number();
-        note(
-            &self.counts,
-            &mut self.touched,
-            &mut self.marks,
-            &mut self.every,
-            number,
-        );
-        self.counts[number as usize] += 1;
+        add(&mut self.counts, &mut self.touched, dir.number(), 1);
     }
 
     /// Whether no directory has a count.
     pub(crate) fn is_zero(&self) -> bool
         ensures { IsTrue result ↔ IsZero self.now }
     {
-        if self.every {
-            is_zero_list(&self.counts)
-        } else {
-            is_zero_at(&self.counts, &self.touched, self.marks)
-        }
+        self.touched.is_empty()
+    }
+
+    /// The directories that have a count, rising, each with its count.
+    pub(crate) fn rows(&self, alloc: Global) -> Result<Vec<(Dir, u64)>, AllocError>
+        ensures { IfOk result (λ rows. rows.items ≡ counted_rows self.now) }
+    {
+        let mut dirs = Vec::new(alloc);
+        dirs.extend_from_slice(self.touched.as_slice())?;
+        dirs.sort_unstable();
+        with_counts(alloc, dirs.as_slice(), self.counts.as_slice())
     }
 
     /// Adds all counts to a list, and makes them 0.
@@ -99,15 +89,8 @@ impl Row {
         ensures into { into.new.items ≡ sums into.old.items self.old }
         ensures zero { self.new ≡ replicate (length self.old) 0 }
     {
-        move_all(
-            into,
-            &mut self.counts,
-            &self.touched,
-            self.marks,
-            self.every,
-        );
-        self.marks = 0;
-        self.every = false;
+        move_all(into, &mut self.counts, &self.touched);
+        self.touched.clear();
     }
 
     /// Adds the counts of another row to this one's.
@@ -116,145 +99,75 @@ impl Row {
         requires fits { (dir : ℕ) → at self.old dir + at other dir < 2 ^ 64 }
         ensures { self.new ≡ sums self.old other }
     {
-        let Row {
-            mut counts,
-            touched,
-            marks,
-            every,
-        } = other;
-        if every {
-            self.every = true;
-            add_list(&mut self.counts, &counts);
-        } else {
-            note_all(
-                &self.counts,
-                &mut self.touched,
-                &mut self.marks,
-                &mut self.every,
-                &touched,
-                marks,
-            );
-            move_marked(&mut self.counts, &mut counts, &touched, marks);
-        }
+        let Row { counts, touched } = other;
+        add_all(&mut self.counts, &mut self.touched, &counts, &touched);
     }
 }
 
-// Marks a directory that has no count yet.
-fn note(counts: &Vec<u64>, touched: &mut Vec<u32>, marks: &mut usize, every: &mut bool, dir: u32)
-    requires tracked { IsTracked counts.now.items touched.old.items marks.old every.old }
-    requires inside { dir < length counts.now.items }
-    ensures tracked { IsTracked counts.now.items touched.new.items marks.new every.new }
-    ensures noted { every.new ≡ false → IsUnmarked touched.new.items marks.new dir → ⊥ }
-    ensures others { every.new ≡ false → (other : ℕ) → IsUnmarked touched.new.items marks.new other → IsUnmarked touched.old.items marks.old other }
-    ensures still { every.new ≡ false → every.old ≡ false }
+// Adds to the count of a directory, which is noted where it had none.
+fn add(counts: &mut Vec<u64>, touched: &mut Vec<u32>, dir: u32, more: u64)
+    requires tracked { IsTracked counts.old.items touched.old.items }
+    requires room { length counts.old.items ≤ vec_capacity touched.old }
+    requires inside { dir < length counts.old.items }
+    requires some { 1 ≤ more }
+    requires fits { at counts.old.items dir + more < 2 ^ 64 }
+    ensures counts { counts.new.items ≡ slice_set counts.old.items dir (at counts.old.items dir + more) }
+    ensures tracked { IsTracked counts.new.items touched.new.items }
+    ensures capacity { vec_capacity touched.new ≡ vec_capacity touched.old }
 {
-    if counts[dir as usize] != 0 {
-        return;
+    let place = dir as usize;
+    if counts[place] == 0 {
+        touched.push_reserved(dir);
     }
-    if *marks < touched.len() {
-        touched[*marks] = dir;
-        *marks += 1;
-    } else {
-        *every = true;
-    }
+    counts[place] += more;
 }
 
-// Marks each directory that another row has marked.
-fn note_all(
-    counts: &Vec<u64>,
+// Adds the counts of another row.
+fn add_all(
+    counts: &mut Vec<u64>,
     touched: &mut Vec<u32>,
-    marks: &mut usize,
-    every: &mut bool,
-    others: &Vec<u32>,
-    other_marks: usize,
+    others: &Vec<u64>,
+    other_touched: &Vec<u32>,
 )
-    requires tracked { IsTracked counts.now.items touched.old.items marks.old every.old }
-    requires within { other_marks ≤ length others.now.items }
-    requires inside { (j : ℕ) → j < other_marks → at others.now.items j < length counts.now.items }
-    ensures tracked { IsTracked counts.now.items touched.new.items marks.new every.new }
-    ensures noted { every.new ≡ false → (j : ℕ) → j < other_marks → IsUnmarked touched.new.items marks.new (at others.now.items j) → ⊥ }
-{
-    for j in 0..other_marks {
-        note(counts, touched, marks, every, others[j]);
-    }
-}
-
-// Adds a list to another, entry by entry.
-fn add_list(into: &mut Vec<u64>, from: &Vec<u64>)
-    requires lengths { length into.old.items ≡ length from.now.items }
-    requires fits { (k : ℕ) → at into.old.items k + at from.now.items k < 2 ^ 64 }
-    ensures sums { (k : ℕ) → at into.new.items k ≡ at into.old.items k + at from.now.items k }
-    ensures length { length into.new.items ≡ length into.old.items }
-{
-    for k in 0..into.len() {
-        into[k] += from[k];
-    }
-}
-
-// Makes each entry 0.
-fn clear_list(counts: &mut Vec<u64>)
-    ensures zero { IsZero counts.new.items }
+    requires tracked { IsTracked counts.old.items touched.old.items × IsTracked others.now.items other_touched.now.items }
+    requires room { length counts.old.items ≤ vec_capacity touched.old }
+    requires lengths { length others.now.items ≡ length counts.old.items }
+    requires fits { (dir : ℕ) → at counts.old.items dir + at others.now.items dir < 2 ^ 64 }
+    ensures sums { (dir : ℕ) → at counts.new.items dir ≡ at counts.old.items dir + at others.now.items dir }
     ensures length { length counts.new.items ≡ length counts.old.items }
+    ensures tracked { IsTracked counts.new.items touched.new.items }
+    ensures capacity { vec_capacity touched.new ≡ vec_capacity touched.old }
 {
-    for i in 0..counts.len() {
-        counts[i] = 0;
+    for j in 0..other_touched.len() {
+        let dir = other_touched[j];
+        add(counts, touched, dir, others[dir as usize]);
     }
 }
 
-// Whether each entry is 0.
-fn is_zero_list(counts: &Vec<u64>) -> bool
-    ensures { IsTrue result ↔ IsZero counts.now.items }
-{
-    for i in 0..counts.len() {
-        if counts[i] != 0 {
-            return false;
-        }
-    }
-    true
-}
-
-// Whether each marked entry is 0, where all others are.
-fn is_zero_at(counts: &Vec<u64>, touched: &Vec<u32>, marks: usize) -> bool
-    requires { IsTracked counts.now.items touched.now.items marks false }
-    ensures { IsTrue result ↔ IsZero counts.now.items }
-{
-    for j in 0..marks {
-        if counts[touched[j] as usize] != 0 {
-            return false;
-        }
-    }
-    true
-}
-
-// Moves the counts of the directories that may have one.
-fn move_all(into: &mut Vec<u64>, from: &mut Vec<u64>, touched: &Vec<u32>, marks: usize, every: bool)
+// Moves the counts of the directories that have one.
+fn move_all(into: &mut Vec<u64>, from: &mut Vec<u64>, touched: &Vec<u32>)
     requires lengths { length from.old.items ≡ length into.old.items }
     requires fits { (dir : ℕ) → at into.old.items dir + at from.old.items dir < 2 ^ 64 }
-    requires tracked { IsTracked from.old.items touched.now.items marks every }
+    requires tracked { IsTracked from.old.items touched.now.items }
     ensures sums { (dir : ℕ) → at into.new.items dir ≡ at into.old.items dir + at from.old.items dir }
     ensures zero { IsZero from.new.items }
     ensures lengths { (length into.new.items ≡ length into.old.items) × (length from.new.items ≡ length from.old.items) }
 {
-    if every {
-        add_list(into, from);
-        clear_list(from);
-    } else {
-        move_marked(into, from, touched, marks);
-    }
-}
-
-// Moves the counts of the marked directories, which are all that have one.
-fn move_marked(into: &mut Vec<u64>, from: &mut Vec<u64>, touched: &Vec<u32>, marks: usize)
-    requires lengths { length from.old.items ≡ length into.old.items }
-    requires fits { (dir : ℕ) → at into.old.items dir + at from.old.items dir < 2 ^ 64 }
-    requires tracked { IsTracked from.old.items touched.now.items marks false }
-    ensures sums { (dir : ℕ) → at into.new.items dir ≡ at into.old.items dir + at from.old.items dir }
-    ensures zero { IsZero from.new.items }
-    ensures lengths { (length into.new.items ≡ length into.old.items) × (length from.new.items ≡ length from.old.items) }
-{
-    for j in 0..marks {
+    for j in 0..touched.len() {
         let i = touched[j] as usize;
         into[i] += from[i];
         from[i] = 0;
     }
+}
+
+// These directories, each with its count.
+fn with_counts(alloc: Global, dirs: &[u32], counts: &[u64]) -> Result<Vec<(Dir, u64)>, AllocError>
+    requires { (j : ℕ) → j < length dirs.now → at dirs.now j < length counts.now }
+    ensures { IfOk result (λ rows. rows.items ≡ map (λ d. (d, at counts.now d)) dirs.now) }
+{
+    let mut rows = Vec::with_capacity(alloc, dirs.len())?;
+    for dir in dirs {
+        rows.push((Dir::new(*dir), counts[*dir as usize]))?;
+    }
+    Ok(rows)
 }

@@ -5,7 +5,7 @@ use crate::row::Row;
 use crate::tally::{Desk, Place, learn, merge};
 use mds_types::Dir;
 use naming::Naming;
-use std::alloc::Global;
+use std::alloc::{AllocError, Global};
 use std::marker::{Model, PhantomData};
 use std::sync::Arc;
 
@@ -42,8 +42,8 @@ impl<J: Naming> Model for Share<J> {
 }
 
 impl<J: Naming> Share<J> {
-    ghost use Rattle.std.specs.Prelude.{◌≡◌, ℕ, ◌+◌, ◌<◌, ◌≤◌, ◌↔◌, IsTrue, IsErrOf, OnOk, OnErr, length};
-    ghost use Rattle.heat_ledger.specs.Rows.{at, sums, raised};
+    ghost use Rattle.std.specs.Prelude.{◌≡◌, ℕ, List, ◌+◌, ◌^◌, ◌<◌, ◌≤◌, ◌↔◌, IsTrue, IsErrOf, IfOk, OnOk, OnErr, length, fold};
+    ghost use Rattle.heat_ledger.specs.Rows.{at, sums, raised, counted_rows, with_row};
     ghost use Rattle.heat_ledger.specs.Ledger.{IsClean, IsSeated, IsShare};
 
     /// The hits on a directory that this share has counted, deposited or not.
@@ -58,6 +58,16 @@ impl<J: Naming> Share<J> {
         ensures { result ≡ at self.now.pending dir }
     {
         self.pending.get(dir)
+    }
+
+    /// The directories with hits that aren't deposited, rising, each with their number. Counts to
+    /// which the rows are added one by one have then what a deposit makes of them. It takes time for
+    /// these directories alone, and asks for memory first.
+    pub fn pending_rows(&self, alloc: Global) -> Result<Vec<(Dir, u64)>, AllocError>
+        ensures rows { IfOk result (λ rows. rows.items ≡ counted_rows self.now.pending) }
+        ensures sums { (counted : List ℕ) → length counted ≡ J.limit → fold with_row counted (counted_rows self.now.pending) ≡ sums counted self.now.pending }
+    {
+        self.pending.rows(alloc)
     }
 
     /// The requests on a directory that were begun with this share.
@@ -94,7 +104,7 @@ impl<J: Naming> Share<J> {
     pub fn hit(&mut self, dir: Dir) -> Result<(), HitError>
         ensures ok { OnOk result (self.new ≡ record self.old { hits = raised self.old.hits dir; pending = raised self.old.pending dir }) }
         ensures no_dir { IsErrOf result HitError.NoDir ↔ (J.limit ≤ dir) }
-        ensures full { IsErrOf result HitError.ShareFull ↔ ((dir < J.limit) × (HIT_LIMIT ≤ at self.old.hits dir)) }
+        ensures full { IsErrOf result HitError.ShareFull ↔ ((dir < J.limit) × (2 ^ 56 ≤ at self.old.hits dir)) }
         ensures err { OnErr result (self.new ≡ self.old) }
     {
         if dir.number() as usize >= self.hits.len() {

@@ -14,6 +14,8 @@ mod judging;
 #[cfg(test)]
 mod masks;
 #[cfg(test)]
+mod placings;
+#[cfg(test)]
 mod refused_rows;
 #[cfg(test)]
 mod solving;

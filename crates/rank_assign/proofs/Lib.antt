@@ -1,4 +1,5 @@
 pub mod AssignedLemmas
+pub mod ChunkLemmas
 pub mod CountLemmas
 pub mod HandLemmas
 pub mod RaiseLemmas

@@ -1,3 +1,4 @@
 pub mod Assigned
+pub mod Chunks
 pub mod Matching
 pub mod Ways

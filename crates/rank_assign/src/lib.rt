@@ -4,14 +4,12 @@
 #![tactic(auto)]
 
 mod assigned;
+mod chunks;
 mod hungarian;
 mod moved_inodes;
 mod table;
 mod ways;
 
 pub use assigned::{Assigned, assign};
-pub use moved_inodes::costs;
+pub use moved_inodes::{costs, costs_by, sums};
 pub use table::Costs;
-
-#[cfg(test)]
-mod tests;

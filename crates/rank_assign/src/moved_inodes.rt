@@ -1,17 +1,73 @@
 //! What each part of a problem moves at each of its ranks.
 ghost use Rattle.std.specs.Prelude.{◌≡◌, ◌<◌, ◌≤◌, ℕ, length, slice_index, IfOk};
-ghost use Rattle.cost_table.specs.Costs.{AreCosts};
+ghost use Rattle.cost_table.specs.Costs.{AreCosts, AreSums};
 ghost use Rattle.mds_types.specs.RankSet.{rank_count};
 
+use crate::chunks::{Labelled, sums_by};
 use crate::table::Costs;
+use cost_table::cells_of_sums;
 use mds_types::Problem;
 use std::alloc::{AllocError, Global};
 use std::thread::Threads;
 
+/// The inodes of each part by the rank that has them now, in the rows from `from` on to before `to`, 64
+/// cells a part: those that rank `r` has of part `p` stand in cell `p * 64 + r`. `part[i]` is the part of row i.
+pub fn sums(
+    alloc: Global,
+    problem: &Problem,
+    part: &[u32],
+    count: u32,
+    from: u32,
+    to: u32,
+) -> Result<Vec<u64>, AllocError>
+    requires size { length part.now ≡ length problem.now.rows }
+    requires below { (i : ℕ) → i < length problem.now.rows → slice_index part.now i < count }
+    requires few { count ≤ rank_count problem.now.ranks }
+    requires order { from ≤ to }
+    requires inside { to ≤ length problem.now.rows }
+    ensures { IfOk result (λ sums. AreSums problem.now.rows (slice_index part.now) count from to sums.items) }
+{
+    cost_table::sums(
+        alloc,
+        problem.rows(),
+        part,
+        count,
+        from as usize,
+        to as usize,
+    )
+}
+
+/// What each part of a problem moves at each of its ranks, from the sums of chunks of so many rows, which
+/// threads share. `part[i]` is the part of row i.
+pub fn costs_by<R: Threads + Sync>(
+    rt: &R,
+    alloc: Global,
+    problem: &Problem,
+    part: &[u32],
+    count: u32,
+    chunk: usize,
+) -> Result<Costs, AllocError>
+    requires size { length part.now ≡ length problem.now.rows }
+    requires below { (i : ℕ) → i < length problem.now.rows → slice_index part.now i < count }
+    requires few { count ≤ rank_count problem.now.ranks }
+    requires chunk { 1 ≤ chunk }
+    ensures count { IfOk result (λ costs. costs.count ≡ count) }
+    ensures ranks { IfOk result (λ costs. costs.ranks ≡ problem.now.ranks) }
+    ensures cells { IfOk result (λ costs.
+        AreCosts problem.now.rows (slice_index part.now) count problem.now.ranks costs.cells) }
+{
+    let ranks = problem.ranks();
+    let rows = problem.rows();
+    let sums = sums_by(rt, alloc, Labelled { rows, part, count }, chunk)?;
+    let cells = cells_of_sums(alloc, &sums, count, ranks)?;
+    Ok(Costs::from_cells(count, ranks, cells))
+}
+
 /// What each part of a problem moves at each of its ranks. `part[i]` is the part of row i.
 ///
-/// The rows are read once, in the calling thread. The runtime is taken so that threads can share
-/// them.
+/// The rows are read once, in the calling thread: a problem has at most 65,536 rows, and up to there
+/// threads cost more than they bring, so that `costs_by` takes longer. The runtime is taken for the
+/// day when that changes.
 pub fn costs<R: Threads>(
     _rt: &R,
     alloc: Global,

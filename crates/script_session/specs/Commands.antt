@@ -7,7 +7,7 @@ use Rattle.dirtree.specs.Tree as tree
 use Rattle.dirtree.specs.Path as path
 use Rattle.dir_pins.specs.declared.pin_error.PinError.{PinError}
 use Rattle.dir_pins.specs.Pins as pins
-use Rattle.heat_decay.specs.Heat.{Heats, after_deposit, after_tick}
+use Rattle.heat_decay.specs.Heat.{Heats, after_deposit, after_tick, touched}
 use Rattle.heat_decay.specs.declared.heat.TheConstants.{TICK_LIMIT}
 use Rattle.heat_ledger.specs.declared.share.TheConstants.{HIT_LIMIT}
 use Rattle.mds_types.specs.Mask.{mask_bits}
@@ -111,7 +111,7 @@ fitting counted l = min l.hits (HIT_LIMIT - slice_index_or counted l.dir 0)
 -- the hits of a request that find room heat its directory and are counted
 abbrev pub serve : Counts → Load → Counts
 serve c l = record {
-  heats = record c.heats { heats = slice_set c.heats.heats l.dir (after_deposit (slice_index c.heats.heats l.dir) (fitting c.counted l)) };
+  heats = touched c.heats l.dir (after_deposit (slice_index c.heats.heats l.dir) (fitting c.counted l));
   counted = slice_set c.counted l.dir (slice_index_or c.counted l.dir 0 + fitting c.counted l);
   refused = c.refused + (if fitting c.counted l == l.hits then 0 else 1);
 }

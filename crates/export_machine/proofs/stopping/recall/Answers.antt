@@ -6,4 +6,4 @@ pub returns-in_default : goal.returns-in_default
 returns-in_default c = tells_other c.args.entry c.in_default.not-Dropped c.args.importers.now.items
 
 pub returns : goal.returns
-returns c = rw c.in-Dropped.is (c.put.ensures ∙ tells_dropped c.in-Dropped.export c.args.importers.now.items)
+returns c = rw c.in-Dropped.is (c.put.ensures.items ∙ tells_dropped c.in-Dropped.export c.args.importers.now.items)

@@ -1,6 +1,11 @@
-use Rattle.std.proofs.Common.{rules}
-use Rattle.authority_map.proofs.CellLemmas.{cells_none, replicated}
+use Rattle.std.proofs.Common.{◌≡◌, ◌∷◌, [], List, ℕ, sym, rules, subst}
+use Rattle.authority_map.specs.Operations.{Operation}
+use Rattle.authority_map.specs.Cells.{AreCells}
+use Rattle.authority_map.proofs.CellLemmas.{cells_none}
 use Rattle.authority_map.proofs.table.Table.new.Goals as goal
 
-pub invariant_of-result : goal.invariant_of-result
-invariant_of-result g c = record { kept = rw c.requires.known (cells_none c.in_ok-vec.field-0.items (λ d. rw (c.in_ok-vec.ensures.items_if_clones_equal (λ y e. e)) (replicated _ 0 d))); sized = search rules }
+pub invariant_of-result-clause-kept : goal.invariant_of-result-clause-kept
+invariant_of-result-clause-kept g c =
+    let starts : c.push_reserved.new.self.items ≡ 0 ∷ [] = search rules in
+    let cells : c.push_reserved-2.new.self.items ≡ 0 ∷ [] = search rules in
+    rw (starts, cells, c.requires.known) (cells_none c.args.limit c.requires.limit.1)

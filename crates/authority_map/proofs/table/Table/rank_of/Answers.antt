@@ -1,5 +1,8 @@
-use Rattle.std.proofs.Common.{ℕ, Option, Some, None, IsSome, IfSome, ◌≡◌, ◌∙◌, ◌<◌, ◌-◌, ◌≤◌, arith, get_or, ap}
+use Rattle.std.proofs.Common.{ℕ, Option, Some, None, IsSome, IfSome, ◌≡◌, ◌∙◌, ◌<◌, ◌-◌, ◌≤◌, arith, get_or, ap, sym}
+use Rattle.std.proofs.lemmas.List.{get_or_read}
 use Rattle.authority_map.specs.Operations.{rank_after}
+use Rattle.authority_map.specs.Runs.{IsIn}
+use Rattle.authority_map.specs.Cells.{cell_of}
 use Rattle.authority_map.proofs.CellLemmas.{rank_is, rank_none}
 use Rattle.authority_map.proofs.table.Table.rank_of.Goals as goal
 
@@ -9,12 +12,19 @@ made (Some r) n some is = ap (λ (k : ℕ). Some k) is
 
 pub returns-then-cell-eq0 : goal.returns-then-cell-eq0
 returns-then-cell-eq0 g c =
-    let cell : c.cell_at-cell.result ≡ get_or c.args.self.now.cells.items c.args.dir 0 = rw (c.cell_at-cell.ensures, c.number.ensures, c.as_slice.ensures.value) in
-    rank_none c.cell_at-cell.result (rank_after c.args.self.now.known c.args.dir) (cell ∙ c.args.self.now.kept.each c.args.dir) c.if-cell-eq0.true
+    let t = c.args.self.now in
+    let run = c.run_of.result in
+    let inside : IsIn t.starts.items run c.args.dir = rw (c.deref.ensures.value, c.number-2.ensures) at c.run_of.ensures in
+    let read : c.index-cell.result.now ≡ get_or t.cells.items run 0 = get_or_read t.cells.items run c.index-cell.result.now (omega (arith, inside.there, t.kept.shape.sized)) c.index-cell.ensures 0 in
+    let cell : c.index-cell.result.now ≡ cell_of (rank_after t.known c.args.dir) = read ∙ t.kept.held.each run c.args.dir (omega (arith, c.if-number-self.false, c.number.ensures)) inside in
+    rank_none c.index-cell.result.now (rank_after t.known c.args.dir) cell c.if-cell-eq0.true
 
 pub returns-else-cell-eq0 : goal.returns-else-cell-eq0
 returns-else-cell-eq0 g c =
-    let cell : c.cell_at-cell.result ≡ get_or c.args.self.now.cells.items c.args.dir 0 = rw (c.cell_at-cell.ensures, c.number.ensures, c.as_slice.ensures.value) in
-    let low : c.cell_at-cell.result ≤ 64 = rw cell (c.args.self.now.kept.small c.args.dir) in
-    let less : c.cell_at-cell.result - 1 < 64 = omega arith in
-    made _ _ (c.new.ensures.small.1 less) c.new.ensures.value ∙ rank_is c.cell_at-cell.result (rank_after c.args.self.now.known c.args.dir) (cell ∙ c.args.self.now.kept.each c.args.dir) c.if-cell-eq0.false
+    let t = c.args.self.now in
+    let run = c.run_of.result in
+    let inside : IsIn t.starts.items run c.args.dir = rw (c.deref.ensures.value, c.number-2.ensures) at c.run_of.ensures in
+    let read : c.index-cell.result.now ≡ get_or t.cells.items run 0 = get_or_read t.cells.items run c.index-cell.result.now (omega (arith, inside.there, t.kept.shape.sized)) c.index-cell.ensures 0 in
+    let cell : c.index-cell.result.now ≡ cell_of (rank_after t.known c.args.dir) = read ∙ t.kept.held.each run c.args.dir (omega (arith, c.if-number-self.false, c.number.ensures)) inside in
+    let less : c.index-cell.result.now - 1 < 64 = omega (arith, read, t.kept.shape.small run) in
+    made _ _ (c.new.ensures.small.1 less) c.new.ensures.value ∙ rank_is c.index-cell.result.now (rank_after t.known c.args.dir) cell c.if-cell-eq0.false

@@ -50,7 +50,7 @@ returns-clause-effect c =
     ap world_of c.halt_imports.ensures.others ∙ ap (λ (is : List ImporterState). record (world_of c.halt_exports.new.self) { importers = is }) c.halt_imports.ensures.importers in
     let all : world_of c.halt_imports.new.self ≡ forgets c.args.rank (aborts c.args.rank w) = forgot ∙ ap (forgets c.args.rank) aborted in
     let stopped : c.put.new.table.items ≡ set w.stopped c.args.rank false =
-    c.put.ensures ∙ (ap (λ (v : World). set v.stopped c.number.result false) all ∙ ap (λ r. set w.stopped r false) c.number.ensures.value) in
+    c.put.ensures.items ∙ (ap (λ (v : World). set v.stopped c.number.result false) all ∙ ap (λ r. set w.stopped r false) c.number.ensures.value) in
     ap (λ b. cond b (changed (restarts w c.args.rank)) (ignored w)) (sym c.is_stopped.ensures ∙ c.if-not-is_stopped.false)
     ∙ ap changed (restarts_all c.args.rank w c.requires.kept.reached
     ∙ sym (ap (λ (v : World). record v { stopped = c.put.new.table.items }) all ∙ ap (λ (st : List Bool). record (forgets c.args.rank (aborts c.args.rank w)) { stopped = st }) stopped))

@@ -63,7 +63,7 @@ returns-clause-effect c =
     ap world_of c.end_requests.ensures.others ∙ ap (λ ts. record (world_of c.halt_imports.new.self) { tickets = ts }) c.end_requests.ensures.tickets in
     let all : world_of c.end_requests.new.self ≡ ends c.args.rank (forgets c.args.rank (aborts c.args.rank w)) = ended ∙ ap (ends c.args.rank) (forgot ∙ ap (forgets c.args.rank) aborted) in
     let stopped : c.put.new.table.items ≡ set w.stopped c.args.rank true =
-    c.put.ensures ∙ (ap (λ (v : World). set v.stopped c.number.result true) all ∙ ap (λ r. set w.stopped r true) c.number.ensures.value) in
+    c.put.ensures.items ∙ (ap (λ (v : World). set v.stopped c.number.result true) all ∙ ap (λ r. set w.stopped r true) c.number.ensures.value) in
     ap changed (sym (ap (λ (v : World). record v { stopped = c.put.new.table.items }) all ∙ ap (λ (st : List Bool). record (ends c.args.rank (forgets c.args.rank (aborts c.args.rank w))) { stopped = st }) stopped))
 
 pub returns-clause-indexed : goal.returns-clause-indexed

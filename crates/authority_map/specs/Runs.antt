@@ -1,0 +1,30 @@
+-- Runs of neighbouring directories that have the same cell.
+use Rattle.std.specs.Prelude.{◌≡◌, ◌≢◌, ℕ, ◌+◌, ◌<◌, ◌≤◌, List, length, slice_index}
+
+-- the directory is in this run, which goes on until the next one starts
+pub record IsIn (starts : List ℕ) (run dir : ℕ) : Type 0 where
+  pub there : run < length starts
+  pub from : slice_index starts run ≤ dir
+  pub until : run + 1 < length starts → dir < slice_index starts (run + 1)
+
+-- there is a run that starts at directory 0, and each other one starts after the one before
+pub record AreStarts (starts : List ℕ) : Type 0 where
+  pub some : 1 ≤ length starts
+  pub first : slice_index starts 0 ≡ 0
+  pub rising : (run : ℕ) → run + 1 < length starts → slice_index starts run < slice_index starts (run + 1)
+
+-- runs that start below the limit, each with a cell
+pub record AreRuns (limit : ℕ) (starts cells : List ℕ) : Type 0 where
+  pub order : AreStarts starts
+  pub sized : length cells ≡ length starts
+  pub below : (run : ℕ) → run < length starts → slice_index starts run < limit
+  pub small : (run : ℕ) → slice_index cells run ≤ 64
+
+-- the run that has this directory starts at it
+abbrev pub StartsAt : List ℕ → ℕ → Type 0
+StartsAt starts dir = (run : ℕ) → IsIn starts run dir → slice_index starts run ≡ dir
+
+-- Each directory's cell is that of its run. Neighbouring runs differ, but for those that start at one of two directories.
+pub record HasCells (limit : ℕ) (starts cells : List ℕ) (cell : ℕ → ℕ) (this that : ℕ) : Type 0 where
+  pub each : (run dir : ℕ) → dir < limit → IsIn starts run dir → slice_index cells run ≡ cell dir
+  pub apart : (run : ℕ) → run + 1 < length starts → slice_index starts (run + 1) ≢ this → slice_index starts (run + 1) ≢ that → slice_index cells run ≢ slice_index cells (run + 1)

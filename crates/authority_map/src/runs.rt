@@ -1,0 +1,140 @@
+//! Runs of neighbouring directories that have the same cell.
+//!
+//! `starts[run]` is the first directory of a run and `cells[run]` the cell of all that are in it. A
+//! run goes on until the next one starts, the last one until the limit. A directory's run is found
+//! by halving. To write a directory's cell, its run is split so that it stands alone, and then it is
+//! joined with neighbours that have the same cell. There are never more runs than directories.
+ghost use Rattle.std.specs.Prelude.{◌≡◌, ◌≢◌, ℕ, ◌+◌, ◌-◌, ◌==◌, ◌<◌, ◌≤◌, All, length, slice_index, if◌then◌else◌, vec_capacity};
+ghost use Rattle.authority_map.specs.Operations.{names};
+ghost use Rattle.authority_map.specs.Runs.{IsIn, AreStarts, AreRuns, StartsAt, HasCells};
+
+use mds_types::Dir;
+
+/// The run that a directory is in.
+pub(crate) fn run_of(starts: &[u32], dir: u32) -> usize
+    requires { AreStarts starts.now }
+    ensures { IsIn starts.now result dir }
+{
+    let mut run = 0;
+    let mut count = starts.len();
+    while count > 1 {
+        let half = count / 2;
+        if starts[run + half] <= dir {
+            run += half;
+        }
+        count -= half;
+    }
+    run
+}
+
+// A run more, which starts inside this one and has its cell.
+fn cut(starts: &mut Vec<u32>, cells: &mut Vec<u8>, limit: u32, run: usize, dir: u32)
+    requires runs { AreRuns limit starts.old.items cells.old.items }
+    requires room { (limit ≤ vec_capacity starts.old) × (limit ≤ vec_capacity cells.old) }
+    requires inside { IsIn starts.old.items run dir }
+    requires later { slice_index starts.old.items run < dir }
+    requires below { dir < limit }
+    ensures runs { AreRuns limit starts.new.items cells.new.items }
+    ensures room { (limit ≤ vec_capacity starts.new) × (limit ≤ vec_capacity cells.new) }
+    ensures starts { StartsAt starts.new.items dir }
+    ensures others { (other : ℕ) → StartsAt starts.old.items other → StartsAt starts.new.items other }
+    ensures cells { (cell : ℕ → ℕ) (this : ℕ) → HasCells limit starts.old.items cells.old.items cell this this → HasCells limit starts.new.items cells.new.items cell this dir }
+{
+    let cell = cells[run];
+    let Ok(()) = starts.insert(run + 1, dir) else {
+        unreachable!();
+    };
+    let Ok(()) = cells.insert(run + 1, cell) else {
+        unreachable!();
+    };
+}
+
+// Sees to it that a run starts at this directory.
+fn split(starts: &mut Vec<u32>, cells: &mut Vec<u8>, limit: u32, dir: u32)
+    requires runs { AreRuns limit starts.old.items cells.old.items }
+    requires room { (limit ≤ vec_capacity starts.old) × (limit ≤ vec_capacity cells.old) }
+    ensures runs { AreRuns limit starts.new.items cells.new.items }
+    ensures room { (limit ≤ vec_capacity starts.new) × (limit ≤ vec_capacity cells.new) }
+    ensures starts { dir < limit → StartsAt starts.new.items dir }
+    ensures others { (other : ℕ) → StartsAt starts.old.items other → StartsAt starts.new.items other }
+    ensures cells { (cell : ℕ → ℕ) (this : ℕ) → HasCells limit starts.old.items cells.old.items cell this this → HasCells limit starts.new.items cells.new.items cell this dir }
+{
+    if dir >= limit {
+        return;
+    }
+    let run = run_of(starts, dir);
+    if starts[run] < dir {
+        cut(starts, cells, limit, run, dir);
+    }
+}
+
+// Puts a run to the one before it, which has the same cell.
+fn unite(starts: &mut Vec<u32>, cells: &mut Vec<u8>, limit: u32, run: usize)
+    requires runs { AreRuns limit starts.old.items cells.old.items }
+    requires some { 1 ≤ run }
+    requires there { run < length starts.old.items }
+    requires alike { slice_index cells.old.items (run - 1) ≡ slice_index cells.old.items run }
+    ensures runs { AreRuns limit starts.new.items cells.new.items }
+    ensures room { (vec_capacity starts.new ≡ vec_capacity starts.old) × (vec_capacity cells.new ≡ vec_capacity cells.old) }
+    ensures cells { (cell : ℕ → ℕ) (this : ℕ) → HasCells limit starts.old.items cells.old.items cell this (slice_index starts.old.items run) → HasCells limit starts.new.items cells.new.items cell this this }
+{
+    let _start = starts.remove(run);
+    let _cell = cells.remove(run);
+}
+
+// Puts the run that starts at this directory to the one before it, if that has the same cell.
+fn join(starts: &mut Vec<u32>, cells: &mut Vec<u8>, limit: u32, dir: u32)
+    requires runs { AreRuns limit starts.old.items cells.old.items }
+    requires room { (limit ≤ vec_capacity starts.old) × (limit ≤ vec_capacity cells.old) }
+    ensures runs { AreRuns limit starts.new.items cells.new.items }
+    ensures room { (limit ≤ vec_capacity starts.new) × (limit ≤ vec_capacity cells.new) }
+    ensures cells { (cell : ℕ → ℕ) (this : ℕ) → HasCells limit starts.old.items cells.old.items cell this dir → HasCells limit starts.new.items cells.new.items cell this this }
+{
+    let run = run_of(starts, dir);
+    if starts[run] == dir && run > 0 && cells[run - 1] == cells[run] {
+        unite(starts, cells, limit, run);
+    }
+}
+
+/// Writes a directory's cell.
+pub(crate) fn write(starts: &mut Vec<u32>, cells: &mut Vec<u8>, limit: u32, dir: u32, cell: u8)
+    requires runs { AreRuns limit starts.old.items cells.old.items }
+    requires room { (limit ≤ vec_capacity starts.old) × (limit ≤ vec_capacity cells.old) }
+    requires inside { dir < limit }
+    requires small { cell ≤ 64 }
+    ensures runs { AreRuns limit starts.new.items cells.new.items }
+    ensures room { (limit ≤ vec_capacity starts.new) × (limit ≤ vec_capacity cells.new) }
+    ensures cells { (old : ℕ → ℕ) → HasCells limit starts.old.items cells.old.items old 0 0 → HasCells limit starts.new.items cells.new.items (λ d. if d == dir then cell else old d) 0 0 }
+{
+    let run = run_of(starts, dir);
+    if cells[run] == cell {
+        return;
+    }
+    split(starts, cells, limit, dir);
+    split(starts, cells, limit, dir + 1);
+    let alone = run_of(starts, dir);
+    cells[alone] = cell;
+    join(starts, cells, limit, dir + 1);
+    join(starts, cells, limit, dir);
+}
+
+/// Writes the cell of each of these directories.
+pub(crate) fn write_all(
+    starts: &mut Vec<u32>,
+    cells: &mut Vec<u8>,
+    limit: u32,
+    dirs: &[Dir],
+    cell: u8,
+)
+    requires runs { AreRuns limit starts.old.items cells.old.items }
+    requires room { (limit ≤ vec_capacity starts.old) × (limit ≤ vec_capacity cells.old) }
+    requires inside { All (λ dir. dir < limit) dirs.now }
+    requires small { cell ≤ 64 }
+    ensures runs { AreRuns limit starts.new.items cells.new.items }
+    ensures room { (limit ≤ vec_capacity starts.new) × (limit ≤ vec_capacity cells.new) }
+    ensures cells { (old : ℕ → ℕ) → HasCells limit starts.old.items cells.old.items old 0 0 → HasCells limit starts.new.items cells.new.items (λ d. if names dirs.now d then cell else old d) 0 0 }
+{
+    for dir in dirs {
+        write(starts, cells, limit, dir.number(), cell);
+    }
+}

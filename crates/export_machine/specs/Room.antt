@@ -1,0 +1,32 @@
+-- That room which was taken is kept, and why an event is refused where memory is asked for too.
+use Rattle.std.specs.Prelude.{◌≡◌, ℕ, true, None, Some, ◌⊎◌}
+use Rattle.export_machine.specs.declared.records.Records.{Records}
+use Rattle.export_machine.specs.declared.step_error.StepError.{StepError}
+use Rattle.export_machine.specs.declared.step_error.StepError.TheVariants.{Memory}
+use Rattle.export_machine.specs.Cluster.{World}
+use Rattle.export_machine.specs.Step.{Event, refusal}
+use Rattle.export_machine.specs.Kept.{State, is_ready, has_spare, has_place}
+
+-- where there was room for an event, there is
+abbrev pub KeepsRoom : State → State → Type 0
+KeepsRoom old new = (e : Event) → is_ready old e ≡ true → is_ready new e ≡ true
+
+-- the same, list by list
+pub record IsAsRoomy (old new : Records) : Type 0 where
+  pub parents : has_spare old.parents ≡ true → has_spare new.parents ≡ true
+  pub named : has_spare old.named ≡ true → has_spare new.named ≡ true
+  pub owners : has_spare old.owners ≡ true → has_spare new.owners ≡ true
+  pub opened : has_spare old.opened ≡ true → has_spare new.opened ≡ true
+  pub running : has_spare old.running ≡ true → has_spare new.running ≡ true
+  pub children : has_spare old.children ≡ true → has_spare new.children ≡ true
+  pub marks : has_spare old.marks ≡ true → has_spare new.marks ≡ true
+  pub orders : has_spare old.orders ≡ true → has_spare new.orders ≡ true
+  pub exporters : has_spare old.exporters ≡ true → has_spare new.exporters ≡ true
+  pub importers : has_spare old.importers ≡ true → has_spare new.importers ≡ true
+  pub sent : has_spare old.sent ≡ true → has_spare new.sent ≡ true
+  pub tickets : has_spare old.tickets ≡ true → has_spare new.tickets ≡ true
+  pub journals : (rank : ℕ) → has_place old.journals.items rank ≡ true → has_place new.journals.items rank ≡ true
+
+-- the event is refused for its first cause or, where it has none, for want of memory
+abbrev pub IsRefusal : World → Event → StepError → Type 0
+IsRefusal w e error = (refusal w e ≡ Some error) ⊎ ((refusal w e ≡ None) × (error ≡ Memory))

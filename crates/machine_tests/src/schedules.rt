@@ -1,0 +1,253 @@
+//! Whole exports, aborts, and messages that come late or twice.
+
+use crate::steps::{Do, cluster, event, played, rank, run_rows, to_the_log};
+use export_machine::{Cluster, ExporterState, ImporterState, JournalEntry, Reply, StepError};
+use mds_types::{Dir, Rank};
+use std::alloc::{AllocError, Global};
+use std::test::Fail;
+
+#[test]
+fn moves_a_directory(rt: HostRuntime) -> Result<(), Fail> {
+    let mut cluster = played(&rt, rt.alloc(), &to_the_log())?;
+    let rows = [
+        (Do::Begin(0, 1), Err(StepError::Elsewhere(rank(1)))),
+        (Do::Begin(1, 1), Err(StepError::Frozen(0))),
+    ];
+    run_rows(&rt, rt.alloc(), &mut cluster, &rows)?;
+    assert_eq!(rt; cluster.named(Dir::new(1)), Some(rank(0)));
+    let rows = [
+        (Do::Notify(0), Ok(Reply::Sent(6))),
+        (Do::Deliver(6), Ok(Reply::Changed)),
+        (Do::Begin(1, 1), Ok(Reply::Ticket(0))),
+    ];
+    run_rows(&rt, rt.alloc(), &mut cluster, &rows)?;
+    assert_eq!(rt; cluster.named(Dir::new(1)), Some(rank(1)));
+    assert_eq!(rt; cluster.authority(Dir::new(1)), Some(rank(1)));
+    assert!(rt; cluster.serves(rank(1), Dir::new(1)));
+    assert!(rt; !cluster.serves(rank(0), Dir::new(1)));
+    assert_eq!(rt; cluster.sent(), 7);
+    assert_eq!(rt; cluster.to(6), Some((0, rank(1))));
+    assert_eq!(rt; cluster.to(7), None);
+    assert_eq!(rt;
+        cluster.states(0),
+        Some((ExporterState::Done, ImporterState::Imported))
+    );
+    assert_eq!(rt; cluster.states(1), None);
+    let exporter = [
+        JournalEntry::Made(Dir::ROOT),
+        JournalEntry::Made(Dir::new(1)),
+        JournalEntry::Exported(0),
+        JournalEntry::Notified(0),
+    ];
+    let importer = [JournalEntry::Started(0), JournalEntry::Imported(0)];
+    assert!(rt; cluster.journal(rank(0)) == exporter.as_slice());
+    assert!(rt; cluster.journal(rank(1)) == importer.as_slice());
+    Ok(())
+}
+
+#[test]
+fn late_ack_after_an_abort_is_ignored(rt: HostRuntime) -> Result<(), Fail> {
+    let mut cluster = played(&rt, rt.alloc(), &to_the_log()[..8])?;
+    let rows = [
+        (Do::Abort(0), Ok(Reply::Sent(6))),
+        (Do::Deliver(5), Ok(Reply::Ignored)),
+        (Do::Deliver(6), Ok(Reply::Changed)),
+        (Do::Abort(0), Err(StepError::Late(ExporterState::Aborted))),
+    ];
+    run_rows(&rt, rt.alloc(), &mut cluster, &rows)?;
+    assert_eq!(rt; cluster.authority(Dir::new(1)), Some(rank(0)));
+    let importer = [JournalEntry::Started(0), JournalEntry::Dropped(0)];
+    assert!(rt; cluster.journal(rank(1)) == importer.as_slice());
+    Ok(())
+}
+
+#[test]
+fn repeated_messages_act_once(rt: HostRuntime) -> Result<(), Fail> {
+    let mut cluster = played(&rt, rt.alloc(), &to_the_log()[..8])?;
+    let rows = [
+        (Do::Deliver(4), Ok(Reply::Ignored)),
+        (Do::Deliver(5), Ok(Reply::Changed)),
+        (Do::Notify(0), Ok(Reply::Sent(6))),
+        (Do::Deliver(6), Ok(Reply::Changed)),
+        (Do::Start(1, 0, &[1]), Ok(Reply::Export(1, 7))),
+        (Do::Deliver(7), Ok(Reply::Sent(8))),
+        (Do::Deliver(8), Ok(Reply::Changed)),
+        (Do::Froze(1), Ok(Reply::Sent(9))),
+        (Do::Deliver(9), Ok(Reply::Sent(10))),
+        (Do::Deliver(10), Ok(Reply::Sent(11))),
+        (Do::Deliver(11), Ok(Reply::Sent(12))),
+        (Do::Deliver(12), Ok(Reply::Changed)),
+        (Do::Notify(1), Ok(Reply::Sent(13))),
+        (Do::Deliver(13), Ok(Reply::Changed)),
+        (Do::Deliver(6), Ok(Reply::Ignored)),
+    ];
+    run_rows(&rt, rt.alloc(), &mut cluster, &rows)?;
+    assert_eq!(rt; cluster.authority(Dir::new(1)), Some(rank(0)));
+    assert!(rt; cluster.serves(rank(0), Dir::new(1)));
+    Ok(())
+}
+
+#[test]
+fn freezing_waits_for_requests(rt: HostRuntime) -> Result<(), Fail> {
+    let mut cluster = cluster(rt.alloc())?;
+    let rows = [
+        (Do::Make(0), Ok(Reply::Dir(Dir::new(1)))),
+        (Do::Begin(0, 1), Ok(Reply::Ticket(0))),
+        (Do::Start(0, 1, &[1]), Ok(Reply::Export(0, 0))),
+        (Do::Deliver(0), Ok(Reply::Sent(1))),
+        (Do::Deliver(1), Ok(Reply::Changed)),
+        (Do::Froze(0), Err(StepError::NotYet(1))),
+        (Do::Begin(0, 1), Err(StepError::Frozen(0))),
+        (Do::End(0), Ok(Reply::Changed)),
+        (Do::Froze(0), Ok(Reply::Sent(2))),
+    ];
+    run_rows(&rt, rt.alloc(), &mut cluster, &rows)
+}
+
+#[test]
+fn cancel_overtakes_discover(rt: HostRuntime) -> Result<(), Fail> {
+    let mut cluster = cluster(rt.alloc())?;
+    let rows = [
+        (Do::Make(0), Ok(Reply::Dir(Dir::new(1)))),
+        (Do::Start(0, 1, &[1]), Ok(Reply::Export(0, 0))),
+        (Do::Abort(0), Ok(Reply::Sent(1))),
+        (Do::Deliver(1), Ok(Reply::Changed)),
+        (Do::Deliver(0), Ok(Reply::Ignored)),
+    ];
+    run_rows(&rt, rt.alloc(), &mut cluster, &rows)
+}
+
+#[test]
+fn aborts_before_the_log_entry_only(rt: HostRuntime) -> Result<(), Fail> {
+    // (rows of the schedule done, the abort's answer, the cancel's message)
+    let table = [
+        (2, Ok(Reply::Sent(1)), Some(1)),
+        (4, Ok(Reply::Sent(2)), Some(2)),
+        (5, Ok(Reply::Sent(3)), Some(3)),
+        (6, Ok(Reply::Sent(4)), Some(4)),
+        (7, Ok(Reply::Sent(5)), Some(5)),
+        (8, Ok(Reply::Sent(6)), Some(6)),
+        (9, Err(StepError::Late(ExporterState::Logged)), None),
+        (11, Err(StepError::Late(ExporterState::Done)), None),
+    ];
+    let log = to_the_log();
+    let ends = [
+        (Do::Notify(0), Ok(Reply::Sent(6))),
+        (Do::Deliver(6), Ok(Reply::Changed)),
+    ];
+    for (done, answer, cancel) in table {
+        let mut cluster = played(&rt, rt.alloc(), &log[..done.min(9)])?;
+        run_rows(&rt, rt.alloc(), &mut cluster, &ends[..done.max(9) - 9])?;
+        run_rows(&rt, rt.alloc(), &mut cluster, &[(Do::Abort(0), answer)])?;
+        let Some(message) = cancel else {
+            assert_eq!(rt; cluster.authority(Dir::new(1)), Some(rank(1)));
+            continue;
+        };
+        run_rows(
+            &rt,
+            rt.alloc(),
+            &mut cluster,
+            &[(Do::Deliver(message), Ok(Reply::Changed))],
+        )?;
+        assert!(rt; cluster.serves(rank(0), Dir::new(1)));
+        let dropped = done == 8;
+        assert_eq!(rt; cluster.journal(rank(1)).len(), if dropped { 2 } else { 0 });
+    }
+    Ok(())
+}
+
+#[test]
+fn twice_delivered_messages_change_nothing(rt: HostRuntime) -> Result<(), Fail> {
+    let mut cluster = cluster(rt.alloc())?;
+    let all = to_the_log();
+    let rows = all.as_slice();
+    for at in 0..rows.len() {
+        run_rows(&rt, rt.alloc(), &mut cluster, &rows[at..at + 1])?;
+        if let Do::Deliver(message) = rows[at].0 {
+            run_rows(
+                &rt,
+                rt.alloc(),
+                &mut cluster,
+                &[(Do::Deliver(message), Ok(Reply::Ignored))],
+            )?;
+        }
+    }
+    let rows = [
+        (Do::Notify(0), Ok(Reply::Sent(6))),
+        (Do::Deliver(6), Ok(Reply::Changed)),
+        (Do::Deliver(6), Ok(Reply::Ignored)),
+    ];
+    run_rows(&rt, rt.alloc(), &mut cluster, &rows)?;
+    for message in 0..7 {
+        run_rows(
+            &rt,
+            rt.alloc(),
+            &mut cluster,
+            &[(Do::Deliver(message), Ok(Reply::Ignored))],
+        )?;
+    }
+    assert_eq!(rt; cluster.authority(Dir::new(1)), Some(rank(1)));
+    assert_eq!(rt; cluster.journal(rank(0)).len(), 4);
+    assert_eq!(rt; cluster.journal(rank(1)).len(), 2);
+    Ok(())
+}
+
+#[test]
+fn runs_a_list_of_events(rt: HostRuntime) -> Result<(), Fail> {
+    let mut cluster = cluster(rt.alloc())?;
+    let mut events = Vec::new(rt.alloc());
+    for (step, _) in to_the_log() {
+        events.push(event(rt.alloc(), step)?)?;
+    }
+    let answers = cluster.run(rt.alloc(), &events)?;
+    for ((_, want), answer) in to_the_log().iter().zip(answers.iter()) {
+        assert_eq!(rt; *answer, *want);
+    }
+    assert_eq!(rt; answers.len(), 9);
+    Ok(())
+}
+
+#[test]
+fn only_the_log_entry_logs(rt: HostRuntime) -> Result<(), Fail> {
+    let mut cluster = cluster(rt.alloc())?;
+    for (at, (step, want)) in to_the_log().iter().enumerate() {
+        let next = event(rt.alloc(), *step)?;
+        assert_eq!(rt; cluster.logs_export(&next), at == 8, "{step:?}");
+        run_rows(&rt, rt.alloc(), &mut cluster, &[(*step, *want)])?;
+        assert!(rt; !cluster.logs_export(&next));
+    }
+    Ok(())
+}
+
+/// The roots of a cluster, asked for again where memory was refused.
+fn roots(alloc: Global, cluster: &Cluster) -> Result<Vec<(Dir, Rank)>, AllocError> {
+    match cluster.roots(alloc) {
+        Ok(roots) => Ok(roots),
+        Err(_) => cluster.roots(alloc),
+    }
+}
+
+#[test]
+fn roots_follow_the_log_entry(rt: HostRuntime) -> Result<(), Fail> {
+    // (what is exported, the roots after its log entry)
+    let table: [(&'static [u32], &'static [(u32, u8)]); 2] = [
+        (&[1], &[(0, 0), (1, 1), (2, 0)]),
+        (&[1, 2], &[(0, 0), (1, 1)]),
+    ];
+    for (dirs, want) in table {
+        let rows = [
+            (Do::Make(0), Ok(Reply::Dir(Dir::new(1)))),
+            (Do::Make(1), Ok(Reply::Dir(Dir::new(2)))),
+            (Do::Start(0, 1, dirs), Ok(Reply::Export(0, 0))),
+        ];
+        let mut cluster = played(&rt, rt.alloc(), &rows)?;
+        assert!(rt; roots(rt.alloc(), &cluster)?.as_slice() == [(Dir::ROOT, rank(0))].as_slice());
+        run_rows(&rt, rt.alloc(), &mut cluster, &to_the_log()[2..])?;
+        let found = roots(rt.alloc(), &cluster)?;
+        assert_eq!(rt; found.len(), want.len());
+        for ((dir, at), (number, owner)) in found.iter().zip(want.iter()) {
+            assert_eq!(rt; (*dir, *at), (Dir::new(*number), rank(*owner)));
+        }
+    }
+    Ok(())
+}

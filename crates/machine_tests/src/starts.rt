@@ -1,0 +1,98 @@
+//! Which lists of directories can be exported, and events that are prepared.
+
+use crate::steps::{Do, answer, cluster, event, rank, to_the_log};
+use export_machine::{Cluster, Event, ExporterState, Reply, StepError};
+use mds_types::Dir;
+use std::alloc::Global;
+use std::process::Abort;
+use std::test::Fail;
+
+/// A cluster in which directory d has the children 2d + 1 and 2d + 2, up to 14.
+fn with_two_children_each(rt: &impl Abort, alloc: Global) -> Result<Cluster, Fail> {
+    let mut cluster = cluster(alloc)?;
+    for number in 1u32..15 {
+        let made = answer(alloc, &mut cluster, Do::Make((number - 1) / 2))?;
+        assert_eq!(rt; made, Ok(Reply::Dir(Dir::new(number))));
+    }
+    Ok(cluster)
+}
+
+/// Prepares an event, and does so again where memory was wanting.
+fn prepared(cluster: &mut Cluster, event: &Event) -> Result<(), StepError> {
+    match cluster.prepare(event) {
+        Err(StepError::Memory) => cluster.prepare(event),
+        answer => answer,
+    }
+}
+
+#[test]
+fn can_apply_names_the_refusal_of_a_start(rt: HostRuntime) -> Result<(), Fail> {
+    // (directories, why their export is refused)
+    let table: [(&'static [u32], Option<StepError>); 18] = [
+        // rising
+        (&[0], None),
+        (&[9], None),
+        (&[0, 1, 2, 3, 4, 5, 6, 7, 8, 9, 10, 11, 12, 13, 14], None),
+        (&[1, 3, 8], None),
+        (&[2, 5, 6, 11, 14], None),
+        (&[3, 4], Some(StepError::NotConnected)),
+        (&[0, 2, 3], Some(StepError::NotConnected)),
+        (&[1, 3, 4, 9, 12], Some(StepError::NotConnected)),
+        (&[0, 1, 15], Some(StepError::NoDir)),
+        // not rising
+        (&[8, 3, 1], None),
+        (&[14, 2, 6, 5, 11], None),
+        (&[13, 0, 7, 3, 1, 6, 9, 2, 12, 4, 10, 5, 14, 8, 11], None),
+        (&[4, 3], Some(StepError::NotConnected)),
+        (&[1, 1, 3], Some(StepError::NotConnected)),
+        (&[0, 1, 1], Some(StepError::NotConnected)),
+        (&[1, 3, 1], Some(StepError::NotConnected)),
+        (&[15, 1], Some(StepError::NoDir)),
+        (&[], Some(StepError::NotConnected)),
+    ];
+    for (dirs, want) in table {
+        let mut cluster = with_two_children_each(&rt, rt.alloc())?;
+        let start = event(rt.alloc(), Do::Start(0, 1, dirs))?;
+        assert_eq!(rt; cluster.can_apply(&start).err(), want, "{dirs:?}");
+        assert_eq!(rt; prepared(&mut cluster, &start).err(), want, "{dirs:?}");
+        assert_eq!(rt; cluster.apply(start).err(), want, "{dirs:?}");
+    }
+    Ok(())
+}
+
+/// An event that is prepared, and then happens.
+fn happened(cluster: &mut Cluster, event: Event) -> Result<Reply, StepError> {
+    match cluster.prepare(&event) {
+        Ok(()) => Ok(cluster.happen(event)),
+        Err(StepError::Memory) => {
+            cluster.prepare(&event)?;
+            Ok(cluster.happen(event))
+        }
+        Err(error) => Err(error),
+    }
+}
+
+#[test]
+fn prepared_events_happen(rt: HostRuntime) -> Result<(), Fail> {
+    let mut cluster = cluster(rt.alloc())?;
+    for (step, want) in to_the_log() {
+        let next = event(rt.alloc(), step)?;
+        assert_eq!(rt; happened(&mut cluster, next), want, "{step:?}");
+    }
+    let refused = event(rt.alloc(), Do::Abort(0))?;
+    let late = Err(StepError::Late(ExporterState::Logged));
+    assert_eq!(rt; happened(&mut cluster, refused), late);
+    assert_eq!(rt; cluster.authority(Dir::new(1)), Some(rank(1)));
+    Ok(())
+}
+
+#[test]
+fn refused_events_leave_room(rt: HostRuntime) -> Result<(), Fail> {
+    let mut cluster = with_two_children_each(&rt, rt.alloc())?;
+    let make = event(rt.alloc(), Do::Make(3))?;
+    prepared(&mut cluster, &make)?;
+    let refused = event(rt.alloc(), Do::Start(0, 1, &[14, 9]))?;
+    assert_eq!(rt; cluster.apply(refused), Err(StepError::NotConnected));
+    assert_eq!(rt; cluster.apply(make), Ok(Reply::Dir(Dir::new(15))));
+    Ok(())
+}

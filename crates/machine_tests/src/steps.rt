@@ -1,0 +1,141 @@
+//! Events of schedules, each beside the answer that it must have.
+//!
+//! What asks for memory is asked again where a growth was refused, and must have changed nothing by then. So the tests
+//! hold with any one growth refused.
+
+use export_machine::{Cluster, Event, Reply, StepError};
+use mds_types::{Dir, Rank};
+use std::alloc::{AllocError, Global};
+use std::process::Abort;
+use std::test::Fail;
+
+pub(crate) fn rank(number: u8) -> Rank {
+    match Rank::new(number) {
+        Some(rank) => rank,
+        None => Rank::default(),
+    }
+}
+
+/// The events of a schedule, with their numbers.
+#[derive(Clone, Copy, Debug)]
+pub(crate) enum Do {
+    Make(u32),
+    Remove(u32),
+    Begin(u8, u32),
+    End(u32),
+    Start(u8, u8, &'static [u32]),
+    Deliver(u32),
+    Froze(u32),
+    Notify(u32),
+    Abort(u32),
+    Stop(u8),
+    Restart(u8),
+    Ask(u32),
+}
+
+fn listed(alloc: Global, numbers: &[u32]) -> Result<Vec<Dir>, AllocError> {
+    let mut dirs = Vec::new(alloc);
+    for number in numbers {
+        dirs.push(Dir::new(*number))?;
+    }
+    Ok(dirs)
+}
+
+fn dirs_at_last(alloc: Global, numbers: &[u32]) -> Result<Vec<Dir>, AllocError> {
+    match listed(alloc, numbers) {
+        Ok(dirs) => Ok(dirs),
+        Err(_) => listed(alloc, numbers),
+    }
+}
+
+/// The event of a step.
+pub(crate) fn event(alloc: Global, step: Do) -> Result<Event, AllocError> {
+    Ok(match step {
+        Do::Make(parent) => Event::Made(Dir::new(parent)),
+        Do::Remove(dir) => Event::Gone(Dir::new(dir)),
+        Do::Begin(at, dir) => Event::Begin(rank(at), Dir::new(dir)),
+        Do::End(ticket) => Event::End(ticket),
+        Do::Start(from, to, numbers) => {
+            Event::Start(rank(from), rank(to), dirs_at_last(alloc, numbers)?)
+        }
+        Do::Deliver(message) => Event::Deliver(message),
+        Do::Froze(export) => Event::Froze(export),
+        Do::Notify(export) => Event::Notify(export),
+        Do::Abort(export) => Event::Abort(export),
+        Do::Stop(at) => Event::Stop(rank(at)),
+        Do::Restart(at) => Event::Restart(rank(at)),
+        Do::Ask(export) => Event::Ask(export),
+    })
+}
+
+/// A step, and its answer.
+pub(crate) type Row = (Do, Result<Reply, StepError>);
+
+/// How much a cluster has written.
+fn written(cluster: &Cluster) -> (u32, usize, usize) {
+    (
+        cluster.sent(),
+        cluster.journal(rank(0)).len(),
+        cluster.journal(rank(1)).len(),
+    )
+}
+
+/// The answer to a step, which is taken again where memory was wanting.
+pub(crate) fn answer(
+    alloc: Global,
+    cluster: &mut Cluster,
+    step: Do,
+) -> Result<Result<Reply, StepError>, AllocError> {
+    let before = written(cluster);
+    let answer = cluster.apply(event(alloc, step)?);
+    if answer == Err(StepError::Memory) && written(cluster) == before {
+        return Ok(cluster.apply(event(alloc, step)?));
+    }
+    Ok(answer)
+}
+
+/// Runs a schedule on a cluster, and compares each answer, and what would be refused, with its row.
+pub(crate) fn run_rows(
+    rt: &impl Abort,
+    alloc: Global,
+    cluster: &mut Cluster,
+    rows: &[Row],
+) -> Result<(), Fail> {
+    for (step, want) in rows {
+        let able = cluster.can_apply(&event(alloc, *step)?);
+        assert_eq!(rt; able.err(), want.err(), "{step:?}");
+        let got = answer(alloc, cluster, *step)?;
+        assert_eq!(rt; got, *want, "{step:?}");
+    }
+    Ok(())
+}
+
+/// A cluster of two ranks with room for 16 directories.
+pub(crate) fn cluster(alloc: Global) -> Result<Cluster, AllocError> {
+    match Cluster::new(alloc, 16, 2) {
+        Ok(cluster) => Ok(cluster),
+        Err(_) => Cluster::new(alloc, 16, 2),
+    }
+}
+
+/// Such a cluster after a schedule.
+pub(crate) fn played(rt: &impl Abort, alloc: Global, rows: &[Row]) -> Result<Cluster, Fail> {
+    let mut cluster = cluster(alloc)?;
+    run_rows(rt, alloc, &mut cluster, rows)?;
+    Ok(cluster)
+}
+
+/// The steps that move directory 1 from rank 0 to rank 1, up to the log entry. The first makes it.
+pub(crate) fn to_the_log() -> [Row; 9] {
+    [
+        (Do::Make(0), Ok(Reply::Dir(Dir::new(1)))),
+        (Do::Start(0, 1, &[1]), Ok(Reply::Export(0, 0))),
+        (Do::Deliver(0), Ok(Reply::Sent(1))),
+        (Do::Deliver(1), Ok(Reply::Changed)),
+        (Do::Froze(0), Ok(Reply::Sent(2))),
+        (Do::Deliver(2), Ok(Reply::Sent(3))),
+        (Do::Deliver(3), Ok(Reply::Sent(4))),
+        (Do::Deliver(4), Ok(Reply::Sent(5))),
+        (Do::Deliver(5), Ok(Reply::Changed)),
+    ]
+}

@@ -1,0 +1,31 @@
+use Rattle.std.proofs.Common.{slice_index, arith}
+use Rattle.cost_table.proofs.BetweenLemmas.{costs_from_sums, part_total_few}
+use Rattle.cost_table.proofs.PlaceLemmas.{rank_count-le}
+use Rattle.rank_assign.proofs.moved_inodes.costs_by.Goals as goal
+
+pub sums_by-requires-clause-labelled : goal.sums_by-requires-clause-labelled
+sums_by-requires-clause-labelled g c κs within =
+    rw c.rows-rows.ensures.value (record {
+      few = rw c.rows-rows.ensures.value at c.rows-rows.ensures.forest.few;
+      parts = omega (arith, rank_count-le c.args.problem.now.ranks, c.requires.few);
+      size = c.requires.size;
+      below = c.requires.below;
+    })
+
+pub cells_of_sums-requires-clause-parts : goal.cells_of_sums-requires-clause-parts
+cells_of_sums-requires-clause-parts g c = omega (arith, rank_count-le c.args.problem.now.ranks, c.requires.few)
+
+pub cells_of_sums-requires-clause-few : goal.cells_of_sums-requires-clause-few
+cells_of_sums-requires-clause-few g c =
+    let summed = rw c.rows-rows.ensures.value at c.in_ok-sums.ensures in
+    rw c.deref.ensures.value
+    (part_total_few c.args.problem.now.rows (slice_index c.args.part.now) c.args.count c.args.problem.now.ranks
+    c.in_ok-sums.sums.items summed.added summed.known (rw c.rows-rows.ensures.value at c.rows-rows.ensures.forest.few))
+
+pub returns-clause-cells : goal.returns-clause-cells
+returns-clause-cells g c =
+    let summed = rw c.rows-rows.ensures.value at c.in_ok-sums.ensures in
+    let made = rw (c.deref.ensures.value, c.ranks-ranks.ensures.value) at c.in_ok-cells.ensures in
+    rw c.from_cells.ensures
+    (costs_from_sums c.args.problem.now.rows (slice_index c.args.part.now) c.args.count c.args.problem.now.ranks
+    c.in_ok-sums.sums.items summed.added summed.known c.in_ok-cells.cells.items made)

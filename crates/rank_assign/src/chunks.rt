@@ -1,0 +1,133 @@
+//! The inodes of each part by present rank, from chunks of rows that threads share.
+ghost use Rattle.std.specs.Prelude.{◌≡◌, ◌<◌, ◌≤◌, ◌+◌, ℕ, length, slice_index_or, IfOk, OnOk};
+ghost use Rattle.rank_assign.specs.Chunks.{edge, AreLabelled, AreSummed};
+
+use cost_table::{add_sums, sums};
+use mds_types::ProblemRow;
+use rayon::prelude::*;
+use std::alloc::{AllocError, Global};
+use std::thread::Threads;
+
+/// How many chunks' sums are kept at a time.
+const CHUNKS: usize = 16;
+
+/// Rows, and of each the part that it belongs to.
+#[derive(Clone, Copy)]
+pub struct Labelled<'a> {
+    pub rows: &'a [ProblemRow],
+    pub part: &'a [u32],
+    pub count: u32,
+}
+
+/// The sums of chunk `k`, of `chunk` rows each from row `first` on. The last chunk may be shorter.
+fn chunk_sums(
+    alloc: Global,
+    of: Labelled<'_>,
+    first: usize,
+    chunk: usize,
+    k: usize,
+) -> Result<Vec<u64>, AllocError>
+    requires { AreLabelled of.rows.now of.part.now of.count }
+    ensures { IfOk result (λ sums. AreSummed of.entry.rows.now of.entry.part.now of.entry.count
+        (edge (length of.entry.rows.now) first chunk k) (edge (length of.entry.rows.now) first chunk (k + 1)) sums.items) }
+{
+    let rows = of.rows.len();
+    let from = k.saturating_mul(chunk).saturating_add(first).min(rows);
+    let to = from.saturating_add(chunk).min(rows);
+    sums(alloc, of.rows, of.part, of.count, from, to)
+}
+
+/// The sums of so many chunks, which threads share.
+fn side_by_side<R: Threads + Sync>(
+    rt: &R,
+    alloc: Global,
+    of: Labelled<'_>,
+    first: usize,
+    chunk: usize,
+    chunks: usize,
+) -> Result<Vec<Result<Vec<u64>, AllocError>>, AllocError>
+    requires { AreLabelled of.rows.now of.part.now of.count }
+    ensures size { IfOk result (λ tables. length tables.items ≡ chunks) }
+    ensures sums { IfOk result (λ tables. (k : ℕ) (d : _) → k < chunks → IfOk (slice_index_or tables.items k d) (λ sums.
+        AreSummed of.entry.rows.now of.entry.part.now of.entry.count
+        (edge (length of.entry.rows.now) first chunk k) (edge (length of.entry.rows.now) first chunk (k + 1)) sums.items)) }
+{
+    (0..chunks)
+        .into_par_iter()
+        .with_min_len(1)
+        .map(
+            |k: usize| -> Result<Vec<u64>, AllocError>
+                requires { AreLabelled of.rows.now of.part.now of.count }
+                ensures { IfOk result (λ sums. AreSummed of.entry.rows.now of.entry.part.now of.entry.count
+                    (edge (length of.entry.rows.now) first chunk k)
+                    (edge (length of.entry.rows.now) first chunk (k + 1)) sums.items) }
+            { chunk_sums(alloc, of, first, chunk, k) },
+        )
+        .collect(rt, alloc)
+}
+
+/// Adds the sums of so many chunks to those of the rows before them.
+fn add_chunks<R: Threads + Sync>(
+    rt: &R,
+    alloc: Global,
+    total: &mut [u64],
+    of: Labelled<'_>,
+    first: usize,
+    chunk: usize,
+    chunks: usize,
+) -> Result<(), AllocError>
+    requires labelled { AreLabelled of.rows.now of.part.now of.count }
+    requires inside { first ≤ length of.rows.now }
+    requires before { AreSummed of.rows.now of.part.now of.count 0 first total.old }
+    ensures size { length total.new ≡ length total.old }
+    ensures sums { OnOk result (AreSummed of.entry.rows.now of.entry.part.now of.entry.count 0
+        (edge (length of.entry.rows.now) first chunk chunks) total.new) }
+{
+    let tables = side_by_side(rt, alloc, of, first, chunk, chunks)?;
+    for k in 0..chunks {
+        match &tables[k] {
+            Ok(sums) => add_sums(total, sums),
+            Err(error) => return Err(*error),
+        }
+    }
+    Ok(())
+}
+
+/// Adds the sums of all rows, in chunks, to zeros.
+fn add_rows<R: Threads + Sync>(
+    rt: &R,
+    alloc: Global,
+    total: &mut [u64],
+    of: Labelled<'_>,
+    chunk: usize,
+) -> Result<(), AllocError>
+    requires labelled { AreLabelled of.rows.now of.part.now of.count }
+    requires chunk { 0 < chunk }
+    requires none { AreSummed of.rows.now of.part.now of.count 0 0 total.old }
+    ensures { OnOk result (AreSummed of.entry.rows.now of.entry.part.now of.entry.count 0 (length of.entry.rows.now) total.new) }
+{
+    let rows = of.rows.len();
+    let mut first = 0;
+    while first < rows {
+        let chunks = (rows - first).div_ceil(chunk).min(CHUNKS);
+        add_chunks(rt, alloc, total, of, first, chunk, chunks)?;
+        first = chunks.saturating_mul(chunk).saturating_add(first).min(rows);
+    }
+    Ok(())
+}
+
+/// The sums of all rows, added up from those of chunks of so many rows.
+pub fn sums_by<R: Threads + Sync>(
+    rt: &R,
+    alloc: Global,
+    of: Labelled<'_>,
+    chunk: usize,
+) -> Result<Vec<u64>, AllocError>
+    requires labelled { AreLabelled of.rows.now of.part.now of.count }
+    requires chunk { 0 < chunk }
+    ensures { IfOk result (λ sums. AreSummed of.entry.rows.now of.entry.part.now of.entry.count 0 (length of.entry.rows.now) sums.items) }
+{
+    let mut total = vec![in alloc; 0; of.count as usize * 64]?;
+    add_rows(rt, alloc, &mut total, of, chunk)?;
+    Ok(total)
+}
