@@ -36,7 +36,10 @@ fn judges_one_part(rt: HostRuntime) -> Result<(), Fail> {
     let chain = problem(alloc, &CHAIN, 3)?;
     let one_rank = problem(alloc, &CHAIN, 1)?;
     let two_prices = one_part(alloc, &[0, 0])?;
-    assert!(rt; !judged(alloc, &chain, &two_prices)?, "two parts are cooler");
+    assert!(rt;
+        !judged(alloc, &chain, &two_prices)?,
+        "two parts are cooler"
+    );
     let one_price = one_part(alloc, &[0])?;
     assert!(rt; judged(alloc, &one_rank, &one_price)?, "one rank alone");
     Ok(())
