@@ -1,19 +1,28 @@
 //! Rows and ranks that are no problem, with what is printed for them.
 
-use crate::given::{at_last, hot_rows, over};
+use crate::given::{hot_rows, over};
 use mds_types::limits::HEAT_LIMIT;
-use mds_types::{Problem, ProblemRow, Rank, RankSet};
-use std::alloc::Global;
+use mds_types::{Problem, ProblemError, ProblemRow, Rank, RankSet};
+use std::alloc::{AllocError, Global};
 use std::test::Fail;
+
+fn printed(alloc: Global, error: ProblemError) -> Result<String, AllocError> {
+    match error.to_string(alloc) {
+        Ok(text) => Ok(text),
+        Err(_) => error.to_string(alloc),
+    }
+}
 
 /// What is printed for rows that are refused. All of them have to be handed back.
 fn refusal(alloc: Global, rows: Vec<ProblemRow>, ranks: u64) -> Result<String, Fail> {
     let count = rows.len();
-    match Problem::new(rows, RankSet::from_bits(ranks)) {
-        Ok(_) => Err("accepted")?,
-        Err((_, back)) if back.len() != count => Err("lost rows")?,
-        Err((error, _)) => Ok(at_last(|| error.to_string(alloc))?),
+    let Err((error, back)) = Problem::new(rows, RankSet::from_bits(ranks)) else {
+        return Err("accepted")?;
+    };
+    if back.len() != count {
+        return Err("lost rows")?;
     }
+    Ok(printed(alloc, error)?)
 }
 
 #[test]

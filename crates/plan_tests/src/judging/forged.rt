@@ -1,9 +1,9 @@
 //! A plan with something changed.
 
 use super::{CHAIN, judged};
-use crate::given::{InTable, list_of, problem, table};
+use crate::given::{InTable, at_last, list_of, problem, table};
 use arrayvec::ArrayVec;
-use mds_types::{CutProof, CutTable, DualProof, Plan, Problem, Rank, Row};
+use mds_types::{CutProof, DualProof, Plan, Problem, Rank};
 use std::alloc::Global;
 use std::test::Fail;
 
@@ -208,41 +208,44 @@ enum List {
     RankPrice,
 }
 
-/// Makes a list one entry longer, or one shorter.
-fn resize<T: Drop>(list: &mut Vec<T>, longer: bool, last: T) -> Result<(), Fail> {
-    if longer {
-        if list.reserve(1).is_err() {
-            list.reserve(1)?;
-        }
-        list.push(last)?;
-    } else {
-        list.truncate(list.len().saturating_sub(1));
+/// These entries with one more, or with one fewer.
+fn resized<T: Copy>(alloc: Global, entries: &[T], longer: bool, last: T) -> Result<Vec<T>, Fail> {
+    let mut list = at_last(|| Vec::with_capacity(alloc, 8))?;
+    let fewer = entries.len().saturating_sub(1);
+    let kept = if longer { entries.len() } else { fewer };
+    for entry in entries.iter().take(kept) {
+        list.push(*entry)?;
     }
-    Ok(())
+    if longer {
+        list.push(last)?;
+    }
+    Ok(list)
 }
 
 /// The true plan with one of its lists longer or shorter by an entry.
 fn with_list(alloc: Global, list: List, longer: bool) -> Result<Plan, Fail> {
-    let mut plan = plan_of(alloc, &TRUE_CLAIM)?;
+    let mut part = list_of(alloc, &TRUE_CLAIM.part)?;
+    let mut part_price = list_of(alloc, &TRUE_CLAIM.prices[..2])?;
+    let mut rank_price = list_of(alloc, &TRUE_CLAIM.prices[2..])?;
+    let mut cut = table(alloc, &TRUE_CLAIM.table)?;
     match list {
-        List::Part => resize(&mut plan.part, longer, 1)?,
-        List::PartPrice => resize(&mut plan.dual.part_price, longer, 0)?,
-        List::RankPrice => resize(&mut plan.dual.rank_price, longer, 0)?,
+        List::Part => part = resized(alloc, &TRUE_CLAIM.part, longer, 1)?,
+        List::PartPrice => part_price = resized(alloc, &TRUE_CLAIM.prices[..2], longer, 0)?,
+        List::RankPrice => rank_price = resized(alloc, &TRUE_CLAIM.prices[2..], longer, 0)?,
         List::Table => {
-            let last = Row {
-                cuts: 0,
-                rest: 0,
-                price: 0,
-                cut: false,
-            };
-            if let CutProof::Table(table) = &plan.cut {
-                let mut rows = list_of(alloc, table.rows())?;
-                resize(&mut rows, longer, last)?;
-                plan.cut = CutProof::Table(CutTable::new(rows));
-            }
+            let rows = resized(alloc, &TRUE_CLAIM.table, longer, (0, 0, 0, false))?;
+            cut = table(alloc, &rows)?;
         }
     }
-    Ok(plan)
+    Ok(Plan {
+        part,
+        cut,
+        dual: DualProof {
+            part_price,
+            rank_price,
+        },
+        ..plan_of(alloc, &TRUE_CLAIM)?
+    })
 }
 
 #[test]

@@ -7,11 +7,8 @@ use mds_types::{CutProof, DualProof, Plan, Rank};
 use std::alloc::Global;
 use std::test::Fail;
 
-#[test]
-fn judges_one_part(rt: HostRuntime) -> Result<(), Fail> {
-    let alloc = rt.alloc();
-    let chain = problem(alloc, &CHAIN, 3)?;
-    let one_rank = problem(alloc, &CHAIN, 1)?;
+/// A plan that leaves the chain whole.
+fn one_part(alloc: Global, rank_price: &[i64]) -> Result<Plan, Fail> {
     let within_8 = [
         (1, 3, 3, false),
         (1, 3, 6, false),
@@ -20,7 +17,7 @@ fn judges_one_part(rt: HostRuntime) -> Result<(), Fail> {
     ];
     let mut rank = ArrayVec::new();
     rank.push(Rank::default());
-    let mut plan = Plan {
+    Ok(Plan {
         part: list_of(alloc, &[0, 0, 0, 0])?,
         rank,
         greatest: 9,
@@ -28,12 +25,23 @@ fn judges_one_part(rt: HostRuntime) -> Result<(), Fail> {
         cut: table(alloc, &within_8)?,
         dual: DualProof {
             part_price: list_of(alloc, &[0])?,
-            rank_price: list_of(alloc, &[0, 0])?,
+            rank_price: list_of(alloc, rank_price)?,
         },
-    };
-    assert!(rt; !judged(alloc, &chain, &plan)?, "two parts are cooler");
-    plan.dual.rank_price.truncate(1);
-    assert!(rt; judged(alloc, &one_rank, &plan)?, "one rank alone");
+    })
+}
+
+#[test]
+fn judges_one_part(rt: HostRuntime) -> Result<(), Fail> {
+    let alloc = rt.alloc();
+    let chain = problem(alloc, &CHAIN, 3)?;
+    let one_rank = problem(alloc, &CHAIN, 1)?;
+    let two_prices = one_part(alloc, &[0, 0])?;
+    assert!(rt;
+        !judged(alloc, &chain, &two_prices)?,
+        "two parts are cooler"
+    );
+    let one_price = one_part(alloc, &[0])?;
+    assert!(rt; judged(alloc, &one_rank, &one_price)?, "one rank alone");
     Ok(())
 }
 
