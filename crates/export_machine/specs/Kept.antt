@@ -2,7 +2,7 @@
 use Rattle.std.specs.Prelude.{◌≡◌, ◌≤◌, ◌<◌, ℕ, ◌+◌, suc, Bool, true, ◌&&◌, nat_lt, List, [], ◌∷◌, map, length, Option, None, Some, Result, Ok, Err, slice_get, slice_index_or, vec_len, vec_capacity, Vec, if◌then◌else◌, replicate, false, not, ◌==◌, is_some}
 use Rattle.export_machine.specs.Cluster.{Order, World}
 use Rattle.export_machine.specs.Authority.{authority, open_export, order_in, from_of, exporter_of, importer_of}
-use Rattle.export_machine.specs.Step.{Event, running_on, is_child, receiver, repeats, comes}
+use Rattle.export_machine.specs.Step.{Event, running_on, is_child, about, receiver, repeats, comes}
 use Rattle.export_machine.specs.View.{IsReached}
 use Rattle.export_machine.specs.declared.event.Event.{Event as Asked}
 use Rattle.export_machine.specs.declared.event.Reply.{Reply}
@@ -174,18 +174,6 @@ pub record CanReceive (r : Records) (message : Message) : Type 0 where
 pub record IsReceived (old : Records) (message : Message) (reply : Reply) (new : Records) : Type 0 where
   pub effect : comes (world_of old) message ≡ record { reply = reply; world = world_of new }
   pub indexed : IsIndexed (world_of new) (indexes_of new)
-
--- the export that a message is about
-abbrev pub about : Message → ℕ
-about (Message.Discover export) = export
-about (Message.DiscoverAck export) = export
-about (Message.Prep export) = export
-about (Message.PrepAck export) = export
-about (Message.Export export) = export
-about (Message.ExportAck export) = export
-about (Message.Finish export) = export
-about (Message.Cancel export) = export
-about (Message.Query export) = export
 
 -- What a contract sees of a cluster.
 
