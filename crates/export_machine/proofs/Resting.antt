@@ -14,7 +14,8 @@ use Rattle.export_machine.specs.declared.importer.ImporterState.TheVariants.{Unk
 use Rattle.export_machine.specs.declared.message.Message.TheVariants.{Discover, DiscoverAck, Prep, PrepAck, ExportAck, Finish, Cancel, Query}
 use Rattle.export_machine.specs.Cluster.{Order, World}
 use Rattle.export_machine.specs.Authority.{order_in, no_order, from_of, to_of, exporter_of, importer_of, journal_of, has, has_entry, authority, is_stopped}
-use Rattle.export_machine.specs.Step.{Event, step, answered, refusal, causes, happens, counted, receiver, run, start, journaled_by, importer_to, changed, ignored, stops, restarts, comes, delivered, exporter_at_stop, importer_at_stop, exporter_by_journal, importer_by_journal, authority_stopped, Move, move, acts, about}
+use Rattle.export_machine.specs.Step.{Event, step, answered, refusal, causes, happens, counted, receiver, run, start, journaled_by, importer_to, changed, ignored, stops, restarts, comes, delivered, exporter_by_journal, importer_by_journal, authority_stopped, Move, move, acts, about}
+use Rattle.export_machine.specs.Kept.{exporter_at_stop, importer_at_stop}
 use Rattle.export_machine.specs.Step.Event.{Begin, End, Start, Deliver, Froze, Notify, Abort, Stop, Restart, Ask}
 use Rattle.export_machine.specs.View.{IsReached}
 use Rattle.export_machine.specs.Entries.{Entry, IsRecovered, entry, entered, entered_by, accepted_entry, delivered_entry, comes_entry, move_entry, noted}
@@ -34,22 +35,17 @@ pub record Rested (w : World) : Type 0 where
   pub exports : (x : ℕ) → is_stopped w (from_of w x) ≡ true → exporter_at_stop (exporter_of w x) ≡ exporter_of w x
   pub imports : (x : ℕ) → is_stopped w (to_of w x) ≡ true → importer_at_stop (has w (to_of w x) (JournalEntry.Dropped x)) (importer_of w x) ≡ importer_of w x
 
-still_exporter : (s : ExporterState) → exporter_at_stop (exporter_at_stop s) ≡ exporter_at_stop s
-still_exporter Logged = refl
-still_exporter Done = refl
-still_exporter _ = refl
+told_exporter : (n e : Bool) → exporter_at_stop (cond n Done (cond e Logged Aborted)) ≡ cond n Done (cond e Logged Aborted)
+told_exporter true e = refl
+told_exporter false true = refl
+told_exporter false false = refl
 
-still_importer : (b : Bool) (s : ImporterState) → importer_at_stop b (importer_at_stop b s) ≡ importer_at_stop b s
-still_importer b Started = refl
-still_importer b Imported = refl
-still_importer true Dropped = refl
-still_importer false Dropped = refl
-still_importer true Unknown = refl
-still_importer false Unknown = refl
-still_importer true Discovered = refl
-still_importer false Discovered = refl
-still_importer true Prepared = refl
-still_importer false Prepared = refl
+told_importer : (m d s : Bool) → importer_at_stop d (cond m Imported (cond d Dropped (cond s Started Unknown))) ≡ cond m Imported (cond d Dropped (cond s Started Unknown))
+told_importer true true s = refl
+told_importer true false s = refl
+told_importer false true s = refl
+told_importer false false true = refl
+told_importer false false false = refl
 
 unknown_rests : (b : Bool) → importer_at_stop b Unknown ≡ Unknown
 unknown_rests true = refl
@@ -206,14 +202,12 @@ module _ (w : World) where
   stop_rested : Rested w → (r : ℕ) → Rested (stops w r)
   stop_rested rested r = record {
     exports = λ x h. elim (cases_lt x (length w.exporters)) [
-      | inl near ↦ rw (map_at_get (λ y state. cond (eqb (from_of w y) r) (exporter_at_stop state) state) w.exporters x Aborted Aborted near) (exporter x h (eqb (from_of w x) r) refl)
-      | inr far ↦ rw (map_at_past (λ y state. cond (eqb (from_of w y) r) (exporter_at_stop state) state) w.exporters x Aborted far) refl
+      | inl near ↦ rw (map_at_get (λ y state. cond (eqb (from_of w y) r) (exporter_by_journal w r y) state) w.exporters x Aborted Aborted near) (exporter x h (eqb (from_of w x) r) refl)
+      | inr far ↦ rw (map_at_past (λ y state. cond (eqb (from_of w y) r) (exporter_by_journal w r y) state) w.exporters x Aborted far) refl
     ];
     imports = λ x h. elim (cases_lt x (length w.importers)) [
-      | inl near ↦
-          rw (map_at_get (λ y state. cond (eqb (to_of w y) r) (importer_at_stop (has w r (JournalEntry.Dropped y)) state) state) w.importers x Unknown Unknown near) (importer x h (eqb (to_of w x) r) refl)
-      | inr far ↦
-          rw (map_at_past (λ y state. cond (eqb (to_of w y) r) (importer_at_stop (has w r (JournalEntry.Dropped y)) state) state) w.importers x Unknown far) (unknown_rests (has w (to_of w x) (JournalEntry.Dropped x)))
+      | inl near ↦ rw (map_at_get (λ y state. cond (eqb (to_of w y) r) (importer_by_journal w r y) state) w.importers x Unknown Unknown near) (importer x h (eqb (to_of w x) r) refl)
+      | inr far ↦ rw (map_at_past (λ y state. cond (eqb (to_of w y) r) (importer_by_journal w r y) state) w.importers x Unknown far) (unknown_rests (has w (to_of w x) (JournalEntry.Dropped x)))
     ];
   }
     where
@@ -224,14 +218,13 @@ module _ (w : World) where
       before s e h = sym (get_or-set_other w.stopped r s true false (unlike s r e)) ∙ h
 
       exporter : (x : ℕ) → get_or (set w.stopped r true) (from_of w x) false ≡ true → (b : Bool) → eqb (from_of w x) r ≡ b →
-          exporter_at_stop (cond b (exporter_at_stop (exporter_of w x)) (exporter_of w x)) ≡ cond b (exporter_at_stop (exporter_of w x)) (exporter_of w x)
-      exporter x h true e = still_exporter (exporter_of w x)
+          exporter_at_stop (cond b (exporter_by_journal w r x) (exporter_of w x)) ≡ cond b (exporter_by_journal w r x) (exporter_of w x)
+      exporter x h true e = told_exporter (has w r (JournalEntry.Notified x)) (has w r (JournalEntry.Exported x))
       exporter x h false e = rested.exports x (before (from_of w x) e h)
 
       importer : (x : ℕ) → get_or (set w.stopped r true) (to_of w x) false ≡ true → (b : Bool) → eqb (to_of w x) r ≡ b →
-          importer_at_stop (has w (to_of w x) (JournalEntry.Dropped x)) (cond b (importer_at_stop (has w r (JournalEntry.Dropped x)) (importer_of w x)) (importer_of w x))
-          ≡ cond b (importer_at_stop (has w r (JournalEntry.Dropped x)) (importer_of w x)) (importer_of w x)
-      importer x h true e = rw (eqb-true (to_of w x) r e) (still_importer (has w r (JournalEntry.Dropped x)) (importer_of w x))
+          importer_at_stop (has w (to_of w x) (JournalEntry.Dropped x)) (cond b (importer_by_journal w r x) (importer_of w x)) ≡ cond b (importer_by_journal w r x) (importer_of w x)
+      importer x h true e = rw (eqb-true (to_of w x) r e) (told_importer (has w r (JournalEntry.Imported x)) (has w r (JournalEntry.Dropped x)) (has w r (JournalEntry.Started x)))
       importer x h false e = rested.imports x (before (to_of w x) e h)
 
   -- a rank runs again

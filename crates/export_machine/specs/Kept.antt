@@ -8,6 +8,8 @@ use Rattle.export_machine.specs.declared.event.Event.{Event as Asked}
 use Rattle.export_machine.specs.declared.event.Reply.{Reply}
 use Rattle.export_machine.specs.declared.exporter.ExporterState.{ExporterState}
 use Rattle.export_machine.specs.declared.importer.ImporterState.{ImporterState}
+use Rattle.export_machine.specs.declared.exporter.ExporterState.TheVariants.{Logged, Done, Aborted}
+use Rattle.export_machine.specs.declared.importer.ImporterState.TheVariants.{Unknown, Started, Imported, Dropped}
 use Rattle.export_machine.specs.declared.journal.JournalEntry.{JournalEntry}
 use Rattle.export_machine.specs.declared.message.Message.{Message}
 use Rattle.export_machine.specs.declared.step_error.StepError.{StepError}
@@ -174,6 +176,21 @@ pub record CanReceive (r : Records) (message : Message) : Type 0 where
 pub record IsReceived (old : Records) (message : Message) (reply : Reply) (new : Records) : Type 0 where
   pub effect : comes (world_of old) message ≡ record { reply = reply; world = world_of new }
   pub indexed : IsIndexed (world_of new) (indexes_of new)
+
+-- What a stop leaves, read off the states: what the journal tells of them.
+
+-- of an exporter's state
+abbrev pub exporter_at_stop : ExporterState → ExporterState
+exporter_at_stop Logged = Logged
+exporter_at_stop Done = Done
+exporter_at_stop _ = Aborted
+
+-- of an importer's state, from whether its journal has the export as dropped
+abbrev pub importer_at_stop : Bool → ImporterState → ImporterState
+importer_at_stop has_dropped Started = Started
+importer_at_stop has_dropped Imported = Imported
+importer_at_stop true Dropped = Dropped
+importer_at_stop _ _ = Unknown
 
 -- What a contract sees of a cluster.
 

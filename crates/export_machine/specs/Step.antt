@@ -313,30 +313,7 @@ abbrev pub delivered : World → Option Message → Outcome
 delivered w None = ignored w
 delivered w (Some m) = if is_stopped w (receiver w m) then ignored w else comes w m
 
--- what a stop leaves of an exporter's state
-abbrev pub exporter_at_stop : ExporterState → ExporterState
-exporter_at_stop Logged = Logged
-exporter_at_stop Done = Done
-exporter_at_stop _ = Aborted
-
--- what a stop leaves of an importer's state, from whether its journal has the export as dropped
-abbrev pub importer_at_stop : Bool → ImporterState → ImporterState
-importer_at_stop has_dropped Started = Started
-importer_at_stop has_dropped Imported = Imported
-importer_at_stop true Dropped = Dropped
-importer_at_stop _ _ = Unknown
-
-abbrev pub ends_at : ℕ → Option Request → Option Request
-ends_at rank None = None
-ends_at rank (Some q) = if q.rank == rank then None else Some q
-
-abbrev pub stops : World → ℕ → World
-stops w rank = record w {
-  tickets = map_at (λ t request. ends_at rank request) w.tickets;
-  exporters = map_at (λ x state. if from_of w x == rank then exporter_at_stop state else state) w.exporters;
-  importers = map_at (λ x state. if to_of w x == rank then importer_at_stop (has w rank (JournalEntry.Dropped x)) state else state) w.importers;
-  stopped = slice_set w.stopped rank true;
-}
+-- Stops. What a rank knows then is in its journal.
 
 -- an exporter's and an importer's state by the entries of the journal
 abbrev pub exporter_by_journal : World → ℕ → ℕ → ExporterState
@@ -348,12 +325,26 @@ importer_by_journal w rank x =
     if has w rank (JournalEntry.Imported x) then Imported
     else (if has w rank (JournalEntry.Dropped x) then Dropped else (if has w rank (JournalEntry.Started x) then Started else Unknown))
 
-abbrev pub restarts : World → ℕ → World
-restarts w rank = record w {
+-- the rank's states of its exports and imports are those that its journal tells
+abbrev pub recovered : World → ℕ → World
+recovered w rank = record w {
   exporters = map_at (λ x state. if from_of w x == rank then exporter_by_journal w rank x else state) w.exporters;
   importers = map_at (λ x state. if to_of w x == rank then importer_by_journal w rank x else state) w.importers;
-  stopped = slice_set w.stopped rank false;
 }
+
+abbrev pub ends_at : ℕ → Option Request → Option Request
+ends_at rank None = None
+ends_at rank (Some q) = if q.rank == rank then None else Some q
+
+-- a stop ends the rank's requests, too
+abbrev pub stops : World → ℕ → World
+stops w rank = record (recovered w rank) {
+  tickets = map_at (λ t request. ends_at rank request) w.tickets;
+  stopped = slice_set w.stopped rank true;
+}
+
+abbrev pub restarts : World → ℕ → World
+restarts w rank = record (recovered w rank) { stopped = slice_set w.stopped rank false }
 
 unfoldable pub happens : World → Event → Outcome
 happens w (Event.Made parent) =
