@@ -6,17 +6,15 @@ use Rattle.std.specs.Result.{OnOk, OnErr}
 use Rattle.std.proofs.lemmas.List.{length-set}
 use Rattle.export_machine.specs.declared.exporter.ExporterState.{ExporterState}
 use Rattle.export_machine.specs.declared.importer.ImporterState.{ImporterState}
-use Rattle.export_machine.specs.declared.exporter.ExporterState.TheVariants.{Discovering, Freezing, Preparing, Exporting, Logged, Done, Aborted}
-use Rattle.export_machine.specs.declared.importer.ImporterState.TheVariants.{Unknown, Discovered, Prepared, Started, Imported, Dropped}
 use Rattle.export_machine.specs.declared.message.Message.{Message}
-use Rattle.export_machine.specs.declared.message.Message.TheVariants.{Discover, DiscoverAck, Prep, PrepAck, ExportAck, Finish, Cancel, Query}
+use Rattle.export_machine.specs.declared.message.Message.TheVariants.{Discover}
 use Rattle.export_machine.specs.declared.journal.JournalEntry.{JournalEntry}
 use Rattle.export_machine.specs.declared.event.Reply.{Reply}
 use Rattle.export_machine.specs.declared.step_error.StepError.{StepError}
 use Rattle.export_machine.specs.declared.records.Records.{Records}
 use Rattle.export_machine.specs.Cluster.{Order, World}
 use Rattle.export_machine.specs.Authority.{no_order, order_in, exporter_of, importer_of, is_stopped, authority, open_export}
-use Rattle.export_machine.specs.Step.{Event, Outcome, refusal, happens, step, counted, comes, delivered, ignored, receiver, discover_comes, discover_ack_comes, prep_comes, prep_ack_comes, export_comes, export_ack_comes, finish_comes, cancel_comes, query_comes, repeats, journaled_by, restarts, changed}
+use Rattle.export_machine.specs.Step.{Event, Outcome, refusal, happens, step, counted, comes, delivered, ignored, receiver, repeats, journaled_by, restarts, changed, Move, move, moved, acts, about, exporter_moves, importer_moves, notes, replies}
 use Rattle.export_machine.specs.Step.Event.{Begin, End, Start, Deliver, Froze, Notify, Abort, Stop, Restart, Ask}
 use Rattle.export_machine.specs.View.{IsReached, IsAnswer}
 use Rattle.export_machine.specs.Room.{IsRefusal, IsAsRoomy, KeepsRoom}
@@ -38,94 +36,34 @@ none w v s e = record { sent = rw s (omega arith); events = e }
 one : (w v : World) (m : Message) → v.sent ≡ w.sent ++ m ∷ [] → v.events ≡ w.events → Sends w v
 one w v m s e = record { sent = rw (s, length_push w.sent m) (omega arith); events = e }
 
-module _ (w : World) (x : ℕ) where
-  discover_sends : (s : ImporterState) → Sends w (discover_comes w x s).world
-  discover_sends Unknown = one w _ _ refl refl
-  discover_sends Discovered = none w _ refl refl
-  discover_sends Prepared = none w _ refl refl
-  discover_sends Started = none w _ refl refl
-  discover_sends Imported = none w _ refl refl
-  discover_sends Dropped = none w _ refl refl
+-- a move sends at most once
+moved_sends : (w : World) (x r : ℕ) (v : Move) → Sends w (moved w x r v).world
+moved_sends w x r v = ends (notes (importer_moves (exporter_moves w x v.exporter) x v.importer) r v.entry) v.sends
+    (noted (importer_moves (exporter_moves w x v.exporter) x v.importer) v.entry (states v.exporter v.importer).0 (states v.exporter v.importer).1).0
+    (noted (importer_moves (exporter_moves w x v.exporter) x v.importer) v.entry (states v.exporter v.importer).0 (states v.exporter v.importer).1).1
+  where
+    states : (e : Option ExporterState) (i : Option ImporterState) →
+        ((importer_moves (exporter_moves w x e) x i).sent ≡ w.sent) × ((importer_moves (exporter_moves w x e) x i).events ≡ w.events)
+    states None None = (refl, refl)
+    states None (Some i) = (refl, refl)
+    states (Some e) None = (refl, refl)
+    states (Some e) (Some i) = (refl, refl)
 
-  discover_ack_sends : (s : ExporterState) → Sends w (discover_ack_comes w x s).world
-  discover_ack_sends Discovering = none w _ refl refl
-  discover_ack_sends Freezing = none w _ refl refl
-  discover_ack_sends Preparing = none w _ refl refl
-  discover_ack_sends Exporting = none w _ refl refl
-  discover_ack_sends Logged = none w _ refl refl
-  discover_ack_sends Done = none w _ refl refl
-  discover_ack_sends Aborted = none w _ refl refl
+    noted : (u : World) (o : Option JournalEntry) → u.sent ≡ w.sent → u.events ≡ w.events → ((notes u r o).sent ≡ w.sent) × ((notes u r o).events ≡ w.events)
+    noted u None s e = (s, e)
+    noted u (Some n) s e = (s, e)
 
-  prep_sends : (s : ImporterState) → Sends w (prep_comes w x s).world
-  prep_sends Unknown = none w _ refl refl
-  prep_sends Discovered = one w _ _ refl refl
-  prep_sends Prepared = none w _ refl refl
-  prep_sends Started = none w _ refl refl
-  prep_sends Imported = none w _ refl refl
-  prep_sends Dropped = none w _ refl refl
-
-  prep_ack_sends : (s : ExporterState) → Sends w (prep_ack_comes w x s).world
-  prep_ack_sends Discovering = none w _ refl refl
-  prep_ack_sends Freezing = none w _ refl refl
-  prep_ack_sends Preparing = one w _ _ refl refl
-  prep_ack_sends Exporting = none w _ refl refl
-  prep_ack_sends Logged = none w _ refl refl
-  prep_ack_sends Done = none w _ refl refl
-  prep_ack_sends Aborted = none w _ refl refl
-
-  export_sends : (s : ImporterState) → Sends w (export_comes w x s).world
-  export_sends Unknown = none w _ refl refl
-  export_sends Discovered = none w _ refl refl
-  export_sends Prepared = one w _ _ refl refl
-  export_sends Started = none w _ refl refl
-  export_sends Imported = none w _ refl refl
-  export_sends Dropped = none w _ refl refl
-
-  export_ack_sends : (s : ExporterState) → Sends w (export_ack_comes w x s).world
-  export_ack_sends Discovering = none w _ refl refl
-  export_ack_sends Freezing = none w _ refl refl
-  export_ack_sends Preparing = none w _ refl refl
-  export_ack_sends Exporting = none w _ refl refl
-  export_ack_sends Logged = none w _ refl refl
-  export_ack_sends Done = none w _ refl refl
-  export_ack_sends Aborted = none w _ refl refl
-
-  finish_sends : (s : ImporterState) → Sends w (finish_comes w x s).world
-  finish_sends Unknown = none w _ refl refl
-  finish_sends Discovered = none w _ refl refl
-  finish_sends Prepared = none w _ refl refl
-  finish_sends Started = none w _ refl refl
-  finish_sends Imported = none w _ refl refl
-  finish_sends Dropped = none w _ refl refl
-
-  cancel_sends : (s : ImporterState) → Sends w (cancel_comes w x s).world
-  cancel_sends Unknown = none w _ refl refl
-  cancel_sends Discovered = none w _ refl refl
-  cancel_sends Prepared = none w _ refl refl
-  cancel_sends Started = none w _ refl refl
-  cancel_sends Imported = none w _ refl refl
-  cancel_sends Dropped = none w _ refl refl
-
-  query_sends : (s : ExporterState) → Sends w (query_comes w x s).world
-  query_sends Discovering = none w _ refl refl
-  query_sends Freezing = none w _ refl refl
-  query_sends Preparing = none w _ refl refl
-  query_sends Exporting = none w _ refl refl
-  query_sends Logged = none w _ refl refl
-  query_sends Done = one w _ _ refl refl
-  query_sends Aborted = one w _ _ refl refl
+    ends : (u : World) (o : Option Message) → u.sent ≡ w.sent → u.events ≡ w.events → Sends w (replies u o).world
+    ends u None s e = none w u s e
+    ends u (Some m) s e = one w (replies u (Some m)).world m (ap (λ ms. ms ++ m ∷ []) s) e
 
 module _ (w : World) where
+  acts_sends : (m : Message) (o : Option Move) → Sends w (acts w m o).world
+  acts_sends m None = none w w refl refl
+  acts_sends m (Some v) = moved_sends w (about m) (receiver w m) v
+
   comes_sends : (m : Message) → Sends w (comes w m).world
-  comes_sends (Discover x) = discover_sends w x (importer_of w x)
-  comes_sends (DiscoverAck x) = discover_ack_sends w x (exporter_of w x)
-  comes_sends (Prep x) = prep_sends w x (importer_of w x)
-  comes_sends (PrepAck x) = prep_ack_sends w x (exporter_of w x)
-  comes_sends (Message.Export x) = export_sends w x (importer_of w x)
-  comes_sends (ExportAck x) = export_ack_sends w x (exporter_of w x)
-  comes_sends (Finish x) = finish_sends w x (importer_of w x)
-  comes_sends (Cancel x) = cancel_sends w x (importer_of w x)
-  comes_sends (Query x) = query_sends w x (exporter_of w x)
+  comes_sends m = acts_sends m (move m (exporter_of w (about m)) (importer_of w (about m)))
 
   either_sends : (b : Bool) (o : Outcome) → Sends w o.world → Sends w (cond b (ignored w) o).world
   either_sends true o s = none w w refl refl

@@ -9,22 +9,49 @@ use Rattle.export_machine.specs.declared.journal.JournalEntry.{JournalEntry}
 use Rattle.export_machine.specs.declared.message.Message.{Message}
 use Rattle.export_machine.specs.declared.step_error.StepError.{StepError}
 use Rattle.export_machine.specs.declared.exporter.ExporterState.TheVariants.{Discovering, Preparing, Exporting, Logged, Done, Aborted}
-use Rattle.export_machine.specs.declared.importer.ImporterState.TheVariants.{Unknown, Discovered, Prepared, Started, Imported, Dropped}
+use Rattle.export_machine.specs.declared.importer.ImporterState.TheVariants.{Unknown, Discovered, Prepared, Started}
 use Rattle.export_machine.specs.declared.message.Message.TheVariants.{Discover, DiscoverAck, Prep, PrepAck, ExportAck, Finish, Cancel, Query}
 use Rattle.export_machine.specs.Cluster.{World}
 use Rattle.export_machine.specs.Authority.{is_inside, from_of, to_of, exporter_of, importer_of, journal_of, named_of, authority, is_stopped}
-use Rattle.export_machine.specs.Step.{Event, step, refusal, happens, journals, journaled_by, exporter_to, importer_to, names_importer, receiver, comes, delivered, ignored, changed, restarts, discover_comes, discover_ack_comes, prep_comes, prep_ack_comes, export_comes, export_ack_comes, finish_comes, cancel_comes, query_comes}
+use Rattle.export_machine.specs.Step.{Event, step, refusal, happens, journals, journaled_by, exporter_to, names_importer, receiver, comes, delivered, ignored, changed, restarts, Move, move, moved, acts, about, exporter_moves, importer_moves, notes, replies}
 use Rattle.export_machine.specs.Step.Event.{Deliver, Notify, Restart}
 use Rattle.export_machine.specs.View.{IsReached}
-use Rattle.export_machine.specs.Entries.{Entry, IsRecorded, entered, entered_by, named_by, parents_after, accepted_entry, delivered_entry, comes_entry, export_entry, export_ack_entry, finish_entry, cancel_entry, entry}
+use Rattle.export_machine.specs.Entries.{Entry, IsRecorded, entered, entered_by, named_by, parents_after, accepted_entry, delivered_entry, comes_entry, move_entry, noted, entry}
 use Rattle.export_machine.proofs.Views.{journal_at, journal_other, push_same, push_other, map_at_get, map_at_past}
-use Rattle.export_machine.proofs.Tables.{about}
 use Rattle.export_machine.proofs.Lookups.{itself}
 use Rattle.export_machine.proofs.Frame.{delivered_frame, happens_fixed}
 use Rattle.export_machine.proofs.Events.{set_none}
 use Rattle.export_machine.proofs.Found.{orders_by}
 use Rattle.export_machine.proofs.Accepted.{as_rank, exporter_rank, importer_rank, numbers_by, notify_order, notify_state, made_has, gone_has}
 use Rattle.export_machine.proofs.Rows.{notify_there}
+
+-- the entries that messages make: none makes, removes or names a directory
+
+abbrev pub is_plain : JournalEntry → Bool
+is_plain (JournalEntry.Made d) = false
+is_plain (JournalEntry.Gone d) = false
+is_plain (JournalEntry.Notified x) = false
+is_plain _ = true
+
+abbrev pub is_quiet : Option Entry → Bool
+is_quiet None = true
+is_quiet (Some e) = is_plain e.entry
+
+pub quiet_move : (r : ℕ) (m : Message) (e : ExporterState) (i : ImporterState) → is_quiet (move_entry r (move m e i)) ≡ true
+quiet_move r (Discover x) e Unknown = refl
+quiet_move r (DiscoverAck x) Discovering i = refl
+quiet_move r (Prep x) e Discovered = refl
+quiet_move r (PrepAck x) Preparing i = refl
+quiet_move r (Message.Export x) e Prepared = refl
+quiet_move r (ExportAck x) Exporting i = refl
+quiet_move r (Finish x) e Started = refl
+quiet_move r (Cancel x) e Unknown = refl
+quiet_move r (Cancel x) e Discovered = refl
+quiet_move r (Cancel x) e Prepared = refl
+quiet_move r (Cancel x) e Started = refl
+quiet_move r (Query x) Done i = refl
+quiet_move r (Query x) Aborted i = refl
+quiet_move r _ _ _ = refl
 
 apart : (m n : ℕ) → m ≢ n → eqb m n ≡ false
 apart m n h = grind arith
@@ -43,56 +70,31 @@ module _ (w : World) (r : ℕ) where
   abbrev pub Grows : World → Option Entry → Type 0
   Grows v o = journal_of v r ≡ entered r o (journal_of w r)
 
-  module _ (x : ℕ) where
-    discover_grows : (s : ImporterState) → Grows (discover_comes w x s).world None
-    discover_grows Unknown = refl
-    discover_grows _ = refl
+  -- any move
+  moved_grows : (x a : ℕ) (v : Move) → a < length w.journals → Grows (moved w x a v).world (noted a v.entry)
+  moved_grows x a v near = replied (notes (importer_moves (exporter_moves w x v.exporter) x v.importer) a v.entry) v.sends (noted a v.entry)
+      (noting (importer_moves (exporter_moves w x v.exporter) x v.importer) v.entry (states v.exporter v.importer))
+    where
+      states : (e : Option ExporterState) (i : Option ImporterState) → (importer_moves (exporter_moves w x e) x i).journals ≡ w.journals
+      states None None = refl
+      states None (Some i) = refl
+      states (Some e) None = refl
+      states (Some e) (Some i) = refl
 
-    discover_ack_grows : (s : ExporterState) → Grows (discover_ack_comes w x s).world None
-    discover_ack_grows Discovering = refl
-    discover_ack_grows _ = refl
+      noting : (u : World) (o : Option JournalEntry) → u.journals ≡ w.journals → Grows (notes u a o) (noted a o)
+      noting u None j = ap (λ (js : List (List JournalEntry)). get_or js r []) j
+      noting u (Some e) j = written u a e (rw j near) r ∙ ap (λ (js : List (List JournalEntry)). entered r (Some (record { rank = a; entry = e })) (get_or js r [])) j
 
-    prep_grows : (s : ImporterState) → Grows (prep_comes w x s).world None
-    prep_grows Discovered = refl
-    prep_grows _ = refl
+      replied : (u : World) (m : Option Message) (o : Option Entry) → Grows u o → Grows (replies u m).world o
+      replied u None o h = h
+      replied u (Some m) o h = h
 
-    prep_ack_grows : (s : ExporterState) → Grows (prep_ack_comes w x s).world None
-    prep_ack_grows Preparing = refl
-    prep_ack_grows _ = refl
-
-    query_grows : (s : ExporterState) → Grows (query_comes w x s).world None
-    query_grows Done = refl
-    query_grows Aborted = refl
-    query_grows _ = refl
-
-    export_grows : to_of w x < length w.journals → (s : ImporterState) → Grows (export_comes w x s).world (export_entry (to_of w x) x s)
-    export_grows near Prepared = written (importer_to w x Started) (to_of w x) (JournalEntry.Started x) near r
-    export_grows near _ = refl
-
-    export_ack_grows : from_of w x < length w.journals → (s : ExporterState) → Grows (export_ack_comes w x s).world (export_ack_entry (from_of w x) x s)
-    export_ack_grows near Exporting = written (exporter_to w x Logged) (from_of w x) (JournalEntry.Exported x) near r
-    export_ack_grows near _ = refl
-
-    finish_grows : to_of w x < length w.journals → (s : ImporterState) → Grows (finish_comes w x s).world (finish_entry (to_of w x) x s)
-    finish_grows near Started = written (importer_to w x Imported) (to_of w x) (JournalEntry.Imported x) near r
-    finish_grows near _ = refl
-
-    cancel_grows : to_of w x < length w.journals → (s : ImporterState) → Grows (cancel_comes w x s).world (cancel_entry (to_of w x) x s)
-    cancel_grows near Started = written (importer_to w x Dropped) (to_of w x) (JournalEntry.Dropped x) near r
-    cancel_grows near Imported = refl
-    cancel_grows near Dropped = refl
-    cancel_grows near _ = refl
+  acts_grows : (m : Message) (o : Option Move) → receiver w m < length w.journals → Grows (acts w m o).world (move_entry (receiver w m) o)
+  acts_grows m None near = refl
+  acts_grows m (Some v) near = moved_grows (about m) (receiver w m) v near
 
   comes_grows : (m : Message) → receiver w m < length w.journals → Grows (comes w m).world (comes_entry w m)
-  comes_grows (Discover x) near = discover_grows x (importer_of w x)
-  comes_grows (DiscoverAck x) near = discover_ack_grows x (exporter_of w x)
-  comes_grows (Prep x) near = prep_grows x (importer_of w x)
-  comes_grows (PrepAck x) near = prep_ack_grows x (exporter_of w x)
-  comes_grows (Message.Export x) near = export_grows x near (importer_of w x)
-  comes_grows (ExportAck x) near = export_ack_grows x near (exporter_of w x)
-  comes_grows (Finish x) near = finish_grows x near (importer_of w x)
-  comes_grows (Cancel x) near = cancel_grows x near (importer_of w x)
-  comes_grows (Query x) near = query_grows x (exporter_of w x)
+  comes_grows m near = acts_grows m (move m (exporter_of w (about m)) (importer_of w (about m))) near
 
   either_grows : (b : Bool) (m : Message) → Grows (comes w m).world (comes_entry w m) →
       Grows (cond b (ignored w) (comes w m)).world (cond b None (comes_entry w m))
@@ -177,28 +179,21 @@ module _ (w : World) (reached : IsReached w) where
       either true h = refl
       either false h = h
 
-      import_row : (x : ℕ) (s : ImporterState) → named_of w d ≡ named_by w d (export_entry (to_of w x) x s)
-      import_row x Prepared = refl
-      import_row x _ = refl
+      plain : (k : ℕ) (e : JournalEntry) → is_plain e ≡ true → named_of w d ≡ named_by w d (Some (record { rank = k; entry = e }))
+      plain k (JournalEntry.Started x) h = refl
+      plain k (JournalEntry.Exported x) h = refl
+      plain k (JournalEntry.Imported x) h = refl
+      plain k (JournalEntry.Dropped x) h = refl
+      plain k (JournalEntry.Made x) h = absurd (cc)
+      plain k (JournalEntry.Gone x) h = absurd (cc)
+      plain k (JournalEntry.Notified x) h = absurd (cc)
 
-      log_row : (x : ℕ) (s : ExporterState) → named_of w d ≡ named_by w d (export_ack_entry (from_of w x) x s)
-      log_row x Exporting = refl
-      log_row x _ = refl
-
-      finish_row : (x : ℕ) (s : ImporterState) → named_of w d ≡ named_by w d (finish_entry (to_of w x) x s)
-      finish_row x Started = refl
-      finish_row x _ = refl
-
-      cancel_row : (x : ℕ) (s : ImporterState) → named_of w d ≡ named_by w d (cancel_entry (to_of w x) x s)
-      cancel_row x Started = refl
-      cancel_row x _ = refl
+      by_entry : (o : Option Entry) → is_quiet o ≡ true → named_of w d ≡ named_by w d o
+      by_entry None h = refl
+      by_entry (Some e) h = plain e.rank e.entry h
 
       row : (n : Message) → named_of w d ≡ named_by w d (comes_entry w n)
-      row (Message.Export x) = import_row x (importer_of w x)
-      row (ExportAck x) = log_row x (exporter_of w x)
-      row (Finish x) = finish_row x (importer_of w x)
-      row (Cancel x) = cancel_row x (importer_of w x)
-      row _ = refl
+      row n = by_entry (comes_entry w n) (quiet_move (receiver w n) n (exporter_of w (about n)) (importer_of w (about n)))
 
   by_named : (o : Option ℕ) (e : JournalEntry) (ps ns : List (Option ℕ)) (d : ℕ) → named_of (record (journaled_by w o e) { parents = ps; named = ns }) d ≡ get_or ns d None
   by_named None e ps ns d = refl

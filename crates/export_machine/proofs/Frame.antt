@@ -1,5 +1,5 @@
 -- A message that comes changes states, journals and messages alone.
-use Rattle.std.proofs.Common.{◌≡◌, ℕ, Bool, true, false, cond, length, Option, Some, None, refl}
+use Rattle.std.proofs.Common.{◌≡◌, ℕ, Bool, true, false, cond, length, Option, Some, None, refl, ◌∙◌}
 use Rattle.std.specs.List.{slice_get}
 use Rattle.export_machine.specs.declared.journal.JournalEntry.{JournalEntry}
 use Rattle.export_machine.specs.Step.{Event, happens, journaled_by, changed, restarts}
@@ -7,12 +7,17 @@ use Rattle.export_machine.specs.Step.Event.{Deliver, Restart}
 use Rattle.export_machine.specs.declared.exporter.ExporterState.{ExporterState}
 use Rattle.export_machine.specs.declared.importer.ImporterState.{ImporterState}
 use Rattle.export_machine.specs.declared.message.Message.{Message}
-use Rattle.export_machine.specs.declared.exporter.ExporterState.TheVariants.{Discovering, Freezing, Preparing, Exporting, Logged, Done, Aborted}
-use Rattle.export_machine.specs.declared.importer.ImporterState.TheVariants.{Unknown, Discovered, Prepared, Started, Imported, Dropped}
-use Rattle.export_machine.specs.declared.message.Message.TheVariants.{Discover, DiscoverAck, Prep, PrepAck, ExportAck, Finish, Cancel, Query}
 use Rattle.export_machine.specs.Cluster.{World}
 use Rattle.export_machine.specs.Authority.{exporter_of, importer_of, is_stopped, authority}
-use Rattle.export_machine.specs.Step.{Outcome, discover_comes, discover_ack_comes, prep_comes, prep_ack_comes, export_comes, export_ack_comes, finish_comes, cancel_comes, query_comes, comes, receiver, delivered, ignored}
+use Rattle.export_machine.specs.Step.{Outcome, Move, move, about, exporter_moves, importer_moves, notes, replies, moved, acts, comes, receiver, delivered, ignored}
+
+-- a message that comes while the export is in this state at its exporter, or at its importer
+
+abbrev pub finds_exporter : World → Message → ExporterState → Outcome
+finds_exporter w m state = acts w m (move m state (importer_of w (about m)))
+
+abbrev pub finds_importer : World → Message → ImporterState → Outcome
+finds_importer w m state = acts w m (move m (exporter_of w (about m)) state)
 
 -- nothing else changed
 pub record Framed (w v : World) : Type 0 where
@@ -27,94 +32,48 @@ pub record Framed (w v : World) : Type 0 where
 pub unframed : (w : World) → Framed w w
 unframed w = record { tickets = refl; parents = refl; stopped = refl; named = refl; orders = refl; ranks = refl; limit = refl }
 
-module _ (w : World) (x : ℕ) where
-  discover_frame : (s : ImporterState) → Framed w (discover_comes w x s).world
-  discover_frame Unknown = record { tickets = refl; parents = refl; stopped = refl; named = refl; orders = refl; ranks = refl; limit = refl }
-  discover_frame Discovered = record { tickets = refl; parents = refl; stopped = refl; named = refl; orders = refl; ranks = refl; limit = refl }
-  discover_frame Prepared = record { tickets = refl; parents = refl; stopped = refl; named = refl; orders = refl; ranks = refl; limit = refl }
-  discover_frame Started = record { tickets = refl; parents = refl; stopped = refl; named = refl; orders = refl; ranks = refl; limit = refl }
-  discover_frame Imported = record { tickets = refl; parents = refl; stopped = refl; named = refl; orders = refl; ranks = refl; limit = refl }
-  discover_frame Dropped = record { tickets = refl; parents = refl; stopped = refl; named = refl; orders = refl; ranks = refl; limit = refl }
+both : (u v w : World) → Framed u v → Framed v w → Framed u w
+both u v w f g = record {
+  tickets = g.tickets ∙ f.tickets;
+  parents = g.parents ∙ f.parents;
+  stopped = g.stopped ∙ f.stopped;
+  named = g.named ∙ f.named;
+  orders = g.orders ∙ f.orders;
+  ranks = g.ranks ∙ f.ranks;
+  limit = g.limit ∙ f.limit;
+}
 
-  discover_ack_frame : (s : ExporterState) → Framed w (discover_ack_comes w x s).world
-  discover_ack_frame Discovering = record { tickets = refl; parents = refl; stopped = refl; named = refl; orders = refl; ranks = refl; limit = refl }
-  discover_ack_frame Freezing = record { tickets = refl; parents = refl; stopped = refl; named = refl; orders = refl; ranks = refl; limit = refl }
-  discover_ack_frame Preparing = record { tickets = refl; parents = refl; stopped = refl; named = refl; orders = refl; ranks = refl; limit = refl }
-  discover_ack_frame Exporting = record { tickets = refl; parents = refl; stopped = refl; named = refl; orders = refl; ranks = refl; limit = refl }
-  discover_ack_frame Logged = record { tickets = refl; parents = refl; stopped = refl; named = refl; orders = refl; ranks = refl; limit = refl }
-  discover_ack_frame Done = record { tickets = refl; parents = refl; stopped = refl; named = refl; orders = refl; ranks = refl; limit = refl }
-  discover_ack_frame Aborted = record { tickets = refl; parents = refl; stopped = refl; named = refl; orders = refl; ranks = refl; limit = refl }
+exporter_frame : (w : World) (x : ℕ) (o : Option ExporterState) → Framed w (exporter_moves w x o)
+exporter_frame w x None = unframed w
+exporter_frame w x (Some s) = record { tickets = refl; parents = refl; stopped = refl; named = refl; orders = refl; ranks = refl; limit = refl }
 
-  prep_frame : (s : ImporterState) → Framed w (prep_comes w x s).world
-  prep_frame Unknown = record { tickets = refl; parents = refl; stopped = refl; named = refl; orders = refl; ranks = refl; limit = refl }
-  prep_frame Discovered = record { tickets = refl; parents = refl; stopped = refl; named = refl; orders = refl; ranks = refl; limit = refl }
-  prep_frame Prepared = record { tickets = refl; parents = refl; stopped = refl; named = refl; orders = refl; ranks = refl; limit = refl }
-  prep_frame Started = record { tickets = refl; parents = refl; stopped = refl; named = refl; orders = refl; ranks = refl; limit = refl }
-  prep_frame Imported = record { tickets = refl; parents = refl; stopped = refl; named = refl; orders = refl; ranks = refl; limit = refl }
-  prep_frame Dropped = record { tickets = refl; parents = refl; stopped = refl; named = refl; orders = refl; ranks = refl; limit = refl }
+importer_frame : (w : World) (x : ℕ) (o : Option ImporterState) → Framed w (importer_moves w x o)
+importer_frame w x None = unframed w
+importer_frame w x (Some s) = record { tickets = refl; parents = refl; stopped = refl; named = refl; orders = refl; ranks = refl; limit = refl }
 
-  prep_ack_frame : (s : ExporterState) → Framed w (prep_ack_comes w x s).world
-  prep_ack_frame Discovering = record { tickets = refl; parents = refl; stopped = refl; named = refl; orders = refl; ranks = refl; limit = refl }
-  prep_ack_frame Freezing = record { tickets = refl; parents = refl; stopped = refl; named = refl; orders = refl; ranks = refl; limit = refl }
-  prep_ack_frame Preparing = record { tickets = refl; parents = refl; stopped = refl; named = refl; orders = refl; ranks = refl; limit = refl }
-  prep_ack_frame Exporting = record { tickets = refl; parents = refl; stopped = refl; named = refl; orders = refl; ranks = refl; limit = refl }
-  prep_ack_frame Logged = record { tickets = refl; parents = refl; stopped = refl; named = refl; orders = refl; ranks = refl; limit = refl }
-  prep_ack_frame Done = record { tickets = refl; parents = refl; stopped = refl; named = refl; orders = refl; ranks = refl; limit = refl }
-  prep_ack_frame Aborted = record { tickets = refl; parents = refl; stopped = refl; named = refl; orders = refl; ranks = refl; limit = refl }
+notes_frame : (w : World) (r : ℕ) (o : Option JournalEntry) → Framed w (notes w r o)
+notes_frame w r None = unframed w
+notes_frame w r (Some e) = record { tickets = refl; parents = refl; stopped = refl; named = refl; orders = refl; ranks = refl; limit = refl }
 
-  export_frame : (s : ImporterState) → Framed w (export_comes w x s).world
-  export_frame Unknown = record { tickets = refl; parents = refl; stopped = refl; named = refl; orders = refl; ranks = refl; limit = refl }
-  export_frame Discovered = record { tickets = refl; parents = refl; stopped = refl; named = refl; orders = refl; ranks = refl; limit = refl }
-  export_frame Prepared = record { tickets = refl; parents = refl; stopped = refl; named = refl; orders = refl; ranks = refl; limit = refl }
-  export_frame Started = record { tickets = refl; parents = refl; stopped = refl; named = refl; orders = refl; ranks = refl; limit = refl }
-  export_frame Imported = record { tickets = refl; parents = refl; stopped = refl; named = refl; orders = refl; ranks = refl; limit = refl }
-  export_frame Dropped = record { tickets = refl; parents = refl; stopped = refl; named = refl; orders = refl; ranks = refl; limit = refl }
+replies_frame : (w : World) (o : Option Message) → Framed w (replies w o).world
+replies_frame w None = unframed w
+replies_frame w (Some m) = record { tickets = refl; parents = refl; stopped = refl; named = refl; orders = refl; ranks = refl; limit = refl }
 
-  export_ack_frame : (s : ExporterState) → Framed w (export_ack_comes w x s).world
-  export_ack_frame Discovering = record { tickets = refl; parents = refl; stopped = refl; named = refl; orders = refl; ranks = refl; limit = refl }
-  export_ack_frame Freezing = record { tickets = refl; parents = refl; stopped = refl; named = refl; orders = refl; ranks = refl; limit = refl }
-  export_ack_frame Preparing = record { tickets = refl; parents = refl; stopped = refl; named = refl; orders = refl; ranks = refl; limit = refl }
-  export_ack_frame Exporting = record { tickets = refl; parents = refl; stopped = refl; named = refl; orders = refl; ranks = refl; limit = refl }
-  export_ack_frame Logged = record { tickets = refl; parents = refl; stopped = refl; named = refl; orders = refl; ranks = refl; limit = refl }
-  export_ack_frame Done = record { tickets = refl; parents = refl; stopped = refl; named = refl; orders = refl; ranks = refl; limit = refl }
-  export_ack_frame Aborted = record { tickets = refl; parents = refl; stopped = refl; named = refl; orders = refl; ranks = refl; limit = refl }
-
-  finish_frame : (s : ImporterState) → Framed w (finish_comes w x s).world
-  finish_frame Unknown = record { tickets = refl; parents = refl; stopped = refl; named = refl; orders = refl; ranks = refl; limit = refl }
-  finish_frame Discovered = record { tickets = refl; parents = refl; stopped = refl; named = refl; orders = refl; ranks = refl; limit = refl }
-  finish_frame Prepared = record { tickets = refl; parents = refl; stopped = refl; named = refl; orders = refl; ranks = refl; limit = refl }
-  finish_frame Started = record { tickets = refl; parents = refl; stopped = refl; named = refl; orders = refl; ranks = refl; limit = refl }
-  finish_frame Imported = record { tickets = refl; parents = refl; stopped = refl; named = refl; orders = refl; ranks = refl; limit = refl }
-  finish_frame Dropped = record { tickets = refl; parents = refl; stopped = refl; named = refl; orders = refl; ranks = refl; limit = refl }
-
-  cancel_frame : (s : ImporterState) → Framed w (cancel_comes w x s).world
-  cancel_frame Unknown = record { tickets = refl; parents = refl; stopped = refl; named = refl; orders = refl; ranks = refl; limit = refl }
-  cancel_frame Discovered = record { tickets = refl; parents = refl; stopped = refl; named = refl; orders = refl; ranks = refl; limit = refl }
-  cancel_frame Prepared = record { tickets = refl; parents = refl; stopped = refl; named = refl; orders = refl; ranks = refl; limit = refl }
-  cancel_frame Started = record { tickets = refl; parents = refl; stopped = refl; named = refl; orders = refl; ranks = refl; limit = refl }
-  cancel_frame Imported = record { tickets = refl; parents = refl; stopped = refl; named = refl; orders = refl; ranks = refl; limit = refl }
-  cancel_frame Dropped = record { tickets = refl; parents = refl; stopped = refl; named = refl; orders = refl; ranks = refl; limit = refl }
-
-  query_frame : (s : ExporterState) → Framed w (query_comes w x s).world
-  query_frame Discovering = record { tickets = refl; parents = refl; stopped = refl; named = refl; orders = refl; ranks = refl; limit = refl }
-  query_frame Freezing = record { tickets = refl; parents = refl; stopped = refl; named = refl; orders = refl; ranks = refl; limit = refl }
-  query_frame Preparing = record { tickets = refl; parents = refl; stopped = refl; named = refl; orders = refl; ranks = refl; limit = refl }
-  query_frame Exporting = record { tickets = refl; parents = refl; stopped = refl; named = refl; orders = refl; ranks = refl; limit = refl }
-  query_frame Logged = record { tickets = refl; parents = refl; stopped = refl; named = refl; orders = refl; ranks = refl; limit = refl }
-  query_frame Done = record { tickets = refl; parents = refl; stopped = refl; named = refl; orders = refl; ranks = refl; limit = refl }
-  query_frame Aborted = record { tickets = refl; parents = refl; stopped = refl; named = refl; orders = refl; ranks = refl; limit = refl }
+-- any move
+moved_frame : (w : World) (x r : ℕ) (v : Move) → Framed w (moved w x r v).world
+moved_frame w x r v =
+    both w (exporter_moves w x v.exporter) (moved w x r v).world (exporter_frame w x v.exporter)
+    (both (exporter_moves w x v.exporter) (importer_moves (exporter_moves w x v.exporter) x v.importer) (moved w x r v).world (importer_frame (exporter_moves w x v.exporter) x v.importer)
+    (both (importer_moves (exporter_moves w x v.exporter) x v.importer) (notes (importer_moves (exporter_moves w x v.exporter) x v.importer) r v.entry) (moved w x r v).world
+    (notes_frame (importer_moves (exporter_moves w x v.exporter) x v.importer) r v.entry) (replies_frame (notes (importer_moves (exporter_moves w x v.exporter) x v.importer) r v.entry) v.sends)))
 
 module _ (w : World) where
+  acts_frame : (m : Message) (o : Option Move) → Framed w (acts w m o).world
+  acts_frame m None = unframed w
+  acts_frame m (Some v) = moved_frame w (about m) (receiver w m) v
+
   comes_frame : (m : Message) → Framed w (comes w m).world
-  comes_frame (Discover x) = discover_frame w x (importer_of w x)
-  comes_frame (DiscoverAck x) = discover_ack_frame w x (exporter_of w x)
-  comes_frame (Prep x) = prep_frame w x (importer_of w x)
-  comes_frame (PrepAck x) = prep_ack_frame w x (exporter_of w x)
-  comes_frame (Message.Export x) = export_frame w x (importer_of w x)
-  comes_frame (ExportAck x) = export_ack_frame w x (exporter_of w x)
-  comes_frame (Finish x) = finish_frame w x (importer_of w x)
-  comes_frame (Cancel x) = cancel_frame w x (importer_of w x)
-  comes_frame (Query x) = query_frame w x (exporter_of w x)
+  comes_frame m = acts_frame m (move m (exporter_of w (about m)) (importer_of w (about m)))
 
   pub either_frame : (b : Bool) (o p : Outcome) → Framed w o.world → Framed w p.world → Framed w (cond b o p).world
   either_frame true o p h k = h

@@ -8,10 +8,10 @@ use Rattle.export_machine.specs.declared.exporter.ExporterState.TheVariants.{Dis
 use Rattle.export_machine.specs.declared.importer.ImporterState.TheVariants.{Unknown, Discovered, Prepared, Started, Imported, Dropped}
 use Rattle.export_machine.specs.Cluster.{World}
 use Rattle.export_machine.specs.Authority.{from_of, to_of, exporter_of, importer_of, has, authority, open_export}
-use Rattle.export_machine.specs.Step.{refusal, causes, map_at, is_before_log, exporter_at_stop, importer_at_stop, exporter_by_journal, importer_by_journal, ends_at, stops, restarts}
+use Rattle.export_machine.specs.Step.{refusal, causes, map_at, is_before_log, exporter_by_journal, importer_by_journal, ends_at, recovered, stops, restarts}
 use Rattle.export_machine.specs.Step.Event.{Stop, Restart}
 use Rattle.export_machine.specs.View.{IsReached}
-use Rattle.export_machine.specs.Kept.{Indexes, IsIndexed}
+use Rattle.export_machine.specs.Kept.{Indexes, IsIndexed, exporter_at_stop, importer_at_stop}
 use Rattle.export_machine.proofs.Safe.{Safe}
 use Rattle.export_machine.proofs.Reached.{by_safe}
 use Rattle.export_machine.proofs.Events.{not_refused}
@@ -59,9 +59,6 @@ forgets rank w = record w { importers = map_at (λ x state. cond (eqb (to_of w x
 abbrev pub ends : ℕ → World → World
 ends rank w = record w { tickets = map_at (λ t request. ends_at rank request) w.tickets }
 
-pub stops_all : (rank : ℕ) (w : World) → stops w rank ≡ record (ends rank (forgets rank (aborts rank w))) { stopped = set w.stopped rank true }
-stops_all rank w = refl
-
 -- imports: those that the journal has as dropped stay so
 
 pub dropped_stay : (w : World) (rank : ℕ) → ((x : ℕ) → has w rank (JournalEntry.Dropped x) ≡ true → (to_of w x ≡ rank) × (importer_of w x ≡ Dropped)) →
@@ -82,12 +79,12 @@ dropped_stay w rank h =
 pub dropped_there : (w : World) → IsReached w → (rank x : ℕ) → has w rank (JournalEntry.Dropped x) ≡ true → (to_of w x ≡ rank) × (importer_of w x ≡ Dropped)
 dropped_there w r rank x h = (numbers_by w r (to_of w x) rank (λ safe. sym (safe.tables.dropped rank x h).0), importers_by w r (importer_of w x) Dropped (λ safe. (safe.tables.dropped rank x h).1))
 
--- a restart: what the journal tells is what a stop leaves
+-- what the journal tells is what these changes leave
 
-pub restarts_all : (rank : ℕ) (w : World) → IsReached w → restarts w rank ≡ record (forgets rank (aborts rank w)) { stopped = set w.stopped rank false }
-restarts_all rank w r =
-    ap (λ es. record (restarts w rank) { exporters = es }) (same_here _ _ w.exporters Aborted (λ x l. exporting x (eqb (from_of w x) rank) refl))
-    ∙ ap (λ is. record (aborts rank w) { importers = is; stopped = set w.stopped rank false }) (same_here _ _ w.importers Unknown (λ x l. importing x (eqb (to_of w x) rank) refl))
+pub recovered_all : (rank : ℕ) (w : World) → IsReached w → recovered w rank ≡ forgets rank (aborts rank w)
+recovered_all rank w r =
+    ap (λ es. record (recovered w rank) { exporters = es }) (same_here _ _ w.exporters Aborted (λ x l. exporting x (eqb (from_of w x) rank) refl))
+    ∙ ap (λ is. record (aborts rank w) { importers = is }) (same_here _ _ w.importers Unknown (λ x l. importing x (eqb (to_of w x) rank) refl))
   where
     exporting : (x : ℕ) (b : Bool) → eqb (from_of w x) rank ≡ b → cond b (exporter_by_journal w rank x) (exporter_of w x) ≡ cond b (exporter_at_stop (exporter_of w x)) (exporter_of w x)
     exporting x true e = exporters_by w r (exporter_by_journal w rank x) (exporter_at_stop (exporter_of w x))
@@ -98,6 +95,12 @@ restarts_all rank w r =
     importing x true e = importers_by w r (importer_by_journal w rank x) (importer_at_stop (has w rank (JournalEntry.Dropped x)) (importer_of w x))
         (λ safe. subst (λ s. importer_by_journal w s x ≡ importer_at_stop (has w s (JournalEntry.Dropped x)) (importer_of w x)) (eqb-true (to_of w x) rank e) (importer_journaled w safe rank x))
     importing x false e = refl
+
+pub restarts_all : (rank : ℕ) (w : World) → IsReached w → restarts w rank ≡ record (forgets rank (aborts rank w)) { stopped = set w.stopped rank false }
+restarts_all rank w r = ap (λ (u : World). record u { stopped = set w.stopped rank false }) (recovered_all rank w r)
+
+pub stops_all : (rank : ℕ) (w : World) → IsReached w → stops w rank ≡ record (ends rank (forgets rank (aborts rank w))) { stopped = set w.stopped rank true }
+stops_all rank w r = ap (λ (u : World). record u { tickets = map_at (λ t request. ends_at rank request) w.tickets; stopped = set w.stopped rank true }) (recovered_all rank w r)
 
 -- who is stopped decides no table
 pub stopped_indexed : (w : World) (i : Indexes) → IsIndexed w i → (stopped : List Bool) → IsIndexed (record w { stopped = stopped }) i

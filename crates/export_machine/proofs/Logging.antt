@@ -6,16 +6,16 @@ use Rattle.export_machine.specs.declared.exporter.ExporterState.{ExporterState}
 use Rattle.export_machine.specs.declared.importer.ImporterState.{ImporterState}
 use Rattle.export_machine.specs.declared.message.Message.{Message}
 use Rattle.export_machine.specs.declared.step_error.StepError.{StepError}
-use Rattle.export_machine.specs.declared.exporter.ExporterState.TheVariants.{Exporting}
-use Rattle.export_machine.specs.declared.importer.ImporterState.TheVariants.{Prepared, Started}
-use Rattle.export_machine.specs.declared.message.Message.TheVariants.{ExportAck, Finish, Cancel}
+use Rattle.export_machine.specs.declared.exporter.ExporterState.TheVariants.{Discovering, Preparing, Exporting, Done, Aborted}
+use Rattle.export_machine.specs.declared.importer.ImporterState.TheVariants.{Unknown, Discovered, Prepared, Started}
+use Rattle.export_machine.specs.declared.message.Message.TheVariants.{Discover, DiscoverAck, Prep, PrepAck, ExportAck, Finish, Cancel, Query}
 use Rattle.export_machine.specs.declared.event.Event.{Event as Asked}
 use Rattle.export_machine.specs.declared.journal.JournalEntry.{JournalEntry}
 use Rattle.export_machine.specs.Cluster.{World}
-use Rattle.export_machine.specs.Authority.{from_of, to_of, exporter_of, importer_of, is_stopped, authority}
-use Rattle.export_machine.specs.Step.{Event, refusal, receiver}
+use Rattle.export_machine.specs.Authority.{from_of, exporter_of, importer_of, is_stopped, authority}
+use Rattle.export_machine.specs.Step.{Event, refusal, receiver, move, about}
 use Rattle.export_machine.specs.Step.Event.{Deliver}
-use Rattle.export_machine.specs.Entries.{Entry, entry, unless_refused, accepted_entry, delivered_entry, comes_entry, export_entry, export_ack_entry, finish_entry, cancel_entry, entered_by, is_log, logs_export}
+use Rattle.export_machine.specs.Entries.{Entry, entry, unless_refused, accepted_entry, delivered_entry, comes_entry, move_entry, entered_by, is_log, logs_export}
 use Rattle.export_machine.specs.Kept.{event_of, cause_of}
 
 module _ (w : World) where
@@ -28,7 +28,7 @@ module _ (w : World) where
   pub other_state : (x : ℕ) → exporter_of w x ≢ Exporting → false ≡ is_log (delivered_entry w (Some (ExportAck x)))
   other_state x n = go (is_stopped w (from_of w x)) (exporter_of w x) n
     where
-      go : (b : Bool) (s : ExporterState) → s ≢ Exporting → false ≡ is_log (cond b None (export_ack_entry (from_of w x) x s))
+      go : (b : Bool) (s : ExporterState) → s ≢ Exporting → false ≡ is_log (cond b None (move_entry (from_of w x) (move (ExportAck x) s (importer_of w x))))
       go true s m = refl
       go false Exporting m = absurd (m refl)
       go false _ m = refl
@@ -37,27 +37,24 @@ module _ (w : World) where
   either_not true o h = refl
   either_not false o h = sym h
 
-  export_not : (x : ℕ) (s : ImporterState) → is_log (export_entry (to_of w x) x s) ≡ false
-  export_not x Prepared = refl
-  export_not x _ = refl
-
-  finish_not : (x : ℕ) (s : ImporterState) → is_log (finish_entry (to_of w x) x s) ≡ false
-  finish_not x Started = refl
-  finish_not x _ = refl
-
-  cancel_not : (x : ℕ) (s : ImporterState) → is_log (cancel_entry (to_of w x) x s) ≡ false
-  cancel_not x Started = refl
-  cancel_not x _ = refl
+  message_not : (m : Message) (e : ExporterState) (i : ImporterState) → ((x : ℕ) → m ≡ ExportAck x → ⊥) → is_log (move_entry (receiver w m) (move m e i)) ≡ false
+  message_not (ExportAck x) e i n = absurd (n x refl)
+  message_not (Discover x) e Unknown n = refl
+  message_not (DiscoverAck x) Discovering i n = refl
+  message_not (Prep x) e Discovered n = refl
+  message_not (PrepAck x) Preparing i n = refl
+  message_not (Message.Export x) e Prepared n = refl
+  message_not (Finish x) e Started n = refl
+  message_not (Cancel x) e Unknown n = refl
+  message_not (Cancel x) e Discovered n = refl
+  message_not (Cancel x) e Prepared n = refl
+  message_not (Cancel x) e Started n = refl
+  message_not (Query x) Done i n = refl
+  message_not (Query x) Aborted i n = refl
+  message_not _ _ _ n = refl
 
   pub other_message : (m : Message) → ((x : ℕ) → m ≡ ExportAck x → ⊥) → false ≡ is_log (delivered_entry w (Some m))
-  other_message m n = either_not (is_stopped w (receiver w m)) (comes_entry w m) (go m n)
-    where
-      go : (k : Message) → ((x : ℕ) → k ≡ ExportAck x → ⊥) → is_log (comes_entry w k) ≡ false
-      go (ExportAck x) l = absurd (l x refl)
-      go (Message.Export x) l = export_not x (importer_of w x)
-      go (Finish x) l = finish_not x (importer_of w x)
-      go (Cancel x) l = cancel_not x (importer_of w x)
-      go _ l = refl
+  other_message m n = either_not (is_stopped w (receiver w m)) (comes_entry w m) (message_not m (exporter_of w (about m)) (importer_of w (about m)) n)
 
   by_not : (o : Option ℕ) (e : JournalEntry) → is_log (Some (record { rank = 0; entry = e })) ≡ false → is_log (entered_by o e) ≡ false
   by_not None e h = refl

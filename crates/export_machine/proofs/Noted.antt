@@ -5,20 +5,15 @@ use Rattle.std.specs.List.{slice_get}
 use Rattle.std.proofs.lemmas.Bool.{cases_Bool, cases_eq, cases_lt, or_cases, or_left, or_right, and_parts, eqb-true}
 use Rattle.std.proofs.lemmas.List.{get_or-set_same, get_or-set_other, get_or_past, length-set}
 use Rattle.std.proofs.Math.Logic.{∥∥₁_elim}
-use Rattle.export_machine.specs.declared.exporter.ExporterState.{ExporterState}
-use Rattle.export_machine.specs.declared.importer.ImporterState.{ImporterState}
 use Rattle.export_machine.specs.declared.journal.JournalEntry.{JournalEntry}
 use Rattle.export_machine.specs.declared.message.Message.{Message}
 use Rattle.export_machine.specs.declared.step_error.StepError.{StepError}
-use Rattle.export_machine.specs.declared.exporter.ExporterState.TheVariants.{Exporting}
-use Rattle.export_machine.specs.declared.importer.ImporterState.TheVariants.{Prepared, Started}
-use Rattle.export_machine.specs.declared.message.Message.TheVariants.{ExportAck, Finish, Cancel}
 use Rattle.export_machine.specs.Cluster.{Order, World}
-use Rattle.export_machine.specs.Authority.{is_among, order_in, no_order, from_of, to_of, exporter_of, importer_of, journal_of, is_present, has, has_entry, is_same, authority, any_below, is_stopped}
-use Rattle.export_machine.specs.Step.{Event, step, answered, refusal, happens, counted, receiver, run, start, journaled_by, changed, ignored, restarts}
+use Rattle.export_machine.specs.Authority.{is_among, order_in, no_order, from_of, exporter_of, importer_of, journal_of, is_present, has, has_entry, is_same, authority, any_below, is_stopped}
+use Rattle.export_machine.specs.Step.{Event, step, answered, refusal, happens, counted, receiver, run, start, journaled_by, changed, ignored, restarts, about}
 use Rattle.export_machine.specs.Step.Event.{Begin, End, Start, Deliver, Froze, Notify, Abort, Stop, Restart, Ask}
 use Rattle.export_machine.specs.View.{IsReached}
-use Rattle.export_machine.specs.Entries.{Entry, IsThere, AreInJournals, AreMade, entered, accepted_entry, delivered_entry, comes_entry, export_entry, export_ack_entry, finish_entry, cancel_entry, entry, parents_after}
+use Rattle.export_machine.specs.Entries.{Entry, IsThere, AreInJournals, AreMade, entered, accepted_entry, delivered_entry, comes_entry, entry, parents_after}
 use Rattle.export_machine.proofs.Views.{has_push, push_same, push_other, length_push}
 use Rattle.export_machine.proofs.Lookups.{itself, any_some, any_none}
 use Rattle.export_machine.proofs.Frame.{delivered_frame}
@@ -27,7 +22,7 @@ use Rattle.export_machine.proofs.Theorem.{replicate_get}
 use Rattle.export_machine.proofs.Reached.{reached_step, started}
 use Rattle.export_machine.proofs.Accepted.{made_has, gone_has, gone_there}
 use Rattle.export_machine.proofs.Starting.{start_there}
-use Rattle.export_machine.proofs.Entries.{is_recorded}
+use Rattle.export_machine.proofs.Entries.{is_recorded, is_quiet, is_plain, quiet_move}
 
 -- what an entry adds to what a journal has
 
@@ -46,16 +41,6 @@ entered_has r (Some e) j f = go (eqb e.rank r)
     go true = has_push j e.entry f
     go false = or_false (has_entry j f)
 
--- an entry that neither makes nor removes a directory
-abbrev pub is_plain : JournalEntry → Bool
-is_plain (JournalEntry.Made d) = false
-is_plain (JournalEntry.Gone d) = false
-is_plain _ = true
-
-abbrev pub is_quiet : Option Entry → Bool
-is_quiet None = true
-is_quiet (Some e) = is_plain e.entry
-
 and_none : (b : Bool) → (b && false) ≡ false
 and_none b = grind arith
 
@@ -64,7 +49,7 @@ plain_made (JournalEntry.Made c) d h = absurd (cc)
 plain_made (JournalEntry.Gone c) d h = absurd (cc)
 plain_made (JournalEntry.Started x) d h = (refl, refl)
 plain_made (JournalEntry.Exported x) d h = (refl, refl)
-plain_made (JournalEntry.Notified x) d h = (refl, refl)
+plain_made (JournalEntry.Notified x) d h = absurd (cc)
 plain_made (JournalEntry.Imported x) d h = (refl, refl)
 plain_made (JournalEntry.Dropped x) d h = (refl, refl)
 
@@ -74,28 +59,8 @@ quiet_adds (Some e) q r d = (rw (plain_made e.entry d q).0 (and_none (eqb e.rank
 
 -- messages are quiet
 
-quiet_export : (r x : ℕ) (s : ImporterState) → is_quiet (export_entry r x s) ≡ true
-quiet_export r x Prepared = refl
-quiet_export r x _ = refl
-
-quiet_ack : (r x : ℕ) (s : ExporterState) → is_quiet (export_ack_entry r x s) ≡ true
-quiet_ack r x Exporting = refl
-quiet_ack r x _ = refl
-
-quiet_finish : (r x : ℕ) (s : ImporterState) → is_quiet (finish_entry r x s) ≡ true
-quiet_finish r x Started = refl
-quiet_finish r x _ = refl
-
-quiet_cancel : (r x : ℕ) (s : ImporterState) → is_quiet (cancel_entry r x s) ≡ true
-quiet_cancel r x Started = refl
-quiet_cancel r x _ = refl
-
 quiet_comes : (w : World) (m : Message) → is_quiet (comes_entry w m) ≡ true
-quiet_comes w (Message.Export x) = quiet_export (to_of w x) x (importer_of w x)
-quiet_comes w (ExportAck x) = quiet_ack (from_of w x) x (exporter_of w x)
-quiet_comes w (Finish x) = quiet_finish (to_of w x) x (importer_of w x)
-quiet_comes w (Cancel x) = quiet_cancel (to_of w x) x (importer_of w x)
-quiet_comes w _ = refl
+quiet_comes w m = quiet_move (receiver w m) m (exporter_of w (about m)) (importer_of w (about m))
 
 quiet_delivered : (w : World) (o : Option Message) → is_quiet (delivered_entry w o) ≡ true
 quiet_delivered w None = refl
@@ -129,11 +94,11 @@ module _ (w v : World) (noted : Noted w) (o : Option Entry) (grown : (r : ℕ) �
   keeps r f h = has_more r f ∙ or_left (has w r f) (adds r o f) h
 
   -- the tree stays
-  quiet_noted : is_quiet o ≡ true → v.parents ≡ w.parents → AreMade v → Noted v
+  quiet_noted : ((r d : ℕ) → (adds r o (JournalEntry.Made d) ≡ false) × (adds r o (JournalEntry.Gone d) ≡ false)) → v.parents ≡ w.parents → AreMade v → Noted v
   quiet_noted q p i = record {
-    made = λ r d h. rw p (noted.made r d (had r (JournalEntry.Made d) (quiet_adds o q r d).0 h));
+    made = λ r d h. rw p (noted.made r d (had r (JournalEntry.Made d) (q r d).0 h));
     maker = λ d l. (let m = noted.maker d (rw p at l) in (m.0, keeps m.0 (JournalEntry.Made d) m.1));
-    gone = λ r d h. rw p (noted.gone r d (had r (JournalEntry.Gone d) (quiet_adds o q r d).1 h));
+    gone = λ r d h. rw p (noted.gone r d (had r (JournalEntry.Gone d) (q r d).1 h));
     remover = λ d l n. (let m = noted.remover d (rw p at l) (rw p at n) in (m.0, keeps m.0 (JournalEntry.Gone d) m.1));
     inside = i;
   }
@@ -257,7 +222,7 @@ module _ (w : World) (reached : IsReached w) (noted : Noted w) where
     orders_are : (step w e).1.orders ≡ (happens w e).world.orders
     orders_are = ap (λ (u : World). u.orders) world_is
 
-  quiet : (e : Event) → refusal w e ≡ None → is_quiet (accepted_entry w e) ≡ true → parents_after w e ≡ w.parents → (happens w e).world.orders ≡ w.orders → Noted (step w e).1
+  quiet : (e : Event) → refusal w e ≡ None → ((r d : ℕ) → (adds r (accepted_entry w e) (JournalEntry.Made d) ≡ false) × (adds r (accepted_entry w e) (JournalEntry.Gone d) ≡ false)) → parents_after w e ≡ w.parents → (happens w e).world.orders ≡ w.orders → Noted (step w e).1
   quiet e h q p o = quiet_noted w (step w e).1 noted (accepted_entry w e) (grows e h) q (treed e h ∙ p)
       (same_inside w (step w e).1 noted.inside (orders_are e h ∙ o) (rw (treed e h, p) (omega arith)))
 
@@ -274,17 +239,17 @@ module _ (w : World) (reached : IsReached w) (noted : Noted w) where
       (same_inside w (step w (Event.Gone d)).1 noted.inside (orders_are (Event.Gone d) h ∙ by_orders w (authority w d) (JournalEntry.Gone d))
       (rw (treed (Event.Gone d) h, length-set w.parents d None) (omega arith)))
   accepted_noted (Start f t ds) h =
-      quiet_noted w (step w (Start f t ds)).1 noted None (grows (Start f t ds) h) refl (treed (Start f t ds) h)
+      quiet_noted w (step w (Start f t ds)).1 noted None (grows (Start f t ds) h) (λ k d. (refl, refl)) (treed (Start f t ds) h)
       (start_inside w (step w (Start f t ds)).1 f t ds noted.inside (orders_are (Start f t ds) h) (treed (Start f t ds) h) (start_there w f t ds h))
-  accepted_noted (Deliver k) h = quiet (Deliver k) h (quiet_delivered w (slice_get w.sent k)) refl (delivered_frame w (slice_get w.sent k)).orders
-  accepted_noted (Restart r) h = quiet (Restart r) h refl refl (restart_orders w r (is_stopped w r))
-  accepted_noted (Begin r d) h = quiet (Begin r d) h refl refl refl
-  accepted_noted (End t) h = quiet (End t) h refl refl refl
-  accepted_noted (Froze x) h = quiet (Froze x) h refl refl refl
-  accepted_noted (Notify x) h = quiet (Notify x) h refl refl refl
-  accepted_noted (Abort x) h = quiet (Abort x) h refl refl refl
-  accepted_noted (Stop r) h = quiet (Stop r) h refl refl refl
-  accepted_noted (Ask x) h = quiet (Ask x) h refl refl refl
+  accepted_noted (Deliver k) h = quiet (Deliver k) h (quiet_adds (delivered_entry w (slice_get w.sent k)) (quiet_delivered w (slice_get w.sent k))) refl (delivered_frame w (slice_get w.sent k)).orders
+  accepted_noted (Restart r) h = quiet (Restart r) h (λ k d. (refl, refl)) refl (restart_orders w r (is_stopped w r))
+  accepted_noted (Begin r d) h = quiet (Begin r d) h (λ k d. (refl, refl)) refl refl
+  accepted_noted (End t) h = quiet (End t) h (λ k d. (refl, refl)) refl refl
+  accepted_noted (Froze x) h = quiet (Froze x) h (λ k d. (refl, refl)) refl refl
+  accepted_noted (Notify x) h = quiet (Notify x) h (λ r d. (and_none (eqb (from_of w x) r), and_none (eqb (from_of w x) r))) refl refl
+  accepted_noted (Abort x) h = quiet (Abort x) h (λ k d. (refl, refl)) refl refl
+  accepted_noted (Stop r) h = quiet (Stop r) h (λ k d. (refl, refl)) refl refl
+  accepted_noted (Ask x) h = quiet (Ask x) h (λ k d. (refl, refl)) refl refl
 
   step_noted : (e : Event) → Noted (step w e).1
   unfolding step

@@ -5,7 +5,7 @@ use Rattle.export_machine.specs.declared.message.Message.{Message}
 use Rattle.export_machine.specs.declared.records.Records.{Records}
 use Rattle.export_machine.specs.Authority.{from_of, to_of}
 use Rattle.export_machine.specs.Kept.{world_of, CanReceive}
-use Rattle.export_machine.proofs.Tables.{about}
+use Rattle.export_machine.specs.Step.{about}
 use Rattle.export_machine.proofs.Found.{orders_by}
 use Rattle.export_machine.proofs.Accepted.{as_order, as_importer, exporter_rank, importer_rank, from_here, to_here}
 use Rattle.mds_types.specs.declared.order.Order.{Order as Moved}

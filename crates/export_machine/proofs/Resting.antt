@@ -14,10 +14,11 @@ use Rattle.export_machine.specs.declared.importer.ImporterState.TheVariants.{Unk
 use Rattle.export_machine.specs.declared.message.Message.TheVariants.{Discover, DiscoverAck, Prep, PrepAck, ExportAck, Finish, Cancel, Query}
 use Rattle.export_machine.specs.Cluster.{Order, World}
 use Rattle.export_machine.specs.Authority.{order_in, no_order, from_of, to_of, exporter_of, importer_of, journal_of, has, has_entry, authority, is_stopped}
-use Rattle.export_machine.specs.Step.{Event, step, answered, refusal, causes, happens, counted, receiver, run, start, journaled_by, importer_to, changed, ignored, stops, restarts, comes, delivered, exporter_at_stop, importer_at_stop, exporter_by_journal, importer_by_journal, discover_comes, discover_ack_comes, prep_comes, prep_ack_comes, export_comes, export_ack_comes, finish_comes, cancel_comes, query_comes, authority_stopped}
+use Rattle.export_machine.specs.Step.{Event, step, answered, refusal, causes, happens, counted, receiver, run, start, journaled_by, importer_to, changed, ignored, stops, restarts, comes, delivered, exporter_by_journal, importer_by_journal, authority_stopped, Move, move, acts, about}
+use Rattle.export_machine.specs.Kept.{exporter_at_stop, importer_at_stop}
 use Rattle.export_machine.specs.Step.Event.{Begin, End, Start, Deliver, Froze, Notify, Abort, Stop, Restart, Ask}
 use Rattle.export_machine.specs.View.{IsReached}
-use Rattle.export_machine.specs.Entries.{Entry, IsRecovered, entry, entered, entered_by, accepted_entry, delivered_entry, comes_entry, export_entry, export_ack_entry, finish_entry, cancel_entry}
+use Rattle.export_machine.specs.Entries.{Entry, IsRecovered, entry, entered, entered_by, accepted_entry, delivered_entry, comes_entry, move_entry, noted}
 use Rattle.export_machine.proofs.Views.{push_same, push_other, map_at_get, map_at_past}
 use Rattle.export_machine.proofs.Events.{not_refused}
 use Rattle.export_machine.proofs.Theorem.{not_refused_causes}
@@ -34,22 +35,17 @@ pub record Rested (w : World) : Type 0 where
   pub exports : (x : ℕ) → is_stopped w (from_of w x) ≡ true → exporter_at_stop (exporter_of w x) ≡ exporter_of w x
   pub imports : (x : ℕ) → is_stopped w (to_of w x) ≡ true → importer_at_stop (has w (to_of w x) (JournalEntry.Dropped x)) (importer_of w x) ≡ importer_of w x
 
-still_exporter : (s : ExporterState) → exporter_at_stop (exporter_at_stop s) ≡ exporter_at_stop s
-still_exporter Logged = refl
-still_exporter Done = refl
-still_exporter _ = refl
+told_exporter : (n e : Bool) → exporter_at_stop (cond n Done (cond e Logged Aborted)) ≡ cond n Done (cond e Logged Aborted)
+told_exporter true e = refl
+told_exporter false true = refl
+told_exporter false false = refl
 
-still_importer : (b : Bool) (s : ImporterState) → importer_at_stop b (importer_at_stop b s) ≡ importer_at_stop b s
-still_importer b Started = refl
-still_importer b Imported = refl
-still_importer true Dropped = refl
-still_importer false Dropped = refl
-still_importer true Unknown = refl
-still_importer false Unknown = refl
-still_importer true Discovered = refl
-still_importer false Discovered = refl
-still_importer true Prepared = refl
-still_importer false Prepared = refl
+told_importer : (m d s : Bool) → importer_at_stop d (cond m Imported (cond d Dropped (cond s Started Unknown))) ≡ cond m Imported (cond d Dropped (cond s Started Unknown))
+told_importer true true s = refl
+told_importer true false s = refl
+told_importer false true s = refl
+told_importer false false true = refl
+told_importer false false false = refl
 
 unknown_rests : (b : Bool) → importer_at_stop b Unknown ≡ Unknown
 unknown_rests true = refl
@@ -107,56 +103,23 @@ module _ (w : World) where
     importer = λ y h. ap (λ (is : List ImporterState). get_or is y Unknown) i ∙ get_or-set_other w.importers x y s Unknown (λ k. differs w (to_of w x) (to_of w y) up h (ap (to_of w) (sym k)));
   }
 
-  module _ (x : ℕ) where
-    discover_rests : is_stopped w (to_of w x) ≡ false → (s : ImporterState) → Rests w (discover_comes w x s).world
-    discover_rests up Unknown = import_changes (discover_comes w x Unknown).world x Discovered up refl refl refl refl
-    discover_rests up _ = same
+  -- a message changes a state at its receiver alone
 
-    prep_rests : is_stopped w (to_of w x) ≡ false → (s : ImporterState) → Rests w (prep_comes w x s).world
-    prep_rests up Discovered = import_changes (prep_comes w x Discovered).world x Prepared up refl refl refl refl
-    prep_rests up _ = same
-
-    export_rests : is_stopped w (to_of w x) ≡ false → (s : ImporterState) → Rests w (export_comes w x s).world
-    export_rests up Prepared = import_changes (export_comes w x Prepared).world x Started up refl refl refl refl
-    export_rests up _ = same
-
-    finish_rests : is_stopped w (to_of w x) ≡ false → (s : ImporterState) → Rests w (finish_comes w x s).world
-    finish_rests up Started = import_changes (finish_comes w x Started).world x Imported up refl refl refl refl
-    finish_rests up _ = same
-
-    cancel_rests : is_stopped w (to_of w x) ≡ false → (s : ImporterState) → Rests w (cancel_comes w x s).world
-    cancel_rests up Imported = same
-    cancel_rests up Dropped = same
-    cancel_rests up Started = import_changes (cancel_comes w x Started).world x Dropped up refl refl refl refl
-    cancel_rests up _ = import_changes (importer_to w x Dropped) x Dropped up refl refl refl refl
-
-    discover_ack_rests : is_stopped w (from_of w x) ≡ false → (s : ExporterState) → Rests w (discover_ack_comes w x s).world
-    discover_ack_rests up Discovering = export_changes (discover_ack_comes w x Discovering).world x Freezing up refl refl refl refl
-    discover_ack_rests up _ = same
-
-    prep_ack_rests : is_stopped w (from_of w x) ≡ false → (s : ExporterState) → Rests w (prep_ack_comes w x s).world
-    prep_ack_rests up Preparing = export_changes (prep_ack_comes w x Preparing).world x Exporting up refl refl refl refl
-    prep_ack_rests up _ = same
-
-    export_ack_rests : is_stopped w (from_of w x) ≡ false → (s : ExporterState) → Rests w (export_ack_comes w x s).world
-    export_ack_rests up Exporting = export_changes (export_ack_comes w x Exporting).world x Logged up refl refl refl refl
-    export_ack_rests up _ = same
-
-    query_rests : (s : ExporterState) → Rests w (query_comes w x s).world
-    query_rests Done = record { orders = refl; stopped = refl; exporter = λ y h. refl; importer = λ y h. refl }
-    query_rests Aborted = record { orders = refl; stopped = refl; exporter = λ y h. refl; importer = λ y h. refl }
-    query_rests _ = same
-
-  comes_rests : (m : Message) → is_stopped w (receiver w m) ≡ false → Rests w (comes w m).world
-  comes_rests (Discover x) up = discover_rests x up (importer_of w x)
-  comes_rests (DiscoverAck x) up = discover_ack_rests x up (exporter_of w x)
-  comes_rests (Prep x) up = prep_rests x up (importer_of w x)
-  comes_rests (PrepAck x) up = prep_ack_rests x up (exporter_of w x)
-  comes_rests (Message.Export x) up = export_rests x up (importer_of w x)
-  comes_rests (ExportAck x) up = export_ack_rests x up (exporter_of w x)
-  comes_rests (Finish x) up = finish_rests x up (importer_of w x)
-  comes_rests (Cancel x) up = cancel_rests x up (importer_of w x)
-  comes_rests (Query x) up = query_rests x (exporter_of w x)
+  comes_rests : (m : Message) (e : ExporterState) (i : ImporterState) → is_stopped w (receiver w m) ≡ false → Rests w (acts w m (move m e i)).world
+  comes_rests (Discover x) e Unknown up = import_changes (acts w (Discover x) (move (Discover x) e Unknown)).world x Discovered up refl refl refl refl
+  comes_rests (Prep x) e Discovered up = import_changes (acts w (Prep x) (move (Prep x) e Discovered)).world x Prepared up refl refl refl refl
+  comes_rests (Message.Export x) e Prepared up = import_changes (acts w (Message.Export x) (move (Message.Export x) e Prepared)).world x Started up refl refl refl refl
+  comes_rests (Finish x) e Started up = import_changes (acts w (Finish x) (move (Finish x) e Started)).world x Imported up refl refl refl refl
+  comes_rests (Cancel x) e Unknown up = import_changes (importer_to w x Dropped) x Dropped up refl refl refl refl
+  comes_rests (Cancel x) e Discovered up = import_changes (importer_to w x Dropped) x Dropped up refl refl refl refl
+  comes_rests (Cancel x) e Prepared up = import_changes (importer_to w x Dropped) x Dropped up refl refl refl refl
+  comes_rests (Cancel x) e Started up = import_changes (acts w (Cancel x) (move (Cancel x) e Started)).world x Dropped up refl refl refl refl
+  comes_rests (DiscoverAck x) Discovering i up = export_changes (acts w (DiscoverAck x) (move (DiscoverAck x) Discovering i)).world x Freezing up refl refl refl refl
+  comes_rests (PrepAck x) Preparing i up = export_changes (acts w (PrepAck x) (move (PrepAck x) Preparing i)).world x Exporting up refl refl refl refl
+  comes_rests (ExportAck x) Exporting i up = export_changes (acts w (ExportAck x) (move (ExportAck x) Exporting i)).world x Logged up refl refl refl refl
+  comes_rests (Query x) Done i up = record { orders = refl; stopped = refl; exporter = λ y h. refl; importer = λ y h. refl }
+  comes_rests (Query x) Aborted i up = record { orders = refl; stopped = refl; exporter = λ y h. refl; importer = λ y h. refl }
+  comes_rests _ _ _ up = same
 
   delivered_rests : (o : Option Message) → Rests w (delivered w o).world
   delivered_rests None = same
@@ -164,7 +127,7 @@ module _ (w : World) where
     where
       go : (b : Bool) → is_stopped w (receiver w m) ≡ b → Rests w (cond b (ignored w) (comes w m)).world
       go true h = same
-      go false h = comes_rests m h
+      go false h = comes_rests m (exporter_of w (about m)) (importer_of w (about m)) h
 
   -- who writes an entry runs
 
@@ -179,28 +142,13 @@ module _ (w : World) where
       apart : (a b : ℕ) → a ≢ b → eqb a b ≡ false
       apart a b n = grind arith
 
-  export_runs : (x : ℕ) → is_stopped w (to_of w x) ≡ false → (s : ImporterState) → Runs (export_entry (to_of w x) x s)
-  export_runs x up Prepared = up
-  export_runs x up _ = tt
-
-  ack_runs : (x : ℕ) → is_stopped w (from_of w x) ≡ false → (s : ExporterState) → Runs (export_ack_entry (from_of w x) x s)
-  ack_runs x up Exporting = up
-  ack_runs x up _ = tt
-
-  finish_runs : (x : ℕ) → is_stopped w (to_of w x) ≡ false → (s : ImporterState) → Runs (finish_entry (to_of w x) x s)
-  finish_runs x up Started = up
-  finish_runs x up _ = tt
-
-  cancel_runs : (x : ℕ) → is_stopped w (to_of w x) ≡ false → (s : ImporterState) → Runs (cancel_entry (to_of w x) x s)
-  cancel_runs x up Started = up
-  cancel_runs x up _ = tt
-
-  comes_runs : (m : Message) → is_stopped w (receiver w m) ≡ false → Runs (comes_entry w m)
-  comes_runs (Message.Export x) up = export_runs x up (importer_of w x)
-  comes_runs (ExportAck x) up = ack_runs x up (exporter_of w x)
-  comes_runs (Finish x) up = finish_runs x up (importer_of w x)
-  comes_runs (Cancel x) up = cancel_runs x up (importer_of w x)
-  comes_runs _ up = tt
+  comes_runs : (m : Message) (o : Option Move) → is_stopped w (receiver w m) ≡ false → Runs (move_entry (receiver w m) o)
+  comes_runs m None up = tt
+  comes_runs m (Some v) up = go v.entry
+    where
+      go : (n : Option JournalEntry) → Runs (noted (receiver w m) n)
+      go None = tt
+      go (Some e) = up
 
   delivered_runs : (o : Option Message) → Runs (delivered_entry w o)
   delivered_runs None = tt
@@ -208,7 +156,7 @@ module _ (w : World) where
     where
       go : (b : Bool) → is_stopped w (receiver w m) ≡ b → Runs (cond b None (comes_entry w m))
       go true h = tt
-      go false h = comes_runs m h
+      go false h = comes_runs m (move m (exporter_of w (about m)) (importer_of w (about m))) h
 
   by_runs : (o : Option ℕ) (e : JournalEntry) → authority_stopped w o ≡ None → Runs (entered_by o e)
   by_runs None e h = tt
@@ -254,14 +202,12 @@ module _ (w : World) where
   stop_rested : Rested w → (r : ℕ) → Rested (stops w r)
   stop_rested rested r = record {
     exports = λ x h. elim (cases_lt x (length w.exporters)) [
-      | inl near ↦ rw (map_at_get (λ y state. cond (eqb (from_of w y) r) (exporter_at_stop state) state) w.exporters x Aborted Aborted near) (exporter x h (eqb (from_of w x) r) refl)
-      | inr far ↦ rw (map_at_past (λ y state. cond (eqb (from_of w y) r) (exporter_at_stop state) state) w.exporters x Aborted far) refl
+      | inl near ↦ rw (map_at_get (λ y state. cond (eqb (from_of w y) r) (exporter_by_journal w r y) state) w.exporters x Aborted Aborted near) (exporter x h (eqb (from_of w x) r) refl)
+      | inr far ↦ rw (map_at_past (λ y state. cond (eqb (from_of w y) r) (exporter_by_journal w r y) state) w.exporters x Aborted far) refl
     ];
     imports = λ x h. elim (cases_lt x (length w.importers)) [
-      | inl near ↦
-          rw (map_at_get (λ y state. cond (eqb (to_of w y) r) (importer_at_stop (has w r (JournalEntry.Dropped y)) state) state) w.importers x Unknown Unknown near) (importer x h (eqb (to_of w x) r) refl)
-      | inr far ↦
-          rw (map_at_past (λ y state. cond (eqb (to_of w y) r) (importer_at_stop (has w r (JournalEntry.Dropped y)) state) state) w.importers x Unknown far) (unknown_rests (has w (to_of w x) (JournalEntry.Dropped x)))
+      | inl near ↦ rw (map_at_get (λ y state. cond (eqb (to_of w y) r) (importer_by_journal w r y) state) w.importers x Unknown Unknown near) (importer x h (eqb (to_of w x) r) refl)
+      | inr far ↦ rw (map_at_past (λ y state. cond (eqb (to_of w y) r) (importer_by_journal w r y) state) w.importers x Unknown far) (unknown_rests (has w (to_of w x) (JournalEntry.Dropped x)))
     ];
   }
     where
@@ -272,14 +218,13 @@ module _ (w : World) where
       before s e h = sym (get_or-set_other w.stopped r s true false (unlike s r e)) ∙ h
 
       exporter : (x : ℕ) → get_or (set w.stopped r true) (from_of w x) false ≡ true → (b : Bool) → eqb (from_of w x) r ≡ b →
-          exporter_at_stop (cond b (exporter_at_stop (exporter_of w x)) (exporter_of w x)) ≡ cond b (exporter_at_stop (exporter_of w x)) (exporter_of w x)
-      exporter x h true e = still_exporter (exporter_of w x)
+          exporter_at_stop (cond b (exporter_by_journal w r x) (exporter_of w x)) ≡ cond b (exporter_by_journal w r x) (exporter_of w x)
+      exporter x h true e = told_exporter (has w r (JournalEntry.Notified x)) (has w r (JournalEntry.Exported x))
       exporter x h false e = rested.exports x (before (from_of w x) e h)
 
       importer : (x : ℕ) → get_or (set w.stopped r true) (to_of w x) false ≡ true → (b : Bool) → eqb (to_of w x) r ≡ b →
-          importer_at_stop (has w (to_of w x) (JournalEntry.Dropped x)) (cond b (importer_at_stop (has w r (JournalEntry.Dropped x)) (importer_of w x)) (importer_of w x))
-          ≡ cond b (importer_at_stop (has w r (JournalEntry.Dropped x)) (importer_of w x)) (importer_of w x)
-      importer x h true e = rw (eqb-true (to_of w x) r e) (still_importer (has w r (JournalEntry.Dropped x)) (importer_of w x))
+          importer_at_stop (has w (to_of w x) (JournalEntry.Dropped x)) (cond b (importer_by_journal w r x) (importer_of w x)) ≡ cond b (importer_by_journal w r x) (importer_of w x)
+      importer x h true e = rw (eqb-true (to_of w x) r e) (told_importer (has w r (JournalEntry.Imported x)) (has w r (JournalEntry.Dropped x)) (has w r (JournalEntry.Started x)))
       importer x h false e = rested.imports x (before (to_of w x) e h)
 
   -- a rank runs again

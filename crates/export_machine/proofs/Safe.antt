@@ -15,7 +15,8 @@ use Rattle.export_machine.specs.Authority.{is_inside, from_of, to_of, exporter_o
 use Rattle.export_machine.specs.Step.{exporter_to, importer_to, journals, names_importer, is_started, is_before_log}
 use Rattle.export_machine.proofs.Owning.{Phase, is_moving, Owning, Running, same_owning, same_running, held_owning, held_running, abort_owning, abort_running, log_owning, log_running, notify_owning, notify_running, import_owning, import_running}
 use Rattle.export_machine.proofs.Owning.Phase.{Early, Held, Moving, Told, Over}
-use Rattle.export_machine.proofs.Tables.{Tables, about, is_plain, together, is_imported, sent_plain, sent_finish, sent_cancel, sent_ack, early_tables, abort_tables, log_tables, notify_tables, import_early_tables, started_tables, imported_tables, dropped_tables}
+use Rattle.export_machine.proofs.Tables.{Tables, is_plain, together, is_imported, sent_plain, sent_finish, sent_cancel, sent_ack, early_tables, abort_tables, log_tables, notify_tables, import_early_tables, started_tables, imported_tables, dropped_tables}
+use Rattle.export_machine.specs.Step.{about}
 use Rattle.export_machine.proofs.Views.{push_get, not_past, has_adds, owns_at, owns_other, map_at_get, map_at_past, map_at_length}
 use Rattle.std.proofs.lemmas.List.{get_or-set_same, get_or-set_other, get_or_past, length-set}
 use Rattle.std.proofs.lemmas.Bool.{cases_lt, cases_Bool, cases_eq}

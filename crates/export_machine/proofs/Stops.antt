@@ -8,7 +8,8 @@ use Rattle.export_machine.specs.Cluster.{World}
 use Rattle.export_machine.specs.declared.exporter.ExporterState.TheVariants.{Discovering, Freezing, Preparing, Exporting, Logged, Done, Aborted}
 use Rattle.export_machine.specs.declared.importer.ImporterState.TheVariants.{Unknown, Discovered, Prepared, Started, Imported, Dropped}
 use Rattle.export_machine.specs.Authority.{from_of, to_of, exporter_of, importer_of, request_of, has, is_stopped}
-use Rattle.export_machine.specs.Step.{happens, is_started, is_before_log, exporter_at_stop, importer_at_stop, exporter_by_journal, importer_by_journal, ends_at, stops, restarts, changed, ignored}
+use Rattle.export_machine.specs.Step.{happens, is_started, is_before_log, exporter_by_journal, importer_by_journal, ends_at, stops, restarts, changed, ignored}
+use Rattle.export_machine.specs.Kept.{exporter_at_stop, importer_at_stop}
 use Rattle.export_machine.specs.Step.Event.{Stop, Restart}
 use Rattle.export_machine.proofs.Owning.{is_moving, halted_owning, halted_running}
 use Rattle.export_machine.proofs.Owning.Phase.{Over}
@@ -80,27 +81,6 @@ module _ (w : World) (safe : Safe w) (exporters : List ExporterState) (importers
   }
 
 module _ (w : World) (safe : Safe w) (rank : ℕ) where
-  stop_exporters : (x : ℕ) → ExporterHalts (exporter_of w x) (get_or (stops w rank).exporters x Aborted)
-  stop_exporters x = elim (cases_lt x (length w.exporters)) [
-    | inl near ↦ rw (map_at_get (λ y state. cond (eqb (from_of w y) rank) (exporter_at_stop state) state) w.exporters x Aborted Aborted near) (go (eqb (from_of w x) rank))
-    | inr far ↦ inl (map_at_past (λ y state. cond (eqb (from_of w y) rank) (exporter_at_stop state) state) w.exporters x Aborted far ∙ sym (get_or_past w.exporters x Aborted far))
-  ]
-    where
-      go : (b : Bool) → ExporterHalts (exporter_of w x) (cond b (exporter_at_stop (exporter_of w x)) (exporter_of w x))
-      go true = stop_exporter (exporter_of w x)
-      go false = inl refl
-
-  stop_importers : (x : ℕ) → ImporterHalts (has w (to_of w x) (JournalEntry.Dropped x)) (importer_of w x) (get_or (stops w rank).importers x Unknown)
-  stop_importers x = elim (cases_lt x (length w.importers)) [
-    | inl near ↦ rw (map_at_get (λ y state. cond (eqb (to_of w y) rank) (importer_at_stop (has w rank (JournalEntry.Dropped y)) state) state) w.importers x Unknown Unknown near) (go (eqb (to_of w x) rank) refl)
-    | inr far ↦ inl (map_at_past (λ y state. cond (eqb (to_of w y) rank) (importer_at_stop (has w rank (JournalEntry.Dropped y)) state) state) w.importers x Unknown far ∙ sym (get_or_past w.importers x Unknown far))
-  ]
-    where
-      go : (b : Bool) → eqb (to_of w x) rank ≡ b →
-          ImporterHalts (has w (to_of w x) (JournalEntry.Dropped x)) (importer_of w x) (cond b (importer_at_stop (has w rank (JournalEntry.Dropped x)) (importer_of w x)) (importer_of w x))
-      go true e = rw (eqb-true (to_of w x) rank e) (stop_importer (has w rank (JournalEntry.Dropped x)) (importer_of w x))
-      go false e = inl refl
-
   stop_tickets : (t : ℕ) (q : Request) → get_or (stops w rank).tickets t None ≡ Some q → request_of w t ≡ Some q
   stop_tickets t q h = elim (cases_lt t (length w.tickets)) [
     | inl near ↦ go (request_of w t) (sym (map_at_get (λ u request. ends_at rank request) w.tickets t None None near) ∙ h)
@@ -114,13 +94,6 @@ module _ (w : World) (safe : Safe w) (rank : ℕ) where
           pass : (b : Bool) (r : Request) → cond b None (Some r) ≡ Some q → Some r ≡ Some q
           pass true r l = absurd (cc)
           pass false r l = l
-
-  pub stop_keeps : Safe (happens w (Stop rank)).world
-  unfolding happens
-  stop_keeps = halt_safe w safe (stops w rank).exporters (stops w rank).importers (stops w rank).tickets (stops w rank).stopped
-      (map_at_length (λ x state. cond (eqb (from_of w x) rank) (exporter_at_stop state) state) w.exporters)
-      (map_at_length (λ x state. cond (eqb (to_of w x) rank) (importer_at_stop (has w rank (JournalEntry.Dropped x)) state) state) w.importers)
-      stop_exporters stop_importers stop_tickets
 
 -- A restarted rank's states by its journal are those that a stop would leave.
 
@@ -193,6 +166,13 @@ module _ (w : World) (safe : Safe w) (rank : ℕ) where
           subst (λ r. importer_by_journal w r x ≡ importer_at_stop (has w (to_of w x) (JournalEntry.Dropped x)) (importer_of w x)) (eqb-true (to_of w x) rank e) (importer_journaled x) in
           subst (λ s. ImporterHalts (has w (to_of w x) (JournalEntry.Dropped x)) (importer_of w x) s) (sym j) (stop_importer (has w (to_of w x) (JournalEntry.Dropped x)) (importer_of w x))
       go false e = inl refl
+
+  pub stop_keeps : Safe (happens w (Stop rank)).world
+  unfolding happens
+  stop_keeps = halt_safe w safe (stops w rank).exporters (stops w rank).importers (stops w rank).tickets (stops w rank).stopped
+      (map_at_length (λ x state. cond (eqb (from_of w x) rank) (exporter_by_journal w rank x) state) w.exporters)
+      (map_at_length (λ x state. cond (eqb (to_of w x) rank) (importer_by_journal w rank x) state) w.importers)
+      restart_exporters restart_importers (stop_tickets w safe rank)
 
   pub restart_keeps : Safe (happens w (Restart rank)).world
   unfolding happens

@@ -7,9 +7,9 @@ use Rattle.export_machine.specs.declared.journal.JournalEntry.{JournalEntry}
 use Rattle.export_machine.specs.declared.message.Message.{Message}
 use Rattle.export_machine.specs.declared.exporter.ExporterState.TheVariants.{Discovering, Freezing, Preparing, Exporting, Logged, Done, Aborted}
 use Rattle.export_machine.specs.declared.importer.ImporterState.TheVariants.{Unknown, Prepared, Started, Imported, Dropped}
-use Rattle.export_machine.specs.declared.message.Message.TheVariants.{Discover, DiscoverAck, Prep, PrepAck, ExportAck, Finish, Cancel, Query}
+use Rattle.export_machine.specs.declared.message.Message.TheVariants.{Discover, ExportAck, Finish, Cancel}
 use Rattle.export_machine.specs.Authority.{is_same}
-use Rattle.export_machine.specs.Step.{is_started, is_before_log}
+use Rattle.export_machine.specs.Step.{about, is_started, is_before_log}
 
 abbrev pub is_committed : ExporterState → Bool
 is_committed Logged = true
@@ -37,18 +37,6 @@ together Discovering i = not (is_imported i) && not (is_dropped i)
 together Freezing i = not (is_imported i) && not (is_dropped i)
 together Preparing i = not (is_imported i) && not (is_dropped i)
 together Exporting i = not (is_imported i) && not (is_dropped i)
-
--- the export that a message is about
-abbrev pub about : Message → ℕ
-about (Discover x) = x
-about (DiscoverAck x) = x
-about (Prep x) = x
-about (PrepAck x) = x
-about (Message.Export x) = x
-about (ExportAck x) = x
-about (Finish x) = x
-about (Cancel x) = x
-about (Query x) = x
 
 -- before the log entry
 pub early_pair : (e : ExporterState) (i : ImporterState) → is_before_log e ≡ true → together e i ≡ (not (is_imported i) && not (is_dropped i))

@@ -1,16 +1,11 @@
 -- What an event leaves: at most one entry in one journal, and by it the map and the tree.
 use Rattle.std.specs.Prelude.{◌≡◌, ◌↔◌, ◌<◌, ℕ, Bool, true, false, ◌==◌, List, [], ◌∷◌, ◌++◌, length, Option, Some, None, slice_get, slice_set, if◌then◌else◌}
-use Rattle.export_machine.specs.declared.exporter.ExporterState.{ExporterState}
-use Rattle.export_machine.specs.declared.importer.ImporterState.{ImporterState}
-use Rattle.export_machine.specs.declared.exporter.ExporterState.TheVariants.{Exporting}
-use Rattle.export_machine.specs.declared.importer.ImporterState.TheVariants.{Prepared, Started}
 use Rattle.export_machine.specs.declared.journal.JournalEntry.{JournalEntry}
 use Rattle.export_machine.specs.declared.message.Message.{Message}
-use Rattle.export_machine.specs.declared.message.Message.TheVariants.{ExportAck, Finish, Cancel}
 use Rattle.export_machine.specs.declared.step_error.StepError.{StepError}
 use Rattle.export_machine.specs.Cluster.{World}
 use Rattle.export_machine.specs.Authority.{is_inside, from_of, to_of, exporter_of, importer_of, journal_of, named_of, is_present, has, authority, is_stopped}
-use Rattle.export_machine.specs.Step.{Event, step, refusal, receiver, exporter_by_journal, importer_by_journal}
+use Rattle.export_machine.specs.Step.{Event, Move, move, about, step, refusal, receiver, exporter_by_journal, importer_by_journal}
 use Rattle.export_machine.specs.Step.Event.{Deliver, Notify}
 
 -- an entry, and the rank whose journal has it
@@ -22,30 +17,18 @@ abbrev pub entered_by : Option ℕ → JournalEntry → Option Entry
 entered_by None e = None
 entered_by (Some rank) e = Some (record { rank = rank; entry = e })
 
--- what the receiver of a message writes, by its state of the export
+-- what the receiver of a message writes
 
-abbrev pub export_entry : ℕ → ℕ → ImporterState → Option Entry
-export_entry rank x Prepared = Some (record { rank = rank; entry = JournalEntry.Started x })
-export_entry rank x _ = None
+abbrev pub noted : ℕ → Option JournalEntry → Option Entry
+noted rank None = None
+noted rank (Some e) = Some (record { rank = rank; entry = e })
 
-abbrev pub export_ack_entry : ℕ → ℕ → ExporterState → Option Entry
-export_ack_entry rank x Exporting = Some (record { rank = rank; entry = JournalEntry.Exported x })
-export_ack_entry rank x _ = None
-
-abbrev pub finish_entry : ℕ → ℕ → ImporterState → Option Entry
-finish_entry rank x Started = Some (record { rank = rank; entry = JournalEntry.Imported x })
-finish_entry rank x _ = None
-
-abbrev pub cancel_entry : ℕ → ℕ → ImporterState → Option Entry
-cancel_entry rank x Started = Some (record { rank = rank; entry = JournalEntry.Dropped x })
-cancel_entry rank x _ = None
+abbrev pub move_entry : ℕ → Option Move → Option Entry
+move_entry rank None = None
+move_entry rank (Some v) = noted rank v.entry
 
 abbrev pub comes_entry : World → Message → Option Entry
-comes_entry w (Message.Export x) = export_entry (to_of w x) x (importer_of w x)
-comes_entry w (ExportAck x) = export_ack_entry (from_of w x) x (exporter_of w x)
-comes_entry w (Finish x) = finish_entry (to_of w x) x (importer_of w x)
-comes_entry w (Cancel x) = cancel_entry (to_of w x) x (importer_of w x)
-comes_entry w _ = None
+comes_entry w m = move_entry (receiver w m) (move m (exporter_of w (about m)) (importer_of w (about m)))
 
 abbrev pub delivered_entry : World → Option Message → Option Entry
 delivered_entry w None = None

@@ -2,12 +2,14 @@
 use Rattle.std.specs.Prelude.{◌≡◌, ◌≤◌, ◌<◌, ℕ, ◌+◌, suc, Bool, true, ◌&&◌, nat_lt, List, [], ◌∷◌, map, length, Option, None, Some, Result, Ok, Err, slice_get, slice_index_or, vec_len, vec_capacity, Vec, if◌then◌else◌, replicate, false, not, ◌==◌, is_some}
 use Rattle.export_machine.specs.Cluster.{Order, World}
 use Rattle.export_machine.specs.Authority.{authority, open_export, order_in, from_of, exporter_of, importer_of}
-use Rattle.export_machine.specs.Step.{Event, running_on, is_child, receiver, repeats, comes}
+use Rattle.export_machine.specs.Step.{Event, running_on, is_child, about, receiver, repeats, comes}
 use Rattle.export_machine.specs.View.{IsReached}
 use Rattle.export_machine.specs.declared.event.Event.{Event as Asked}
 use Rattle.export_machine.specs.declared.event.Reply.{Reply}
 use Rattle.export_machine.specs.declared.exporter.ExporterState.{ExporterState}
 use Rattle.export_machine.specs.declared.importer.ImporterState.{ImporterState}
+use Rattle.export_machine.specs.declared.exporter.ExporterState.TheVariants.{Logged, Done, Aborted}
+use Rattle.export_machine.specs.declared.importer.ImporterState.TheVariants.{Unknown, Started, Imported, Dropped}
 use Rattle.export_machine.specs.declared.journal.JournalEntry.{JournalEntry}
 use Rattle.export_machine.specs.declared.message.Message.{Message}
 use Rattle.export_machine.specs.declared.step_error.StepError.{StepError}
@@ -175,17 +177,20 @@ pub record IsReceived (old : Records) (message : Message) (reply : Reply) (new :
   pub effect : comes (world_of old) message ≡ record { reply = reply; world = world_of new }
   pub indexed : IsIndexed (world_of new) (indexes_of new)
 
--- the export that a message is about
-abbrev pub about : Message → ℕ
-about (Message.Discover export) = export
-about (Message.DiscoverAck export) = export
-about (Message.Prep export) = export
-about (Message.PrepAck export) = export
-about (Message.Export export) = export
-about (Message.ExportAck export) = export
-about (Message.Finish export) = export
-about (Message.Cancel export) = export
-about (Message.Query export) = export
+-- What a stop leaves, read off the states: what the journal tells of them.
+
+-- of an exporter's state
+abbrev pub exporter_at_stop : ExporterState → ExporterState
+exporter_at_stop Logged = Logged
+exporter_at_stop Done = Done
+exporter_at_stop _ = Aborted
+
+-- of an importer's state, from whether its journal has the export as dropped
+abbrev pub importer_at_stop : Bool → ImporterState → ImporterState
+importer_at_stop has_dropped Started = Started
+importer_at_stop has_dropped Imported = Imported
+importer_at_stop true Dropped = Dropped
+importer_at_stop _ _ = Unknown
 
 -- What a contract sees of a cluster.
 

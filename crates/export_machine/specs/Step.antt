@@ -219,60 +219,19 @@ abbrev pub names_importer : World → ℕ → World
 names_importer w x =
     record w { named = map_at (λ d rank. if is_inside w x d then Some (to_of w x) else rank) w.named }
 
-abbrev pub discover_comes : World → ℕ → ImporterState → Outcome
-discover_comes w x Unknown = sends (importer_to w x Discovered) (DiscoverAck x)
-discover_comes w x _ = ignored w
+-- Messages.
 
-abbrev pub discover_ack_comes : World → ℕ → ExporterState → Outcome
-discover_ack_comes w x Discovering = changed (exporter_to w x Freezing)
-discover_ack_comes w x _ = ignored w
-
-abbrev pub prep_comes : World → ℕ → ImporterState → Outcome
-prep_comes w x Discovered = sends (importer_to w x Prepared) (PrepAck x)
-prep_comes w x _ = ignored w
-
-abbrev pub prep_ack_comes : World → ℕ → ExporterState → Outcome
-prep_ack_comes w x Preparing = sends (exporter_to w x Exporting) (Message.Export x)
-prep_ack_comes w x _ = ignored w
-
-abbrev pub export_comes : World → ℕ → ImporterState → Outcome
-export_comes w x Prepared =
-    sends (journals (importer_to w x Started) (to_of w x) (JournalEntry.Started x)) (ExportAck x)
-export_comes w x _ = ignored w
-
-abbrev pub export_ack_comes : World → ℕ → ExporterState → Outcome
-export_ack_comes w x Exporting =
-    changed (journals (exporter_to w x Logged) (from_of w x) (JournalEntry.Exported x))
-export_ack_comes w x _ = ignored w
-
-abbrev pub finish_comes : World → ℕ → ImporterState → Outcome
-finish_comes w x Started =
-    changed (journals (importer_to w x Imported) (to_of w x) (JournalEntry.Imported x))
-finish_comes w x _ = ignored w
-
-abbrev pub cancel_comes : World → ℕ → ImporterState → Outcome
-cancel_comes w x Unknown = changed (importer_to w x Dropped)
-cancel_comes w x Discovered = changed (importer_to w x Dropped)
-cancel_comes w x Prepared = changed (importer_to w x Dropped)
-cancel_comes w x Started = changed (journals (importer_to w x Dropped) (to_of w x) (JournalEntry.Dropped x))
-cancel_comes w x _ = ignored w
-
-abbrev pub query_comes : World → ℕ → ExporterState → Outcome
-query_comes w x Done = sends w (Finish x)
-query_comes w x Aborted = sends w (Cancel x)
-query_comes w x _ = ignored w
-
--- what a message does at the rank that it is for
-abbrev pub comes : World → Message → Outcome
-comes w (Discover x) = discover_comes w x (importer_of w x)
-comes w (DiscoverAck x) = discover_ack_comes w x (exporter_of w x)
-comes w (Prep x) = prep_comes w x (importer_of w x)
-comes w (PrepAck x) = prep_ack_comes w x (exporter_of w x)
-comes w (Message.Export x) = export_comes w x (importer_of w x)
-comes w (ExportAck x) = export_ack_comes w x (exporter_of w x)
-comes w (Finish x) = finish_comes w x (importer_of w x)
-comes w (Cancel x) = cancel_comes w x (importer_of w x)
-comes w (Query x) = query_comes w x (exporter_of w x)
+-- the export that a message is about
+abbrev pub about : Message → ℕ
+about (Discover x) = x
+about (DiscoverAck x) = x
+about (Prep x) = x
+about (PrepAck x) = x
+about (Message.Export x) = x
+about (ExportAck x) = x
+about (Finish x) = x
+about (Cancel x) = x
+about (Query x) = x
 
 -- the rank that a message is for
 abbrev pub receiver : World → Message → ℕ
@@ -286,34 +245,75 @@ receiver w (Finish x) = to_of w x
 receiver w (Cancel x) = to_of w x
 receiver w (Query x) = from_of w x
 
+-- what a message makes the rank do that it comes to: the export's next state there, if it changes, the entry that the
+-- rank journals, and the message that it sends
+pub record Move : Type 0 where
+  pub exporter : Option ExporterState
+  pub importer : Option ImporterState
+  pub entry : Option JournalEntry
+  pub sends : Option Message
+
+abbrev pub exporting : ExporterState → Option JournalEntry → Option Message → Option Move
+exporting state e m = Some (record { exporter = Some state; importer = None; entry = e; sends = m })
+
+abbrev pub importing : ImporterState → Option JournalEntry → Option Message → Option Move
+importing state e m = Some (record { exporter = None; importer = Some state; entry = e; sends = m })
+
+abbrev pub telling : Message → Option Move
+telling m = Some (record { exporter = None; importer = None; entry = None; sends = Some m })
+
+-- The table of messages: a message, the states of its export at exporter and importer (a variable: any), the next state
+-- of its receiver, what that journals, what it sends. In every other state a message does nothing.
+abbrev pub move : Message → ExporterState → ImporterState → Option Move
+move (Discover x) e Unknown = importing Discovered None (Some (DiscoverAck x))
+move (DiscoverAck x) Discovering i = exporting Freezing None None
+move (Prep x) e Discovered = importing Prepared None (Some (PrepAck x))
+move (PrepAck x) Preparing i = exporting Exporting None (Some (Message.Export x))
+move (Message.Export x) e Prepared = importing Started (Some (JournalEntry.Started x)) (Some (ExportAck x))
+move (ExportAck x) Exporting i = exporting Logged (Some (JournalEntry.Exported x)) None
+move (Finish x) e Started = importing Imported (Some (JournalEntry.Imported x)) None
+move (Cancel x) e Unknown = importing Dropped None None
+move (Cancel x) e Discovered = importing Dropped None None
+move (Cancel x) e Prepared = importing Dropped None None
+move (Cancel x) e Started = importing Dropped (Some (JournalEntry.Dropped x)) None
+move (Query x) Done i = telling (Finish x)
+move (Query x) Aborted i = telling (Cancel x)
+move _ _ _ = None
+
+-- A move's effect, part by part.
+
+abbrev pub exporter_moves : World → ℕ → Option ExporterState → World
+exporter_moves w x None = w
+exporter_moves w x (Some state) = exporter_to w x state
+
+abbrev pub importer_moves : World → ℕ → Option ImporterState → World
+importer_moves w x None = w
+importer_moves w x (Some state) = importer_to w x state
+
+abbrev pub notes : World → ℕ → Option JournalEntry → World
+notes w rank None = w
+notes w rank (Some e) = journals w rank e
+
+abbrev pub replies : World → Option Message → Outcome
+replies w None = changed w
+replies w (Some m) = sends w m
+
+abbrev pub moved : World → ℕ → ℕ → Move → Outcome
+moved w x rank v = replies (notes (importer_moves (exporter_moves w x v.exporter) x v.importer) rank v.entry) v.sends
+
+abbrev pub acts : World → Message → Option Move → Outcome
+acts w m None = ignored w
+acts w m (Some v) = moved w (about m) (receiver w m) v
+
+-- what a message does at the rank that it is for
+abbrev pub comes : World → Message → Outcome
+comes w m = acts w m (move m (exporter_of w (about m)) (importer_of w (about m)))
+
 abbrev pub delivered : World → Option Message → Outcome
 delivered w None = ignored w
 delivered w (Some m) = if is_stopped w (receiver w m) then ignored w else comes w m
 
--- what a stop leaves of an exporter's state
-abbrev pub exporter_at_stop : ExporterState → ExporterState
-exporter_at_stop Logged = Logged
-exporter_at_stop Done = Done
-exporter_at_stop _ = Aborted
-
--- what a stop leaves of an importer's state, from whether its journal has the export as dropped
-abbrev pub importer_at_stop : Bool → ImporterState → ImporterState
-importer_at_stop has_dropped Started = Started
-importer_at_stop has_dropped Imported = Imported
-importer_at_stop true Dropped = Dropped
-importer_at_stop _ _ = Unknown
-
-abbrev pub ends_at : ℕ → Option Request → Option Request
-ends_at rank None = None
-ends_at rank (Some q) = if q.rank == rank then None else Some q
-
-abbrev pub stops : World → ℕ → World
-stops w rank = record w {
-  tickets = map_at (λ t request. ends_at rank request) w.tickets;
-  exporters = map_at (λ x state. if from_of w x == rank then exporter_at_stop state else state) w.exporters;
-  importers = map_at (λ x state. if to_of w x == rank then importer_at_stop (has w rank (JournalEntry.Dropped x)) state else state) w.importers;
-  stopped = slice_set w.stopped rank true;
-}
+-- Stops. What a rank knows then is in its journal.
 
 -- an exporter's and an importer's state by the entries of the journal
 abbrev pub exporter_by_journal : World → ℕ → ℕ → ExporterState
@@ -325,12 +325,26 @@ importer_by_journal w rank x =
     if has w rank (JournalEntry.Imported x) then Imported
     else (if has w rank (JournalEntry.Dropped x) then Dropped else (if has w rank (JournalEntry.Started x) then Started else Unknown))
 
-abbrev pub restarts : World → ℕ → World
-restarts w rank = record w {
+-- the rank's states of its exports and imports are those that its journal tells
+abbrev pub recovered : World → ℕ → World
+recovered w rank = record w {
   exporters = map_at (λ x state. if from_of w x == rank then exporter_by_journal w rank x else state) w.exporters;
   importers = map_at (λ x state. if to_of w x == rank then importer_by_journal w rank x else state) w.importers;
-  stopped = slice_set w.stopped rank false;
 }
+
+abbrev pub ends_at : ℕ → Option Request → Option Request
+ends_at rank None = None
+ends_at rank (Some q) = if q.rank == rank then None else Some q
+
+-- a stop ends the rank's requests, too
+abbrev pub stops : World → ℕ → World
+stops w rank = record (recovered w rank) {
+  tickets = map_at (λ t request. ends_at rank request) w.tickets;
+  stopped = slice_set w.stopped rank true;
+}
+
+abbrev pub restarts : World → ℕ → World
+restarts w rank = record (recovered w rank) { stopped = slice_set w.stopped rank false }
 
 unfoldable pub happens : World → Event → Outcome
 happens w (Event.Made parent) =

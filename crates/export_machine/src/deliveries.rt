@@ -5,7 +5,8 @@
 ghost use Rattle.std.specs.Prelude.{◌≡◌, ◌<◌, length, Some, None, true, slice_get};
 ghost use Rattle.export_machine.specs.Step.{Event as StepEvent, refusal, happens, receiver};
 ghost use Rattle.export_machine.specs.Entries.{logs_export, is_log, delivered_entry};
-ghost use Rattle.export_machine.specs.Kept.{world_of, indexes_of, has_room, IsKept, IsIndexed, CanReceive, IsReceived, about, addressed, event_of};
+ghost use Rattle.export_machine.specs.Kept.{world_of, indexes_of, has_room, IsKept, IsIndexed, CanReceive, IsReceived, addressed, event_of};
+ghost use Rattle.export_machine.specs.Step.{about};
 
 use crate::changes::{enter, mark, send};
 use crate::event::{Event, Reply};

@@ -25,7 +25,7 @@ pub enum Message {
 
 impl Message {
     ghost use Rattle.std.specs.Prelude.{◌≡◌};
-    ghost use Rattle.export_machine.specs.Kept.{about};
+    ghost use Rattle.export_machine.specs.Step.{about};
 
     /// The export that it is about.
     pub fn export(self) -> u32

@@ -2,8 +2,7 @@ use Rattle.std.proofs.Common.{◌≡◌, ◌<◌, ◌≤◌, ℕ, cond, eqb, fal
 use Rattle.export_machine.specs.declared.importer.ImporterState.{ImporterState}
 use Rattle.mds_types.specs.declared.order.Order.{Order as Moved}
 use Rattle.export_machine.specs.Authority.{order_in}
-use Rattle.export_machine.specs.Step.{importer_at_stop}
-use Rattle.export_machine.specs.Kept.{order_of}
+use Rattle.export_machine.specs.Kept.{order_of, importer_at_stop}
 use Rattle.export_machine.proofs.Halting.{change_start, change_next, change_here, change_end}
 use Rattle.export_machine.proofs.Accepted.{to_here}
 use Rattle.export_machine.proofs.stopping.forget_all.Goals as goal

@@ -1,7 +1,6 @@
 use Rattle.std.proofs.Common.{◌≡◌, eqb, cond, false, map}
 use Rattle.export_machine.specs.Authority.{order_in}
-use Rattle.export_machine.specs.Step.{importer_at_stop}
-use Rattle.export_machine.specs.Kept.{order_of}
+use Rattle.export_machine.specs.Kept.{order_of, importer_at_stop}
 use Rattle.export_machine.proofs.Halting.{changed_below}
 use Rattle.export_machine.proofs.stopping.forget_all.Given as goal
 

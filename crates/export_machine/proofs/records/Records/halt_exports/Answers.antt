@@ -5,8 +5,8 @@ use Rattle.export_machine.specs.declared.exporter.ExporterState.{ExporterState}
 use Rattle.export_machine.specs.declared.exporter.ExporterState.TheVariants.{Aborted}
 use Rattle.export_machine.specs.declared.records.Records.{Records}
 use Rattle.export_machine.specs.Authority.{order_in, from_of, is_among, is_inside, exporter_of}
-use Rattle.export_machine.specs.Step.{map_at, is_before_log, exporter_at_stop}
-use Rattle.export_machine.specs.Kept.{world_of, indexes_of, order_of, IsIndexed}
+use Rattle.export_machine.specs.Step.{map_at, is_before_log}
+use Rattle.export_machine.specs.Kept.{world_of, indexes_of, order_of, IsIndexed, exporter_at_stop}
 use Rattle.export_machine.proofs.Safe.{aborted_safe}
 use Rattle.export_machine.proofs.Reached.{by_safe}
 use Rattle.export_machine.proofs.Indexing.{abort_there, abort_indexed, aborted}

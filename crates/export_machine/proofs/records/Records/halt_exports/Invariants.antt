@@ -1,7 +1,6 @@
 use Rattle.std.proofs.Common.{◌≡◌, cond, eqb}
 use Rattle.export_machine.specs.Authority.{from_of}
-use Rattle.export_machine.specs.Step.{exporter_at_stop}
-use Rattle.export_machine.specs.Kept.{world_of, indexes_of, IsIndexed}
+use Rattle.export_machine.specs.Kept.{world_of, indexes_of, IsIndexed, exporter_at_stop}
 use Rattle.export_machine.proofs.Found.{Safely}
 use Rattle.export_machine.proofs.Halting.{changed_below}
 use Rattle.export_machine.proofs.records.Records.halt_exports.Given as goal

@@ -3,8 +3,8 @@ use Rattle.std.proofs.lemmas.List.{get_or-map}
 use Rattle.export_machine.specs.declared.importer.ImporterState.TheVariants.{Dropped}
 use Rattle.export_machine.specs.declared.journal.JournalEntry.{JournalEntry}
 use Rattle.export_machine.specs.Authority.{order_in, to_of, has, has_entry, journal_of}
-use Rattle.export_machine.specs.Step.{map_at, importer_at_stop}
-use Rattle.export_machine.specs.Kept.{world_of, order_of}
+use Rattle.export_machine.specs.Step.{map_at}
+use Rattle.export_machine.specs.Kept.{world_of, order_of, importer_at_stop}
 use Rattle.export_machine.proofs.Halted.{dropped_stay}
 use Rattle.export_machine.proofs.records.Records.halt_imports.Goals as goal
 

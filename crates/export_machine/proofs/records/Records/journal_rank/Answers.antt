@@ -9,7 +9,8 @@ use Rattle.export_machine.specs.Authority.{authority}
 use Rattle.export_machine.specs.declared.message.Message.{Message}
 use Rattle.export_machine.specs.declared.message.Message.TheVariants.{Discover, DiscoverAck, Prep, PrepAck, ExportAck, Finish, Cancel, Query}
 use Rattle.export_machine.specs.Step.{Event, refusal, receiver}
-use Rattle.export_machine.specs.Kept.{world_of, event_of, entered_at, about, receiver_of}
+use Rattle.export_machine.specs.Kept.{world_of, event_of, entered_at, receiver_of}
+use Rattle.export_machine.specs.Step.{about}
 use Rattle.export_machine.proofs.Found.{orders_by}
 use Rattle.export_machine.proofs.Accepted.{deliver_near, item_at, as_order, as_rank, exporter_rank, importer_rank, notify_order}
 use Rattle.export_machine.proofs.records.Records.journal_rank.Goals as goal

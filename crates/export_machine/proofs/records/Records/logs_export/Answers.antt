@@ -4,7 +4,8 @@ use Rattle.export_machine.specs.declared.event.Event.{Event as Asked}
 use Rattle.export_machine.specs.Step.{refusal}
 use Rattle.export_machine.specs.Step.Event.{Deliver}
 use Rattle.export_machine.specs.Entries.{logs_export}
-use Rattle.export_machine.specs.Kept.{world_of, event_of, about}
+use Rattle.export_machine.specs.Kept.{world_of, event_of}
+use Rattle.export_machine.specs.Step.{about}
 use Rattle.export_machine.proofs.Found.{orders_by}
 use Rattle.export_machine.proofs.Accepted.{deliver_near, item_at, as_order}
 use Rattle.export_machine.proofs.Logging.{ok_none, err_some, refused_not, delivered_logs, other_event}

@@ -13,7 +13,7 @@ use Rattle.export_machine.specs.Kept.{world_of, indexes_of, order_of, IsIndexed}
 use Rattle.export_machine.proofs.Accepted.{numbers_by}
 use Rattle.export_machine.proofs.Indexing.{request_there}
 use Rattle.export_machine.proofs.Rows.{importer_indexed}
-use Rattle.export_machine.proofs.Halted.{aborts, forgets, ends, dropped_there, stopped_indexed, stop_rank, rank_there}
+use Rattle.export_machine.proofs.Halted.{aborts, forgets, ends, stops_all, dropped_there, stopped_indexed, stop_rank, rank_there}
 use Rattle.export_machine.proofs.records.Records.stop.Goals as goal
 
 pub halt_imports-requires-clause-near : goal.halt_imports-requires-clause-near
@@ -64,7 +64,8 @@ returns-clause-effect c =
     let all : world_of c.end_requests.new.self ≡ ends c.args.rank (forgets c.args.rank (aborts c.args.rank w)) = ended ∙ ap (ends c.args.rank) (forgot ∙ ap (forgets c.args.rank) aborted) in
     let stopped : c.put.new.table.items ≡ set w.stopped c.args.rank true =
     c.put.ensures.items ∙ (ap (λ (v : World). set v.stopped c.number.result true) all ∙ ap (λ r. set w.stopped r true) c.number.ensures.value) in
-    ap changed (sym (ap (λ (v : World). record v { stopped = c.put.new.table.items }) all ∙ ap (λ (st : List Bool). record (ends c.args.rank (forgets c.args.rank (aborts c.args.rank w))) { stopped = st }) stopped))
+    ap changed (stops_all c.args.rank w c.requires.kept.reached)
+    ∙ ap changed (sym (ap (λ (v : World). record v { stopped = c.put.new.table.items }) all ∙ ap (λ (st : List Bool). record (ends c.args.rank (forgets c.args.rank (aborts c.args.rank w))) { stopped = st }) stopped))
 
 pub returns-clause-indexed : goal.returns-clause-indexed
 returns-clause-indexed c = stopped_indexed (world_of c.end_requests.new.self) (indexes_of c.end_requests.new.self) c.end_requests.ensures.indexed c.put.new.table.items
