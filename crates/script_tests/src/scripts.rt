@@ -206,7 +206,7 @@ fn a_strict_run_ends_at_the_first_fault(rt: HostRuntime) -> Result<(), Fail> {
     let (result, left) = carried_out(&rt, rt.alloc(), source, &mut sink, 65536, true);
     assert_eq!(rt; result, Ok(false));
     assert!(rt; sink.bytes.as_slice() == b"line 2: syntax\n".as_slice());
-    assert_eq!(rt; ENOUGH - left, 6);
+    assert_eq!(rt; ENOUGH.saturating_sub(left), 6);
     Ok(())
 }
 
