@@ -235,6 +235,7 @@ fn roots_follow_the_log_entry(rt: HostRuntime) -> Result<(), Fail> {
         (&[1, 2], &[(0, 0), (1, 1)]),
     ];
     let log = to_the_log();
+    let steps = log.as_slice();
     for (dirs, want) in table {
         let rows = [
             (Do::Make(0), Ok(Reply::Dir(Dir::new(1)))),
@@ -243,7 +244,7 @@ fn roots_follow_the_log_entry(rt: HostRuntime) -> Result<(), Fail> {
         ];
         let mut cluster = played(&rt, rt.alloc(), &rows)?;
         assert_eq!(rt; roots(rt.alloc(), &cluster)?.len(), 1);
-        run_rows(&rt, rt.alloc(), &mut cluster, &log[2..])?;
+        run_rows(&rt, rt.alloc(), &mut cluster, &steps[2..])?;
         let found = roots(rt.alloc(), &cluster)?;
         assert_eq!(rt; found.len(), want.len());
         for ((dir, at), (number, owner)) in found.iter().zip(want.iter()) {
