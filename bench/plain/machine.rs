@@ -1,6 +1,6 @@
 //! The export machine in plain Rust, as a measure for mdbal's: machine < events. Nothing here is proved.
 //!
-//! An event a line, as `machine_bench events LIST` prints them; those before the line `now` aren't timed. Prints how
+//! An event a line, as `bench machine events LIST` prints them; those before the line `now` aren't timed. Prints how
 //! many of the timed events were accepted and the nanoseconds for all of them, the least of 9 runs, each event with a
 //! copy of it and its answer kept. With `alone` as its argument it keeps nothing; with `reads` it times the reads after
 //! the list instead.

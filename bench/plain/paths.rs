@@ -1,6 +1,6 @@
 //! What threads do without a lock, in plain unproved Rust: a share of two counters a directory, and a map kept in two copies.
 //!
-//! It prints a name and picoseconds of processor time a line, the least of several runs, for the work that `path_bench times` times.
+//! It prints a name and picoseconds of processor time a line, the least of several runs, for the work that `bench paths times` times.
 use std::cell::UnsafeCell;
 use std::hint::black_box;
 use std::sync::atomic::{AtomicU64, AtomicUsize, Ordering, fence};
@@ -51,7 +51,7 @@ fn in_four(work: impl Fn(usize) -> u128 + Sync) -> u128 {
     })
 }
 
-/// Directories in no order, the same as in `path_bench`.
+/// Directories in no order, the same as in `crates/bench`.
 fn keys(seed: u64) -> Vec<u32> {
     let mut state = seed | 1;
     (0..1 << 14)

@@ -1,3 +1,4 @@
+pub mod DirDivisions
 pub mod PartsSoFar
 pub mod Places
 pub mod RowsSoFar

@@ -54,7 +54,7 @@ module _ (es : List (Option Entry)) (own : List (Option ℕ)) (heats now : List 
   free_parent (suc d) is = unpinned_parent es own (suc d) tree (omega arith) is
 
   -- the row that row i names as its parent
-  parent_is : (i : ℕ) → i < length (unpinned es own) → parent_at (problem_rows es own heats now) i ≡ length (filter (is_unpinned es own) (below (parent_of es (get_or (unpinned es own) i 0))))
+  pub parent_is : (i : ℕ) → i < length (unpinned es own) → parent_at (problem_rows es own heats now) i ≡ length (filter (is_unpinned es own) (below (parent_of es (get_or (unpinned es own) i 0))))
   parent_is i h =
       let dirs : List ℕ = unpinned es own in
       let d : ℕ = get_or dirs i 0 in

@@ -1,3 +1,4 @@
+pub mod DirDivision
 pub mod OpenError
 pub mod PlanParts
 pub mod ProblemRows

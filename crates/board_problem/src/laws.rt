@@ -1,13 +1,15 @@
 //! Laws of a board's problem and of a plan's parts, each the contract of a function that does nothing.
-ghost use Rattle.std.specs.Prelude.{◌≡◌, ◌<◌, ◌≤◌, ◌^◌, ℕ, All, List, Option, length, slice_index, sum_by};
+ghost use Rattle.std.specs.Prelude.{◌≡◌, ◌↔◌, ◌<◌, ◌≤◌, ◌^◌, ℕ, All, List, Option, length, slice_index, sum_by};
 ghost use Rattle.mds_types.specs.declared.plan.Plan.{Plan};
 ghost use Rattle.mds_types.specs.declared.problem.ProblemRow.{ProblemRow};
 ghost use Rattle.mds_types.specs.Certificate.{IsPartition, plan_label};
+ghost use Rattle.mds_types.specs.Division.{IsDivision, IsLowerBound, part_heat};
 ghost use Rattle.mds_types.specs.Problem.{IsForest, IsProblem, heat_at, inodes_at, parent_at};
 ghost use Rattle.mds_types.specs.RankSet.{rank_count};
 ghost use Rattle.mds_types.specs.Sums.{sum_below};
 ghost use Rattle.dirtree.specs.Tree.{Entry, IsTree, parent_of};
 ghost use Rattle.dir_pins.specs.Pins.{unpinned};
+ghost use Rattle.board_problem.specs.DirDivision.{IsDirDivision, dir_part_heat, greatest_dir_heat, row_label};
 ghost use Rattle.board_problem.specs.PlanParts.{IsTopOf, plan_parts};
 ghost use Rattle.board_problem.specs.ProblemRows.{problem_rows};
 
@@ -16,6 +18,21 @@ pub fn opened_is_problem()
     ensures { (entries : List (Option Entry)) (own : List (Option ℕ)) (heats now : List ℕ) (ranks : ℕ) →
         IsTree entries → length entries ≤ 2 ^ 16 → All (λ heat. heat ≤ 2 ^ 40) heats → 0 < rank_count ranks →
         IsProblem (record { rows = problem_rows entries own heats now; ranks = ranks }) }
+{}
+
+/// Divisions of the unpinned directories and divisions of the rows are the same, with the same heats: so a heat that no
+/// division of the rows is below is one that no division of the directories is below.
+pub fn directories_divide_as_rows()
+    ensures divisions { (entries : List (Option Entry)) (own : List (Option ℕ)) (heats now : List ℕ) (k : ℕ) (label : ℕ → ℕ) →
+        IsTree entries →
+        IsDirDivision entries own k label ↔ IsDivision (problem_rows entries own heats now) k (row_label entries own label) }
+    ensures heats { (entries : List (Option Entry)) (own : List (Option ℕ)) (heats now : List ℕ) (label : ℕ → ℕ) (part : ℕ) →
+        IsTree entries →
+        part_heat (problem_rows entries own heats now) (row_label entries own label) part
+        ≡ dir_part_heat entries own heats label part }
+    ensures least { (entries : List (Option Entry)) (own : List (Option ℕ)) (heats now : List ℕ) (k heat : ℕ) (label : ℕ → ℕ) →
+        IsTree entries → IsLowerBound (problem_rows entries own heats now) k heat → IsDirDivision entries own k label →
+        heat ≤ greatest_dir_heat entries own heats k label }
 {}
 
 /// The row of a directory's parent is the row that its row names: the problem's tree is that of the unpinned directories.

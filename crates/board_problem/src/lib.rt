@@ -10,10 +10,3 @@ mod rows;
 pub use open_error::OpenError;
 pub use opening::{Opened, open};
 pub use plan_parts::{PlanPart, parts};
-
-#[cfg(test)]
-mod random_boards;
-#[cfg(test)]
-mod refused_growths;
-#[cfg(test)]
-mod tests;

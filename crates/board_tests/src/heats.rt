@@ -151,6 +151,18 @@ fn goes_on_after_many_ticks(rt: HostRuntime) -> Result<(), Fail> {
 }
 
 #[test]
+fn a_refused_growth_is_asked_for_again(rt: HostRuntime) -> Result<(), Fail> {
+    let mut heat = cold(rt.alloc())?;
+    add(&mut heat, 1, 5);
+    assert_eq!(rt; kept(&heat, 1), (5, 0));
+    let mut later = resumed(rt.alloc(), 7)?;
+    add(&mut later, 1, 5);
+    assert_eq!(rt; kept(&later, 1), (5, 7));
+    assert_eq!(rt; kept(&later, 3), (0, 7));
+    Ok(())
+}
+
+#[test]
 fn prints_its_refusal(rt: HostRuntime) -> Result<(), Fail> {
     let text = format!(in rt.alloc(); "{TicksFull}")?;
     assert_eq!(rt; text.as_str(), "15 TicksFull");

@@ -2,8 +2,18 @@
 #![tactic(auto)]
 
 #[cfg(test)]
+mod boards;
+#[cfg(test)]
+mod divisions;
+#[cfg(test)]
 mod heats;
 #[cfg(test)]
 mod pins;
+#[cfg(test)]
+mod problems;
+#[cfg(test)]
+mod random_boards;
+#[cfg(test)]
+mod refused_boards;
 #[cfg(test)]
 mod trees;

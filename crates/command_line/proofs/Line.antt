@@ -29,7 +29,7 @@ use Rattle.clap.specs.declared.error.kind.ErrorKind.{ErrorKind}
 use Rattle.clap.specs.declared.error.kind.ErrorKind.TheVariants as kind
 use Rattle.command_line.specs.Outcome.{Explains, StandsFor}
 use Rattle.command_line.specs.declared.options_error.OptionsError.{OptionsError}
-use Rattle.command_line.specs.declared.options_error.OptionsError.TheVariants.{Help, Memory, Refused}
+use Rattle.command_line.specs.declared.options_error.OptionsError.TheVariants.{Help, Memory, Refused, Version}
 use Rattle.clap.proofs.CallerReads.{signed_reads}
 use Rattle.clap.proofs.OnLiterals.{clap_on_literals}
 use Rattle.command_line.specs.CommandLine.{limit_rule, mdbal, number_of, strict_rule}
@@ -232,5 +232,9 @@ explained error (Help given) kinds s (inl memory) =
     let bad : kind.OutOfMemory ≡ kind.DisplayHelp = sym memory ∙ s.1 in
     cc
 explained error (Help given) kinds s (inr among) = (ap kind_of s.0 ∙ s.1, subst (λ (k : ErrorKind). IsAmong k kinds) s.1 among)
+explained error (Version given) kinds s (inl memory) =
+    let bad : kind.OutOfMemory ≡ kind.DisplayVersion = sym memory ∙ s.1 in
+    cc
+explained error (Version given) kinds s (inr among) = (ap kind_of s.0 ∙ s.1, subst (λ (k : ErrorKind). IsAmong k kinds) s.1 among)
 explained error (Refused given) kinds s (inl memory) = absurd (s.1 memory)
-explained error (Refused given) kinds s (inr among) = rw s.0 (s.2, s.1, among)
+explained error (Refused given) kinds s (inr among) = rw s.0 (s.2, s.3, s.1, among)

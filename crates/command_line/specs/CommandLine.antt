@@ -1,5 +1,5 @@
 -- The command line of `mdbal`, as a command of `clap`, and what its words name.
-use Rattle.std.specs.Prelude.{ℕ, Bool, List, Some, pos, codes, option_map, unwrap_or, false}
+use Rattle.std.specs.Prelude.{ℕ, Bool, List, Some, pos, codes, option_map, unwrap_or, true, false}
 use Rattle.std.specs.Option.{option_map_or}
 use Rattle.std.specs.Str.{bytes_eq}
 use Rattle.std.specs.Str.Parse.{digits_value, without_leading_plus}
@@ -24,9 +24,13 @@ strict_rule = record (new_rule (codes "strict")) {
   parser = Some parser.Bool;
 }
 
--- `mdbal [--limit N] [--strict]`
+-- the program, which has a version
+abbrev pub versioned : App
+versioned = let app = new_app (codes "mdbal") in record app { top = record app.top { has_version = true } }
+
+-- `mdbal [--limit N] [--strict]`, which has a version
 abbrev pub mdbal : App
-mdbal = with_rule (with_rule (new_app (codes "mdbal")) limit_rule) strict_rule
+mdbal = with_rule (with_rule versioned limit_rule) strict_rule
 
 -- the number of a text of decimal digits
 abbrev pub number_of : Text → ℕ

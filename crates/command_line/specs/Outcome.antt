@@ -4,24 +4,28 @@ use Rattle.clap.specs.Words.{IsAmong, Kinds, kind_of}
 use Rattle.clap.specs.declared.error.Error.{Error}
 use Rattle.clap.specs.declared.error.kind.ErrorKind.TheVariants as kind
 use Rattle.command_line.specs.declared.options_error.OptionsError.{OptionsError}
-use Rattle.command_line.specs.declared.options_error.OptionsError.TheVariants.{Memory, Help, Refused}
+use Rattle.command_line.specs.declared.options_error.OptionsError.TheVariants.{Memory, Help, Version, Refused}
 
 -- what is answered where `clap` gives this error
 abbrev pub StandsFor : Error → OptionsError → Type 0
 StandsFor error Memory = kind_of error ≡ kind.OutOfMemory
 StandsFor error (Help given) = (given ≡ error) × (kind_of error ≡ kind.DisplayHelp)
+StandsFor error (Version given) = (given ≡ error) × (kind_of error ≡ kind.DisplayVersion)
 StandsFor error (Refused given) =
-    (given ≡ error) × (kind_of error ≢ kind.OutOfMemory) × (kind_of error ≢ kind.DisplayHelp)
+    (given ≡ error) × (kind_of error ≢ kind.OutOfMemory) × (kind_of error ≢ kind.DisplayHelp) × (kind_of error ≢ kind.DisplayVersion)
 
 -- the status of the program
 abbrev pub status_of : OptionsError → ℕ
 status_of (Help error) = 0
+status_of (Version error) = 0
 status_of _ = 2
 
--- the outcome fits the kinds of fault that the words have: memory was refused, or help is one of
+-- the outcome fits the kinds of fault that the words have: memory was refused, or the help or the version is one of
 -- them and was asked for, or the fault is one of the others
 abbrev pub Explains : Kinds → OptionsError → Type 0
 Explains kinds Memory = ⊤
 Explains kinds (Help error) = (kind_of error ≡ kind.DisplayHelp) × IsAmong kind.DisplayHelp kinds
+Explains kinds (Version error) = (kind_of error ≡ kind.DisplayVersion) × IsAmong kind.DisplayVersion kinds
 Explains kinds (Refused error) =
-    (kind_of error ≢ kind.DisplayHelp) × (kind_of error ≢ kind.OutOfMemory) × IsAmong (kind_of error) kinds
+    (kind_of error ≢ kind.DisplayHelp) × (kind_of error ≢ kind.DisplayVersion) × (kind_of error ≢ kind.OutOfMemory)
+    × IsAmong (kind_of error) kinds

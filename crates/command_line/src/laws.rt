@@ -1,7 +1,7 @@
 //! What `clap`'s function makes of some lines that are written out.
 ghost use Rattle.std.specs.Prelude.{◌≡◌, ◌∷◌, [], codes, false, true};
 ghost use Rattle.clap.specs.Words.{fault_of};
-ghost use Rattle.clap.specs.declared.error.kind.ErrorKind.TheVariants.{DisplayHelp, ValueValidation};
+ghost use Rattle.clap.specs.declared.error.kind.ErrorKind.TheVariants.{DisplayHelp, DisplayVersion, ValueValidation};
 ghost use Rattle.command_line.specs.CommandLine.{is_strict, limit_of, mdbal};
 
 use mds_types::limits::DIR_LIMIT;
@@ -25,6 +25,11 @@ pub fn limits()
     ensures least { fault_of mdbal (codes "mdbal" ∷ codes "--limit" ∷ codes "0" ∷ []) ≡ ValueValidation ∷ [] }
     ensures greatest { fault_of mdbal (codes "mdbal" ∷ codes "--limit" ∷ codes "65536" ∷ []) ≡ [] }
     ensures past { fault_of mdbal (codes "mdbal" ∷ codes "--limit" ∷ codes "65537" ∷ []) ≡ ValueValidation ∷ [] }
+{}
+
+/// A line that asks for the version has that as its one fault.
+pub fn version()
+    ensures { fault_of mdbal (codes "mdbal" ∷ codes "--version" ∷ []) ≡ DisplayVersion ∷ [] }
 {}
 
 /// A line that asks for help has that as its one fault.

@@ -6,8 +6,6 @@
 pub mod laws;
 mod options_error;
 mod settings;
-#[cfg(test)]
-mod tests;
 
 pub use options_error::OptionsError;
 pub use settings::{Settings, options};

@@ -16,20 +16,23 @@ pub enum OptionsError {
     /// The line asks for help, and this is its text.
     #[error("{0}")]
     Help(Error),
+    /// The line asks for the version, and this is its text.
+    #[error("{0}")]
+    Version(Error),
     /// The line is refused, and this text says why.
     #[error("{0}")]
     Refused(Error),
 }
 
 impl OptionsError {
-    /// The status that the program ends with: 0 where help was asked for, and else 2.
+    /// The status that the program ends with: 0 where the help or the version was asked for, and else 2.
     ///
     /// Where it is 0 the text goes to standard output, and else to standard error.
     pub fn status(&self) -> u8
         ensures { result ≡ status_of self.now }
     {
         match self {
-            OptionsError::Help(_) => 0,
+            OptionsError::Help(_) | OptionsError::Version(_) => 0,
             OptionsError::Memory | OptionsError::Refused(_) => 2,
         }
     }
@@ -50,6 +53,7 @@ impl From<Error> for OptionsError {
         match error.kind() {
             ErrorKind::OutOfMemory => OptionsError::Memory,
             ErrorKind::DisplayHelp => OptionsError::Help(error),
+            ErrorKind::DisplayVersion => OptionsError::Version(error),
             _ => OptionsError::Refused(error),
         }
     }

@@ -10,6 +10,9 @@ use mds_types::limits::DIR_LIMIT;
 use std::alloc::{AllocError, Global};
 use std::convert::AsStr;
 
+/// The version that `--version` prints.
+const VERSION: &str = "0.1.0";
+
 /// What the program is started with.
 #[derive(Clone, Copy, Debug, PartialEq, Eq)]
 pub struct Settings {
@@ -64,6 +67,7 @@ fn command<'a>(alloc: Global) -> Result<Command<'a>, AllocError>
     ensures { IfOk result (λ c. app_of c ≡ mdbal) }
 {
     Command::new(alloc, "mdbal")
+        .version(VERSION)
         .about(
             "Carries out the script on standard input, and writes its answers to standard output",
         )

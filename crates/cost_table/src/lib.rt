@@ -8,6 +8,3 @@ mod inodes;
 pub use cells::{cells_of_sums, costs};
 pub use chosen::{cell_at_place, chosen_sum, place_of};
 pub use inodes::{add_sums, sums};
-
-#[cfg(test)]
-mod tests;

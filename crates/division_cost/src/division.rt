@@ -154,6 +154,3 @@ pub fn greatest_heat(parts: &[Part]) -> u64
     }
     greatest
 }
-
-#[cfg(test)]
-mod tests;

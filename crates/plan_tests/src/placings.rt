@@ -1,17 +1,23 @@
-//! Placings against trial of all of them.
+//! Costs of parts and placings, worked out by hand and against trial of all placings.
 //!
 //! Each call that takes memory is made again where a growth was refused, so the tests hold with any one
 //! growth refused.
-ghost use Rattle.std.specs.Prelude.{◌<◌, ◌≤◌, length};
+ghost use Rattle.std.specs.Prelude.{◌≡◌, ◌<◌, ◌≤◌, ℕ, true, length, slice_index};
+ghost use Rattle.mds_types.specs.RankSet.{rank_count};
 
-use crate::{Assigned, Costs, assign, costs};
+use cost_table::place_of;
 use exhaustive::{Random, fewest_moved};
 use mds_types::{Problem, ProblemRow, Rank, RankSet};
+use rank_assign::{Assigned, Costs, assign, costs, costs_by, sums};
 use std::alloc::{AllocError, Global};
 use std::test::Fail;
+use std::thread::Threads;
 
 /// Parent, heat, inodes and present rank of a row.
 type Given = (u32, u64, u32, u8);
+
+/// How many rows a chunk has.
+const CHUNKS: [usize; 4] = [1, 3, 4, 100];
 
 /// What a call gives, or gives when it is made again, where a growth was refused the first time.
 fn at_last<T, F: Fn() -> Result<T, AllocError> + Drop>(call: F) -> Result<T, AllocError>
@@ -23,20 +29,19 @@ fn at_last<T, F: Fn() -> Result<T, AllocError> + Drop>(call: F) -> Result<T, All
     }
 }
 
-/// The placing that is found in the end.
-fn assigned(alloc: Global, costs: &Costs) -> Result<Assigned, AllocError> {
-    at_last(|| assign(alloc, costs))
+/// The rank of this number.
+fn rank(number: u8) -> Result<Rank, Fail> {
+    Ok(Rank::new(number).ok_or("no rank")?)
 }
 
 fn problem(alloc: Global, given: &[Given], ranks: u64) -> Result<Problem, Fail> {
     let mut rows = at_last(|| Vec::with_capacity(alloc, given.len()))?;
     for &(parent, heat, inodes, now) in given {
-        let now = Rank::new(now).ok_or("no rank")?;
         rows.push(ProblemRow {
             parent,
             heat,
             inodes,
-            now,
+            now: rank(now)?,
         })?;
     }
     match Problem::new(rows, RankSet::from_bits(ranks)) {
@@ -45,13 +50,114 @@ fn problem(alloc: Global, given: &[Given], ranks: u64) -> Result<Problem, Fail> 
     }
 }
 
-/// The numbers of the ranks that the parts were given.
-fn numbers(alloc: Global, assigned: &Assigned) -> Result<Vec<u8>, Fail> {
-    let mut numbers = at_last(|| Vec::with_capacity(alloc, assigned.ranks.len()))?;
-    for rank in assigned.ranks.as_slice() {
-        numbers.push(rank.number())?;
+/// Whether there is a part for each row, below a count that the ranks allow.
+fn fits(problem: &Problem, part: &[u32], count: u32) -> bool
+    ensures size { result ≡ true → length part.now ≡ length problem.now.rows }
+    ensures below { result ≡ true → (i : ℕ) → i < length problem.now.rows → slice_index part.now i < count }
+    ensures few { result ≡ true → count ≤ rank_count problem.now.ranks }
+{
+    part.len() == problem.rows().len()
+        && count <= u32::from(problem.ranks().len())
+        && part.iter().all(|&p| p < count)
+}
+
+/// The costs of a division, in one pass.
+fn table<R: Threads>(
+    rt: &R,
+    alloc: Global,
+    problem: &Problem,
+    part: &[u32],
+    count: u32,
+) -> Result<Costs, Fail> {
+    if !fits(problem, part, count) {
+        return Err("no division")?;
     }
-    Ok(numbers)
+    match costs(rt, alloc, problem, part, count) {
+        Ok(costs) => Ok(costs),
+        Err(_) => Ok(costs(rt, alloc, problem, part, count)?),
+    }
+}
+
+/// The costs of a division, from chunks of so many rows.
+fn table_by<R: Threads + Sync>(
+    rt: &R,
+    alloc: Global,
+    problem: &Problem,
+    part: &[u32],
+    count: u32,
+    chunk: usize,
+) -> Result<Costs, Fail> {
+    if chunk == 0 || !fits(problem, part, count) {
+        return Err("no division")?;
+    }
+    match costs_by(rt, alloc, problem, part, count, chunk) {
+        Ok(costs) => Ok(costs),
+        Err(_) => Ok(costs_by(rt, alloc, problem, part, count, chunk)?),
+    }
+}
+
+/// The sums of the rows from one on to before another.
+fn sums_between(
+    alloc: Global,
+    problem: &Problem,
+    part: &[u32],
+    count: u32,
+    from: u32,
+    to: u32,
+) -> Result<Vec<u64>, Fail> {
+    if from > to || to as usize > problem.rows().len() || !fits(problem, part, count) {
+        return Err("no rows")?;
+    }
+    match sums(alloc, problem, part, count, from, to) {
+        Ok(sums) => Ok(sums),
+        Err(_) => Ok(sums(alloc, problem, part, count, from, to)?),
+    }
+}
+
+/// Whether chunks of each size give these cells.
+fn chunks_give<R: Threads + Sync>(
+    rt: &R,
+    alloc: Global,
+    problem: &Problem,
+    part: &[u32],
+    count: u32,
+    cells: &[u64],
+) -> Result<bool, Fail> {
+    for chunk in CHUNKS {
+        if table_by(rt, alloc, problem, part, count, chunk)?.cells() != cells {
+            return Ok(false);
+        }
+    }
+    Ok(true)
+}
+
+/// The placing that is found in the end.
+fn assigned(alloc: Global, costs: &Costs) -> Result<Assigned, AllocError> {
+    at_last(|| assign(alloc, costs))
+}
+
+/// Whether the parts were given the ranks of these numbers.
+fn are_numbers(assigned: &Assigned, numbers: &[u8]) -> bool {
+    let ranks = assigned.ranks.as_slice();
+    ranks.len() == numbers.len()
+        && ranks
+            .iter()
+            .zip(numbers)
+            .all(|(rank, number)| rank.number() == *number)
+}
+
+/// Whether a division costs these cells, in one pass and in chunks, and a best placing moves so much.
+fn costs_so<R: Threads + Sync>(
+    rt: &R,
+    alloc: Global,
+    problem: &Problem,
+    part: &[u32],
+    cells: &[u64],
+    moved: u64,
+) -> Result<bool, Fail> {
+    let costs = table(rt, alloc, problem, part, 2)?;
+    let is_same = costs.cells() == cells && chunks_give(rt, alloc, problem, part, 2, cells)?;
+    Ok(is_same && costs.count() == 2 && assigned(alloc, &costs)?.moved == moved)
 }
 
 #[test]
@@ -59,36 +165,58 @@ fn places_two_parts_on_three_ranks(rt: HostRuntime) -> Result<(), Fail> {
     let alloc = rt.alloc();
     let rows = [(0, 1, 4, 1), (0, 0, 1, 2), (0, 1, 1, 0), (2, 0, 3, 1)];
     let problem = problem(alloc, &rows, 7)?;
-    assert_eq!(rt; problem.rows().len(), 4);
-    assert_eq!(rt; problem.ranks().len(), 3);
-    let costs = match costs(&rt, alloc, &problem, &[0, 0, 1, 1], 2) {
-        Ok(costs) => costs,
-        Err(_) => costs(&rt, alloc, &problem, &[0, 0, 1, 1], 2)?,
-    };
-    assert_eq!(rt; costs.cells(), [5, 1, 4, 3, 1, 4].as_slice());
-    let placing = assigned(alloc, &costs)?;
-    assert_eq!(rt; placing.moved, 4);
-    assert_eq!(rt; numbers(alloc, &placing)?.as_slice(), [1, 0].as_slice());
+    let cells = [5, 1, 4, 3, 1, 4];
+    assert!(rt; costs_so(&rt, alloc, &problem, &[0, 0, 1, 1], &cells, 4)?);
+    let placing = assigned(alloc, &table(&rt, alloc, &problem, &[0, 0, 1, 1], 2)?)?;
+    assert!(rt; are_numbers(&placing, &[1, 0]));
     Ok(())
+}
+
+/// A chain of three directories below the root.
+fn chain(alloc: Global) -> Result<Problem, Fail> {
+    problem(
+        alloc,
+        &[(0, 0, 1, 0), (0, 3, 5, 0), (1, 3, 1, 0), (2, 3, 1, 0)],
+        3,
+    )
 }
 
 #[test]
 fn costs_the_parts_of_a_chain(rt: HostRuntime) -> Result<(), Fail> {
-    let alloc = rt.alloc();
-    let chain = problem(
-        alloc,
-        &[(0, 0, 1, 0), (0, 3, 5, 0), (1, 3, 1, 0), (2, 3, 1, 0)],
-        3,
-    )?;
-    assert_eq!(rt; chain.rows().len(), 4);
-    assert_eq!(rt; chain.ranks().len(), 2);
-    let costs = match costs(&rt, alloc, &chain, &[0, 0, 1, 1], 2) {
-        Ok(costs) => costs,
-        Err(_) => costs(&rt, alloc, &chain, &[0, 0, 1, 1], 2)?,
+    let chain = chain(rt.alloc())?;
+    assert!(rt; costs_so(&rt, rt.alloc(), &chain, &[0, 0, 1, 1], &[0, 6, 0, 2], 2)?);
+    Ok(())
+}
+
+/// Whether rows 1 and 2 of a chain have 5 inodes of part 0 at rank 0 and 1 of part 1, and no others.
+fn sums_so(alloc: Global, chain: &Problem) -> Result<bool, Fail> {
+    let sums = sums_between(alloc, chain, &[0, 0, 1, 1], 2, 1, 3)?;
+    let is_due = |cell: usize, sum: u64| match cell {
+        0 => sum == 5,
+        64 => sum == 1,
+        _ => sum == 0,
     };
-    assert_eq!(rt; costs.cells(), [0, 6, 0, 2].as_slice());
-    assert_eq!(rt; costs.count(), 2);
-    assert_eq!(rt; assigned(alloc, &costs)?.moved, 2);
+    Ok(
+        sums.len() == 128
+            && sums
+                .iter()
+                .enumerate()
+                .all(|(cell, sum)| is_due(cell, *sum)),
+    )
+}
+
+#[test]
+fn sums_some_rows_of_a_chain(rt: HostRuntime) -> Result<(), Fail> {
+    let chain = chain(rt.alloc())?;
+    assert!(rt; sums_so(rt.alloc(), &chain)?);
+    Ok(())
+}
+
+#[test]
+fn a_refused_growth_is_asked_for_again(rt: HostRuntime) -> Result<(), Fail> {
+    let chain = chain(rt.alloc())?;
+    assert!(rt; costs_so(&rt, rt.alloc(), &chain, &[0, 0, 1, 1], &[0, 6, 0, 2], 2)?);
+    assert!(rt; sums_so(rt.alloc(), &chain)?);
     Ok(())
 }
 
@@ -96,20 +224,95 @@ fn costs_the_parts_of_a_chain(rt: HostRuntime) -> Result<(), Fail> {
 fn costs_two_directories(rt: HostRuntime) -> Result<(), Fail> {
     let alloc = rt.alloc();
     let two = problem(alloc, &[(0, 0, 1, 0), (0, 4, 10, 0), (0, 6, 20, 0)], 3)?;
-    assert_eq!(rt; two.rows().len(), 3);
-    assert_eq!(rt; two.ranks().len(), 2);
-    let costs = match costs(&rt, alloc, &two, &[0, 0, 1], 2) {
-        Ok(costs) => costs,
-        Err(_) => costs(&rt, alloc, &two, &[0, 0, 1], 2)?,
-    };
-    assert_eq!(rt; costs.cells(), [0, 11, 0, 20].as_slice());
-    assert_eq!(rt; assigned(alloc, &costs)?.moved, 11);
+    assert!(rt; costs_so(&rt, alloc, &two, &[0, 0, 1], &[0, 11, 0, 20], 11)?);
+    Ok(())
+}
+
+/// Whether three parts of five rows cost so much at the ranks of a set.
+fn five_rows_cost<R: Threads + Sync>(
+    rt: &R,
+    alloc: Global,
+    bits: u64,
+    part: &[u32],
+    count: u32,
+    cells: &[u64],
+) -> Result<bool, Fail> {
+    let rows = [
+        (0, 0, 4, 1),
+        (0, 0, 1, 2),
+        (0, 0, 1, 0),
+        (0, 0, 3, 1),
+        (0, 0, u32::MAX, 63),
+    ];
+    let problem = problem(alloc, &rows, bits)?;
+    let is_same = table(rt, alloc, &problem, part, count)?.cells() == cells;
+    Ok(is_same && chunks_give(rt, alloc, &problem, part, count, cells)?)
+}
+
+#[test]
+fn costs_what_moves(rt: HostRuntime) -> Result<(), Fail> {
+    // (ranks, the part of each row, parts, what each part moves at each rank)
+    let tables: [(u64, [u32; 5], u32, &[u64]); 3] = [
+        (
+            7,
+            [0, 0, 1, 1, 2],
+            3,
+            &[5, 1, 4, 3, 1, 4, 4294967295, 4294967295, 4294967295],
+        ),
+        (
+            0x8000_0000_0000_0002,
+            [0, 0, 1, 1, 1],
+            2,
+            &[1, 5, 4294967296, 4],
+        ),
+        (4, [0, 0, 0, 0, 0], 1, &[4294967303]),
+    ];
+    for (bits, part, count, cells) in tables {
+        assert!(rt;
+            five_rows_cost(&rt, rt.alloc(), bits, &part, count, cells)?,
+            "ranks {bits:#x}"
+        );
+    }
     Ok(())
 }
 
 #[test]
+fn counts_the_smaller_ranks(rt: HostRuntime) -> Result<(), Fail> {
+    let ranks = RankSet::from_bits(0x8000_0000_0000_000d);
+    for (number, place) in [(0, 0), (1, 1), (2, 1), (3, 2), (4, 3), (63, 3)] {
+        assert_eq!(rt; place_of(ranks, rank(number)?), place, "rank {number}");
+    }
+    Ok(())
+}
+
+/// The costs that stand in these cells, if they fit.
+fn given_costs(
+    alloc: Global,
+    count: u32,
+    ranks: u64,
+    cells: &[u64],
+) -> Result<Option<Costs>, AllocError> {
+    let cells = at_last(|| cells.to_vec(alloc))?;
+    Ok(Costs::new(count, RankSet::from_bits(ranks), cells))
+}
+
+/// Whether a best placing over these cells has this sum, these ranks and a price for each part.
+fn places_so(
+    alloc: Global,
+    count: u32,
+    ranks: u64,
+    cells: &[u64],
+    least: u64,
+    numbers: &[u8],
+) -> Result<bool, Fail> {
+    let costs = given_costs(alloc, count, ranks, cells)?.ok_or("no costs")?;
+    let placing = assigned(alloc, &costs)?;
+    let is_priced = placing.proof.part_price.len() == count as usize;
+    Ok(is_priced && placing.moved == least && are_numbers(&placing, numbers))
+}
+
+#[test]
 fn hands_ranks_on_where_that_costs_less(rt: HostRuntime) -> Result<(), Fail> {
-    let alloc = rt.alloc();
     // (parts, ranks, cells, the least sum, the ranks that have it)
     let tables: [(u32, u64, &[u64], u64, &[u8]); 6] = [
         (0, 5, &[], 0, &[]),
@@ -131,21 +334,17 @@ fn hands_ranks_on_where_that_costs_less(rt: HostRuntime) -> Result<(), Fail> {
             &[5, 6, 4],
         ),
     ];
-    for (count, ranks, cells, least, numbers_of_ranks) in tables {
-        let cells = at_last(|| cells.to_vec(alloc))?;
-        let costs = Costs::new(count, RankSet::from_bits(ranks), cells).ok_or("no costs")?;
-        let placing = assigned(alloc, &costs)?;
-        assert_eq!(rt; placing.moved, least, "{count} parts");
-        let numbers = numbers(alloc, &placing)?;
-        assert_eq!(rt; numbers.as_slice(), numbers_of_ranks, "{count} parts");
-        assert_eq!(rt; placing.proof.part_price.len(), count as usize);
+    for (count, ranks, cells, least, numbers) in tables {
+        assert!(rt;
+            places_so(rt.alloc(), count, ranks, cells, least, numbers)?,
+            "{count} parts"
+        );
     }
     Ok(())
 }
 
 #[test]
 fn takes_cells_that_fit(rt: HostRuntime) -> Result<(), Fail> {
-    let alloc = rt.alloc();
     // (parts, ranks, cells, whether they are taken)
     let tables: [(u32, u64, &[u64], bool); 7] = [
         (0, 0, &[], true),
@@ -157,18 +356,14 @@ fn takes_cells_that_fit(rt: HostRuntime) -> Result<(), Fail> {
         (3, 5, &[0, 0, 0, 0, 0, 0], false),
     ];
     for (count, ranks, cells, taken) in tables {
-        let cells = at_last(|| cells.to_vec(alloc))?;
-        let shown = cells.len();
-        let costs = Costs::new(count, RankSet::from_bits(ranks), cells);
-        assert_eq!(rt; costs.is_some(), taken, "{count} parts, {shown} cells");
+        let costs = given_costs(rt.alloc(), count, ranks, cells)?;
+        assert_eq!(rt; costs.is_some(), taken, "{count} parts");
     }
     Ok(())
 }
 
 /// The least sum of three different columns of three rows of four cells.
-fn least_of(cells: &[u64]) -> u64
-    requires { 12 ≤ length cells.now }
-{
+fn least_of(cells: &[u64; 12]) -> u64 {
     let mut least = u64::MAX;
     for code in 0..64 {
         let (first, second, third) = (code / 16, code / 4 % 4, code % 4);
@@ -182,23 +377,62 @@ fn least_of(cells: &[u64]) -> u64
     least
 }
 
+/// Twelve random cells below a limit.
+fn random_cells(random: &mut Random, limit: u64) -> [u64; 12]
+    requires { 0 < limit }
+{
+    let mut cells = [0; 12];
+    for cell in cells.iter_mut() {
+        *cell = random.below(limit);
+    }
+    cells
+}
+
 #[test]
 fn no_choice_costs_less(rt: HostRuntime) -> Result<(), Fail> {
-    let alloc = rt.alloc();
     let mut random = Random::new(7);
     for round in 0..300 {
-        let mut cells = at_last(|| Vec::with_capacity(alloc, 12))?;
-        for _ in 0..12 {
-            cells.push(random.below(round / 10 + 2))?;
-        }
-        assert_eq!(rt; cells.len(), 12);
-        let least = least_of(&cells);
-        let costs = Costs::new(3, RankSet::from_bits(0x8000_0000_0000_1011), cells).ok_or(
-            "no costs",
-        )?;
-        assert_eq!(rt; assigned(alloc, &costs)?.moved, least, "round {round}");
+        let cells = random_cells(&mut random, round / 10 + 2);
+        let costs = given_costs(rt.alloc(), 3, 0x8000_0000_0000_1011, &cells)?.ok_or("no costs")?;
+        let moved = assigned(rt.alloc(), &costs)?.moved;
+        assert_eq!(rt; moved, least_of(&cells), "round {round}");
     }
     Ok(())
+}
+
+/// A random star of so many rows, at ranks below 6, and random parts below a count.
+fn random_star(
+    random: &mut Random,
+    alloc: Global,
+    size: u32,
+    count: u32,
+) -> Result<(Problem, Vec<u32>), Fail>
+    requires { 0 < count }
+{
+    let mut rows = at_last(|| Vec::with_capacity(alloc, size as usize))?;
+    let mut part = at_last(|| Vec::with_capacity(alloc, size as usize))?;
+    for _ in 0..size {
+        rows.push(ProblemRow {
+            parent: 0,
+            heat: 0,
+            inodes: random.below(9) as u32,
+            now: rank(random.below(6) as u8)?,
+        })?;
+        part.push(random.below(u64::from(count)) as u32)?;
+    }
+    match Problem::new(rows, RankSet::from_bits(0x17)) {
+        Ok(problem) => Ok((problem, part)),
+        Err(_) => Err("no problem")?,
+    }
+}
+
+/// The fewest inodes that a placing of three parts moves, by trial of all of them.
+fn fewest(problem: &Problem, part: &[u32]) -> Option<u64> {
+    if part.len() == problem.rows().len() {
+        fewest_moved(problem.rows(), part, 3, problem.ranks())
+    } else {
+        None
+    }
 }
 
 #[test]
@@ -206,34 +440,23 @@ fn no_placing_moves_less(rt: HostRuntime) -> Result<(), Fail> {
     let alloc = rt.alloc();
     let mut random = Random::new(11);
     for round in 0..20 {
-        let mut rows = at_last(|| Vec::with_capacity(alloc, 8))?;
-        let mut part = at_last(|| Vec::with_capacity(alloc, 8))?;
-        for _ in 0..8 {
-            let now = Rank::new(random.below(6) as u8).ok_or("no rank")?;
-            rows.push(ProblemRow {
-                parent: 0,
-                heat: 0,
-                inodes: random.below(9) as u32,
-                now,
-            })?;
-            part.push(random.below(3) as u32)?;
-        }
-        let Ok(problem) = Problem::new(rows, RankSet::from_bits(0x17)) else {
-            return Err("no problem")?;
-        };
-        assert_eq!(rt; problem.rows().len(), part.len());
-        assert_eq!(rt; problem.ranks().len(), 4);
-        assert!(rt; part.iter().all(|&p| p < 3));
-        let costs = match costs(&rt, alloc, &problem, &part, 3) {
-            Ok(costs) => costs,
-            Err(_) => costs(&rt, alloc, &problem, &part, 3)?,
-        };
-        let trial = fewest_moved(problem.rows(), &part, 3, problem.ranks());
-        assert_eq!(rt;
-            Some(assigned(alloc, &costs)?.moved),
-            trial,
-            "round {round}"
-        );
+        let (problem, part) = random_star(&mut random, alloc, 8, 3)?;
+        let costs = table(&rt, alloc, &problem, &part, 3)?;
+        let moved = assigned(alloc, &costs)?.moved;
+        assert_eq!(rt; Some(moved), fewest(&problem, &part), "round {round}");
+    }
+    Ok(())
+}
+
+#[test]
+fn chunks_cost_what_all_rows_do(rt: HostRuntime) -> Result<(), Fail> {
+    let alloc = rt.alloc();
+    let mut random = Random::new(13);
+    for size in [0, 1, 2, 5, 16, 17, 99, 100, 101, 230] {
+        let (problem, part) = random_star(&mut random, alloc, size, 4)?;
+        let costs = table(&rt, alloc, &problem, &part, 4)?;
+        let is_same = chunks_give(&rt, alloc, &problem, &part, 4, costs.cells())?;
+        assert!(rt; is_same, "{size} rows");
     }
     Ok(())
 }

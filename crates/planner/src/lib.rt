@@ -42,6 +42,3 @@ pub fn solve<R: Threads>(rt: &R, alloc: Global, problem: &Problem) -> Result<Pla
         dual,
     })
 }
-
-#[cfg(test)]
-mod tests;

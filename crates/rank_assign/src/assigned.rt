@@ -15,7 +15,7 @@ use mds_types::{DualProof, Rank, RankSet};
 use std::alloc::{AllocError, Global};
 
 /// A placing that moves the fewest inodes.
-#[derive(Debug, Drop)]
+#[derive(Drop)]
 pub struct Assigned {
     /// The rank of each part.
     pub ranks: ArrayVec<Rank, 64>,

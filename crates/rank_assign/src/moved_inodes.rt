@@ -65,9 +65,8 @@ pub fn costs_by<R: Threads + Sync>(
 
 /// What each part of a problem moves at each of its ranks. `part[i]` is the part of row i.
 ///
-/// The rows are read once, in the calling thread: a problem has at most 65,536 rows, and up to there
-/// threads cost more than they bring, so that `costs_by` takes longer. The runtime is taken for the
-/// day when that changes.
+/// The rows are read once, in the calling thread. A problem has at most 65,536 rows, and up to there
+/// starting threads takes longer than that, so `costs_by` is slower at every size.
 pub fn costs<R: Threads>(
     _rt: &R,
     alloc: Global,

@@ -6,7 +6,7 @@ use std::marker::Model;
 
 /// What each of some parts moves at each rank of a set, in inodes. There are no more parts than ranks.
 /// To a contract it is the number of parts, the bit map of the ranks, and the cells.
-#[derive(Debug, Drop)]
+#[derive(Drop)]
 pub struct Costs {
     count: u32,
     ranks: RankSet,

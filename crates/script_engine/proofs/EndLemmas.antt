@@ -1,12 +1,14 @@
 -- How a run ends.
-use Rattle.std.proofs.Common.{◌≡◌, ◌≢◌, ℕ, Bool, true, false, not, ◌&&◌, List, [], ◌∷◌, ◌++◌, take, Option, Some, None, IfSome, sym, ap, subst, ◌∙◌, append_assoc, append-nil}
-use Rattle.std.specs.Io.KnownBytes.{Appends, Consumes, IsAtEnd}
-use Rattle.std.proofs.KnownBytes.{Appends-trans, Consumes-trans, Consumes-whole}
+use Rattle.std.proofs.Common.{◌≡◌, ◌≢◌, ◌≤◌, ℕ, Bool, true, false, not, ◌&&◌, List, [], ◌∷◌, ◌++◌, length, take, refl, Option, Some, None, IfSome, sym, ap, subst, ◌∙◌, append_assoc, append-nil}
+use Rattle.std.specs.Io.KnownBytes.{Appends, Consumes, IsAtEnd, Keeps}
+use Rattle.std.proofs.KnownBytes.{Appends-trans, Consumes-kept, Consumes-trans, Consumes-whole}
 use Rattle.std.specs.List.{AllByRecursion}
 use Rattle.script_engine.specs.Known.{AppendsFront}
 use Rattle.script_engine.specs.Lines.{lines_of, whole_lines, IsLine, ended}
 use Rattle.script_engine.specs.Answers.{Answer, Takes, Run, text_of, all_accepted}
 use Rattle.script_engine.specs.Progress.{Stands, Broken, Ends, Cut}
+use Rattle.script_engine.specs.Runs.{AcceptsUpTo, AnswersAll, AnswersSome, AnswersWhole, Gives}
+use Rattle.script_engine.specs.Devices.{Reading}
 use Rattle.script_engine.specs.declared.progress.Progress.{Progress}
 use Rattle.script_engine.proofs.LineLemmas.{lines_of_ended, lines_of_line, whole_lines_ended, no_whole_line}
 use Rattle.script_engine.proofs.KnownLemmas.{front_after}
@@ -22,12 +24,16 @@ lines_last bytes lines rest e all is some = ap lines_of e ∙ lines_of_ended lin
 lines_whole : (bytes : List ℕ) (lines : List (List ℕ)) (rest : List ℕ) → bytes ≡ ended lines ++ rest → AllByRecursion IsLine lines → IsLine rest → whole_lines bytes ≡ lines
 lines_whole bytes lines rest e all is = ap whole_lines e ∙ whole_lines_ended lines rest all ∙ ap (λ (ls : List (List ℕ)). lines ++ ls) (no_whole_line rest is) ∙ append-nil lines
 
--- a read at the end gives nothing
-pub read_none : (a b c : Option (List ℕ)) (bytes buffer : List ℕ) (n : ℕ) → Consumes a b bytes → Consumes b c (take n buffer) → n ≡ 0 → Consumes a c bytes
-read_none a b c bytes buffer n before now none =
-    subst (λ (t : List ℕ). Consumes a c t) (append-nil bytes) (Consumes-trans a b c bytes [] before (subst (λ (k : ℕ). Consumes b c (take k buffer)) none now))
+went_well : (s a : Bool) → s ≡ true → (s && not a) ≡ false → a ≡ true
+went_well true true is e = refl
+went_well true false is e = cc
+went_well false a is e = cc
 
-still_strict : (s : Bool) → s ≡ true → (s && not false) ≡ false → ⊥
+pub is_strict : (s a : Bool) → (s && not a) ≡ true → s ≡ true
+is_strict true a e = refl
+is_strict false a e = cc
+
+pub still_strict : (s : Bool) → s ≡ true → (s && not false) ≡ false → ⊥
 still_strict true is e = cc
 still_strict false is e = cc
 
@@ -72,14 +78,18 @@ module _ {S : Type 0} (answers : S → ℕ → List ℕ → Answer → S → Typ
     written = b.written;
   }
 
-  -- all input was read
-  pub done_at_end : (a b u v w : Option (List ℕ)) (bytes text more : List ℕ) (new : S) (accepted : Bool) → Ends answers strict start bytes text more new accepted → Consumes a b bytes → IsAtEnd b → Appends u v text → Appends v w more → IfSome a (λ input. (replies : List Answer) × Run answers strict start 1 (lines_of input) replies new × (accepted ≡ all_accepted replies) × Appends u w (text_of replies))
-  done_at_end a b u v w bytes text more new accepted e consumed over first second =
-      Consumes-whole a b bytes (λ input. (replies : List Answer) × Run answers strict start 1 (lines_of input) replies new × (accepted ≡ all_accepted replies) × Appends u w (text_of replies)) consumed over
+  -- all lines are answered at the end of the input
+  pub all_at_end : (u v w : Option (List ℕ)) (bytes text more : List ℕ) (new : S) (accepted : Bool) → Ends answers strict start bytes text more new accepted → Appends u v text → Appends v w more → AnswersAll answers strict start (lines_of bytes) new accepted u w
+  all_at_end u v w bytes text more new accepted e first second =
       (e.replies, e.run, e.good, subst (λ (t : List ℕ). Appends u w t) e.written (Appends-trans u v w text more first second))
 
+  -- all input was read
+  pub done_at_end : (a b u v w : Option (List ℕ)) (bytes text more : List ℕ) (new : S) (accepted : Bool) → Ends answers strict start bytes text more new accepted → Consumes a b bytes → IsAtEnd b → Appends u v text → Appends v w more → IfSome a (λ input. AnswersAll answers strict start (lines_of input) new accepted u w)
+  done_at_end a b u v w bytes text more new accepted e consumed over first second =
+      Consumes-whole a b bytes (λ input. AnswersAll answers strict start (lines_of input) new accepted u w) consumed over (all_at_end u v w bytes text more new accepted e first second)
+
   -- a strict run ends before all input was read
-  pub done_early : (a b u w : Option (List ℕ)) (bytes text : List ℕ) (now : S) (p : Progress) → Stands answers strict start bytes text now p → (strict && not p.accepted) ≡ true → p.accepted ≡ false → Consumes a b bytes → Appends u w text → IfSome a (λ input. (replies : List Answer) × Run answers strict start 1 (lines_of input) replies now × (false ≡ all_accepted replies) × Appends u w (text_of replies))
+  pub done_early : (a b u w : Option (List ℕ)) (bytes text : List ℕ) (now : S) (p : Progress) → Stands answers strict start bytes text now p → (strict && not p.accepted) ≡ true → p.accepted ≡ false → Consumes a b bytes → Appends u w text → IfSome a (λ input. AnswersAll answers strict start (lines_of input) now false u w)
   done_early None b u w bytes text now p s over bad consumed written = tt
   done_early (Some input) None u w bytes text now p s over bad consumed written = absurd consumed
   done_early (Some input) (Some left) u w bytes text now p s over bad consumed written =
@@ -90,30 +100,40 @@ module _ {S : Type 0} (answers : S → ℕ → List ℕ → Answer → S → Typ
         subst (λ (t : List ℕ). Appends u w t) s.written written,
       )
 
-  -- all bytes that came are answered, the reader's last of them
-  pub consumed_at_end : (a b u v w : Option (List ℕ)) (bytes text more : List ℕ) (new : S) (accepted : Bool) → Ends answers strict start bytes text more new accepted → Consumes a b bytes → IsAtEnd b → Appends u v text → Appends v w more → (bytes : List ℕ) × (replies : List Answer) × Consumes a b bytes × ((strict && not accepted) ≡ false → IsAtEnd b) × Run answers strict start 1 (lines_of bytes) replies new × (accepted ≡ all_accepted replies) × Appends u w (text_of replies)
-  consumed_at_end a b u v w bytes text more new accepted e consumed over first second =
-      (bytes, e.replies, consumed, λ going. over, e.run, e.good, subst (λ (t : List ℕ). Appends u w t) e.written (Appends-trans u v w text more first second))
-
-  -- all bytes that came are answered up to the line with which a strict run ends
-  pub consumed_early : (a b u w : Option (List ℕ)) (bytes text : List ℕ) (now : S) (p : Progress) → Stands answers strict start bytes text now p → strict ≡ true → (strict && not p.accepted) ≡ true → p.accepted ≡ false → Consumes a b bytes → Appends u w text → (bytes : List ℕ) × (replies : List Answer) × Consumes a b bytes × ((strict && not false) ≡ false → IsAtEnd b) × Run answers strict start 1 (lines_of bytes) replies now × (false ≡ all_accepted replies) × Appends u w (text_of replies)
-  consumed_early a b u w bytes text now p s is over bad consumed written =
+  -- all lines that came are answered up to the one with which a strict run ends
+  pub all_early : (u w : Option (List ℕ)) (bytes text : List ℕ) (now : S) (p : Progress) → Stands answers strict start bytes text now p → (strict && not p.accepted) ≡ true → p.accepted ≡ false → Appends u w text → AnswersAll answers strict start (lines_of bytes) now false u w
+  all_early u w bytes text now p s over bad written =
       let cut : lines_of bytes ≡ s.lines ++ lines_of s.rest = ap lines_of s.split ∙ lines_of_ended s.lines s.rest s.are_lines in (
-        bytes,
         s.replies,
-        consumed,
-        λ going. absurd (still_strict strict is going),
         subst (λ (ls : List (List ℕ)). Run answers strict start 1 ls s.replies now) (sym cut) (run_over answers strict start now 1 s.lines (lines_of s.rest) s.replies s.run (ap (λ (v : Bool). strict && not v) (sym s.good) ∙ over)),
         sym bad ∙ s.good,
         subst (λ (t : List ℕ). Appends u w t) s.written written,
       )
 
-  -- a read failed
-  pub read_fails : (a b u w : Option (List ℕ)) (bytes text : List ℕ) (now : S) (p : Progress) → Stands answers strict start bytes text now p → Consumes a b bytes → Appends u w text → (bytes : List ℕ) × (replies : List Answer) × Consumes a b bytes × Run answers strict start 1 (whole_lines bytes) replies now × Appends u w (text_of replies)
-  read_fails a b u w bytes text now p s consumed written =
-      (bytes, s.replies, consumed, subst (λ (ls : List (List ℕ)). Run answers strict start 1 ls s.replies now) (sym (lines_whole bytes s.lines s.rest s.split s.are_lines s.is_line)) s.run, subst (λ (t : List ℕ). Appends u w t) s.written written)
+  -- the lines that are whole are answered
+  pub whole_so_far : (u w : Option (List ℕ)) (bytes text : List ℕ) (now : S) (p : Progress) → Stands answers strict start bytes text now p → Appends u w text → AnswersWhole answers strict start bytes now u w
+  whole_so_far u w bytes text now p s written =
+      (s.replies, subst (λ (ls : List (List ℕ)). Run answers strict start 1 ls s.replies now) (sym (lines_whole bytes s.lines s.rest s.split s.are_lines s.is_line)) s.run, subst (λ (t : List ℕ). Appends u w t) s.written written)
+
+  -- all lines were accepted before the last piece came
+  pub stopped : (bytes last text : List ℕ) (now : S) (p : Progress) → Stands answers strict start bytes text now p → strict ≡ true → (strict && not p.accepted) ≡ false → length last ≤ 4096 → AcceptsUpTo answers strict start bytes last
+  stopped bytes last text now p s is going few =
+      (few, (s.replies, now, subst (λ (ls : List (List ℕ)). Run answers strict start 1 ls s.replies now) (sym (lines_whole bytes s.lines s.rest s.split s.are_lines s.is_line)) s.run, sym s.good ∙ went_well strict p.accepted is going))
 
   -- a write failed
-  pub write_fails : (a b u v w : Option (List ℕ)) (bytes text tail : List ℕ) → Cut answers strict start bytes text tail → Consumes a b bytes → Appends u v text → AppendsFront v w tail → (bytes : List ℕ) × (lines : List (List ℕ)) × (more : List (List ℕ)) × (replies : List Answer) × (last : S) × Consumes a b bytes × (lines_of bytes ≡ lines ++ more) × Run answers strict start 1 lines replies last × AppendsFront u w (text_of replies)
-  write_fails a b u v w bytes text tail c consumed first part =
-      (bytes, c.lines, c.unread, c.replies, c.now, consumed, c.split, c.run, subst (λ (t : List ℕ). AppendsFront u w t) c.written (front_after u v w text tail first part))
+  pub some_answered : (u v w : Option (List ℕ)) (bytes text tail : List ℕ) → Cut answers strict start bytes text tail → Appends u v text → AppendsFront v w tail → AnswersSome answers strict start bytes u w
+  some_answered u v w bytes text tail c first part =
+      (c.lines, c.unread, c.replies, c.now, c.split, c.run, subst (λ (t : List ℕ). AppendsFront u w t) c.written (front_after u v w text tail first part))
+
+-- the reader gave these bytes, and then nothing
+module _ {R : Type 0} (remaining : R → Option (List ℕ)) (a b c : Reading R) (bytes : List ℕ) where
+  pub gives_more : (more : List ℕ) → Gives remaining a b bytes → Gives remaining b c more → Gives remaining a c (bytes ++ more)
+  gives_more more before now =
+      (Consumes-trans (remaining a.reader) (remaining b.reader) (remaining c.reader) bytes more before.0 now.0, now.1 ∙ ap (λ (t : List ℕ). t ++ more) before.1 ∙ append_assoc a.given bytes more)
+
+  pub gives_none : Gives remaining a b bytes → Keeps (remaining b.reader) (remaining c.reader) → c.given ≡ b.given → Gives remaining a c bytes
+  gives_none before kept same = (Consumes-kept (remaining a.reader) (remaining b.reader) (remaining c.reader) bytes before.0 kept, same ∙ before.1)
+
+  pub gives_last : (buffer : List ℕ) (n : ℕ) → Gives remaining a b bytes → Gives remaining b c (take n buffer) → n ≡ 0 → Gives remaining a c bytes
+  gives_last buffer n before now none =
+      subst (λ (t : List ℕ). Gives remaining a c t) (append-nil bytes) (gives_more [] before (subst (λ (k : ℕ). Gives remaining b c (take k buffer)) none now))

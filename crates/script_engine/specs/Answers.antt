@@ -1,4 +1,6 @@
 -- What is written for the lines of a script, one after another.
+use Rattle.mds_types.specs.Refusal.{name}
+use Rattle.mds_types.specs.declared.refusal.Refusal.TheVariants.{Memory}
 use Rattle.std.specs.Prelude.{◌≡◌, ℕ, ◌+◌, Bool, true, false, not, ◌&&◌, MatchBool, List, [], ◌∷◌, ◌++◌, ◌⊎◌, codes, decimal, if◌then◌else◌}
 
 -- what is written for a line, whether the line was accepted, and whether memory sufficed for it
@@ -11,9 +13,9 @@ pub record Answer : Type 0 where
 abbrev pub fault_text : ℕ → List ℕ → List ℕ
 fault_text number why = codes "line " ++ decimal number ++ codes ": " ++ why ++ 10 ∷ []
 
--- the answer to a line whose bytes found no room
+-- the answer to a line whose bytes or fields found no room
 abbrev pub no_room : ℕ → Answer
-no_room number = record { text = fault_text number (codes "refused 0 Memory"); accepted = false; ample = false }
+no_room number = record { text = fault_text number (codes "refused " ++ name Memory); accepted = false; ample = false }
 
 abbrev pub text_of : List Answer → List ℕ
 text_of [] = []
@@ -29,7 +31,7 @@ all_ample [] = true
 all_ample (a ∷ more) = a.ample && all_ample more
 
 module _ {S : Type 0} (answers : S → ℕ → List ℕ → Answer → S → Type 0) where
-  -- The line with this number is answered as its command says, or refused since there was no room for it.
+  -- The line with this number is answered as its command says, or refused since there was no room for it, whatever it says.
   abbrev pub Takes : S → ℕ → List ℕ → Answer → S → Type 0
   Takes old number line a new = answers old number line a new ⊎ ((a ≡ no_room number) × (new ≡ old))
 

@@ -1,19 +1,21 @@
 //! Reads a script to its end, and has each line answered.
-ghost use Rattle.std.specs.Prelude.{◌≡◌, ℕ, ◌+◌, ◌^◌, ◌++◌, List, IfOk, IfSome, IsErrOf, false, not, ◌&&◌};
-ghost use Rattle.std.specs.Io.KnownBytes.{Appends, Consumes, IsAtEnd};
-ghost use Rattle.script_engine.specs.Known.{AppendsFront};
-ghost use Rattle.script_engine.specs.Answers.{Answer, Run, text_of, all_accepted};
-ghost use Rattle.script_engine.specs.Lines.{lines_of, whole_lines};
+ghost use Rattle.std.specs.Prelude.{◌≡◌, ℕ, ◌+◌, ◌^◌, ◌++◌, List, IfOk, IfSome, IsErrOf, true, false, not, ◌&&◌};
+ghost use Rattle.script_engine.specs.Lines.{lines_of};
+ghost use Rattle.script_engine.specs.Runs.{AcceptsUpTo, AnswersAll, AnswersSome, AnswersWhole, Gives, IsEnded};
 
+use crate::input::{Input, READ_LIMIT};
 use crate::interpreter::Interpreter;
 use crate::progress::Progress;
 use std::alloc::Global;
 use std::io::{Read, Write};
 use thiserror::Error;
 
-/// A device failed.
+/// Why a run ended before its script did.
 #[derive(Clone, Copy, Debug, PartialEq, Eq, Hash, Error)]
 pub enum RunError {
+    /// There was no memory to begin with. No device was touched.
+    #[error("no memory to begin with")]
+    Memory,
     /// A read failed, or reads came to no end.
     #[error("read failed")]
     Read,
@@ -22,44 +24,38 @@ pub enum RunError {
     Write,
 }
 
-/// How many reads a run makes at most. Where so many reads came to no end, the next counts as one that failed,
-/// and all bytes that came were carried out.
-pub const READ_LIMIT: u64 = 1 << 40;
-
 /// Reads a script to its end, and has each of its lines answered. Says whether each was accepted.
 ///
-/// A strict run ends after the first line that isn't accepted. What was read behind that line is lost.
+/// At most 2^40 reads are made. Where they came to no end, the next counts as one that failed, and all bytes that came
+/// were carried out. A strict run ends after the first line that isn't accepted. What was read behind that line is lost.
 /// An answer that is an `Err` of the reader or the writer ends the run, an interrupted call too.
 /// A line that finds no room in memory is answered `line L: refused 0 Memory`, and the run goes on.
 pub fn run_script<I: Interpreter, R: Read, W: Write>(
     alloc: Global,
     interpreter: &mut I,
-    reader: &mut R,
+    input: &mut Input<R>,
     writer: &mut W,
     strict: bool,
 ) -> Result<bool, RunError>
-    ensures done { IfOk result (λ accepted. IfSome (R.remaining reader.old) (λ input. (replies : List Answer)
-        × Run I.answers strict interpreter.old 1 (lines_of input) replies interpreter.new
-        × (accepted ≡ all_accepted replies)
-        × Appends (W.contents writer.old) (W.contents writer.new) (text_of replies))) }
-    // The same for the bytes that came, of a reader too that doesn't tell them beforehand.
-    ensures consumed { IfOk result (λ accepted. (bytes : List ℕ) × (replies : List Answer)
-        × Consumes (R.remaining reader.old) (R.remaining reader.new) bytes
-        × ((strict && not accepted) ≡ false → IsAtEnd (R.remaining reader.new))
-        × Run I.answers strict interpreter.old 1 (lines_of bytes) replies interpreter.new
-        × (accepted ≡ all_accepted replies)
-        × Appends (W.contents writer.old) (W.contents writer.new) (text_of replies)) }
+    requires ready { I.ready }
+    requires unread { input.old.reads ≡ 0 }
+    ensures done { IfOk result (λ accepted. IfSome (R.remaining input.old.reader) (λ all.
+        AnswersAll I.answers strict interpreter.old (lines_of all) interpreter.new accepted (W.contents writer.old) (W.contents writer.new))) }
+    // The same for the bytes that came, of any reader.
+    ensures given { IfOk result (λ accepted. (bytes : List ℕ) × Gives R.remaining input.old input.new bytes
+        × ((strict && not accepted) ≡ false → IsEnded R.remaining input.new)
+        × AnswersAll I.answers strict interpreter.old (lines_of bytes) interpreter.new accepted (W.contents writer.old) (W.contents writer.new)) }
+    // A strict run reads nothing behind the read in which its last line ends.
+    ensures stops { IfOk result (λ accepted. (strict && not accepted) ≡ true → (front : List ℕ) × (last : List ℕ)
+        × Gives R.remaining input.old input.new (front ++ last) × AcceptsUpTo I.answers strict interpreter.old front last) }
     // Where a read fails, the lines that were whole were answered.
-    ensures read { IsErrOf result RunError.Read → (bytes : List ℕ) × (replies : List Answer)
-        × Consumes (R.remaining reader.old) (R.remaining reader.new) bytes
-        × Run I.answers strict interpreter.old 1 (whole_lines bytes) replies interpreter.new
-        × Appends (W.contents writer.old) (W.contents writer.new) (text_of replies) }
+    ensures read { IsErrOf result RunError.Read → (bytes : List ℕ) × Gives R.remaining input.old input.new bytes
+        × AnswersWhole I.answers strict interpreter.old bytes interpreter.new (W.contents writer.old) (W.contents writer.new) }
     // Where a write fails, a beginning of what is due for the lines so far was written.
-    ensures write { IsErrOf result RunError.Write → (bytes : List ℕ) × (lines more : List (List ℕ)) × (replies : List Answer) × (last : I)
-        × Consumes (R.remaining reader.old) (R.remaining reader.new) bytes
-        × (lines_of bytes ≡ lines ++ more)
-        × Run I.answers strict interpreter.old 1 lines replies last
-        × AppendsFront (W.contents writer.old) (W.contents writer.new) (text_of replies) }
+    ensures write { IsErrOf result RunError.Write → (bytes : List ℕ) × Gives R.remaining input.old input.new bytes
+        × AnswersSome I.answers strict interpreter.old bytes (W.contents writer.old) (W.contents writer.new) }
+    // It takes no memory to begin.
+    ensures begun { IsErrOf result RunError.Memory → ⊥ }
 {
     let mut buffer = [0u8; 4096];
     let mut progress = Progress {
@@ -69,7 +65,7 @@ pub fn run_script<I: Interpreter, R: Read, W: Write>(
         accepted: true,
     };
     for _ in 0..READ_LIMIT {
-        let Ok(count) = reader.read(&mut buffer) else {
+        let Ok(count) = input.read(&mut buffer) else {
             return Err(RunError::Read);
         };
         if count == 0 {
@@ -88,6 +84,3 @@ pub fn run_script<I: Interpreter, R: Read, W: Write>(
     }
     Err(RunError::Read)
 }
-
-#[cfg(test)]
-mod tests;

@@ -5,11 +5,16 @@
 #![tactic(auto)]
 
 mod driver;
+mod input;
 mod interpreter;
 pub mod laws;
+mod output;
+pub mod past;
 mod progress;
 mod writes;
 
 pub use driver::{RunError, run_script};
+pub use input::{Input, ReadFailed};
 pub use interpreter::Interpreter;
-pub use writes::{WriteFailed, write_fault, write_whole};
+pub use output::Output;
+pub use writes::{WriteFailed, write_fault, write_refusal, write_whole};

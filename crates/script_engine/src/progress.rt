@@ -6,7 +6,8 @@ ghost use Rattle.script_engine.specs.Answers.{Answer, Takes};
 ghost use Rattle.script_engine.specs.Progress.{Holds, Stands, Broken, Ends, Cut};
 
 use crate::interpreter::Interpreter;
-use crate::writes::{WriteFailed, write_fault};
+use crate::writes::{WriteFailed, write_refusal};
+use mds_types::Refusal;
 use std::alloc::Global;
 use std::io::Write;
 
@@ -27,6 +28,7 @@ impl Progress {
         interpreter: &mut I,
         writer: &mut W,
     ) -> Result<bool, WriteFailed>
+        requires { I.ready }
         ensures ok { IfOk result (λ accepted. (line : List ℕ) → (self.now.has_room ≡ true → self.now.line.items ≡ line)
             → (a : Answer) × Takes I.answers interpreter.old self.now.number line a interpreter.new
             × (accepted ≡ a.accepted) × Appends (W.contents writer.old) (W.contents writer.new) a.text) }
@@ -37,7 +39,7 @@ impl Progress {
         if self.has_room {
             interpreter.answer(alloc, self.number, &self.line, writer)
         } else {
-            write_fault(writer, self.number, "refused 0 Memory")?;
+            write_refusal(writer, self.number, Refusal::Memory.text())?;
             Ok(false)
         }
     }
@@ -49,7 +51,8 @@ impl Progress {
         interpreter: &mut I,
         writer: &mut W,
     ) -> Result<(), WriteFailed>
-        requires { self.old.number + 1 < 2 ^ 64 }
+        requires ready { I.ready }
+        requires number { self.old.number + 1 < 2 ^ 64 }
         ensures ok { OnOk result ((line : List ℕ) → (self.old.has_room ≡ true → self.old.line.items ≡ line)
             → (a : Answer) × Takes I.answers interpreter.old self.old.number line a interpreter.new
             × (self.new.accepted ≡ (self.old.accepted && a.accepted))
@@ -93,7 +96,8 @@ impl Progress {
         strict: bool,
         byte: u8,
     ) -> Result<(), WriteFailed>
-        requires { self.old.number + 1 < 2 ^ 64 }
+        requires ready { I.ready }
+        requires number { self.old.number + 1 < 2 ^ 64 }
         ensures ok { OnOk result ((start : I) (bytes text : List ℕ) → Stands I.answers strict start bytes text interpreter.old self.old
             → (more : List ℕ) × Stands I.answers strict start (bytes ++ byte ∷ []) (text ++ more) interpreter.new self.new
             × Appends (W.contents writer.old) (W.contents writer.new) more) }
@@ -122,7 +126,8 @@ impl Progress {
         strict: bool,
         piece: &[u8],
     ) -> Result<(), WriteFailed>
-        requires { self.old.number + length piece.now < 2 ^ 64 }
+        requires ready { I.ready }
+        requires number { self.old.number + length piece.now < 2 ^ 64 }
         ensures ok { OnOk result ((start : I) (bytes text : List ℕ) → Stands I.answers strict start bytes text interpreter.old self.old
             → (more : List ℕ) × Stands I.answers strict start (bytes ++ piece.now) (text ++ more) interpreter.new self.new
             × Appends (W.contents writer.old) (W.contents writer.new) more) }
@@ -156,7 +161,8 @@ impl Progress {
         interpreter: &mut I,
         writer: &mut W,
     ) -> Result<bool, WriteFailed>
-        requires { self.old.number + 1 < 2 ^ 64 }
+        requires ready { I.ready }
+        requires number { self.old.number + 1 < 2 ^ 64 }
         ensures ok { IfOk result (λ accepted. (strict : Bool) (start : I) (bytes text : List ℕ) → (strict && not self.old.accepted) ≡ false
             → Stands I.answers strict start bytes text interpreter.old self.old
             → (more : List ℕ) × Ends I.answers strict start bytes text more interpreter.new accepted

@@ -4,6 +4,8 @@ pub mod MapLemmas
 pub mod MaskLemmas
 pub mod PlanLemmas
 pub mod ReportLemmas
+pub mod ScriptLemmas
 pub mod ServeLemmas
 pub mod SessionLemmas
 pub mod SlashLemmas
+pub mod VisibleLemmas

@@ -4,7 +4,7 @@ use Rattle.std.specs.Prelude.{◌≡◌, ℕ, ◌<◌, List, [], ◌∷◌, ◌+
 use Rattle.authority_map.specs.Operations.{Operation, SetTo, rank_after}
 use Rattle.dirtree.specs.Tree.{Directories, Entry, is_there, root}
 use Rattle.dir_pins.specs.Pins.{PinTable, no_pins}
-use Rattle.heat_decay.specs.Heat.{Heats}
+use Rattle.heat_decay.specs.Heat.{Heats, all_cold}
 use Rattle.script_session.specs.declared.load.Load.{Load}
 
 -- counted is the hits that were deposited, by directory; the mask is a bit map of ranks; published and pending are the
@@ -28,7 +28,7 @@ abbrev pub empty_board : ℕ → ℕ → BoardData
 empty_board limit active = record {
   directories = record { limit = limit; entries = Some root ∷ [] };
   pins = no_pins limit active;
-  heats = record { limit = limit; ticks = 0; heats = replicate limit 0 };
+  heats = all_cold limit 0;
   counted = replicate limit 0;
   mask = 0;
   loads = [];

@@ -1,5 +1,5 @@
 -- What each command does to a board.
-use Rattle.std.specs.Prelude.{ℕ, ℤ, ◌+◌, ◌-◌, min, if◌then◌else◌, ◌==◌, nat_lt, List, [], ◌∷◌, ◌++◌, map, filter, fold, length, slice_index, slice_index_or, slice_set, codes, Option, Some, None, Result, Ok, Err}
+use Rattle.std.specs.Prelude.{ℕ, ℤ, ◌+◌, ◌-◌, ◌^◌, min, if◌then◌else◌, ◌==◌, nat_lt, List, [], ◌∷◌, ◌++◌, map, filter, fold, length, slice_index, slice_index_or, slice_set, codes, Option, Some, None, Result, Ok, Err}
 use Rattle.authority_map.specs.Operations.{SetTo, Clear}
 use Rattle.dirtree.specs.declared.tree_error.TreeError.{TreeError}
 use Rattle.dirtree.specs.declared.tree_error.TreeError.TheVariants.{BadName}
@@ -7,9 +7,7 @@ use Rattle.dirtree.specs.Tree as tree
 use Rattle.dirtree.specs.Path as path
 use Rattle.dir_pins.specs.declared.pin_error.PinError.{PinError}
 use Rattle.dir_pins.specs.Pins as pins
-use Rattle.heat_decay.specs.Heat.{Heats, after_deposit, after_tick}
-use Rattle.heat_decay.specs.declared.heat.TheConstants.{TICK_LIMIT}
-use Rattle.heat_ledger.specs.declared.share.TheConstants.{HIT_LIMIT}
+use Rattle.heat_decay.specs.Heat.{Heats, after_deposit, after_tick, touched}
 use Rattle.mds_types.specs.Mask.{mask_bits}
 use Rattle.script_session.specs.declared.load.Load.{Load}
 use Rattle.script_session.specs.declared.fault.Fault.{Fault}
@@ -87,9 +85,9 @@ set_pin b text value = find b text >>= λ d. pin_allows (pins.pin_refusal b.pins
 abbrev pub load : BoardData → List ℕ → ℕ → Result BoardData Fault
 load b text hits = find b text >>= λ d. Ok (record b { loads = b.loads ++ record { dir = d; hits = hits } ∷ [] })
 
--- all heats are halved
+-- all heats are halved, at most 2^40 times
 abbrev pub tick : BoardData → Result BoardData Fault
-tick b = if nat_lt b.heats.ticks TICK_LIMIT then Ok (record b { heats = record b.heats { ticks = b.heats.ticks + 1; heats = map after_tick b.heats.heats } }) else Err fault.Ticks
+tick b = if nat_lt b.heats.ticks (2 ^ 40) then Ok (record b { heats = record b.heats { ticks = b.heats.ticks + 1; heats = map after_tick b.heats.heats } }) else Err fault.Ticks
 
 abbrev pub with_mask : BoardData → Option ℕ → Result BoardData Fault
 with_mask b None = Err fault.Mask
@@ -104,14 +102,14 @@ pub record Counts : Type 0 where
   pub counted : List ℕ
   pub refused : ℕ
 
--- how many hits of a request find room
+-- how many hits of a request find room, where a share takes 2^56 of a directory
 abbrev pub fitting : List ℕ → Load → ℕ
-fitting counted l = min l.hits (HIT_LIMIT - slice_index_or counted l.dir 0)
+fitting counted l = min l.hits (2 ^ 56 - slice_index_or counted l.dir 0)
 
 -- the hits of a request that find room heat its directory and are counted
 abbrev pub serve : Counts → Load → Counts
 serve c l = record {
-  heats = record c.heats { heats = slice_set c.heats.heats l.dir (after_deposit (slice_index c.heats.heats l.dir) (fitting c.counted l)) };
+  heats = touched c.heats l.dir (after_deposit (slice_index c.heats.heats l.dir) (fitting c.counted l));
   counted = slice_set c.counted l.dir (slice_index_or c.counted l.dir 0 + fitting c.counted l);
   refused = c.refused + (if fitting c.counted l == l.hits then 0 else 1);
 }

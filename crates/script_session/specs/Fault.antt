@@ -1,5 +1,8 @@
 -- Why a line is faulty, in the words that are printed.
-use Rattle.std.specs.Prelude.{◌≡◌, ℕ, List, ◌++◌, ◌⊎◌, Bool, true, false, codes, Result, Err}
+use Rattle.std.specs.Prelude.{◌≡◌, ℕ, List, ◌++◌, ◌⊎◌, Bool, true, false, codes, Result, Err, IsOk}
+use Rattle.mds_types.specs.Refusal.{name}
+use Rattle.mds_types.specs.declared.refusal.Refusal.{Refusal}
+use Rattle.mds_types.specs.declared.refusal.Refusal.TheVariants as refusal
 use Rattle.dirtree.specs.declared.tree_error.TreeError.{TreeError}
 use Rattle.dirtree.specs.declared.tree_error.TreeError.TheVariants as tree
 use Rattle.dirtree.specs.TreeError as tree_words
@@ -9,18 +12,21 @@ use Rattle.board_problem.specs.declared.open_error.OpenError.TheVariants as open
 use Rattle.script_session.specs.declared.fault.Fault.{Fault}
 use Rattle.script_session.specs.declared.fault.Fault.TheVariants.{Syntax, NoRanks, RanksAgain, Memory, Mask, Tree, Pin, ShareFull, Ticks, BalancerOff, Pinned}
 
+abbrev pub refused : Refusal → List ℕ
+refused r = codes "refused " ++ name r
+
 abbrev pub words : Fault → List ℕ
 words Syntax = codes "syntax"
 words NoRanks = codes "no ranks"
 words RanksAgain = codes "ranks again"
-words Memory = codes "refused 0 Memory"
-words Mask = codes "refused 1 BadMask"
+words Memory = refused refusal.Memory
+words Mask = refused refusal.BadMask
 words (Tree e) = codes "refused " ++ tree_words.words e
 words (Pin e) = codes "refused " ++ pin_words.words e
-words ShareFull = codes "refused 13 ShareFull"
-words Ticks = codes "refused 15 TicksFull"
-words BalancerOff = codes "refused 29 BalancerOff"
-words Pinned = codes "refused 35 Pinned"
+words ShareFull = refused refusal.ShareFull
+words Ticks = refused refusal.TicksFull
+words BalancerOff = refused refusal.BalancerOff
+words Pinned = refused refusal.Pinned
 
 -- want of memory is one fault, wherever it comes from
 abbrev pub tree_fault : TreeError → Fault
@@ -36,9 +42,13 @@ abbrev pub open_fault : OpenError → Fault
 open_fault opens.Memory = Memory
 open_fault opens.BalancerOff = BalancerOff
 
--- the fault is the one that is due, or want of memory
+-- the fault is the one that is due, or want of memory where none is
 abbrev pub IsDue : {A : Type 0} → Result A Fault → Fault → Type 0
-IsDue due fault = (due ≡ Err fault) ⊎ (fault ≡ Memory)
+IsDue due fault = (due ≡ Err fault) ⊎ ((fault ≡ Memory) × IsOk due)
+
+-- the same of a line, which may also have found no room for its fields, whatever it says
+abbrev pub IsDueOrNoRoom : {A : Type 0} → Result A Fault → Fault → Type 0
+IsDueOrNoRoom due fault = IsDue due fault ⊎ (fault ≡ Memory)
 
 abbrev pub is_memory : Fault → Bool
 is_memory Memory = true

@@ -5,5 +5,7 @@ pub mod Fault
 pub mod Plan
 pub mod Printed
 pub mod Reply
+pub mod Script
 pub mod Session
 pub mod Stat
+pub mod Visible

@@ -4,7 +4,7 @@ use Rattle.mds_types.specs.declared.cut_proof.CutProof.{CutProof}
 use Rattle.mds_types.specs.declared.cut_proof.CutProof.TheVariants.{Zero, Heavy, Table}
 use Rattle.mds_types.specs.declared.plan.Plan.{Plan}
 use Rattle.mds_types.specs.declared.problem.ProblemRow.{ProblemRow}
-use Rattle.mds_types.specs.Certificate.{IsBest}
+use Rattle.mds_types.specs.Certificate.{IsBest, IsCertified}
 use Rattle.mds_types.specs.RankSet.{has_rank}
 use Rattle.dirtree.specs.Path.{path_of}
 use Rattle.dir_pins.specs.Pins.{unpinned}
@@ -23,9 +23,10 @@ abbrev pub rows : BoardData → List ProblemRow
 rows b = problem_rows b.directories.entries b.pins.own b.heats.heats (replicate (length b.directories.entries) 0)
 
 -- no division into as many parts as ranks are usable has a smaller greatest heat, and no placing of the parts on usable
--- ranks moves fewer inodes
+-- ranks moves fewer inodes; the plan's proofs hold, of which the line on the plan names one
 abbrev pub IsBestFor : BoardData → Plan → Type 0
-IsBestFor b plan = (0 < usable b.pins.active b.mask) × (ranks : ℕ) × AreUsable b ranks × IsBest (record { rows = rows b; ranks = ranks }) plan
+IsBestFor b plan = (0 < usable b.pins.active b.mask) × (ranks : ℕ) × AreUsable b ranks
+    × IsBest (record { rows = rows b; ranks = ranks }) plan × IsCertified (record { rows = rows b; ranks = ranks }) plan
 
 abbrev pub proof_word : CutProof → List ℕ
 proof_word Zero = codes "zero"

@@ -1,5 +1,5 @@
 -- What a line of a script does, and what is written for it.
-use Rattle.std.specs.Prelude.{◌≡◌, ◌<◌, ℕ, ◌==◌, Bool, true, false, not, if◌then◌else◌, List, [], ◌++◌, length, take, ◌⊎◌, Option, Some, None, Result, Ok, Err}
+use Rattle.std.specs.Prelude.{◌≡◌, ◌<◌, ℕ, ◌==◌, Bool, true, false, not, if◌then◌else◌, List, [], ◌++◌, length, take, ◌⊎◌, Option, Some, None, Result, Ok, Err, IsOk}
 use Prim.Native.Nat.{zero, suc}
 use Rattle.std.specs.Option.{option_map}
 use Rattle.script_engine.specs.Answers.{Answer, fault_text}
@@ -131,12 +131,13 @@ cut_answer number lines = record { text = joined lines ++ fault_text number (wor
 abbrev pub IsTold : ℕ → Printed → SessionData → Answer → SessionData → Type 0
 IsTold number p mid a new = IsSettled number p mid a new ⊎ ((count : ℕ) × (count < length p.lines) × (a ≡ cut_answer number (take count p.lines)) × (new ≡ mid))
 
--- A line is answered so. Where the line is faulty, nothing has changed.
+-- A line is answered so: what it asks for is done; or a fault is due, and nothing has changed; or none is due, but memory
+-- was refused, and nothing has changed. (A line that finds no room for its bytes or its fields is beside these.)
 abbrev pub answers : SessionData → ℕ → List ℕ → Answer → SessionData → Type 0
 answers old number bytes a new =
     ((p : Printed) × (mid : SessionData) × IsDone old (line_outcome old bytes) (asked bytes) p mid × IsTold number p mid a new)
     ⊎ ((fault : Fault) × (line_outcome old bytes ≡ Err fault) × (a ≡ fault_answer number fault) × (new ≡ old))
-    ⊎ ((a ≡ out_of_memory number) × (new ≡ old))
+    ⊎ (IsOk (line_outcome old bytes) × (a ≡ out_of_memory number) × (new ≡ old))
 
 -- whether a line asks for a plan
 abbrev pub asks_plan : Asked → Bool

@@ -285,7 +285,7 @@ impl<J: Naming, M: Publisher<J>> Board<J, M> {
     /// Pins a directory, or takes its own pin away. It takes no memory.
     pub fn set_pin(&mut self, path: &str, pin: i32) -> Result<(), Fault>
         ensures done { OnOk result (set_pin self.old path.now pin ≡ Ok self.new) }
-        ensures fault { IfErr result (IsDue (set_pin self.old path.now pin)) }
+        ensures fault { IfErr result (λ fault. set_pin self.old path.now pin ≡ Err fault) }
         ensures unchanged { OnErr result (self.new ≡ self.old) }
     {
         let dir = self.find(path)?;

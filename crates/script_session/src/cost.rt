@@ -1,5 +1,5 @@
 //! The command `cost`: the heat and the inodes of each part of a division.
-ghost use Rattle.std.specs.Prelude.{◌≡◌, ◌<◌, ◌≤◌, ℕ, List, All, IfErr, IfOk, Ok, length, map, slice_index_or, string_bytes, true, false};
+ghost use Rattle.std.specs.Prelude.{◌≡◌, ◌<◌, ◌≤◌, ℕ, List, All, IfErr, IfOk, IsOk, OnOk, Ok, Err, length, map, slice_index_or, string_bytes, true, false};
 ghost use Rattle.dirtree.specs.Tree.{is_there};
 ghost use Rattle.division_cost.specs.Parts.{Marks};
 ghost use Rattle.script_session.specs.Cost.{AreThere, cost, cost_line, part_line, top, tops};
@@ -37,14 +37,29 @@ impl<J: Naming, M: Publisher<J>> Board<J, M> {
         }
     }
 
-    /// For each number, whether it is a top.
+    /// Whether each path names a top. The first that doesn't says why.
+    fn check_tops(&self, paths: &[&str]) -> Result<(), Fault>
+        ensures ok { OnOk result (IsOk (tops self.now (map (λ path. path.now) paths.now))) }
+        ensures fault { IfErr result (λ fault. tops self.now (map (λ path. path.now) paths.now) ≡ Err fault) }
+    {
+        for path in paths {
+            self.top(path)?;
+        }
+        Ok(())
+    }
+
+    /// For each number, whether it is a top. Memory is asked for first, and where it is refused, the paths are looked
+    /// at all the same.
     fn tops(&self, alloc: Global, paths: &[&str]) -> Result<Vec<bool>, Fault>
         ensures size { IfOk result (λ is_top. length is_top.items ≡ length self.now.directories.entries) }
         ensures some { IfOk result (λ is_top. 1 ≤ length is_top.items) }
         ensures tops { IfOk result (λ is_top. (ts : List ℕ) × (tops self.now (map (λ path. path.now) paths.now) ≡ Ok ts) × Marks is_top.items ts) }
         ensures fault { IfErr result (IsDue (tops self.now (map (λ path. path.now) paths.now))) }
     {
-        let mut is_top = vec![in alloc; false; self.numbers() as usize]?;
+        let Ok(mut is_top) = vec![in alloc; false; self.numbers() as usize] else {
+            self.check_tops(paths)?;
+            return Err(Fault::Memory);
+        };
         is_top[0] = true;
         for path in paths {
             let dir = self.top(path)?;

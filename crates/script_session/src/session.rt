@@ -3,8 +3,8 @@ ghost use Rattle.std.specs.Prelude.{◌≡◌, ◌<◌, ◌≤◌, ◌⊎◌, �
 ghost use Rattle.script_commands.specs.Commands.{Ranks, asked};
 ghost use Rattle.script_commands.specs.Commands as words;
 ghost use Rattle.script_session.specs.Session.{before_ranks};
-ghost use Rattle.script_commands.specs.View.{view};
-ghost use Rattle.script_session.specs.Fault.{IsDue};
+ghost use Rattle.script_commands.specs.View.{asked_view, view};
+ghost use Rattle.script_session.specs.Fault.{IsDue, IsDueOrNoRoom};
 
 use crate::board::Board;
 use crate::board_parts::BoardParts;
@@ -23,7 +23,8 @@ use std::mem;
 use std::thread::Threads;
 
 /// What a script has made so far: nothing, or a board once `ranks` was accepted. `J` names the board.
-/// It can't be dropped, only ended, as it has the writer of the board's map.
+/// The parts of a board are kept until there is one, so that a `ranks` that was refused can be tried again. A session
+/// can't be dropped, only ended, as it has the writer of the board's map.
 pub struct Session<'r, J: Naming, M: Publisher<J>, R: Threads> {
     rt: &'r R,
     limit: u32,
@@ -32,14 +33,15 @@ pub struct Session<'r, J: Naming, M: Publisher<J>, R: Threads> {
 }
 
 impl<'r, J: Naming, M: Publisher<J>, R: Threads> Model for Session<'r, J, M, R> {
-    ghost use Rattle.std.specs.Prelude.{◌≡◌, ◌≤◌};
+    ghost use Rattle.std.specs.Prelude.{◌≡◌, ◌≤◌, ◌||◌, is_some, true};
     ghost use Rattle.script_session.specs.Session.{SessionData};
 
     ghost Value = { SessionData };
 
     ghost view = { λ session. record { limit = session.limit; board = session.board } };
 
-    ghost invariant = { λ session. (session.limit ≡ J.limit) × (1 ≤ session.limit) × (session.limit ≤ 65536) };
+    ghost invariant = { λ session. (session.limit ≡ J.limit) × (1 ≤ session.limit) × (session.limit ≤ 65536)
+        × ((is_some session.board || is_some session.parts) ≡ true) };
 }
 
 // Fills a place that is empty.
@@ -54,16 +56,15 @@ fn fill<T>(place: &mut Option<T>, value: T)
 }
 
 impl<'r, J: Naming, M: Publisher<J>, R: Threads> Session<'r, J, M, R> {
-    ghost use Rattle.script_session.specs.Session.{beginning, line_outcome, held, outcome_at, published, IsDone, IsTold};
+    ghost use Rattle.script_session.specs.Session.{asked_outcome, beginning, line_outcome, held, outcome_at, published, IsDone, IsTold};
     ghost use Rattle.script_session.specs.Printed.{joined, only_lines};
     ghost use Rattle.script_session.specs.Reply.{IsShowable, shown};
     ghost use Rattle.script_engine.specs.Answers.{Answer};
     ghost use Rattle.script_engine.specs.Known.{AppendsFront};
     ghost use Rattle.std.specs.Io.KnownBytes.{Appends};
 
-    /// The session at the beginning of a script. Its tree is to give at most `limit` numbers. Where no parts of a
-    /// board could be opened, for want of memory, `ranks` will be refused.
-    pub fn new(rt: &'r R, limit: u32, parts: Option<BoardParts<J, M>>) -> Session<'r, J, M, R>
+    /// The session at the beginning of a script. Its tree is to give at most `limit` numbers.
+    pub fn new(rt: &'r R, limit: u32, parts: BoardParts<J, M>) -> Session<'r, J, M, R>
         requires limit { limit ≡ J.limit }
         requires some { 1 ≤ limit }
         requires few { limit ≤ 65536 }
@@ -72,7 +73,7 @@ impl<'r, J: Naming, M: Publisher<J>, R: Threads> Session<'r, J, M, R> {
         Session {
             rt,
             limit,
-            parts,
+            parts: Some(parts),
             board: None,
         }
     }
@@ -93,7 +94,7 @@ impl<'r, J: Naming, M: Publisher<J>, R: Threads> Session<'r, J, M, R> {
         }
     }
 
-    /// Makes the board.
+    /// Makes the board. Where memory is refused, its parts are kept.
     fn begin(&mut self, alloc: Global, active: RankCount) -> Result<Reply, Fault>
         requires { self.old.board ≡ None }
         ensures done { IfOk result (λ reply. (reply ≡ Reply.Nothing) × (held self.old (before_ranks self.old.limit (Ranks active.number)) ≡ Ok (only_lines [], self.new))) }
@@ -101,7 +102,7 @@ impl<'r, J: Naming, M: Publisher<J>, R: Threads> Session<'r, J, M, R> {
         ensures unchanged { OnErr result (self.new ≡ self.old) }
     {
         let Some(parts) = self.parts.take() else {
-            return Err(Fault::Memory);
+            unreachable!()
         };
         match Board::new(alloc, parts, self.limit, active.number) {
             Ok(board) => {
@@ -131,18 +132,30 @@ impl<'r, J: Naming, M: Publisher<J>, R: Threads> Session<'r, J, M, R> {
         }
     }
 
-    /// Reads a line and carries out what it asks for. The reply is what it prints.
-    pub fn take_line(&mut self, alloc: Global, line: &[u8]) -> Result<Reply, Fault>
-        ensures done { IfOk result (λ reply. IsDone self.old (line_outcome self.old line.now) (asked line.now) (shown self.new.board reply) self.new) }
+    /// Carries out what a line asks for. The reply is what it prints.
+    pub fn carry_asked(&mut self, alloc: Global, what: Asked<'_>) -> Result<Reply, Fault>
+        ensures done { IfOk result (λ reply. IsDone self.old (asked_outcome self.old (asked_view what.entry)) (asked_view what.entry) (shown self.new.board reply) self.new) }
         ensures showable { IfOk result (IsShowable self.new.board) }
-        ensures fault { IfErr result (IsDue (line_outcome self.old line.now)) }
+        ensures fault { IfErr result (IsDue (asked_outcome self.old (asked_view what.entry))) }
         ensures unchanged { OnErr result (self.new ≡ self.old) }
     {
-        match read_line(alloc, line)? {
+        match what {
             Asked::Nothing => Ok(Reply::Nothing),
             Asked::Syntax => Err(Fault::Syntax),
             Asked::Asks(command) => self.carry_out(alloc, command),
         }
+    }
+
+    /// Reads a line and carries out what it asks for. The reply is what it prints. Where the line's fields find no room,
+    /// it is refused whatever it says.
+    pub fn take_line(&mut self, alloc: Global, line: &[u8]) -> Result<Reply, Fault>
+        ensures done { IfOk result (λ reply. IsDone self.old (line_outcome self.old line.now) (asked line.now) (shown self.new.board reply) self.new) }
+        ensures showable { IfOk result (IsShowable self.new.board) }
+        ensures fault { IfErr result (IsDueOrNoRoom (line_outcome self.old line.now)) }
+        ensures unchanged { OnErr result (self.new ≡ self.old) }
+    {
+        let what = read_line(alloc, line)?;
+        self.carry_asked(alloc, what)
     }
 
     // Publishes the map, if there is a board and memory suffices.
@@ -206,6 +219,8 @@ impl<'r, J: Naming, M: Publisher<J>, R: Threads> Interpreter for Session<'r, J, 
     ghost use Rattle.script_session.specs.Session.{answers};
 
     ghost answers = { answers };
+
+    ghost ready = { Unit {0} };
 
     fn answer<W: Write>(
         &mut self,

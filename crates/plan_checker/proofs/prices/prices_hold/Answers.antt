@@ -1,7 +1,6 @@
 use Rattle.std.proofs.Common.{◌≡◌, ◌∙◌, ◌↔◌, ap, sym, ℕ, pos, true, false, length, slice_index, slice_index_or, arith, rules, w64, FitsSigned, below_more, refl, IsTrue}
 use Rattle.std.proofs.lemmas.Bool.{false≢true}
 use Rattle.std.proofs.lemmas.Int.{to_z-of_z}
-use Rattle.std.proofs.lemmas.List.{get_or_default}
 use Rattle.mds_types.specs.RankSet.{has_rank, rank_count}
 use Rattle.mds_types.specs.Certificate.{part_price_at, rank_price_at}
 use Rattle.plan_checker.specs.Prices.{RankPriceHolds, dual_of}

@@ -1,5 +1,5 @@
 use Rattle.std.proofs.Common.{◌≡◌, ap, sym, ◌∙◌, refl, subst, inl, rules, arith, length, replicate}
-use Rattle.mds_types.specs.Certificate.{IsBest}
+use Rattle.mds_types.specs.Certificate.{IsBest, IsCertified}
 use Rattle.mds_types.specs.Problem.{ProblemData}
 use Rattle.script_session.specs.Board.{BoardData}
 use Rattle.script_session.specs.Plan.{rows}
@@ -21,4 +21,5 @@ returns-clause-best g c =
     let now : c.deref.result.now ≡ replicate c.numbers.result c.default.result = c.deref.ensures.value ∙ c.in_ok-now.ensures.items_if_clones_equal (λ y e. e) in
     let same : c.in_ok-problem.field-0.problem ≡ record { rows = rows was; ranks = c.usable_ranks-ranks.result } = problem_is was c.deref.result.now c.numbers.result c.default.result c.usable_ranks-ranks.result c.in_ok-problem.field-0.problem count first now c.in_ok-problem.ensures.problem in
     let best : IsBest (record { rows = rows c.args.self.now; ranks = c.usable_ranks-ranks.result }) c.in_ok-plan.plan = subst (λ (p : ProblemData). IsBest p c.in_ok-plan.plan) (same ∙ ap (λ (b : BoardData). record { rows = rows b; ranks = c.usable_ranks-ranks.result }) c.self.view_is) c.in_ok-plan.ensures.best in
-    (omega (arith, some), c.usable_ranks-ranks.result, c.usable_ranks-ranks.ensures.ranks, best)
+    let certified : IsCertified (record { rows = rows c.args.self.now; ranks = c.usable_ranks-ranks.result }) c.in_ok-plan.plan = subst (λ (p : ProblemData). IsCertified p c.in_ok-plan.plan) (same ∙ ap (λ (b : BoardData). record { rows = rows b; ranks = c.usable_ranks-ranks.result }) c.self.view_is) c.in_ok-plan.ensures.certified in
+    (omega (arith, some), c.usable_ranks-ranks.result, c.usable_ranks-ranks.ensures.ranks, best, certified)

@@ -7,9 +7,9 @@ use Rattle.script_session.proofs.board.Board.tops.Goals as goal
 
 pub loop-path-init : goal.loop-path-init
 loop-path-init g c =
-    let items : List Bool = c.in_ok-is_top.is_top.items in
-    let none : (d : ℕ) → get_or items d false ≡ false = λ d. rw (c.in_ok-is_top.ensures.items_if_clones_equal (λ y e. e)) (all_false c.numbers.result d) in
-    let count : length items ≡ c.numbers.result = omega (arith, c.in_ok-is_top.ensures.len, c.in_ok-is_top.is_top.ok.0) in
+    let items : List Bool = c.in-Ok.is_top.items in
+    let none : (d : ℕ) → get_or items d false ≡ false = λ d. rw (c.in-Ok.ensures.items_if_clones_equal (λ y e. e)) (all_false c.numbers.result d) in
+    let count : length items ≡ c.numbers.result = omega (arith, c.in-Ok.ensures.len, c.in-Ok.is_top.ok.0) in
     let some : 0 < length items = omega (arith, count, c.numbers.ensures.some) in
     record {
       size = simp length-set (count ∙ c.numbers.ensures.count);

@@ -1,0 +1,197 @@
+//! Random boards and plans, read by a plain slow program too.
+
+ghost use Rattle.std.specs.Prelude.{◌≡◌, ◌≤◌, IfOk, length};
+
+use arrayvec::ArrayVec;
+use board_problem::{PlanPart, open, parts};
+use dir_pins::Pins;
+use dirtree::Tree;
+use exhaustive::Random;
+use heat_decay::Heat;
+use mds_types::{CutProof, Dir, DualProof, Plan, ProblemRow, Rank, RankSet};
+use std::alloc::Global;
+use std::test::Fail;
+
+const DIRS: u32 = 24;
+
+/// Some of the directories are removed again.
+fn random_tree(alloc: Global, random: &mut Random) -> Result<Tree, Fail>
+    ensures { IfOk result (λ tree. tree.limit ≡ 24) }
+{
+    let mut tree = Tree::new(alloc, DIRS)?;
+    for change in 0..40 {
+        let dir = Dir::new(random.below(u64::from(tree.numbers())) as u32);
+        if random.below(5) == 0 {
+            let _refused = tree.remove(dir);
+        } else {
+            let name = format!(in alloc; "d{change}")?;
+            let _refused = tree.make(alloc, dir, name.as_str(), random.below(100) as u32);
+        }
+    }
+    Ok(tree)
+}
+
+fn random_pins(alloc: Global, random: &mut Random, tree: &Tree) -> Result<Pins, Fail>
+    requires { tree.now.limit ≡ 24 }
+    ensures { IfOk result (λ pins. length pins.own ≡ 24) }
+{
+    let mut pins = Pins::new(alloc, DIRS, 4)?;
+    for number in 0..DIRS {
+        let pin = random.below(24) as i32 - 1;
+        let _refused = pins.set(tree, Dir::new(number), pin);
+    }
+    Ok(pins)
+}
+
+fn random_heat(alloc: Global, random: &mut Random) -> Result<Heat, Fail>
+    ensures { IfOk result (λ heat. heat.limit ≡ 24) }
+{
+    let mut heat = Heat::new(alloc, DIRS)?;
+    for number in 0..DIRS {
+        heat.add(Dir::new(number), random.below(1000));
+    }
+    Ok(heat)
+}
+
+fn random_ranks(alloc: Global, random: &mut Random) -> Result<Vec<Rank>, Fail> {
+    let mut ranks = Vec::new(alloc);
+    for _ in 0..DIRS {
+        ranks.push(Rank::new(random.below(4) as u8).unwrap_or_default())?;
+    }
+    Ok(ranks)
+}
+
+/// Each row but a few has its parent's label.
+fn random_plan(alloc: Global, random: &mut Random, rows: &[ProblemRow]) -> Result<Plan, Fail> {
+    let mut part: Vec<u32> = Vec::new(alloc);
+    let mut labels = 1;
+    for row in rows {
+        let above = part.get(row.parent as usize).copied().unwrap_or(0);
+        let is_cut = labels < 4 && random.below(4) == 0;
+        part.push(if is_cut { labels } else { above })?;
+        if is_cut {
+            labels += 1;
+        }
+    }
+    let mut rank = ArrayVec::new();
+    for number in [2, 0, 3, 1] {
+        let _full = rank.try_push(Rank::new(number).unwrap_or_default());
+    }
+    Ok(Plan {
+        part,
+        rank,
+        greatest: 0,
+        moved: 0,
+        cut: CutProof::Zero,
+        dual: DualProof {
+            part_price: Vec::new(alloc),
+            rank_price: Vec::new(alloc),
+        },
+    })
+}
+
+/// The directories that no pin holds, by a walk for each.
+fn slow_dirs(alloc: Global, tree: &Tree, pins: &Pins) -> Result<Vec<Dir>, Fail>
+    requires { tree.now.limit ≤ length pins.now.own }
+{
+    let mut dirs = Vec::new(alloc);
+    for number in 0..DIRS {
+        let dir = Dir::new(number);
+        if matches!(&pins.pin_of(tree, dir), Ok(None)) {
+            dirs.push(dir)?;
+        }
+    }
+    Ok(dirs)
+}
+
+/// Their rows, by a scan for each parent.
+fn slow_rows(
+    alloc: Global,
+    tree: &Tree,
+    heat: &Heat,
+    now: &[Rank],
+    dirs: &[Dir],
+) -> Result<Vec<ProblemRow>, Fail>
+    requires { tree.now.limit ≤ heat.now.limit }
+{
+    let mut rows = Vec::new(alloc);
+    for &dir in dirs {
+        let Some(row) = tree.row(dir) else {
+            return Err("no directory")?;
+        };
+        let parent = dirs
+            .iter()
+            .position(|&other| other == row.parent)
+            .ok_or("no row")?;
+        rows.push(ProblemRow {
+            parent: u32::try_from(parent)?,
+            heat: heat.heat(dir),
+            inodes: row.inodes,
+            now: now.get(dir.number() as usize).copied().unwrap_or_default(),
+        })?;
+    }
+    Ok(rows)
+}
+
+/// The parts of a plan, by a scan for each row: a top is the first row of its label.
+fn slow_parts(
+    alloc: Global,
+    rows: &[ProblemRow],
+    dirs: &[Dir],
+    plan: &Plan,
+) -> Result<Vec<PlanPart>, Fail> {
+    let mut found = Vec::new(alloc);
+    for (i, label) in plan.part.iter().enumerate() {
+        if plan.part.iter().position(|other| other == label) == Some(i) {
+            let mut heat: u64 = 0;
+            let mut inodes: u64 = 0;
+            for (row, other) in rows.iter().zip(&plan.part) {
+                if other == label {
+                    heat = heat.wrapping_add(row.heat);
+                    inodes = inodes.wrapping_add(u64::from(row.inodes));
+                }
+            }
+            found.push(PlanPart {
+                top: dirs.get(i).copied().ok_or("no directory")?,
+                rank: plan.rank.get(*label as usize).copied().ok_or("no rank")?,
+                heat,
+                inodes,
+            })?;
+        }
+    }
+    Ok(found)
+}
+
+#[test]
+fn a_slow_program_reads_the_same(rt: HostRuntime) -> Result<(), Fail> {
+    let alloc = rt.alloc();
+    let mut random = Random::new(17);
+    let mut most = 0;
+    for round in 0..60 {
+        let tree = random_tree(alloc, &mut random)?;
+        let pins = random_pins(alloc, &mut random, &tree)?;
+        let heat = random_heat(alloc, &mut random)?;
+        let now = random_ranks(alloc, &mut random)?;
+        assert!(rt; now.len() == 24);
+        let opened = open(alloc, &tree, &pins, &heat, &now, RankSet::from_bits(15))?;
+        let dirs = slow_dirs(alloc, &tree, &pins)?;
+        let rows = slow_rows(alloc, &tree, &heat, &now, &dirs)?;
+        assert_eq!(rt; opened.dirs, dirs, "round {round}");
+        assert_eq!(rt; opened.problem.rows(), rows.as_slice(), "round {round}");
+
+        let plan = random_plan(alloc, &mut random, &rows)?;
+        assert!(rt; plan.rank.len() == 4);
+        assert!(rt; plan.part.len() == opened.problem.rows().len());
+        assert!(rt; opened.dirs.len() == plan.part.len());
+        assert!(rt; plan.part.iter().all(|&label| label < 4));
+        let found = parts(alloc, &opened.problem, &opened.dirs, &plan)?;
+        assert_eq!(rt;
+            found,
+            slow_parts(alloc, &rows, &dirs, &plan)?,
+            "round {round}"
+        );
+        most = found.len().max(most);
+    }
+    assert_eq!(rt; most, 4);
+    Ok(())
+}

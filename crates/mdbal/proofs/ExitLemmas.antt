@@ -1,0 +1,18 @@
+-- How a run ended before its script did.
+use Rattle.std.proofs.Common.{◌≡◌, ℕ, Bool, List, Option, Result, Err, inl, inr}
+use Rattle.script_engine.specs.Devices.{Reading}
+use Rattle.script_engine.specs.Runs.{Gives}
+use Rattle.script_engine.specs.declared.driver.RunError.{RunError}
+use Rattle.script_engine.specs.declared.driver.RunError.TheVariants.{Memory, Read, Write}
+use Rattle.script_session.specs.Script.{SomeAnswered, WholeAnswered}
+use Rattle.mdbal.specs.Exit.{IsRun, status_of}
+
+pub broken_off : {R : Type 0} (remaining : R → Option (List ℕ)) (limit : ℕ) (strict : Bool) (old new : Reading R) (before after : Option (List ℕ)) (f : RunError) (r : Result Bool RunError) (status : ℕ)
+    → r ≡ Err f → status ≡ status_of f
+    → (r ≡ Err Read → (bytes : List ℕ) × Gives remaining old new bytes × WholeAnswered limit strict bytes before after)
+    → (r ≡ Err Write → (bytes : List ℕ) × Gives remaining old new bytes × SomeAnswered limit strict bytes before after)
+    → (r ≡ Err Memory → (new ≡ old) × (after ≡ before))
+    → IsRun remaining limit strict old new before after status
+broken_off remaining limit strict old new before after Memory r status is says read write memory = let same = memory is in inr (inr (inr (says, same.0, same.1)))
+broken_off remaining limit strict old new before after Read r status is says read write memory = let whole = read is in inr (inr (inl (says, (whole.0, whole.1, inl whole.2))))
+broken_off remaining limit strict old new before after Write r status is says read write memory = let some = write is in inr (inr (inl (says, (some.0, some.1, inr some.2))))

@@ -1,0 +1,88 @@
+//! The program over any devices: from the words of its command line to its exit status.
+ghost use Rattle.std.specs.Prelude.{◌≡◌, ◌≤◌, ◌⊎◌, ⊤, map};
+ghost use Rattle.clap.specs.Words.{IsAmong, fault_of};
+ghost use Rattle.command_line.specs.CommandLine.{mdbal};
+ghost use Rattle.command_line.specs.Outcome.{status_of as options_status};
+ghost use Rattle.script_engine.specs.Known.{AppendsFront};
+ghost use Rattle.mdbal.specs.Exit.{IsExit, IsRun, message, status_of};
+
+use command_line::{OptionsError, Settings, options};
+use script_engine::{Input, RunError, write_whole};
+use script_session::run;
+use std::alloc::Global;
+use std::convert::AsStr;
+use std::io::{Read, Write};
+use std::sync::Wait;
+use std::thread::Threads;
+
+/// Carries out a script as the words of a command line ask, of which the first is the program's name. Gives the exit status.
+///
+/// It is 0 where every line was accepted, 1 where one was not, 2 where the command line is refused or there is no memory
+/// to begin with, and 3 where a device failed. The help and the version end with 0.
+pub fn start<T: Threads + Wait, S: AsStr, R: Read, W: Write, E: Write>(
+    rt: &T,
+    alloc: Global,
+    words: &[S],
+    input: &mut Input<R>,
+    writer: &mut W,
+    errors: &mut E,
+) -> u8
+    requires unread { input.old.reads ≡ 0 }
+    ensures { IsExit R.remaining (map S.text words.now) input.old input.new (W.contents writer.old) (W.contents writer.new) result }
+{
+    match options(alloc, words) {
+        Ok(settings) => carry_out(rt, alloc, settings, input, writer, errors),
+        Err(error) => explain(&error, writer, errors),
+    }
+}
+
+// Carries out a script with these settings.
+fn carry_out<T: Threads + Wait, R: Read, W: Write, E: Write>(
+    rt: &T,
+    alloc: Global,
+    settings: Settings,
+    input: &mut Input<R>,
+    writer: &mut W,
+    errors: &mut E,
+) -> u8
+    requires some { 1 ≤ settings.limit }
+    requires few { settings.limit ≤ 65536 }
+    requires unread { input.old.reads ≡ 0 }
+    ensures { IsRun R.remaining settings.limit settings.strict input.old input.new (W.contents writer.old) (W.contents writer.new) result }
+{
+    match run(rt, alloc, input, writer, settings.limit, settings.strict) {
+        Ok(true) => 0,
+        Ok(false) => 1,
+        Err(failure) => fail(failure, errors),
+    }
+}
+
+// Says why a run ended before its script did, and gives the status for that.
+fn fail<E: Write>(failure: RunError, errors: &mut E) -> u8
+    ensures status { result ≡ status_of failure }
+    ensures text { AppendsFront (E.contents errors.old) (E.contents errors.new) (message failure) }
+{
+    let (status, message) = match failure {
+        RunError::Memory => (2, b"mdbal: 0 Memory\n".as_slice()),
+        RunError::Read => (3, b"mdbal: read failed\n".as_slice()),
+        RunError::Write => (3, b"mdbal: write failed\n".as_slice()),
+    };
+    let _ = write_whole(errors, message);
+    status
+}
+
+// Writes why a command line gives no settings, the help and the version to the writer, all else to the errors.
+fn explain<W: Write, E: Write>(error: &OptionsError, writer: &mut W, errors: &mut E) -> u8
+    ensures { result ≡ options_status error.now }
+{
+    let status = error.status();
+    let _ = if status == 0 {
+        write!(writer, "{error}")
+    } else {
+        write!(errors, "{error}")
+    };
+    status
+}
+
+#[cfg(test)]
+mod tests;

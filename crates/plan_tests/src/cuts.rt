@@ -1,0 +1,204 @@
+//! Cuts within a bound, small ones against trial of all divisions.
+//!
+//! Each call that takes memory is made again where a growth was refused, so the tests hold with any one
+//! growth refused.
+ghost use Rattle.std.specs.Prelude.{◌<◌, ◌≤◌, ◌-◌, ◌^◌, length};
+
+use crate::given::{at_last, hot_rows, over};
+use exhaustive::{Random, fewest_parts};
+use mds_types::{Problem, ProblemRow, Rank, Row};
+use residual_cut::{Cut, CutError, cut_at};
+use std::alloc::{AllocError, Global};
+use std::test::Fail;
+
+/// What a cut is in the end.
+fn cut_again(
+    problem: &Problem,
+    alloc: Global,
+    bound: u64,
+    passes: &mut u32,
+) -> Result<Cut, CutError>
+    requires { passes.old < 2 ^ 32 - 1 }
+{
+    match cut_at(problem, alloc, bound, passes) {
+        Err(CutError::Memory) => cut_at(problem, alloc, bound, passes),
+        answer => answer,
+    }
+}
+
+/// The cut of these rows, and how many passes were counted.
+fn counted_cut(alloc: Global, rows: Vec<ProblemRow>, bound: u64) -> Result<(Cut, u32), Fail> {
+    let problem = over(rows, 1)?;
+    let mut passes = 7;
+    let cut = cut_again(&problem, alloc, bound, &mut passes)?;
+    Ok((cut, passes))
+}
+
+fn cut_of(alloc: Global, rows: &[(u32, u64)], bound: u64) -> Result<Cut, Fail> {
+    let rows = hot_rows(alloc, rows)?;
+    Ok(counted_cut(alloc, rows, bound)?.0)
+}
+
+/// Why these rows have no cut.
+fn no_cut(alloc: Global, rows: Vec<ProblemRow>, bound: u64) -> Result<(CutError, u32), Fail> {
+    let problem = over(rows, 1)?;
+    let mut passes = 7;
+    match cut_again(&problem, alloc, bound, &mut passes) {
+        Ok(_) => Err("a cut")?,
+        Err(error) => Ok((error, passes)),
+    }
+}
+
+const STAR: [(u32, u64); 4] = [(0, 2), (0, 5), (0, 4), (0, 3)];
+
+#[test]
+fn cuts_the_hottest_pieces(rt: HostRuntime) -> Result<(), Fail> {
+    let cut = cut_of(rt.alloc(), &STAR, 7)?;
+    assert_eq!(rt; cut.count, 3);
+    assert_eq!(rt; cut.part.as_slice(), [0, 1, 2, 0].as_slice());
+    let root = Row {
+        cuts: 2,
+        rest: 5,
+        price: 4,
+        cut: false,
+    };
+    assert_eq!(rt; cut.rows.first(), Some(&root));
+    Ok(())
+}
+
+#[test]
+fn refuses_the_least_heavy_row(rt: HostRuntime) -> Result<(), Fail> {
+    let (error, passes) = no_cut(rt.alloc(), hot_rows(rt.alloc(), &STAR)?, 4)?;
+    assert_eq!(rt; error, CutError::Heavy(1));
+    assert_eq!(rt; passes, 8);
+    let text = at_last(|| error.to_string(rt.alloc()))?;
+    assert_eq!(rt; text.as_str(), "16 Heavy 1");
+    let text = at_last(|| CutError::Memory.to_string(rt.alloc()))?;
+    assert_eq!(rt; text.as_str(), "0 Memory");
+    Ok(())
+}
+
+#[test]
+fn cuts_the_smaller_row_among_equals(rt: HostRuntime) -> Result<(), Fail> {
+    let rows = [(0, 1), (0, 3), (0, 5), (0, 5), (0, 4)];
+    let one = cut_of(rt.alloc(), &rows, 13)?;
+    assert_eq!(rt; one.part.as_slice(), [0, 0, 1, 0, 0].as_slice());
+    let two = cut_of(rt.alloc(), &rows, 8)?;
+    assert_eq!(rt; two.part.as_slice(), [0, 0, 1, 2, 0].as_slice());
+    Ok(())
+}
+
+/// 300 rows below a cold root. The first one's heat, and what each has more or less than the one before.
+fn wide_rows(alloc: Global, first: u64, more: u64, less: u64) -> Result<Vec<ProblemRow>, Fail> {
+    let mut star = at_last(|| Vec::with_capacity(alloc, 301))?;
+    let mut heat: u64 = first;
+    star.push((0, 0))?;
+    for _ in 0..300u32 {
+        star.push((0, heat))?;
+        heat = heat.saturating_add(more).saturating_sub(less);
+    }
+    Ok(hot_rows(alloc, &star)?)
+}
+
+/// Whether just the rows from `low` to `high` are parts of their own.
+fn are_cut(part: &[u32], low: u32, high: u32) -> bool {
+    for row in 0..301u32 {
+        let is_cut = low <= row && row <= high;
+        let expected = if is_cut {
+            row.saturating_sub(low) + 1
+        } else {
+            0
+        };
+        if part.get(row as usize).copied() != Some(expected) {
+            return false;
+        }
+    }
+    true
+}
+
+#[test]
+fn cuts_many_children_of_one_row(rt: HostRuntime) -> Result<(), Fail> {
+    // (the first one's heat, what each has more, or less, the bound, the first and the last that is cut)
+    for (first, more, less, bound, low, high) in [
+        (1, 1, 0, 20000, 200, 300),
+        (300, 0, 1, 20000, 1, 101),
+        (10, 0, 0, 1000, 1, 200),
+    ] {
+        let rows = wide_rows(rt.alloc(), first, more, less)?;
+        let (cut, _) = counted_cut(rt.alloc(), rows, bound)?;
+        assert!(rt;
+            are_cut(&cut.part, low, high),
+            "{low} to {high} within {bound}"
+        );
+    }
+    Ok(())
+}
+
+#[test]
+fn cuts_no_rows(rt: HostRuntime) -> Result<(), Fail> {
+    let (cut, passes) = counted_cut(rt.alloc(), Vec::new(rt.alloc()), 0)?;
+    assert_eq!(rt; cut.count, 0);
+    assert_eq!(rt; passes, 8);
+    Ok(())
+}
+
+/// A chain of so many rows of heat 1.
+pub fn chain(alloc: Global, count: u32) -> Result<Vec<ProblemRow>, AllocError> {
+    let mut chain = at_last(|| Vec::with_capacity(alloc, count as usize))?;
+    for i in 0..count {
+        chain.push(ProblemRow {
+            parent: i.saturating_sub(1),
+            heat: 1,
+            inodes: 1,
+            now: Rank::default(),
+        })?;
+    }
+    Ok(chain)
+}
+
+#[test]
+fn cuts_a_long_chain(rt: HostRuntime) -> Result<(), Fail> {
+    // (bound, parts)
+    for (bound, count) in [
+        (1023, 65),
+        (1024, 64),
+        (1, 65536),
+        (65536, 1),
+        (u64::MAX, 1),
+    ] {
+        let (cut, _) = counted_cut(rt.alloc(), chain(rt.alloc(), 65536)?, bound)?;
+        assert_eq!(rt; cut.count, count, "within {bound}");
+    }
+    Ok(())
+}
+
+/// Whether a cut has as few parts as any division, or tells the least row that is too hot.
+fn is_fewest(alloc: Global, rows: Vec<ProblemRow>, bound: u64) -> Result<bool, Fail>
+    requires { length rows.items ≤ 8 }
+{
+    let fewest = fewest_parts(&rows, bound);
+    let heavy = rows.iter().position(|row| row.heat > bound);
+    let problem = over(rows, 1)?;
+    let mut passes = 0;
+    match cut_again(&problem, alloc, bound, &mut passes) {
+        Ok(cut) => Ok(Some(cut.count as usize) == fewest),
+        Err(CutError::Heavy(row)) => Ok(heavy == Some(row as usize) && fewest.is_none()),
+        Err(CutError::Memory) => Err("no memory")?,
+    }
+}
+
+#[test]
+fn no_division_of_small_trees_has_fewer_parts(rt: HostRuntime) -> Result<(), Fail> {
+    let mut random = Random::new(7);
+    for round in 0..60 {
+        let count = 1 + random.below(6) as u32;
+        let rows = match random.rows(rt.alloc(), count, 9) {
+            Ok(rows) => rows,
+            Err(_) => random.rows(rt.alloc(), count, 9)?,
+        };
+        let bound = random.below(20);
+        assert!(rt; rows.len() <= 8);
+        assert!(rt; is_fewest(rt.alloc(), rows, bound)?, "round {round}");
+    }
+    Ok(())
+}

@@ -1,0 +1,283 @@
+//! A plan with something changed.
+
+use super::{CHAIN, judged};
+use crate::given::{InTable, at_last, list_of, problem, table};
+use arrayvec::ArrayVec;
+use mds_types::{CutProof, DualProof, Plan, Problem, Rank};
+use std::alloc::Global;
+use std::test::Fail;
+
+/// A plan for the chain, with rank prices -2 and 0 and part prices 2 and 2.
+#[derive(Clone, Copy)]
+struct Claim {
+    part: [u32; 4],
+    rank: [u8; 2],
+    greatest: u64,
+    moved: u64,
+    table: [InTable; 4],
+    prices: [i64; 4],
+}
+
+const TRUE_CLAIM: Claim = Claim {
+    part: [0, 0, 1, 1],
+    rank: [0, 1],
+    greatest: 6,
+    moved: 2,
+    table: [
+        (2, 3, 3, false),
+        (2, 3, 3, false),
+        (1, 3, 3, true),
+        (0, 3, 0, true),
+    ],
+    prices: [2, 2, -2, 0],
+};
+
+/// The plan that a claim describes.
+fn plan_of(alloc: Global, claim: &Claim) -> Result<Plan, Fail> {
+    let mut rank = ArrayVec::new();
+    rank.push(Rank::new(claim.rank[0]).ok_or("no rank")?);
+    rank.push(Rank::new(claim.rank[1]).ok_or("no rank")?);
+    Ok(Plan {
+        part: list_of(alloc, &claim.part)?,
+        rank,
+        greatest: claim.greatest,
+        moved: claim.moved,
+        cut: table(alloc, &claim.table)?,
+        dual: DualProof {
+            part_price: list_of(alloc, &claim.prices[..2])?,
+            rank_price: list_of(alloc, &claim.prices[2..])?,
+        },
+    })
+}
+
+fn accepts(alloc: Global, problem: &Problem, claim: &Claim) -> Result<bool, Fail> {
+    Ok(judged(alloc, problem, &plan_of(alloc, claim)?)?)
+}
+
+/// The table of the true claim with one row changed.
+fn with_row(row: usize, changed: InTable) -> Claim {
+    let mut claim = TRUE_CLAIM;
+    if let Some(place) = claim.table.get_mut(row) {
+        *place = changed;
+    }
+    claim
+}
+
+#[test]
+fn judges_forged_tables(rt: HostRuntime) -> Result<(), Fail> {
+    let alloc = rt.alloc();
+    let chain = problem(alloc, &CHAIN, 3)?;
+    assert!(rt; accepts(alloc, &chain, &TRUE_CLAIM)?);
+    // (row, what stands there, whether the plan is accepted)
+    let forged = [
+        (3, (0, 3, 9, true), true),
+        (0, (2, 3, 4, false), true),
+        (1, (2, 3, 2, false), false),
+        (2, (1, 3, 4, true), false),
+        (2, (1, 3, 2, true), false),
+        (0, (2, 3, 3, true), false),
+        (3, (0, u64::MAX, 0, true), false),
+        (3, (u32::MAX, 3, 0, true), false),
+        (1, (2, 3, u64::MAX, false), false),
+        (2, (1, 2, 3, true), false),
+        (3, (0, 3, 0, false), false),
+    ];
+    for (row, changed, accepted) in forged {
+        let says = accepts(alloc, &chain, &with_row(row, changed))?;
+        assert_eq!(rt; says, accepted, "row {row} as {changed:?}");
+    }
+    let mut claim = TRUE_CLAIM;
+    claim.table[0].0 = 3;
+    claim.table[1].0 = 3;
+    assert!(rt; !accepts(alloc, &chain, &claim)?, "a cut too many");
+    claim.table = [(u32::MAX, u64::MAX, u64::MAX, false); 4];
+    assert!(rt; !accepts(alloc, &chain, &claim)?, "the greatest numbers");
+    Ok(())
+}
+
+#[test]
+fn judges_forged_placings(rt: HostRuntime) -> Result<(), Fail> {
+    let alloc = rt.alloc();
+    let chain = problem(alloc, &CHAIN, 3)?;
+    let forged = [
+        (
+            "parts that aren't connected",
+            Claim {
+                part: [0, 1, 0, 1],
+                ..TRUE_CLAIM
+            },
+        ),
+        (
+            "two parts on one rank",
+            Claim {
+                rank: [0, 0],
+                ..TRUE_CLAIM
+            },
+        ),
+        (
+            "a rank that isn't of the set",
+            Claim {
+                rank: [0, 2],
+                ..TRUE_CLAIM
+            },
+        ),
+        (
+            "a dearer placing",
+            Claim {
+                rank: [1, 0],
+                moved: 6,
+                ..TRUE_CLAIM
+            },
+        ),
+        (
+            "fewer inodes than move",
+            Claim {
+                moved: 1,
+                ..TRUE_CLAIM
+            },
+        ),
+        (
+            "a greatest heat that isn't reached",
+            Claim {
+                greatest: 5,
+                ..TRUE_CLAIM
+            },
+        ),
+        (
+            "a rank's price above 0",
+            Claim {
+                prices: [1, 1, -1, 1],
+                ..TRUE_CLAIM
+            },
+        ),
+        (
+            "a part's price too low",
+            Claim {
+                prices: [1, 2, -2, 0],
+                ..TRUE_CLAIM
+            },
+        ),
+        (
+            "a price above 0 of a rank that has a part",
+            Claim {
+                prices: [2, 1, -2, 1],
+                ..TRUE_CLAIM
+            },
+        ),
+        (
+            "the least part price",
+            Claim {
+                prices: [i64::MIN, 2, -2, 0],
+                ..TRUE_CLAIM
+            },
+        ),
+        (
+            "the greatest part price",
+            Claim {
+                prices: [i64::MAX, 2, -2, 0],
+                ..TRUE_CLAIM
+            },
+        ),
+        (
+            "the least numbers",
+            Claim {
+                prices: [i64::MIN; 4],
+                ..TRUE_CLAIM
+            },
+        ),
+        (
+            "the greatest numbers",
+            Claim {
+                prices: [i64::MAX; 4],
+                ..TRUE_CLAIM
+            },
+        ),
+    ];
+    for (what, claim) in forged {
+        assert!(rt; !accepts(alloc, &chain, &claim)?, "{what}");
+    }
+    Ok(())
+}
+
+/// A list of a plan.
+#[derive(Clone, Copy, Debug)]
+enum List {
+    Part,
+    Table,
+    PartPrice,
+    RankPrice,
+}
+
+/// These entries with one more, or with one fewer.
+fn resized<T: Copy>(alloc: Global, entries: &[T], longer: bool, last: T) -> Result<Vec<T>, Fail> {
+    let mut list = at_last(|| Vec::with_capacity(alloc, 8))?;
+    let fewer = entries.len().saturating_sub(1);
+    let kept = if longer { entries.len() } else { fewer };
+    for entry in entries.iter().take(kept) {
+        list.push(*entry)?;
+    }
+    if longer {
+        list.push(last)?;
+    }
+    Ok(list)
+}
+
+/// The true plan with one of its lists longer or shorter by an entry.
+fn with_list(alloc: Global, list: List, longer: bool) -> Result<Plan, Fail> {
+    let mut part = list_of(alloc, &TRUE_CLAIM.part)?;
+    let mut part_price = list_of(alloc, &TRUE_CLAIM.prices[..2])?;
+    let mut rank_price = list_of(alloc, &TRUE_CLAIM.prices[2..])?;
+    let mut cut = table(alloc, &TRUE_CLAIM.table)?;
+    match list {
+        List::Part => part = resized(alloc, &TRUE_CLAIM.part, longer, 1)?,
+        List::PartPrice => part_price = resized(alloc, &TRUE_CLAIM.prices[..2], longer, 0)?,
+        List::RankPrice => rank_price = resized(alloc, &TRUE_CLAIM.prices[2..], longer, 0)?,
+        List::Table => {
+            let rows = resized(alloc, &TRUE_CLAIM.table, longer, (0, 0, 0, false))?;
+            cut = table(alloc, &rows)?;
+        }
+    }
+    Ok(Plan {
+        part,
+        cut,
+        dual: DualProof {
+            part_price,
+            rank_price,
+        },
+        ..plan_of(alloc, &TRUE_CLAIM)?
+    })
+}
+
+#[test]
+fn judges_lists_of_other_lengths(rt: HostRuntime) -> Result<(), Fail> {
+    let alloc = rt.alloc();
+    let chain = problem(alloc, &CHAIN, 3)?;
+    for list in [List::Part, List::Table, List::PartPrice, List::RankPrice] {
+        for longer in [false, true] {
+            let plan = with_list(alloc, list, longer)?;
+            assert!(rt;
+                !judged(alloc, &chain, &plan)?,
+                "{list:?}, longer: {longer}"
+            );
+        }
+    }
+    let mut more = plan_of(alloc, &TRUE_CLAIM)?;
+    assert_eq!(rt; more.rank.len(), 2);
+    more.rank.push(Rank::new(2).ok_or("no rank")?);
+    assert!(rt; !judged(alloc, &chain, &more)?, "a rank without a part");
+    Ok(())
+}
+
+#[test]
+fn judges_other_proofs(rt: HostRuntime) -> Result<(), Fail> {
+    let alloc = rt.alloc();
+    let chain = problem(alloc, &CHAIN, 3)?;
+    for proof in [CutProof::Zero, CutProof::Heavy(1), CutProof::Heavy(9)] {
+        let plan = Plan {
+            cut: proof,
+            ..plan_of(alloc, &TRUE_CLAIM)?
+        };
+        assert!(rt; !judged(alloc, &chain, &plan)?, "{:?}", plan.cut);
+    }
+    Ok(())
+}

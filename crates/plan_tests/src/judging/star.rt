@@ -1,0 +1,71 @@
+//! Parts of a star, and their proofs.
+
+use super::cut_judged;
+use crate::given::{Given, InTable, problem, table};
+use mds_types::CutProof;
+use std::test::Fail;
+
+const STAR: [Given; 4] = [(0, 2, 1, 0), (0, 5, 1, 0), (0, 4, 1, 0), (0, 3, 1, 0)];
+
+const STAR_TABLE: [InTable; 4] = [
+    (2, 5, 4, false),
+    (0, 5, 0, true),
+    (0, 4, 0, true),
+    (0, 3, 0, false),
+];
+
+#[test]
+fn judges_the_parts_of_a_star(rt: HostRuntime) -> Result<(), Fail> {
+    let alloc = rt.alloc();
+    let star = problem(alloc, &STAR, 3)?;
+    let proof = table(alloc, &STAR_TABLE)?;
+    // (part of each row, how many parts, greatest heat, whether that is accepted)
+    let cuts: [([u32; 4], u32, u64, bool); 8] = [
+        ([0, 1, 0, 0], 2, 9, true),
+        ([1, 0, 1, 1], 2, 9, true),
+        ([0, 1, 0, 0], 2, 8, false),
+        ([0, 1, 0, 0], 3, 9, false),
+        ([0, 1, 1, 0], 2, 9, false),
+        ([0, 2, 0, 0], 2, 9, false),
+        ([0, u32::MAX, 0, 0], u32::MAX, 9, false),
+        ([0, 1, 0, 0], 2, u64::MAX, false),
+    ];
+    for (part, count, greatest, accepted) in cuts {
+        let says = cut_judged(alloc, &star, &part, count, greatest, &proof)?;
+        assert_eq!(rt;
+            says,
+            accepted,
+            "{part:?} in {count} parts, greatest {greatest}"
+        );
+    }
+    assert!(rt;
+        !cut_judged(alloc, &star, &[0, 1, 0], 2, 9, &proof)?,
+        "a row without a part"
+    );
+    assert!(rt;
+        !cut_judged(alloc, &star, &[0, 1, 0, 0, 0], 2, 9, &proof)?,
+        "a part without a row"
+    );
+    Ok(())
+}
+
+#[test]
+fn judges_the_proofs_of_a_star(rt: HostRuntime) -> Result<(), Fail> {
+    let alloc = rt.alloc();
+    let star = problem(alloc, &STAR, 3)?;
+    let three = problem(alloc, &STAR, 7)?;
+    let short = table(alloc, &[(2, 5, 4, false), (0, 5, 0, true), (0, 4, 0, true)])?;
+    let at = |proof: &CutProof| cut_judged(alloc, &star, &[0, 1, 0, 0], 2, 9, proof);
+    assert!(rt; at(&table(alloc, &STAR_TABLE)?)?);
+    assert!(rt; !at(&short)?, "a table without the last row");
+    assert!(rt; !at(&CutProof::Zero)?);
+    assert!(rt; !at(&CutProof::Heavy(1))?, "a row that is cooler");
+    assert!(rt; !at(&CutProof::Heavy(u32::MAX))?, "a row that isn't there");
+    let heavy = CutProof::Heavy(1);
+    assert!(rt; cut_judged(alloc, &three, &[0, 1, 2, 0], 3, 5, &heavy)?);
+    assert!(rt;
+        !cut_judged(alloc, &star, &[0, 1, 2, 0], 3, 5, &heavy)?,
+        "more parts than ranks"
+    );
+    Ok(())
+}

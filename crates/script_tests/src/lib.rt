@@ -1,0 +1,11 @@
+//! Tests of the script's crates by their public calls.
+#![tactic(auto)]
+
+#[cfg(test)]
+mod devices;
+#[cfg(test)]
+mod pieces;
+#[cfg(test)]
+mod scripts;
+#[cfg(test)]
+mod words;

@@ -1,0 +1,207 @@
+//! Lines of a script over devices that give and take a few bytes at a time, and that fail.
+use crate::devices::{ENOUGH, Sink, Source, sink_of, source_of};
+use script_engine::{
+    Input, Interpreter, RunError, WriteFailed, run_script, write_fault, write_whole,
+};
+use std::alloc::Global;
+use std::cell::Cell;
+use std::io;
+use std::io::{Read, Write};
+use std::test::Fail;
+
+/// Repeats each line. Lines that begin with an exclamation mark are faulty.
+#[derive(Drop)]
+struct Echo;
+
+impl Interpreter for Echo {
+    ghost answers = { λ _ _ _ _ _. Unit {0} };
+
+    ghost ready = { Unit {0} };
+
+    fn answer<W: Write>(
+        &mut self,
+        _alloc: Global,
+        number: u64,
+        line: &[u8],
+        writer: &mut W,
+    ) -> Result<bool, WriteFailed> {
+        if line.first() == Some(&b'!') {
+            write_fault(writer, number, "bad")?;
+            return Ok(false);
+        }
+        write_whole(writer, line)?;
+        write_whole(writer, b"\n")?;
+        Ok(true)
+    }
+}
+
+// What a run answers.
+fn repeated(
+    alloc: Global,
+    source: Source<'_>,
+    sink: &mut Sink,
+    strict: bool,
+) -> Result<bool, RunError> {
+    let mut input = Input::new(source);
+    run_script(alloc, &mut Echo, &mut input, sink, strict)
+}
+
+#[test]
+fn answers_each_line(rt: HostRuntime) -> Result<(), Fail> {
+    // (script, strict, whether all lines are accepted, what is written)
+    let table = [
+        ("", true, true, ""),
+        ("a", false, true, "a\n"),
+        ("a\n", false, true, "a\n"),
+        ("a\nbc", true, true, "a\nbc\n"),
+        ("a\r\nb\r\n", false, true, "a\r\nb\r\n"),
+        ("\n\n", false, true, "\n\n"),
+        ("\n\na b\n\n!", false, false, "\n\na b\n\nline 5: bad\n"),
+        ("!\na\n!!\n", false, false, "line 1: bad\na\nline 3: bad\n"),
+        ("a\n!\nb\n!\n", true, false, "a\nline 2: bad\n"),
+        ("a\n!", true, false, "a\nline 2: bad\n"),
+        ("!", true, false, "line 1: bad\n"),
+    ];
+    for (script, strict, accepted, text) in table {
+        for step in [1, 2, 7, 4096] {
+            let mut sink = sink_of(rt.alloc(), step);
+            let source = source_of(script.as_bytes(), step);
+            let result = repeated(rt.alloc(), source, &mut sink, strict);
+            assert_eq!(rt; result, Ok(accepted), "{script} by {step}");
+            assert!(rt;
+                sink.bytes.as_slice() == text.as_bytes(),
+                "{script} by {step}"
+            );
+        }
+    }
+    Ok(())
+}
+
+#[test]
+fn answers_a_long_line(rt: HostRuntime) -> Result<(), Fail> {
+    let mut script = vec![in rt.alloc(); b'x'; 100_000]?;
+    script.extend_from_slice(b"\n!\nz\n")?;
+    let mut sink = sink_of(rt.alloc(), ENOUGH);
+    let result = repeated(rt.alloc(), source_of(&script, ENOUGH), &mut sink, false);
+    assert_eq!(rt; result, Ok(false));
+    assert!(rt; sink.bytes.get(..100_001) == script.get(..100_001));
+    assert!(rt; sink.bytes.get(100_001..) == Some(b"line 2: bad\nz\n".as_slice()));
+    Ok(())
+}
+
+#[test]
+fn ends_at_a_failed_read(rt: HostRuntime) -> Result<(), Fail> {
+    // (reads before the one that fails, what is written)
+    let table = [
+        (0, ""),
+        (1, "a\n"),
+        (2, "a\n"),
+        (3, "a\nbc\n"),
+        (4, "a\nbc\nline 3: bad\n"),
+    ];
+    for (reads, text) in table {
+        let mut source = source_of(b"a\nbc\n!\nd", 2);
+        source.reads = reads;
+        let mut sink = sink_of(rt.alloc(), ENOUGH);
+        let result = repeated(rt.alloc(), source, &mut sink, false);
+        assert_eq!(rt; result, Err(RunError::Read), "after {reads}");
+        assert!(rt; sink.bytes.as_slice() == text.as_bytes(), "after {reads}");
+    }
+    assert_eq!(rt;
+        RunError::Read.to_string(rt.alloc())?.as_str(),
+        "read failed"
+    );
+    Ok(())
+}
+
+#[test]
+fn ends_at_a_failed_write(rt: HostRuntime) -> Result<(), Fail> {
+    let text = b"a\nline 2: bad\n\nz\n".as_slice();
+    for (writes, _) in text.iter().enumerate() {
+        let source = source_of(b"a\n!\n\nz", 3);
+        let mut sink = sink_of(rt.alloc(), 1);
+        sink.writes = writes;
+        let result = repeated(rt.alloc(), source, &mut sink, false);
+        assert_eq!(rt; result, Err(RunError::Write), "after {writes}");
+        assert!(rt;
+            text.get(..writes) == Some(sink.bytes.as_slice()),
+            "after {writes}"
+        );
+    }
+    assert_eq!(rt;
+        RunError::Write.to_string(rt.alloc())?.as_str(),
+        "write failed"
+    );
+    Ok(())
+}
+
+#[test]
+fn fails_where_a_write_takes_nothing(rt: HostRuntime) -> Result<(), Fail> {
+    let mut sink = sink_of(rt.alloc(), 0);
+    let result = repeated(rt.alloc(), source_of(b"a\n", 2), &mut sink, false);
+    assert_eq!(rt; result, Err(RunError::Write));
+    assert!(rt; sink.bytes.is_empty());
+    assert_eq!(rt; write_whole(&mut sink, b"a"), Err(WriteFailed));
+    assert_eq!(rt; write_whole(&mut sink, b""), Ok(()));
+    assert_eq!(rt; write_fault(&mut sink, 1, "bad"), Err(WriteFailed));
+    assert_eq!(rt; WriteFailed.to_string(rt.alloc())?.as_str(), "write failed");
+    Ok(())
+}
+
+/// Gives two bytes at a read, and notes how many bytes were written before each of the first reads.
+#[derive(Drop)]
+struct Watcher<'a> {
+    rest: &'a [u8],
+    written: &'a Cell<usize>,
+    noted: Vec<usize>,
+}
+
+impl Read for Watcher<'_> {
+    fn read(&mut self, buf: &mut [u8]) -> io::Result<usize> {
+        self.noted.push(self.written.get())?;
+        let count = self.rest.len().min(buf.len()).min(2);
+        buf[..count].copy_from_slice(&self.rest[..count]);
+        self.rest = &self.rest[count..];
+        Ok(count)
+    }
+}
+
+/// Counts the bytes that it takes.
+#[derive(Drop)]
+struct Counter<'a> {
+    written: &'a Cell<usize>,
+}
+
+impl Write for Counter<'_> {
+    fn write(&mut self, buf: &[u8]) -> io::Result<usize> {
+        self.written
+            .set(self.written.get().saturating_add(buf.len()));
+        Ok(buf.len())
+    }
+
+    fn flush(&mut self) -> io::Result<()> {
+        Ok(())
+    }
+}
+
+// How many bytes were written before each read.
+fn written_before_reads(alloc: Global, script: &[u8]) -> Vec<usize> {
+    let written = Cell::new(0);
+    let mut counter = Counter { written: &written };
+    let mut input = Input::new(Watcher {
+        rest: script,
+        written: &written,
+        noted: Vec::new(alloc),
+    });
+    let _result = run_script(alloc, &mut Echo, &mut input, &mut counter, false);
+    input.into_inner().noted
+}
+
+// Each answer stands written before the next piece is read.
+#[test]
+fn answers_before_it_reads_on(rt: HostRuntime) -> Result<(), Fail> {
+    let noted = written_before_reads(rt.alloc(), b"a\nbc\n!\nd");
+    let wanted: [usize; 5] = [0, 2, 2, 5, 17];
+    assert!(rt; noted.as_slice() == wanted.as_slice(), "{noted:?}");
+    Ok(())
+}

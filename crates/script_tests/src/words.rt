@@ -1,0 +1,124 @@
+//! Command lines and what they come to.
+
+use command_line::{OptionsError, Settings, options};
+use std::test::Fail;
+
+// (words after the program's name, limit, strict)
+#[test]
+fn reads_settings(rt: HostRuntime) -> Result<(), Fail> {
+    let table: [(&[&str], u32, bool); 6] = [
+        (&["mdbal"], 65536, false),
+        (&["mdbal", "--strict"], 65536, true),
+        (&["mdbal", "--limit", "1"], 1, false),
+        (&["mdbal", "--limit=65536"], 65536, false),
+        (&["mdbal", "--limit", "2", "--strict"], 2, true),
+        (&["mdbal", "--strict", "--limit", "2"], 2, true),
+    ];
+    for (words, limit, strict) in table {
+        match options(rt.alloc(), words) {
+            Ok(settings) => assert_eq!(rt; settings, Settings { limit, strict }, "{words:?}"),
+            Err(error) => return Err(Fail::from(error)),
+        }
+    }
+    Ok(())
+}
+
+#[test]
+fn refuses_other_lines(rt: HostRuntime) -> Result<(), Fail> {
+    let table: [&[&str]; 10] = [
+        &["mdbal", "--limit", "0"],
+        &["mdbal", "--limit", "65537"],
+        &["mdbal", "--limit", "4294967297"],
+        &["mdbal", "--limit", "x"],
+        &["mdbal", "--limit", "-1"],
+        &["mdbal", "--limit"],
+        &["mdbal", "--limit", "2", "--limit", "2"],
+        &["mdbal", "--strict", "--strict"],
+        &["mdbal", "--strict=yes"],
+        &["mdbal", "script"],
+    ];
+    for words in table {
+        match options(rt.alloc(), words) {
+            Err(OptionsError::Refused(error)) => {
+                let text = format!(in rt.alloc(); "{error}")?;
+                assert!(rt; text.starts_with("error: "), "{words:?}");
+                assert_eq!(rt; OptionsError::Refused(error).status(), 2, "{words:?}");
+            }
+            other => assert!(rt; false, "{words:?} gave {other:?}"),
+        }
+    }
+    Ok(())
+}
+
+#[test]
+fn tells_help_apart(rt: HostRuntime) -> Result<(), Fail> {
+    let table: [&[&str]; 3] = [
+        &["mdbal", "--help"],
+        &["mdbal", "-h"],
+        &["mdbal", "--strict", "--help", "--limit"],
+    ];
+    for words in table {
+        match options(rt.alloc(), words) {
+            Err(help) => {
+                assert_eq!(rt; help.status(), 0, "{words:?}");
+                let text = format!(in rt.alloc(); "{help}")?;
+                assert!(rt; text.contains("Usage: mdbal [OPTIONS]"), "{words:?}");
+                assert!(rt; text.contains("--limit <N>"), "{words:?}");
+                assert!(rt; text.contains("--strict"), "{words:?}");
+            }
+            Ok(settings) => assert!(rt; false, "{words:?} gave {settings:?}"),
+        }
+    }
+    Ok(())
+}
+
+#[test]
+fn tells_the_version_apart(rt: HostRuntime) -> Result<(), Fail> {
+    let table: [&[&str]; 2] = [&["mdbal", "--version"], &["mdbal", "-V"]];
+    for words in table {
+        match options(rt.alloc(), words) {
+            Err(OptionsError::Version(error)) => {
+                let text = format!(in rt.alloc(); "{error}")?;
+                assert_eq!(rt; text.as_str(), "mdbal 0.1.0\n", "{words:?}");
+                assert_eq!(rt; OptionsError::Version(error).status(), 0, "{words:?}");
+            }
+            other => assert!(rt; false, "{words:?} gave {other:?}"),
+        }
+    }
+    Ok(())
+}
+
+#[test]
+fn prints_want_of_memory(rt: HostRuntime) -> Result<(), Fail> {
+    let text = format!(in rt.alloc(); "{}", OptionsError::Memory)?;
+    assert_eq!(rt; text.as_str(), "mdbal: 0 Memory\n");
+    assert_eq!(rt; OptionsError::Memory.status(), 2);
+    Ok(())
+}
+
+// With `rt try --test --fail-alloc N`, the N-th growth is refused: one answer at most is want of
+// memory, and all others are as ever.
+#[test]
+fn a_refused_growth_is_told(rt: HostRuntime) -> Result<(), Fail> {
+    let accepted: [&str; 4] = ["mdbal", "--limit", "2", "--strict"];
+    let refused: [&str; 3] = ["mdbal", "--limit", "0"];
+    let wanted = Settings {
+        limit: 2,
+        strict: true,
+    };
+    let mut without_memory: [bool; 4] = [false; 4];
+    for turn in &mut without_memory {
+        match options(rt.alloc(), &accepted) {
+            Ok(settings) => assert_eq!(rt; settings, wanted),
+            Err(OptionsError::Memory) => *turn = true,
+            Err(_) => assert!(rt; false, "accepted words are refused"),
+        }
+        match options(rt.alloc(), &refused) {
+            Err(OptionsError::Refused(_)) => {}
+            Err(OptionsError::Memory) => *turn = true,
+            _ => assert!(rt; false, "refused words are accepted"),
+        }
+    }
+    assert!(rt; without_memory.iter().filter(|turn| **turn).count() <= 1);
+    Ok(())
+}
