@@ -253,3 +253,19 @@ fn roots_follow_the_log_entry(rt: HostRuntime) -> Result<(), Fail> {
     }
     Ok(())
 }
+
+/// What a small cluster has after an export and some more, growths refused or not.
+#[test]
+fn a_refused_growth_changes_nothing(rt: HostRuntime) -> Result<(), Fail> {
+    let mut cluster = played(&rt, rt.alloc(), &to_the_log())?;
+    let rows = [
+        (Do::Notify(0), Ok(Reply::Sent(6))),
+        (Do::Deliver(6), Ok(Reply::Changed)),
+        (Do::Make(1), Ok(Reply::Dir(Dir::new(2)))),
+        (Do::Begin(1, 2), Ok(Reply::Ticket(0))),
+    ];
+    run_rows(&rt, rt.alloc(), &mut cluster, &rows)?;
+    assert_eq!(rt; roots(rt.alloc(), &cluster)?.len(), 2);
+    assert_eq!(rt; cluster.authority(Dir::new(2)), Some(rank(1)));
+    Ok(())
+}
