@@ -10,7 +10,7 @@
 mod lists;
 
 use crate::machine::lists::{Events, Kind, all_dirs, make_events};
-use export_machine::{Cluster, Event, Reply, StepError};
+use export_machine::{Cluster, Dirs, Event, Reply, StepError};
 use mds_types::{Dir, Rank};
 use std::alloc::Global;
 use std::io;
@@ -175,7 +175,7 @@ fn time_start(rt: &HostRuntime) -> io::Result<()> {
     let mut accepted: u64 = 0;
     for number in 0..RUNS {
         let dirs = all_dirs(rt.alloc(), false)?;
-        let event = Event::Start(Rank::default(), to, dirs);
+        let event = Event::Start(Rank::default(), to, Dirs::new(dirs));
         let start = rt.thread_cpu_time()?;
         let able = cluster.can_apply(&event);
         let middle = rt.thread_cpu_time()?;
@@ -200,7 +200,7 @@ fn print_event(out: &mut impl Write, event: &Event) -> io::Result<()> {
         Event::End(ticket) => writeln!(out, "end {ticket}"),
         Event::Start(from, to, dirs) => {
             write!(out, "start {} {}", from.number(), to.number())?;
-            for dir in dirs {
+            for dir in dirs.as_slice() {
                 write!(out, " {}", dir.number())?;
             }
             writeln!(out)

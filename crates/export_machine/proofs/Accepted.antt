@@ -7,8 +7,9 @@ use Rattle.export_machine.specs.declared.exporter.ExporterState.TheVariants.{Fre
 use Rattle.export_machine.specs.declared.event.Request.{Request}
 use Rattle.export_machine.specs.Cluster.{World}
 use Rattle.export_machine.specs.Authority.{order_in, no_order, from_of, to_of, exporter_of, authority, is_present, frozen_by, request_of, open_export}
-use Rattle.export_machine.specs.Step.{Event, refusal, causes, is_before_log, is_freezing, is_logged, is_running, not_yet, running_on}
-use Rattle.export_machine.specs.Step.Event.{Begin, End, Deliver, Froze, Notify, Abort}
+use Rattle.export_machine.specs.Step.{refusal, causes, is_before_log, is_freezing, is_logged, is_running, not_yet, running_on}
+use Rattle.export_machine.specs.declared.event.Event.{Event}
+use Rattle.export_machine.specs.declared.event.Event.TheVariants.{Begin, End, Deliver, Froze, Notify, Abort}
 use Rattle.export_machine.specs.View.{IsReached}
 use Rattle.export_machine.specs.Kept.{order_of}
 use Rattle.export_machine.proofs.Safe.{Safe}

@@ -14,8 +14,9 @@ use Rattle.export_machine.specs.declared.step_error.StepError.{StepError}
 use Rattle.export_machine.specs.declared.records.Records.{Records}
 use Rattle.export_machine.specs.Cluster.{Order, World}
 use Rattle.export_machine.specs.Authority.{no_order, order_in, exporter_of, importer_of, is_stopped, authority, open_export}
-use Rattle.export_machine.specs.Step.{Event, Outcome, refusal, happens, step, counted, comes, delivered, ignored, receiver, repeats, journaled_by, restarts, changed, Move, move, moved, acts, about, exporter_moves, importer_moves, notes, replies}
-use Rattle.export_machine.specs.Step.Event.{Begin, End, Start, Deliver, Froze, Notify, Abort, Stop, Restart, Ask}
+use Rattle.export_machine.specs.Step.{Outcome, refusal, happens, step, counted, comes, delivered, ignored, receiver, repeats, journaled_by, restarts, changed, Move, move, moved, acts, about, exporter_moves, importer_moves, notes, replies}
+use Rattle.export_machine.specs.declared.event.Event.{Event}
+use Rattle.export_machine.specs.declared.event.Event.TheVariants.{Begin, End, Start, Deliver, Froze, Notify, Abort, Stop, Restart, Ask}
 use Rattle.export_machine.specs.View.{IsReached, IsAnswer}
 use Rattle.export_machine.specs.Room.{IsRefusal, IsAsRoomy, KeepsRoom}
 use Rattle.export_machine.specs.Kept.{world_of, indexes_of, IsKept, IsIndexed, has_room, has_places, has_list_places, has_dir_places, has_export_places, has_spare, is_spare, entered_at, is_ready, is_ready_entry, is_ready_list, state_of}

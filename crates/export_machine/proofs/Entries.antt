@@ -13,8 +13,9 @@ use Rattle.export_machine.specs.declared.importer.ImporterState.TheVariants.{Unk
 use Rattle.export_machine.specs.declared.message.Message.TheVariants.{Discover, DiscoverAck, Prep, PrepAck, ExportAck, Finish, Cancel, Query}
 use Rattle.export_machine.specs.Cluster.{World}
 use Rattle.export_machine.specs.Authority.{is_inside, from_of, to_of, exporter_of, importer_of, journal_of, named_of, authority, is_stopped}
-use Rattle.export_machine.specs.Step.{Event, step, refusal, happens, journals, journaled_by, exporter_to, names_importer, receiver, comes, delivered, ignored, changed, restarts, Move, move, moved, acts, about, exporter_moves, importer_moves, notes, replies}
-use Rattle.export_machine.specs.Step.Event.{Deliver, Notify, Restart}
+use Rattle.export_machine.specs.Step.{step, refusal, happens, journals, journaled_by, exporter_to, names_importer, receiver, comes, delivered, ignored, changed, restarts, Move, move, moved, acts, about, exporter_moves, importer_moves, notes, replies}
+use Rattle.export_machine.specs.declared.event.Event.{Event}
+use Rattle.export_machine.specs.declared.event.Event.TheVariants.{Deliver, Notify, Restart}
 use Rattle.export_machine.specs.View.{IsReached}
 use Rattle.export_machine.specs.Entries.{Entry, IsRecorded, entered, entered_by, named_by, parents_after, accepted_entry, delivered_entry, comes_entry, move_entry, noted, entry}
 use Rattle.export_machine.proofs.Views.{journal_at, journal_other, push_same, push_other, map_at_get, map_at_past}

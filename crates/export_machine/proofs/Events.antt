@@ -11,10 +11,10 @@ use Rattle.export_machine.specs.declared.exporter.ExporterState.TheVariants.{Dis
 use Rattle.export_machine.specs.declared.importer.ImporterState.TheVariants.{Unknown}
 use Rattle.export_machine.specs.declared.message.Message.TheVariants.{Discover, Prep, Query}
 use Rattle.export_machine.specs.Authority.{order_in, no_order, is_among, is_inside, from_of, to_of, exporter_of, importer_of, journal_of, named_of, is_present, request_of, is_same, has_entry, has, owned_by, owned_after, owns, is_taking_over, IsAuthority, authority, is_holding, is_held_in, open_export, frozen_by, runs_on}
-use Rattle.export_machine.specs.Step.{Event}
+use Rattle.export_machine.specs.declared.event.Event.{Event}
 use Rattle.export_machine.specs.declared.step_error.StepError.{StepError}
 use Rattle.export_machine.specs.Step.{first, when, is_freezing, is_logged, not_yet, running_on, busy, held, held_at, elsewhere, not_served, authority_stopped, cannot_leave, least_fault, causes, happens, exporter_to, journals, names_importer}
-use Rattle.export_machine.specs.Step.Event.{Begin, End, Start, Deliver, Froze, Notify, Abort, Ask}
+use Rattle.export_machine.specs.declared.event.Event.TheVariants.{Begin, End, Start, Deliver, Froze, Notify, Abort, Ask}
 use Rattle.export_machine.proofs.Owning.{Phase, Owning, Running, is_moving, is_over, place, same_owning, same_running, start_owning, start_running, made_owning, made_running, gone_owning, gone_running}
 use Rattle.export_machine.proofs.Owning.Phase.{Early, Held, Moving, Told, Over}
 use Rattle.export_machine.proofs.Tables.{is_committed, is_imported, kept_flag, entry_tables, begun_tables}

@@ -2,8 +2,9 @@
 use Rattle.std.proofs.Common.{◌≡◌, ℕ, Bool, true, false, cond, length, Option, Some, None, refl, ◌∙◌}
 use Rattle.std.specs.List.{slice_get}
 use Rattle.export_machine.specs.declared.journal.JournalEntry.{JournalEntry}
-use Rattle.export_machine.specs.Step.{Event, happens, journaled_by, changed, restarts}
-use Rattle.export_machine.specs.Step.Event.{Deliver, Restart}
+use Rattle.export_machine.specs.Step.{happens, journaled_by, changed, restarts}
+use Rattle.export_machine.specs.declared.event.Event.{Event}
+use Rattle.export_machine.specs.declared.event.Event.TheVariants.{Deliver, Restart}
 use Rattle.export_machine.specs.declared.exporter.ExporterState.{ExporterState}
 use Rattle.export_machine.specs.declared.importer.ImporterState.{ImporterState}
 use Rattle.export_machine.specs.declared.message.Message.{Message}

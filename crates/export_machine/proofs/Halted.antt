@@ -9,7 +9,7 @@ use Rattle.export_machine.specs.declared.importer.ImporterState.TheVariants.{Unk
 use Rattle.export_machine.specs.Cluster.{World}
 use Rattle.export_machine.specs.Authority.{from_of, to_of, exporter_of, importer_of, has, authority, open_export}
 use Rattle.export_machine.specs.Step.{refusal, causes, map_at, is_before_log, exporter_by_journal, importer_by_journal, ends_at, recovered, stops, restarts}
-use Rattle.export_machine.specs.Step.Event.{Stop, Restart}
+use Rattle.export_machine.specs.declared.event.Event.TheVariants.{Stop, Restart}
 use Rattle.export_machine.specs.View.{IsReached}
 use Rattle.export_machine.specs.Kept.{Indexes, IsIndexed, exporter_at_stop, importer_at_stop}
 use Rattle.export_machine.proofs.Safe.{Safe}

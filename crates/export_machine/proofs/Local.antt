@@ -11,8 +11,9 @@ use Rattle.export_machine.specs.declared.event.Request.{Request}
 use Rattle.export_machine.specs.declared.step_error.StepError.{StepError}
 use Rattle.export_machine.specs.Cluster.{World}
 use Rattle.export_machine.specs.Authority.{is_among, is_inside, from_of, to_of, exporter_of, importer_of, order_in, named_of, is_present, request_of, owns, serves, is_stopped, authority, open_export, frozen_by, IsAuthority, runs_on}
-use Rattle.export_machine.specs.Step.{Event, refusal, causes, first, when, held_at, busy, not_served, authority_stopped, not_yet, late, running_on, is_freezing, is_before_log, is_connected, cannot_leave, history_limit}
-use Rattle.export_machine.specs.Step.Event.{Begin, Start, Froze}
+use Rattle.export_machine.specs.Step.{refusal, causes, first, when, held_at, busy, not_served, authority_stopped, not_yet, late, running_on, is_freezing, is_before_log, is_connected, cannot_leave, history_limit}
+use Rattle.export_machine.specs.declared.event.Event.{Event}
+use Rattle.export_machine.specs.declared.event.Event.TheVariants.{Begin, Start, Froze}
 use Rattle.export_machine.specs.View.{IsReached}
 use Rattle.export_machine.specs.Local.{IsLocal, MayBegin, MayMake, MayRemove, MayStart, MayFreeze, is_leaving, is_free}
 use Rattle.export_machine.proofs.Owning.{is_moving, is_over, place}

@@ -9,14 +9,14 @@ use Rattle.export_machine.specs.declared.step_error.StepError.{StepError}
 use Rattle.export_machine.specs.declared.exporter.ExporterState.TheVariants.{Discovering, Preparing, Exporting, Done, Aborted}
 use Rattle.export_machine.specs.declared.importer.ImporterState.TheVariants.{Unknown, Discovered, Prepared, Started}
 use Rattle.export_machine.specs.declared.message.Message.TheVariants.{Discover, DiscoverAck, Prep, PrepAck, ExportAck, Finish, Cancel, Query}
-use Rattle.export_machine.specs.declared.event.Event.{Event as Asked}
+use Rattle.export_machine.specs.declared.event.Event.{Event}
 use Rattle.export_machine.specs.declared.journal.JournalEntry.{JournalEntry}
 use Rattle.export_machine.specs.Cluster.{World}
 use Rattle.export_machine.specs.Authority.{from_of, exporter_of, importer_of, is_stopped, authority}
-use Rattle.export_machine.specs.Step.{Event, refusal, receiver, move, about}
-use Rattle.export_machine.specs.Step.Event.{Deliver}
+use Rattle.export_machine.specs.Step.{refusal, receiver, move, about}
+use Rattle.export_machine.specs.declared.event.Event.TheVariants.{Deliver}
 use Rattle.export_machine.specs.Entries.{Entry, entry, unless_refused, accepted_entry, delivered_entry, comes_entry, move_entry, entered_by, is_log, logs_export}
-use Rattle.export_machine.specs.Kept.{event_of, cause_of}
+use Rattle.export_machine.specs.Kept.{cause_of}
 
 module _ (w : World) where
   pub logs_it : (x : ℕ) → is_stopped w (from_of w x) ≡ false → exporter_of w x ≡ Exporting → true ≡ is_log (delivered_entry w (Some (ExportAck x)))
@@ -72,14 +72,14 @@ module _ (w : World) where
   unfolding logs_export entry
   delivered_logs k m h e = rw (h, e) refl
 
-  pub other_event : (e : Asked) → ((k : ℕ) → e ≡ Asked.Deliver k → ⊥) → false ≡ logs_export w (event_of e)
+  pub other_event : (e : Event) → ((k : ℕ) → e ≡ Event.Deliver k → ⊥) → false ≡ logs_export w (e)
   unfolding logs_export entry
-  other_event e n = unless_not (refusal w (event_of e)) (accepted_entry w (event_of e)) (go e n)
+  other_event e n = unless_not (refusal w (e)) (accepted_entry w (e)) (go e n)
     where
-      go : (f : Asked) → ((k : ℕ) → f ≡ Asked.Deliver k → ⊥) → is_log (accepted_entry w (event_of f)) ≡ false
-      go (Asked.Deliver k) l = absurd (l k refl)
-      go (Asked.Made p) l = by_not (authority w p) (JournalEntry.Made _) refl
-      go (Asked.Gone d) l = by_not (authority w d) (JournalEntry.Gone d) refl
+      go : (f : Event) → ((k : ℕ) → f ≡ Event.Deliver k → ⊥) → is_log (accepted_entry w (f)) ≡ false
+      go (Event.Deliver k) l = absurd (l k refl)
+      go (Event.Made p) l = by_not (authority w p) (JournalEntry.Made _) refl
+      go (Event.Gone d) l = by_not (authority w d) (JournalEntry.Gone d) refl
       go _ l = refl
 
 pub ok_none : {A : Type 0} (r : Result A StepError) (o : Option StepError) → cause_of r ≡ o → true ≡ is_ok r → o ≡ None

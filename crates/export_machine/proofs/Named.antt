@@ -4,8 +4,9 @@ use Rattle.export_machine.specs.declared.step_error.StepError.{StepError}
 use Rattle.export_machine.specs.declared.step_error.StepError.TheVariants.{Memory}
 use Rattle.export_machine.specs.Cluster.{World}
 use Rattle.export_machine.specs.Authority.{authority, open_export, frozen_by, is_among, or_else}
-use Rattle.export_machine.specs.Step.{Event, refusal, causes, first, when, busy, held, held_at, elsewhere, authority_stopped, not_served, cannot_leave, least_fault, history_limit}
-use Rattle.export_machine.specs.Step.Event.{Begin, End, Start, Deliver, Froze, Notify, Abort, Stop, Restart, Ask}
+use Rattle.export_machine.specs.Step.{refusal, causes, first, when, busy, held, held_at, elsewhere, authority_stopped, not_served, cannot_leave, least_fault, history_limit}
+use Rattle.export_machine.specs.declared.event.Event.{Event}
+use Rattle.export_machine.specs.declared.event.Event.TheVariants.{Begin, End, Start, Deliver, Froze, Notify, Abort, Stop, Restart, Ask}
 
 abbrev pub IsNamed : Option StepError → Type 0
 IsNamed o = o ≢ Some Memory

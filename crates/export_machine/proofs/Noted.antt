@@ -10,8 +10,9 @@ use Rattle.export_machine.specs.declared.message.Message.{Message}
 use Rattle.export_machine.specs.declared.step_error.StepError.{StepError}
 use Rattle.export_machine.specs.Cluster.{Order, World}
 use Rattle.export_machine.specs.Authority.{is_among, order_in, no_order, from_of, exporter_of, importer_of, journal_of, is_present, has, has_entry, is_same, authority, any_below, is_stopped}
-use Rattle.export_machine.specs.Step.{Event, step, answered, refusal, happens, counted, receiver, run, start, journaled_by, changed, ignored, restarts, about}
-use Rattle.export_machine.specs.Step.Event.{Begin, End, Start, Deliver, Froze, Notify, Abort, Stop, Restart, Ask}
+use Rattle.export_machine.specs.Step.{step, answered, refusal, happens, counted, receiver, run, start, journaled_by, changed, ignored, restarts, about}
+use Rattle.export_machine.specs.declared.event.Event.{Event}
+use Rattle.export_machine.specs.declared.event.Event.TheVariants.{Begin, End, Start, Deliver, Froze, Notify, Abort, Stop, Restart, Ask}
 use Rattle.export_machine.specs.View.{IsReached}
 use Rattle.export_machine.specs.Entries.{Entry, IsThere, AreInJournals, AreMade, entered, accepted_entry, delivered_entry, comes_entry, entry, parents_after}
 use Rattle.export_machine.proofs.Views.{has_push, push_same, push_other, length_push}

@@ -5,7 +5,8 @@ use Rattle.std.proofs.Math.Logic.{∥∥₁_elim, ∥∥₁_map}
 use Rattle.export_machine.specs.declared.journal.JournalEntry.{JournalEntry}
 use Rattle.export_machine.specs.Cluster.{World}
 use Rattle.export_machine.specs.Authority.{is_inside, from_of, named_of, has, owns, IsAuthority, is_authority, authority, serves, any_below, first_below, is_held_in}
-use Rattle.export_machine.specs.Step.{Event, step, run, start}
+use Rattle.export_machine.specs.Step.{step, run, start}
+use Rattle.export_machine.specs.declared.event.Event.{Event}
 use Rattle.export_machine.specs.View.{IsReached}
 use Rattle.export_machine.specs.Promises.{IsTheAuthority, OneAuthority, ServedByAuthority, RequestsAtAuthority, IsBetweenLogAndNotify, MapNamed}
 use Rattle.export_machine.proofs.Safe.{Safe}

@@ -14,9 +14,10 @@ use Rattle.export_machine.specs.declared.importer.ImporterState.TheVariants.{Unk
 use Rattle.export_machine.specs.declared.message.Message.TheVariants.{Discover, DiscoverAck, Prep, PrepAck, ExportAck, Finish, Cancel, Query}
 use Rattle.export_machine.specs.Cluster.{Order, World}
 use Rattle.export_machine.specs.Authority.{order_in, no_order, from_of, to_of, exporter_of, importer_of, journal_of, has, has_entry, authority, is_stopped}
-use Rattle.export_machine.specs.Step.{Event, step, answered, refusal, causes, happens, counted, receiver, run, start, journaled_by, importer_to, changed, ignored, stops, restarts, comes, delivered, exporter_by_journal, importer_by_journal, authority_stopped, Move, move, acts, about}
+use Rattle.export_machine.specs.Step.{step, answered, refusal, causes, happens, counted, receiver, run, start, journaled_by, importer_to, changed, ignored, stops, restarts, comes, delivered, exporter_by_journal, importer_by_journal, authority_stopped, Move, move, acts, about}
+use Rattle.export_machine.specs.declared.event.Event.{Event}
 use Rattle.export_machine.specs.Kept.{exporter_at_stop, importer_at_stop}
-use Rattle.export_machine.specs.Step.Event.{Begin, End, Start, Deliver, Froze, Notify, Abort, Stop, Restart, Ask}
+use Rattle.export_machine.specs.declared.event.Event.TheVariants.{Begin, End, Start, Deliver, Froze, Notify, Abort, Stop, Restart, Ask}
 use Rattle.export_machine.specs.View.{IsReached}
 use Rattle.export_machine.specs.Entries.{Entry, IsRecovered, entry, entered, entered_by, accepted_entry, delivered_entry, comes_entry, move_entry, noted}
 use Rattle.export_machine.proofs.Views.{push_same, push_other, map_at_get, map_at_past}

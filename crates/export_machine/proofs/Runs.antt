@@ -1,12 +1,13 @@
 -- One event after the other, and what holds then.
-use Rattle.std.proofs.Common.{◌≡◌, ◌≢◌, ◌↔◌, ℕ, zero, suc, ◌+◌, ◌<◌, true, false, None, Some, List, [], ◌∷◌, ◌++◌, length, get_or, take, map, Ok, Err, Result, refl, sym, ap, ◌∙◌, subst, inl, inr, arith}
+use Rattle.std.proofs.Common.{◌≡◌, ◌≢◌, ◌↔◌, ℕ, suc, true, false, None, Some, List, [], ◌∷◌, ◌++◌, Ok, Err, Result, refl, sym, ap, ◌∙◌, subst, inl, inr, arith}
 use Rattle.export_machine.specs.declared.event.Reply.{Reply}
 use Rattle.export_machine.specs.declared.step_error.StepError.{StepError}
 use Rattle.export_machine.specs.declared.step_error.StepError.TheVariants.{Memory}
 use Rattle.export_machine.specs.Cluster.{World}
 use Rattle.std.proofs.lemmas.Bool.{cases_Bool}
 use Rattle.export_machine.specs.Authority.{is_authority, authority, is_present, is_stopped, named_of}
-use Rattle.export_machine.specs.Step.{Event, step, run, answers}
+use Rattle.export_machine.specs.Step.{step, run, answers}
+use Rattle.export_machine.specs.declared.event.Event.{Event}
 use Rattle.export_machine.specs.View.{IsReached, IsAnswer, AreAnswers, NoneIsMemory}
 use Rattle.export_machine.specs.Promises.{Promised, KeepsAuthority, IsTheAuthority, NoneForGone, NoneAtStopped}
 use Rattle.export_machine.proofs.Lookups.{holds_authority, authority_is}
@@ -77,14 +78,3 @@ answers_are w v (e ∷ es) (r ∷ rs) a n =
     stepped : (q : Result Reply StepError) → q ≢ Err Memory → IsAnswer w e q a.0 → step w e ≡ (q, a.0)
     stepped (Ok reply) m b = b
     stepped (Err error) m b = elim b.0 [ inl s ↦ s ∙ ap (λ (u : World). (Err error, u)) (sym b.1) | inr f ↦ absurd (m (ap Err f.0)) ]
-
-pub map_next : {A B : Type 0} (f : A → B) (xs : List A) (i : ℕ) (a : A) → i < length xs → a ≡ get_or xs i a → map f (take (i + 1) xs) ≡ map f (take i xs) ++ f a ∷ []
-map_next {A = A} f xs i a h e = ap (λ k. map f (take k xs)) (succ i) ∙ go xs i h e
-  where
-    succ : (k : ℕ) → k + 1 ≡ suc k
-    succ k = omega arith
-
-    go : (ys : List A) (k : ℕ) → k < length ys → a ≡ get_or ys k a → map f (take (suc k) ys) ≡ map f (take k ys) ++ f a ∷ []
-    go [] k l m = absurd (omega arith)
-    go (y ∷ ys) zero l m = rw m refl
-    go (y ∷ ys) (suc k) l m = ap (λ zs. f y ∷ zs) (go ys k (omega arith) m)

@@ -2,11 +2,11 @@
 use Rattle.std.proofs.Common.{◌≡◌, true, false, List, [], ◌∷◌, Some, Ok, Err, refl}
 use Rattle.export_machine.specs.declared.journal.JournalEntry.{JournalEntry}
 use Rattle.export_machine.specs.Authority.{authority, serves, open_export, frozen_by, journal_of, named_of}
-use Rattle.export_machine.specs.Step.{Event}
+use Rattle.export_machine.specs.declared.event.Event.{Event}
 use Rattle.export_machine.specs.declared.event.Reply.{Reply}
 use Rattle.export_machine.specs.declared.step_error.StepError.{StepError}
 use Rattle.export_machine.specs.Step.{causes, refusal, happens, step, run, answers, start}
-use Rattle.export_machine.specs.Step.Event.{Begin, End, Start, Deliver, Froze, Notify, Abort, Stop, Restart, Ask}
+use Rattle.export_machine.specs.declared.event.Event.TheVariants.{Begin, End, Start, Deliver, Froze, Notify, Abort, Stop, Restart, Ask}
 use Rattle.export_machine.specs.declared.event.Reply.TheVariants.{Dir, Ticket, Sent, Changed, Ignored}
 use Rattle.export_machine.specs.declared.step_error.StepError.TheVariants.{Elsewhere, Frozen, Late, NotYet, NoTicket, NoMessage, NoExport, SameRank, NotConnected, Busy}
 use Rattle.export_machine.specs.declared.exporter.ExporterState.TheVariants.{Discovering, Aborted}

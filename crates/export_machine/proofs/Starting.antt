@@ -10,7 +10,7 @@ use Rattle.export_machine.specs.declared.importer.ImporterState.TheVariants.{Unk
 use Rattle.export_machine.specs.Cluster.{Order, World}
 use Rattle.export_machine.specs.Authority.{no_order, is_among, is_inside, is_present, to_of, importer_of, has, authority, is_open, is_aborted, open_export, or_else}
 use Rattle.export_machine.specs.Step.{refusal, causes, map_at, busy, elsewhere, repeats, is_connected}
-use Rattle.export_machine.specs.Step.Event.{Start}
+use Rattle.export_machine.specs.declared.event.Event.TheVariants.{Start}
 use Rattle.export_machine.specs.View.{IsReached}
 use Rattle.export_machine.specs.Kept.{Indexes, IsIndexed}
 use Rattle.export_machine.proofs.Views.{push_same, push_other, map_at_length}

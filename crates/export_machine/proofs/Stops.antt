@@ -10,7 +10,7 @@ use Rattle.export_machine.specs.declared.importer.ImporterState.TheVariants.{Unk
 use Rattle.export_machine.specs.Authority.{from_of, to_of, exporter_of, importer_of, request_of, has, is_stopped}
 use Rattle.export_machine.specs.Step.{happens, is_started, is_before_log, exporter_by_journal, importer_by_journal, ends_at, stops, restarts, changed, ignored}
 use Rattle.export_machine.specs.Kept.{exporter_at_stop, importer_at_stop}
-use Rattle.export_machine.specs.Step.Event.{Stop, Restart}
+use Rattle.export_machine.specs.declared.event.Event.TheVariants.{Stop, Restart}
 use Rattle.export_machine.proofs.Owning.{is_moving, halted_owning, halted_running}
 use Rattle.export_machine.proofs.Owning.Phase.{Over}
 use Rattle.export_machine.proofs.Tables.{is_imported, is_done, is_committed, halted_exporters, halted_importers}

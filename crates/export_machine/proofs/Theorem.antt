@@ -9,10 +9,10 @@ use Rattle.export_machine.specs.declared.journal.JournalEntry.{JournalEntry}
 use Rattle.export_machine.specs.declared.event.Request.{Request}
 use Rattle.export_machine.specs.Cluster.{World}
 use Rattle.export_machine.specs.Authority.{is_inside, from_of, to_of, exporter_of, importer_of, named_of, is_present, request_of, has, is_same, owns, IsAuthority, serves, any_below, is_held_in, authority, is_stopped}
-use Rattle.export_machine.specs.Step.{Event}
+use Rattle.export_machine.specs.declared.event.Event.{Event}
 use Rattle.export_machine.specs.declared.step_error.StepError.{StepError}
 use Rattle.export_machine.specs.Step.{causes, refusal, happens, step, answered, first, when, run, start, history_limit, counted, ignored, changed, journaled_by, restarts}
-use Rattle.export_machine.specs.Step.Event.{Begin, End, Start, Deliver, Froze, Notify, Abort, Stop, Restart, Ask}
+use Rattle.export_machine.specs.declared.event.Event.TheVariants.{Begin, End, Start, Deliver, Froze, Notify, Abort, Stop, Restart, Ask}
 use Rattle.export_machine.proofs.Views.{push_other, not_past}
 use Rattle.export_machine.specs.Promises.{IsTheAuthority, OneAuthority, ServedByAuthority, RequestsAtAuthority, IsBetweenLogAndNotify, MapNamed, NoneForGone, KeepsAuthority}
 use Rattle.export_machine.proofs.Owning.{Phase, is_moving}

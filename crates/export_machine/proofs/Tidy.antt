@@ -6,8 +6,9 @@ use Rattle.export_machine.specs.declared.step_error.StepError.{StepError}
 use Rattle.export_machine.specs.declared.event.Request.{Request}
 use Rattle.export_machine.specs.Cluster.{World}
 use Rattle.export_machine.specs.Authority.{is_present, request_of, is_stopped, authority}
-use Rattle.export_machine.specs.Step.{Event, causes, refusal, happens, step, answered, run, start, counted, journaled_by, changed, ignored, restarts, stops, ends_at}
-use Rattle.export_machine.specs.Step.Event.{Begin, End, Start, Deliver, Froze, Notify, Abort, Stop, Restart, Ask}
+use Rattle.export_machine.specs.Step.{causes, refusal, happens, step, answered, run, start, counted, journaled_by, changed, ignored, restarts, stops, ends_at}
+use Rattle.export_machine.specs.declared.event.Event.{Event}
+use Rattle.export_machine.specs.declared.event.Event.TheVariants.{Begin, End, Start, Deliver, Froze, Notify, Abort, Stop, Restart, Ask}
 use Rattle.export_machine.proofs.Views.{push_same, push_other, map_at_get, map_at_past}
 use Rattle.export_machine.proofs.Frame.{Framed, delivered_frame}
 use Rattle.export_machine.proofs.Events.{NoneOf, not_refused, there_near, set_none}

@@ -10,7 +10,8 @@ use Rattle.export_machine.specs.Step.{exporter_to, journals}
 use Rattle.export_machine.specs.Roots.{parent_of, same_rank, is_apart, AreOwners, above, nearest}
 use Rattle.export_machine.proofs.Safe.{Safe, phase_of, log_safe, log_outside, log_near, exporter_phases, exporter_at}
 use Rattle.export_machine.proofs.Lookups.{inside_near, taking_over, takes_over}
-use Rattle.export_machine.specs.Step.{Event, run, start}
+use Rattle.export_machine.specs.Step.{run, start}
+use Rattle.export_machine.specs.declared.event.Event.{Event}
 use Rattle.export_machine.specs.Promises.{NoneAtStopped, NearestOwns}
 use Rattle.export_machine.proofs.Theorem.{safe_one_authority, safe_gone, run_keeps, start_safe}
 use Rattle.export_machine.proofs.Authorities.{authority_found, no_authority, authority_stays}

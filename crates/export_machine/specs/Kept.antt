@@ -2,9 +2,9 @@
 use Rattle.std.specs.Prelude.{◌≡◌, ◌≤◌, ◌<◌, ℕ, ◌+◌, suc, Bool, true, ◌&&◌, nat_lt, List, [], ◌∷◌, map, length, Option, None, Some, Result, Ok, Err, slice_get, slice_index_or, vec_len, vec_capacity, Vec, if◌then◌else◌, replicate, false, not, ◌==◌, is_some}
 use Rattle.export_machine.specs.Cluster.{Order, World}
 use Rattle.export_machine.specs.Authority.{authority, open_export, order_in, from_of, exporter_of, importer_of}
-use Rattle.export_machine.specs.Step.{Event, running_on, is_child, about, receiver, repeats, comes}
+use Rattle.export_machine.specs.Step.{running_on, is_child, about, receiver, repeats, comes}
 use Rattle.export_machine.specs.View.{IsReached}
-use Rattle.export_machine.specs.declared.event.Event.{Event as Asked}
+use Rattle.export_machine.specs.declared.event.Event.{Event}
 use Rattle.export_machine.specs.declared.event.Reply.{Reply}
 use Rattle.export_machine.specs.declared.exporter.ExporterState.{ExporterState}
 use Rattle.export_machine.specs.declared.importer.ImporterState.{ImporterState}
@@ -15,20 +15,6 @@ use Rattle.export_machine.specs.declared.message.Message.{Message}
 use Rattle.export_machine.specs.declared.step_error.StepError.{StepError}
 use Rattle.export_machine.specs.declared.records.Records.{Records}
 use Rattle.mds_types.specs.declared.order.Order.{Order as Moved}
-
-abbrev pub event_of : Asked → Event
-event_of (Asked.Made parent) = Event.Made parent
-event_of (Asked.Gone dir) = Event.Gone dir
-event_of (Asked.Begin rank dir) = Event.Begin rank dir
-event_of (Asked.End ticket) = Event.End ticket
-event_of (Asked.Start from to dirs) = Event.Start from to dirs.items
-event_of (Asked.Deliver message) = Event.Deliver message
-event_of (Asked.Froze export) = Event.Froze export
-event_of (Asked.Notify export) = Event.Notify export
-event_of (Asked.Abort export) = Event.Abort export
-event_of (Asked.Stop rank) = Event.Stop rank
-event_of (Asked.Restart rank) = Event.Restart rank
-event_of (Asked.Ask export) = Event.Ask export
 
 abbrev pub order_of : Moved → Order
 order_of o = record { from = o.from; to = o.to; dirs = o.dirs.items }

@@ -6,8 +6,9 @@ use Rattle.export_machine.specs.declared.event.Request.{Request}
 use Rattle.export_machine.specs.declared.exporter.ExporterState.TheVariants.{Freezing}
 use Rattle.export_machine.specs.Cluster.{World}
 use Rattle.export_machine.specs.Authority.{is_among, is_inside, from_of, exporter_of, order_in, is_present, request_of, owns, serves, any_below, is_stopped}
-use Rattle.export_machine.specs.Step.{Event, refusal, is_before_log, is_child, is_connected, any_at, history_limit, export_limit}
-use Rattle.export_machine.specs.Step.Event.{Begin, Start, Froze}
+use Rattle.export_machine.specs.Step.{refusal, is_before_log, is_child, is_connected, any_at, history_limit, export_limit}
+use Rattle.export_machine.specs.declared.event.Event.{Event}
+use Rattle.export_machine.specs.declared.event.Event.TheVariants.{Begin, Start, Froze}
 
 -- r is one of the ranks, and runs
 abbrev pub IsUp : World → ℕ → Type 0

@@ -5,7 +5,7 @@ use Rattle.export_machine.specs.declared.journal.JournalEntry.{JournalEntry}
 use Rattle.export_machine.specs.declared.event.Request.{Request}
 use Rattle.export_machine.specs.Cluster.{World}
 use Rattle.export_machine.specs.Authority.{is_inside, from_of, named_of, is_present, request_of, has, IsAuthority, authority, serves, is_stopped}
-use Rattle.export_machine.specs.Step.{Event}
+use Rattle.export_machine.specs.declared.event.Event.{Event}
 use Rattle.export_machine.specs.Step.{step}
 
 -- r is the one authority of d

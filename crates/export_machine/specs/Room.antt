@@ -4,7 +4,8 @@ use Rattle.export_machine.specs.declared.records.Records.{Records}
 use Rattle.export_machine.specs.declared.step_error.StepError.{StepError}
 use Rattle.export_machine.specs.declared.step_error.StepError.TheVariants.{Memory}
 use Rattle.export_machine.specs.Cluster.{World}
-use Rattle.export_machine.specs.Step.{Event, refusal}
+use Rattle.export_machine.specs.Step.{refusal}
+use Rattle.export_machine.specs.declared.event.Event.{Event}
 use Rattle.export_machine.specs.Kept.{State, is_ready, has_spare, has_place}
 
 -- where there was room for an event, there is

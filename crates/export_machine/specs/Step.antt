@@ -6,6 +6,8 @@ use Rattle.export_machine.specs.declared.importer.ImporterState.{ImporterState}
 use Rattle.export_machine.specs.declared.journal.JournalEntry.{JournalEntry}
 use Rattle.export_machine.specs.declared.message.Message.{Message}
 use Rattle.export_machine.specs.declared.event.Request.{Request}
+use Rattle.export_machine.specs.declared.event.Event.{Event}
+use Rattle.export_machine.specs.declared.event.Event.TheVariants.{Begin, End, Start, Deliver, Froze, Notify, Abort, Stop, Restart, Ask}
 use Rattle.export_machine.specs.Cluster.{World}
 use Rattle.export_machine.specs.declared.exporter.ExporterState.TheVariants.{Discovering, Freezing, Preparing, Exporting, Logged, Done, Aborted}
 use Rattle.export_machine.specs.declared.importer.ImporterState.TheVariants.{Unknown, Discovered, Prepared, Started, Imported, Dropped}
@@ -15,20 +17,6 @@ use Rattle.export_machine.specs.declared.event.Reply.TheVariants.{Ticket, Sent, 
 use Rattle.export_machine.specs.declared.step_error.StepError.{StepError}
 use Rattle.export_machine.specs.declared.step_error.StepError.TheVariants.{HistoryFull, NoDir, IsRoot, NotEmpty, TreeFull, NoRank, SameRank, NotConnected, ExportsFull, NoExport, NoMessage, NoTicket, Elsewhere, Busy, Frozen, NotYet, Late}
 use Rattle.export_machine.specs.Authority.{order_in, is_among, is_inside, from_of, to_of, exporter_of, importer_of, journal_of, is_present, request_of, has, authority, open_export, frozen_by, is_stopped, runs_on, or_else}
-
-pub data Event : Type 0 where
-  Made : (parent : ℕ) → Event
-  Gone : (dir : ℕ) → Event
-  Begin : (rank dir : ℕ) → Event
-  End : (ticket : ℕ) → Event
-  Start : (from to : ℕ) (dirs : List ℕ) → Event
-  Deliver : (message : ℕ) → Event
-  Froze : (export : ℕ) → Event
-  Notify : (export : ℕ) → Event
-  Abort : (export : ℕ) → Event
-  Stop : (rank : ℕ) → Event
-  Restart : (rank : ℕ) → Event
-  Ask : (export : ℕ) → Event
 
 -- Refusals. The first cause in the list is the answer.
 

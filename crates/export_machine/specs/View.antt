@@ -4,7 +4,8 @@ use Rattle.export_machine.specs.declared.event.Reply.{Reply}
 use Rattle.export_machine.specs.declared.step_error.StepError.{StepError}
 use Rattle.export_machine.specs.declared.step_error.StepError.TheVariants.{Memory}
 use Rattle.export_machine.specs.Cluster.{World}
-use Rattle.export_machine.specs.Step.{Event, step, refusal, run, start}
+use Rattle.export_machine.specs.Step.{step, refusal, run, start}
+use Rattle.export_machine.specs.declared.event.Event.{Event}
 
 -- the answer to an event is that of the definition; want of memory is answered only where no cause stands, and nothing
 -- has changed then

@@ -1,10 +1,11 @@
 //! One event: its refusal, its memory, its effect, in this order.
 
 ghost use Rattle.std.specs.Prelude.{◌≡◌, ◌<◌, ℕ, length, map, Some, None, true, Ok, OnOk, OnErr, IsOk, IfSome, IfErr};
-ghost use Rattle.export_machine.specs.Step.{Event as StepEvent, refusal, happens, step};
+ghost use Rattle.export_machine.specs.Step.{refusal, happens, step};
+ghost use Rattle.export_machine.specs.declared.event.Event.{Event as StepEvent};
 ghost use Rattle.export_machine.specs.View.{IsAnswer};
 ghost use Rattle.export_machine.specs.Room.{IsAsRoomy, IsRefusal};
-ghost use Rattle.export_machine.specs.Kept.{world_of, indexes_of, event_of, has_room, has_place, has_places, has_list_places, has_dir_places, has_export_places, entered_at, IsKept, IsIndexed};
+ghost use Rattle.export_machine.specs.Kept.{world_of, indexes_of, has_room, has_place, has_places, has_list_places, has_dir_places, has_export_places, entered_at, IsKept, IsIndexed};
 
 use crate::event::{Event, Reply};
 use crate::journal::JournalEntry;
@@ -61,9 +62,9 @@ impl Records {
     /// The effect of an accepted event for which there is room.
     fn happen(&mut self, event: Event) -> Reply
         requires kept { IsKept self.old }
-        requires accepted { refusal (world_of self.old) (event_of event) ≡ None }
-        requires room { has_room self.old (event_of event) ≡ true }
-        ensures effect { happens (world_of self.old) (event_of event) ≡ record { reply = result; world = world_of self.new } }
+        requires accepted { refusal (world_of self.old) (event) ≡ None }
+        requires room { has_room self.old (event) ≡ true }
+        ensures effect { happens (world_of self.old) (event) ≡ record { reply = result; world = world_of self.new } }
         ensures indexed { IsIndexed (world_of self.new) (indexes_of self.new) }
     {
         match event {
@@ -85,8 +86,8 @@ impl Records {
     /// The journal in which this accepted event is entered, if it is.
     fn journal_rank(&self, event: &Event) -> Option<Rank>
         requires kept { IsKept self.now }
-        requires accepted { refusal (world_of self.now) (event_of event.now) ≡ None }
-        ensures rank { result ≡ entered_at (world_of self.now) (event_of event.now) }
+        requires accepted { refusal (world_of self.now) (event.now) ≡ None }
+        ensures rank { result ≡ entered_at (world_of self.now) (event.now) }
         ensures near { IfSome result (λ rank. rank < length self.now.journals.items) }
     {
         match event {
@@ -118,8 +119,8 @@ impl Records {
         ensures world { world_of self.new ≡ world_of self.old }
         ensures indexes { indexes_of self.new ≡ indexes_of self.old }
         ensures journals { self.new.journals ≡ self.old.journals }
-        ensures room { OnOk result (has_list_places self.new (event_of event.now) ≡ true) }
-        ensures ready { has_list_places self.old (event_of event.now) ≡ true → IsOk result }
+        ensures room { OnOk result (has_list_places self.new (event.now) ≡ true) }
+        ensures ready { has_list_places self.old (event.now) ≡ true → IsOk result }
         ensures spare { IsAsRoomy self.old self.new }
     {
         match event {
@@ -141,11 +142,11 @@ impl Records {
     /// Takes the memory that an accepted event needs. Where there is room already it takes none.
     pub(crate) fn grow(&mut self, event: &Event) -> Result<(), AllocError>
         requires kept { IsKept self.old }
-        requires accepted { refusal (world_of self.old) (event_of event.now) ≡ None }
+        requires accepted { refusal (world_of self.old) (event.now) ≡ None }
         ensures world { world_of self.new ≡ world_of self.old }
         ensures indexes { indexes_of self.new ≡ indexes_of self.old }
-        ensures room { OnOk result (has_room self.new (event_of event.now) ≡ true) }
-        ensures ready { has_room self.old (event_of event.now) ≡ true → IsOk result }
+        ensures room { OnOk result (has_room self.new (event.now) ≡ true) }
+        ensures ready { has_room self.old (event.now) ≡ true → IsOk result }
         ensures spare { IsAsRoomy self.old self.new }
     {
         let rank = self.journal_rank(event);
@@ -156,10 +157,10 @@ impl Records {
     /// Refuses an event, or takes the memory that it needs.
     pub(crate) fn prepare(&mut self, event: &Event) -> Result<(), StepError>
         requires kept { IsKept self.old }
-        ensures accepted { OnOk result (refusal (world_of self.old) (event_of event.now) ≡ None) }
-        ensures room { OnOk result (has_room self.new (event_of event.now) ≡ true) }
-        ensures err { IfErr result (IsRefusal (world_of self.old) (event_of event.now)) }
-        ensures ready { refusal (world_of self.old) (event_of event.now) ≡ None → has_room self.old (event_of event.now) ≡ true → IsOk result }
+        ensures accepted { OnOk result (refusal (world_of self.old) (event.now) ≡ None) }
+        ensures room { OnOk result (has_room self.new (event.now) ≡ true) }
+        ensures err { IfErr result (IsRefusal (world_of self.old) (event.now)) }
+        ensures ready { refusal (world_of self.old) (event.now) ≡ None → has_room self.old (event.now) ≡ true → IsOk result }
         ensures world { world_of self.new ≡ world_of self.old }
         ensures kept { IsKept self.new }
         ensures spare { IsAsRoomy self.old self.new }
@@ -174,9 +175,9 @@ impl Records {
     /// An event that is prepared happens, and is counted.
     pub(crate) fn perform(&mut self, event: Event) -> Reply
         requires kept { IsKept self.old }
-        requires accepted { refusal (world_of self.old) (event_of event) ≡ None }
-        requires room { has_room self.old (event_of event) ≡ true }
-        ensures step { step (world_of self.old) (event_of event) ≡ (Ok result, world_of self.new) }
+        requires accepted { refusal (world_of self.old) (event) ≡ None }
+        requires room { has_room self.old (event) ≡ true }
+        ensures step { step (world_of self.old) (event) ≡ (Ok result, world_of self.new) }
         ensures kept { IsKept self.new }
     {
         let reply = self.happen(event);
@@ -187,9 +188,9 @@ impl Records {
     /// Applies an event.
     pub(crate) fn apply(&mut self, event: Event) -> Result<Reply, StepError>
         requires kept { IsKept self.old }
-        ensures answer { IsAnswer (world_of self.old) (event_of event) result (world_of self.new) }
+        ensures answer { IsAnswer (world_of self.old) (event) result (world_of self.new) }
         ensures kept { IsKept self.new }
-        ensures ready { refusal (world_of self.old) (event_of event) ≡ None → has_room self.old (event_of event) ≡ true → IsOk result }
+        ensures ready { refusal (world_of self.old) (event) ≡ None → has_room self.old (event) ≡ true → IsOk result }
         ensures spare { OnErr result (IsAsRoomy self.old self.new) }
     {
         self.prepare(&event)?;

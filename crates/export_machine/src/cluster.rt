@@ -8,7 +8,7 @@ ghost use Rattle.export_machine.specs.Roots.{roots};
 ghost use Rattle.export_machine.specs.Room.{KeepsRoom, IsRefusal};
 ghost use Rattle.export_machine.specs.View.{IsAnswer, AreAnswers, NoneIsMemory, IsReached};
 ghost use Rattle.export_machine.specs.Promises.{Promised, KeepsAuthority};
-ghost use Rattle.export_machine.specs.Kept.{event_of, order_of, cause_of, addressed, states_of, is_ready};
+ghost use Rattle.export_machine.specs.Kept.{order_of, cause_of, addressed, states_of, is_ready};
 
 use crate::event::{Event, Reply};
 use crate::exporter::ExporterState;
@@ -56,13 +56,13 @@ impl Cluster {
     /// Applies one event: a refusal changes nothing, and is the first cause in the order of the table of events. Where
     /// no cause stands and memory is missing that is the answer.
     pub fn apply(&mut self, event: Event) -> Result<Reply, StepError>
-        ensures answer { IsAnswer self.old.world (event_of event) result self.new.world }
-        ensures ready { refusal self.old.world (event_of event) ≡ None → is_ready self.old (event_of event) ≡ true → IsOk result }
+        ensures answer { IsAnswer self.old.world (event) result self.new.world }
+        ensures ready { refusal self.old.world (event) ≡ None → is_ready self.old (event) ≡ true → IsOk result }
         // Room that was taken for any event is still there where this one is refused.
         ensures spare { OnErr result (KeepsRoom self.old self.new) }
         ensures promised { Promised self.new.world }
         // The event changed the authority of no directory on which a request runs.
-        ensures kept { KeepsAuthority self.old.world (event_of event) }
+        ensures kept { KeepsAuthority self.old.world (event) }
     {
         self.records.apply(event)
     }
@@ -70,10 +70,10 @@ impl Cluster {
     /// Refuses an event, or takes the memory that it needs as the next change: then it can `happen`. A list of
     /// directories takes time that grows with its length alone.
     pub fn prepare(&mut self, event: &Event) -> Result<(), StepError>
-        ensures accepted { OnOk result (refusal self.old.world (event_of event.now) ≡ None) }
-        ensures room { OnOk result (is_ready self.new (event_of event.now) ≡ true) }
-        ensures err { IfErr result (IsRefusal self.old.world (event_of event.now)) }
-        ensures ready { refusal self.old.world (event_of event.now) ≡ None → is_ready self.old (event_of event.now) ≡ true → IsOk result }
+        ensures accepted { OnOk result (refusal self.old.world (event.now) ≡ None) }
+        ensures room { OnOk result (is_ready self.new (event.now) ≡ true) }
+        ensures err { IfErr result (IsRefusal self.old.world (event.now)) }
+        ensures ready { refusal self.old.world (event.now) ≡ None → is_ready self.old (event.now) ≡ true → IsOk result }
         ensures world { self.new.world ≡ self.old.world }
         ensures spare { KeepsRoom self.old self.new }
     {
@@ -82,11 +82,11 @@ impl Cluster {
 
     /// An event that is prepared happens.
     pub fn happen(&mut self, event: Event) -> Reply
-        requires accepted { refusal self.old.world (event_of event) ≡ None }
-        requires room { is_ready self.old (event_of event) ≡ true }
-        ensures step { step self.old.world (event_of event) ≡ (Ok result, self.new.world) }
-        ensures reply { result ≡ (happens self.old.world (event_of event)).reply }
-        ensures world { self.new.world ≡ counted (happens self.old.world (event_of event)).world }
+        requires accepted { refusal self.old.world (event) ≡ None }
+        requires room { is_ready self.old (event) ≡ true }
+        ensures step { step self.old.world (event) ≡ (Ok result, self.new.world) }
+        ensures reply { result ≡ (happens self.old.world (event)).reply }
+        ensures world { self.new.world ≡ counted (happens self.old.world (event)).world }
         ensures promised { Promised self.new.world }
     {
         self.records.perform(event)
@@ -98,10 +98,10 @@ impl Cluster {
         alloc: Global,
         events: &[Event],
     ) -> Result<Vec<Result<Reply, StepError>>, AllocError>
-        ensures answers { IfOk result (λ answers. AreAnswers self.old.world (map event_of events.now) answers.items self.new.world) }
+        ensures answers { IfOk result (λ answers. AreAnswers self.old.world (events.now) answers.items self.new.world) }
         // Where no answer was want of memory they are the answers of the definition, and so is the state after them.
-        ensures exact { IfOk result (λ answers. NoneIsMemory answers.items → answers.items ≡ answers_to self.old.world (map event_of events.now)) }
-        ensures state { IfOk result (λ answers. NoneIsMemory answers.items → self.new.world ≡ state_after self.old.world (map event_of events.now)) }
+        ensures exact { IfOk result (λ answers. NoneIsMemory answers.items → answers.items ≡ answers_to self.old.world (events.now)) }
+        ensures state { IfOk result (λ answers. NoneIsMemory answers.items → self.new.world ≡ state_after self.old.world (events.now)) }
         ensures err { OnErr result (self.new.world ≡ self.old.world) }
         ensures promised { Promised self.new.world }
     {
@@ -115,7 +115,7 @@ impl Cluster {
     }
 
     fn apply_copy(&mut self, alloc: Global, event: &Event) -> Result<Reply, StepError>
-        ensures { IsAnswer self.old.world (event_of event.now) result self.new.world }
+        ensures { IsAnswer self.old.world (event.now) result self.new.world }
     {
         match event.copied(alloc) {
             Ok(copy) => self.apply(copy),
@@ -125,7 +125,7 @@ impl Cluster {
 
     /// The refusal of an event for which there is no memory.
     fn refused(&self, event: &Event) -> StepError
-        ensures { IsAnswer self.now.world (event_of event.now) (Err result) self.now.world }
+        ensures { IsAnswer self.now.world (event.now) (Err result) self.now.world }
     {
         match self.can_apply(event) {
             Err(error) => error,
@@ -156,14 +156,14 @@ impl Cluster {
 
     /// Why `apply` would refuse this event, want of memory apart. It takes no memory.
     pub fn can_apply(&self, event: &Event) -> Result<(), StepError>
-        ensures { cause_of result ≡ refusal self.now.world (event_of event.now) }
+        ensures { cause_of result ≡ refusal self.now.world (event.now) }
     {
         self.records.check(event)
     }
 
     /// Whether this event, if it comes next, is the log entry of an export: from then on the export can only go on.
     pub fn logs_export(&self, event: &Event) -> bool
-        ensures { result ≡ logs_export self.now.world (event_of event.now) }
+        ensures { result ≡ logs_export self.now.world (event.now) }
     {
         self.records.logs_export(event)
     }
@@ -171,7 +171,7 @@ impl Cluster {
     /// Takes the memory that an `apply` of this event as the next change needs.
     pub fn reserve(&mut self, event: &Event) -> Result<(), AllocError>
         ensures world { self.new.world ≡ self.old.world }
-        ensures room { OnOk result (refusal self.new.world (event_of event.now) ≡ None → is_ready self.new (event_of event.now) ≡ true) }
+        ensures room { OnOk result (refusal self.new.world (event.now) ≡ None → is_ready self.new (event.now) ≡ true) }
         ensures spare { KeepsRoom self.old self.new }
     {
         if self.records.check_by_marks(event).is_err() {

@@ -3,9 +3,10 @@
 //! A message may come late, twice or not at all. It acts in one state alone, and is ignored in every other.
 
 ghost use Rattle.std.specs.Prelude.{◌≡◌, ◌<◌, length, Some, None, true, slice_get};
-ghost use Rattle.export_machine.specs.Step.{Event as StepEvent, refusal, happens, receiver};
+ghost use Rattle.export_machine.specs.Step.{refusal, happens, receiver};
+ghost use Rattle.export_machine.specs.declared.event.Event.{Event as StepEvent};
 ghost use Rattle.export_machine.specs.Entries.{logs_export, is_log, delivered_entry};
-ghost use Rattle.export_machine.specs.Kept.{world_of, indexes_of, has_room, IsKept, IsIndexed, CanReceive, IsReceived, addressed, event_of};
+ghost use Rattle.export_machine.specs.Kept.{world_of, indexes_of, has_room, IsKept, IsIndexed, CanReceive, IsReceived, addressed};
 ghost use Rattle.export_machine.specs.Step.{about};
 
 use crate::changes::{enter, mark, send};
@@ -222,7 +223,7 @@ impl Records {
     /// Whether an event, if it comes next, logs an export.
     pub(crate) fn logs_export(&self, event: &Event) -> bool
         requires kept { IsKept self.now }
-        ensures { result ≡ logs_export (world_of self.now) (event_of event.now) }
+        ensures { result ≡ logs_export (world_of self.now) (event.now) }
     {
         match event {
             Event::Deliver(message) => {

@@ -3,10 +3,12 @@
 //! The memory was taken before: no change here can be refused.
 
 ghost use Rattle.std.specs.Prelude.{◌≡◌, ◌<◌, length, None, true};
-ghost use Rattle.export_machine.specs.Step.{Event as StepEvent, refusal, happens};
+ghost use Rattle.export_machine.specs.Step.{refusal, happens};
+ghost use Rattle.export_machine.specs.declared.event.Event.{Event as StepEvent};
 ghost use Rattle.export_machine.specs.Kept.{world_of, indexes_of, has_room, IsKept, IsIndexed};
 
 use crate::changes::{enter, mark, send};
+use crate::dirs::Dirs;
 use crate::event::{Reply, Request};
 use crate::exporter::ExporterState;
 use crate::importer::ImporterState;
@@ -118,16 +120,17 @@ impl Records {
     }
 
     /// An export starts.
-    pub(crate) fn start(&mut self, from: Rank, to: Rank, dirs: Vec<Dir>) -> Reply
+    pub(crate) fn start(&mut self, from: Rank, to: Rank, dirs: Dirs) -> Reply
         requires kept { IsKept self.old }
-        requires accepted { refusal (world_of self.old) (StepEvent.Start from to dirs.items) ≡ None }
-        requires room { has_room self.old (StepEvent.Start from to dirs.items) ≡ true }
-        ensures effect { happens (world_of self.old) (StepEvent.Start from to dirs.items) ≡ record { reply = result; world = world_of self.new } }
+        requires accepted { refusal (world_of self.old) (StepEvent.Start from to dirs) ≡ None }
+        requires room { has_room self.old (StepEvent.Start from to dirs) ≡ true }
+        ensures effect { happens (world_of self.old) (StepEvent.Start from to dirs) ≡ record { reply = result; world = world_of self.new } }
         ensures indexed { IsIndexed (world_of self.new) (indexes_of self.new) }
     {
         let export = self.orders.len() as u32;
         let message = self.sent.len() as u32;
-        mark(&mut self.opened, &dirs, Some(export));
+        mark(&mut self.opened, dirs.as_slice(), Some(export));
+        let dirs = dirs.into_vec();
         self.orders.push_reserved(Order { from, to, dirs });
         self.exporters.push_reserved(ExporterState::Discovering);
         self.importers.push_reserved(ImporterState::Unknown);

@@ -1,8 +1,6 @@
 //! What happens in a cluster, and what is answered.
 
-ghost use Rattle.std.specs.Prelude.{◌≡◌, IfOk};
-ghost use Rattle.export_machine.specs.Kept.{event_of};
-
+use crate::dirs::Dirs;
 use mds_types::{Dir, Rank};
 use std::alloc::{AllocError, Global};
 
@@ -18,7 +16,7 @@ pub enum Event {
     /// The request of this ticket ends.
     End(u32),
     /// An export of these directories starts, from one rank to another.
-    Start(Rank, Rank, Vec<Dir>),
+    Start(Rank, Rank, Dirs),
     /// A message that was sent comes to the rank that it is for.
     Deliver(u32),
     /// The exporter has waited until no request runs on the export's directories.
@@ -62,16 +60,18 @@ pub struct Request {
 }
 
 impl Event {
+    ghost use Rattle.std.specs.Prelude.{◌≡◌, IfOk};
+
     /// An equal event. It asks for memory for the list of `Start` alone.
     pub fn copied(&self, alloc: Global) -> Result<Event, AllocError>
-        ensures { IfOk result (λ copy. event_of copy ≡ event_of self.now) }
+        ensures { IfOk result (λ copy. copy ≡ self.now) }
     {
         Ok(match self {
             Event::Made(parent) => Event::Made(*parent),
             Event::Gone(dir) => Event::Gone(*dir),
             Event::Begin(rank, dir) => Event::Begin(*rank, *dir),
             Event::End(ticket) => Event::End(*ticket),
-            Event::Start(from, to, dirs) => Event::Start(*from, *to, copied_dirs(alloc, dirs)?),
+            Event::Start(from, to, dirs) => Event::Start(*from, *to, dirs.copied(alloc)?),
             Event::Deliver(message) => Event::Deliver(*message),
             Event::Froze(export) => Event::Froze(*export),
             Event::Notify(export) => Event::Notify(*export),
@@ -81,12 +81,4 @@ impl Event {
             Event::Ask(export) => Event::Ask(*export),
         })
     }
-}
-
-fn copied_dirs(alloc: Global, dirs: &[Dir]) -> Result<Vec<Dir>, AllocError>
-    ensures { IfOk result (λ copy. copy.items ≡ dirs.now) }
-{
-    let mut copy = Vec::with_capacity(alloc, dirs.len())?;
-    copy.extend_from_slice(dirs)?;
-    Ok(copy)
 }

@@ -4,7 +4,8 @@ ghost use Rattle.std.specs.Prelude.{ℕ, ◌≤◌, ◌≡◌, ◌≢◌, ◌↔
 ghost use Rattle.export_machine.specs.Cluster.{World};
 ghost use Rattle.export_machine.specs.Authority.{authority, is_present, is_stopped};
 ghost use Rattle.export_machine.specs.View.{IsReached};
-ghost use Rattle.export_machine.specs.Step.{run, start, refusal, Event as StepEvent};
+ghost use Rattle.export_machine.specs.Step.{run, start, refusal};
+ghost use Rattle.export_machine.specs.declared.event.Event.{Event as StepEvent};
 ghost use Rattle.export_machine.specs.Local.{IsLocal};
 ghost use Rattle.export_machine.specs.Entries.{IsRecorded, AreInJournals, AreMade, IsRecovered};
 ghost use Rattle.export_machine.specs.declared.step_error.StepError.TheVariants.{Memory};

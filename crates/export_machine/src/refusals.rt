@@ -4,9 +4,10 @@
 ghost use Rattle.std.specs.Prelude.{◌≡◌, true};
 ghost use Rattle.std.specs.List.{list_all};
 ghost use Rattle.export_machine.specs.Authority.{is_present};
-ghost use Rattle.export_machine.specs.Step.{Event as StepEvent, refusal, first, causes, is_connected};
+ghost use Rattle.export_machine.specs.Step.{refusal, first, causes, is_connected};
+ghost use Rattle.export_machine.specs.declared.event.Event.{Event as StepEvent};
 ghost use Rattle.export_machine.specs.Room.{IsAsRoomy};
-ghost use Rattle.export_machine.specs.Kept.{world_of, indexes_of, has_room, event_of, cause_of, IsKept};
+ghost use Rattle.export_machine.specs.Kept.{world_of, indexes_of, has_room, cause_of, IsKept};
 
 use crate::checks::{check_different, check_not_root};
 use crate::event::Event;
@@ -161,7 +162,7 @@ impl Records {
     #[inline(always)]
     fn check_causes(&self, event: &Event) -> Result<(), StepError>
         requires kept { IsKept self.now }
-        ensures { cause_of result ≡ first (causes (world_of self.now) (event_of event.now)) }
+        ensures { cause_of result ≡ first (causes (world_of self.now) (event.now)) }
     {
         match event {
             Event::Made(parent) => self.check_made(*parent),
@@ -171,8 +172,8 @@ impl Records {
             Event::Start(from, to, dirs) => self.check_start(
                 *from,
                 *to,
-                dirs,
-                self.is_connected(dirs),
+                dirs.as_slice(),
+                self.is_connected(dirs.as_slice()),
             ),
             Event::Deliver(message) => self.check_deliver(*message),
             Event::Froze(export) => self.check_froze(*export),
@@ -188,7 +189,7 @@ impl Records {
     #[tactic(auto, unfolding(crate::specs::Step::refusal))]
     pub(crate) fn check(&self, event: &Event) -> Result<(), StepError>
         requires kept { IsKept self.now }
-        ensures { cause_of result ≡ refusal (world_of self.now) (event_of event.now) }
+        ensures { cause_of result ≡ refusal (world_of self.now) (event.now) }
     {
         self.check_history()?;
         self.check_causes(event)
@@ -198,17 +199,17 @@ impl Records {
     #[tactic(auto, unfolding(crate::specs::Step::refusal))]
     pub(crate) fn check_by_marks(&mut self, event: &Event) -> Result<(), StepError>
         requires kept { IsKept self.old }
-        ensures cause { cause_of result ≡ refusal (world_of self.old) (event_of event.now) }
+        ensures cause { cause_of result ≡ refusal (world_of self.old) (event.now) }
         ensures world { world_of self.new ≡ world_of self.old }
         ensures indexes { indexes_of self.new ≡ indexes_of self.old }
-        ensures room { has_room self.old (event_of event.now) ≡ true → has_room self.new (event_of event.now) ≡ true }
+        ensures room { has_room self.old (event.now) ≡ true → has_room self.new (event.now) ≡ true }
         ensures spare { IsAsRoomy self.old self.new }
     {
         self.check_history()?;
         match event {
             Event::Start(from, to, dirs) => {
-                let connected = self.connects(dirs);
-                self.check_start(*from, *to, dirs, connected)
+                let connected = self.connects(dirs.as_slice());
+                self.check_start(*from, *to, dirs.as_slice(), connected)
             }
             _ => self.check_causes(event),
         }

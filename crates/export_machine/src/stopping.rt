@@ -2,7 +2,8 @@
 
 ghost use Rattle.std.specs.Prelude.{◌≡◌, ◌<◌, ℕ, map, length, Some, None, true, false, slice_set, slice_index_or, if◌then◌else◌, ◌==◌};
 ghost use Rattle.export_machine.specs.Authority.{order_in, from_of, to_of, importer_of, journal_of, has, has_entry, is_same, request_of};
-ghost use Rattle.export_machine.specs.Step.{Event as StepEvent, refusal, happens, map_at, is_before_log, ends_at};
+ghost use Rattle.export_machine.specs.Step.{refusal, happens, map_at, is_before_log, ends_at};
+ghost use Rattle.export_machine.specs.declared.event.Event.{Event as StepEvent};
 ghost use Rattle.export_machine.specs.Kept.{world_of, indexes_of, order_of, IsKept, IsIndexed, exporter_at_stop, importer_at_stop};
 ghost use Rattle.export_machine.specs.declared.event.Request.{Request};
 

@@ -235,6 +235,7 @@ fn roots_follow_the_log_entry(rt: HostRuntime) -> Result<(), Fail> {
         (&[1, 2], &[(0, 0), (1, 1)]),
     ];
     let log = to_the_log();
+    let steps = log.as_slice();
     for (dirs, want) in table {
         let rows = [
             (Do::Make(0), Ok(Reply::Dir(Dir::new(1)))),
@@ -243,12 +244,28 @@ fn roots_follow_the_log_entry(rt: HostRuntime) -> Result<(), Fail> {
         ];
         let mut cluster = played(&rt, rt.alloc(), &rows)?;
         assert_eq!(rt; roots(rt.alloc(), &cluster)?.len(), 1);
-        run_rows(&rt, rt.alloc(), &mut cluster, &log[2..])?;
+        run_rows(&rt, rt.alloc(), &mut cluster, &steps[2..])?;
         let found = roots(rt.alloc(), &cluster)?;
         assert_eq!(rt; found.len(), want.len());
         for ((dir, at), (number, owner)) in found.iter().zip(want.iter()) {
             assert_eq!(rt; (*dir, *at), (Dir::new(*number), rank(*owner)));
         }
     }
+    Ok(())
+}
+
+/// What a small cluster has after an export and some more, growths refused or not.
+#[test]
+fn a_refused_growth_changes_nothing(rt: HostRuntime) -> Result<(), Fail> {
+    let mut cluster = played(&rt, rt.alloc(), &to_the_log())?;
+    let rows = [
+        (Do::Notify(0), Ok(Reply::Sent(6))),
+        (Do::Deliver(6), Ok(Reply::Changed)),
+        (Do::Make(1), Ok(Reply::Dir(Dir::new(2)))),
+        (Do::Begin(1, 2), Ok(Reply::Ticket(0))),
+    ];
+    run_rows(&rt, rt.alloc(), &mut cluster, &rows)?;
+    assert_eq!(rt; roots(rt.alloc(), &cluster)?.len(), 2);
+    assert_eq!(rt; cluster.authority(Dir::new(2)), Some(rank(1)));
     Ok(())
 }

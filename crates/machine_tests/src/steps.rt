@@ -3,7 +3,7 @@
 //! What asks for memory is asked again where a growth was refused, and must have changed nothing by then. So the tests
 //! hold with any one growth refused.
 
-use export_machine::{Cluster, Event, Reply, StepError};
+use export_machine::{Cluster, Dirs, Event, Reply, StepError};
 use mds_types::{Dir, Rank};
 use std::alloc::{AllocError, Global};
 use std::process::Abort;
@@ -33,15 +33,15 @@ pub(crate) enum Do {
     Ask(u32),
 }
 
-fn listed(alloc: Global, numbers: &[u32]) -> Result<Vec<Dir>, AllocError> {
+fn listed(alloc: Global, numbers: &[u32]) -> Result<Dirs, AllocError> {
     let mut dirs = Vec::new(alloc);
     for number in numbers {
         dirs.push(Dir::new(*number))?;
     }
-    Ok(dirs)
+    Ok(Dirs::new(dirs))
 }
 
-fn dirs_at_last(alloc: Global, numbers: &[u32]) -> Result<Vec<Dir>, AllocError> {
+fn dirs_at_last(alloc: Global, numbers: &[u32]) -> Result<Dirs, AllocError> {
     match listed(alloc, numbers) {
         Ok(dirs) => Ok(dirs),
         Err(_) => listed(alloc, numbers),

@@ -3,7 +3,7 @@
 //! Each is made by the machine itself: what is next depends on its answers.
 
 use exhaustive::Random;
-use export_machine::{Cluster, Event, Reply};
+use export_machine::{Cluster, Dirs, Event, Reply};
 use mds_types::{Dir, Rank};
 use std::alloc::Global;
 use std::{fmt, io};
@@ -135,7 +135,11 @@ impl Maker {
 
     /// A whole export: ten events.
     fn export(&mut self, from: Rank, to: Rank, dirs: Vec<Dir>) -> io::Result<()> {
-        if let Some(Reply::Export(export, discover)) = self.add(Event::Start(from, to, dirs))? {
+        if let Some(Reply::Export(export, discover)) = self.add(Event::Start(
+            from,
+            to,
+            Dirs::new(dirs),
+        ))? {
             let found = self.sent(Event::Deliver(discover))?;
             self.add(Event::Deliver(found))?;
             let prepare = self.sent(Event::Froze(export))?;
@@ -151,7 +155,11 @@ impl Maker {
 
     /// An export that is given up: four events.
     fn give_up(&mut self, from: Rank, to: Rank, dirs: Vec<Dir>) -> io::Result<()> {
-        if let Some(Reply::Export(export, discover)) = self.add(Event::Start(from, to, dirs))? {
+        if let Some(Reply::Export(export, discover)) = self.add(Event::Start(
+            from,
+            to,
+            Dirs::new(dirs),
+        ))? {
             self.sent(Event::Deliver(discover))?;
             let cancel = self.sent(Event::Abort(export))?;
             self.add(Event::Deliver(cancel))?;

@@ -1,5 +1,5 @@
 use Rattle.std.proofs.Common.{ap, ◌∙◌}
-use Rattle.export_machine.specs.Kept.{State, event_of, is_ready}
+use Rattle.export_machine.specs.Kept.{State, is_ready}
 use Rattle.export_machine.proofs.Bounds.{kept_same, on_ok, ready_is, keeps_room}
 use Rattle.export_machine.proofs.cluster.Cluster.reserve.Goals as goal
 
@@ -14,7 +14,7 @@ invariant_of-self-2 c =
     kept_same c.self.inside.records c.grow.new.self (c.grow.ensures.world ∙ c.check_by_marks.ensures.world) (c.grow.ensures.indexes ∙ c.check_by_marks.ensures.indexes) c.self.invariant
 
 pub returns-clause-room : goal.returns-clause-room
-returns-clause-room c = on_ok c.grow.result (λ g a. ready_is c.grow.new.self (event_of c.args.event.now) ∙ g) c.grow.ensures.room
+returns-clause-room c = on_ok c.grow.result (λ g a. ready_is c.grow.new.self (c.args.event.now) ∙ g) c.grow.ensures.room
 
 pub returns-then-is_err-clause-spare : goal.returns-then-is_err-clause-spare
 returns-then-is_err-clause-spare c = λ e h.

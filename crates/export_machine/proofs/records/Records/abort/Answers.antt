@@ -2,7 +2,7 @@ use Rattle.std.proofs.Common.{◌≡◌, ◌<◌, ℕ, cond, length, map, Option
 use Rattle.std.proofs.lemmas.Bool.{and_parts, ltb-true}
 use Rattle.export_machine.specs.Authority.{is_among, is_inside, order_in}
 use Rattle.export_machine.specs.Step.{happens, map_at}
-use Rattle.export_machine.specs.Step.Event.{Abort}
+use Rattle.export_machine.specs.declared.event.Event.TheVariants.{Abort}
 use Rattle.export_machine.specs.Kept.{world_of, indexes_of, has_room, order_of, IsIndexed}
 use Rattle.export_machine.proofs.Indexing.{abort_there, abort_indexed, aborted}
 use Rattle.export_machine.proofs.Reached.{by_safe}

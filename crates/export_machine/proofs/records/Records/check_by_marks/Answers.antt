@@ -1,7 +1,7 @@
 use Rattle.std.proofs.Common.{Bool, List, sym, ap, ◌∙◌}
-use Rattle.export_machine.specs.declared.event.Event.{Event as Asked}
+use Rattle.export_machine.specs.declared.event.Event.{Event}
 use Rattle.export_machine.specs.declared.records.Records.{Records}
-use Rattle.export_machine.specs.Kept.{world_of, indexes_of, event_of, has_room, entered_at}
+use Rattle.export_machine.specs.Kept.{world_of, indexes_of, has_room, entered_at}
 use Rattle.export_machine.proofs.Bounds.{kept_same}
 use Rattle.export_machine.proofs.records.Records.check_by_marks.Goals as goal
 
@@ -13,6 +13,6 @@ check_start-requires-clause-kept c =
 pub returns-in-Start-clause-room : goal.returns-in-Start-clause-room
 unfolding has_room entered_at
 returns-in-Start-clause-room c = λ h.
-    ap (λ (e : Asked). has_room c.connects-connected.new.self (event_of e)) c.in-Start.is
-    ∙ (ap (λ (r : Records). has_room r (event_of (Asked.Start c.in-Start.from c.in-Start.to c.in-Start.dirs))) c.connects-connected.ensures.others
-    ∙ (ap (λ (e : Asked). has_room c.args.self.now (event_of e)) (sym c.in-Start.is) ∙ h))
+    ap (λ (e : Event). has_room c.connects-connected.new.self (e)) c.in-Start.is
+    ∙ (ap (λ (r : Records). has_room r ((Event.Start c.in-Start.from c.in-Start.to c.in-Start.dirs))) c.connects-connected.ensures.others
+    ∙ (ap (λ (e : Event). has_room c.args.self.now (e)) (sym c.in-Start.is) ∙ h))

@@ -3,7 +3,7 @@ use Rattle.std.proofs.lemmas.Bool.{and_parts}
 use Rattle.std.specs.List.{slice_get}
 use Rattle.export_machine.specs.Authority.{is_stopped}
 use Rattle.export_machine.specs.Step.{happens, receiver}
-use Rattle.export_machine.specs.Step.Event.{Deliver}
+use Rattle.export_machine.specs.declared.event.Event.TheVariants.{Deliver}
 use Rattle.export_machine.specs.Kept.{world_of, has_room, entered_at, has_places, has_spare, receiver_of}
 use Rattle.export_machine.specs.Step.{about}
 use Rattle.export_machine.proofs.Found.{orders_by}

@@ -1,7 +1,7 @@
 use Rattle.std.proofs.Common.{◌<◌, length, refl, arith}
 use Rattle.std.proofs.lemmas.Bool.{and_parts, ltb-true}
 use Rattle.export_machine.specs.Step.{happens}
-use Rattle.export_machine.specs.Step.Event.{Froze}
+use Rattle.export_machine.specs.declared.event.Event.TheVariants.{Froze}
 use Rattle.export_machine.specs.Kept.{world_of, indexes_of, has_room}
 use Rattle.export_machine.proofs.Indexing.{froze_indexed}
 use Rattle.export_machine.proofs.Accepted.{room_left, as_exporter, froze_order, froze_state}

@@ -3,13 +3,13 @@ use Rattle.std.specs.Option.{IfSome}
 use Rattle.std.specs.List.{slice_get}
 use Rattle.std.proofs.lemmas.List.{length-map}
 use Rattle.export_machine.specs.Cluster.{World}
-use Rattle.export_machine.specs.declared.event.Event.{Event as Asked}
+use Rattle.export_machine.specs.declared.event.Event.{Event}
 use Rattle.export_machine.specs.View.{IsReached}
 use Rattle.export_machine.specs.Authority.{authority}
 use Rattle.export_machine.specs.declared.message.Message.{Message}
 use Rattle.export_machine.specs.declared.message.Message.TheVariants.{Discover, DiscoverAck, Prep, PrepAck, ExportAck, Finish, Cancel, Query}
-use Rattle.export_machine.specs.Step.{Event, refusal, receiver}
-use Rattle.export_machine.specs.Kept.{world_of, event_of, entered_at, receiver_of}
+use Rattle.export_machine.specs.Step.{refusal, receiver}
+use Rattle.export_machine.specs.Kept.{world_of, entered_at, receiver_of}
 use Rattle.export_machine.specs.Step.{about}
 use Rattle.export_machine.proofs.Found.{orders_by}
 use Rattle.export_machine.proofs.Accepted.{deliver_near, item_at, as_order, as_rank, exporter_rank, importer_rank, notify_order}
@@ -36,14 +36,14 @@ fewer (Some r) m n e h = omega (arith, h)
 
 pub index-requires : goal.index-requires
 index-requires c =
-    let e : event_of c.args.event.now ≡ Event.Deliver c.in-Deliver.message = ap event_of c.in-Deliver.is in
+    let e : c.args.event.now ≡ Event.Deliver c.in-Deliver.message = c.in-Deliver.is in
     let h = subst (λ (f : Event). refusal (world_of c.args.self.now) f ≡ None) e c.requires.accepted in
     let near : c.in-Deliver.message < length c.args.self.now.sent.items = deliver_near (world_of c.args.self.now) c.in-Deliver.message h in
     omega arith
 
 pub receiver-requires : goal.receiver-requires
 receiver-requires c =
-    let e : event_of c.args.event.now ≡ Event.Deliver c.in-Deliver.message = ap event_of c.in-Deliver.is in
+    let e : c.args.event.now ≡ Event.Deliver c.in-Deliver.message = c.in-Deliver.is in
     let h = subst (λ (f : Event). refusal (world_of c.args.self.now) f ≡ None) e c.requires.accepted in
     let sent : slice_get c.args.self.now.sent.items c.in-Deliver.message ≡ Some c.index.result.now =
     item_at c.args.self.now.sent.items c.in-Deliver.message c.index.result.now (deliver_near (world_of c.args.self.now) c.in-Deliver.message h) c.index.ensures in
@@ -52,14 +52,14 @@ receiver-requires c =
 
 pub from-requires : goal.from-requires
 from-requires c =
-    let e : event_of c.args.event.now ≡ Event.Notify c.in-Notify.export = ap event_of c.in-Notify.is in
+    let e : c.args.event.now ≡ Event.Notify c.in-Notify.export = c.in-Notify.is in
     let h = subst (λ (f : Event). refusal (world_of c.args.self.now) f ≡ None) e c.requires.accepted in
     as_order c.args.self.now.orders.items c.in-Notify.export (notify_order (world_of c.args.self.now) c.in-Notify.export h)
 
 pub returns-in-Made-clause-rank : goal.returns-in-Made-clause-rank
 unfolding entered_at
 returns-in-Made-clause-rank c =
-    let e : event_of c.args.event.now ≡ Event.Made c.in-Made.parent = ap event_of c.in-Made.is in
+    let e : c.args.event.now ≡ Event.Made c.in-Made.parent = c.in-Made.is in
     c.authority.ensures ∙ sym (ap (entered_at (world_of c.args.self.now)) e)
 
 pub returns-in-Made-clause-near : goal.returns-in-Made-clause-near
@@ -70,7 +70,7 @@ returns-in-Made-clause-near c =
 pub returns-in-Gone-clause-rank : goal.returns-in-Gone-clause-rank
 unfolding entered_at
 returns-in-Gone-clause-rank c =
-    let e : event_of c.args.event.now ≡ Event.Gone c.in-Gone.dir = ap event_of c.in-Gone.is in
+    let e : c.args.event.now ≡ Event.Gone c.in-Gone.dir = c.in-Gone.is in
     c.authority-in-Gone.ensures ∙ sym (ap (entered_at (world_of c.args.self.now)) e)
 
 pub returns-in-Gone-clause-near : goal.returns-in-Gone-clause-near
@@ -81,7 +81,7 @@ returns-in-Gone-clause-near c =
 pub returns-in-Deliver-clause-rank : goal.returns-in-Deliver-clause-rank
 unfolding entered_at
 returns-in-Deliver-clause-rank c =
-    let e : event_of c.args.event.now ≡ Event.Deliver c.in-Deliver.message = ap event_of c.in-Deliver.is in
+    let e : c.args.event.now ≡ Event.Deliver c.in-Deliver.message = c.in-Deliver.is in
     let h = subst (λ (f : Event). refusal (world_of c.args.self.now) f ≡ None) e c.requires.accepted in
     let sent : slice_get c.args.self.now.sent.items c.in-Deliver.message ≡ Some c.index.result.now =
     item_at c.args.self.now.sent.items c.in-Deliver.message c.index.result.now (deliver_near (world_of c.args.self.now) c.in-Deliver.message h) c.index.ensures in
@@ -89,7 +89,7 @@ returns-in-Deliver-clause-rank c =
 
 pub returns-in-Deliver-clause-near : goal.returns-in-Deliver-clause-near
 returns-in-Deliver-clause-near c =
-    let e : event_of c.args.event.now ≡ Event.Deliver c.in-Deliver.message = ap event_of c.in-Deliver.is in
+    let e : c.args.event.now ≡ Event.Deliver c.in-Deliver.message = c.in-Deliver.is in
     let h = subst (λ (f : Event). refusal (world_of c.args.self.now) f ≡ None) e c.requires.accepted in
     let sent : slice_get c.args.self.now.sent.items c.in-Deliver.message ≡ Some c.index.result.now =
     item_at c.args.self.now.sent.items c.in-Deliver.message c.index.result.now (deliver_near (world_of c.args.self.now) c.in-Deliver.message h) c.index.ensures in
@@ -100,31 +100,31 @@ returns-in-Deliver-clause-near c =
 pub returns-in-Notify-clause-rank : goal.returns-in-Notify-clause-rank
 unfolding entered_at
 returns-in-Notify-clause-rank c =
-    let e : event_of c.args.event.now ≡ Event.Notify c.in-Notify.export = ap event_of c.in-Notify.is in
+    let e : c.args.event.now ≡ Event.Notify c.in-Notify.export = c.in-Notify.is in
     ap Some c.from.ensures ∙ sym (ap (entered_at (world_of c.args.self.now)) e)
 
 pub returns-in-Notify-clause-near : goal.returns-in-Notify-clause-near
 returns-in-Notify-clause-near c =
-    let e : event_of c.args.event.now ≡ Event.Notify c.in-Notify.export = ap event_of c.in-Notify.is in
+    let e : c.args.event.now ≡ Event.Notify c.in-Notify.export = c.in-Notify.is in
     let h = subst (λ (f : Event). refusal (world_of c.args.self.now) f ≡ None) e c.requires.accepted in
     let near : c.from.result < length (world_of c.args.self.now).journals = rw c.from.ensures (exporter_rank (world_of c.args.self.now) c.requires.kept.reached c.in-Notify.export (notify_order (world_of c.args.self.now) c.in-Notify.export h)) in
     omega (arith, length-map c.args.self.now.journals.items (λ j. j.items))
 
-entered_else : (w : World) (a : Asked) → ((p : ℕ) → a ≡ Asked.Made p → ⊥) → ((d : ℕ) → a ≡ Asked.Gone d → ⊥) → ((m : ℕ) → a ≡ Asked.Deliver m → ⊥) → ((x : ℕ) → a ≡ Asked.Notify x → ⊥) →
-    None ≡ entered_at w (event_of a)
+entered_else : (w : World) (a : Event) → ((p : ℕ) → a ≡ Event.Made p → ⊥) → ((d : ℕ) → a ≡ Event.Gone d → ⊥) → ((m : ℕ) → a ≡ Event.Deliver m → ⊥) → ((x : ℕ) → a ≡ Event.Notify x → ⊥) →
+    None ≡ entered_at w (a)
 unfolding entered_at
-entered_else w (Asked.Made p) a b c d = absurd (a p refl)
-entered_else w (Asked.Gone x) a b c d = absurd (b x refl)
-entered_else w (Asked.Deliver m) a b c d = absurd (c m refl)
-entered_else w (Asked.Notify x) a b c d = absurd (d x refl)
-entered_else w (Asked.Begin r x) a b c d = refl
-entered_else w (Asked.End t) a b c d = refl
-entered_else w (Asked.Start f t ds) a b c d = refl
-entered_else w (Asked.Froze x) a b c d = refl
-entered_else w (Asked.Abort x) a b c d = refl
-entered_else w (Asked.Stop r) a b c d = refl
-entered_else w (Asked.Restart r) a b c d = refl
-entered_else w (Asked.Ask x) a b c d = refl
+entered_else w (Event.Made p) a b c d = absurd (a p refl)
+entered_else w (Event.Gone x) a b c d = absurd (b x refl)
+entered_else w (Event.Deliver m) a b c d = absurd (c m refl)
+entered_else w (Event.Notify x) a b c d = absurd (d x refl)
+entered_else w (Event.Begin r x) a b c d = refl
+entered_else w (Event.End t) a b c d = refl
+entered_else w (Event.Start f t ds) a b c d = refl
+entered_else w (Event.Froze x) a b c d = refl
+entered_else w (Event.Abort x) a b c d = refl
+entered_else w (Event.Stop r) a b c d = refl
+entered_else w (Event.Restart r) a b c d = refl
+entered_else w (Event.Ask x) a b c d = refl
 
 pub returns-in_default : goal.returns-in_default
 returns-in_default c =

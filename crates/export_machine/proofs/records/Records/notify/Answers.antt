@@ -3,7 +3,7 @@ use Rattle.std.proofs.lemmas.Bool.{and_parts, ltb-true}
 use Rattle.std.proofs.lemmas.List.{length-map}
 use Rattle.export_machine.specs.Authority.{from_of, to_of, is_among, order_in}
 use Rattle.export_machine.specs.Step.{happens, map_at}
-use Rattle.export_machine.specs.Step.Event.{Notify}
+use Rattle.export_machine.specs.declared.event.Event.TheVariants.{Notify}
 use Rattle.export_machine.specs.Kept.{world_of, indexes_of, order_of, has_room, entered_at}
 use Rattle.export_machine.proofs.Accepted.{room_left, as_exporter, as_order, exporter_rank, from_here, to_here, dirs_here, notify_order, notify_state}
 use Rattle.export_machine.proofs.Rows.{notify_there, notify_indexed}

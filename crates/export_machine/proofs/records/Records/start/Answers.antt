@@ -10,7 +10,7 @@ use Rattle.export_machine.proofs.records.Records.start.Goals as goal
 
 pub overflow_cast-export : goal.overflow_cast-export
 overflow_cast-export c =
-    let few : length (world_of c.args.self.now).orders < 65536 = start_few (world_of c.args.self.now) c.args.from c.args.to c.args.dirs.items c.requires.accepted in
+    let few : length (world_of c.args.self.now).orders < 65536 = start_few (world_of c.args.self.now) c.args.from c.args.to c.args.dirs c.requires.accepted in
     let e : length (world_of c.args.self.now).orders ≡ length c.args.self.now.orders.items = length-map c.args.self.now.orders.items order_of in
     omega arith
 
@@ -18,7 +18,7 @@ pub mark-requires : goal.mark-requires
 mark-requires c =
     record {
       near = λ d h. rw c.requires.kept.indexed.opened_places
-          (start_there (world_of c.args.self.now) c.args.from c.args.to c.args.dirs.items c.requires.accepted d (ap (λ (ds : List ℕ). is_among ds d) (sym c.deref.ensures.value) ∙ h));
+          (start_there (world_of c.args.self.now) c.args.from c.args.to c.args.dirs c.requires.accepted d (ap (λ (ds : List ℕ). is_among ds d) (sym c.as_slice.ensures) ∙ h));
     }
 
 pub push_reserved-requires : goal.push_reserved-requires
@@ -52,22 +52,24 @@ returns-clause-effect c =
     rw (
       n,
       m,
-      orders_pushed c.args.self.now.orders.items (record { from = c.args.from; to = c.args.to; dirs = c.args.dirs }) c.push_reserved.new.self.items c.push_reserved.ensures.items,
+      orders_pushed c.args.self.now.orders.items (record { from = c.args.from; to = c.args.to; dirs = c.into_vec-dirs.result }) c.push_reserved.new.self.items c.push_reserved.ensures.items,
       c.push_reserved-2.ensures.items,
       c.push_reserved-3.ensures.items,
       c.push_reserved-4.ensures.items,
+      c.into_vec-dirs.ensures,
     ) refl
 
 pub returns-clause-indexed : goal.returns-clause-indexed
 returns-clause-indexed c =
     let n : c.len-export.result ≡ length (map order_of c.args.self.now.orders.items) = omega arith ∙ sym (length-map c.args.self.now.orders.items order_of) in
     rw (
-      orders_pushed c.args.self.now.orders.items (record { from = c.args.from; to = c.args.to; dirs = c.args.dirs }) c.push_reserved.new.self.items c.push_reserved.ensures.items,
+      orders_pushed c.args.self.now.orders.items (record { from = c.args.from; to = c.args.to; dirs = c.into_vec-dirs.result }) c.push_reserved.new.self.items c.push_reserved.ensures.items,
       c.push_reserved-2.ensures.items,
       c.push_reserved-3.ensures.items,
       c.push_reserved-4.ensures.items,
+      c.into_vec-dirs.ensures,
       c.mark.ensures,
-      c.deref.ensures.value,
+      c.as_slice.ensures,
       n,
     )
-    (start_indexed (world_of c.args.self.now) c.args.from c.args.to c.args.dirs.items c.requires.accepted c.requires.kept.reached (indexes_of c.args.self.now) c.requires.kept.indexed)
+    (start_indexed (world_of c.args.self.now) c.args.from c.args.to c.args.dirs c.requires.accepted c.requires.kept.reached (indexes_of c.args.self.now) c.requires.kept.indexed)
