@@ -32,18 +32,33 @@ fn is_opened(opened: &Opened, given: &[Given], numbers: &[u32]) -> bool {
     opened.problem.rows().len() == given.len() && opened.dirs.len() == numbers.len()
 }
 
+/// The rank of a directory where those from `moved` on are at rank 1, and the others at rank 0.
+fn rank_at(dir: usize, moved: usize) -> Rank {
+    if dir < moved {
+        Rank::default()
+    } else {
+        Rank::new(1).unwrap_or_default()
+    }
+}
+
 /// The problem of a board where directories from `moved` on are at rank 1, and the others at rank 0.
 fn open_at(alloc: Global, board: &Board, moved: usize, ranks: u64) -> Result<Opened, OpenError>
     requires tree { board.now.tree.limit ≡ 8 }
     requires pins { length board.now.pins.own ≡ 8 }
     requires heat { board.now.heat.limit ≡ 8 }
 {
-    let mut now = [Rank::default(); 8];
-    for (dir, rank) in now.iter_mut().enumerate() {
-        if dir >= moved {
-            *rank = Rank::new(1).unwrap_or_default();
-        }
-    }
+    // (its contract says that there are no more numbers than the limit)
+    let _numbers = board.tree.numbers();
+    let now = [
+        rank_at(0, moved),
+        rank_at(1, moved),
+        rank_at(2, moved),
+        rank_at(3, moved),
+        rank_at(4, moved),
+        rank_at(5, moved),
+        rank_at(6, moved),
+        rank_at(7, moved),
+    ];
     let ranks = RankSet::from_bits(ranks);
     open(alloc, &board.tree, &board.pins, &board.heat, &now, ranks)
 }
