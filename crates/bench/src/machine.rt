@@ -10,7 +10,7 @@
 mod lists;
 
 use crate::machine::lists::{Events, Kind, all_dirs, make_events};
-use export_machine::{Cluster, Dirs, Event, Reply, StepError};
+use export_machine::{Cluster, Event, Reply, StepError};
 use mds_types::{Dir, Rank};
 use std::alloc::Global;
 use std::io;

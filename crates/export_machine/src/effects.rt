@@ -8,14 +8,13 @@ ghost use Rattle.export_machine.specs.declared.event.Event.{Event as StepEvent};
 ghost use Rattle.export_machine.specs.Kept.{world_of, indexes_of, has_room, IsKept, IsIndexed};
 
 use crate::changes::{enter, mark, send};
-use crate::dirs::Dirs;
 use crate::event::{Reply, Request};
 use crate::exporter::ExporterState;
 use crate::importer::ImporterState;
 use crate::journal::JournalEntry;
 use crate::message::Message;
 use crate::records::Records;
-use mds_types::{Dir, Order, Rank};
+use mds_types::{Dir, Dirs, Order, Rank};
 
 impl Records {
     /// A request begins.

@@ -1,7 +1,6 @@
 //! What happens in a cluster, and what is answered.
 
-use crate::dirs::Dirs;
-use mds_types::{Dir, Rank};
+use mds_types::{Dir, Dirs, Rank};
 use std::alloc::{AllocError, Global};
 
 /// What happens next in a cluster. Exports, messages and tickets go by their numbers.

@@ -10,7 +10,6 @@ mod checks;
 pub mod cluster;
 mod connecting;
 mod deliveries;
-pub mod dirs;
 mod effects;
 pub mod event;
 pub mod exporter;
@@ -26,7 +25,6 @@ pub mod step_error;
 mod stopping;
 
 pub use cluster::Cluster;
-pub use dirs::Dirs;
 pub use event::{Event, Reply, Request};
 pub use exporter::ExporterState;
 pub use importer::ImporterState;

@@ -3,7 +3,7 @@
 //! What asks for memory is asked again where a growth was refused, and must have changed nothing by then. So the tests
 //! hold with any one growth refused.
 
-use export_machine::{Cluster, Dirs, Event, Reply, StepError};
+use export_machine::{Cluster, Event, Reply, StepError};
 use mds_types::{Dir, Rank};
 use std::alloc::{AllocError, Global};
 use std::process::Abort;

@@ -3,6 +3,7 @@
 
 pub mod cut_proof;
 pub mod dir;
+pub mod dirs;
 pub mod dual_proof;
 pub mod laws;
 pub mod limits;
@@ -15,6 +16,7 @@ pub mod refusal;
 
 pub use cut_proof::{CutProof, CutTable, Row};
 pub use dir::Dir;
+pub use dirs::Dirs;
 pub use dual_proof::DualProof;
 pub use order::Order;
 pub use plan::Plan;

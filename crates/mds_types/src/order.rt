@@ -1,6 +1,6 @@
 //! What an exporter is asked to give to another rank.
 
-use crate::dir::Dir;
+use crate::dirs::Dirs;
 use crate::rank::Rank;
 use std::alloc::{AllocError, Global};
 
@@ -12,21 +12,20 @@ pub struct Order {
     /// The rank that is to have them.
     pub to: Rank,
     /// The directories, each once.
-    pub dirs: Vec<Dir>,
+    pub dirs: Dirs,
 }
 
 impl Order {
-    ghost use Rattle.std.specs.Prelude.{IfOk};
-    ghost use Rattle.mds_types.specs.Copies.{IsSameOrder};
+    ghost use Rattle.std.specs.Prelude.{◌≡◌, IfOk};
 
     /// An equal order.
     pub fn copied(&self, alloc: Global) -> Result<Self, AllocError>
-        ensures { IfOk result (IsSameOrder self.now) }
+        ensures { IfOk result (λ copy. copy ≡ self.now) }
     {
         Ok(Order {
             from: self.from,
             to: self.to,
-            dirs: self.dirs.as_slice().to_vec(alloc)?,
+            dirs: self.dirs.copied(alloc)?,
         })
     }
 }

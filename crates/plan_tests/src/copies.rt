@@ -2,7 +2,7 @@
 
 use crate::given::{hot_rows, list_of, over, table};
 use arrayvec::ArrayVec;
-use mds_types::{CutProof, Dir, DualProof, Order, Plan, Rank};
+use mds_types::{CutProof, Dir, Dirs, DualProof, Order, Plan, Rank};
 use std::alloc::Global;
 use std::test::Fail;
 
@@ -63,10 +63,10 @@ fn copies_orders(rt: HostRuntime) -> Result<(), Fail> {
     let order = Order {
         from: Rank::default(),
         to: Rank::default(),
-        dirs: list_of(rt.alloc(), &[Dir::ROOT, Dir::new(5)])?,
+        dirs: Dirs::new(list_of(rt.alloc(), &[Dir::ROOT, Dir::new(5)])?),
     };
     let copy = order.copied(rt.alloc())?;
-    assert_eq!(rt; copy.dirs, order.dirs);
+    assert_eq!(rt; copy, order);
     Ok(())
 }
 

@@ -3,7 +3,7 @@
 //! Each is made by the machine itself: what is next depends on its answers.
 
 use exhaustive::Random;
-use export_machine::{Cluster, Dirs, Event, Reply};
+use export_machine::{Cluster, Event, Reply};
 use mds_types::{Dir, Rank};
 use std::alloc::Global;
 use std::{fmt, io};

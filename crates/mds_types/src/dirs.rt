@@ -2,12 +2,12 @@
 
 ghost use Rattle.std.specs.Prelude.{◌≡◌, IfOk};
 
-use mds_types::Dir;
+use crate::dir::Dir;
 use std::alloc::{AllocError, Global};
 use std::marker::Model;
 
 /// Directories in the order in which they were named. To a contract it is the list of their numbers.
-#[derive(Debug, Drop)]
+#[derive(Debug, PartialEq, Drop)]
 pub struct Dirs {
     list: Vec<Dir>,
 }
