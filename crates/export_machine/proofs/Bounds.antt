@@ -12,7 +12,8 @@ use Rattle.export_machine.specs.declared.journal.JournalEntry.{JournalEntry}
 use Rattle.export_machine.specs.declared.event.Reply.{Reply}
 use Rattle.export_machine.specs.declared.step_error.StepError.{StepError}
 use Rattle.export_machine.specs.declared.records.Records.{Records}
-use Rattle.export_machine.specs.Cluster.{Order, World}
+use Rattle.export_machine.specs.Cluster.{World}
+use Rattle.mds_types.specs.declared.order.Order.{Order}
 use Rattle.export_machine.specs.Authority.{no_order, order_in, exporter_of, importer_of, is_stopped, authority, open_export}
 use Rattle.export_machine.specs.Step.{Outcome, refusal, happens, step, counted, comes, delivered, ignored, receiver, repeats, journaled_by, restarts, changed, Move, move, moved, acts, about, exporter_moves, importer_moves, notes, replies}
 use Rattle.export_machine.specs.declared.event.Event.{Event}

@@ -9,7 +9,8 @@ use Rattle.export_machine.specs.declared.journal.JournalEntry.{JournalEntry}
 use Rattle.export_machine.specs.declared.event.Request.{Request}
 use Rattle.export_machine.specs.declared.message.Message.{Message}
 use Rattle.export_machine.specs.declared.exporter.ExporterState.TheVariants.{Discovering, Freezing, Preparing, Exporting, Logged, Done, Aborted}
-use Rattle.export_machine.specs.Cluster.{Order, World}
+use Rattle.export_machine.specs.Cluster.{World}
+use Rattle.mds_types.specs.declared.order.Order.{Order}
 use Rattle.export_machine.specs.Authority.{no_order, is_among, is_inside, from_of, to_of, exporter_of, importer_of, named_of, has, is_same, authority, first_below, is_open, is_aborted, open_export, runs_on}
 use Rattle.export_machine.specs.Step.{running_on, map_at, exporter_to, journals, is_before_log, is_child}
 use Rattle.export_machine.specs.View.{IsReached}

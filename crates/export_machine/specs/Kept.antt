@@ -1,6 +1,6 @@
 -- What the tables of a cluster stand for, and what always holds of them.
 use Rattle.std.specs.Prelude.{◌≡◌, ◌≤◌, ◌<◌, ℕ, ◌+◌, suc, Bool, true, ◌&&◌, nat_lt, List, [], ◌∷◌, map, length, Option, None, Some, Result, Ok, Err, slice_get, slice_index_or, vec_len, vec_capacity, Vec, if◌then◌else◌, replicate, false, not, ◌==◌, is_some}
-use Rattle.export_machine.specs.Cluster.{Order, World}
+use Rattle.export_machine.specs.Cluster.{World}
 use Rattle.export_machine.specs.Authority.{authority, open_export, order_in, from_of, exporter_of, importer_of}
 use Rattle.export_machine.specs.Step.{running_on, is_child, about, receiver, repeats, comes}
 use Rattle.export_machine.specs.View.{IsReached}
@@ -14,10 +14,6 @@ use Rattle.export_machine.specs.declared.journal.JournalEntry.{JournalEntry}
 use Rattle.export_machine.specs.declared.message.Message.{Message}
 use Rattle.export_machine.specs.declared.step_error.StepError.{StepError}
 use Rattle.export_machine.specs.declared.records.Records.{Records}
-use Rattle.mds_types.specs.declared.order.Order.{Order as Moved}
-
-abbrev pub order_of : Moved → Order
-order_of o = record { from = o.from; to = o.to; dirs = o.dirs.items }
 
 abbrev pub world_of : Records → World
 world_of r = record {
@@ -25,7 +21,7 @@ world_of r = record {
   ranks = r.ranks;
   parents = r.parents.items;
   journals = map (λ journal. journal.items) r.journals.items;
-  orders = map order_of r.orders.items;
+  orders = r.orders.items;
   exporters = r.exporters.items;
   importers = r.importers.items;
   sent = r.sent.items;

@@ -225,7 +225,7 @@ impl Records {
         requires { export < length self.now.orders.items }
         ensures { result.now ≡ (order_in (world_of self.now).orders export).dirs }
     {
-        &self.orders[export as usize].dirs
+        self.orders[export as usize].dirs.as_slice()
     }
 
     /// The export because of which the authority of a directory doesn't serve it.

@@ -4,7 +4,7 @@ ghost use Rattle.std.specs.Prelude.{◌≡◌, ◌<◌, ℕ, map, length, Some, 
 ghost use Rattle.export_machine.specs.Authority.{order_in, from_of, to_of, importer_of, journal_of, has, has_entry, is_same, request_of};
 ghost use Rattle.export_machine.specs.Step.{refusal, happens, map_at, is_before_log, ends_at};
 ghost use Rattle.export_machine.specs.declared.event.Event.{Event as StepEvent};
-ghost use Rattle.export_machine.specs.Kept.{world_of, indexes_of, order_of, IsKept, IsIndexed, exporter_at_stop, importer_at_stop};
+ghost use Rattle.export_machine.specs.Kept.{world_of, indexes_of, IsKept, IsIndexed, exporter_at_stop, importer_at_stop};
 ghost use Rattle.export_machine.specs.declared.event.Request.{Request};
 
 use crate::changes::{mark, put};
@@ -41,7 +41,7 @@ fn forgotten(stops: bool, state: ImporterState) -> ImporterState
 /// What is left of the imports of a rank that stops, entries that they were dropped apart.
 fn forget_all(importers: &mut Vec<ImporterState>, orders: &[Order], rank: Rank)
     requires near { length importers.old.items ≡ length orders.now }
-    ensures { importers.new.items ≡ map_at (λ x state. if (order_in (map order_of orders.now) x).to == rank then importer_at_stop false state else state) importers.old.items }
+    ensures { importers.new.items ≡ map_at (λ x state. if (order_in orders.now x).to == rank then importer_at_stop false state else state) importers.old.items }
 {
     for export in 0..orders.len() {
         importers[export] = forgotten(orders[export].to == rank, importers[export]);
@@ -78,7 +78,7 @@ impl Records {
         for export in 0..self.orders.len() {
             if self.orders[export].from == rank && is_before_log(self.exporters[export]) {
                 self.exporters[export] = ExporterState::Aborted;
-                mark(&mut self.opened, &self.orders[export].dirs, None);
+                mark(&mut self.opened, self.orders[export].dirs.as_slice(), None);
             }
         }
     }
