@@ -91,6 +91,10 @@ pub begin_dir : (w : World) (r d : ℕ) → refusal w (Begin r d) ≡ None → d
 unfolding causes
 begin_dir w r d h = there_near w d (not-false (is_present w d) (not_refused _ _ (not_refused_causes w (Begin r d) h).1.1.0))
 
+pub begin_rank : (w : World) (r d : ℕ) → refusal w (Begin r d) ≡ None → r < w.ranks
+unfolding causes
+begin_rank w r d h = leb-false w.ranks r (not_refused _ _ (not_refused_causes w (Begin r d) h).0)
+
 pub deliver_near : (w : World) (m : ℕ) → refusal w (Deliver m) ≡ None → m < length w.sent
 unfolding causes
 deliver_near w m h = leb-false (length w.sent) m (not_refused _ _ (not_refused_causes w (Deliver m) h).0)

@@ -130,4 +130,5 @@ module _ (w : World) (from to : ℕ) (dirs : List ℕ) (h : refusal w (Start fro
     running_places = is.running_places;
     children_places = is.children_places;
     unmarked = is.unmarked;
+    requests = is.requests;
   }

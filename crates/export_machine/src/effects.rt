@@ -27,6 +27,7 @@ impl Records {
     {
         let ticket = self.tickets.len() as u32;
         self.tickets.push_reserved(Some(Request { rank, dir }));
+        enter(&mut self.tickets_at, rank, ticket);
         self.running[dir.number() as usize] += 1;
         Reply::Ticket(ticket)
     }
@@ -43,6 +44,7 @@ impl Records {
         };
         self.running[request.dir.number() as usize] -= 1;
         self.tickets[ticket as usize] = None;
+        self.note_end(request.rank);
         Reply::Changed
     }
 

@@ -37,6 +37,13 @@ halt_imports-requires-clause-dropped c =
     ap world_of c.halt_exports.ensures.others ∙ ap (λ (es : List ExporterState). record w { exporters = es }) c.halt_exports.ensures.exporters in
     subst (λ (v : World). (x : ℕ) → has v c.args.rank (JournalEntry.Dropped x) ≡ true → (to_of v x ≡ c.args.rank) × (importer_of v x ≡ Dropped)) (sym aborted) (dropped_there w c.requires.kept.reached c.args.rank)
 
+pub end_requests-requires-clause-near : goal.end_requests-requires-clause-near
+end_requests-requires-clause-near c =
+    let few : c.args.rank < (world_of c.args.self.now).ranks = stop_rank (world_of c.args.self.now) c.args.rank c.requires.accepted in
+    let halted : length c.halt_exports.new.self.tickets_at.items ≡ length c.args.self.now.tickets_at.items = ap (λ (r : Records). length r.tickets_at.items) c.halt_exports.ensures.others in
+    let forgot : length c.halt_imports.new.self.tickets_at.items ≡ length c.halt_exports.new.self.tickets_at.items = ap (λ (r : Records). length r.tickets_at.items) c.halt_imports.ensures.others in
+    omega (arith, halted, forgot, c.requires.kept.indexed.requests.ranked, length-map c.args.self.now.tickets_at.items (λ l. l.items))
+
 pub end_requests-requires-clause-indexed : goal.end_requests-requires-clause-indexed
 end_requests-requires-clause-indexed c =
     subst (λ (r : Records). IsIndexed (world_of r) (indexes_of r)) (sym c.halt_imports.ensures.others)
