@@ -322,6 +322,55 @@ fn operations_change_their_directories(rt: HostRuntime) -> Result<(), Fail> {
     Ok(())
 }
 
+// Directories 1 and 3 at rank 0, then 2 between them, and 1 cleared.
+fn joined<J: Naming, R: Wait + Drop>(
+    alloc: Global,
+    writer: &mut MapWriter<J, R>,
+    reader: &mut MapReader<J>,
+    rank: Rank,
+) -> Result<[Found; 5], MapError>
+    requires { J.limit ≡ 4 }
+{
+    set_two(alloc, writer, Dir::new(1), Dir::new(3), rank)?;
+    give(alloc, writer, Dir::new(2), rank)?;
+    writer.reserve()?;
+    writer.clear(Dir::new(1));
+    writer.publish()?;
+    Ok(all_found(reader))
+}
+
+fn join_runs<J: Naming, R: Wait + Drop>(
+    rt: R,
+    alloc: Global,
+    opened: Opened,
+    rank: Rank,
+) -> Result<[Found; 5], MapError>
+    requires name { opened ≡ J.map }
+    requires limit { J.limit ≡ 4 }
+{
+    match MapWriter::<J, R>::open(rt, alloc, opened, 4, 1) {
+        Err((error, _opened)) => Err(error),
+        Ok((mut writer, mut readers)) => {
+            let found = joined(alloc, &mut writer, &mut readers[0], rank);
+            writer.end();
+            found
+        }
+    }
+}
+
+#[test]
+fn directories_between_others_join_them(rt: HostRuntime) -> Result<(), Fail> {
+    let zero = Rank::new(0).ok_or("rank")?;
+    let found = join_runs::<Brand, _>(&rt, rt.alloc(), Opened::new(), zero)?;
+    let [first, second, third, fourth, past] = found;
+    assert_eq!(rt; first, Found::NoDir);
+    assert_eq!(rt; second, Found::NoDir);
+    assert_eq!(rt; third, Found::Rank(zero));
+    assert_eq!(rt; fourth, Found::Rank(zero));
+    assert_eq!(rt; past, Found::NoDir);
+    Ok(())
+}
+
 // One operation. A call that is refused memory has changed nothing, and is made again.
 fn give_surely<J: Naming, R: Wait + Drop>(
     alloc: Global,

@@ -11,7 +11,7 @@ mod lists;
 
 use crate::machine::lists::{Events, Kind, all_dirs, make_events};
 use export_machine::{Cluster, Event, Reply, StepError};
-use mds_types::{Dir, Rank};
+use mds_types::{Dir, Dirs, Rank};
 use std::alloc::Global;
 use std::io;
 use std::io::Write;

@@ -1,8 +1,8 @@
 -- What an accepted event can rely on.
-use Rattle.std.proofs.Common.{◌≡◌, ◌≢◌, ℕ, zero, suc, ◌<◌, true, false, not, eqb, List, [], ◌∷◌, length, get_or, map, Option, Some, None, sym, ap, ◌∙◌, inl, inr, arith}
+use Rattle.std.proofs.Common.{◌≡◌, ◌≢◌, ℕ, zero, suc, ◌<◌, true, false, not, eqb, List, [], ◌∷◌, length, get_or, Option, Some, None, sym, ap, ◌∙◌, inl, inr, arith}
 use Rattle.std.specs.List.{slice_get}
 use Rattle.std.proofs.lemmas.Bool.{cases_lt, cases_eq, leb-false, not-false}
-use Rattle.std.proofs.lemmas.List.{get_or-map, length-map, get_or_past}
+use Rattle.std.proofs.lemmas.List.{get_or_default, get_or_past}
 use Rattle.export_machine.specs.declared.exporter.ExporterState.TheVariants.{Freezing, Logged}
 use Rattle.export_machine.specs.declared.event.Request.{Request}
 use Rattle.export_machine.specs.Cluster.{World}
@@ -11,14 +11,13 @@ use Rattle.export_machine.specs.Step.{refusal, causes, is_before_log, is_freezin
 use Rattle.export_machine.specs.declared.event.Event.{Event}
 use Rattle.export_machine.specs.declared.event.Event.TheVariants.{Begin, End, Deliver, Froze, Notify, Abort}
 use Rattle.export_machine.specs.View.{IsReached}
-use Rattle.export_machine.specs.Kept.{order_of}
 use Rattle.export_machine.proofs.Safe.{Safe}
 use Rattle.export_machine.proofs.Lookups.{authority_is, or_else_none}
 use Rattle.export_machine.proofs.Events.{not_refused, there_near, freezing_is, logged_is, held_free, not_stopped, busy_none}
 use Rattle.export_machine.proofs.Theorem.{not_refused_causes}
 use Rattle.export_machine.proofs.Reached.{by_safe}
 use Rattle.export_machine.proofs.Found.{orders_by}
-use Rattle.mds_types.specs.declared.order.Order.{Order as Moved}
+use Rattle.mds_types.specs.declared.order.Order.{Order}
 
 pub numbers_by : (w : World) → IsReached w → (a b : ℕ) → (Safe w → a ≡ b) → a ≡ b
 numbers_by w r a b f = elim (cases_eq a b) [ inl e ↦ e | inr n ↦ absurd (by_safe w r (λ safe. n (f safe))) ]
@@ -27,17 +26,14 @@ pub room_left : (w : World) (e : Event) → refusal w e ≡ None → w.events < 
 unfolding refusal
 room_left w e h = leb-false 1048576 w.events (not_refused _ _ (or_else_none _ _ h).0)
 
-pub dirs_here : (orders : List Moved) (x : ℕ) (o : Moved) → x < length orders → o ≡ get_or orders x o → (order_in (map order_of orders) x).dirs ≡ o.dirs.items
-dirs_here orders x o h e = ap (λ r. r.dirs) (get_or-map order_of orders x o no_order h) ∙ ap (λ (p : Moved). p.dirs.items) (sym e)
+pub dirs_here : (orders : List Order) (x : ℕ) (o : Order) → x < length orders → o ≡ get_or orders x o → (order_in orders x).dirs ≡ o.dirs
+dirs_here orders x o h e = ap (λ r. r.dirs) (get_or_default orders x no_order o h) ∙ ap (λ (p : Order). p.dirs) (sym e)
 
-pub from_here : (orders : List Moved) (x : ℕ) (o : Moved) → x < length orders → o ≡ get_or orders x o → (order_in (map order_of orders) x).from ≡ o.from
-from_here orders x o h e = ap (λ r. r.from) (get_or-map order_of orders x o no_order h) ∙ ap (λ (p : Moved). p.from) (sym e)
+pub from_here : (orders : List Order) (x : ℕ) (o : Order) → x < length orders → o ≡ get_or orders x o → (order_in orders x).from ≡ o.from
+from_here orders x o h e = ap (λ r. r.from) (get_or_default orders x no_order o h) ∙ ap (λ (p : Order). p.from) (sym e)
 
-pub to_here : (orders : List Moved) (x : ℕ) (o : Moved) → x < length orders → o ≡ get_or orders x o → (order_in (map order_of orders) x).to ≡ o.to
-to_here orders x o h e = ap (λ r. r.to) (get_or-map order_of orders x o no_order h) ∙ ap (λ (p : Moved). p.to) (sym e)
-
-pub as_order : (orders : List Moved) (x : ℕ) → x < length (map order_of orders) → x < length orders
-as_order orders x h = omega (arith, length-map orders order_of)
+pub to_here : (orders : List Order) (x : ℕ) (o : Order) → x < length orders → o ≡ get_or orders x o → (order_in orders x).to ≡ o.to
+to_here orders x o h e = ap (λ r. r.to) (get_or_default orders x no_order o h) ∙ ap (λ (p : Order). p.to) (sym e)
 
 module _ (w : World) (reached : IsReached w) where
   pub as_exporter : (x : ℕ) → x < length w.orders → x < length w.exporters
@@ -94,6 +90,10 @@ end_near w t h = elim (cases_lt t (length w.tickets)) [ inl m ↦ m | inr m ↦ 
 pub begin_dir : (w : World) (r d : ℕ) → refusal w (Begin r d) ≡ None → d < length w.parents
 unfolding causes
 begin_dir w r d h = there_near w d (not-false (is_present w d) (not_refused _ _ (not_refused_causes w (Begin r d) h).1.1.0))
+
+pub begin_rank : (w : World) (r d : ℕ) → refusal w (Begin r d) ≡ None → r < w.ranks
+unfolding causes
+begin_rank w r d h = leb-false w.ranks r (not_refused _ _ (not_refused_causes w (Begin r d) h).0)
 
 pub deliver_near : (w : World) (m : ℕ) → refusal w (Deliver m) ≡ None → m < length w.sent
 unfolding causes

@@ -12,7 +12,8 @@ use Rattle.export_machine.specs.declared.journal.JournalEntry.{JournalEntry}
 use Rattle.export_machine.specs.declared.event.Reply.{Reply}
 use Rattle.export_machine.specs.declared.step_error.StepError.{StepError}
 use Rattle.export_machine.specs.declared.records.Records.{Records}
-use Rattle.export_machine.specs.Cluster.{Order, World}
+use Rattle.export_machine.specs.Cluster.{World}
+use Rattle.mds_types.specs.declared.order.Order.{Order}
 use Rattle.export_machine.specs.Authority.{no_order, order_in, exporter_of, importer_of, is_stopped, authority, open_export}
 use Rattle.export_machine.specs.Step.{Outcome, refusal, happens, step, counted, comes, delivered, ignored, receiver, repeats, journaled_by, restarts, changed, Move, move, moved, acts, about, exporter_moves, importer_moves, notes, replies}
 use Rattle.export_machine.specs.declared.event.Event.{Event}
@@ -221,6 +222,7 @@ module _ (old new : Records) (e : Event) (reply : Reply) (kept : IsKept old) (ac
     running_places = indexed.running_places;
     children_places = indexed.children_places;
     unmarked = indexed.unmarked;
+    requests = indexed.requests;
   }
 
   pub kept_step : IsKept (record new { events = new.events + 1 })
@@ -281,7 +283,7 @@ unfolding has_room
 room_parts r e h = and_parts _ _ h
 
 -- the room that a contract sees is the lists' own
-places_are : {A : Type 0} (js : List (Vec JournalEntry A)) (r : ℕ) → get_or (map (λ j. has_spare j) js) r true ≡ is_spare (slice_get js r)
+places_are : {T A : Type 0} (js : List (Vec T A)) (r : ℕ) → get_or (map (λ j. has_spare j) js) r true ≡ is_spare (slice_get js r)
 places_are [] zero = refl
 places_are [] (suc r) = refl
 places_are (j ∷ js) zero = refl
@@ -301,7 +303,7 @@ ready_is r e = both (is_ready_entry (state_of r).room (entered_at (world_of r) e
     lists : (f : Event) → is_ready_list (state_of r).room f ≡ has_list_places r f
     lists (Event.Made p) = refl
     lists (Event.Gone d) = refl
-    lists (Begin k d) = refl
+    lists (Begin k d) = ap (λ b. has_spare r.tickets && b) (places_are r.tickets_at.items k)
     lists (End t) = refl
     lists (Start f t ds) = refl
     lists (Deliver k) = refl
@@ -332,7 +334,7 @@ module _ (old new : Records) (roomy : IsAsRoomy old new) (world : world_of new �
   lists_kept : (e : Event) → has_list_places old e ≡ true → has_list_places new e ≡ true
   lists_kept (Event.Made p) h = dir_places h
   lists_kept (Event.Gone d) h = refl
-  lists_kept (Begin r d) h = roomy.tickets h
+  lists_kept (Begin r d) h = and_keeps _ _ _ _ roomy.tickets (roomy.tickets_at r) h
   lists_kept (End t) h = refl
   lists_kept (Start f t ds) h = export_places h
   lists_kept (Deliver k) h = roomy.sent h

@@ -97,7 +97,7 @@ module _ (w : World) (a p : ℕ) (near : a < length w.journals) where
       (counts_none (eqb p d && not (eqb (length w.parents) d)) (unlike (eqb p d) (eqb (length w.parents) d) (ne_eqb p d (λ k. n (sym k)))))
 
   pub made_indexed : IsReached w → (i : Indexes) → IsIndexed w i → p < length w.parents → (r : ℕ) → r ≡ get_or (i.children ++ 0 ∷ []) p r →
-      IsIndexed grown (record { owners = i.owners ++ Some a ∷ []; opened = i.opened ++ None ∷ []; running = i.running ++ 0 ∷ []; children = set (i.children ++ 0 ∷ []) p (r + 1); marks = i.marks ++ false ∷ [] })
+      IsIndexed grown (record { owners = i.owners ++ Some a ∷ []; opened = i.opened ++ None ∷ []; running = i.running ++ 0 ∷ []; children = set (i.children ++ 0 ∷ []) p (r + 1); marks = i.marks ++ false ∷ []; tickets_at = i.tickets_at })
   made_indexed reached i is l r h = record {
     owners = λ d. options_by w reached (get_or (i.owners ++ Some a ∷ []) d None) (authority grown d) (λ safe. owner safe d);
     opened = λ d. opened d ∙ sym (grown_open d);
@@ -108,6 +108,7 @@ module _ (w : World) (a p : ℕ) (near : a < length w.journals) where
     running_places = longer i.running w.parents 0 (Some p) is.running_places;
     children_places = length-set (i.children ++ 0 ∷ []) p (r + 1) ∙ longer i.children w.parents 0 (Some p) is.children_places;
     unmarked = ap (λ ms. ms ++ false ∷ []) is.unmarked ∙ (replicate_push (length w.parents) false ∙ ap (λ n. replicate n false) (sym (length_push w.parents (Some p) ∙ succ (length w.parents))));
+    requests = is.requests;
   }
     where
       succ : (n : ℕ) → n + 1 ≡ suc n
@@ -208,6 +209,7 @@ module _ (w : World) (a d p : ℕ) (near : a < length w.journals) (there : d < l
     running_places = is.running_places ∙ sym (length-set w.parents d None);
     children_places = length-set i.children p (r - 1) ∙ (is.children_places ∙ sym (length-set w.parents d None));
     unmarked = is.unmarked ∙ ap (λ n. replicate n false) (sym (length-set w.parents d None));
+    requests = is.requests;
   }
     where
       ended : (t : ℕ) (q : Request) → request_of w t ≡ Some q → q.dir ≢ d

@@ -115,6 +115,7 @@ stopped_indexed w i is stopped = record {
   running_places = is.running_places;
   children_places = is.children_places;
   unmarked = is.unmarked;
+  requests = is.requests;
 }
 
 -- what an accepted stop or restart can rely on

@@ -9,22 +9,24 @@ use Rattle.export_machine.specs.declared.journal.JournalEntry.{JournalEntry}
 use Rattle.export_machine.specs.declared.event.Request.{Request}
 use Rattle.export_machine.specs.declared.message.Message.{Message}
 use Rattle.export_machine.specs.declared.exporter.ExporterState.TheVariants.{Discovering, Freezing, Preparing, Exporting, Logged, Done, Aborted}
-use Rattle.export_machine.specs.Cluster.{Order, World}
+use Rattle.export_machine.specs.Cluster.{World}
+use Rattle.mds_types.specs.declared.order.Order.{Order}
 use Rattle.export_machine.specs.Authority.{no_order, is_among, is_inside, from_of, to_of, exporter_of, importer_of, named_of, has, is_same, authority, first_below, is_open, is_aborted, open_export, runs_on}
 use Rattle.export_machine.specs.Step.{running_on, map_at, exporter_to, journals, is_before_log, is_child}
 use Rattle.export_machine.specs.View.{IsReached}
-use Rattle.export_machine.specs.Kept.{Indexes, IsIndexed, count_at}
+use Rattle.export_machine.specs.Kept.{Indexes, IsIndexed, AreByRank, count_at}
 use Rattle.export_machine.proofs.Owning.{is_over, place}
 use Rattle.export_machine.proofs.Views.{map_at_get, map_at_past, map_at_length, has_adds}
 use Rattle.export_machine.proofs.Safe.{Safe, phase_by, phase_of}
 use Rattle.export_machine.proofs.Lookups.{itself, open_over}
+use Rattle.export_machine.proofs.ByRank.{begin_filed, end_filed}
 use Rattle.export_machine.proofs.Lists.{running_begun, running_ended, runs_here}
 use Rattle.export_machine.proofs.Found.{orders_by, first_is_none, first_same, Safely, options_safely, orders_safely}
 
 -- authorities and open exports stay, requests and parents too
 pub same_indexed : (w v : World) (i : Indexes) → IsIndexed w i → ((d : ℕ) → authority v d ≡ authority w d) → ((d : ℕ) → open_export v d ≡ open_export w d) →
-    v.tickets ≡ w.tickets → v.parents ≡ w.parents → IsIndexed v i
-same_indexed w v i is a o t p = record {
+    v.tickets ≡ w.tickets → v.parents ≡ w.parents → v.ranks ≡ w.ranks → IsIndexed v i
+same_indexed w v i is a o t p n = record {
   owners = λ d. is.owners d ∙ sym (a d);
   opened = λ d. is.opened d ∙ sym (o d);
   running = λ d. is.running d ∙ sym (ap (λ ts. count_by (runs_on (d ∷ [])) ts) t);
@@ -34,6 +36,22 @@ same_indexed w v i is a o t p = record {
   running_places = is.running_places ∙ sym (ap length p);
   children_places = is.children_places ∙ sym (ap length p);
   unmarked = is.unmarked ∙ sym (ap (λ (ps : List (Option ℕ)). replicate (length ps) false) p);
+  requests = rw (t, n) is.requests;
+}
+
+-- the tickets that are kept by rank change alone
+pub refiled : (w : World) (i : Indexes) → IsIndexed w i → (ls : List (List ℕ)) → AreByRank w.ranks w.tickets ls → IsIndexed w (record i { tickets_at = ls })
+refiled w i is ls by = record {
+  owners = is.owners;
+  opened = is.opened;
+  running = is.running;
+  children = is.children;
+  owner_places = is.owner_places;
+  opened_places = is.opened_places;
+  running_places = is.running_places;
+  children_places = is.children_places;
+  unmarked = is.unmarked;
+  requests = by;
 }
 
 -- which exports are open
@@ -143,7 +161,7 @@ pub froze_indexed : (w : World) (i : Indexes) (x : ℕ) → IsIndexed w i → ex
     IsIndexed (record (exporter_to w x Preparing) { sent = ms }) i
 unfolding authority
 froze_indexed w i x is e ms = same_indexed w (record (exporter_to w x Preparing) { sent = ms }) i is (λ d. refl)
-    (λ d. open_stays (exporter_to w x Preparing) (record (exporter_to w x Preparing) { sent = ms }) refl (λ y. refl) d ∙ exporter_open w x Preparing (rw e refl) d) refl refl
+    (λ d. open_stays (exporter_to w x Preparing) (record (exporter_to w x Preparing) { sent = ms }) refl (λ y. refl) d ∙ exporter_open w x Preparing (rw e refl) d) refl refl refl
 
 -- Abort
 
@@ -183,6 +201,7 @@ module _ (w : World) (x : ℕ) (near : x < length w.exporters) (ms : List Messag
     running_places = is.running_places;
     children_places = is.children_places;
     unmarked = is.unmarked;
+    requests = is.requests;
   }
 
 -- Begin and End
@@ -202,10 +221,10 @@ default [] k a b l = absurd (omega arith)
 default (x ∷ xs) zero a b l = refl
 default (x ∷ xs) (suc k) a b l = default xs k a b (omega arith)
 
-pub begin_indexed : (w : World) (i : Indexes) (q : Request) → IsIndexed w i → q.dir < length w.parents → (r : ℕ) → r ≡ get_or i.running q.dir r → (ts : List (Option Request)) → ts ≡ w.tickets ++ Some q ∷ [] →
-    IsIndexed (record w { tickets = ts }) (record i { running = set i.running q.dir (r + 1) })
+pub begin_indexed : (w : World) (i : Indexes) (q : Request) → IsIndexed w i → q.dir < length w.parents → q.rank < length i.tickets_at → (r : ℕ) → r ≡ get_or i.running q.dir r → (ts : List (Option Request)) → ts ≡ w.tickets ++ Some q ∷ [] →
+    IsIndexed (record w { tickets = ts }) (record i { running = set i.running q.dir (r + 1); tickets_at = set i.tickets_at q.rank (get_or i.tickets_at q.rank [] ++ length w.tickets ∷ []) })
 unfolding authority open_export
-begin_indexed w i q is near r h ts t = record {
+begin_indexed w i q is near ranked r h ts t = record {
   owners = is.owners;
   opened = is.opened;
   running = λ e. rw t (elim (cases_eq e q.dir) [
@@ -221,6 +240,7 @@ begin_indexed w i q is near r h ts t = record {
   running_places = length-set i.running q.dir (r + 1) ∙ is.running_places;
   children_places = is.children_places;
   unmarked = is.unmarked;
+  requests = rw t (begin_filed w.ranks w.tickets i.tickets_at q is.requests ranked);
 }
   where
     plain : (n : ℕ) → n + 0 ≡ n
@@ -258,6 +278,7 @@ end_indexed w i t q is e near r h = record {
   running_places = length-set i.running q.dir (r - 1) ∙ is.running_places;
   children_places = is.children_places;
   unmarked = is.unmarked;
+  requests = end_filed w.ranks w.tickets i.tickets_at t is.requests;
 }
   where
     less : (m n k : ℕ) → m + n ≡ k → n ≡ 1 → k - 1 ≡ m

@@ -21,6 +21,7 @@ pub mod Indexing
 pub mod Accepted
 pub mod Marks
 pub mod Rows
+pub mod ByRank
 pub mod Receiving
 pub mod Growing
 pub mod Starting

@@ -8,7 +8,8 @@ use Rattle.std.proofs.Math.Logic.{∥∥₁_elim}
 use Rattle.export_machine.specs.declared.journal.JournalEntry.{JournalEntry}
 use Rattle.export_machine.specs.declared.message.Message.{Message}
 use Rattle.export_machine.specs.declared.step_error.StepError.{StepError}
-use Rattle.export_machine.specs.Cluster.{Order, World}
+use Rattle.export_machine.specs.Cluster.{World}
+use Rattle.mds_types.specs.declared.order.Order.{Order}
 use Rattle.export_machine.specs.Authority.{is_among, order_in, no_order, from_of, exporter_of, importer_of, journal_of, is_present, has, has_entry, is_same, authority, any_below, is_stopped}
 use Rattle.export_machine.specs.Step.{step, answered, refusal, happens, counted, receiver, run, start, journaled_by, changed, ignored, restarts, about}
 use Rattle.export_machine.specs.declared.event.Event.{Event}

@@ -7,15 +7,15 @@ use Rattle.export_machine.specs.Authority.{from_of, to_of}
 use Rattle.export_machine.specs.Kept.{world_of, CanReceive}
 use Rattle.export_machine.specs.Step.{about}
 use Rattle.export_machine.proofs.Found.{orders_by}
-use Rattle.export_machine.proofs.Accepted.{as_order, as_importer, exporter_rank, importer_rank, from_here, to_here}
-use Rattle.mds_types.specs.declared.order.Order.{Order as Moved}
+use Rattle.export_machine.proofs.Accepted.{as_importer, exporter_rank, importer_rank, from_here, to_here}
+use Rattle.mds_types.specs.declared.order.Order.{Order}
 
 module _ (r : Records) (m : Message) (can : CanReceive r m) where
   pub known_order : about m < length (world_of r).orders
   known_order = orders_by (world_of r) can.kept.reached (about m) (length (world_of r).orders) (λ safe. safe.tables.known can.sent.0 m can.sent.1)
 
   pub known : about m < length r.orders.items
-  known = as_order r.orders.items (about m) known_order
+  known = known_order
 
   pub known_importer : about m < length r.importers.items
   known_importer = as_importer (world_of r) can.kept.reached (about m) known_order
@@ -26,18 +26,18 @@ module _ (r : Records) (m : Message) (can : CanReceive r m) where
   pub from_rank : from_of (world_of r) (about m) < length (world_of r).journals
   from_rank = exporter_rank (world_of r) can.kept.reached (about m) known_order
 
-  pub to_is : (o : Moved) → o ≡ get_or r.orders.items (about m) o → to_of (world_of r) (about m) ≡ o.to
+  pub to_is : (o : Order) → o ≡ get_or r.orders.items (about m) o → to_of (world_of r) (about m) ≡ o.to
   to_is o e = to_here r.orders.items (about m) o known e
 
-  pub from_is : (o : Moved) → o ≡ get_or r.orders.items (about m) o → from_of (world_of r) (about m) ≡ o.from
+  pub from_is : (o : Order) → o ≡ get_or r.orders.items (about m) o → from_of (world_of r) (about m) ≡ o.from
   from_is o e = from_here r.orders.items (about m) o known e
 
-  pub to_near : (o : Moved) → o ≡ get_or r.orders.items (about m) o → o.to < length r.journals.items
+  pub to_near : (o : Order) → o ≡ get_or r.orders.items (about m) o → o.to < length r.journals.items
   to_near o e =
       let k : o.to < length (world_of r).journals = rw (← to_is o e) to_rank in
       omega (arith, length-map r.journals.items (λ j. j.items))
 
-  pub from_near : (o : Moved) → o ≡ get_or r.orders.items (about m) o → o.from < length r.journals.items
+  pub from_near : (o : Order) → o ≡ get_or r.orders.items (about m) o → o.from < length r.journals.items
   from_near o e =
       let k : o.from < length (world_of r).journals = rw (← from_is o e) from_rank in
       omega (arith, length-map r.journals.items (λ j. j.items))

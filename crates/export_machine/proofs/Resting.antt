@@ -12,7 +12,8 @@ use Rattle.export_machine.specs.declared.step_error.StepError.{StepError}
 use Rattle.export_machine.specs.declared.exporter.ExporterState.TheVariants.{Discovering, Freezing, Preparing, Exporting, Logged, Done, Aborted}
 use Rattle.export_machine.specs.declared.importer.ImporterState.TheVariants.{Unknown, Discovered, Prepared, Started, Imported, Dropped}
 use Rattle.export_machine.specs.declared.message.Message.TheVariants.{Discover, DiscoverAck, Prep, PrepAck, ExportAck, Finish, Cancel, Query}
-use Rattle.export_machine.specs.Cluster.{Order, World}
+use Rattle.export_machine.specs.Cluster.{World}
+use Rattle.mds_types.specs.declared.order.Order.{Order}
 use Rattle.export_machine.specs.Authority.{order_in, no_order, from_of, to_of, exporter_of, importer_of, journal_of, has, has_entry, authority, is_stopped}
 use Rattle.export_machine.specs.Step.{step, answered, refusal, causes, happens, counted, receiver, run, start, journaled_by, importer_to, changed, ignored, stops, restarts, comes, delivered, exporter_by_journal, importer_by_journal, authority_stopped, Move, move, acts, about}
 use Rattle.export_machine.specs.declared.event.Event.{Event}

@@ -38,13 +38,14 @@ importer_indexed w i is importers ms = record {
   running_places = is.running_places;
   children_places = is.children_places;
   unmarked = is.unmarked;
+  requests = is.requests;
 }
 
 pub exporter_indexed : (w : World) (i : Indexes) (x : ℕ) (s : ExporterState) → IsIndexed w i → is_aborted (exporter_of w x) ≡ is_aborted s → (ms : List Message) →
     IsIndexed (record (exporter_to w x s) { sent = ms }) i
 unfolding authority
 exporter_indexed w i x s is e ms = same_indexed w (record (exporter_to w x s) { sent = ms }) i is (λ d. refl)
-    (λ d. open_stays (exporter_to w x s) (record (exporter_to w x s) { sent = ms }) refl (λ y. refl) d ∙ exporter_open w x s e d) refl refl
+    (λ d. open_stays (exporter_to w x s) (record (exporter_to w x s) { sent = ms }) refl (λ y. refl) d ∙ exporter_open w x s e d) refl refl refl
 
 -- an entry that moves nothing
 
@@ -78,7 +79,7 @@ module _ (w : World) (x : ℕ) (s : ImporterState) (e : JournalEntry) (ms : List
   unfolding authority
   noted_indexed r i is f = same_indexed w noted i is
       (λ d. options_by w r (authority noted d) (authority w d) (λ safe. noted_authority safe (f safe).0 (f safe).1 d))
-      (λ d. open_stays (journals (importer_to w x s) (to_of w x) e) noted refl (λ y. refl) d ∙ noted_open d) refl refl
+      (λ d. open_stays (journals (importer_to w x s) (to_of w x) e) noted refl (λ y. refl) d ∙ noted_open d) refl refl refl
 
 pub export_indexed : (w : World) (i : Indexes) (x : ℕ) (ms : List Message) → IsReached w → IsIndexed w i → importer_of w x ≡ Prepared → x < length w.importers → to_of w x < length w.journals →
     IsIndexed (record (journals (importer_to w x Started) (to_of w x) (JournalEntry.Started x)) { sent = ms }) i
@@ -124,6 +125,7 @@ module _ (w : World) (x k : ℕ) (was : exporter_of w x ≡ Exporting) (sent : s
     running_places = is.running_places;
     children_places = is.children_places;
     unmarked = is.unmarked;
+    requests = is.requests;
   }
 
 -- the importer imports: the export is over
@@ -170,6 +172,7 @@ module _ (w : World) (x k : ℕ) (was : importer_of w x ≡ Started) (sent : sli
     running_places = is.running_places;
     children_places = is.children_places;
     unmarked = is.unmarked;
+    requests = is.requests;
   }
 
 -- the map names the importer
@@ -224,4 +227,4 @@ module _ (w : World) (x : ℕ) (was : exporter_of w x ≡ Logged) (ranked : from
       (λ d. options_by w r (authority notified d) (authority w d) (λ safe. notified_authority safe d))
       (λ d. open_stays (journals (exporter_to w x Done) (from_of w x) (JournalEntry.Notified x)) notified refl (λ y. refl) d
       ∙ (entry_open (exporter_to w x Done) (from_of w x) (JournalEntry.Notified x) ranked (λ y. refl) d ∙ exporter_open w x Done (rw was refl) d))
-      refl refl
+      refl refl refl

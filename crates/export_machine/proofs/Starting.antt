@@ -7,7 +7,8 @@ use Rattle.export_machine.specs.declared.journal.JournalEntry.{JournalEntry}
 use Rattle.export_machine.specs.declared.exporter.ExporterState.{ExporterState}
 use Rattle.export_machine.specs.declared.exporter.ExporterState.TheVariants.{Discovering, Aborted}
 use Rattle.export_machine.specs.declared.importer.ImporterState.TheVariants.{Unknown}
-use Rattle.export_machine.specs.Cluster.{Order, World}
+use Rattle.export_machine.specs.Cluster.{World}
+use Rattle.mds_types.specs.declared.order.Order.{Order}
 use Rattle.export_machine.specs.Authority.{no_order, is_among, is_inside, is_present, to_of, importer_of, has, authority, is_open, is_aborted, open_export, or_else}
 use Rattle.export_machine.specs.Step.{refusal, causes, map_at, busy, elsewhere, repeats, is_connected}
 use Rattle.export_machine.specs.declared.event.Event.TheVariants.{Start}
@@ -129,4 +130,5 @@ module _ (w : World) (from to : ℕ) (dirs : List ℕ) (h : refusal w (Start fro
     running_places = is.running_places;
     children_places = is.children_places;
     unmarked = is.unmarked;
+    requests = is.requests;
   }

@@ -13,7 +13,9 @@ use Rattle.export_machine.proofs.Safe.{Safe}
 use Rattle.export_machine.proofs.Theorem.{start_safe, safe_named, safe_gone}
 use Rattle.export_machine.proofs.Authorities.{authority_found, no_authority}
 use Rattle.export_machine.proofs.Walks.{authority_near}
+use Rattle.export_machine.proofs.ByRank.{start_filed}
 use Rattle.export_machine.proofs.Lists.{counted}
+use Rattle.std.specs.Prelude.{replicate}
 
 module _ (limit ranks : ℕ) (some : 1 ≤ ranks) where
   first_rank : (r : ℕ) → Some 0 ≡ Some r → r ≡ 0
@@ -45,7 +47,7 @@ module _ (limit ranks : ℕ) (some : 1 ≤ ranks) where
   opened zero = refl
   opened (suc d) = refl
 
-  pub start_indexed : IsIndexed (start limit ranks) (record { owners = Some 0 ∷ []; opened = None ∷ []; running = 0 ∷ []; children = 0 ∷ []; marks = false ∷ [] })
+  pub start_indexed : IsIndexed (start limit ranks) (record { owners = Some 0 ∷ []; opened = None ∷ []; running = 0 ∷ []; children = 0 ∷ []; marks = false ∷ []; tickets_at = replicate ranks [] })
   unfolding start
   start_indexed = record {
     owners = owners;
@@ -57,6 +59,7 @@ module _ (limit ranks : ℕ) (some : 1 ≤ ranks) where
     running_places = refl;
     children_places = refl;
     unmarked = refl;
+    requests = start_filed ranks;
   }
     where
       running : (d : ℕ) → get_or {A = ℕ} (0 ∷ []) d 0 ≡ running_on (start limit ranks) (d ∷ [])
@@ -68,7 +71,7 @@ module _ (limit ranks : ℕ) (some : 1 ≤ ranks) where
       children (suc d) = no_child (eqb 0 (suc d))
 
 -- what is kept of a new cluster
-pub start_kept : (r : Records) (limit ranks : ℕ) → 1 ≤ limit → limit ≤ 65536 → 1 ≤ ranks → ranks ≤ 64 → world_of r ≡ start limit ranks → indexes_of r ≡ first_indexes → IsKept r
+pub start_kept : (r : Records) (limit ranks : ℕ) → 1 ≤ limit → limit ≤ 65536 → 1 ≤ ranks → ranks ≤ 64 → world_of r ≡ start limit ranks → indexes_of r ≡ first_indexes ranks → IsKept r
 unfolding start
 start_kept r limit ranks some_dirs few_dirs some_ranks few_ranks w i = record {
   reached = ∣ (limit, ranks, [], some_ranks, sym w) ∣₁;

@@ -39,7 +39,7 @@ set_false bs k = elim (cases_lt k (length bs)) [
   | inr m ↦ get_or_past (set bs k false) k false (rw (length-set bs k false) m)
 ]
 
-ended_elsewhere : (rank : ℕ) (o : Option Request) (q : Request) → ends_at rank o ≡ Some q → (o ≡ Some q) × (q.rank ≢ rank)
+pub ended_elsewhere : (rank : ℕ) (o : Option Request) (q : Request) → ends_at rank o ≡ Some q → (o ≡ Some q) × (q.rank ≢ rank)
 ended_elsewhere rank None q h = absurd (cc)
 ended_elsewhere rank (Some p) q h = go (eqb p.rank rank) refl h
   where

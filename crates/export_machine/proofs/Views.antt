@@ -2,7 +2,8 @@
 use Rattle.std.proofs.Common.{◌≡◌, ◌≢◌, ℕ, zero, suc, ◌+◌, ◌<◌, ◌≤◌, Bool, false, ◌&&◌, ◌||◌, eqb, List, [], ◌∷◌, ◌++◌, length, get_or, Some, refl, sym, ap, ◌∙◌, inl, inr, ◌⊎◌, arith}
 use Rattle.std.specs.List.{slice_get}
 use Rattle.export_machine.specs.declared.journal.JournalEntry.{JournalEntry}
-use Rattle.export_machine.specs.Cluster.{Order, World}
+use Rattle.export_machine.specs.Cluster.{World}
+use Rattle.mds_types.specs.declared.order.Order.{Order}
 use Rattle.export_machine.specs.Authority.{journal_of, is_same, has_entry, has, owned_after, owned_by, owns}
 use Rattle.export_machine.specs.Step.{journals, map_at}
 use Rattle.std.proofs.lemmas.List.{get_or-set_same, get_or-set_other, get_or_past}

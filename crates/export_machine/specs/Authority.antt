@@ -5,7 +5,8 @@ use Rattle.export_machine.specs.declared.exporter.ExporterState.{ExporterState}
 use Rattle.export_machine.specs.declared.importer.ImporterState.{ImporterState}
 use Rattle.export_machine.specs.declared.journal.JournalEntry.{JournalEntry}
 use Rattle.export_machine.specs.declared.event.Request.{Request}
-use Rattle.export_machine.specs.Cluster.{Order, World}
+use Rattle.export_machine.specs.Cluster.{World}
+use Rattle.mds_types.specs.declared.order.Order.{Order}
 use Rattle.export_machine.specs.declared.exporter.ExporterState.TheVariants.{Freezing, Preparing, Exporting, Aborted}
 use Rattle.export_machine.specs.declared.importer.ImporterState.TheVariants.{Unknown}
 

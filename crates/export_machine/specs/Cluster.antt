@@ -7,19 +7,14 @@ use Rattle.export_machine.specs.declared.importer.ImporterState.{ImporterState}
 use Rattle.export_machine.specs.declared.journal.JournalEntry.{JournalEntry}
 use Rattle.export_machine.specs.declared.message.Message.{Message}
 use Rattle.export_machine.specs.declared.event.Request.{Request}
-
--- what an export moves: it never changes
-pub record Order : Type 0 where
-  pub from : ℕ
-  pub to : ℕ
-  pub dirs : List ℕ
+use Rattle.mds_types.specs.declared.order.Order.{Order}
 
 pub record World : Type 0 where
   pub limit : ℕ  -- how many directory numbers may be given
   pub ranks : ℕ  -- how many ranks there are
   pub parents : List (Option ℕ)  -- by directory: its parent; None of one that is gone. The root is its own parent
   pub journals : List (List JournalEntry)  -- by rank
-  pub orders : List Order  -- by export: all that were ever started
+  pub orders : List Order  -- by export: what it moves. All that were ever started
   pub exporters : List ExporterState  -- by export: its state at its exporter
   pub importers : List ImporterState  -- by export: its state at its importer
   pub sent : List Message  -- all messages that were ever sent

@@ -1,23 +1,19 @@
 -- What the tables of a cluster stand for, and what always holds of them.
 use Rattle.std.specs.Prelude.{◌≡◌, ◌≤◌, ◌<◌, ℕ, ◌+◌, suc, Bool, true, ◌&&◌, nat_lt, List, [], ◌∷◌, map, length, Option, None, Some, Result, Ok, Err, slice_get, slice_index_or, vec_len, vec_capacity, Vec, if◌then◌else◌, replicate, false, not, ◌==◌, is_some}
-use Rattle.export_machine.specs.Cluster.{Order, World}
-use Rattle.export_machine.specs.Authority.{authority, open_export, order_in, from_of, exporter_of, importer_of}
+use Rattle.export_machine.specs.Cluster.{World}
+use Rattle.export_machine.specs.Authority.{authority, open_export, is_among, order_in, from_of, exporter_of, importer_of}
 use Rattle.export_machine.specs.Step.{running_on, is_child, about, receiver, repeats, comes}
 use Rattle.export_machine.specs.View.{IsReached}
 use Rattle.export_machine.specs.declared.event.Event.{Event}
 use Rattle.export_machine.specs.declared.event.Reply.{Reply}
+use Rattle.export_machine.specs.declared.event.Request.{Request}
 use Rattle.export_machine.specs.declared.exporter.ExporterState.{ExporterState}
 use Rattle.export_machine.specs.declared.importer.ImporterState.{ImporterState}
 use Rattle.export_machine.specs.declared.exporter.ExporterState.TheVariants.{Logged, Done, Aborted}
 use Rattle.export_machine.specs.declared.importer.ImporterState.TheVariants.{Unknown, Started, Imported, Dropped}
-use Rattle.export_machine.specs.declared.journal.JournalEntry.{JournalEntry}
 use Rattle.export_machine.specs.declared.message.Message.{Message}
 use Rattle.export_machine.specs.declared.step_error.StepError.{StepError}
 use Rattle.export_machine.specs.declared.records.Records.{Records}
-use Rattle.mds_types.specs.declared.order.Order.{Order as Moved}
-
-abbrev pub order_of : Moved → Order
-order_of o = record { from = o.from; to = o.to; dirs = o.dirs.items }
 
 abbrev pub world_of : Records → World
 world_of r = record {
@@ -25,7 +21,7 @@ world_of r = record {
   ranks = r.ranks;
   parents = r.parents.items;
   journals = map (λ journal. journal.items) r.journals.items;
-  orders = map order_of r.orders.items;
+  orders = r.orders.items;
   exporters = r.exporters.items;
   importers = r.importers.items;
   sent = r.sent.items;
@@ -43,9 +39,10 @@ pub record Indexes : Type 0 where
   pub running : List ℕ  -- how many requests run on it
   pub children : List ℕ  -- how many children it has
   pub marks : List Bool  -- none, between the tests of lists
+  pub tickets_at : List (List ℕ)  -- by rank: tickets that were given there
 
 abbrev pub indexes_of : Records → Indexes
-indexes_of r = record { owners = r.owners.items; opened = r.opened.items; running = r.running.items; children = r.children.items; marks = r.marks.items }
+indexes_of r = record { owners = r.owners.items; opened = r.opened.items; running = r.running.items; children = r.children.items; marks = r.marks.items; tickets_at = map (λ list. list.items) r.tickets_at.items }
 
 -- how many places of a list pass the test
 abbrev pub count_at : {A : Type 0} → (ℕ → A → Bool) → List A → ℕ
@@ -54,6 +51,11 @@ count_at test (a ∷ rest) = (if test 0 a then 1 else 0) + count_at (λ k. test 
 
 abbrev pub children_of : World → ℕ → ℕ
 children_of w d = count_at (is_child d) w.parents
+
+-- the ticket of each running request is among those of its rank
+pub record AreByRank (ranks : ℕ) (tickets : List (Option Request)) (tickets_at : List (List ℕ)) : Type 0 where
+  pub filed : (t : ℕ) (q : Request) → slice_index_or tickets t None ≡ Some q → is_among (slice_index_or tickets_at q.rank []) t ≡ true
+  pub ranked : length tickets_at ≡ ranks
 
 pub record IsIndexed (w : World) (i : Indexes) : Type 0 where
   pub owners : (d : ℕ) → slice_index_or i.owners d None ≡ authority w d
@@ -65,6 +67,7 @@ pub record IsIndexed (w : World) (i : Indexes) : Type 0 where
   pub running_places : length i.running ≡ length w.parents
   pub children_places : length i.children ≡ length w.parents
   pub unmarked : i.marks ≡ replicate (length w.parents) false
+  pub requests : AreByRank w.ranks w.tickets i.tickets_at
 
 -- a directory that is there, and one whose parent is another directory with a mark
 
@@ -101,15 +104,15 @@ lesser (Some other) dir = if nat_lt other dir then other else dir
 abbrev pub has_spare : {T A : Type 0} → Vec T A → Bool
 has_spare v = nat_lt (vec_len v) (vec_capacity v)
 
-abbrev pub is_spare : {A : Type 0} → Option (Vec JournalEntry A) → Bool
+abbrev pub is_spare : {T A : Type 0} → Option (Vec T A) → Bool
 is_spare None = true
-is_spare (Some journal) = has_spare journal
+is_spare (Some list) = has_spare list
 
--- the journal of this rank has a place
-abbrev pub has_place : {A : Type 0} → List (Vec JournalEntry A) → ℕ → Bool
-has_place journals rank = is_spare (slice_get journals rank)
+-- the list of this rank has a place
+abbrev pub has_place : {T A : Type 0} → List (Vec T A) → ℕ → Bool
+has_place lists rank = is_spare (slice_get lists rank)
 
-abbrev pub has_places : {A : Type 0} → List (Vec JournalEntry A) → Option ℕ → Bool
+abbrev pub has_places : {T A : Type 0} → List (Vec T A) → Option ℕ → Bool
 has_places journals None = true
 has_places journals (Some rank) = has_place journals rank
 
@@ -132,11 +135,14 @@ has_dir_places r =
 abbrev pub has_export_places : Records → Bool
 has_export_places r = has_spare r.orders && has_spare r.exporters && has_spare r.importers && has_spare r.sent
 
+abbrev pub has_ticket_places : Records → ℕ → Bool
+has_ticket_places r rank = has_spare r.tickets && has_place r.tickets_at.items rank
+
 -- the lists of an event but for the journal
 abbrev pub has_list_places : Records → Event → Bool
 has_list_places r (Event.Made parent) = has_dir_places r
 has_list_places r (Event.Gone dir) = true
-has_list_places r (Event.Begin rank dir) = has_spare r.tickets
+has_list_places r (Event.Begin rank dir) = has_ticket_places r rank
 has_list_places r (Event.End ticket) = true
 has_list_places r (Event.Start from to dirs) = has_export_places r
 has_list_places r (Event.Deliver message) = has_spare r.sent
@@ -186,6 +192,7 @@ pub record Room : Type 0 where
   pub exports : Bool
   pub messages : Bool
   pub tickets : Bool
+  pub requests : List Bool  -- by rank: among its tickets
   pub entries : List Bool  -- by rank: in its journal
 
 pub record State : Type 0 where
@@ -200,6 +207,7 @@ state_of r = record {
     exports = has_export_places r;
     messages = has_spare r.sent;
     tickets = has_spare r.tickets;
+    requests = map (λ list. has_spare list) r.tickets_at.items;
     entries = map (λ journal. has_spare journal) r.journals.items;
   };
 }
@@ -211,7 +219,7 @@ is_ready_entry room (Some rank) = slice_index_or room.entries rank true
 abbrev pub is_ready_list : Room → Event → Bool
 is_ready_list room (Event.Made parent) = room.dirs
 is_ready_list room (Event.Gone dir) = true
-is_ready_list room (Event.Begin rank dir) = room.tickets
+is_ready_list room (Event.Begin rank dir) = room.tickets && slice_index_or room.requests rank true
 is_ready_list room (Event.End ticket) = true
 is_ready_list room (Event.Start from to dirs) = room.exports
 is_ready_list room (Event.Deliver message) = room.messages
@@ -236,5 +244,5 @@ abbrev pub states_of : World → ℕ → Option (ExporterState × ImporterState)
 states_of w x = if nat_lt x (length w.orders) then Some (exporter_of w x, importer_of w x) else None
 
 -- those of a new cluster
-abbrev pub first_indexes : Indexes
-first_indexes = record { owners = Some 0 ∷ []; opened = None ∷ []; running = 0 ∷ []; children = 0 ∷ []; marks = false ∷ [] }
+abbrev pub first_indexes : ℕ → Indexes
+first_indexes ranks = record { owners = Some 0 ∷ []; opened = None ∷ []; running = 0 ∷ []; children = 0 ∷ []; marks = false ∷ []; tickets_at = replicate ranks [] }

@@ -26,6 +26,7 @@ pub record IsAsRoomy (old new : Records) : Type 0 where
   pub importers : has_spare old.importers ≡ true → has_spare new.importers ≡ true
   pub sent : has_spare old.sent ≡ true → has_spare new.sent ≡ true
   pub tickets : has_spare old.tickets ≡ true → has_spare new.tickets ≡ true
+  pub tickets_at : (rank : ℕ) → has_place old.tickets_at.items rank ≡ true → has_place new.tickets_at.items rank ≡ true
   pub journals : (rank : ℕ) → has_place old.journals.items rank ≡ true → has_place new.journals.items rank ≡ true
 
 -- the event is refused for its first cause or, where it has none, for want of memory

@@ -5,24 +5,23 @@ ghost use Rattle.export_machine.specs.Step.{refusal, happens, step};
 ghost use Rattle.export_machine.specs.declared.event.Event.{Event as StepEvent};
 ghost use Rattle.export_machine.specs.View.{IsAnswer};
 ghost use Rattle.export_machine.specs.Room.{IsAsRoomy, IsRefusal};
-ghost use Rattle.export_machine.specs.Kept.{world_of, indexes_of, has_room, has_place, has_places, has_list_places, has_dir_places, has_export_places, entered_at, IsKept, IsIndexed};
+ghost use Rattle.export_machine.specs.Kept.{world_of, indexes_of, has_room, has_place, has_places, has_list_places, has_ticket_places, has_dir_places, has_export_places, entered_at, IsKept, IsIndexed};
 
 use crate::event::{Event, Reply};
-use crate::journal::JournalEntry;
 use crate::records::Records;
 use crate::step_error::StepError;
 use mds_types::Rank;
 use std::alloc::AllocError;
 
-/// Takes room for one more entry in a rank's journal.
-fn grow_journal(journals: &mut Vec<Vec<JournalEntry>>, rank: Rank) -> Result<(), AllocError>
-    requires near { rank < length journals.old.items }
-    ensures entries { map (λ journal. journal.items) journals.new.items ≡ map (λ journal. journal.items) journals.old.items }
-    ensures room { OnOk result (has_place journals.new.items rank ≡ true) }
-    ensures ready { has_place journals.old.items rank ≡ true → IsOk result }
-    ensures spare { (other : ℕ) → has_place journals.old.items other ≡ true → has_place journals.new.items other ≡ true }
+/// Takes room for one more in a rank's list.
+fn grow_list<T: Copy>(lists: &mut Vec<Vec<T>>, rank: Rank) -> Result<(), AllocError>
+    requires near { rank < length lists.old.items }
+    ensures entries { map (λ list. list.items) lists.new.items ≡ map (λ list. list.items) lists.old.items }
+    ensures room { OnOk result (has_place lists.new.items rank ≡ true) }
+    ensures ready { has_place lists.old.items rank ≡ true → IsOk result }
+    ensures spare { (other : ℕ) → has_place lists.old.items other ≡ true → has_place lists.new.items other ≡ true }
 {
-    journals[rank.number() as usize].reserve(1)
+    lists[rank.number() as usize].reserve(1)
 }
 
 impl Records {
@@ -57,6 +56,22 @@ impl Records {
         self.exporters.reserve(1)?;
         self.importers.reserve(1)?;
         self.sent.reserve(1)
+    }
+
+    /// Takes room for the ticket of one more request at this rank, if it is one.
+    fn grow_tickets(&mut self, rank: Rank) -> Result<(), AllocError>
+        ensures world { world_of self.new ≡ world_of self.old }
+        ensures indexes { indexes_of self.new ≡ indexes_of self.old }
+        ensures journals { self.new.journals ≡ self.old.journals }
+        ensures room { OnOk result (has_ticket_places self.new rank ≡ true) }
+        ensures ready { has_ticket_places self.old rank ≡ true → IsOk result }
+        ensures spare { IsAsRoomy self.old self.new }
+    {
+        self.tickets.reserve(1)?;
+        if rank.number() as usize >= self.tickets_at.len() {
+            return Ok(());
+        }
+        grow_list(&mut self.tickets_at, rank)
     }
 
     /// The effect of an accepted event for which there is room.
@@ -109,7 +124,7 @@ impl Records {
         ensures spare { (other : ℕ) → has_place self.old.journals.items other ≡ true → has_place self.new.journals.items other ≡ true }
     {
         match rank {
-            Some(rank) => grow_journal(&mut self.journals, rank),
+            Some(rank) => grow_list(&mut self.journals, rank),
             None => Ok(()),
         }
     }
@@ -125,7 +140,7 @@ impl Records {
     {
         match event {
             Event::Made(_) => self.grow_dirs(),
-            Event::Begin(_, _) => self.tickets.reserve(1),
+            Event::Begin(rank, _) => self.grow_tickets(*rank),
             Event::Start(_, _, _) => self.grow_exports(),
             Event::Deliver(_) => self.sent.reserve(1),
             Event::Froze(_) => self.sent.reserve(1),

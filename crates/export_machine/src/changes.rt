@@ -7,7 +7,6 @@ ghost use Rattle.export_machine.specs.Kept.{has_place};
 ghost use Rattle.export_machine.specs.declared.event.Reply.TheVariants.{Sent};
 
 use crate::event::Reply;
-use crate::journal::JournalEntry;
 use crate::message::Message;
 use mds_types::{Dir, Rank};
 
@@ -23,14 +22,14 @@ pub(crate) fn send(sent: &mut Vec<Message>, message: Message) -> Reply
     Reply::Sent(number)
 }
 
-/// Appends an entry to a rank's journal.
-pub(crate) fn enter(journals: &mut Vec<Vec<JournalEntry>>, rank: Rank, entry: JournalEntry)
-    requires near { rank < length journals.old.items }
-    requires room { has_place journals.old.items rank ≡ true }
-    ensures entered { map (λ journal. journal.items) journals.new.items
-        ≡ slice_set (map (λ journal. journal.items) journals.old.items) rank (slice_index_or (map (λ journal. journal.items) journals.old.items) rank [] ++ entry ∷ []) }
+/// Appends to a rank's list.
+pub(crate) fn enter<T: Copy>(lists: &mut Vec<Vec<T>>, rank: Rank, entry: T)
+    requires near { rank < length lists.old.items }
+    requires room { has_place lists.old.items rank ≡ true }
+    ensures entered { map (λ list. list.items) lists.new.items
+        ≡ slice_set (map (λ list. list.items) lists.old.items) rank (slice_index_or (map (λ list. list.items) lists.old.items) rank [] ++ entry ∷ []) }
 {
-    journals[rank.number() as usize].push_reserved(entry);
+    lists[rank.number() as usize].push_reserved(entry);
 }
 
 /// Writes into the table at one place, if it is there.

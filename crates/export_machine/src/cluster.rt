@@ -8,7 +8,7 @@ ghost use Rattle.export_machine.specs.Roots.{roots};
 ghost use Rattle.export_machine.specs.Room.{KeepsRoom, IsRefusal};
 ghost use Rattle.export_machine.specs.View.{IsAnswer, AreAnswers, NoneIsMemory, IsReached};
 ghost use Rattle.export_machine.specs.Promises.{Promised, KeepsAuthority};
-ghost use Rattle.export_machine.specs.Kept.{order_of, cause_of, addressed, states_of, is_ready};
+ghost use Rattle.export_machine.specs.Kept.{cause_of, addressed, states_of, is_ready};
 
 use crate::event::{Event, Reply};
 use crate::exporter::ExporterState;
@@ -233,8 +233,8 @@ impl Cluster {
     /// What an export moves.
     pub fn export(&self, export: u32) -> Option<&Order>
         ensures found { IsSome result ↔ (export < length self.now.world.orders) }
-        ensures order { IfSome result (λ order. order_of order.now ≡ order_in self.now.world.orders export) }
-        ensures near { IfSome result (λ order. All (λ d. d < self.now.world.limit) order.now.dirs.items) }
+        ensures order { IfSome result (λ order. order.now ≡ order_in self.now.world.orders export) }
+        ensures near { IfSome result (λ order. All (λ d. d < self.now.world.limit) order.now.dirs) }
     {
         self.records.orders.get(export as usize)
     }

@@ -101,7 +101,7 @@ impl Records {
                     order.from,
                     JournalEntry::Exported(export),
                 );
-                mark(&mut self.owners, &order.dirs, Some(order.to));
+                mark(&mut self.owners, order.dirs.as_slice(), Some(order.to));
                 Reply::Changed
             }
             _ => Reply::Ignored,
@@ -118,7 +118,7 @@ impl Records {
                 self.importers[export as usize] = ImporterState::Imported;
                 let order = &self.orders[export as usize];
                 enter(&mut self.journals, order.to, JournalEntry::Imported(export));
-                mark(&mut self.opened, &order.dirs, None);
+                mark(&mut self.opened, order.dirs.as_slice(), None);
                 Reply::Changed
             }
             _ => Reply::Ignored,

@@ -27,6 +27,7 @@ impl Records {
     {
         let ticket = self.tickets.len() as u32;
         self.tickets.push_reserved(Some(Request { rank, dir }));
+        enter(&mut self.tickets_at, rank, ticket);
         self.running[dir.number() as usize] += 1;
         Reply::Ticket(ticket)
     }
@@ -43,6 +44,7 @@ impl Records {
         };
         self.running[request.dir.number() as usize] -= 1;
         self.tickets[ticket as usize] = None;
+        self.note_end(request.rank);
         Reply::Changed
     }
 
@@ -67,7 +69,11 @@ impl Records {
         ensures indexed { IsIndexed (world_of self.new) (indexes_of self.new) }
     {
         self.exporters[export as usize] = ExporterState::Aborted;
-        mark(&mut self.opened, &self.orders[export as usize].dirs, None);
+        mark(
+            &mut self.opened,
+            self.orders[export as usize].dirs.as_slice(),
+            None,
+        );
         send(&mut self.sent, Message::Cancel(export))
     }
 
@@ -129,7 +135,6 @@ impl Records {
         let export = self.orders.len() as u32;
         let message = self.sent.len() as u32;
         mark(&mut self.opened, dirs.as_slice(), Some(export));
-        let dirs = dirs.into_vec();
         self.orders.push_reserved(Order { from, to, dirs });
         self.exporters.push_reserved(ExporterState::Discovering);
         self.importers.push_reserved(ImporterState::Unknown);
@@ -152,7 +157,7 @@ impl Records {
             order.from,
             JournalEntry::Notified(export),
         );
-        mark(&mut self.named, &order.dirs, Some(order.to));
+        mark(&mut self.named, order.dirs.as_slice(), Some(order.to));
         send(&mut self.sent, Message::Finish(export))
     }
 

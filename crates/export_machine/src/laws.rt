@@ -21,7 +21,7 @@ ghost use Rattle.export_machine.specs.Promises.{
   NoneAtStopped,
   NearestOwns,
 };
-ghost use Rattle.export_machine.specs.Connected.{TestsConnected};
+ghost use Rattle.export_machine.specs.Connected.{TestsConnected, AcceptsConnected, AreParents, HangsTogether};
 
 /// What holds after every list of events, with messages lost, repeated or reordered and ranks stopped at any moment.
 pub fn one_authority()
@@ -86,7 +86,10 @@ pub fn nearest_owner()
     ensures { (limit ranks : ℕ) (events : List StepEvent) → 1 ≤ ranks → NearestOwns (run (start limit ranks) events) }
 {}
 
-/// The sets of directories that an export may move are the connected ones, after every list of events.
+/// The lists of directories that an export may move are those that hang together, after every list of events.
 pub fn connected()
-    ensures { (limit ranks : ℕ) (events : List StepEvent) → TestsConnected (run (start limit ranks) events) }
+    ensures tested { (limit ranks : ℕ) (events : List StepEvent) → TestsConnected (run (start limit ranks) events) }
+    // Parents may come from elsewhere, where they are those of the list's directories.
+    ensures accepted { (w : World) (parent : ℕ → ℕ) (dirs : List ℕ) → IsReached w → AreParents w dirs parent →
+        HangsTogether parent dirs → AcceptsConnected w dirs }
 {}

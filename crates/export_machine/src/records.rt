@@ -2,7 +2,8 @@
 //!
 //! Beside the journals, states, messages and map there are four tables by directory, which the rest determines: its
 //! authority, the open export that it is in, how many requests run on it and how many children it has. So no read
-//! folds a journal and no event searches the exports. A fifth, of marks, is for the test of a list of directories.
+//! folds a journal and no event searches the exports. A fifth, of marks, is for the test of a list of directories. By
+//! rank there are the tickets of its requests, so that a stop needn't look through those of all requests that ever were.
 
 ghost use Rattle.std.specs.Prelude.{◌≡◌, ℕ, ◌<◌, ◌≤◌, IfOk, map, replicate, slice_set, false, ◌∷◌, [], length, Some, slice_index_or};
 ghost use Rattle.export_machine.specs.Authority.{is_present, authority, open_export, is_stopped, exporter_of, importer_of, from_of, to_of, order_in, frozen_by, serves, named_of, journal_of};
@@ -44,16 +45,21 @@ pub struct Records {
     pub(crate) children: Vec<u32>,
     /// By directory: whether the test of a list has come across it. Between tests none has its mark.
     pub(crate) marks: Vec<bool>,
+    /// By rank: the tickets of the requests that run there, and some of requests that ended.
+    pub(crate) tickets_at: Vec<Vec<u32>>,
+    /// By rank: how many of those requests ended.
+    pub(crate) ended_at: Vec<u32>,
 }
 
-fn empty_journals(alloc: Global, ranks: u8) -> Result<Vec<Vec<JournalEntry>>, AllocError>
-    ensures { IfOk result (λ journals. map (λ journal. journal.items) journals.items ≡ replicate ranks []) }
+/// An empty list for each rank.
+fn empty_lists<T: Copy>(alloc: Global, ranks: u8) -> Result<Vec<Vec<T>>, AllocError>
+    ensures { IfOk result (λ lists. map (λ list. list.items) lists.items ≡ replicate ranks []) }
 {
-    let mut journals = Vec::new(alloc);
+    let mut lists = Vec::new(alloc);
     for _ in 0..ranks {
-        journals.push(Vec::new(alloc))?;
+        lists.push(Vec::new(alloc))?;
     }
-    Ok(journals)
+    Ok(lists)
 }
 
 /// The journals of a new cluster: rank 0 made directory 0.
@@ -61,7 +67,7 @@ fn first_journals(alloc: Global, ranks: u8) -> Result<Vec<Vec<JournalEntry>>, Al
     requires { 1 ≤ ranks }
     ensures { IfOk result (λ journals. map (λ journal. journal.items) journals.items ≡ slice_set (replicate ranks []) 0 (JournalEntry.Made 0 ∷ [])) }
 {
-    let mut journals = empty_journals(alloc, ranks)?;
+    let mut journals = empty_lists(alloc, ranks)?;
     journals[0].push(JournalEntry::Made(Dir::ROOT))?;
     Ok(journals)
 }
@@ -91,7 +97,7 @@ impl Records {
     pub(crate) fn new(alloc: Global, limit: u32, ranks: u8) -> Result<Self, AllocError>
         requires some_ranks { 1 ≤ ranks }
         ensures world { IfOk result (λ records. world_of records ≡ start limit ranks) }
-        ensures indexes { IfOk result (λ records. indexes_of records ≡ first_indexes) }
+        ensures indexes { IfOk result (λ records. indexes_of records ≡ first_indexes ranks) }
     {
         let journals = first_journals(alloc, ranks)?;
         Ok(Records {
@@ -112,6 +118,8 @@ impl Records {
             running: vec![in alloc; 0]?,
             children: vec![in alloc; 0]?,
             marks: vec![in alloc; false]?,
+            tickets_at: empty_lists(alloc, ranks)?,
+            ended_at: vec![in alloc; 0; ranks as usize]?,
         })
     }
 
@@ -225,7 +233,7 @@ impl Records {
         requires { export < length self.now.orders.items }
         ensures { result.now ≡ (order_in (world_of self.now).orders export).dirs }
     {
-        &self.orders[export as usize].dirs
+        self.orders[export as usize].dirs.as_slice()
     }
 
     /// The export because of which the authority of a directory doesn't serve it.

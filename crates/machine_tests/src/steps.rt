@@ -4,7 +4,7 @@
 //! hold with any one growth refused.
 
 use export_machine::{Cluster, Event, Reply, StepError};
-use mds_types::{Dir, Rank};
+use mds_types::{Dir, Dirs, Rank};
 use std::alloc::{AllocError, Global};
 use std::process::Abort;
 use std::test::Fail;

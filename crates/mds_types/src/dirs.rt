@@ -7,7 +7,7 @@ use std::alloc::{AllocError, Global};
 use std::marker::Model;
 
 /// Directories in the order in which they were named. To a contract it is the list of their numbers.
-#[derive(Debug, PartialEq, Drop)]
+#[derive(Debug, Drop)]
 pub struct Dirs {
     list: Vec<Dir>,
 }
@@ -18,6 +18,20 @@ impl Model for Dirs {
     ghost Value = { List ℕ };
 
     ghost view = { λ dirs. dirs.list.items };
+}
+
+impl PartialEq for Dirs {
+    ghost use Rattle.std.specs.Prelude.{nat_eq};
+    ghost use Rattle.std.specs.Cmp.{partial_equiv_from_equiv};
+    ghost use Rattle.std.specs.Cmp.Lexicographic.{nat_list_eq_equiv, pointwise};
+
+    ghost eq = { pointwise nat_eq };
+
+    ghost laws = { partial_equiv_from_equiv nat_list_eq_equiv };
+
+    fn eq(&self, other: &Dirs) -> bool {
+        self.list == other.list
+    }
 }
 
 impl Dirs {

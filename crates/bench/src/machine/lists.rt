@@ -4,7 +4,7 @@
 
 use exhaustive::Random;
 use export_machine::{Cluster, Event, Reply};
-use mds_types::{Dir, Rank};
+use mds_types::{Dir, Dirs, Rank};
 use std::alloc::Global;
 use std::{fmt, io};
 

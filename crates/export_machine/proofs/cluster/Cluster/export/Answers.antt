@@ -12,7 +12,7 @@ returns-clause-near c = if_both _ c.get.result (λ order at there k d l.
     (let here : order.now ≡ get_or c.self.inside.records.orders.items c.args.export order.now = rw c.deref.ensures.value at at in
     let near : c.args.export < length c.self.inside.records.orders.items = rw c.deref.ensures.value at there.0 in
     let same = dirs_here c.self.inside.records.orders.items c.args.export order.now near here in
-    let inside : is_among (order_in (world_of c.self.inside.records).orders c.args.export).dirs (get_or order.now.dirs.items k d) ≡ true = rw same (among_at order.now.dirs.items k d l) in
-    let made = are_made (world_of c.self.inside.records) c.self.invariant.reached c.args.export (get_or order.now.dirs.items k d) inside in
-    subst (λ (s : State). get_or order.now.dirs.items k d < s.world.limit) c.self.view_is (omega (arith, made, c.self.invariant.within))))
+    let inside : is_among (order_in (world_of c.self.inside.records).orders c.args.export).dirs (get_or order.now.dirs k d) ≡ true = rw same (among_at order.now.dirs k d l) in
+    let made = are_made (world_of c.self.inside.records) c.self.invariant.reached c.args.export (get_or order.now.dirs k d) inside in
+    subst (λ (s : State). get_or order.now.dirs k d < s.world.limit) c.self.view_is (omega (arith, made, c.self.invariant.within))))
     c.get.ensures.lookup.1 c.get.ensures.lookup.3

@@ -5,7 +5,7 @@ use Rattle.export_machine.specs.declared.message.Message.{Message}
 use Rattle.export_machine.specs.Kept.{world_of}
 use Rattle.export_machine.specs.Step.{about}
 use Rattle.export_machine.proofs.Found.{orders_by}
-use Rattle.export_machine.proofs.Accepted.{as_order, item_at}
+use Rattle.export_machine.proofs.Accepted.{item_at}
 use Rattle.export_machine.proofs.records.Records.addressed.Goals as goal
 
 none_past : (xs : List Message) (k : ℕ) → false ≡ ltb k (length xs) → slice_get xs k ≡ None
@@ -24,8 +24,7 @@ pub receiver-requires : goal.receiver-requires
 receiver-requires c =
     let near : c.args.message < length c.args.self.now.sent.items = rw (← c.deref.ensures.value) (ltb-true c.args.message (length c.deref.result.now) (sym c.in-Some.ensures.lookup.0)) in
     let sent : slice_get c.args.self.now.sent.items c.args.message ≡ Some c.in-Some.message.now = item_at c.args.self.now.sent.items c.args.message c.in-Some.message.now near (rw c.deref.ensures.value at c.in-Some.ensures.lookup.1) in
-    as_order c.args.self.now.orders.items (about c.in-Some.message.now)
-    (orders_by (world_of c.args.self.now) c.requires.kept.reached (about c.in-Some.message.now) (length (world_of c.args.self.now).orders) (λ safe. safe.tables.known c.args.message c.in-Some.message.now sent))
+    orders_by (world_of c.args.self.now) c.requires.kept.reached (about c.in-Some.message.now) (length (world_of c.args.self.now).orders) (λ safe. safe.tables.known c.args.message c.in-Some.message.now sent)
 
 pub returns-in-Some : goal.returns-in-Some
 returns-in-Some c =

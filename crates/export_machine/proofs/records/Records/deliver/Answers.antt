@@ -7,7 +7,7 @@ use Rattle.export_machine.specs.declared.event.Event.TheVariants.{Deliver}
 use Rattle.export_machine.specs.Kept.{world_of, has_room, entered_at, has_places, has_spare, receiver_of}
 use Rattle.export_machine.specs.Step.{about}
 use Rattle.export_machine.proofs.Found.{orders_by}
-use Rattle.export_machine.proofs.Accepted.{deliver_near, item_at, room_left, as_order}
+use Rattle.export_machine.proofs.Accepted.{deliver_near, item_at, room_left}
 use Rattle.export_machine.proofs.records.Records.deliver.Goals as goal
 
 pub index-message-requires : goal.index-message-requires
@@ -17,8 +17,7 @@ pub receiver-requires : goal.receiver-requires
 receiver-requires c =
     let sent : slice_get c.args.self.now.sent.items c.args.message ≡ Some c.index-message.result.now =
     item_at c.args.self.now.sent.items c.args.message c.index-message.result.now (deliver_near (world_of c.args.self.now) c.args.message c.requires.accepted) c.index-message.ensures in
-    as_order c.args.self.now.orders.items (about c.index-message.result.now)
-    (orders_by (world_of c.args.self.now) c.requires.kept.reached (about c.index-message.result.now) (length (world_of c.args.self.now).orders) (λ safe. safe.tables.known c.args.message c.index-message.result.now sent))
+    orders_by (world_of c.args.self.now) c.requires.kept.reached (about c.index-message.result.now) (length (world_of c.args.self.now).orders) (λ safe. safe.tables.known c.args.message c.index-message.result.now sent)
 
 pub returns-then-is_stopped-clause-effect : goal.returns-then-is_stopped-clause-effect
 unfolding happens

@@ -1,7 +1,9 @@
-use Rattle.std.proofs.Common.{◌≡◌, ◌<◌, ℕ, zero, suc, List, [], ◌∷◌, length, get_or, Option, Some, None, sym, ◌∙◌, refl, arith}
+use Rattle.std.proofs.Common.{◌≡◌, ◌<◌, ℕ, zero, suc, List, [], ◌∷◌, length, get_or, Option, Some, None, sym, ap, ◌∙◌, refl, arith}
 use Rattle.export_machine.specs.declared.event.Request.{Request}
-use Rattle.export_machine.specs.Step.{happens}
+use Rattle.export_machine.specs.Step.{happens, changed}
 use Rattle.export_machine.specs.Kept.{world_of, indexes_of}
+use Rattle.std.proofs.lemmas.List.{length-map}
+use Rattle.export_machine.proofs.ByRank.{filed_rank}
 use Rattle.export_machine.proofs.Indexing.{end_indexed, end_runs, request_there}
 use Rattle.export_machine.proofs.Accepted.{end_ticket, end_near}
 use Rattle.export_machine.proofs.records.Records.end.Goals as goal
@@ -40,14 +42,22 @@ overflow_sub-index_mut c =
 pub index_mut-requires-2 : goal.index_mut-requires-2
 index_mut-requires-2 c = let near : c.args.ticket < length c.args.self.now.tickets.items = end_near (world_of c.args.self.now) c.args.ticket c.requires.accepted in omega arith
 
-pub returns-clause-effect : goal.returns-clause-effect
-unfolding happens
-returns-clause-effect c = refl
+pub note_end-requires-clause-near : goal.note_end-requires-clause-near
+note_end-requires-clause-near c =
+    let e : get_or c.args.self.now.tickets.items c.args.ticket None ≡ Some c.in-Some.request =
+    ticket_at c.args.self.now.tickets.items c.args.ticket c.index.result.now (end_near (world_of c.args.self.now) c.args.ticket c.requires.accepted) c.index.ensures ∙ c.in-Some.is in
+    let w = world_of c.args.self.now in
+    let filed : c.in-Some.request.rank < length (indexes_of c.args.self.now).tickets_at = filed_rank w.ranks w.tickets (indexes_of c.args.self.now).tickets_at c.requires.kept.indexed.requests c.args.ticket c.in-Some.request e in
+    omega (arith, filed, length-map c.args.self.now.tickets_at.items (λ l. l.items))
 
-pub returns-clause-indexed : goal.returns-clause-indexed
-returns-clause-indexed c =
+pub note_end-requires-clause-indexed : goal.note_end-requires-clause-indexed
+note_end-requires-clause-indexed c =
     let e : get_or c.args.self.now.tickets.items c.args.ticket None ≡ Some c.in-Some.request =
     ticket_at c.args.self.now.tickets.items c.args.ticket c.index.result.now (end_near (world_of c.args.self.now) c.args.ticket c.requires.accepted) c.index.ensures ∙ c.in-Some.is in
     let near : c.in-Some.request.dir < length c.args.self.now.parents.items = request_there (world_of c.args.self.now) c.requires.kept.reached c.args.ticket c.in-Some.request e in
     rw c.number.ensures (end_indexed (world_of c.args.self.now) (indexes_of c.args.self.now) c.args.ticket c.in-Some.request c.requires.kept.indexed e near c.index_mut.result.now
     (rw c.number.ensures at c.index_mut.ensures.value))
+
+pub returns-clause-effect : goal.returns-clause-effect
+unfolding happens
+returns-clause-effect c = ap changed (sym (ap world_of c.note_end.ensures.others))

@@ -1,50 +1,25 @@
-use Rattle.std.proofs.Common.{◌≡◌, ◌<◌, ◌≤◌, ℕ, Option, None, get_or, set, length, sym, ap, ◌∙◌, refl, arith}
+use Rattle.std.proofs.Common.{◌≡◌, ◌<◌, List, [], Option, length, set, sym, ap, subst, arith}
 use Rattle.export_machine.specs.declared.event.Request.{Request}
 use Rattle.export_machine.specs.declared.records.Records.{Records}
-use Rattle.export_machine.specs.Step.{ends_at}
-use Rattle.export_machine.proofs.Halting.{change_start, change_next, change_here, change_length, change_end}
+use Rattle.export_machine.specs.Kept.{world_of, indexes_of, AreByRank}
+use Rattle.export_machine.proofs.ByRank.{stop_filed, list_set}
+use Rattle.export_machine.proofs.Indexing.{refiled}
 use Rattle.export_machine.proofs.records.Records.end_requests.Goals as goal
 
-pub loop-ticket-init : goal.loop-ticket-init
-loop-ticket-init c = record {
-  others = refl;
-  tickets = change_start (λ t request. ends_at c.args.rank request) c.args.self.now.tickets.items;
-  indexed = c.requires.indexed;
-}
+pub index_mut-requires : goal.index_mut-requires
+index_mut-requires c =
+    let same : length c.end_listed.new.self.tickets_at.items ≡ length c.args.self.now.tickets_at.items = ap (λ (r : Records). length r.tickets_at.items) c.end_listed.ensures.others in
+    omega (arith, c.requires.near, c.number.ensures.value)
 
-pub end_at-requires-clause-near : goal.end_at-requires-clause-near
-end_at-requires-clause-near c =
-    let near : c.loop-ticket.ticket < length c.args.self.now.tickets.items = omega arith in
-    let same : length c.loop-ticket.self.tickets.items ≡ length c.args.self.now.tickets.items =
-    ap length c.loop-ticket.invariant.tickets ∙ change_length (λ t request. ends_at c.args.rank request) c.loop-ticket.ticket c.args.self.now.tickets.items in
-    omega arith
-
-pub end_at-requires-clause-indexed : goal.end_at-requires-clause-indexed
-end_at-requires-clause-indexed c = c.loop-ticket.invariant.indexed
-
-pub end_at-requires-clause-there : goal.end_at-requires-clause-there
-end_at-requires-clause-there c = λ q h.
-    (let near : c.loop-ticket.ticket < length c.args.self.now.tickets.items = omega arith in
-    let here : get_or c.loop-ticket.self.tickets.items c.loop-ticket.ticket None ≡ get_or c.args.self.now.tickets.items c.loop-ticket.ticket None =
-    ap (λ ts. get_or ts c.loop-ticket.ticket None) c.loop-ticket.invariant.tickets ∙ change_here (λ t request. ends_at c.args.rank request) c.loop-ticket.ticket c.args.self.now.tickets.items None near in
-    let parents : length c.loop-ticket.self.parents.items ≡ length c.args.self.now.parents.items = ap (λ (r : Records). length r.parents.items) c.loop-ticket.invariant.others in
-    rw parents (c.requires.there c.loop-ticket.ticket q (sym here ∙ h)))
-
-pub loop-ticket-preserved : goal.loop-ticket-preserved
-loop-ticket-preserved c =
-    let near : c.loop-ticket.ticket < length c.args.self.now.tickets.items = omega arith in
-    let g = λ (t : ℕ) (request : Option Request). ends_at c.args.rank request in
-    let here : get_or c.loop-ticket.self.tickets.items c.loop-ticket.ticket None ≡ get_or c.args.self.now.tickets.items c.loop-ticket.ticket None =
-    ap (λ ts. get_or ts c.loop-ticket.ticket None) c.loop-ticket.invariant.tickets ∙ change_here g c.loop-ticket.ticket c.args.self.now.tickets.items None near in
-    record {
-      others = c.end_at.ensures.others ∙ ap (λ (r : Records). record r { tickets = c.end_at.new.self.tickets; running = c.end_at.new.self.running }) c.loop-ticket.invariant.others;
-      tickets = c.end_at.ensures.tickets
-          ∙ (ap (λ ts. set ts c.loop-ticket.ticket (ends_at c.args.rank (get_or c.loop-ticket.self.tickets.items c.loop-ticket.ticket None))) c.loop-ticket.invariant.tickets
-          ∙ change_next g c.loop-ticket.ticket c.args.self.now.tickets.items (ends_at c.args.rank (get_or c.loop-ticket.self.tickets.items c.loop-ticket.ticket None)) None near (ap (ends_at c.args.rank) here));
-      indexed = c.end_at.ensures.indexed;
-    }
-
-pub returns-clause-tickets : goal.returns-clause-tickets
-returns-clause-tickets c =
-    let past : length c.args.self.now.tickets.items ≤ c.loop-ticket.ticket = omega arith in
-    c.loop-ticket.invariant.tickets ∙ change_end (λ t request. ends_at c.args.rank request) c.loop-ticket.ticket c.args.self.now.tickets.items past
+pub returns-clause-indexed : goal.returns-clause-indexed
+returns-clause-indexed c =
+    let mid = c.end_listed.new.self in
+    let w = world_of mid in
+    let i = indexes_of mid in
+    let same : length mid.tickets_at.items ≡ length c.args.self.now.tickets_at.items = ap (λ (r : Records). length r.tickets_at.items) c.end_listed.ensures.others in
+    let near : c.args.rank < length mid.tickets_at.items = omega (arith, c.requires.near) in
+    let ended : AreByRank w.ranks w.tickets (set i.tickets_at c.args.rank []) =
+    subst (λ (ts : List (Option Request)). AreByRank w.ranks ts (set i.tickets_at c.args.rank [])) (sym c.end_listed.ensures.tickets)
+    (stop_filed w.ranks c.args.self.now.tickets.items i.tickets_at c.args.rank (subst (λ (ts : List (Option Request)). AreByRank w.ranks ts i.tickets_at) c.end_listed.ensures.tickets c.end_listed.ensures.indexed.requests)) in
+    rw (list_set (λ l. []) mid.tickets_at.items c.number.result c.args.rank c.clear.new.self c.index_mut.result.now c.number.ensures.value near c.index_mut.ensures.value c.clear.ensures.items)
+    (refiled w i c.end_listed.ensures.indexed _ ended)

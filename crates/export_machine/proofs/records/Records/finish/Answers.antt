@@ -1,5 +1,5 @@
-use Rattle.std.proofs.Common.{◌≡◌, ◌<◌, ℕ, cond, List, length, map, None, refl, sym, ap, ◌∙◌, arith}
-use Rattle.export_machine.specs.Kept.{world_of, indexes_of, order_of}
+use Rattle.std.proofs.Common.{◌≡◌, ◌<◌, ℕ, cond, List, length, None, refl, sym, ap, ◌∙◌, arith}
+use Rattle.export_machine.specs.Kept.{world_of, indexes_of}
 use Rattle.export_machine.specs.declared.message.Message.{Message}
 use Rattle.export_machine.specs.declared.importer.ImporterState.TheVariants.{Started}
 use Rattle.export_machine.specs.Authority.{importer_of, to_of, to_of, is_among, order_in}
@@ -21,8 +21,8 @@ enter-requires-clause-room c = rw (← to_is c.args.self.now (Message.Finish c.a
 pub mark-requires : goal.mark-requires
 mark-requires c =
     let e : importer_of (world_of c.args.self.now) c.args.export ≡ Started = sym c.importer.ensures ∙ c.in-Started.is in
-    let f : (order_in (map order_of c.args.self.now.orders.items) c.args.export).dirs ≡ c.deref.result.now =
-    dirs_here c.args.self.now.orders.items c.args.export c.index-order.result.now (known c.args.self.now (Message.Finish c.args.export) c.requires) c.index-order.ensures ∙ sym c.deref.ensures.value in
+    let f : (order_in c.args.self.now.orders.items c.args.export).dirs ≡ c.as_slice.result.now =
+    dirs_here c.args.self.now.orders.items c.args.export c.index-order.result.now (known c.args.self.now (Message.Finish c.args.export) c.requires) c.index-order.ensures ∙ sym c.as_slice.ensures in
     record {
       near = λ d h. rw c.requires.kept.indexed.opened_places (finish_there (world_of c.args.self.now) c.requires.kept.reached c.args.export c.requires.sent.0 e c.requires.sent.1 d (ap (λ (ds : List ℕ). is_among ds d) f ∙ h));
     }
@@ -31,9 +31,9 @@ pub returns-in-Started : goal.returns-in-Started
 returns-in-Started c =
     let e : importer_of (world_of c.args.self.now) c.args.export ≡ Started = sym c.importer.ensures ∙ c.in-Started.is in
     let t : to_of (world_of c.args.self.now) c.args.export ≡ c.index-order.result.now.to = to_is c.args.self.now (Message.Finish c.args.export) c.requires c.index-order.result.now c.index-order.ensures in
-    let f : (order_in (map order_of c.args.self.now.orders.items) c.args.export).dirs ≡ c.deref.result.now =
-    dirs_here c.args.self.now.orders.items c.args.export c.index-order.result.now (known c.args.self.now (Message.Finish c.args.export) c.requires) c.index-order.ensures ∙ sym c.deref.ensures.value in
-    let m : map_at (λ k old. cond (is_among (order_in (map order_of c.args.self.now.orders.items) c.args.export).dirs k) None old) c.args.self.now.opened.items ≡ c.mark.new.table.items =
+    let f : (order_in c.args.self.now.orders.items c.args.export).dirs ≡ c.as_slice.result.now =
+    dirs_here c.args.self.now.orders.items c.args.export c.index-order.result.now (known c.args.self.now (Message.Finish c.args.export) c.requires) c.index-order.ensures ∙ sym c.as_slice.ensures in
+    let m : map_at (λ k old. cond (is_among (order_in c.args.self.now.orders.items c.args.export).dirs k) None old) c.args.self.now.opened.items ≡ c.mark.new.table.items =
     ap (λ (ds : List ℕ). map_at (λ k old. cond (is_among ds k) None old) c.args.self.now.opened.items) f ∙ sym c.mark.ensures in
     record {
       effect = rw (e, c.enter.ensures.entered, ← t) refl;

@@ -1,12 +1,12 @@
-use Rattle.std.proofs.Common.{◌≡◌, ◌<◌, ◌≤◌, ℕ, Bool, List, Option, None, true, false, cond, eqb, map, length, get_or, set, sym, ap, ◌∙◌, subst, refl, arith}
-use Rattle.std.proofs.lemmas.List.{get_or_read, length-map}
+use Rattle.std.proofs.Common.{◌≡◌, ◌<◌, ◌≤◌, ℕ, Bool, List, Option, None, true, false, cond, eqb, length, get_or, set, sym, ap, ◌∙◌, subst, refl, arith}
+use Rattle.std.proofs.lemmas.List.{get_or_read}
 use Rattle.std.specs.Vec.{with_item}
 use Rattle.export_machine.specs.declared.exporter.ExporterState.{ExporterState}
 use Rattle.export_machine.specs.declared.exporter.ExporterState.TheVariants.{Aborted}
 use Rattle.export_machine.specs.declared.records.Records.{Records}
 use Rattle.export_machine.specs.Authority.{order_in, from_of, is_among, is_inside, exporter_of}
 use Rattle.export_machine.specs.Step.{map_at, is_before_log}
-use Rattle.export_machine.specs.Kept.{world_of, indexes_of, order_of, IsIndexed, exporter_at_stop}
+use Rattle.export_machine.specs.Kept.{world_of, indexes_of, IsIndexed, exporter_at_stop}
 use Rattle.export_machine.proofs.Safe.{aborted_safe}
 use Rattle.export_machine.proofs.Reached.{by_safe}
 use Rattle.export_machine.proofs.Indexing.{abort_there, abort_indexed, aborted}
@@ -31,12 +31,12 @@ mark-requires c =
     let orders : self.orders.items ≡ c.args.self.now.orders.items = ap (λ (r : Records). r.orders.items) c.loop-export.invariant.others in
     let first : n < length c.args.self.now.orders.items = omega arith in
     let ordered : n < length self.orders.items = rw orders first in
-    let near : n < length c.args.self.now.exporters.items = as_exporter (world_of c.args.self.now) c.requires.kept.reached n (rw (length-map c.args.self.now.orders.items order_of) first) in
+    let near : n < length c.args.self.now.exporters.items = as_exporter (world_of c.args.self.now) c.requires.kept.reached n first in
     let g = λ (x : ℕ) (state : ExporterState). cond (eqb (from_of (world_of c.args.self.now) x) c.args.rank) (exporter_at_stop state) state in
     let placed : n < length self.exporters.items = rw (c.loop-export.invariant.exporters, change_length g n c.args.self.now.exporters.items) near in
     let state : exporter_of (world_of self) n ≡ c.index-then-eq.result.now = sym (get_or_read self.exporters.items n c.index-then-eq.result.now placed c.index-then-eq.ensures Aborted) in
     let before : is_before_log (exporter_of (world_of self) n) ≡ true = ap is_before_log state ∙ (sym c.is_before_log.ensures ∙ c.if-is_before_log.true) in
-    let e : (order_in (map order_of self.orders.items) n).dirs ≡ c.deref.result.now = dirs_here self.orders.items n c.index-then-is_before_log.result.now ordered c.index-then-is_before_log.ensures ∙ sym c.deref.ensures.value in
+    let e : (order_in self.orders.items n).dirs ≡ c.as_slice.result.now = dirs_here self.orders.items n c.index-then-is_before_log.result.now ordered c.index-then-is_before_log.ensures ∙ sym c.as_slice.ensures in
     record {
       near = λ d h. rw c.loop-export.invariant.indexed.opened_places
           (abort_there (world_of self) c.loop-export.invariant.safely n before d (ap (λ (ds : List ℕ). is_among ds d) e ∙ h));
@@ -55,10 +55,10 @@ loop-export-preserved c =
     let orders : self.orders.items ≡ c.args.self.now.orders.items = ap (λ (r : Records). r.orders.items) c.loop-export.invariant.others in
     let first : n < length c.args.self.now.orders.items = omega arith in
     let ordered : n < length self.orders.items = rw orders first in
-    let near : n < length xs = as_exporter (world_of c.args.self.now) c.requires.kept.reached n (rw (length-map c.args.self.now.orders.items order_of) first) in
+    let near : n < length xs = as_exporter (world_of c.args.self.now) c.requires.kept.reached n first in
     let placed : n < length self.exporters.items = rw (c.loop-export.invariant.exporters, change_length g n xs) near in
     let from : from_of (world_of c.args.self.now) n ≡ c.index.result.now.from =
-    ap (λ os. (order_in (map order_of os) n).from) (sym orders) ∙ from_here self.orders.items n c.index.result.now ordered c.index.ensures in
+    ap (λ os. (order_in os n).from) (sym orders) ∙ from_here self.orders.items n c.index.result.now ordered c.index.ensures in
     let test : c.eq.result ≡ eqb (from_of (world_of c.args.self.now) n) c.args.rank = c.eq.ensures ∙ ap (λ r. eqb r c.args.rank) (sym from) in
     elim c.if-eq.branch [
       | then-eq+then-is_before_log w ↦
@@ -69,8 +69,8 @@ loop-export-preserved c =
           let here : s ≡ get_or xs n s = w.index-then-eq.ensures ∙ (ap (λ es. get_or es n s) c.loop-export.invariant.exporters ∙ change_here g n xs s near) in
           let value : Aborted ≡ g n (get_or xs n s) =
           sym (before_stops s log) ∙ (ap (λ b. cond b (exporter_at_stop s) s) (sym w.if-eq.true ∙ test) ∙ ap (g n) here) in
-          let e : (order_in (map order_of self.orders.items) n).dirs ≡ w.deref.result.now =
-          dirs_here self.orders.items n w.index-then-is_before_log.result.now ordered w.index-then-is_before_log.ensures ∙ sym w.deref.ensures.value in
+          let e : (order_in self.orders.items n).dirs ≡ w.as_slice.result.now =
+          dirs_here self.orders.items n w.index-then-is_before_log.result.now ordered w.index-then-is_before_log.ensures ∙ sym w.as_slice.ensures in
           let marked : map_at (λ k old. cond (is_inside (world_of self) n k) None old) self.opened.items ≡ w.mark.new.table.items =
           ap (λ (ds : List ℕ). map_at (λ k old. cond (is_among ds k) None old) self.opened.items) e ∙ sym w.mark.ensures in
           rw w.self-is (record {
@@ -102,7 +102,7 @@ loop-export-preserved c =
 pub returns-clause-exporters : goal.returns-clause-exporters
 returns-clause-exporters c =
     let g = λ (x : ℕ) (state : ExporterState). cond (eqb (from_of (world_of c.args.self.now) x) c.args.rank) (exporter_at_stop state) state in
-    let as_many : length c.args.self.now.exporters.items ≡ length (map order_of c.args.self.now.orders.items) =
-    numbers_by (world_of c.args.self.now) c.requires.kept.reached (length c.args.self.now.exporters.items) (length (map order_of c.args.self.now.orders.items)) (λ safe. safe.exporting) in
-    let past : length c.args.self.now.exporters.items ≤ c.loop-export.export = omega (arith, length-map c.args.self.now.orders.items order_of) in
+    let as_many : length c.args.self.now.exporters.items ≡ length c.args.self.now.orders.items =
+    numbers_by (world_of c.args.self.now) c.requires.kept.reached (length c.args.self.now.exporters.items) (length c.args.self.now.orders.items) (λ safe. safe.exporting) in
+    let past : length c.args.self.now.exporters.items ≤ c.loop-export.export = omega arith in
     c.loop-export.invariant.exporters ∙ change_end g c.loop-export.export c.args.self.now.exporters.items past

@@ -4,7 +4,7 @@ use Rattle.export_machine.specs.declared.importer.ImporterState.TheVariants.{Dro
 use Rattle.export_machine.specs.declared.journal.JournalEntry.{JournalEntry}
 use Rattle.export_machine.specs.Authority.{order_in, to_of, has, has_entry, journal_of}
 use Rattle.export_machine.specs.Step.{map_at}
-use Rattle.export_machine.specs.Kept.{world_of, order_of, importer_at_stop}
+use Rattle.export_machine.specs.Kept.{world_of, importer_at_stop}
 use Rattle.export_machine.proofs.Halted.{dropped_stay}
 use Rattle.export_machine.proofs.records.Records.halt_imports.Goals as goal
 
@@ -19,7 +19,7 @@ returns-clause-importers c =
     c.deref-2.ensures.value ∙ (ap items_of c.index.ensures ∙ (sym (get_or-map items_of js c.number.result c.index.result.now [] near) ∙ ap (λ m. get_or (map items_of js) m []) c.number.ensures.value)) in
     let forgot : c.forget_all.new.importers.items
     ≡ map_at (λ x state. cond (eqb (to_of (world_of c.args.self.now) x) c.args.rank) (importer_at_stop false state) state) c.args.self.now.importers.items =
-    c.forget_all.ensures ∙ ap (λ os. map_at (λ x state. cond (eqb (order_in (map order_of os) x).to c.args.rank) (importer_at_stop false state) state) c.args.self.now.importers.items) c.deref.ensures.value in
+    c.forget_all.ensures ∙ ap (λ os. map_at (λ x state. cond (eqb (order_in os x).to c.args.rank) (importer_at_stop false state) state) c.args.self.now.importers.items) c.deref.ensures.value in
     c.recall_all.ensures
     ∙ (ap (λ j. map_at (λ x state. cond (has_entry j (JournalEntry.Dropped x)) Dropped state) c.forget_all.new.importers.items) journal
     ∙ (ap (λ ss. map_at (λ x state. cond (has (world_of c.args.self.now) c.args.rank (JournalEntry.Dropped x)) Dropped state) ss) forgot

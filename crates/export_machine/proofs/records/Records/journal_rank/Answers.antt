@@ -12,7 +12,7 @@ use Rattle.export_machine.specs.Step.{refusal, receiver}
 use Rattle.export_machine.specs.Kept.{world_of, entered_at, receiver_of}
 use Rattle.export_machine.specs.Step.{about}
 use Rattle.export_machine.proofs.Found.{orders_by}
-use Rattle.export_machine.proofs.Accepted.{deliver_near, item_at, as_order, as_rank, exporter_rank, importer_rank, notify_order}
+use Rattle.export_machine.proofs.Accepted.{deliver_near, item_at, as_rank, exporter_rank, importer_rank, notify_order}
 use Rattle.export_machine.proofs.records.Records.journal_rank.Goals as goal
 
 receiver_near : (w : World) → IsReached w → (m : Message) → about m < length w.orders → receiver w m < length w.journals
@@ -48,13 +48,13 @@ receiver-requires c =
     let sent : slice_get c.args.self.now.sent.items c.in-Deliver.message ≡ Some c.index.result.now =
     item_at c.args.self.now.sent.items c.in-Deliver.message c.index.result.now (deliver_near (world_of c.args.self.now) c.in-Deliver.message h) c.index.ensures in
     let known = orders_by (world_of c.args.self.now) c.requires.kept.reached (about c.index.result.now) (length (world_of c.args.self.now).orders) (λ safe. safe.tables.known c.in-Deliver.message c.index.result.now sent) in
-    as_order c.args.self.now.orders.items (about c.index.result.now) known
+    known
 
 pub from-requires : goal.from-requires
 from-requires c =
     let e : c.args.event.now ≡ Event.Notify c.in-Notify.export = c.in-Notify.is in
     let h = subst (λ (f : Event). refusal (world_of c.args.self.now) f ≡ None) e c.requires.accepted in
-    as_order c.args.self.now.orders.items c.in-Notify.export (notify_order (world_of c.args.self.now) c.in-Notify.export h)
+    (notify_order (world_of c.args.self.now) c.in-Notify.export h)
 
 pub returns-in-Made-clause-rank : goal.returns-in-Made-clause-rank
 unfolding entered_at

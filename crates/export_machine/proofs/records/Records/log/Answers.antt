@@ -1,5 +1,5 @@
-use Rattle.std.proofs.Common.{◌≡◌, ◌<◌, ℕ, cond, List, length, map, Some, refl, sym, ap, ◌∙◌, arith}
-use Rattle.export_machine.specs.Kept.{world_of, indexes_of, order_of}
+use Rattle.std.proofs.Common.{◌≡◌, ◌<◌, ℕ, cond, List, length, Some, refl, sym, ap, ◌∙◌, arith}
+use Rattle.export_machine.specs.Kept.{world_of, indexes_of}
 use Rattle.export_machine.specs.declared.message.Message.{Message}
 use Rattle.export_machine.specs.declared.exporter.ExporterState.TheVariants.{Exporting}
 use Rattle.export_machine.specs.Authority.{exporter_of, from_of, to_of, is_among, order_in}
@@ -21,8 +21,8 @@ enter-requires-clause-room c = rw (← from_is c.args.self.now (Message.ExportAc
 pub mark-requires : goal.mark-requires
 mark-requires c =
     let e : exporter_of (world_of c.args.self.now) c.args.export ≡ Exporting = sym c.exporter.ensures ∙ c.in-Exporting.is in
-    let f : (order_in (map order_of c.args.self.now.orders.items) c.args.export).dirs ≡ c.deref.result.now =
-    dirs_here c.args.self.now.orders.items c.args.export c.index-order.result.now (known c.args.self.now (Message.ExportAck c.args.export) c.requires) c.index-order.ensures ∙ sym c.deref.ensures.value in
+    let f : (order_in c.args.self.now.orders.items c.args.export).dirs ≡ c.as_slice.result.now =
+    dirs_here c.args.self.now.orders.items c.args.export c.index-order.result.now (known c.args.self.now (Message.ExportAck c.args.export) c.requires) c.index-order.ensures ∙ sym c.as_slice.ensures in
     record {
       near = λ d h. rw c.requires.kept.indexed.owner_places (log_there (world_of c.args.self.now) c.requires.kept.reached c.args.export e d (ap (λ (ds : List ℕ). is_among ds d) f ∙ h));
     }
@@ -31,11 +31,11 @@ pub returns-in-Exporting : goal.returns-in-Exporting
 returns-in-Exporting c =
     let e : exporter_of (world_of c.args.self.now) c.args.export ≡ Exporting = sym c.exporter.ensures ∙ c.in-Exporting.is in
     let t : from_of (world_of c.args.self.now) c.args.export ≡ c.index-order.result.now.from = from_is c.args.self.now (Message.ExportAck c.args.export) c.requires c.index-order.result.now c.index-order.ensures in
-    let f : (order_in (map order_of c.args.self.now.orders.items) c.args.export).dirs ≡ c.deref.result.now =
-    dirs_here c.args.self.now.orders.items c.args.export c.index-order.result.now (known c.args.self.now (Message.ExportAck c.args.export) c.requires) c.index-order.ensures ∙ sym c.deref.ensures.value in
+    let f : (order_in c.args.self.now.orders.items c.args.export).dirs ≡ c.as_slice.result.now =
+    dirs_here c.args.self.now.orders.items c.args.export c.index-order.result.now (known c.args.self.now (Message.ExportAck c.args.export) c.requires) c.index-order.ensures ∙ sym c.as_slice.ensures in
     let u : to_of (world_of c.args.self.now) c.args.export ≡ c.index-order.result.now.to = to_is c.args.self.now (Message.ExportAck c.args.export) c.requires c.index-order.result.now c.index-order.ensures in
-    let m : map_at (λ k old. cond (is_among (order_in (map order_of c.args.self.now.orders.items) c.args.export).dirs k) (Some (to_of (world_of c.args.self.now) c.args.export)) old) c.args.self.now.owners.items ≡ c.mark.new.table.items =
-    ap (λ (ds : List ℕ). map_at (λ k old. cond (is_among ds k) (Some (to_of (world_of c.args.self.now) c.args.export)) old) c.args.self.now.owners.items) f ∙ ap (λ (s : ℕ). map_at (λ k old. cond (is_among c.deref.result.now k) (Some s) old) c.args.self.now.owners.items) u ∙ sym c.mark.ensures in
+    let m : map_at (λ k old. cond (is_among (order_in c.args.self.now.orders.items c.args.export).dirs k) (Some (to_of (world_of c.args.self.now) c.args.export)) old) c.args.self.now.owners.items ≡ c.mark.new.table.items =
+    ap (λ (ds : List ℕ). map_at (λ k old. cond (is_among ds k) (Some (to_of (world_of c.args.self.now) c.args.export)) old) c.args.self.now.owners.items) f ∙ ap (λ (s : ℕ). map_at (λ k old. cond (is_among c.as_slice.result.now k) (Some s) old) c.args.self.now.owners.items) u ∙ sym c.mark.ensures in
     record {
       effect = rw (e, c.enter.ensures.entered, ← t) refl;
       indexed = rw (c.enter.ensures.entered, ← t, ← m) (log_indexed (world_of c.args.self.now) c.args.export c.requires.sent.0 e c.requires.sent.1 (from_rank c.args.self.now (Message.ExportAck c.args.export) c.requires) c.requires.kept.reached (indexes_of c.args.self.now) c.requires.kept.indexed);

@@ -7,7 +7,7 @@ use Rattle.export_machine.specs.Entries.{logs_export}
 use Rattle.export_machine.specs.Kept.{world_of}
 use Rattle.export_machine.specs.Step.{about}
 use Rattle.export_machine.proofs.Found.{orders_by}
-use Rattle.export_machine.proofs.Accepted.{deliver_near, item_at, as_order}
+use Rattle.export_machine.proofs.Accepted.{deliver_near, item_at}
 use Rattle.export_machine.proofs.Logging.{ok_none, err_some, refused_not, delivered_logs, other_event}
 use Rattle.export_machine.proofs.records.Records.logs_export.Goals as goal
 
@@ -24,8 +24,7 @@ logs-requires c =
     let near : c.in-Deliver.message < length c.args.self.now.sent.items =
     deliver_near (world_of c.args.self.now) c.in-Deliver.message (ap (λ (e : Event). refusal (world_of c.args.self.now) (e)) (sym c.in-Deliver.is) ∙ accepted) in
     let sent : slice_get c.args.self.now.sent.items c.in-Deliver.message ≡ Some c.index.result.now = item_at c.args.self.now.sent.items c.in-Deliver.message c.index.result.now near c.index.ensures in
-    as_order c.args.self.now.orders.items (about c.index.result.now)
-    (orders_by (world_of c.args.self.now) c.requires.kept.reached (about c.index.result.now) (length (world_of c.args.self.now).orders) (λ safe. safe.tables.known c.in-Deliver.message c.index.result.now sent))
+    orders_by (world_of c.args.self.now) c.requires.kept.reached (about c.index.result.now) (length (world_of c.args.self.now).orders) (λ safe. safe.tables.known c.in-Deliver.message c.index.result.now sent)
 
 pub returns-then-is_ok : goal.returns-then-is_ok
 returns-then-is_ok c =

@@ -1,11 +1,11 @@
-use Rattle.std.proofs.Common.{◌≡◌, ◌<◌, ℕ, cond, List, length, map, Some, refl, sym, ap, ◌∙◌, arith}
+use Rattle.std.proofs.Common.{◌≡◌, ◌<◌, ℕ, cond, List, length, Some, refl, sym, ap, ◌∙◌, arith}
 use Rattle.std.proofs.lemmas.Bool.{and_parts, ltb-true}
 use Rattle.std.proofs.lemmas.List.{length-map}
 use Rattle.export_machine.specs.Authority.{from_of, to_of, is_among, order_in}
 use Rattle.export_machine.specs.Step.{happens, map_at}
 use Rattle.export_machine.specs.declared.event.Event.TheVariants.{Notify}
-use Rattle.export_machine.specs.Kept.{world_of, indexes_of, order_of, has_room, entered_at}
-use Rattle.export_machine.proofs.Accepted.{room_left, as_exporter, as_order, exporter_rank, from_here, to_here, dirs_here, notify_order, notify_state}
+use Rattle.export_machine.specs.Kept.{world_of, indexes_of, has_room, entered_at}
+use Rattle.export_machine.proofs.Accepted.{room_left, as_exporter, exporter_rank, from_here, to_here, dirs_here, notify_order, notify_state}
 use Rattle.export_machine.proofs.Rows.{notify_there, notify_indexed}
 use Rattle.export_machine.proofs.records.Records.notify.Goals as goal
 
@@ -16,13 +16,13 @@ index_mut-requires c =
 
 pub index-order-requires : goal.index-order-requires
 index-order-requires c =
-    let near : c.args.export < length c.args.self.now.orders.items = as_order c.args.self.now.orders.items c.args.export (notify_order (world_of c.args.self.now) c.args.export c.requires.accepted) in
+    let near : c.args.export < length c.args.self.now.orders.items = notify_order (world_of c.args.self.now) c.args.export c.requires.accepted in
     omega arith
 
 pub enter-requires-clause-near : goal.enter-requires-clause-near
 enter-requires-clause-near c =
     let order = notify_order (world_of c.args.self.now) c.args.export c.requires.accepted in
-    let near : c.args.export < length c.args.self.now.orders.items = as_order c.args.self.now.orders.items c.args.export order in
+    let near : c.args.export < length c.args.self.now.orders.items = order in
     let t : from_of (world_of c.args.self.now) c.args.export ≡ c.index-order.result.now.from = from_here c.args.self.now.orders.items c.args.export c.index-order.result.now near c.index-order.ensures in
     let k : c.index-order.result.now.from < length (world_of c.args.self.now).journals = rw (← t) (exporter_rank (world_of c.args.self.now) c.requires.kept.reached c.args.export order) in
     omega (arith, length-map c.args.self.now.journals.items (λ j. j.items))
@@ -31,16 +31,16 @@ pub enter-requires-clause-room : goal.enter-requires-clause-room
 unfolding has_room entered_at
 enter-requires-clause-room c =
     let order = notify_order (world_of c.args.self.now) c.args.export c.requires.accepted in
-    let near : c.args.export < length c.args.self.now.orders.items = as_order c.args.self.now.orders.items c.args.export order in
+    let near : c.args.export < length c.args.self.now.orders.items = order in
     let t : from_of (world_of c.args.self.now) c.args.export ≡ c.index-order.result.now.from = from_here c.args.self.now.orders.items c.args.export c.index-order.result.now near c.index-order.ensures in
     rw (← t) (and_parts _ _ c.requires.room).0
 
 pub mark-requires : goal.mark-requires
 mark-requires c =
     let order = notify_order (world_of c.args.self.now) c.args.export c.requires.accepted in
-    let near : c.args.export < length c.args.self.now.orders.items = as_order c.args.self.now.orders.items c.args.export order in
-    let f : (order_in (map order_of c.args.self.now.orders.items) c.args.export).dirs ≡ c.deref.result.now =
-    dirs_here c.args.self.now.orders.items c.args.export c.index-order.result.now near c.index-order.ensures ∙ sym c.deref.ensures.value in
+    let near : c.args.export < length c.args.self.now.orders.items = order in
+    let f : (order_in c.args.self.now.orders.items c.args.export).dirs ≡ c.as_slice.result.now =
+    dirs_here c.args.self.now.orders.items c.args.export c.index-order.result.now near c.index-order.ensures ∙ sym c.as_slice.ensures in
     record {
       near = λ d h. notify_there (world_of c.args.self.now) c.requires.kept.reached c.args.export (notify_state (world_of c.args.self.now) c.args.export c.requires.accepted) d (ap (λ (ds : List ℕ). is_among ds d) f ∙ h);
     }
@@ -56,26 +56,26 @@ pub returns-clause-effect : goal.returns-clause-effect
 unfolding happens
 returns-clause-effect c =
     let order = notify_order (world_of c.args.self.now) c.args.export c.requires.accepted in
-    let near : c.args.export < length c.args.self.now.orders.items = as_order c.args.self.now.orders.items c.args.export order in
+    let near : c.args.export < length c.args.self.now.orders.items = order in
     let t : from_of (world_of c.args.self.now) c.args.export ≡ c.index-order.result.now.from = from_here c.args.self.now.orders.items c.args.export c.index-order.result.now near c.index-order.ensures in
     let u : to_of (world_of c.args.self.now) c.args.export ≡ c.index-order.result.now.to = to_here c.args.self.now.orders.items c.args.export c.index-order.result.now near c.index-order.ensures in
-    let f : (order_in (map order_of c.args.self.now.orders.items) c.args.export).dirs ≡ c.deref.result.now =
-    dirs_here c.args.self.now.orders.items c.args.export c.index-order.result.now near c.index-order.ensures ∙ sym c.deref.ensures.value in
-    let m : map_at (λ k old. cond (is_among (order_in (map order_of c.args.self.now.orders.items) c.args.export).dirs k) (Some (to_of (world_of c.args.self.now) c.args.export)) old) c.args.self.now.named.items ≡ c.mark.new.table.items =
+    let f : (order_in c.args.self.now.orders.items c.args.export).dirs ≡ c.as_slice.result.now =
+    dirs_here c.args.self.now.orders.items c.args.export c.index-order.result.now near c.index-order.ensures ∙ sym c.as_slice.ensures in
+    let m : map_at (λ k old. cond (is_among (order_in c.args.self.now.orders.items c.args.export).dirs k) (Some (to_of (world_of c.args.self.now) c.args.export)) old) c.args.self.now.named.items ≡ c.mark.new.table.items =
     ap (λ (ds : List ℕ). map_at (λ k old. cond (is_among ds k) (Some (to_of (world_of c.args.self.now) c.args.export)) old) c.args.self.now.named.items) f
-    ∙ (ap (λ (s : ℕ). map_at (λ k old. cond (is_among c.deref.result.now k) (Some s) old) c.args.self.now.named.items) u ∙ sym c.mark.ensures) in
+    ∙ (ap (λ (s : ℕ). map_at (λ k old. cond (is_among c.as_slice.result.now k) (Some s) old) c.args.self.now.named.items) u ∙ sym c.mark.ensures) in
     rw (c.send.ensures.items, c.send.ensures.reply, c.enter.ensures.entered, ← t, ← m) refl
 
 pub returns-clause-indexed : goal.returns-clause-indexed
 returns-clause-indexed c =
     let order = notify_order (world_of c.args.self.now) c.args.export c.requires.accepted in
-    let near : c.args.export < length c.args.self.now.orders.items = as_order c.args.self.now.orders.items c.args.export order in
+    let near : c.args.export < length c.args.self.now.orders.items = order in
     let t : from_of (world_of c.args.self.now) c.args.export ≡ c.index-order.result.now.from = from_here c.args.self.now.orders.items c.args.export c.index-order.result.now near c.index-order.ensures in
     let u : to_of (world_of c.args.self.now) c.args.export ≡ c.index-order.result.now.to = to_here c.args.self.now.orders.items c.args.export c.index-order.result.now near c.index-order.ensures in
-    let f : (order_in (map order_of c.args.self.now.orders.items) c.args.export).dirs ≡ c.deref.result.now =
-    dirs_here c.args.self.now.orders.items c.args.export c.index-order.result.now near c.index-order.ensures ∙ sym c.deref.ensures.value in
-    let m : map_at (λ k old. cond (is_among (order_in (map order_of c.args.self.now.orders.items) c.args.export).dirs k) (Some (to_of (world_of c.args.self.now) c.args.export)) old) c.args.self.now.named.items ≡ c.mark.new.table.items =
+    let f : (order_in c.args.self.now.orders.items c.args.export).dirs ≡ c.as_slice.result.now =
+    dirs_here c.args.self.now.orders.items c.args.export c.index-order.result.now near c.index-order.ensures ∙ sym c.as_slice.ensures in
+    let m : map_at (λ k old. cond (is_among (order_in c.args.self.now.orders.items c.args.export).dirs k) (Some (to_of (world_of c.args.self.now) c.args.export)) old) c.args.self.now.named.items ≡ c.mark.new.table.items =
     ap (λ (ds : List ℕ). map_at (λ k old. cond (is_among ds k) (Some (to_of (world_of c.args.self.now) c.args.export)) old) c.args.self.now.named.items) f
-    ∙ (ap (λ (s : ℕ). map_at (λ k old. cond (is_among c.deref.result.now k) (Some s) old) c.args.self.now.named.items) u ∙ sym c.mark.ensures) in
+    ∙ (ap (λ (s : ℕ). map_at (λ k old. cond (is_among c.as_slice.result.now k) (Some s) old) c.args.self.now.named.items) u ∙ sym c.mark.ensures) in
     rw (c.enter.ensures.entered, ← t, ← m) (notify_indexed (world_of c.args.self.now) c.args.export (notify_state (world_of c.args.self.now) c.args.export c.requires.accepted)
     (exporter_rank (world_of c.args.self.now) c.requires.kept.reached c.args.export order) c.send.new.sent.items c.requires.kept.reached (indexes_of c.args.self.now) c.requires.kept.indexed)

@@ -8,7 +8,7 @@ use Rattle.export_machine.specs.declared.records.Records.{Records}
 use Rattle.export_machine.specs.Cluster.{World}
 use Rattle.export_machine.specs.Authority.{to_of, importer_of, has}
 use Rattle.export_machine.specs.Step.{happens, changed, ignored, restarts}
-use Rattle.export_machine.specs.Kept.{world_of, indexes_of, order_of, IsIndexed}
+use Rattle.export_machine.specs.Kept.{world_of, indexes_of, IsIndexed}
 use Rattle.export_machine.proofs.Accepted.{numbers_by}
 use Rattle.export_machine.proofs.Rows.{importer_indexed}
 use Rattle.export_machine.proofs.Halted.{aborts, forgets, dropped_there, restarts_all, stopped_indexed, restart_rank, rank_there}
@@ -19,7 +19,7 @@ halt_imports-requires-clause-near c =
     let w = world_of c.args.self.now in
     let as_many : length w.importers ≡ length w.orders = numbers_by w c.requires.kept.reached (length w.importers) (length w.orders) (λ safe. safe.importing) in
     ap (λ (r : Records). length r.importers.items) c.halt_exports.ensures.others
-    ∙ (as_many ∙ (length-map c.args.self.now.orders.items order_of ∙ sym (ap (λ (r : Records). length r.orders.items) c.halt_exports.ensures.others)))
+    ∙ (as_many ∙ sym (ap (λ (r : Records). length r.orders.items) c.halt_exports.ensures.others))
 
 pub halt_imports-requires-clause-ranked : goal.halt_imports-requires-clause-ranked
 halt_imports-requires-clause-ranked c =

@@ -1,17 +1,14 @@
-use Rattle.std.proofs.Common.{◌≡◌, ◌<◌, ℕ, List, [], ◌∷◌, ◌++◌, map, length, refl, sym, ap, ◌∙◌, arith}
+use Rattle.std.proofs.Common.{◌≡◌, ◌<◌, ℕ, List, length, refl, sym, ap, ◌∙◌, arith}
 use Rattle.std.proofs.lemmas.Bool.{and_parts, ltb-true}
-use Rattle.std.proofs.lemmas.List.{length-map}
-use Rattle.mds_types.specs.declared.order.Order.{Order as Moved}
 use Rattle.export_machine.specs.Authority.{is_among}
 use Rattle.export_machine.specs.Step.{happens}
-use Rattle.export_machine.specs.Kept.{world_of, indexes_of, has_room, order_of}
+use Rattle.export_machine.specs.Kept.{world_of, indexes_of, has_room}
 use Rattle.export_machine.proofs.Starting.{start_there, start_few, start_indexed}
 use Rattle.export_machine.proofs.records.Records.start.Goals as goal
 
 pub overflow_cast-export : goal.overflow_cast-export
 overflow_cast-export c =
     let few : length (world_of c.args.self.now).orders < 65536 = start_few (world_of c.args.self.now) c.args.from c.args.to c.args.dirs c.requires.accepted in
-    let e : length (world_of c.args.self.now).orders ≡ length c.args.self.now.orders.items = length-map c.args.self.now.orders.items order_of in
     omega arith
 
 pub mark-requires : goal.mark-requires
@@ -37,37 +34,28 @@ pub push_reserved-requires-4 : goal.push_reserved-requires-4
 unfolding has_room
 push_reserved-requires-4 c = ltb-true _ _ (and_parts _ _ (and_parts _ _ c.requires.room).1).1
 
-orders_pushed : (os : List Moved) (o : Moved) (ps : List Moved) → ps ≡ os ++ o ∷ [] → map order_of ps ≡ map order_of os ++ order_of o ∷ []
-orders_pushed os o ps e = ap (map order_of) e ∙ go os
-  where
-    go : (xs : List Moved) → map order_of (xs ++ o ∷ []) ≡ map order_of xs ++ order_of o ∷ []
-    go [] = refl
-    go (x ∷ xs) = ap (λ ys. order_of x ∷ ys) (go xs)
-
 pub returns-clause-effect : goal.returns-clause-effect
 unfolding happens
 returns-clause-effect c =
-    let n : length (map order_of c.args.self.now.orders.items) ≡ c.len-export.result = length-map c.args.self.now.orders.items order_of ∙ omega arith in
+    let n : length c.args.self.now.orders.items ≡ c.len-export.result = omega arith in
     let m : length c.args.self.now.sent.items ≡ c.len-message.result = omega arith in
     rw (
       n,
       m,
-      orders_pushed c.args.self.now.orders.items (record { from = c.args.from; to = c.args.to; dirs = c.into_vec-dirs.result }) c.push_reserved.new.self.items c.push_reserved.ensures.items,
+      c.push_reserved.ensures.items,
       c.push_reserved-2.ensures.items,
       c.push_reserved-3.ensures.items,
       c.push_reserved-4.ensures.items,
-      c.into_vec-dirs.ensures,
     ) refl
 
 pub returns-clause-indexed : goal.returns-clause-indexed
 returns-clause-indexed c =
-    let n : c.len-export.result ≡ length (map order_of c.args.self.now.orders.items) = omega arith ∙ sym (length-map c.args.self.now.orders.items order_of) in
+    let n : c.len-export.result ≡ length c.args.self.now.orders.items = omega arith in
     rw (
-      orders_pushed c.args.self.now.orders.items (record { from = c.args.from; to = c.args.to; dirs = c.into_vec-dirs.result }) c.push_reserved.new.self.items c.push_reserved.ensures.items,
+      c.push_reserved.ensures.items,
       c.push_reserved-2.ensures.items,
       c.push_reserved-3.ensures.items,
       c.push_reserved-4.ensures.items,
-      c.into_vec-dirs.ensures,
       c.mark.ensures,
       c.as_slice.ensures,
       n,

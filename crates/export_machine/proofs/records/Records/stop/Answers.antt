@@ -9,7 +9,7 @@ use Rattle.export_machine.specs.declared.records.Records.{Records}
 use Rattle.export_machine.specs.Cluster.{World}
 use Rattle.export_machine.specs.Authority.{to_of, importer_of, has, request_of}
 use Rattle.export_machine.specs.Step.{happens, changed}
-use Rattle.export_machine.specs.Kept.{world_of, indexes_of, order_of, IsIndexed}
+use Rattle.export_machine.specs.Kept.{world_of, indexes_of, IsIndexed}
 use Rattle.export_machine.proofs.Accepted.{numbers_by}
 use Rattle.export_machine.proofs.Indexing.{request_there}
 use Rattle.export_machine.proofs.Rows.{importer_indexed}
@@ -21,7 +21,7 @@ halt_imports-requires-clause-near c =
     let w = world_of c.args.self.now in
     let as_many : length w.importers ≡ length w.orders = numbers_by w c.requires.kept.reached (length w.importers) (length w.orders) (λ safe. safe.importing) in
     ap (λ (r : Records). length r.importers.items) c.halt_exports.ensures.others
-    ∙ (as_many ∙ (length-map c.args.self.now.orders.items order_of ∙ sym (ap (λ (r : Records). length r.orders.items) c.halt_exports.ensures.others)))
+    ∙ (as_many ∙ sym (ap (λ (r : Records). length r.orders.items) c.halt_exports.ensures.others))
 
 pub halt_imports-requires-clause-ranked : goal.halt_imports-requires-clause-ranked
 halt_imports-requires-clause-ranked c =
@@ -36,6 +36,13 @@ halt_imports-requires-clause-dropped c =
     let aborted : world_of c.halt_exports.new.self ≡ aborts c.args.rank w =
     ap world_of c.halt_exports.ensures.others ∙ ap (λ (es : List ExporterState). record w { exporters = es }) c.halt_exports.ensures.exporters in
     subst (λ (v : World). (x : ℕ) → has v c.args.rank (JournalEntry.Dropped x) ≡ true → (to_of v x ≡ c.args.rank) × (importer_of v x ≡ Dropped)) (sym aborted) (dropped_there w c.requires.kept.reached c.args.rank)
+
+pub end_requests-requires-clause-near : goal.end_requests-requires-clause-near
+end_requests-requires-clause-near c =
+    let few : c.args.rank < (world_of c.args.self.now).ranks = stop_rank (world_of c.args.self.now) c.args.rank c.requires.accepted in
+    let halted : length c.halt_exports.new.self.tickets_at.items ≡ length c.args.self.now.tickets_at.items = ap (λ (r : Records). length r.tickets_at.items) c.halt_exports.ensures.others in
+    let forgot : length c.halt_imports.new.self.tickets_at.items ≡ length c.halt_exports.new.self.tickets_at.items = ap (λ (r : Records). length r.tickets_at.items) c.halt_imports.ensures.others in
+    omega (arith, halted, forgot, c.requires.kept.indexed.requests.ranked, length-map c.args.self.now.tickets_at.items (λ l. l.items))
 
 pub end_requests-requires-clause-indexed : goal.end_requests-requires-clause-indexed
 end_requests-requires-clause-indexed c =

@@ -2,15 +2,14 @@ use Rattle.std.proofs.Common.{◌≡◌, ◌<◌, ◌≤◌, ◌+◌, ℕ, zero,
 use Rattle.std.proofs.lemmas.Bool.{ltb-true}
 use Rattle.std.specs.List.{slice_get}
 use Rattle.std.proofs.Math.Seq.{map-set_same}
-use Rattle.export_machine.specs.declared.journal.JournalEntry.{JournalEntry}
 use Rattle.export_machine.specs.Kept.{is_spare}
 use Rattle.std.specs.Vec.{vec_len, vec_capacity}
 use Rattle.export_machine.proofs.Accepted.{item_at}
 use Rattle.export_machine.proofs.Bounds.{on_ok}
-use Rattle.export_machine.proofs.applying.grow_journal.Goals as goal
+use Rattle.export_machine.proofs.applying.grow_list.Goals as goal
 
-abbrev items_of : Vec JournalEntry Global → List JournalEntry
-items_of j = j.items
+abbrev items_of : {T : Type 0} → Vec T Global → List T
+items_of list = list.items
 
 set_here : {A : Type 0} (xs : List A) (k : ℕ) (a : A) → k < length xs → slice_get (set xs k a) k ≡ Some a
 set_here [] k a h = absurd (omega arith)
@@ -21,19 +20,19 @@ less : (m n : ℕ) → m + 1 ≤ n → ltb m n ≡ true
 less m n h = grind arith
 
 pub returns-clause-entries : goal.returns-clause-entries
-returns-clause-entries c =
-    map-set_same items_of c.args.journals.now.items c.number.result c.reserve.new.self c.index_mut.result.now (c.reserve.ensures.items ∙ ap items_of c.index_mut.ensures.value)
+returns-clause-entries g c =
+    map-set_same items_of c.args.lists.now.items c.number.result c.reserve.new.self c.index_mut.result.now (c.reserve.ensures.items ∙ ap items_of c.index_mut.ensures.value)
 
 pub returns-clause-room : goal.returns-clause-room
-returns-clause-room c =
-    let near : c.number.result < length c.args.journals.now.items = rw c.number.ensures.value c.requires.near in
-    let e : slice_get (set c.args.journals.now.items c.number.result c.reserve.new.self) c.number.result ≡ Some c.reserve.new.self = set_here c.args.journals.now.items c.number.result c.reserve.new.self near in
+returns-clause-room g c =
+    let near : c.number.result < length c.args.lists.now.items = rw c.number.ensures.value c.requires.near in
+    let e : slice_get (set c.args.lists.now.items c.number.result c.reserve.new.self) c.number.result ≡ Some c.reserve.new.self = set_here c.args.lists.now.items c.number.result c.reserve.new.self near in
     on_ok c.reserve.result (λ h. rw (← c.number.ensures.value, e) (less (vec_len c.reserve.new.self) (vec_capacity c.reserve.new.self) (omega (arith, h)))) c.reserve.ensures.ok
 
 pub returns-clause-ready : goal.returns-clause-ready
-returns-clause-ready c = λ h.
-    (let near : c.number.result < length c.args.journals.now.items = rw c.number.ensures.value c.requires.near in
-    let e = item_at c.args.journals.now.items c.number.result c.index_mut.result.now near c.index_mut.ensures.value in
-    let s : is_spare (slice_get c.args.journals.now.items c.number.result) ≡ true = rw c.number.ensures.value h in
+returns-clause-ready g c = λ h.
+    (let near : c.number.result < length c.args.lists.now.items = rw c.number.ensures.value c.requires.near in
+    let e = item_at c.args.lists.now.items c.number.result c.index_mut.result.now near c.index_mut.ensures.value in
+    let s : is_spare (slice_get c.args.lists.now.items c.number.result) ≡ true = rw c.number.ensures.value h in
     let l = ltb-true _ _ (rw e at s) in
     c.reserve.ensures.succeeds (omega arith))
