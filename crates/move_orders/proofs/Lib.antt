@@ -1,0 +1,4 @@
+pub mod Numbers
+pub mod Sets
+pub mod SoFar
+pub mod Tops
