@@ -2,3 +2,4 @@ pub mod Numbers
 pub mod Sets
 pub mod SoFar
 pub mod Tops
+pub mod Unique

@@ -92,7 +92,7 @@ mapped_at f (x ∷ xs) (suc k) y h is =
 pub Contains-mapped : {A B : Type 0} (f : A → B) (xs : List A) (y : B) → Contains (map f xs) y → (x : A) × Contains xs x × (f x ≡ y)
 Contains-mapped f xs y h = mapped_at f xs h.0 y h.1 h.2
 
-rest_contains : {A : Type 0} (x y : A) (xs : List A) → Contains xs y → Contains (x ∷ xs) y
+pub rest_contains : {A : Type 0} (x y : A) (xs : List A) → Contains xs y → Contains (x ∷ xs) y
 rest_contains x y xs h = (suc h.0, omega (arith, h.1), h.2)
 
 -- functions that agree on each element

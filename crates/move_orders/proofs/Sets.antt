@@ -16,7 +16,7 @@ use Rattle.move_orders.specs.Largest.{AreOrders, IsEdge, IsOrder, Moves, top}
 use Rattle.move_orders.specs.Moves.{between, is_top, move_of, rank_at, top_of}
 use Rattle.move_orders.specs.Orders.{from_of, is_member, order_of, orders, to_of, tops}
 use Rattle.move_orders.proofs.Numbers.{Contains-map, Contains-mapped, kept_below, kept_rises, passes_below, places_rise}
-use Rattle.move_orders.proofs.Tops.{alike, has_top, is_in, joined, low, member, no_top, top_moves, top_of-other, top_of-top}
+use Rattle.move_orders.proofs.Tops.{alike, has_top, is_in, joined, low, member, no_top, top_moves, top_of-other, top_of-top, up_member}
 
 -- what a move between two ranks says of them
 record IsBetween (now target : Option ℕ) (from to : ℕ) : Type 0 where
@@ -103,17 +103,33 @@ module _ (es : List (Option Entry)) (now target : List (Option ℕ)) (tree : IsT
       let P : Option Move → Type 0 = λ m. Moves es now target (from_of m) (to_of m) d in
       subst P (sym (alike es (move_of es now target) tree t d is)) (moves_of es now target d (is_in es (move_of es now target) tree t d is).0)
 
+  -- the first directory of an order is its top
+  first_is : (t : ℕ) → is_top es (move_of es now target) t ≡ true → get_or (dirs_of es (move_of es now target) t) 0 0 ≡ t
+  first_is t top =
+      let at = in_dirs t t (top_in t top) in
+      let dirs : List ℕ = dirs_of es (move_of es now target) t in
+      let some : 0 < length dirs = omega (arith, at.1) in
+      let here : get_or dirs at.0 0 ≡ t = get_or_default dirs at.0 0 t at.1 ∙ at.2 in
+      elim (cases_lt 0 at.0) [
+        | inl later ↦
+            let less : get_or dirs 0 0 < get_or dirs at.0 0 = places_rise dirs 0 at.0 (kept_rises (is_member es (move_of es now target) t) (length es)) later at.1 in
+            let least : t ≤ get_or dirs 0 0 = low es (move_of es now target) tree t (get_or dirs 0 0) (from_dirs t (get_or dirs 0 0) (Contains-get_or dirs 0 0 some)) in
+            absurd (omega (arith, less, least, here))
+        | inr first ↦ let zero_ : at.0 ≡ 0 = omega (arith, first) in sym (ap (λ (k : ℕ). get_or dirs k 0) zero_) ∙ here
+      ]
+
   is_order : (t : ℕ) → is_top es (move_of es now target) t ≡ true → IsOrder es now target (order_of es (move_of es now target) (length es) t)
-  is_order t top = record {
-    some = (let first = in_dirs t t (top_in t top) in omega (arith, first.1));
+  is_order t leads = record {
+    some = (let first = in_dirs t t (top_in t leads) in omega (arith, first.1));
     rising = kept_rises (is_member es (move_of es now target) t) (length es);
     moves = λ d h. member_moves t d (from_dirs t d h);
     connected = λ c d hc hd. joined es (move_of es now target) tree (Contains (dirs_of es (move_of es now target) t)) (c + d) t c d (in_dirs t) (omega arith) (from_dirs t c hc) (from_dirs t d hd);
     largest = λ c d hc edge moves.
         let is = from_dirs t c hc in
         let same : move_of es now target d ≡ move_of es now target t =
-        move_made es now target (from_of (move_of es now target t)) (to_of (move_of es now target t)) d moves ∙ sym (known (move_of es now target t) (top_moves es (move_of es now target) t top)) in
+        move_made es now target (from_of (move_of es now target t)) (to_of (move_of es now target t)) d moves ∙ sym (known (move_of es now target t) (top_moves es (move_of es now target) t leads)) in
         in_dirs t d (beside t c d is edge (same ∙ alike es (move_of es now target) tree t c is));
+    below_top = λ d h other. in_dirs t (parent_of es d) (up_member es (move_of es now target) tree t d (from_dirs t d h) (λ same. other (same ∙ sym (first_is t leads)))).1;
   }
 
   -- an order is that of a top
@@ -138,21 +154,6 @@ module _ (es : List (Option Entry)) (now target : List (Option ℕ)) (tree : IsT
       let t : ℕ = top_of es (move_of es now target) d in
       let inside : t < length es = move_inside es now target t (top_moves es (move_of es now target) t has.top) in
       (order_of es (move_of es now target) (length es) t, Contains-map (order_of es (move_of es now target) (length es)) (tops es (move_of es now target) (length es)) t (kept_below (is_top es (move_of es now target)) (length es) t inside has.top), in_dirs t d (member es (move_of es now target) tree t d some refl))
-
-  -- the first directory of an order is its top
-  first_is : (t : ℕ) → is_top es (move_of es now target) t ≡ true → get_or (dirs_of es (move_of es now target) t) 0 0 ≡ t
-  first_is t top =
-      let at = in_dirs t t (top_in t top) in
-      let dirs : List ℕ = dirs_of es (move_of es now target) t in
-      let some : 0 < length dirs = omega (arith, at.1) in
-      let here : get_or dirs at.0 0 ≡ t = get_or_default dirs at.0 0 t at.1 ∙ at.2 in
-      elim (cases_lt 0 at.0) [
-        | inl later ↦
-            let less : get_or dirs 0 0 < get_or dirs at.0 0 = places_rise dirs 0 at.0 (kept_rises (is_member es (move_of es now target) t) (length es)) later at.1 in
-            let least : t ≤ get_or dirs 0 0 = low es (move_of es now target) tree t (get_or dirs 0 0) (from_dirs t (get_or dirs 0 0) (Contains-get_or dirs 0 0 some)) in
-            absurd (omega (arith, less, least, here))
-        | inr first ↦ let zero_ : at.0 ≡ 0 = omega (arith, first) in sym (ap (λ (k : ℕ). get_or dirs k 0) zero_) ∙ here
-      ]
 
   top_at : (k : ℕ) → k < length (tops es (move_of es now target) (length es)) → get_or (map top (orders es now target)) k 0 ≡ get_or (tops es (move_of es now target) (length es)) k 0
   top_at k h =

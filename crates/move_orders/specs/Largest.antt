@@ -17,7 +17,11 @@ pub record Moves (entries : List (Option Entry)) (now target : List (Option ℕ)
 abbrev pub IsEdge : List (Option Entry) → ℕ → ℕ → Type 0
 IsEdge entries = IsParentOrChild (parent_of entries)
 
--- a largest connected set of directories that all go from one rank to another, rising
+-- the top of an order: the first of its directories
+abbrev pub top : Order → ℕ
+top o = slice_index o.dirs 0
+
+-- a largest connected set of directories that all go from one rank to another, by rising numbers
 pub record IsOrder (entries : List (Option Entry)) (now target : List (Option ℕ)) (o : Order) : Type 0 where
   pub some : 0 < length o.dirs
   pub rising : IsStrictlyIncreasing o.dirs
@@ -25,10 +29,8 @@ pub record IsOrder (entries : List (Option Entry)) (now target : List (Option �
   pub connected : IsConnected (IsEdge entries) (Contains o.dirs)
   -- no directory beside it could be added
   pub largest : (c d : ℕ) → Contains o.dirs c → IsEdge entries c d → Moves entries now target o.from o.to d → Contains o.dirs d
-
--- the top of an order: the first of its directories, which has the least number and so is above all others
-abbrev pub top : Order → ℕ
-top o = slice_index o.dirs 0
+  -- the top has the least number and stands above all others: each of them has its parent in the set
+  pub below_top : (d : ℕ) → Contains o.dirs d → d ≢ top o → Contains o.dirs (parent_of entries d)
 
 -- each is a largest connected set, each directory that moves is in one of them and in no other, and their tops rise
 pub record AreOrders (entries : List (Option Entry)) (now target : List (Option ℕ)) (os : List Order) : Type 0 where
