@@ -32,9 +32,9 @@ module _ {A : Type 0} (key : A → ℕ) where
   same_first x y xs ys rise climb to back = elim (first_or_later y x ys to.0 to.1 to.2) [
     | inl same ↦ sym same
     | inr later ↦ elim (first_or_later x y xs back.0 back.1 back.2) [
-        | inl same ↦ same
-        | inr after ↦ absurd (omega (arith, first_least y x ys climb later, first_least x y xs rise after))
-      ]
+      | inl same ↦ same
+      | inr after ↦ absurd (omega (arith, first_least y x ys climb later, first_least x y xs rise after))
+    ]
   ]
 
   in_rest : (x y z : A) (xs ys : List A) → IsStrictlyIncreasing (map key (x ∷ xs)) → x ≡ y → Contains xs z → Contains (y ∷ ys) z → Contains ys z
