@@ -1,0 +1,5 @@
+pub mod Numbers
+pub mod Sets
+pub mod SoFar
+pub mod Tops
+pub mod Unique

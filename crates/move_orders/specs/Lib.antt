@@ -1,0 +1,4 @@
+pub mod Found
+pub mod Largest
+pub mod Moves
+pub mod Orders
