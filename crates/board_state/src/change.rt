@@ -104,6 +104,38 @@ impl Orders {
     }
 }
 
+/// An event of the cluster. To a contract it is the event.
+#[derive(Drop)]
+pub struct KeptEvent {
+    event: Event,
+}
+
+impl Model for KeptEvent {
+    ghost use Rattle.export_machine.specs.declared.event.Event.{Event};
+
+    ghost Value = { Event };
+
+    ghost view = { λ kept. kept.event };
+}
+
+impl KeptEvent {
+    ghost use Rattle.std.specs.Prelude.{◌≡◌};
+
+    /// This event.
+    pub fn new(event: Event) -> KeptEvent
+        ensures { result ≡ event }
+    {
+        KeptEvent { event }
+    }
+
+    /// The event.
+    pub fn event(&self) -> &Event
+        ensures { result.now ≡ self.now }
+    {
+        &self.event
+    }
+}
+
 /// A plan at a place of its own, so that a change without one takes little room. To a contract it is the plan.
 #[derive(Drop)]
 pub struct KeptPlan {
@@ -188,7 +220,7 @@ pub enum Change {
     /// All heats are halved.
     Tick,
     /// An event of the cluster, of those that neither make nor remove a directory.
-    Step(Event),
+    Step(KeptEvent),
     /// The problem of the directories that no pin holds is opened.
     Open,
     /// A plan comes into force.

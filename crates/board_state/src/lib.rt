@@ -16,7 +16,7 @@ pub mod state;
 mod stepping;
 
 pub use board_error::BoardError;
-pub use change::{Answer, Change, Hits, KeptPlan, KeptProblem, Name, Orders};
+pub use change::{Answer, Change, Hits, KeptEvent, KeptPlan, KeptProblem, Name, Orders};
 pub use making::BoardParts;
 pub use opening::{InForce, OpenProblem};
 pub use solver::Solver;

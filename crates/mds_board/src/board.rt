@@ -9,18 +9,10 @@ ghost use Rattle.board_state.specs.Steps.{is_inner, spelled};
 ghost use Rattle.mds_board.specs.History.{IsAnswer, recorded};
 
 use crate::entry::Entry;
-use crate::keeping::{keep, keep_both};
+use crate::keeping::{keep, keep_both, keep_step};
 use authority_map::Publisher;
 use board_state::{
-    Answer,
-    BoardError,
-    BoardParts,
-    BoardState,
-    Change,
-    Hits,
-    KeptPlan,
-    Name,
-    Solver,
+    Answer, BoardError, BoardParts, BoardState, Change, KeptEvent, KeptPlan, Name, Solver,
     or_memory,
 };
 use export_machine::{Event, Reply};
@@ -161,12 +153,7 @@ impl<J: Naming, M: Publisher<J>> Board<J, M> {
     }
 
     /// A request on a directory begins at a rank, and is counted in a share.
-    pub fn begin(
-        &mut self,
-        share: &mut Share<J>,
-        rank: Rank,
-        dir: Dir,
-    ) -> Result<Reply, BoardError>
+    pub fn begin(&mut self, share: &mut Share<J>, rank: Rank, dir: Dir) -> Result<Reply, BoardError>
         ensures answer { IsAnswer self.old (Change.Step (Event.Begin rank dir)) (spelled Answer.Reply result) self.new }
         ensures share { OnOk result (share.new ≡ record share.old { begun = raised share.old.begun dir }) }
         ensures unchanged { OnErr result (share.new ≡ share.old) }
@@ -175,9 +162,8 @@ impl<J: Naming, M: Publisher<J>> Board<J, M> {
             return Err(or_memory(self.state.begin_refusal(rank, dir)));
         }
         let reply = self.state.begin(share, rank, dir)?;
-        let begin = Change::Step(Event::Begin(rank, dir));
-        keep(&mut self.history, begin, Answer::Reply(reply));
-        Ok(reply)
+        let begin = KeptEvent::new(Event::Begin(rank, dir));
+        Ok(keep_step(&mut self.history, begin, reply))
     }
 
     /// An event of the cluster that neither makes nor removes a directory nor begins a request: `make`, `remove` and `begin`
@@ -190,8 +176,7 @@ impl<J: Naming, M: Publisher<J>> Board<J, M> {
             return Err(or_memory(self.state.step_refusal(&event)));
         };
         let reply = self.state.step(alloc, event)?;
-        keep(&mut self.history, Change::Step(kept), Answer::Reply(reply));
-        Ok(reply)
+        Ok(keep_step(&mut self.history, kept, reply))
     }
 
     /// Opens the problem of the directories that no pin holds, with their heats and authorities as they are.
@@ -267,13 +252,13 @@ fn room_for_event(
     alloc: Global,
     history: &mut Vec<Entry>,
     event: &Event,
-) -> Result<Event, AllocError>
+) -> Result<KeptEvent, AllocError>
     ensures same { history.new.items ≡ history.old.items }
     ensures room { OnOk result (vec_len history.new < vec_capacity history.new) }
     ensures event { IfOk result (λ kept. kept ≡ event.now) }
 {
     history.reserve(1)?;
-    event.copied(alloc)
+    Ok(KeptEvent::new(event.copied(alloc)?))
 }
 
 // Room for an entry, and a place for a plan.

@@ -2,7 +2,8 @@
 ghost use Rattle.std.specs.Prelude.{◌≡◌, ◌<◌, ◌≤◌, ◌+◌, ◌∷◌, [], ◌++◌, vec_len, vec_capacity};
 
 use crate::entry::Entry;
-use board_state::{Answer, Change, KeptPlan, KeptProblem};
+use board_state::{Answer, Change, KeptEvent, KeptPlan, KeptProblem};
+use export_machine::Reply;
 
 /// Keeps a change with its reply, for which there is room.
 pub(crate) fn keep(history: &mut Vec<Entry>, change: Change, reply: Answer)
@@ -25,4 +26,15 @@ pub(crate) fn keep_both(history: &mut Vec<Entry>, problem: KeptProblem, plan: Ke
         change: Change::Adopt(plan),
         reply: Answer::Done,
     });
+}
+
+/// Keeps an event of the cluster with its reply, for which there is room, and answers the reply.
+pub(crate) fn keep_step(history: &mut Vec<Entry>, event: KeptEvent, reply: Reply) -> Reply
+    requires { vec_len history.old < vec_capacity history.old }
+    ensures kept { history.new.items ≡ history.old.items ++ record { change = Change.Step event; reply = Answer.Reply reply } ∷ [] }
+    ensures reply { result ≡ reply }
+{
+    let told = reply;
+    keep(history, Change::Step(event), Answer::Reply(reply));
+    told
 }

@@ -10,5 +10,5 @@ use Rattle.mds_board.proofs.board.Board.adopt.Goals as goal
 
 pub invariant_of-self-2 : goal.invariant_of-self-2
 invariant_of-self-2 g c =
-    keeps c.self.inside.state c.adopt.new.self c.self.inside.history.items c.keep.new.history.items (change.Adopt c.in-Ok.kept) (answer.Done) c.self.invariant c.in_ok-adopt.ensures
-    (c.keep.ensures ∙ ap (λ (es : List Entry). es ++ record { change = change.Adopt c.in-Ok.kept; reply = answer.Done } ∷ []) c.room_for_plan.ensures.same)
+    keeps c.self.inside.state c.adopt.new.self c.self.inside.history.items c.keep.new.history.items (change.Adopt c.plan.result.now) (answer.Done) c.self.invariant c.in_ok-adopt.ensures
+    (c.keep.ensures ∙ (ap (λ (p : Plan). c.room_for_plan.new.history.items ++ record { change = change.Adopt p; reply = answer.Done } ∷ []) (sym c.plan.ensures) ∙ ap (λ (es : List Entry). es ++ record { change = change.Adopt c.plan.result.now; reply = answer.Done } ∷ []) c.room_for_plan.ensures.same))
