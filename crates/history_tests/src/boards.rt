@@ -14,6 +14,7 @@ use std::test::Fail;
 use std::thread::Threads;
 
 /// Solves problems at a runtime.
+#[derive(Drop)]
 pub(crate) struct ByPlanner<'a, R: Threads> {
     pub(crate) rt: &'a R,
 }
