@@ -47,6 +47,9 @@ name refusal.NotConnected = codes "26 NotConnected"
 name refusal.ExportsFull = codes "27 ExportsFull"
 name (refusal.Stopped rank) = codes "28 Stopped"
 name refusal.BalancerOff = codes "29 BalancerOff"
+name refusal.NoProblem = codes "30 NoProblem"
+name (refusal.Changed event) = codes "31 Changed"
+name refusal.NotBest = codes "32 NotBest"
 name refusal.HistoryFull = codes "33 HistoryFull"
 name refusal.NoReader = codes "34 NoReader"
 name refusal.Pinned = codes "35 Pinned"
@@ -62,6 +65,7 @@ value (refusal.Busy export) = 32 ∷ decimal export
 value (refusal.Frozen export) = 32 ∷ decimal export
 value (refusal.NotYet requests) = 32 ∷ decimal requests
 value (refusal.Late stage) = 32 ∷ stage_word stage
+value (refusal.Changed event) = 32 ∷ decimal event
 value (refusal.Stopped rank) = 32 ∷ decimal rank
 value _ = []
 

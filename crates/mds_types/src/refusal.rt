@@ -102,6 +102,12 @@ pub enum Refusal {
     Stopped(Rank),
     /// No mask was set, or it has no active rank.
     BalancerOff,
+    /// No problem is open.
+    NoProblem,
+    /// This event, the first such since the problem was opened, changed what it was made of.
+    Changed(u32),
+    /// The plan isn't proved best for the problem that is open.
+    NotBest,
     /// As many events as can be were accepted.
     HistoryFull,
     /// There is no place for a reader.
@@ -146,6 +152,9 @@ impl Refusal {
             Refusal::ExportsFull => "27 ExportsFull",
             Refusal::Stopped(_) => "28 Stopped",
             Refusal::BalancerOff => "29 BalancerOff",
+            Refusal::NoProblem => "30 NoProblem",
+            Refusal::Changed(_) => "31 Changed",
+            Refusal::NotBest => "32 NotBest",
             Refusal::HistoryFull => "33 HistoryFull",
             Refusal::NoReader => "34 NoReader",
             Refusal::Pinned => "35 Pinned",
@@ -162,7 +171,8 @@ impl Refusal {
             | Refusal::Heavy(number)
             | Refusal::Busy(number)
             | Refusal::Frozen(number)
-            | Refusal::NotYet(number) => write!(f, " {number}"),
+            | Refusal::NotYet(number)
+            | Refusal::Changed(number) => write!(f, " {number}"),
             Refusal::Missing(weight) => write!(f, " {weight}"),
             Refusal::Elsewhere(rank) | Refusal::Stopped(rank) => {
                 let number = rank.number();

@@ -1,0 +1,3 @@
+pub mod Accepted
+pub mod Fitting
+pub mod Mapping

@@ -1,0 +1,23 @@
+use Rattle.std.proofs.Common.{◌≡◌, ◌∙◌, sym, ap, subst, refl}
+use Rattle.mds_types.specs.Certificate.{IsBest}
+use Rattle.mds_types.specs.Problem.{ProblemData}
+use Rattle.board_state.specs.State.{Opened, happens}
+use Rattle.board_state.proofs.Accepted.{may_open, balance_opens, balance_adopts}
+use Rattle.board_state.proofs.state.BoardState.balance.Goals as goal
+
+pub problems-requires : goal.problems-requires
+problems-requires g c = may_open c.args.self.now.state (balance_opens c.args.self.now.state (sym c.in_default.ensures))
+
+pub returns-clause-ok : goal.returns-clause-ok
+unfolding happens
+returns-clause-ok g c =
+    let given = c.in-Ok.ensures.given.0 in
+    let same = c.opening.view_is ∙ c.in-Ok.ensures.opening in
+    let problem = ap (λ (o : Opened). o.problem) same in
+    let dirs = ap (λ (o : Opened). o.dirs) same in (
+      balance_opens c.args.self.now.state (sym c.in_default.ensures),
+      c.in-Ok.ensures.given.1 ∙ given,
+      balance_adopts c.args.self.now.state c.in-Ok-solved.plan (sym c.in_default.ensures),
+      subst (λ (q : ProblemData). IsBest q c.in-Ok-solved.plan) given c.in-Ok-solved.ensures,
+      rw (problem, dirs, ← c.self.view_is) refl,
+    )

@@ -1,0 +1,16 @@
+use Rattle.std.proofs.Common.{◌≡◌, length, map, ap, arith}
+use Rattle.std.proofs.lemmas.List.{length-map}
+use Rattle.dir_pins.specs.Pins.{below}
+use Rattle.export_machine.specs.Authority.{authority}
+use Rattle.board_state.specs.State.{rank_or_0}
+use Rattle.board_state.specs.Steps.{Present}
+use Rattle.board_state.proofs.Accepted.{length_below}
+use Rattle.board_state.proofs.state.BoardState.problems.Goals as goal
+
+pub open-requires-clause-now : goal.open-requires-clause-now
+open-requires-clause-now g c =
+    let same = ap (λ (p : Present). length p.state.directories.entries) c.self.view_is in
+    let ranks = ap (λ xs. length xs) c.in_ok-now.ensures in
+    let all = length-map (below (length c.args.self.now.state.directories.entries)) (λ d. rank_or_0 (authority c.args.self.now.state.cluster d)) in
+    let count = length_below (length c.args.self.now.state.directories.entries) in
+    omega (arith, same, ranks, all, count)

@@ -1,0 +1,3 @@
+pub mod Refused
+pub mod State
+pub mod Steps

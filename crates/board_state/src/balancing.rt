@@ -1,0 +1,75 @@
+//! A plan is made and comes into force in one call.
+ghost use Rattle.std.specs.Prelude.{◌≡◌, ◌⊎◌, IfOk, IfErr, OnErr, Some, None};
+ghost use Rattle.board_state.specs.State.{balance_refusal, happens};
+ghost use Rattle.board_state.specs.Steps.{IsBalance};
+
+use crate::board_error::BoardError;
+use crate::change::{KeptPlan, KeptProblem};
+use crate::opening::{InForce, OpenProblem};
+use crate::solver::Solver;
+use crate::state::{BoardState, HISTORY_LIMIT};
+use authority_map::Publisher;
+use mds_types::{Plan, Problem};
+use naming::Naming;
+use std::alloc::{AllocError, Global};
+
+impl<J: Naming, M: Publisher<J>> BoardState<J, M> {
+    /// Why a balance is refused.
+    pub fn balance_refusal(&self) -> Option<BoardError>
+        ensures { result ≡ balance_refusal self.now.state }
+    {
+        if self.events >= HISTORY_LIMIT - 1 {
+            return Some(BoardError::HistoryFull);
+        }
+        if self.usable().is_empty() {
+            return Some(BoardError::BalancerOff);
+        }
+        None
+    }
+
+    /// Opens the problem, solves it and adopts the plan: two events. It answers the problem and the plan.
+    #[tactic(auto, unfolding(crate::specs::State::happens))]
+    pub fn balance<S: Solver>(
+        &mut self,
+        alloc: Global,
+        solver: &S,
+    ) -> Result<(KeptProblem, KeptPlan), BoardError>
+        ensures ok { IfOk result (λ r. IsBalance self.old r.0 r.1 self.new) }
+        ensures err { IfErr result (λ e. (balance_refusal self.old.state ≡ Some e) ⊎ ((balance_refusal self.old.state ≡ None) × (e ≡ BoardError.Memory))) }
+        ensures unchanged { OnErr result (self.new ≡ self.old) }
+    {
+        if let Some(error) = self.balance_refusal() {
+            return Err(error);
+        }
+        let Ok((given, kept, opening)) = self.problems(alloc) else {
+            return Err(BoardError::Memory);
+        };
+        let Ok(plan) = solved(alloc, solver, &given) else {
+            return Err(BoardError::Memory);
+        };
+        let OpenProblem {
+            problem,
+            dirs,
+            changed: _,
+        } = opening;
+        self.events += 1;
+        self.opened = None;
+        self.in_force = Some(InForce {
+            problem,
+            dirs,
+            event: self.events,
+        });
+        self.events += 1;
+        Ok((kept, plan))
+    }
+}
+
+// A best plan for a problem, on memory of its own.
+fn solved<S: Solver>(alloc: Global, solver: &S, problem: &Problem) -> Result<KeptPlan, AllocError>
+    ensures { IfOk result (λ plan. IsBest problem.now plan) }
+{
+    let plan = solver.solve(alloc, problem)?;
+    KeptPlan::new(alloc, plan)
+}
+
+ghost use Rattle.mds_types.specs.Certificate.{IsBest};

@@ -1,0 +1,104 @@
+//! Shares of the ledger deposit hits, and requests begin.
+ghost use Rattle.std.specs.Prelude.{◌≡◌, ◌≤◌, ℕ, List, IfOk, OnOk, OnErr, fold, replicate};
+ghost use Rattle.heat_ledger.specs.Rows.{counted_rows, raised};
+ghost use Rattle.board_state.specs.State.{refusal, happens, warmed};
+ghost use Rattle.board_state.specs.Steps.{IsStep, spelled};
+
+use crate::board_error::BoardError;
+use crate::change::{Answer, Change, Hits};
+use crate::state::BoardState;
+use authority_map::Publisher;
+use dirtree::Tree;
+use export_machine::laws::recorded;
+use export_machine::{Event, Reply};
+use heat_decay::Heat;
+use heat_ledger::Share;
+use mds_types::{Dir, Rank};
+use naming::Naming;
+use std::alloc::Global;
+
+impl<J: Naming, M: Publisher<J>> BoardState<J, M> {
+    /// Why a deposit is refused.
+    #[tactic(auto, unfolding(crate::specs::State::refusal))]
+    pub fn deposit_refusal(&self) -> Option<BoardError>
+        ensures { (hits : List (ℕ × ℕ)) → result ≡ refusal self.now.state (Change.Deposit hits) }
+    {
+        if self.is_full() {
+            return Some(BoardError::HistoryFull);
+        }
+        None
+    }
+
+    /// Counts the hits that a share has pending, which give heat to the directories that are there. It answers them. It
+    /// takes time for these directories alone.
+    #[tactic(auto, unfolding(crate::specs::State::happens))]
+    pub fn deposit(&mut self, alloc: Global, share: &mut Share<J>) -> Result<Hits, BoardError>
+        ensures step { IsStep self.old (Change.Deposit (counted_rows share.old.pending)) (spelled (λ _. Answer.Done) result) self.new }
+        ensures hits { IfOk result (λ hits. hits ≡ counted_rows share.old.pending) }
+        ensures share { OnOk result (share.new ≡ record share.old { pending = replicate J.limit 0 }) }
+        ensures unchanged { OnErr result (share.new ≡ share.old) }
+    {
+        if let Some(error) = self.deposit_refusal() {
+            return Err(error);
+        }
+        let Ok(rows) = share.pending_rows(alloc) else {
+            return Err(BoardError::Memory);
+        };
+        warm(&mut self.heat, &self.tree, &rows);
+        let _rows = self.book.limit();
+        self.book.deposit(share);
+        self.events += 1;
+        Ok(Hits::new(rows))
+    }
+
+    /// Why a request doesn't begin.
+    #[tactic(auto, unfolding(crate::specs::State::refusal))]
+    pub fn begin_refusal(&self, rank: Rank, dir: Dir) -> Option<BoardError>
+        ensures { result ≡ refusal self.now.state (Change.Step (Event.Begin rank dir)) }
+    {
+        if self.is_full() {
+            return Some(BoardError::HistoryFull);
+        }
+        match self.cluster.can_apply(&Event::Begin(rank, dir)) {
+            Ok(()) => None,
+            Err(error) => Some(BoardError::Step(error)),
+        }
+    }
+
+    /// A request on a directory begins at a rank, and is counted in a share.
+    #[tactic(auto, unfolding(crate::specs::State::happens))]
+    pub fn begin(&mut self, share: &mut Share<J>, rank: Rank, dir: Dir) -> Result<Reply, BoardError>
+        ensures step { IsStep self.old (Change.Step (Event.Begin rank dir)) (spelled Answer.Reply result) self.new }
+        ensures share { OnOk result (share.new ≡ record share.old { begun = raised share.old.begun dir }) }
+        ensures unchanged { OnErr result (share.new ≡ share.old) }
+    {
+        if let Some(error) = self.begin_refusal(rank, dir) {
+            return Err(error);
+        }
+        let begin = Event::Begin(rank, dir);
+        let Ok(()) = self.cluster.reserve(&begin) else {
+            return Err(BoardError::Memory);
+        };
+        // the tree says that the directory's number is below the limit
+        let _is_there = self.tree.contains(dir);
+        self.cluster.reached();
+        recorded();
+        let reply = self.cluster.happen(begin);
+        self.book.begin(share, dir);
+        self.events += 1;
+        Ok(reply)
+    }
+}
+
+// Deposits hits on the directories that are there.
+fn warm(heat: &mut Heat, tree: &Tree, rows: &[(Dir, u64)])
+    requires { tree.now.limit ≤ heat.old.limit }
+    ensures heats { heat.new ≡ fold (warmed tree.now.entries) heat.old rows.now }
+    ensures same { (heat.new.limit ≡ heat.old.limit) × (heat.new.ticks ≡ heat.old.ticks) }
+{
+    for &(dir, hits) in rows {
+        if tree.contains(dir) {
+            heat.add(dir, hits);
+        }
+    }
+}

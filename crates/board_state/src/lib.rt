@@ -1,0 +1,23 @@
+//! What a board holds, and its changes: tree, pins, heats, mask, ledger, exports, map, the problem that is open and the plan
+//! in force. Each change is refused for the first cause that stands, or happens whole.
+#![tactic(auto)]
+
+mod balancing;
+pub mod board_error;
+pub mod change;
+mod counting;
+mod directories;
+mod judging;
+pub mod making;
+pub mod opening;
+mod settings;
+pub mod solver;
+pub mod state;
+mod stepping;
+
+pub use board_error::BoardError;
+pub use change::{Answer, Change, Hits, KeptEvent, KeptPlan, KeptProblem, Name, Orders};
+pub use making::BoardParts;
+pub use opening::{InForce, OpenProblem};
+pub use solver::Solver;
+pub use state::{BoardState, HISTORY_LIMIT, or_memory};

@@ -1,0 +1,54 @@
+//! Boards of two ranks with room for eight directories.
+ghost use Rattle.std.specs.Prelude.{◌≡◌};
+
+use authority_map::MapWriter;
+use board_state::{BoardParts, Solver};
+use heat_ledger::Share;
+use mds_board::Board;
+use mds_types::{Plan, Problem, Rank};
+use naming::Naming;
+use planner::solve;
+use std::alloc::{AllocError, Global};
+use std::sync::Wait;
+use std::test::Fail;
+use std::thread::Threads;
+
+/// Solves problems at a runtime.
+#[derive(Drop)]
+pub(crate) struct ByPlanner<'a, R: Threads> {
+    pub(crate) rt: &'a R,
+}
+
+impl<'a, R: Threads> Solver for ByPlanner<'a, R> {
+    fn solve(&self, alloc: Global, problem: &Problem) -> Result<Plan, AllocError> {
+        solve(self.rt, alloc, problem)
+    }
+}
+
+/// A board with the root alone, and a share for each rank.
+pub(crate) fn open<J: Naming, R: Wait + Drop>(
+    rt: R,
+    alloc: Global,
+    book: heat_ledger::Opened,
+    map: authority_map::Opened,
+) -> Result<(Board<J, MapWriter<J, R>>, Vec<Share<J>>), Fail>
+    requires book { book ≡ J.ledger }
+    requires map { map ≡ J.map }
+    requires limit { J.limit ≡ 8 }
+{
+    let Ok((writer, _readers)) = MapWriter::<J, R>::open(rt, alloc, map, 8, 1) else {
+        return Err("no map".into());
+    };
+    match Board::new(alloc, BoardParts::new(book, writer), 8, 2) {
+        Ok(made) => Ok(made),
+        Err(parts) => {
+            parts.end();
+            Err("no board".into())
+        }
+    }
+}
+
+/// The rank of a number.
+pub(crate) fn rank(number: u8) -> Result<Rank, Fail> {
+    Ok(Rank::new(number).ok_or("no rank")?)
+}

@@ -1,0 +1,141 @@
+//! Changes that are accepted and refused, and what is kept of them.
+ghost use Rattle.std.specs.Prelude.{◌≡◌};
+
+use crate::boards::{open, rank};
+use authority_map::Publisher;
+use board_state::{Answer, BoardError, Change};
+use dir_pins::PinError;
+use dirtree::TreeError;
+use export_machine::{Reply, StepError};
+use heat_ledger::Share;
+use mds_board::Board;
+use mds_types::{Dir, RankSet};
+use naming::Naming;
+use std::alloc::Global;
+use std::marker::Brand;
+use std::process::Abort;
+use std::sync::Wait;
+use std::test::Fail;
+
+// Makes /a, pins it, and asks for what is refused.
+fn set_up<J: Naming, M: Publisher<J>>(
+    rt: &impl Abort,
+    alloc: Global,
+    board: &mut Board<J, M>,
+) -> Result<(), Fail> {
+    let a = Dir::new(1);
+    assert_eq!(rt; board.make(alloc, Dir::ROOT, "a", 10), Ok(a));
+    let again = board.make(alloc, Dir::ROOT, "a", 10);
+    assert_eq!(rt; again, Err(BoardError::Tree(TreeError::Exists)));
+    assert_eq!(rt; board.set_pin(a, 1), Ok(()));
+    assert_eq!(rt; board.set_pin(a, 2), Err(BoardError::Pin(PinError::NoRank)));
+    assert_eq!(rt;
+        board.set_pin(Dir::new(9), 0),
+        Err(BoardError::Pin(PinError::NoDir))
+    );
+    assert_eq!(rt;
+        board.remove(Dir::ROOT),
+        Err(BoardError::Tree(TreeError::IsRoot))
+    );
+    assert_eq!(rt;
+        board.open_problem(alloc).err(),
+        Some(BoardError::BalancerOff)
+    );
+    assert_eq!(rt; board.set_mask(RankSet::from_bits(3)), Ok(()));
+    assert_eq!(rt; board.usable().len(), 2);
+    Ok(())
+}
+
+// Hits on /a are counted, warm it, and cool; a request on it keeps it.
+fn use_it<J: Naming, M: Publisher<J>>(
+    rt: &impl Abort,
+    alloc: Global,
+    board: &mut Board<J, M>,
+    share: &mut Share<J>,
+) -> Result<(), Fail> {
+    let a = Dir::new(1);
+    for _ in 0..5 {
+        assert_eq!(rt; share.hit(a), Ok(()));
+    }
+    assert_eq!(rt; board.deposit(alloc, share), Ok(()));
+    assert_eq!(rt; share.pending(a), 0);
+    assert_eq!(rt; board.tick(), Ok(()));
+    let begun = board.begin(share, rank(0)?, a);
+    assert_eq!(rt; begun, Ok(Reply::Ticket(0)));
+    assert_eq!(rt; share.begun(a), 1);
+    let elsewhere = board.begin(share, rank(1)?, a);
+    assert_eq!(rt;
+        elsewhere,
+        Err(BoardError::Step(StepError::Elsewhere(rank(0)?)))
+    );
+    assert_eq!(rt;
+        board.remove(a),
+        Err(BoardError::Step(StepError::NotYet(1)))
+    );
+    Ok(())
+}
+
+fn word(change: &Change) -> &'static str {
+    match change {
+        Change::Make(_, _, _) => "make",
+        Change::Remove(_) => "remove",
+        Change::Pin(_, _) => "pin",
+        Change::Mask(_) => "mask",
+        Change::Deposit(_) => "deposit",
+        Change::Tick => "tick",
+        Change::Step(_) => "step",
+        Change::Open => "open",
+        Change::Adopt(_) => "adopt",
+    }
+}
+
+// The accepted changes are in the history, and no others.
+fn look_back<J: Naming, M: Publisher<J>>(rt: &impl Abort, board: &Board<J, M>) -> Result<(), Fail> {
+    let wanted = ["make", "pin", "mask", "deposit", "tick", "step"];
+    assert_eq!(rt; board.history().len(), 6);
+    for (entry, want) in board.history().iter().zip(&wanted) {
+        assert_eq!(rt; word(&entry.change), *want);
+    }
+    match board.history().first() {
+        Some(entry) => match (&entry.change, &entry.reply) {
+            (Change::Make(parent, name, inodes), Answer::Dir(dir)) => {
+                assert_eq!(rt; *parent, Dir::ROOT);
+                assert_eq!(rt; name.as_str(), "a");
+                assert_eq!(rt; *inodes, 10);
+                assert_eq!(rt; *dir, Dir::new(1));
+                Ok(())
+            }
+            _ => Err("another entry".into()),
+        },
+        None => Err("no entry".into()),
+    }
+}
+
+fn changed<J: Naming, R: Wait + Drop>(
+    rt: &impl Abort,
+    waits: R,
+    alloc: Global,
+    book: heat_ledger::Opened,
+    map: authority_map::Opened,
+) -> Result<(), Fail>
+    requires book { book ≡ J.ledger }
+    requires map { map ≡ J.map }
+    requires limit { J.limit ≡ 8 }
+{
+    let (mut board, mut shares) = open::<J, R>(waits, alloc, book, map)?;
+    let done = match shares.first_mut() {
+        Some(share) => set_up(rt, alloc, &mut board)
+            .and_then(|()| use_it(rt, alloc, &mut board, share))
+            .and_then(|()| look_back(rt, &board)),
+        None => Err("no share".into()),
+    };
+    board.end();
+    done
+}
+
+#[test]
+fn changes_are_kept_with_their_replies(rt: HostRuntime) -> Result<(), Fail> {
+    let book = heat_ledger::Opened::new(rt.alloc())?;
+    let map = authority_map::Opened::new();
+    changed::<Brand, _>(&rt, &rt, rt.alloc(), book, map)
+}

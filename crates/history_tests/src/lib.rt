@@ -1,0 +1,9 @@
+//! Tests of boards with their histories, by their public calls.
+#![tactic(auto)]
+
+#[cfg(test)]
+mod boards;
+#[cfg(test)]
+mod changes;
+#[cfg(test)]
+mod plans;

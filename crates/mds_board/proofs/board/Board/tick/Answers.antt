@@ -1,0 +1,14 @@
+use Rattle.std.proofs.Common.{◌∙◌, ◌++◌, ◌∷◌, [], List, ap, sym, ℕ, to_z, of_z, w32}
+use Rattle.mds_types.specs.declared.plan.Plan.{Plan}
+use Rattle.mds_types.specs.Problem.{ProblemData}
+use Rattle.export_machine.specs.declared.event.Event.{Event}
+use Rattle.board_state.specs.declared.change.Answer.TheVariants as answer
+use Rattle.board_state.specs.declared.change.Change.TheVariants as change
+use Rattle.mds_board.specs.declared.entry.Entry.{Entry}
+use Rattle.mds_board.proofs.Replays.{keeps}
+use Rattle.mds_board.proofs.board.Board.tick.Goals as goal
+
+pub invariant_of-self-2 : goal.invariant_of-self-2
+invariant_of-self-2 g c =
+    keeps c.self.inside.state c.tick.new.self c.self.inside.history.items c.keep.new.history.items (change.Tick) (answer.Done) c.self.invariant c.in_ok-tick.ensures
+    (c.keep.ensures ∙ ap (λ (es : List Entry). es ++ record { change = change.Tick; reply = answer.Done } ∷ []) c.reserve.ensures.items)

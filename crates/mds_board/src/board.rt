@@ -1,0 +1,278 @@
+//! The board.
+ghost use Rattle.std.specs.Prelude.{◌≡◌, ◌⊎◌, [], IfOk, IfErr, OnOk, OnErr, MatchBool, None, Some, replicate, true};
+ghost use Rattle.mds_types.specs.Certificate.{IsBest};
+ghost use Rattle.mds_types.specs.declared.plan.Plan.{Plan};
+ghost use Rattle.heat_ledger.specs.Opening.{fresh_share};
+ghost use Rattle.heat_ledger.specs.Rows.{counted_rows, raised};
+ghost use Rattle.board_state.specs.State.{balance_refusal, happens, problem_of, refusal, start};
+ghost use Rattle.board_state.specs.Steps.{is_inner, spelled};
+ghost use Rattle.mds_board.specs.History.{IsAnswer, recorded};
+
+use crate::entry::Entry;
+use crate::keeping::{keep, keep_both, keep_step};
+use authority_map::Publisher;
+use board_state::{
+    Answer, BoardError, BoardParts, BoardState, Change, KeptEvent, KeptPlan, Name, Solver,
+    or_memory,
+};
+use export_machine::{Event, Reply};
+use heat_ledger::Share;
+use mds_types::{Dir, Plan, Problem, Rank, RankSet};
+use naming::Naming;
+use std::alloc::{AllocError, Global};
+use std::marker::Model;
+
+/// One state, with the history of its changes. `J` names it.
+///
+/// Each change is refused, which changes nothing, or is made whole and kept with its reply. The board can't be dropped, only
+/// ended, as it has the map's writer.
+pub struct Board<J: Naming, M: Publisher<J>> {
+    pub(crate) state: BoardState<J, M>,
+    pub(crate) history: Vec<Entry>,
+}
+
+impl<J: Naming, M: Publisher<J>> Model for Board<J, M> {
+    ghost use Rattle.mds_board.specs.History.{World, IsHistory, world_of};
+
+    ghost Value = { World };
+
+    ghost view = { λ b. world_of b.state b.history.items };
+
+    ghost invariant = { λ b. IsHistory b.state.state b.history.items };
+}
+
+impl<J: Naming, M: Publisher<J>> Board<J, M> {
+    /// The root alone, at rank 0 of so many active ranks, with room for the directory numbers below `limit`, and a share of
+    /// the ledger for each rank. Where memory is refused, the parts are handed back.
+    pub fn new(
+        alloc: Global,
+        parts: BoardParts<J, M>,
+        limit: u32,
+        active: u8,
+    ) -> Result<(Board<J, M>, Vec<Share<J>>), BoardParts<J, M>>
+        requires limit { limit ≡ J.limit }
+        requires low { 1 ≤ limit }
+        requires high { limit ≤ 65536 }
+        requires some { 1 ≤ active }
+        requires few { active ≤ 64 }
+        ensures board { IfOk result (λ r. r.0 ≡ record { state = start limit active; is_open = true; shares = active; published = []; history = [] }) }
+        ensures shares { IfOk result (λ r. r.1.items ≡ replicate active (fresh_share limit)) }
+    {
+        match BoardState::new(alloc, parts, limit, active) {
+            Err(parts) => Err(parts),
+            Ok((state, shares)) => {
+                let history = Vec::new(alloc);
+                Ok((Board { state, history }, shares))
+            }
+        }
+    }
+
+    /// Halves all heats.
+    pub fn tick(&mut self) -> Result<(), BoardError>
+        ensures { IsAnswer self.old Change.Tick (spelled (λ _. Answer.Done) result) self.new }
+    {
+        if self.history.reserve(1).is_err() {
+            return Err(or_memory(self.state.tick_refusal()));
+        }
+        self.state.tick()?;
+        keep(&mut self.history, Change::Tick, Answer::Done);
+        Ok(())
+    }
+
+    /// Makes a directory below a parent, with a name that is no child's of it, and so many inodes. Its authority is the
+    /// parent's.
+    pub fn make(
+        &mut self,
+        alloc: Global,
+        parent: Dir,
+        name: &str,
+        inodes: u32,
+    ) -> Result<Dir, BoardError>
+        ensures { IsAnswer self.old (Change.Make parent name.now inodes) (spelled Answer.Dir result) self.new }
+    {
+        let Ok(kept) = room_for_name(alloc, &mut self.history, name) else {
+            return Err(or_memory(self.state.make_refusal(parent, name)));
+        };
+        let dir = self.state.make(alloc, parent, name, inodes)?;
+        keep(
+            &mut self.history,
+            Change::Make(parent, kept, inodes),
+            Answer::Dir(dir),
+        );
+        Ok(dir)
+    }
+
+    /// Removes a directory without children on which no request runs and that is in no open export.
+    pub fn remove(&mut self, dir: Dir) -> Result<(), BoardError>
+        ensures { IsAnswer self.old (Change.Remove dir) (spelled (λ _. Answer.Done) result) self.new }
+    {
+        if self.history.reserve(1).is_err() {
+            return Err(or_memory(self.state.remove_refusal(dir)));
+        }
+        self.state.remove(dir)?;
+        keep(&mut self.history, Change::Remove(dir), Answer::Done);
+        Ok(())
+    }
+
+    /// Pins a directory on a rank or, by -1, takes its own pin away.
+    pub fn set_pin(&mut self, dir: Dir, pin: i32) -> Result<(), BoardError>
+        ensures { IsAnswer self.old (Change.Pin dir pin) (spelled (λ _. Answer.Done) result) self.new }
+    {
+        if self.history.reserve(1).is_err() {
+            return Err(or_memory(self.state.pin_refusal(dir, pin)));
+        }
+        self.state.set_pin(dir, pin)?;
+        keep(&mut self.history, Change::Pin(dir, pin), Answer::Done);
+        Ok(())
+    }
+
+    /// Says which ranks the balancer may use.
+    pub fn set_mask(&mut self, mask: RankSet) -> Result<(), BoardError>
+        ensures { IsAnswer self.old (Change.Mask mask) (spelled (λ _. Answer.Done) result) self.new }
+    {
+        if self.history.reserve(1).is_err() {
+            return Err(or_memory(self.state.mask_refusal(mask)));
+        }
+        self.state.set_mask(mask)?;
+        keep(&mut self.history, Change::Mask(mask), Answer::Done);
+        Ok(())
+    }
+
+    /// Counts the hits that a share has pending, which give heat to the directories that are there.
+    pub fn deposit(&mut self, alloc: Global, share: &mut Share<J>) -> Result<(), BoardError>
+        ensures answer { IsAnswer self.old (Change.Deposit (counted_rows share.old.pending)) (spelled (λ _. Answer.Done) result) self.new }
+        ensures share { OnOk result (share.new ≡ record share.old { pending = replicate J.limit 0 }) }
+        ensures unchanged { OnErr result (share.new ≡ share.old) }
+    {
+        if self.history.reserve(1).is_err() {
+            return Err(or_memory(self.state.deposit_refusal()));
+        }
+        let hits = self.state.deposit(alloc, share)?;
+        keep(&mut self.history, Change::Deposit(hits), Answer::Done);
+        Ok(())
+    }
+
+    /// A request on a directory begins at a rank, and is counted in a share.
+    pub fn begin(&mut self, share: &mut Share<J>, rank: Rank, dir: Dir) -> Result<Reply, BoardError>
+        ensures answer { IsAnswer self.old (Change.Step (Event.Begin rank dir)) (spelled Answer.Reply result) self.new }
+        ensures share { OnOk result (share.new ≡ record share.old { begun = raised share.old.begun dir }) }
+        ensures unchanged { OnErr result (share.new ≡ share.old) }
+    {
+        if self.history.reserve(1).is_err() {
+            return Err(or_memory(self.state.begin_refusal(rank, dir)));
+        }
+        let reply = self.state.begin(share, rank, dir)?;
+        let begin = KeptEvent::new(Event::Begin(rank, dir));
+        Ok(keep_step(&mut self.history, begin, reply))
+    }
+
+    /// An event of the cluster that neither makes nor removes a directory nor begins a request: `make`, `remove` and `begin`
+    /// do that.
+    pub fn step(&mut self, alloc: Global, event: Event) -> Result<Reply, BoardError>
+        requires inner { is_inner event ≡ true }
+        ensures { IsAnswer self.old (Change.Step event) (spelled Answer.Reply result) self.new }
+    {
+        let Ok(kept) = room_for_event(alloc, &mut self.history, &event) else {
+            return Err(or_memory(self.state.step_refusal(&event)));
+        };
+        let reply = self.state.step(alloc, event)?;
+        Ok(keep_step(&mut self.history, kept, reply))
+    }
+
+    /// Opens the problem of the directories that no pin holds, with their heats and authorities as they are.
+    pub fn open_problem(&mut self, alloc: Global) -> Result<Problem, BoardError>
+        ensures { IsAnswer self.old Change.Open (spelled Answer.Problem result) self.new }
+    {
+        if self.history.reserve(1).is_err() {
+            return Err(or_memory(self.state.open_refusal()));
+        }
+        let (given, kept) = self.state.open_problem(alloc)?;
+        keep(&mut self.history, Change::Open, Answer::Problem(kept));
+        Ok(given)
+    }
+
+    /// Puts a plan in force that is best for the problem that is open.
+    pub fn adopt(&mut self, alloc: Global, plan: Plan) -> Result<(), BoardError>
+        ensures { IsAnswer self.old (Change.Adopt plan) (spelled (λ _. Answer.Done) result) self.new }
+    {
+        let Ok(kept) = room_for_plan(alloc, &mut self.history, plan) else {
+            return Err(or_memory(self.state.adopt_refusal()));
+        };
+        self.state.adopt(alloc, kept.plan())?;
+        keep(&mut self.history, Change::Adopt(kept), Answer::Done);
+        Ok(())
+    }
+
+    /// Opens the problem, solves it and adopts the plan: two events. It refuses for want of places, a balancer that is
+    /// off and memory alone.
+    #[tactic(auto, unfolding(board_state::specs::State::happens))]
+    pub fn balance<S: Solver>(&mut self, alloc: Global, solver: &S) -> Result<(), BoardError>
+        ensures ok { OnOk result ((plan : Plan) × IsBest (problem_of self.old.state) plan × (refusal self.old.state Change.Open ≡ None)
+            × (self.new ≡ recorded (recorded self.old Change.Open) (Change.Adopt plan))) }
+        ensures err { IfErr result (λ e. (balance_refusal self.old.state ≡ Some e) ⊎ ((balance_refusal self.old.state ≡ None) × (e ≡ BoardError.Memory))) }
+        ensures unchanged { OnErr result (self.new ≡ self.old) }
+    {
+        if self.history.reserve(2).is_err() {
+            return Err(or_memory(self.state.balance_refusal()));
+        }
+        let (problem, plan) = self.state.balance(alloc, solver)?;
+        keep_both(&mut self.history, problem, plan);
+        Ok(())
+    }
+
+    /// Publishes the map, and says whether memory sufficed. It is no event.
+    pub fn publish(&mut self) -> bool
+        ensures { MatchBool result (self.new ≡ record self.old { published = self.old.state.map }) (self.new ≡ self.old) }
+    {
+        self.state.publish()
+    }
+
+    /// Ends the map: its readers find it closed.
+    pub fn end(self) {
+        let Board {
+            state,
+            history: _history,
+        } = self;
+        state.end();
+    }
+}
+
+// Room for an entry, and a name for it.
+fn room_for_name(alloc: Global, history: &mut Vec<Entry>, name: &str) -> Result<Name, AllocError>
+    ensures same { history.new.items ≡ history.old.items }
+    ensures room { OnOk result (vec_len history.new < vec_capacity history.new) }
+    ensures name { IfOk result (λ kept. kept ≡ name.now) }
+{
+    history.reserve(1)?;
+    Name::new(alloc, name)
+}
+
+// Room for an entry, and an event for it.
+fn room_for_event(
+    alloc: Global,
+    history: &mut Vec<Entry>,
+    event: &Event,
+) -> Result<KeptEvent, AllocError>
+    ensures same { history.new.items ≡ history.old.items }
+    ensures room { OnOk result (vec_len history.new < vec_capacity history.new) }
+    ensures event { IfOk result (λ kept. kept ≡ event.now) }
+{
+    history.reserve(1)?;
+    Ok(KeptEvent::new(event.copied(alloc)?))
+}
+
+// Room for an entry, and a place for a plan.
+fn room_for_plan(
+    alloc: Global,
+    history: &mut Vec<Entry>,
+    plan: Plan,
+) -> Result<KeptPlan, AllocError>
+    ensures same { history.new.items ≡ history.old.items }
+    ensures room { OnOk result (vec_len history.new < vec_capacity history.new) }
+    ensures plan { IfOk result (λ kept. kept ≡ plan) }
+{
+    history.reserve(1)?;
+    KeptPlan::new(alloc, plan)
+}
+
+ghost use Rattle.std.specs.Prelude.{◌<◌, ◌≤◌, vec_len, vec_capacity};
