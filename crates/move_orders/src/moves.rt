@@ -7,7 +7,7 @@ use dirtree::Tree;
 use mds_types::{Dir, Rank};
 
 /// From one rank to another.
-#[derive(Clone, Copy, Debug, PartialEq, Eq)]
+#[derive(Clone, Copy)]
 pub(crate) struct Move {
     pub(crate) from: Rank,
     pub(crate) to: Rank,

@@ -275,11 +275,11 @@ fn grown(
     Ok(dirs)
 }
 
-/// Whether an order is there, and has the directories that grew from `start`.
-fn is_grown(found: Option<&Order>, now: &[u8], target: &[u8], start: usize, dirs: &[u32]) -> bool {
-    match (found, move_at(now, target, start)) {
-        (Some(order), Some((from, to))) => is_order(order, from, to, dirs),
-        _ => false,
+/// Whether an order has the directories that grew from `start`.
+fn is_grown(order: &Order, now: &[u8], target: &[u8], start: usize, dirs: &[u32]) -> bool {
+    match move_at(now, target, start) {
+        Some((from, to)) => is_order(order, from, to, dirs),
+        None => false,
     }
 }
 
@@ -296,7 +296,10 @@ fn are_grown(
         let dirs = grown(alloc, parents, now, target, start)?;
         let is_least = dirs.first() == Some(&(start as u32));
         if is_least && move_at(now, target, start).is_some() {
-            if !is_grown(found.get(count), now, target, start, &dirs) {
+            let Some(order) = found.get(count) else {
+                return Ok(false);
+            };
+            if !is_grown(order, now, target, start, &dirs) {
                 return Ok(false);
             }
             count += 1;
