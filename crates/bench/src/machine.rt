@@ -4,7 +4,7 @@
 //! nanoseconds of processor time for all of them, the least of several runs; a copy of each event is kept with its
 //! answer, in room that the first run takes. `alone LIST` is the same with nothing kept. `reads` times the reads, with a sum
 //! of what they answered. `start` times the start of an export of 32,768 directories by rising numbers: asked for, and
-//! applied. `events LIST` prints the list, one event a line, so that other programs can be timed on it: those before
+//! applied. `stop` times the stop of a rank at which a thousand requests run, after 400,000 that ended. `events LIST` prints the list, one event a line, so that other programs can be timed on it: those before
 //! the line `now` aren't timed.
 
 mod lists;
@@ -22,6 +22,12 @@ const RUNS: u32 = 9;
 
 /// How many reads of each kind are timed.
 const READS: u32 = 1 << 20;
+
+/// How many requests began and ended at a rank before it stops.
+const ENDED: u32 = 400_000;
+
+/// How many requests run at a rank that stops.
+const RUNNING: u32 = 1_000;
 
 /// An event with its answer.
 #[derive(Drop)]
@@ -192,6 +198,42 @@ fn time_start(rt: &HostRuntime) -> io::Result<()> {
     println!(rt; "apply events 1 accepted {accepted} nanos {}", least.1)
 }
 
+/// So many requests begin at rank 0.
+fn begin(cluster: &mut Cluster, requests: u32) {
+    for number in 0..requests {
+        let _ = cluster.apply(Event::Begin(Rank::default(), next_dir(number)));
+    }
+}
+
+/// The cluster after many requests that ran at rank 0 at once, and ended.
+fn with_ended(alloc: Global) -> io::Result<Cluster> {
+    let list = make_events(alloc, Kind::Requests)?;
+    let mut cluster = prepared(alloc, &list.before)?;
+    begin(&mut cluster, ENDED);
+    for ticket in 0..ENDED {
+        let _ = cluster.apply(Event::End(ticket));
+    }
+    Ok(cluster)
+}
+
+/// The least time of a stop that ends running requests.
+fn time_stop(rt: &HostRuntime) -> io::Result<()> {
+    let mut cluster = with_ended(rt.alloc())?;
+    let mut least = u128::MAX;
+    let mut accepted: u64 = 0;
+    for _ in 0..RUNS {
+        begin(&mut cluster, RUNNING);
+        let start = rt.thread_cpu_time()?;
+        let answer = cluster.apply(Event::Stop(Rank::default()));
+        least = nanos(start, rt.thread_cpu_time()?).min(least);
+        if answer.is_ok() {
+            accepted = accepted.wrapping_add(1);
+        }
+        let _ = cluster.apply(Event::Restart(Rank::default()));
+    }
+    println!(rt; "stop events {RUNNING} accepted {accepted} nanos {least}")
+}
+
 fn print_event(out: &mut impl Write, event: &Event) -> io::Result<()> {
     match event {
         Event::Made(parent) => writeln!(out, "made {}", parent.number()),
@@ -237,6 +279,7 @@ pub fn run(rt: &HostRuntime, words: &[String]) -> io::Result<()> {
         (Some("alone"), Some(kind)) => time_list(rt, kind, false),
         (Some("reads"), _) => time_reads(rt),
         (Some("start"), _) => time_start(rt),
+        (Some("stop"), _) => time_stop(rt),
         (Some("events"), Some(kind)) => print_list(rt, kind),
         _ => Ok(()),
     }

@@ -192,7 +192,7 @@ pub record Room : Type 0 where
   pub exports : Bool
   pub messages : Bool
   pub tickets : Bool
-  pub requests : List Bool  -- by rank: among its tickets
+  pub requests : List Bool  -- by rank: for the ticket of a request there
   pub entries : List Bool  -- by rank: in its journal
 
 pub record State : Type 0 where
