@@ -25,6 +25,9 @@ pub enum DumpError {
     /// This line of a listing has an attribute that the collector doesn't ask for, or a value that is no number.
     #[error("line {0}: expected a number of ceph.dir.entries or ceph.dir.pin")]
     Value(usize),
+    /// This line of a list of pins is no rank and path.
+    #[error("line {0}: expected `RANK /PATH`")]
+    Own(usize),
 }
 
 impl From<AllocError> for DumpError {

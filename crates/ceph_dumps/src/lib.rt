@@ -11,6 +11,7 @@ pub mod dump_error;
 mod json;
 pub mod listing;
 pub mod loads;
+pub mod own_list;
 pub mod subtrees;
 pub mod wide_bytes;
 
@@ -18,4 +19,5 @@ pub use cluster::{Cluster, read_cluster};
 pub use dump_error::DumpError;
 pub use listing::{Listed, read_listing};
 pub use loads::{FragmentHeat, read_loads};
+pub use own_list::read_own_list;
 pub use subtrees::{SubtreeRoot, read_subtrees};

@@ -28,7 +28,7 @@ fn octal(text: &[u8]) -> Option<u8> {
 }
 
 /// The path of a listed name.
-fn path_of(alloc: Global, name: &[u8]) -> Result<Vec<u8>, AllocError> {
+pub fn path_of(alloc: Global, name: &[u8]) -> Result<Vec<u8>, AllocError> {
     let mut path = Vec::with_capacity(alloc, name.len() + 1)?;
     if name == b".".as_slice() {
         return Ok(path);
