@@ -1,8 +1,8 @@
 -- Plans: rows divided into connected parts, and the parts on ranks.
-use Rattle.std.specs.Prelude.{◌≡◌, ◌==◌, ℕ, List, length, slice_index, if◌then◌else◌}
+use Rattle.std.specs.Prelude.{◌≡◌, ◌==◌, ◌<◌, ℕ, List, length, slice_index, if◌then◌else◌}
 use Rattle.mds_types.specs.declared.problem.ProblemRow.{ProblemRow}
 use Rattle.mds_types.specs.Division.{IsDivision}
-use Rattle.mds_types.specs.Problem.{IsForest, inodes_at, now_at}
+use Rattle.mds_types.specs.Problem.{IsForest, inodes_at, now_at, parent_at}
 use Rattle.mds_types.specs.Sums.{sum_below}
 use Rattle.ceph_packing.specs.Packing.{IsAsGreatAsThree, IsLowerBound, IsPacking, packed_rank}
 use Rattle.ceph_plan.specs.declared.plan.Planned.{Planned}
@@ -21,3 +21,8 @@ pub record IsPlan (ranks : ℕ) (pinned : List ℕ) (rows : List ProblemRow) (pl
   pub bound : IsLowerBound ranks pinned rows plan.packing.bound
   pub three : IsAsGreatAsThree ranks pinned rows plan.packing.bound
   pub moved : plan.moved ≡ moved_inodes rows plan.part.items plan.packing.rank.items (length rows)
+
+-- the first n rows have the parents of these rows, and there are no more
+pub record HaveSameParents (rows found : List ProblemRow) (n : ℕ) : Type 0 where
+  pub size : length found ≡ n
+  pub parents : (i : ℕ) → i < n → parent_at found i ≡ parent_at rows i

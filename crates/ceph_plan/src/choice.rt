@@ -1,13 +1,14 @@
 //! How many parts: each number from that of the ranks to 64 is tried.
 ghost use Rattle.std.specs.Prelude.{◌≡◌, ◌<◌, ◌≤◌, ◌^◌, ℕ, All, length, true, false, IfOk, IsErrOf};
+ghost use Rattle.mds_types.specs.Problem.{IsForest};
 ghost use Rattle.mds_types.specs.RankSet.{has_rank};
 ghost use Rattle.ceph_plan.specs.Plans.{IsPlan};
 
-use crate::plan::{Planned, plan_parts};
+use crate::plan::{Planned, Size, plan_parts};
 use crate::plan_error::PlanError;
 use ceph_packing::are_pinned;
 use mds_types::limits::RANK_LIMIT;
-use mds_types::{ProblemRow, Rank, RankSet};
+use mds_types::{Problem, ProblemRow, Rank, RankSet};
 use std::alloc::Global;
 
 /// Into how many parts the directories are divided.
@@ -19,16 +20,16 @@ pub enum Parts {
     AtMost(u8),
 }
 
-/// What a number of parts comes to.
+/// What a size comes to.
 #[derive(Clone, Copy, Debug)]
 struct Candidate {
-    parts: u8,
+    size: Size,
     greatest: u64,
     moved: u64,
 }
 
-/// The number of parts of the candidate that moves the fewest inodes, of those within 1 % of the coolest.
-fn chosen(candidates: &[Candidate]) -> Option<u8> {
+/// The size that moves the fewest inodes, of those within 1 % of the coolest.
+fn chosen(candidates: &[Candidate]) -> Option<Size> {
     let coolest = candidates.iter().map(|one| one.greatest).min()?;
     let limit = coolest.saturating_add(coolest / 100);
     let mut best: Option<Candidate> = None;
@@ -38,36 +39,67 @@ fn chosen(candidates: &[Candidate]) -> Option<u8> {
             best = Some(*one);
         }
     }
-    best.map(|one| one.parts)
+    best.map(|one| one.size)
 }
 
-/// The number of parts of the plan to take. It stops where more parts change nothing: results don't fall steadily with the
-/// number of parts, so each is tried.
-fn best_count(
+/// The heat of all rows.
+fn heat_of(rows: &[ProblemRow]) -> u64 {
+    let mut heat = 0u64;
+    for row in rows {
+        heat = heat.saturating_add(row.heat);
+    }
+    heat
+}
+
+/// A fair share of the heat among so many parts, at least 1.
+fn fair_share(heat: u64, parts: u8) -> u64 {
+    heat.checked_div(u64::from(parts)).unwrap_or(heat).max(1)
+}
+
+/// The size of the plan to take.
+///
+/// Results don't fall steadily with the number of parts, so each is tried. From the number on where one row alone is the hottest
+/// part, rows are capped at a fair share, and only each number that is a multiple of that of the ranks is tried.
+fn best_size(
     alloc: Global,
     rows: &[ProblemRow],
     pinned: &[u64],
     ranks: RankSet,
     keep: u8,
-) -> Result<u8, PlanError>
+) -> Result<Size, PlanError>
+    requires forest { IsForest rows.now }
     requires some { 0 < length rows.now }
     requires size { length pinned.now ≡ 64 }
     requires small { All (λ n. n ≤ 2 ^ 57) pinned.now }
     requires zero { has_rank ranks 0 ≡ true }
 {
+    let heat = heat_of(rows);
     let mut candidates = Vec::new(alloc);
+    let mut is_heavy = false;
     for parts in ranks.len()..RANK_LIMIT + 1 {
-        let plan = plan_parts(alloc, rows, parts, pinned, ranks, keep)?;
-        candidates.push(Candidate {
-            parts,
-            greatest: plan.packing.greatest,
-            moved: plan.moved,
-        })?;
-        if plan.is_heavy {
-            break;
+        if is_heavy && parts.checked_rem(ranks.len()) != Some(0) {
+            continue;
         }
+        let cap = if is_heavy {
+            fair_share(heat, parts)
+        } else {
+            u64::MAX
+        };
+        let size = Size { parts, cap };
+        let plan = plan_parts(alloc, rows, size, pinned, ranks, keep)?;
+        let (greatest, moved) = (plan.packing.greatest, plan.moved);
+        candidates.push(Candidate {
+            size,
+            greatest,
+            moved,
+        })?;
+        is_heavy |= plan.is_heavy;
     }
-    Ok(chosen(candidates.as_slice()).unwrap_or(RANK_LIMIT))
+    let most = Size {
+        parts: RANK_LIMIT,
+        cap: u64::MAX,
+    };
+    Ok(chosen(candidates.as_slice()).unwrap_or(most))
 }
 
 /// Which rank of the set each row is to be at, in connected parts, several a rank.
@@ -94,9 +126,17 @@ pub fn choose_plan(
     if !are_pinned(pinned) {
         return Err(PlanError::PinnedTooHot);
     }
-    let count = match parts {
-        Parts::Auto => best_count(alloc, rows, pinned, ranks, keep)?,
-        Parts::AtMost(count) => count,
+    let problem = match Problem::new(rows.to_vec(alloc)?, ranks) {
+        Ok(problem) => problem,
+        Err((error, _)) => return Err(PlanError::Problem(error)),
     };
-    plan_parts(alloc, rows, count, pinned, ranks, keep)
+    let rows = problem.rows();
+    let size = match parts {
+        Parts::Auto => best_size(alloc, rows, pinned, ranks, keep)?,
+        Parts::AtMost(parts) => Size {
+            parts,
+            cap: u64::MAX,
+        },
+    };
+    plan_parts(alloc, rows, size, pinned, ranks, keep)
 }

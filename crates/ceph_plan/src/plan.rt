@@ -2,13 +2,13 @@
 ghost use Rattle.std.specs.Prelude.{◌≡◌, ◌<◌, ◌≤◌, ◌^◌, ℕ, All, length, slice_index, true, IfOk};
 ghost use Rattle.mds_types.specs.Problem.{IsForest};
 ghost use Rattle.mds_types.specs.RankSet.{has_rank};
-ghost use Rattle.ceph_plan.specs.Plans.{IsPlan, moved_inodes};
+ghost use Rattle.ceph_plan.specs.Plans.{HaveSameParents, IsPlan, moved_inodes};
 
 use crate::plan_error::PlanError;
 use ceph_packing::{Packing, pack};
 use mds_types::{CutProof, Problem, ProblemRow, Rank, RankSet};
 use minmax_search::{Found, search};
-use std::alloc::Global;
+use std::alloc::{AllocError, Global};
 
 /// The directories divided into connected parts, and the parts packed on the ranks.
 #[derive(Drop)]
@@ -23,6 +23,15 @@ pub struct Planned {
     pub moved: u64,
     /// Whether one row alone is as hot as the hottest part, or none has heat, so that more parts change nothing.
     pub is_heavy: bool,
+}
+
+/// How finely rows are divided.
+#[derive(Clone, Copy, Debug)]
+pub struct Size {
+    /// At most so many parts.
+    pub parts: u8,
+    /// No row counts as hotter than this.
+    pub cap: u64,
 }
 
 /// The inodes of the rows whose part goes to another rank than the one that has them.
@@ -41,30 +50,50 @@ fn moved(rows: &[ProblemRow], part: &[u32], rank: &[Rank]) -> u64
     moved
 }
 
-/// Divides the rows into at most so many parts with the least greatest heat, and packs the parts on the ranks.
+/// The rows, none hotter than `cap`.
+fn capped(alloc: Global, rows: &[ProblemRow], cap: u64) -> Result<Vec<ProblemRow>, AllocError>
+    ensures { IfOk result (λ found. HaveSameParents rows.now found.items (length rows.now)) }
+{
+    let mut found = Vec::with_capacity(alloc, rows.len())?;
+    for row in rows {
+        found.push(ProblemRow {
+            parent: row.parent,
+            heat: row.heat.min(cap),
+            inodes: row.inodes,
+            now: row.now,
+        })?;
+    }
+    Ok(found)
+}
+
+/// Divides the rows into at most so many parts with the least greatest heat, where no row counts as hotter than `cap`, and packs
+/// the parts on the ranks by the heat that they have.
+///
+/// Where one row alone is the hottest part, no division is cooler, and the rest isn't divided any further. A cap below that row's
+/// heat lets the rest be divided as finely as the number of parts allows.
 ///
 /// `pinned[r]` is the heat that is held at rank r, and `keep` the percent by which a load may pass the greatest so that a part
 /// stays where it is.
 pub fn plan_parts(
     alloc: Global,
     rows: &[ProblemRow],
-    parts: u8,
+    size: Size,
     pinned: &[u64],
     ranks: RankSet,
     keep: u8,
 ) -> Result<Planned, PlanError>
+    requires forest { IsForest rows.now }
     requires some { 0 < length rows.now }
     requires size { length pinned.now ≡ 64 }
     requires small { All (λ n. n ≤ 2 ^ 57) pinned.now }
     requires zero { has_rank ranks 0 ≡ true }
     ensures { IfOk result (IsPlan ranks pinned.now rows.now) }
 {
-    let divided = RankSet::from_bits(u64::MAX).among(parts);
-    let problem = match Problem::new(rows.to_vec(alloc)?, divided) {
+    let divided = RankSet::from_bits(u64::MAX).among(size.parts);
+    let problem = match Problem::new(capped(alloc, rows, size.cap)?, divided) {
         Ok(problem) => problem,
         Err((error, _)) => return Err(PlanError::Problem(error)),
     };
-    let rows = problem.rows();
     let most = problem.ranks().len();
     let Found {
         cut,
@@ -72,7 +101,7 @@ pub fn plan_parts(
         proof,
         passes: _,
     } = search(&problem, alloc)?;
-    prove!(cut.count <= u32::from(most));
+    prove!(cut.count <= u32::from(most) && cut.part.len() == rows.len());
     let packing = pack(alloc, rows, &cut.part, cut.count, pinned, ranks, keep)?;
     let moved = moved(rows, &cut.part, &packing.rank);
     Ok(Planned {
