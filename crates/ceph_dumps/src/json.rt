@@ -19,6 +19,15 @@ fn column_of(line: &[u8], wide: usize) -> usize {
     line.len()
 }
 
+/// What the reader says of an error, without the place, which it tells in the widened text.
+fn reason_of(alloc: Global, error: &serde_json::Error) -> Result<String, AllocError> {
+    let text = format!(in alloc; "{error}")?;
+    match text.as_str().split_once(" at line ") {
+        Some((reason, _)) => String::from_str(alloc, reason),
+        None => Ok(text),
+    }
+}
+
 /// The error of the reader, with the column as the file has it.
 fn placed(alloc: Global, bytes: &[u8], error: serde_json::Error) -> Result<DumpError, AllocError> {
     if error.is_memory() {
@@ -34,7 +43,7 @@ fn placed(alloc: Global, bytes: &[u8], error: serde_json::Error) -> Result<DumpE
     Ok(DumpError::Json {
         line,
         column,
-        reason: format!(in alloc; "{error}")?,
+        reason: reason_of(alloc, &error)?,
     })
 }
 
