@@ -1,0 +1,63 @@
+//! Writes zeros over bare `-inf`, `inf` and `nan`, which Ceph prints where JSON has no number.
+ghost use Rattle.std.specs.Prelude.{◌≡◌, ◌≤◌, length};
+
+/// Where a byte of JSON stands.
+#[derive(Clone, Copy, Debug, PartialEq, Eq)]
+enum Place {
+    /// Outside of strings.
+    Bare,
+    /// In a string.
+    Quoted,
+    /// In a string, behind a backslash.
+    Escaped,
+}
+
+impl Place {
+    /// Where the byte behind this one stands.
+    fn behind(self, byte: u8) -> Place {
+        match (self, byte) {
+            (Place::Bare, b'"') => Place::Quoted,
+            (Place::Bare, _) => Place::Bare,
+            (Place::Quoted, b'"') => Place::Bare,
+            (Place::Quoted, b'\\') => Place::Escaped,
+            (Place::Quoted, _) | (Place::Escaped, _) => Place::Quoted,
+        }
+    }
+}
+
+/// How many bytes of a bare word begin here.
+fn word_length(text: &[u8]) -> usize
+    ensures { result ≤ length text.now }
+{
+    for word in [b"-inf".as_slice(), b"-nan", b"inf", b"nan"] {
+        if text.starts_with(word) {
+            return word.len();
+        }
+    }
+    0
+}
+
+/// Writes blanks and a zero over the bytes.
+fn zero_over(word: &mut [u8])
+    ensures { length word.new ≡ length word.old }
+{
+    word.fill(b' ');
+    if let Some(last) = word.last_mut() {
+        *last = b'0';
+    }
+}
+
+/// Writes over each bare word outside of strings. No byte comes to stand elsewhere, so lines and columns stay.
+pub fn write_over_bare_words(text: &mut [u8])
+    ensures { length text.new ≡ length text.old }
+{
+    let mut place = Place::Bare;
+    for at in 0..text.len() {
+        let byte = text[at];
+        if place == Place::Bare && matches!(byte, b'-' | b'i' | b'n') {
+            let word = word_length(&text[at..]);
+            zero_over(&mut text[at..at + word]);
+        }
+        place = place.behind(byte);
+    }
+}

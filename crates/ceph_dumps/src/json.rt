@@ -1,0 +1,67 @@
+//! Reads a dump by the type that it has.
+
+use crate::bare_words::write_over_bare_words;
+use crate::dump_error::DumpError;
+use crate::wide_bytes::widened;
+use serde::Deserialize;
+use std::alloc::{AllocError, Global};
+
+/// The column, from 1, of the byte that was widened to the one at this column of its line.
+fn column_of(line: &[u8], wide: usize) -> usize {
+    let mut left = wide;
+    for (column, byte) in line.iter().enumerate() {
+        let width = if *byte < 128 { 1 } else { 2 };
+        if left <= width {
+            return column + 1;
+        }
+        left -= width;
+    }
+    line.len()
+}
+
+/// What the reader says of an error, without the place, which it tells in the widened text.
+fn reason_of(alloc: Global, error: &serde_json::Error) -> Result<String, AllocError> {
+    let text = format!(in alloc; "{error}")?;
+    match text.as_str().split_once(" at line ") {
+        Some((reason, _)) => String::from_str(alloc, reason),
+        None => Ok(text),
+    }
+}
+
+/// The error of the reader, with the column as the file has it.
+fn placed(alloc: Global, bytes: &[u8], error: serde_json::Error) -> Result<DumpError, AllocError> {
+    if error.is_memory() {
+        return Ok(DumpError::Memory);
+    }
+    let (line, wide) = (error.line(), error.column());
+    let mut column = wide;
+    for (at, text) in bytes.split(|byte| *byte == b'\n').enumerate() {
+        if at + 1 == line {
+            column = column_of(text, wide);
+        }
+    }
+    Ok(DumpError::Json {
+        line,
+        column,
+        reason: reason_of(alloc, &error)?,
+    })
+}
+
+/// The text of a dump, in UTF-8 and without bare words.
+pub fn text_of(alloc: Global, bytes: &[u8]) -> Result<Vec<u8>, AllocError> {
+    let mut text = widened(alloc, bytes)?;
+    write_over_bare_words(text.as_mut_slice());
+    Ok(text)
+}
+
+/// What the text of a dump says. Errors tell the place in the dump's own bytes.
+pub fn read_json<'a, T: Deserialize<'a>>(
+    alloc: Global,
+    bytes: &[u8],
+    text: &'a [u8],
+) -> Result<T, DumpError> {
+    match serde_json::from_slice(alloc, text) {
+        Ok(value) => Ok(value),
+        Err(error) => Err(placed(alloc, bytes, error)?),
+    }
+}

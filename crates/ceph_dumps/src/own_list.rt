@@ -1,0 +1,20 @@
+//! The list of the pins that a plan set before: a line `RANK NAME` each, with names as `getfattr` writes them.
+
+use crate::dump_error::DumpError;
+use crate::listing::path_of;
+use std::alloc::Global;
+
+/// The paths of a list of pins, in its order.
+pub fn read_own_list(alloc: Global, bytes: &[u8]) -> Result<Vec<Vec<u8>>, DumpError> {
+    let mut found = Vec::new(alloc);
+    for (at, line) in bytes.split(|byte| *byte == b'\n').enumerate() {
+        if let Some(space) = line.iter().position(|byte| *byte == b' ') {
+            let name = line[space..].strip_prefix(b" /");
+            let name = name.ok_or(DumpError::Own(at + 1))?;
+            found.push(path_of(alloc, name)?)?;
+        } else if !line.is_empty() {
+            return Err(DumpError::Own(at + 1));
+        }
+    }
+    Ok(found)
+}

@@ -1,0 +1,55 @@
+//! Bytes from 0x80 as characters of their own, so that any bytes are UTF-8, and back.
+ghost use Rattle.std.specs.Prelude.{◌≡◌, ◌<◌, ◌+◌, ◌*◌, ◌%◌, ◌++◌, ℕ, List, All, IfOk, OnOk};
+ghost use Rattle.ceph_dumps.specs.WideBytes.{narrow_behind, wide, wide_byte};
+
+use std::alloc::{AllocError, Global};
+
+/// Adds a byte as a character.
+fn push_wide(text: &mut Vec<u8>, byte: u8) -> Result<(), AllocError>
+    ensures { OnOk result (text.new.items ≡ text.old.items ++ wide_byte byte) }
+{
+    if byte < 128 {
+        text.push(byte)?;
+    } else {
+        text.push(192 + byte / 64)?;
+        text.push(128 + byte % 64)?;
+    }
+    Ok(())
+}
+
+/// The bytes, each from 0x80 as the two bytes of the character of its number.
+pub fn widened(alloc: Global, bytes: &[u8]) -> Result<Vec<u8>, AllocError>
+    ensures { IfOk result (λ text. text.items ≡ wide bytes.now) }
+{
+    let mut text = Vec::with_capacity(alloc, bytes.len())?;
+    for byte in bytes {
+        push_wide(&mut text, *byte)?;
+    }
+    Ok(text)
+}
+
+/// The byte whose character these two bytes are.
+fn joined(lead: u8, byte: u8) -> u8
+    ensures { result ≡ lead % 4 * 64 + byte % 64 }
+{
+    lead % 4 * 64 + byte % 64
+}
+
+/// The bytes that were widened to this text.
+pub fn narrowed(alloc: Global, text: &[u8]) -> Result<Vec<u8>, AllocError>
+    ensures back { IfOk result (λ found. (bytes : List ℕ) → All (λ byte. byte < 256) bytes → text.now ≡ wide bytes → found.items ≡ bytes) }
+{
+    let mut bytes = Vec::with_capacity(alloc, text.len())?;
+    let mut lead = None;
+    for byte in text {
+        match lead {
+            Some(first) => {
+                bytes.push(joined(first, *byte))?;
+                lead = None;
+            }
+            None if matches!(*byte, 194 | 195) => lead = Some(*byte),
+            None => bytes.push(*byte)?,
+        }
+    }
+    Ok(bytes)
+}

@@ -1,0 +1,36 @@
+-- A division of rows is one of any rows with the same parents.
+use Rattle.std.proofs.Common.{◌≡◌, ◌∙◌, ◌<◌, ℕ, List, [], ◌∷◌, length, sym, subst, inl, inr, ⊎_elim}
+use Rattle.mds_types.specs.declared.problem.ProblemRow.{ProblemRow}
+use Rattle.mds_types.specs.Connected.{IsChain}
+use Rattle.mds_types.specs.Division.{InPart, IsDivision, IsEdge}
+use Rattle.mds_types.specs.Problem.{parent_at}
+use Rattle.ceph_plan.specs.Plans.{HaveSameParents}
+
+member-same : (rows found : List ProblemRow) (label : ℕ → ℕ) (part i : ℕ) → length found ≡ length rows → InPart found label part i → InPart rows label part i
+member-same rows found label part i size member = (subst (λ (n : ℕ). i < n) size member.0, member.1)
+
+edge-same : (rows found : List ProblemRow) (i j : ℕ) → HaveSameParents rows found (length rows) → i < length rows → j < length rows
+    → IsEdge found i j → IsEdge rows i j
+edge-same rows found i j same lt_i lt_j edge =
+    ⊎_elim (λ (up : parent_at found i ≡ j). inl (sym (same.parents i lt_i) ∙ up))
+    (λ (down : parent_at found j ≡ i). inr (sym (same.parents j lt_j) ∙ down))
+    edge
+
+chain-same : (rows found : List ProblemRow) (label : ℕ → ℕ) (part : ℕ) → HaveSameParents rows found (length rows)
+    → (from : ℕ) (chain : List ℕ) (to : ℕ) → from < length rows
+    → IsChain (IsEdge found) (InPart found label part) from chain to → IsChain (IsEdge rows) (InPart rows label part) from chain to
+chain-same rows found label part same from [] to lt is = is
+chain-same rows found label part same from (next ∷ chain) to lt is =
+    let member : InPart rows label part next = member-same rows found label part next same.size is.1 in
+    (edge-same rows found from next same lt member.0 is.0, member, chain-same rows found label part same next chain to member.0 is.2)
+
+pub division-same : (rows found : List ProblemRow) (k : ℕ) (label : ℕ → ℕ) → HaveSameParents rows found (length rows) → IsDivision found k label
+    → IsDivision rows k label
+division-same rows found k label same division = record {
+  below = λ i lt. division.below i (subst (λ (n : ℕ). i < n) (sym same.size) lt);
+  connected = λ part i j member_i member_j.
+      let back_i : InPart found label part i = (subst (λ (n : ℕ). i < n) (sym same.size) member_i.0, member_i.1) in
+      let back_j : InPart found label part j = (subst (λ (n : ℕ). j < n) (sym same.size) member_j.0, member_j.1) in
+      let got = division.connected part i j back_i back_j in
+      (got.0, chain-same rows found label part same i got.0 j member_i.0 got.1);
+}

@@ -1,0 +1,38 @@
+-- What is asked of export pins, and what the changes of pins lead through.
+use Rattle.std.specs.Prelude.{◌≡◌, ◌==◌, ◌<◌, ◌⊎◌, ℕ, List, length, slice_index_or, take, Option, Some, None, if◌then◌else◌}
+use Rattle.mds_types.specs.declared.problem.ProblemRow.{ProblemRow}
+use Rattle.mds_types.specs.Problem.{parent_at}
+use Rattle.ceph_pins.specs.declared.row.Change.{Change}
+use Rattle.ceph_pins.specs.declared.row.PinRow.{PinRow}
+use Rattle.ceph_pins.specs.Changes.{applied, before_pin}
+use Rattle.ceph_pins.specs.Rule.{IsNearest, row_at}
+use Rattle.ceph_packing.specs.Packing.{packed_rank}
+use Rattle.ceph_plan.specs.declared.proposal.OwnPins.{OwnPins}
+
+-- what stands past the last row
+abbrev pub no_pins : OwnPins
+no_pins = record { foreign = None; earlier = None }
+
+abbrev pub own_at : List OwnPins → ℕ → OwnPins
+own_at own i = slice_index_or own i no_pins
+
+-- a row is to be at the rank of its part, its own pins are what they are, and only the root is known to stay where it is
+abbrev pub asked_row : List ProblemRow → List ℕ → List ℕ → List OwnPins → ℕ → PinRow
+asked_row rows part rank own i = record {
+  parent = parent_at rows i;
+  target = packed_rank rank part i;
+  foreign = (own_at own i).foreign;
+  earlier = (own_at own i).earlier;
+  rest = if i == 0 then Some 0 else None;
+}
+
+-- that is asked of the first n rows
+pub record ArePinRows (rows : List ProblemRow) (part rank : List ℕ) (own : List OwnPins) (n : ℕ) (found : List PinRow) : Type 0 where
+  pub size : length found ≡ n
+  pub asked : (i : ℕ) → i < n → row_at found i ≡ asked_row rows part rank own i
+
+-- after any first k changes the nearest pin of each row is on the rank of the beginning or on that of the end
+abbrev pub MovesOnce : List PinRow → List Change → Type 0
+MovesOnce rows changes =
+    (k i r : ℕ) → i < length rows → IsNearest rows (applied (before_pin rows) (take k changes)) i r
+    → IsNearest rows (before_pin rows) i r ⊎ IsNearest rows (applied (before_pin rows) changes) i r

@@ -1,0 +1,114 @@
+//! A plan of one number of parts.
+ghost use Rattle.std.specs.Prelude.{◌≡◌, ◌<◌, ◌≤◌, ◌^◌, ℕ, All, length, slice_index, true, IfOk};
+ghost use Rattle.mds_types.specs.Problem.{IsForest};
+ghost use Rattle.mds_types.specs.RankSet.{has_rank};
+ghost use Rattle.ceph_plan.specs.Plans.{HaveSameParents, IsPlan, moved_inodes};
+
+use crate::plan_error::PlanError;
+use ceph_packing::{Packing, pack};
+use mds_types::{CutProof, Problem, ProblemRow, Rank, RankSet};
+use minmax_search::{Found, search};
+use std::alloc::{AllocError, Global};
+
+/// The directories divided into connected parts, and the parts packed on the ranks.
+#[derive(Drop)]
+pub struct Planned {
+    /// `part[i]` is the part of row i.
+    pub part: Vec<u32>,
+    /// How many parts there are.
+    pub count: u32,
+    /// The rank of each part, the load of each rank, and what no assignment can get below.
+    pub packing: Packing,
+    /// The inodes of the rows that are to go to another rank.
+    pub moved: u64,
+    /// Whether one row alone is as hot as the hottest part, or none has heat, so that more parts change nothing.
+    pub is_heavy: bool,
+}
+
+/// How finely rows are divided.
+#[derive(Clone, Copy, Debug)]
+pub struct Size {
+    /// At most so many parts.
+    pub parts: u8,
+    /// No row counts as hotter than this.
+    pub cap: u64,
+}
+
+/// The inodes of the rows whose part goes to another rank than the one that has them.
+fn moved(rows: &[ProblemRow], part: &[u32], rank: &[Rank]) -> u64
+    requires few { length rows.now ≤ 65536 }
+    requires parts { length part.now ≡ length rows.now }
+    requires below { (i : ℕ) → i < length rows.now → slice_index part.now i < length rank.now }
+    ensures { result ≡ moved_inodes rows.now part.now rank.now (length rows.now) }
+{
+    let mut moved = 0;
+    for (i, row) in rows.iter().enumerate() {
+        if rank[part[i] as usize] != row.now {
+            moved += u64::from(row.inodes);
+        }
+    }
+    moved
+}
+
+/// The rows, none hotter than `cap`.
+fn capped(alloc: Global, rows: &[ProblemRow], cap: u64) -> Result<Vec<ProblemRow>, AllocError>
+    ensures { IfOk result (λ found. HaveSameParents rows.now found.items (length rows.now)) }
+{
+    let mut found = Vec::with_capacity(alloc, rows.len())?;
+    for row in rows {
+        found.push(ProblemRow {
+            parent: row.parent,
+            heat: row.heat.min(cap),
+            inodes: row.inodes,
+            now: row.now,
+        })?;
+    }
+    Ok(found)
+}
+
+/// Divides the rows into at most so many parts with the least greatest heat, where no row counts as hotter than `cap`, and packs
+/// the parts on the ranks by the heat that they have.
+///
+/// Where one row alone is the hottest part, no division is cooler, and the rest isn't divided any further. A cap below that row's
+/// heat lets the rest be divided as finely as the number of parts allows.
+///
+/// `pinned[r]` is the heat that is held at rank r, and `keep` the percent by which a load may pass the greatest so that a part
+/// stays where it is.
+pub fn plan_parts(
+    alloc: Global,
+    rows: &[ProblemRow],
+    size: Size,
+    pinned: &[u64],
+    ranks: RankSet,
+    keep: u8,
+) -> Result<Planned, PlanError>
+    requires forest { IsForest rows.now }
+    requires some { 0 < length rows.now }
+    requires size { length pinned.now ≡ 64 }
+    requires small { All (λ n. n ≤ 2 ^ 57) pinned.now }
+    requires zero { has_rank ranks 0 ≡ true }
+    ensures { IfOk result (IsPlan ranks pinned.now rows.now) }
+{
+    let divided = RankSet::from_bits(u64::MAX).among(size.parts);
+    let problem = match Problem::new(capped(alloc, rows, size.cap)?, divided) {
+        Ok(problem) => problem,
+        Err((error, _)) => return Err(PlanError::Problem(error)),
+    };
+    let most = problem.ranks().len();
+    let Found {
+        cut,
+        greatest: _,
+        proof,
+        passes: _,
+    } = search(&problem, alloc)?;
+    prove!(cut.count <= u32::from(most) && cut.part.len() == rows.len());
+    let packing = pack(alloc, rows, &cut.part, cut.count, pinned, ranks, keep)?;
+    let moved = moved(rows, &cut.part, &packing.rank);
+    Ok(Planned {
+        part: cut.part,
+        count: cut.count,
+        packing,
+        moved,
+        is_heavy: !matches!(proof, CutProof::Table(_)),
+    })
+}

@@ -1,0 +1,95 @@
+//! The changes of export pins that bring each directory to the rank that a plan gives it.
+ghost use Rattle.std.specs.Prelude.{◌≡◌, ◌<◌, ℕ, length, slice_index, false, IfOk, IsErrOf};
+ghost use Rattle.mds_types.specs.RankSet.{has_rank};
+ghost use Rattle.ceph_pins.specs.Rule.{IsRealized};
+ghost use Rattle.ceph_pins.specs.Changes.{applied, before_pin};
+ghost use Rattle.ceph_plan.specs.Asked.{ArePinRows, MovesOnce};
+ghost use Rattle.ceph_plan.specs.Plans.{IsPlan};
+
+use crate::choice::{Parts, choose_plan};
+use crate::plan::Planned;
+use crate::plan_error::PlanError;
+use ceph_pins::{Change, PinRow, are_rows, changes_for};
+use mds_types::{ProblemRow, Rank, RankSet};
+use std::alloc::{AllocError, Global};
+
+/// The pins that a directory has of its own now.
+#[derive(Clone, Copy, Debug, PartialEq, Eq)]
+pub struct OwnPins {
+    /// A pin that is to stay as it is.
+    pub foreign: Option<Rank>,
+    /// A pin of an earlier plan.
+    pub earlier: Option<Rank>,
+}
+
+/// What is asked of the pins, row by row, and the changes that do it.
+#[derive(Drop)]
+pub struct Proposal {
+    /// The plan.
+    pub plan: Planned,
+    /// What is asked of each directory.
+    pub rows: Vec<PinRow>,
+    /// The changes, in their order.
+    pub changes: Vec<Change>,
+}
+
+/// What is asked of each row: to be at the rank of its part, wherever it is now. Only the root is known to stay where it is.
+fn pin_rows(
+    alloc: Global,
+    rows: &[ProblemRow],
+    part: &[u32],
+    rank: &[Rank],
+    own: &[OwnPins],
+) -> Result<Vec<PinRow>, AllocError>
+    requires parts { length part.now ≡ length rows.now }
+    requires own { length own.now ≡ length rows.now }
+    requires below { (i : ℕ) → i < length rows.now → slice_index part.now i < length rank.now }
+    ensures { IfOk result (λ found. ArePinRows rows.now part.now rank.now own.now (length rows.now) found.items) }
+{
+    let mut found = Vec::with_capacity(alloc, rows.len())?;
+    for (i, row) in rows.iter().enumerate() {
+        let rest = if i == 0 { Some(Rank::default()) } else { None };
+        found.push(PinRow {
+            parent: row.parent,
+            target: rank[part[i] as usize],
+            foreign: own[i].foreign,
+            earlier: own[i].earlier,
+            rest,
+        })?;
+    }
+    Ok(found)
+}
+
+/// Plans which rank each row is to be at, as `choose_plan` does, and gives the changes of pins that bring it there, wherever it
+/// is now. `own[i]` are row i's own pins.
+pub fn propose(
+    alloc: Global,
+    rows: &[ProblemRow],
+    parts: Parts,
+    pinned: &[u64],
+    ranks: RankSet,
+    keep: u8,
+    own: &[OwnPins],
+) -> Result<Proposal, PlanError>
+    requires own { length own.now ≡ length rows.now }
+    ensures plan { IfOk result (λ found. IsPlan ranks pinned.now rows.now found.plan) }
+    // what is asked of the pins is what was planned
+    ensures targets { IfOk result (λ found. ArePinRows rows.now found.plan.part.items found.plan.packing.rank.items own.now (length rows.now) found.rows.items) }
+    // once all changes are made, each row that no foreign pin holds is there
+    ensures realized { IfOk result (λ found. IsRealized found.rows.items (applied (before_pin found.rows.items) found.changes.items)) }
+    // once some are made, the nearest pin of each row is where it was, or where it is in the end
+    ensures once { IfOk result (λ found. MovesOnce found.rows.items found.changes.items) }
+    ensures zero { has_rank ranks 0 ≡ false → IsErrOf result PlanError.NoRankZero }
+{
+    let plan = choose_plan(alloc, rows, parts, pinned, ranks, keep)?;
+    let asked = pin_rows(alloc, rows, &plan.part, &plan.packing.rank, own)?;
+    if !are_rows(&asked) {
+        return Err(PlanError::PinnedRoot);
+    }
+    let changes = changes_for(alloc, &asked)?;
+    Ok(Proposal {
+        plan,
+        rows: asked,
+        changes,
+    })
+}

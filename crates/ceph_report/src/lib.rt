@@ -1,0 +1,18 @@
+//! What a plan for a live CephFS is shown as: a report for people, a picture, a shell script that sets the pins, and the same
+//! directories as a script of `mdbal`.
+#![tactic(auto)]
+
+pub mod mdbal_script;
+pub mod moves;
+pub mod own_list;
+pub mod picture;
+pub mod pins_script;
+pub mod report;
+pub mod shown;
+
+pub use mdbal_script::make_script;
+pub use moves::{Move, Sums, goals_of, moves_of, sums_of};
+pub use own_list::make_own_list;
+pub use picture::make_picture;
+pub use pins_script::make_pins_script;
+pub use report::{Facts, greatest_now, make_report};

@@ -1,0 +1,36 @@
+//! The list of the pins that this program set: a line `RANK NAME` each, with names as `getfattr` writes them.
+
+use ceph_pins::Change;
+use ceph_snapshot::Directory;
+use std::alloc::{AllocError, Global};
+
+/// Adds a name: backslash, newline and return as three octal digits, all else as it is.
+fn push_name(list: &mut Vec<u8>, path: &[u8]) -> Result<(), AllocError> {
+    for byte in path {
+        match *byte {
+            b'\\' => list.extend_from_slice(b"\\134")?,
+            b'\n' => list.extend_from_slice(b"\\012")?,
+            b'\r' => list.extend_from_slice(b"\\015")?,
+            other => list.push(other)?,
+        }
+    }
+    Ok(())
+}
+
+/// The list of the pins that these changes set.
+pub fn make_own_list(
+    alloc: Global,
+    directories: &[Directory],
+    changes: &[Change],
+) -> Result<Vec<u8>, AllocError> {
+    let mut list = Vec::new(alloc);
+    for change in changes {
+        if let (Some(rank), Some(directory)) = (change.pin, directories.get(change.row as usize)) {
+            let rank = format!(in alloc; "{} ", rank.number())?;
+            list.extend_from_slice(rank.as_bytes())?;
+            push_name(&mut list, directory.path.as_slice())?;
+            list.push(b'\n')?;
+        }
+    }
+    Ok(list)
+}

@@ -1,0 +1,76 @@
+//! The shell script that makes the changes of pins, one `setfattr` a line.
+//!
+//! Each path is quoted for `sh` whatever its bytes. A directory that is gone is told and passed over.
+
+use ceph_pins::Change;
+use ceph_snapshot::Directory;
+use sh_quote::quoted;
+use std::alloc::{AllocError, Global};
+
+/// What stands before the lines.
+const HEAD: &str = "#!/bin/sh
+# Sets export pins, deepest first, and then takes away those of an earlier plan that are no longer wanted, from the top down.
+# With -n it only prints what it would do. A directory that is gone is told and passed over. Status 1: a pin failed.
+LC_ALL=C; export LC_ALL
+only_print= changed=0 gone=0 failed=0
+[ \"${1-}\" != -n ] || only_print=1
+run() {
+  for directory; do :; done
+  if [ -n \"$only_print\" ]; then printf '%s\\n' \"$*\"
+  elif [ ! -d \"$directory\" ]; then printf 'gone: %s\\n' \"$directory\" >&2; gone=$((gone + 1))
+  elif \"$@\"; then changed=$((changed + 1))
+  else printf 'failed: %s\\n' \"$directory\" >&2; failed=$((failed + 1)); fi
+}
+";
+
+/// What stands behind the lines.
+const FOOT: &str =
+    "[ -n \"$only_print\" ] || printf '%s pins changed, %s directories gone, %s failed\\n' \"$changed\" \"$gone\" \"$failed\"
+[ \"$failed\" = 0 ]
+";
+
+/// Adds the line of a change, for the file system that is mounted at `mount`.
+fn push_change(
+    alloc: Global,
+    script: &mut Vec<u8>,
+    mount: &[u8],
+    path: &[u8],
+    change: Change,
+) -> Result<(), AllocError> {
+    let line = match change.pin {
+        Some(rank) => format!(in alloc; "run setfattr -n ceph.dir.pin -v {} -- ", rank.number())?,
+        None => format!(in alloc; "run setfattr -n ceph.dir.pin -v -1 -- ")?,
+    };
+    script.extend_from_slice(line.as_bytes())?;
+    let mut whole = Vec::from_slice(alloc, mount)?;
+    whole.extend_from_slice(path)?;
+    // no path has a NUL: such names are passed over when dumps are gathered
+    if whole.iter().all(|byte| *byte > 0) {
+        script.extend_from_slice(quoted(alloc, whole.as_slice())?.as_slice())?;
+    }
+    script.push(b'\n')?;
+    Ok(())
+}
+
+/// The script that makes these changes, in their order, where the file system is mounted at `mount`.
+pub fn make_pins_script(
+    alloc: Global,
+    directories: &[Directory],
+    changes: &[Change],
+    mount: &[u8],
+) -> Result<Vec<u8>, AllocError> {
+    let mut script = Vec::from_slice(alloc, HEAD.as_bytes())?;
+    for change in changes {
+        if let Some(directory) = directories.get(change.row as usize) {
+            push_change(
+                alloc,
+                &mut script,
+                mount,
+                directory.path.as_slice(),
+                *change,
+            )?;
+        }
+    }
+    script.extend_from_slice(FOOT.as_bytes())?;
+    Ok(script)
+}

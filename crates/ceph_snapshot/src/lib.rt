@@ -1,0 +1,16 @@
+//! One picture of a live CephFS, made of the dumps of its ranks: the directories with their own heat, their inodes, where each is
+//! and what pins it.
+#![tactic(auto)]
+
+pub mod directory;
+pub mod folding;
+pub mod gathering;
+pub mod held;
+mod names;
+pub mod snapshot;
+
+pub use directory::Directory;
+pub use folding::fold;
+pub use gathering::{Gathering, SnapshotError};
+pub use held::{Held, held_heat, holds};
+pub use snapshot::Snapshot;

@@ -1,0 +1,17 @@
+//! Tests of the crates that make pins from a live CephFS, by their public calls.
+#![tactic(auto)]
+
+#[cfg(test)]
+mod dumps;
+#[cfg(test)]
+mod packing;
+#[cfg(test)]
+mod pins;
+#[cfg(test)]
+mod plans;
+#[cfg(test)]
+mod quoting;
+#[cfg(test)]
+mod random_pins;
+#[cfg(test)]
+mod snapshots;

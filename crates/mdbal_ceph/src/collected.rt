@@ -1,0 +1,145 @@
+//! Reads the files that `ceph/collect` wrote.
+
+use anyhow::{Context, Error, bail};
+use ceph_dumps::{
+    Cluster, DumpError, read_cluster, read_listing, read_loads, read_own_list, read_subtrees,
+};
+use ceph_snapshot::{Gathering, Snapshot};
+use mds_types::Rank;
+use mds_types::limits::RANK_LIMIT;
+use std::io::ErrorKind;
+use std::rt::Files;
+use std::{fs, io};
+
+/// The most samples that are read.
+const SAMPLE_LIMIT: u64 = 1000;
+
+/// What was collected.
+#[derive(Drop)]
+pub struct Collected {
+    /// The ranks of the file system.
+    pub cluster: Cluster,
+    /// How many ranks it is to have, at most 64.
+    pub size: u8,
+    /// How many samples of heat each rank gave.
+    pub samples: u64,
+    /// The directories.
+    pub snapshot: Snapshot,
+}
+
+/// The bytes of a file of the folder; none where it isn't there.
+fn bytes_of<R: Files + AllocGlobal>(rt: &R, path: &str) -> Result<Option<Vec<u8>>, Error> {
+    let read: io::Result<Vec<u8>> = fs::read(rt, path);
+    match read {
+        Ok(bytes) => Ok(Some(bytes)),
+        Err(error) if error.kind() == ErrorKind::NotFound => Ok(None),
+        Err(error) => Err(Error::from(error)).context(format_args!("{path}")),
+    }
+}
+
+/// The bytes of a file that has to be there.
+fn needed<R: Files + AllocGlobal>(rt: &R, path: &str) -> Result<Vec<u8>, Error> {
+    match bytes_of(rt, path)? {
+        Some(bytes) => Ok(bytes),
+        None => bail!("{path}: there is no such file"),
+    }
+}
+
+/// What was read of a file, or why not.
+fn whole<T>(path: &str, read: Result<T, DumpError>) -> Result<T, Error> {
+    read.context(format_args!("{path}"))
+}
+
+/// How many samples there are of a rank.
+fn samples_of<R: Files + AllocGlobal>(rt: &R, folder: &str, rank: u32) -> Result<u64, Error> {
+    for sample in 1..=SAMPLE_LIMIT {
+        let path = format!(in rt.alloc(); "{folder}/loads.{rank}.{sample}.json")?;
+        if !fs::exists(rt, path.as_str())? {
+            return Ok(sample - 1);
+        }
+    }
+    Ok(SAMPLE_LIMIT)
+}
+
+/// Adds the dumps of a rank.
+fn add_rank<R: Files + AllocGlobal>(
+    rt: &R,
+    gathering: &mut Gathering,
+    folder: &str,
+    rank: Rank,
+    samples: u64,
+) -> Result<(), Error> {
+    let number = rank.number();
+    let path = format!(in rt.alloc(); "{folder}/subtrees.{number}.json")?;
+    let bytes = needed(rt, path.as_str())?;
+    let roots = whole(path.as_str(), read_subtrees(rt.alloc(), bytes.as_slice()))?;
+    gathering.add_subtrees(rank, roots.as_slice())?;
+    for sample in 1..=samples {
+        let path = format!(in rt.alloc(); "{folder}/loads.{number}.{sample}.json")?;
+        let bytes = needed(rt, path.as_str())?;
+        let loads = whole(path.as_str(), read_loads(rt.alloc(), bytes.as_slice()))?;
+        gathering.add_loads(rank, loads.as_slice())?;
+    }
+    Ok(())
+}
+
+/// Adds what was listed over a mount, and the pins of an earlier plan, where there are such files.
+fn add_lists<R: Files + AllocGlobal>(
+    rt: &R,
+    gathering: &mut Gathering,
+    folder: &str,
+    own: Option<&str>,
+) -> Result<(), Error> {
+    let path = format!(in rt.alloc(); "{folder}/dirs")?;
+    if let Some(bytes) = bytes_of(rt, path.as_str())? {
+        let listing = whole(path.as_str(), read_listing(rt.alloc(), bytes.as_slice()))?;
+        gathering.add_listing(listing.as_slice())?;
+    }
+    if let Some(path) = own {
+        let bytes = needed(rt, path)?;
+        let paths = whole(path, read_own_list(rt.alloc(), bytes.as_slice()))?;
+        for path in paths.as_slice() {
+            gathering.add_own(path.as_slice())?;
+        }
+    }
+    Ok(())
+}
+
+/// The ranks of the file system, and how many it is to have.
+fn ranks_of<R: Files + AllocGlobal>(rt: &R, folder: &str) -> Result<(Cluster, u8), Error> {
+    let path = format!(in rt.alloc(); "{folder}/fs.json")?;
+    let bytes = needed(rt, path.as_str())?;
+    let cluster = whole(path.as_str(), read_cluster(rt.alloc(), bytes.as_slice()))?;
+    match u8::try_from(cluster.size) {
+        Ok(size) if size <= RANK_LIMIT => Ok((cluster, size)),
+        _ => bail!("{path}: more than 64 ranks"),
+    }
+}
+
+/// Reads a folder, and the list of pins of an earlier plan if there is one.
+pub fn read_collected<R: Files + AllocGlobal>(
+    rt: &R,
+    folder: &str,
+    own: Option<&str>,
+) -> Result<Collected, Error> {
+    let (cluster, size) = ranks_of(rt, folder)?;
+    let first = cluster.ranks.as_slice().first().copied().unwrap_or(0);
+    let samples = samples_of(rt, folder, first)?;
+    if samples == 0 {
+        bail!("{folder}/loads.{first}.1.json: there is no such file");
+    }
+    let mut gathering = Gathering::new(rt.alloc())?;
+    for number in cluster.ranks.as_slice() {
+        match u8::try_from(*number).ok().and_then(Rank::new) {
+            Some(rank) => add_rank(rt, &mut gathering, folder, rank, samples)?,
+            None => bail!("{folder}/fs.json: rank {number} is none of 0 to 63"),
+        }
+    }
+    add_lists(rt, &mut gathering, folder, own)?;
+    Ok(Collected {
+        cluster,
+        size,
+        samples,
+        snapshot: gathering.snapshot(samples, size)?,
+    })
+}

@@ -1,0 +1,169 @@
+//! Plans, and writes what came of it.
+
+use crate::collected::{Collected, read_collected};
+use crate::input::{own_pins, ranks_of, rows_of};
+use crate::settings::Settings;
+use anyhow::{Context, Error, bail};
+use ceph_plan::{Proposal, propose};
+use ceph_report::{
+    Facts, Sums, goals_of, greatest_now, make_own_list, make_picture, make_pins_script,
+    make_report, make_script, moves_of, sums_of,
+};
+use ceph_snapshot::{Directory, Held, fold, held_heat, holds};
+use mds_types::RankSet;
+use mds_types::limits::DIR_LIMIT;
+use std::alloc::Global;
+use std::fs;
+use std::rt::Files;
+
+/// What was planned, and of what.
+#[derive(Drop)]
+struct Outcome {
+    /// How many ranks the file system is to have.
+    size: u8,
+    /// The ranks that may have a part.
+    ranks: RankSet,
+    /// How many samples of heat each rank gave.
+    samples: u64,
+    /// The directories that were planned.
+    directories: Vec<Directory>,
+    /// How many directories were folded into their parents before.
+    folded: usize,
+    /// The heat at each rank of what is spread, in thousandths.
+    spread: Vec<u64>,
+    /// What holds each directory.
+    holds: Vec<Held>,
+    /// The heat that is held at each rank, in thousandths.
+    pinned: Vec<u64>,
+    /// The plan, and the changes of pins.
+    proposal: Proposal,
+}
+
+/// Whether the hottest rank gets cooler by at least so many percent.
+fn is_worth_it(now: u64, planned: u64, percent: u8) -> bool {
+    let gain = now.saturating_sub(planned);
+    gain > 0 && gain.saturating_mul(100) >= now.saturating_mul(u64::from(percent))
+}
+
+/// The ranks that may have a part.
+fn usable(settings: &Settings, collected: &Collected) -> Result<RankSet, Error> {
+    let own = collected.cluster.mask.as_ref().map(|mask| mask.as_str());
+    match ranks_of(settings.mask, own, collected.size) {
+        Some(ranks) => Ok(ranks),
+        None => bail!(
+            "the mask of the cluster isn't -1, all or 0x and 1 to 16 digits: give --mask"
+        ),
+    }
+}
+
+/// Plans what was collected.
+fn planned(alloc: Global, settings: &Settings, collected: Collected) -> Result<Outcome, Error> {
+    let ranks = usable(settings, &collected)?;
+    let (size, samples) = (collected.size, collected.samples);
+    let spread = collected.snapshot.spread;
+    let (directories, folded) = fold(alloc, collected.snapshot.directories, DIR_LIMIT as usize)?;
+    let holds = holds(alloc, &directories)?;
+    let pinned = held_heat(alloc, &directories, &holds, &spread)?;
+    let rows = rows_of(alloc, &directories, &holds)?;
+    let own = own_pins(alloc, &directories)?;
+    if own.len() != rows.len() {
+        bail!("the directories don't fit together");
+    }
+    let (parts, keep) = (settings.parts, settings.keep);
+    let proposal = propose(alloc, &rows, parts, &pinned, ranks, keep, &own)?;
+    Ok(Outcome {
+        size,
+        ranks,
+        samples,
+        directories,
+        folded,
+        spread,
+        holds,
+        pinned,
+        proposal,
+    })
+}
+
+/// The report.
+fn told(alloc: Global, outcome: &Outcome, sums: &[Sums]) -> Result<String, Error> {
+    let (directories, holds) = (outcome.directories.as_slice(), outcome.holds.as_slice());
+    let (rows, changes) = (&outcome.proposal.rows, &outcome.proposal.changes);
+    let moves = moves_of(alloc, directories, holds, rows, changes)?;
+    let text = make_report(
+        alloc,
+        &Facts {
+            directories,
+            folded: outcome.folded,
+            samples: outcome.samples,
+            ranks: outcome.ranks,
+            plan: &outcome.proposal.plan,
+            sums,
+            pinned: &outcome.pinned,
+            moves: &moves,
+            changes: changes.len(),
+        },
+    )?;
+    Ok(text)
+}
+
+/// Writes the script of the changes, and the list of the pins that it sets.
+fn write_pins<R: Files + AllocGlobal>(
+    rt: &R,
+    file: &str,
+    mount: &str,
+    outcome: &Outcome,
+) -> Result<(), Error> {
+    let directories = outcome.directories.as_slice();
+    let changes = outcome.proposal.changes.as_slice();
+    let script = make_pins_script(rt.alloc(), directories, changes, mount.as_bytes())?;
+    fs::write(rt, file, script).context(format_args!("{file}"))?;
+    let own = format!(in rt.alloc(); "{file}.own")?;
+    let list = make_own_list(rt.alloc(), directories, changes)?;
+    fs::write(rt, own.as_str(), list).context(format_args!("{own}"))?;
+    Ok(())
+}
+
+/// Writes the picture and the script of `mdbal` that are asked for.
+fn write_views<R: Files + AllocGlobal>(
+    rt: &R,
+    settings: &Settings,
+    outcome: &Outcome,
+) -> Result<(), Error> {
+    let (directories, holds) = (outcome.directories.as_slice(), outcome.holds.as_slice());
+    if let Some(file) = settings.svg {
+        let goals = goals_of(rt.alloc(), holds, &outcome.proposal.rows)?;
+        let picture = make_picture(rt.alloc(), directories, &goals)?;
+        fs::write(rt, file, picture).context(format_args!("{file}"))?;
+    }
+    if let Some(file) = settings.script {
+        let script = make_script(rt.alloc(), directories, holds, outcome.size)?;
+        fs::write(rt, file, script).context(format_args!("{file}"))?;
+    }
+    Ok(())
+}
+
+/// Reads what was collected, plans, writes the files that are asked for, and gives the report.
+pub fn carry_out<R: Files + AllocGlobal>(rt: &R, settings: &Settings) -> Result<String, Error> {
+    let alloc = rt.alloc();
+    let collected = read_collected(rt, settings.folder, settings.own)?;
+    let outcome = planned(alloc, settings, collected)?;
+    let (directories, holds) = (outcome.directories.as_slice(), outcome.holds.as_slice());
+    let sums = sums_of(
+        alloc,
+        directories,
+        holds,
+        &outcome.proposal.rows,
+        &outcome.spread,
+    )?;
+    let mut text = told(alloc, &outcome, &sums)?;
+    write_views(rt, settings, &outcome)?;
+    let greatest = outcome.proposal.plan.packing.greatest;
+    if !is_worth_it(greatest_now(&sums), greatest, settings.least_gain) {
+        text.push_str(
+            "\nnothing is proposed: the hottest rank gets cooler by less than --least-gain asks\n",
+        )?;
+    } else if let Some(file) = settings.pins {
+        write_pins(rt, file, settings.mount, &outcome)?;
+    }
+    Ok(text)
+}
