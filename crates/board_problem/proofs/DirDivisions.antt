@@ -32,7 +32,7 @@ chain_mapped Edge Other Member Image f edges members (next ∷ chain) from to is
 )
 
 -- the sum over the numbers that pass a test, by their places
-listed_sum :
+pub listed_sum :
     (g : ℕ → ℕ) (test : ℕ → Bool) (n : ℕ)
     → sum_below (length (filter test (below n))) (λ i. g (get_or (filter test (below n)) i 0))
     ≡ sum_below n (λ d. cond (test d) (g d) 0)
@@ -52,7 +52,7 @@ listed_sum g test (suc n) =
           rw (all, fails) (omega (arith, listed_sum g test n))
     ]
 
-both_tests : (a b : Bool) (x : ℕ) → cond a (cond b x 0) 0 ≡ cond (a && b) x 0
+pub both_tests : (a b : Bool) (x : ℕ) → cond a (cond b x 0) 0 ≡ cond (a && b) x 0
 both_tests true b x = refl
 both_tests false b x = refl
 
@@ -61,7 +61,7 @@ same_greatest zero f g same = refl
 same_greatest (suc k) f g same = rw (same_greatest k f g same, same k) refl
 
 -- the row of a directory
-abbrev row_of_dir : List (Option Entry) → List (Option ℕ) → ℕ → ℕ
+abbrev pub row_of_dir : List (Option Entry) → List (Option ℕ) → ℕ → ℕ
 row_of_dir es own d = length (filter (is_unpinned es own) (below d))
 
 module _ (es : List (Option Entry)) (own : List (Option ℕ)) (heats now : List ℕ) (tree : IsTree es) where
@@ -71,16 +71,16 @@ module _ (es : List (Option Entry)) (own : List (Option ℕ)) (heats now : List 
   free_below : (d : ℕ) → is_unpinned es own d ≡ true → d < length es
   free_below d free = inside es d (and_parts (is_there es d) (is_none (nearest_pin es own d)) free).0
 
-  at_row : (d : ℕ) → is_unpinned es own d ≡ true → slice_index (unpinned es own) (row_of_dir es own d) ≡ d
+  pub at_row : (d : ℕ) → is_unpinned es own d ≡ true → slice_index (unpinned es own) (row_of_dir es own d) ≡ d
   at_row d free = at_place (is_unpinned es own) (length es) d (free_below d free) free
 
-  row_inside : (d : ℕ) → is_unpinned es own d ≡ true → row_of_dir es own d < length (unpinned es own)
+  pub row_inside : (d : ℕ) → is_unpinned es own d ≡ true → row_of_dir es own d < length (unpinned es own)
   row_inside d free = place_less (is_unpinned es own) (length es) d (free_below d free) free
 
-  free_row : (i : ℕ) → i < length (unpinned es own) → is_unpinned es own (slice_index (unpinned es own) i) ≡ true
+  pub free_row : (i : ℕ) → i < length (unpinned es own) → is_unpinned es own (slice_index (unpinned es own) i) ≡ true
   free_row i l = (kept_at (is_unpinned es own) (length es) i l).passes
 
-  place_row : (i : ℕ) → i < length (unpinned es own) → row_of_dir es own (slice_index (unpinned es own) i) ≡ i
+  pub place_row : (i : ℕ) → i < length (unpinned es own) → row_of_dir es own (slice_index (unpinned es own) i) ≡ i
   place_row i l = (kept_at (is_unpinned es own) (length es) i l).place_is
 
   -- parents and rows of parents

@@ -1,3 +1,4 @@
+pub mod CostOfPlan
 pub mod DirDivisions
 pub mod PartsSoFar
 pub mod Places

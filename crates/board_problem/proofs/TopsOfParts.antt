@@ -25,7 +25,7 @@ top_is true h = cc
 top_is false h = omega arith
 
 -- the sum over a mapped list of the numbers that pass
-sum_listed : {A : Type 0} (f : A → ℕ) (g : ℕ → A) (test : ℕ → Bool) (n : ℕ) → sum_by f (map g (filter test (below n))) ≡ sum_below n (λ i. cond (test i) (f (g i)) 0)
+pub sum_listed : {A : Type 0} (f : A → ℕ) (g : ℕ → A) (test : ℕ → Bool) (n : ℕ) → sum_by f (map g (filter test (below n))) ≡ sum_below n (λ i. cond (test i) (f (g i)) 0)
 sum_listed f g test zero = refl
 sum_listed f g test (suc n) =
     let kept : List ℕ = filter test (below n) in
@@ -39,7 +39,7 @@ sum_listed f g test (suc n) =
     ∙ (omega (arith, sum_listed f g test n, last))
 
 module _ (rows : List ProblemRow) (k : ℕ) (label : ℕ → ℕ) (forest : IsForest rows) (parts : IsPartition rows k label) where
-  same_top : (part i j : ℕ) → IsTopOf rows label part i → IsTopOf rows label part j → i ≡ j
+  pub same_top : (part i j : ℕ) → IsTopOf rows label part i → IsTopOf rows label part j → i ≡ j
   same_top part i j at_i at_j =
       one_top rows forest k label parts.division i j at_i.inside at_j.inside (at_i.label_is ∙ sym at_j.label_is) (top_is (joins (parent_at rows) label i) at_i.top) (top_is (joins (parent_at rows) label j) at_j.top)
 

@@ -7,6 +7,7 @@ use Rattle.mds_types.specs.Division.{joins_parent, part_heat}
 use Rattle.mds_types.specs.Problem.{heat_at, inodes_at}
 use Rattle.mds_types.specs.Sums.{sum_below}
 use Rattle.dir_pins.specs.Pins.{below}
+use Rattle.division_cost.specs.declared.division.Part.{Part}
 use Rattle.board_problem.specs.declared.plan_parts.PlanPart.{PlanPart}
 use Rattle.board_problem.specs.declared.plan_parts.Total.{Total}
 
@@ -36,6 +37,14 @@ part_of_top rows dirs plan i = record {
 -- the parts of a plan for these rows, which are those of these directories, by rising tops
 abbrev pub plan_parts : List ProblemRow → List ℕ → Plan → List PlanPart
 plan_parts rows dirs plan = map (part_of_top rows dirs plan) (filter (is_part_top rows (plan_label plan)) (below (length rows)))
+
+-- the tops of some parts
+abbrev pub part_tops : List PlanPart → List ℕ
+part_tops parts = map (λ part. part.top) parts
+
+-- a part of a plan as the part of a division
+abbrev pub without_rank : PlanPart → Part
+without_rank part = record { top = part.top; heat = part.heat; inodes = part.inodes }
 
 -- what the first n rows add to a part
 abbrev pub total_of : List ProblemRow → (ℕ → ℕ) → ℕ → ℕ → Total
