@@ -2,28 +2,14 @@
 ghost use Rattle.std.specs.Prelude.{◌≡◌};
 
 use authority_map::MapWriter;
-use board_state::{BoardParts, Solver};
+use board_state::BoardParts;
 use heat_ledger::Share;
 use mds_board::Board;
-use mds_types::{Plan, Problem, Rank};
+use mds_types::Rank;
 use naming::Naming;
-use planner::solve;
-use std::alloc::{AllocError, Global};
+use std::alloc::Global;
 use std::sync::Wait;
 use std::test::Fail;
-use std::thread::Threads;
-
-/// Solves problems at a runtime.
-#[derive(Drop)]
-pub(crate) struct ByPlanner<'a, R: Threads> {
-    pub(crate) rt: &'a R,
-}
-
-impl<'a, R: Threads> Solver for ByPlanner<'a, R> {
-    fn solve(&self, alloc: Global, problem: &Problem) -> Result<Plan, AllocError> {
-        solve(self.rt, alloc, problem)
-    }
-}
 
 /// A board with the root alone, and a share for each rank.
 pub(crate) fn open<J: Naming, R: Wait + Drop>(

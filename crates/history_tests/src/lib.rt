@@ -5,5 +5,3 @@
 mod boards;
 #[cfg(test)]
 mod changes;
-#[cfg(test)]
-mod plans;
