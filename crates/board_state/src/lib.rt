@@ -8,6 +8,7 @@ pub mod change;
 mod counting;
 mod directories;
 mod judging;
+mod lookups;
 pub mod making;
 pub mod opening;
 mod settings;

@@ -52,6 +52,9 @@ pub data Command : Type 0 where
   Tick : Command
   Cost : List (List ℕ) → Command
   Plan : Command
+  Move : Command
+  Stop : ℕ → Command
+  Restart : ℕ → Command
   Stat : Command
 
 -- what a word and the fields behind it spell
@@ -79,6 +82,17 @@ abbrev pub load : List (List ℕ) → Option Command
 load (path ∷ n ∷ []) = option_map (Load path) (number 1 1000000 n)
 load fields = None
 
+-- the rank that the only field spells
+abbrev pub rank_of : List (List ℕ) → Option ℕ
+rank_of (n ∷ []) = number 0 63 n
+rank_of fields = None
+
+abbrev pub stop : List (List ℕ) → Option Command
+stop rest = option_map Stop (rank_of rest)
+
+abbrev pub restart : List (List ℕ) → Option Command
+restart rest = option_map Restart (rank_of rest)
+
 -- a command that has no fields behind its word
 abbrev pub alone : Command → List (List ℕ) → Option Command
 alone c [] = Some c
@@ -97,6 +111,9 @@ command (word ∷ rest) =
     else if bytes_eq word (codes "tick") then alone Tick rest
     else if bytes_eq word (codes "cost") then Some (Cost rest)
     else if bytes_eq word (codes "plan") then alone Plan rest
+    else if bytes_eq word (codes "move") then alone Move rest
+    else if bytes_eq word (codes "stop") then stop rest
+    else if bytes_eq word (codes "restart") then restart rest
     else if bytes_eq word (codes "stat") then alone Stat rest
     else None
 
