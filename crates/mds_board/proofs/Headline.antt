@@ -3,8 +3,6 @@ use Rattle.std.proofs.Common.{◌≡◌, ℕ, Bool, true, false, List, [], ◌�
 use Rattle.mds_types.specs.declared.plan.Plan.{Plan}
 use Rattle.mds_types.specs.Problem.{ProblemData}
 use Rattle.mds_types.specs.Certificate.{IsBest}
-use Rattle.dirtree.specs.declared.tree_error.TreeError.{TreeError}
-use Rattle.dirtree.specs.Tree as tree
 use Rattle.export_machine.specs.Cluster.{World as Cluster}
 use Rattle.export_machine.specs.declared.event.Event.{Event}
 use Rattle.export_machine.specs.declared.event.Event.TheVariants.{Made, Gone}
@@ -12,15 +10,14 @@ use Rattle.export_machine.specs.declared.step_error.StepError.{StepError}
 use Rattle.export_machine.specs.Entries.{logs_export}
 use Rattle.export_machine.specs.Step as machine
 use Rattle.board_state.specs.declared.board_error.BoardError.{BoardError}
-use Rattle.board_state.specs.declared.board_error.BoardError.TheVariants as error
 use Rattle.board_state.specs.declared.change.Answer.{Answer}
 use Rattle.board_state.specs.declared.change.Change.{Change}
 use Rattle.board_state.specs.declared.change.Change.TheVariants.{Make, Remove, Mask, Deposit, Tick, Step, Open, Adopt}
 use Rattle.board_state.specs.declared.change.Change.TheVariants as change
-use Rattle.board_state.specs.State.{State, Opened, start, refusal, happens, next, marked, marked_if, first_of, problem_of, or_cause, when, of_tree, of_step, cause, event_limit, after_event}
-use Rattle.board_state.specs.Steps.{IsAllowed, IsBestForOpen}
+use Rattle.board_state.specs.State.{State, Opened, start, refusal, happens, next, marked, marked_if, problem_of, or_cause, of_step, cause, after_event}
+use Rattle.board_state.specs.Steps.{IsBestForOpen}
 use Rattle.mds_board.specs.declared.entry.Entry.{Entry}
-use Rattle.mds_board.specs.History.{IsReplay, after}
+use Rattle.mds_board.specs.History.{IsReplay}
 use Rattle.mds_board.specs.Promises.{AdoptsBest, opens, opened_at, cluster_event, cluster_events}
 
 -- the problem that is open

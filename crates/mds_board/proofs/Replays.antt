@@ -1,18 +1,20 @@
 -- A history goes on by an accepted change.
-use Rattle.std.proofs.Common.{◌≡◌, ℕ, ◌+◌, ◌≤◌, ◌<◌, Bool, true, false, nat_le, List, [], ◌∷◌, ◌++◌, length, Ok, None, refl, sym, ap, ◌∙◌, subst, arith, length-append, append_assoc}
+use Rattle.std.proofs.Common.{◌≡◌, ◌<◌, Bool, true, false, nat_le, List, [], ◌∷◌, ◌++◌, Ok, None, refl, sym, ap, ◌∙◌, subst, arith, length-append, append_assoc}
 use Rattle.std.proofs.lemmas.Bool.Decides.{nat_tests}
+use Rattle.mds_types.specs.declared.order.Order.{Order}
 use Rattle.mds_types.specs.declared.plan.Plan.{Plan}
 use Rattle.mds_types.specs.Problem.{ProblemData}
+use Rattle.mds_types.specs.Certificate.{IsBest}
 use Rattle.board_state.specs.declared.board_error.BoardError.TheVariants as error
 use Rattle.board_state.specs.declared.change.Answer.{Answer}
 use Rattle.board_state.specs.declared.change.Answer.TheVariants as answer
 use Rattle.board_state.specs.declared.change.Change.{Change}
 use Rattle.board_state.specs.declared.change.Change.TheVariants.{Make, Remove, Mask, Deposit, Tick, Step, Open, Adopt}
 use Rattle.board_state.specs.declared.change.Change.TheVariants as change
-use Rattle.board_state.specs.State.{State, start, refusal, happens, next, cause, or_cause, when, event_limit}
+use Rattle.board_state.specs.State.{State, start, refusal, happens, next, problem_of, dirs_of, plan_orders, cause, or_cause, when, event_limit}
 use Rattle.board_state.specs.Steps.{Present, IsAllowed, IsBalance, IsStep}
 use Rattle.mds_board.specs.declared.entry.Entry.{Entry}
-use Rattle.mds_board.specs.History.{World, recorded, IsReplay, IsHistory, entry_of, world_of}
+use Rattle.mds_board.specs.History.{recorded, IsReplay, IsHistory, entry_of, world_of}
 
 -- an accepted change is one of few
 has_place : (s : State) (c : Change) → refusal s c ≡ None → s.events < 1048576
@@ -79,29 +81,41 @@ keeps old new history kept c reply h step is =
     let held : IsHistory (next old.state c) kept = subst (λ es. IsHistory (next old.state c) es) (sym is) said in
     subst (λ (p : Present). IsHistory p.state kept) (sym step.3) held
 
--- the same for a problem that is opened and its plan that is adopted
-pub balance_keeps : (old new : Present) (history kept : List Entry) (problem : ProblemData) (plan : Plan) → IsHistory old.state history
-    → IsBalance old problem plan new
-    → kept ≡ history ++ record { change = Open; reply = answer.Problem problem } ∷ record { change = Adopt plan; reply = answer.Done } ∷ []
-    → IsHistory new.state kept
+-- the entries of a balance: a problem is opened, and its plan adopted with its orders
+balance_entries : (old new : Present) (history kept : List Entry) (problem : ProblemData) (plan : Plan) (orders : List Order) → IsBalance old problem plan orders new
+    → kept ≡ history ++ record { change = Open; reply = answer.Problem problem } ∷ record { change = Adopt plan; reply = answer.Orders orders } ∷ []
+    → kept ≡ (history ++ entry_of old.state Open ∷ []) ++ entry_of (next old.state Open) (Adopt plan) ∷ []
 unfolding happens
-balance_keeps old new history kept problem plan h b is =
+balance_entries old new history kept problem plan orders b is =
+    is
+    ∙ (ap (λ (q : ProblemData). history ++ record { change = Open; reply = answer.Problem q } ∷ record { change = Adopt plan; reply = answer.Orders orders } ∷ []) b.1
+    ∙ (ap (λ (os : List Order). history ++ entry_of old.state Open ∷ record { change = Adopt plan; reply = answer.Orders os } ∷ []) b.4
+    ∙ sym (append_assoc history (entry_of old.state Open ∷ []) (entry_of (next old.state Open) (Adopt plan) ∷ []))))
+
+allowed : (s : State) (plan : Plan) → IsBest (problem_of s) plan → IsAllowed (next s Open) (Adopt plan)
+unfolding happens
+allowed s plan h = h
+
+-- the same for a problem that is opened and its plan that is adopted
+pub balance_keeps : (old new : Present) (history kept : List Entry) (problem : ProblemData) (plan : Plan) (orders : List Order) → IsHistory old.state history
+    → IsBalance old problem plan orders new
+    → kept ≡ history ++ record { change = Open; reply = answer.Problem problem } ∷ record { change = Adopt plan; reply = answer.Orders orders } ∷ []
+    → IsHistory new.state kept
+balance_keeps old new history kept problem plan orders h b is =
     let s = old.state in
     let first = goes_on s history Open h b.0 tt in
-    let second = goes_on (next s Open) (history ++ entry_of s Open ∷ []) (Adopt plan) first b.2 b.3 in
-    let rest : List Entry = record { change = Adopt plan; reply = answer.Done } ∷ [] in
-    let both : kept ≡ history ++ entry_of s Open ∷ rest =
-    is ∙ ap (λ (q : ProblemData). history ++ record { change = Open; reply = answer.Problem q } ∷ rest) b.1 in
+    let second = goes_on (next s Open) (history ++ entry_of s Open ∷ []) (Adopt plan) first b.2 (allowed s plan b.3) in
     let all : IsHistory (next (next s Open) (Adopt plan)) kept =
-    subst (λ es. IsHistory (next (next s Open) (Adopt plan)) es) (append_assoc history (entry_of s Open ∷ []) rest ∙ sym both) second in
-    subst (λ (p : Present). IsHistory p.state kept) (sym b.4) all
+    subst (λ es. IsHistory (next (next s Open) (Adopt plan)) es) (sym (balance_entries old new history kept problem plan orders b is)) second in
+    subst (λ (p : Present). IsHistory p.state kept) (sym b.5) all
 
-pub balance_recorded : (old new : Present) (history kept : List Entry) (problem : ProblemData) (plan : Plan) → IsBalance old problem plan new
-    → kept ≡ history ++ record { change = Open; reply = answer.Problem problem } ∷ record { change = Adopt plan; reply = answer.Done } ∷ []
+pub balance_recorded : (old new : Present) (history kept : List Entry) (problem : ProblemData) (plan : Plan) (orders : List Order) → IsBalance old problem plan orders new
+    → kept ≡ history ++ record { change = Open; reply = answer.Problem problem } ∷ record { change = Adopt plan; reply = answer.Orders orders } ∷ []
     → world_of new kept ≡ recorded (recorded (world_of old history) Open) (Adopt plan)
+balance_recorded old new history kept problem plan orders b is =
+    rw (b.5, balance_entries old new history kept problem plan orders b is) refl
+
+-- the reply of the adoption is the plan's orders in the state before the opening
+pub balance_reply : (s : State) (plan : Plan) → (happens (next s Open) (Adopt plan)).reply ≡ answer.Orders (plan_orders s (dirs_of s) plan)
 unfolding happens
-balance_recorded old new history kept problem plan b is =
-    let rest : List Entry = record { change = Adopt plan; reply = answer.Done } ∷ [] in
-    let both : kept ≡ (history ++ entry_of old.state Open ∷ []) ++ rest =
-    is ∙ (ap (λ (q : ProblemData). history ++ record { change = Open; reply = answer.Problem q } ∷ rest) b.1 ∙ sym (append_assoc history (entry_of old.state Open ∷ []) rest)) in
-    rw (b.4, both) refl
+balance_reply s plan = refl

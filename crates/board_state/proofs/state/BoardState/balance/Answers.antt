@@ -1,4 +1,4 @@
-use Rattle.std.proofs.Common.{◌≡◌, ◌∙◌, sym, ap, subst, refl}
+use Rattle.std.proofs.Common.{◌∙◌, sym, ap, subst, refl}
 use Rattle.mds_types.specs.Certificate.{IsBest}
 use Rattle.mds_types.specs.Problem.{ProblemData}
 use Rattle.board_state.specs.State.{Opened, happens}
@@ -19,5 +19,6 @@ returns-clause-ok g c =
       c.in-Ok.ensures.given.1 ∙ given,
       balance_adopts c.args.self.now.state c.in-Ok-solved.plan (sym c.in_default.ensures),
       subst (λ (q : ProblemData). IsBest q c.in-Ok-solved.plan) given c.in-Ok-solved.ensures,
+      c.in-Ok-plan_orders.ensures.kept ∙ rw (c.deref.ensures.value, c.plan-2.ensures, dirs) refl,
       rw (problem, dirs, ← c.self.view_is) refl,
     )
