@@ -71,7 +71,7 @@ IsBalance old problem plan orders new =
     (refusal old.state Open ≡ None) × (problem ≡ problem_of old.state)
     × (refusal (next old.state Open) (Adopt plan) ≡ None) × IsBest (problem_of old.state) plan
     × (orders ≡ plan_orders old.state (dirs_of old.state) plan)
-    × (new ≡ stepped (stepped old Open) (Adopt plan))
+    × (new ≡ stepped (stepped old Open) (Adopt plan)) × IsCertified (problem_of old.state) plan
 
 -- what is answered where there was no memory: the cause that stands, if one does
 abbrev pub refused_for : Option BoardError → BoardError

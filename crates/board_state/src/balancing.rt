@@ -85,10 +85,11 @@ impl<J: Naming, M: Publisher<J>> BoardState<J, M> {
 
 // A best plan for a problem, on memory of its own.
 fn solved<S: Solver>(alloc: Global, solver: &S, problem: &Problem) -> Result<KeptPlan, AllocError>
-    ensures { IfOk result (λ plan. IsBest problem.now plan) }
+    ensures best { IfOk result (λ plan. IsBest problem.now plan) }
+    ensures certified { IfOk result (λ plan. IsCertified problem.now plan) }
 {
     let plan = solver.solve(alloc, problem)?;
     KeptPlan::new(alloc, plan)
 }
 
-ghost use Rattle.mds_types.specs.Certificate.{IsBest};
+ghost use Rattle.mds_types.specs.Certificate.{IsBest, IsCertified};

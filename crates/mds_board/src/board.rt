@@ -1,6 +1,6 @@
 //! The board.
 ghost use Rattle.std.specs.Prelude.{◌≡◌, ◌⊎◌, ℕ, ◌+◌, [], IfOk, IfErr, OnOk, OnErr, MatchBool, None, Some, replicate, true};
-ghost use Rattle.mds_types.specs.Certificate.{IsBest};
+ghost use Rattle.mds_types.specs.Certificate.{IsBest, IsCertified};
 ghost use Rattle.mds_types.specs.declared.plan.Plan.{Plan};
 ghost use Rattle.heat_ledger.specs.Opening.{fresh_share};
 ghost use Rattle.heat_ledger.specs.Ledger.{begun_of, hits_of, pending_of, weight_of};
@@ -217,7 +217,7 @@ impl<J: Naming, M: Publisher<J>> Board<J, M> {
         alloc: Global,
         solver: &S,
     ) -> Result<Vec<Order>, BoardError>
-        ensures ok { IfOk result (λ orders. (plan : Plan) × IsBest (problem_of self.old.state) plan × (refusal self.old.state Change.Open ≡ None)
+        ensures ok { IfOk result (λ orders. (plan : Plan) × IsBest (problem_of self.old.state) plan × IsCertified (problem_of self.old.state) plan × (refusal self.old.state Change.Open ≡ None)
             × (Answer.Orders orders.items ≡ (happens (next self.old.state Change.Open) (Change.Adopt plan)).reply)
             × (self.new ≡ recorded (recorded self.old Change.Open) (Change.Adopt plan))) }
         ensures err { IfErr result (λ e. (balance_refusal self.old.state ≡ Some e) ⊎ ((balance_refusal self.old.state ≡ None) × (e ≡ BoardError.Memory))) }

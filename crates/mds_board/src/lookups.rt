@@ -1,5 +1,5 @@
 //! What is found of one directory.
-ghost use Rattle.std.specs.Prelude.{◌≡◌, ◌<◌, length, slice_index, slice_index_or, true};
+ghost use Rattle.std.specs.Prelude.{◌≡◌, ◌<◌, length, slice_index, true};
 ghost use Rattle.authority_map.specs.Operations.{rank_after};
 ghost use Rattle.dirtree.specs.Tree.{is_there};
 ghost use Rattle.dir_pins.specs.Pins.{nearest_pin};
@@ -34,13 +34,6 @@ impl<J: Naming, M: Publisher<J>> Board<J, M> {
         ensures { result ≡ slice_index self.now.state.heats.heats dir }
     {
         self.state.heat_of(dir)
-    }
-
-    /// The hits on a directory that were deposited.
-    pub fn counted(&self, dir: Dir) -> u64
-        ensures { result ≡ slice_index_or self.now.state.counted dir 0 }
-    {
-        self.state.counted(dir)
     }
 
     /// The rank that a reader finds for a directory in all that is published of the map.
