@@ -2,7 +2,7 @@
 use Rattle.std.proofs.Common.{◌≡◌, ℕ, zero, suc, ◌<◌, ◌+◌, List, [], ◌∷◌, length, set, refl, ap, arith}
 use Rattle.heat_ledger.specs.Ledger.{ShareData}
 use Rattle.heat_ledger.specs.Rows.{at, raised}
-use Rattle.heat_ledger.proofs.RowLemmas.{at_set_same, at_set_other, at_replicate, at_sums, length-sums, same_rows}
+use Rattle.heat_ledger.proofs.RowLemmas.{at_set_same}
 
 pub set_none : (xs : List ℕ) (d : ℕ) → set xs d (at xs d + 0) ≡ xs
 set_none [] d = refl

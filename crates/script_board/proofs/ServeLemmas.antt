@@ -1,5 +1,5 @@
 -- Requests that are served one after another, and shares that deposit one after another.
-use Rattle.std.proofs.Common.{add-one, ◌≡◌, ℕ, zero, suc, ◌<◌, ◌+◌, Bool, true, false, cond, List, [], ◌∷◌, ◌++◌, length, take, drop, set, get_or, refl, sym, ap, ◌∙◌, arith, subst, inl, inr, Option, Some, None}
+use Rattle.std.proofs.Common.{add-one, ◌≡◌, ℕ, zero, suc, ◌<◌, ◌+◌, Bool, true, false, cond, List, [], ◌∷◌, ◌++◌, length, take, drop, set, get_or, refl, sym, ap, ◌∙◌, arith, subst}
 use Rattle.std.specs.Prelude.{filter, ◌&&◌}
 use Rattle.heat_ledger.specs.Ledger.{ShareData}
 use Rattle.mds_board.specs.History.{World}

@@ -1,5 +1,5 @@
 -- What a script has made: the board, the shares of its ledger, the requests that wait, and the orders that were kept.
-use Rattle.std.specs.Prelude.{◌≡◌, ℕ, ◌<◌, List, [], length, replicate, true, All}
+use Rattle.std.specs.Prelude.{ℕ, ◌<◌, List, [], length, replicate, true, All}
 use Rattle.heat_ledger.specs.Ledger.{ShareData}
 use Rattle.heat_ledger.specs.Opening.{fresh_share}
 use Rattle.mds_types.specs.declared.order.Order.{Order}

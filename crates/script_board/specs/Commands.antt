@@ -12,7 +12,6 @@ use Rattle.board_state.specs.State.{refusal}
 use Rattle.mds_board.specs.History.{recorded}
 use Rattle.script_board.specs.declared.fault.Fault.{Fault}
 use Rattle.script_board.specs.declared.fault.Fault.TheVariants as fault
-use Rattle.script_board.specs.declared.load.Load.{Load}
 use Rattle.script_board.specs.Board.{BoardData}
 use Rattle.script_board.specs.Fault.{tree_fault, unless}
 

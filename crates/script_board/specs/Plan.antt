@@ -1,5 +1,5 @@
 -- What `plan` does: a best plan is made and adopted, and its orders are kept.
-use Rattle.std.specs.Prelude.{◌≡◌, ℕ, List, Option, Some, None, Result}
+use Rattle.std.specs.Prelude.{◌≡◌, Result}
 use Rattle.mds_types.specs.declared.plan.Plan.{Plan}
 use Rattle.mds_types.specs.Certificate.{IsBest, IsCertified}
 use Rattle.board_state.specs.declared.change.Change.TheVariants.{Open, Adopt}

@@ -12,7 +12,10 @@ use std::alloc::{AllocError, Global};
 impl<J: Naming, M: Publisher<J>> ScriptBoard<J, M> {
     /// Carries out the orders of pins, and then those of the last plan, which are forgotten. It answers the orders, each
     /// with its outcome. Where memory is refused before the first of them is started, nothing has changed.
-    pub fn carry_out_moves(&mut self, alloc: Global) -> Result<(Vec<Order>, Vec<Outcome>), AllocError>
+    pub fn carry_out_moves(
+        &mut self,
+        alloc: Global,
+    ) -> Result<(Vec<Order>, Vec<Outcome>), AllocError>
         ensures done { IfOk result (λ r. IsMoved self.old r.0.items r.1.items self.new) }
         ensures unchanged { OnErr result (self.new ≡ self.old) }
     {

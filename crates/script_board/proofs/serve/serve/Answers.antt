@@ -1,5 +1,3 @@
-use Rattle.std.proofs.Common.{List}
-use Rattle.script_board.specs.declared.fault.Fault.{Fault}
 use Rattle.script_board.specs.Serve.{Asked}
 use Rattle.script_board.proofs.ServeLemmas.{served_by}
 use Rattle.script_board.proofs.serve.serve.Goals as goal

@@ -2,7 +2,6 @@ use Rattle.std.proofs.Common.{◌≡◌, ◌∙◌, ◌++◌, Bool, List, [], ap
 use Rattle.std.specs.Prelude.{◌&&◌, filter}
 use Rattle.dirtree.specs.Tree.{is_there}
 use Rattle.heat_ledger.specs.Ledger.{ShareData}
-use Rattle.script_board.specs.declared.load.Load.{Load}
 use Rattle.script_board.specs.Board.{BoardData}
 use Rattle.script_board.specs.Serve.{AreDeposited, AreServed, IsGone, Serving}
 use Rattle.script_board.proofs.ServeLemmas.{written_whole}

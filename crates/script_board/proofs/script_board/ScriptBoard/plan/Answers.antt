@@ -14,5 +14,13 @@ same_orders xs ys h = cc
 
 pub returns-clause-done : goal.returns-clause-done
 returns-clause-done g c =
-    let was : BoardData = record { world = c.self.inside.board; shares = c.self.inside.shares.items; loads = c.self.inside.loads.items; kept = c.self.inside.kept.items } in
-    ?
+    let done = c.in_ok-self-inside.ensures.ok in
+    let kept : List Order = c.in_ok-self-inside.field-0.items in
+    subst (λ (b : BoardData). (plan : Plan) × IsPlanned b plan (record { world = c.balance.new.self; shares = c.self.inside.shares.items; loads = c.self.inside.loads.items; kept = kept })) c.self.view_is (
+      done.0,
+      record {
+        best = done.1;
+        certified = done.2;
+        adopted = rw (done.5, same_orders kept (plan_orders c.self.inside.board.state (dirs_of c.self.inside.board.state) done.0) (done.4 ∙ balance_reply c.self.inside.board.state done.0)) refl;
+      },
+    )
