@@ -1,5 +1,5 @@
 -- What it says of the parts that a change has no cause to be refused.
-use Rattle.std.proofs.Common.{◌≡◌, ◌≢◌, ℕ, zero, suc, ℤ, ◌+◌, ◌≤◌, ◌<◌, Bool, true, false, not, ◌==◌, if◌then◌else◌, nat_le, List, [], ◌∷◌, length, length-append, Option, Some, None, IsSome, refl, rules, sym, ap, ◌∙◌, inl, inr, arith}
+use Rattle.std.proofs.Common.{◌≡◌, ◌≢◌, ℕ, zero, suc, ℤ, ◌+◌, ◌<◌, Bool, true, false, not, ◌==◌, if◌then◌else◌, nat_le, List, [], ◌∷◌, length, length-append, Option, Some, None, IsSome, refl, rules, ap, ◌∙◌, inl, inr, arith}
 use Rattle.std.proofs.lemmas.Bool.Decides.{nat_tests}
 use Rattle.dirtree.specs.declared.tree_error.TreeError.{TreeError}
 use Rattle.dirtree.specs.declared.tree_error.TreeError.TheVariants as tree_error

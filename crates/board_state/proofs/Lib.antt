@@ -1,3 +1,4 @@
 pub mod Accepted
 pub mod Fitting
 pub mod Mapping
+pub mod Planned

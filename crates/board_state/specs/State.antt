@@ -1,5 +1,6 @@
 -- What a board holds, when each change is refused, and what it does.
-use Rattle.std.specs.Prelude.{◌≡◌, ℕ, ℤ, ◌+◌, ◌==◌, nat_le, Bool, true, false, if◌then◌else◌, List, [], ◌∷◌, ◌++◌, length, map, slice_index, slice_set, replicate, fold, Option, Some, None}
+use Rattle.std.specs.Option.{option_and_then}
+use Rattle.std.specs.Prelude.{ℕ, ◌+◌, ◌==◌, nat_le, Bool, true, false, if◌then◌else◌, List, [], ◌∷◌, ◌++◌, length, map, slice_get, slice_index, replicate, fold, Option, Some, None}
 use Rattle.authority_map.specs.Operations.{Operation, SetTo, Clear}
 use Rattle.dir_pins.specs.declared.pin_error.PinError.{PinError}
 use Rattle.dir_pins.specs.Pins as pins
@@ -17,9 +18,11 @@ use Rattle.export_machine.specs.Step as machine
 use Rattle.board_problem.specs.ProblemRows.{problem_rows}
 use Rattle.heat_decay.specs.Heat.{Heats, after_deposit, after_tick, all_cold, touched}
 use Rattle.heat_ledger.specs.Rows.{raised, with_row}
+use Rattle.mds_types.specs.declared.order.Order.{Order}
 use Rattle.mds_types.specs.declared.plan.Plan.{Plan}
 use Rattle.mds_types.specs.Problem.{ProblemData}
 use Rattle.mds_types.specs.RankSet.{below_rank, rank_count}
+use Rattle.move_orders.specs.Orders.{orders}
 use Rattle.board_state.specs.declared.board_error.BoardError.{BoardError}
 use Rattle.board_state.specs.declared.board_error.BoardError.TheVariants.{BalancerOff, NoProblem, Changed, HistoryFull}
 use Rattle.board_state.specs.declared.board_error.BoardError.TheVariants as error
@@ -186,6 +189,44 @@ abbrev pub enforced : Option Opened → ℕ → Option Force
 enforced None event = None
 enforced (Some o) event = Some (record { problem = o.problem; dirs = o.dirs; event = event })
 
+-- the rank that has each directory
+abbrev pub holders : State → List (Option ℕ)
+holders s = map (authority s.cluster) (below (length s.directories.entries))
+
+-- the rank of a row's part, if the plan has this row
+abbrev pub rank_of_row : Plan → ℕ → Option ℕ
+rank_of_row plan row = option_and_then (slice_get plan.rank) (slice_get plan.part row)
+
+-- the rank that a plan gives d: that of the first row whose directory is d, where dirs are those of the rows from this one on
+abbrev pub planned_from : ℕ → List ℕ → Plan → ℕ → Option ℕ
+planned_from row [] plan d = None
+planned_from row (dir ∷ dirs) plan d = if dir == d then rank_of_row plan row else planned_from (row + 1) dirs plan d
+
+-- the rank that a plan gives d, if d is in a row; dirs are the directories of the rows
+abbrev pub planned : List ℕ → Plan → ℕ → Option ℕ
+planned dirs plan d = planned_from 0 dirs plan d
+
+-- the rank that a plan gives each of n directories
+abbrev pub targets : ℕ → List ℕ → Plan → List (Option ℕ)
+targets n dirs plan = map (planned dirs plan) (below n)
+
+-- the orders by which directories come to the ranks that a plan for these rows gives them
+abbrev pub plan_orders : State → List ℕ → Plan → List Order
+plan_orders s dirs plan = orders s.directories.entries (holders s) (targets (length s.directories.entries) dirs plan)
+
+-- the pin that holds each directory, where one does
+abbrev pub held_by : State → List (Option ℕ)
+held_by s = map (pins.nearest_pin s.directories.entries s.pins.own) (below (length s.directories.entries))
+
+-- the orders by which each directory that a pin holds comes to the rank of its pin
+abbrev pub pin_orders : State → List Order
+pin_orders s = orders s.directories.entries (holders s) (held_by s)
+
+-- the directories of the rows of the problem that is open
+abbrev pub rows_of : Option Opened → List ℕ
+rows_of None = []
+rows_of (Some o) = o.dirs
+
 pub record Outcome : Type 0 where
   pub state : State
   pub reply : Answer
@@ -235,7 +276,11 @@ happens s Open =
       state = record s { opened = Some (record { problem = problem_of s; dirs = dirs_of s; changed = None }) };
       reply = answer.Problem (problem_of s);
     }
-happens s (Adopt plan) = done (record s { opened = None; in_force = enforced s.opened s.events })
+happens s (Adopt plan) =
+    record {
+      state = record s { opened = None; in_force = enforced s.opened s.events };
+      reply = answer.Orders (plan_orders s (rows_of s.opened) plan);
+    }
 
 -- the state after an accepted change
 abbrev pub next : State → Change → State

@@ -19,7 +19,7 @@ use Rattle.board_state.specs.declared.board_error.BoardError.TheVariants.{Memory
 use Rattle.board_state.specs.declared.change.Answer.{Answer}
 use Rattle.board_state.specs.declared.change.Change.{Change}
 use Rattle.board_state.specs.declared.change.Change.TheVariants.{Open, Adopt}
-use Rattle.board_state.specs.State.{State, Opened, Force, refusal, happens, next, problem_of}
+use Rattle.board_state.specs.State.{State, Opened, Force, refusal, happens, next, problem_of, dirs_of, plan_orders}
 
 -- The state, whether the ledger is open, how many shares it has, and how much of the map is published.
 pub record Present : Type 0 where
@@ -65,12 +65,13 @@ abbrev pub spelled : {A : Type 0} → (A → Answer) → Result A BoardError →
 spelled reply (Ok x) = Ok (reply x)
 spelled reply (Err error) = Err error
 
--- The problem is opened, and this best plan adopted: two changes, of which neither has a cause to be refused.
-abbrev pub IsBalance : Present → ProblemData → Plan → Present → Type 0
-IsBalance old problem plan new =
+-- The problem is opened, and this best plan adopted, with these orders: two changes, of which neither has a cause to be refused.
+abbrev pub IsBalance : Present → ProblemData → Plan → List Order → Present → Type 0
+IsBalance old problem plan orders new =
     (refusal old.state Open ≡ None) × (problem ≡ problem_of old.state)
     × (refusal (next old.state Open) (Adopt plan) ≡ None) × IsBest (problem_of old.state) plan
-    × (new ≡ stepped (stepped old Open) (Adopt plan))
+    × (orders ≡ plan_orders old.state (dirs_of old.state) plan)
+    × (new ≡ stepped (stepped old Open) (Adopt plan)) × IsCertified (problem_of old.state) plan
 
 -- what is answered where there was no memory: the cause that stands, if one does
 abbrev pub refused_for : Option BoardError → BoardError

@@ -4,14 +4,27 @@ ghost use Rattle.board_state.specs.State.{balance_refusal, happens};
 ghost use Rattle.board_state.specs.Steps.{IsBalance};
 
 use crate::board_error::BoardError;
-use crate::change::{KeptPlan, KeptProblem};
+use crate::change::{KeptPlan, KeptProblem, Orders};
 use crate::opening::{InForce, OpenProblem};
 use crate::solver::Solver;
 use crate::state::{BoardState, HISTORY_LIMIT};
 use authority_map::Publisher;
-use mds_types::{Plan, Problem};
+use mds_types::{Order, Plan, Problem};
 use naming::Naming;
 use std::alloc::{AllocError, Global};
+
+/// What a balance did: the problem that was opened, the plan that was adopted, and the plan's orders, to give and to keep.
+#[derive(Drop)]
+pub struct Balanced {
+    /// The problem.
+    pub problem: KeptProblem,
+    /// The plan.
+    pub plan: KeptPlan,
+    /// The plan's orders.
+    pub given: Vec<Order>,
+    /// An equal list.
+    pub orders: Orders,
+}
 
 impl<J: Naming, M: Publisher<J>> BoardState<J, M> {
     /// Why a balance is refused.
@@ -27,24 +40,25 @@ impl<J: Naming, M: Publisher<J>> BoardState<J, M> {
         None
     }
 
-    /// Opens the problem, solves it and adopts the plan: two events. It answers the problem and the plan.
+    /// Opens the problem, solves it and adopts the plan: two events. It answers the problem, the plan and its orders, these
+    /// twice: to give, and to keep.
     #[tactic(auto, unfolding(crate::specs::State::happens))]
-    pub fn balance<S: Solver>(
-        &mut self,
-        alloc: Global,
-        solver: &S,
-    ) -> Result<(KeptProblem, KeptPlan), BoardError>
-        ensures ok { IfOk result (λ r. IsBalance self.old r.0 r.1 self.new) }
+    pub fn balance<S: Solver>(&mut self, alloc: Global, solver: &S) -> Result<Balanced, BoardError>
+        ensures ok { IfOk result (λ r. IsBalance self.old r.problem r.plan r.orders self.new) }
+        ensures twice { IfOk result (λ r. r.given.items ≡ r.orders) }
         ensures err { IfErr result (λ e. (balance_refusal self.old.state ≡ Some e) ⊎ ((balance_refusal self.old.state ≡ None) × (e ≡ BoardError.Memory))) }
         ensures unchanged { OnErr result (self.new ≡ self.old) }
     {
         if let Some(error) = self.balance_refusal() {
             return Err(error);
         }
-        let Ok((given, kept, opening)) = self.problems(alloc) else {
+        let Ok((asked, kept, opening)) = self.problems(alloc) else {
             return Err(BoardError::Memory);
         };
-        let Ok(plan) = solved(alloc, solver, &given) else {
+        let Ok(plan) = solved(alloc, solver, &asked) else {
+            return Err(BoardError::Memory);
+        };
+        let Ok((given, orders)) = self.plan_orders(alloc, &opening.dirs, plan.plan()) else {
             return Err(BoardError::Memory);
         };
         let OpenProblem {
@@ -60,16 +74,22 @@ impl<J: Naming, M: Publisher<J>> BoardState<J, M> {
             event: self.events,
         });
         self.events += 1;
-        Ok((kept, plan))
+        Ok(Balanced {
+            problem: kept,
+            plan,
+            given,
+            orders,
+        })
     }
 }
 
 // A best plan for a problem, on memory of its own.
 fn solved<S: Solver>(alloc: Global, solver: &S, problem: &Problem) -> Result<KeptPlan, AllocError>
-    ensures { IfOk result (λ plan. IsBest problem.now plan) }
+    ensures best { IfOk result (λ plan. IsBest problem.now plan) }
+    ensures certified { IfOk result (λ plan. IsCertified problem.now plan) }
 {
     let plan = solver.solve(alloc, problem)?;
     KeptPlan::new(alloc, plan)
 }
 
-ghost use Rattle.mds_types.specs.Certificate.{IsBest};
+ghost use Rattle.mds_types.specs.Certificate.{IsBest, IsCertified};

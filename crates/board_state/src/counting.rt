@@ -1,6 +1,7 @@
 //! Shares of the ledger deposit hits, and requests begin.
-ghost use Rattle.std.specs.Prelude.{◌≡◌, ◌≤◌, ℕ, List, IfOk, OnOk, OnErr, fold, replicate};
-ghost use Rattle.heat_ledger.specs.Rows.{counted_rows, raised};
+ghost use Rattle.std.specs.Prelude.{◌≡◌, ◌≤◌, ◌+◌, ℕ, List, IfOk, OnOk, OnErr, fold, replicate};
+ghost use Rattle.heat_ledger.specs.Ledger.{begun_of, hits_of, pending_of, weight_of};
+ghost use Rattle.heat_ledger.specs.Rows.{at, counted_rows, raised};
 ghost use Rattle.board_state.specs.State.{refusal, happens, warmed};
 ghost use Rattle.board_state.specs.Steps.{IsStep, spelled};
 
@@ -87,6 +88,33 @@ impl<J: Naming, M: Publisher<J>> BoardState<J, M> {
         self.book.begin(share, dir);
         self.events += 1;
         Ok(reply)
+    }
+}
+
+impl<J: Naming, M: Publisher<J>> BoardState<J, M> {
+    /// For whoever has all shares of the ledger: the counted and the pending hits are the hits of the shares, and the
+    /// begun requests theirs. It changes nothing.
+    pub fn audit(&mut self, shares: &mut Vec<Share<J>>)
+        requires { weight_of shares.old.items ≡ self.old.shares }
+        ensures hits { (dir : ℕ) → at self.new.state.counted dir + pending_of shares.new.items dir ≡ hits_of shares.new.items dir }
+        ensures begun { (dir : ℕ) → at self.new.state.begun dir ≡ begun_of shares.new.items dir }
+        ensures same { (self.new ≡ self.old) × (shares.new.items ≡ shares.old.items) }
+    {
+        self.book.audit(shares);
+    }
+
+    /// The hits on a directory that were deposited.
+    pub fn counted(&self, dir: Dir) -> u64
+        ensures { result ≡ at self.now.state.counted dir }
+    {
+        self.book.counted(dir)
+    }
+
+    /// The requests on a directory that were begun.
+    pub fn begun(&self, dir: Dir) -> u64
+        ensures { result ≡ at self.now.state.begun dir }
+    {
+        self.book.begun(dir)
     }
 }
 

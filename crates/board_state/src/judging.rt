@@ -2,16 +2,16 @@
 ghost use Rattle.std.specs.Prelude.{◌≡◌, ◌<◌, IfOk, IsSome, IsTrue, None, false};
 ghost use Rattle.mds_types.specs.RankSet.{rank_count};
 ghost use Rattle.mds_types.specs.declared.plan.Plan.{Plan};
-ghost use Rattle.board_state.specs.State.{refusal, happens, authorities, dirs_of, enforced, problem_of, usable};
+ghost use Rattle.board_state.specs.State.{refusal, happens, authorities, dirs_of, enforced, plan_orders, problem_of, rows_of, usable};
 ghost use Rattle.board_state.specs.Steps.{IsStep, IsBestForOpen, IsNotCertified, spelled};
 
 use crate::board_error::BoardError;
-use crate::change::{Answer, Change, KeptProblem};
+use crate::change::{Answer, Change, KeptProblem, Orders};
 use crate::opening::{InForce, OpenProblem};
 use crate::state::BoardState;
 use authority_map::Publisher;
 use board_problem::open;
-use mds_types::{Dir, Plan, Problem, Rank};
+use mds_types::{Dir, Order, Plan, Problem, Rank};
 use naming::Naming;
 use plan_checker::check;
 use std::alloc::{AllocError, Global};
@@ -120,10 +120,30 @@ impl<J: Naming, M: Publisher<J>> BoardState<J, M> {
         }
     }
 
-    /// Puts a plan in force that is best for the problem that is open.
+    // The directories of the rows of the problem that is open.
+    fn open_rows(&self) -> &[Dir]
+        ensures { result.now ≡ rows_of self.now.state.opened }
+    {
+        match &self.opened {
+            Some(opened) => &opened.dirs,
+            None => &[],
+        }
+    }
+
+    // The orders of a plan for the problem that is open, to give and to keep.
+    fn orders_of(&self, alloc: Global, plan: &Plan) -> Result<(Vec<Order>, Orders), AllocError>
+        ensures given { IfOk result (λ os. os.0.items ≡ plan_orders self.now.state (rows_of self.now.state.opened) plan.now) }
+        ensures kept { IfOk result (λ os. os.1 ≡ plan_orders self.now.state (rows_of self.now.state.opened) plan.now) }
+    {
+        self.plan_orders(alloc, self.open_rows(), plan)
+    }
+
+    /// Puts a plan in force that is best for the problem that is open. It is answered which directories go where, twice: to
+    /// give, and to keep.
     #[tactic(auto, unfolding(crate::specs::State::happens))]
-    pub fn adopt(&mut self, alloc: Global, plan: &Plan) -> Result<(), BoardError>
-        ensures { IsStep self.old (Change.Adopt plan.now) (spelled (λ _. Answer.Done) result) self.new }
+    pub fn adopt(&mut self, alloc: Global, plan: &Plan) -> Result<(Vec<Order>, Orders), BoardError>
+        ensures step { IsStep self.old (Change.Adopt plan.now) (spelled (λ os. Answer.Orders os.0.items) result) self.new }
+        ensures twice { IfOk result (λ os. os.1 ≡ os.0.items) }
     {
         if let Some(error) = self.adopt_refusal() {
             return Err(error);
@@ -134,9 +154,12 @@ impl<J: Naming, M: Publisher<J>> BoardState<J, M> {
         if !is_best {
             return Err(BoardError::NotBest);
         }
+        let Ok(orders) = self.orders_of(alloc, plan) else {
+            return Err(BoardError::Memory);
+        };
         enforce(&mut self.opened, &mut self.in_force, self.events);
         self.events += 1;
-        Ok(())
+        Ok(orders)
     }
 }
 

@@ -2,19 +2,22 @@
 //! in force. Each change is refused for the first cause that stands, or happens whole.
 #![tactic(auto)]
 
-mod balancing;
+pub mod balancing;
 pub mod board_error;
 pub mod change;
 mod counting;
 mod directories;
 mod judging;
+mod lookups;
 pub mod making;
 pub mod opening;
+mod ordering;
 mod settings;
 pub mod solver;
 pub mod state;
 mod stepping;
 
+pub use balancing::Balanced;
 pub use board_error::BoardError;
 pub use change::{Answer, Change, Hits, KeptEvent, KeptPlan, KeptProblem, Name, Orders};
 pub use making::BoardParts;

@@ -5,7 +5,7 @@ ghost use Rattle.board_state.specs.Steps.{refused_for};
 
 use crate::board_error::BoardError;
 use crate::opening::{InForce, OpenProblem};
-use authority_map::Publisher;
+use authority_map::{Publisher, Told};
 use dir_pins::Pins;
 use dirtree::Tree;
 use export_machine::Cluster;
@@ -135,6 +135,13 @@ impl<J: Naming, M: Publisher<J>> BoardState<J, M> {
         ensures { MatchBool result (self.new ≡ record self.old { published = self.old.state.map }) (self.new ≡ self.old) }
     {
         self.map.publish().is_ok()
+    }
+
+    /// A token of what is published, for the map's readers.
+    pub fn tell(&self) -> Told<J>
+        ensures { result ≡ self.now.published }
+    {
+        self.map.tell()
     }
 
     /// Ends the map: its readers find it closed.

@@ -1,9 +1,9 @@
 -- The pin that holds a directory, from that of its parent.
-use Rattle.std.proofs.Common.{◌≡◌, ℕ, zero, suc, ◌<◌, ◌+◌, List, [], ◌∷◌, ◌++◌, length, sym, ap, ◌∙◌, refl, arith, Bool, true, false, Option, Some, None, get_or, set, cond, add-one, inl, inr}
+use Rattle.std.proofs.Common.{◌≡◌, ℕ, zero, suc, ◌<◌, ◌+◌, List, [], ◌∷◌, ◌++◌, length, map, sym, ap, ◌∙◌, refl, arith, length-append, Bool, true, false, Option, Some, None, get_or, set, cond, add-one, inl, inr}
 use Rattle.std.specs.Option.{option_map, option_map_or}
 use Rattle.std.specs.Prelude.{is_some, is_none, filter}
 use Rattle.std.proofs.lemmas.Bool.{and_right, cases_eq}
-use Rattle.std.proofs.lemmas.List.{get_or-set_same, get_or-set_other}
+use Rattle.std.proofs.lemmas.List.{get_or-map, get_or-set_same, get_or-set_other, get_or_append_left, get_or_push}
 use Rattle.std.proofs.lemmas.List.Elements.{filter-append}
 use Rattle.std.proofs.lemmas.Grind.{common_steps}
 use Rattle.dirtree.specs.declared.tree.TreeRow.{TreeRow}
@@ -81,3 +81,27 @@ known_more known test n v inside is before d h = elim (cases_eq d n) [
 -- the mark that was read
 pub read_mark : (marks : List Bool) (n : ℕ) (v : Bool) → n < length marks → v ≡ get_or marks n v → v ≡ get_or marks n false
 read_mark marks n v inside is = grind (arith, common_steps)
+
+pub length_below : (n : ℕ) → length (below n) ≡ n
+length_below zero = refl
+length_below (suc n) = omega (arith, length-append (below n) (n ∷ []), length_below n)
+
+number_below : (n k d : ℕ) → k < n → get_or (below n) k d ≡ k
+number_below zero k d h = absurd (omega arith)
+number_below (suc n) k d h = elim (cases_eq k n) [
+  | inl here ↦ rw here (get_or_push (below n) n d n (length_below n))
+  | inr other ↦ get_or_append_left (below n) (n ∷ []) d k (omega (arith, h, other, length_below n)) ∙ number_below n k d (omega (arith, h, other))
+]
+
+-- what was read of a list of the numbers so far
+pub read_below : (f : ℕ → Option ℕ) (n k : ℕ) (v : Option ℕ) → k < n → v ≡ get_or (map f (below n)) k v → v ≡ f k
+read_below f n k v h is =
+    is ∙ (get_or-map f (below n) k 0 v (omega (arith, h, length_below n)) ∙ ap f (number_below n k 0 h))
+
+-- a number that is no directory's counts as the root's child
+pub gone_above : (es : List (Option Entry)) (d : ℕ) → ◌≡◌ {A = Option TreeRow} None (row_at es d) → parent_of es d ≡ 0
+gone_above es d h = on (entry_at es d) h
+  where
+    on : (e : Option Entry) → ◌≡◌ {A = Option TreeRow} None (option_map (λ e. record { dir = d; parent = e.parent; inodes = e.inodes }) e) → option_map_or (λ e. e.parent) e 0 ≡ 0
+    on None h = refl
+    on (Some e) h = absurd (cc)

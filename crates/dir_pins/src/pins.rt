@@ -1,5 +1,5 @@
 //! The pins that were set, by the numbers of the directories.
-ghost use Rattle.std.specs.Prelude.{◌≡◌, ℕ, ◌+◌, ◌<◌, ◌≤◌, Some, None, Ok, Err, length, true, false, negsuc, ◌≢◌, IsOk, IfOk, IfErr, IfSome, OnOk, OnErr, slice_set, slice_index_or, is_some};
+ghost use Rattle.std.specs.Prelude.{◌≡◌, ℕ, ◌+◌, ◌<◌, ◌≤◌, Some, None, Ok, Err, length, map, true, false, negsuc, ◌≢◌, IsOk, IfOk, IfErr, IfSome, OnOk, OnErr, slice_set, slice_index_or, is_some};
 ghost use Rattle.dirtree.specs.Tree.{is_there};
 
 use crate::pin_error::PinError;
@@ -27,7 +27,7 @@ impl Model for Pins {
 }
 
 impl Pins {
-    ghost use Rattle.dir_pins.specs.Pins.{AreActive, is_pin, is_unpinned, no_pins, pin_refusal, pin_value, nearest_pin, unpinned, with_pin};
+    ghost use Rattle.dir_pins.specs.Pins.{AreActive, below, is_pin, is_unpinned, no_pins, pin_refusal, pin_value, nearest_pin, unpinned, with_pin};
 
     /// No pin, with room for the numbers below `limit`, and the ranks below `active` to pin on.
     pub fn new(alloc: Global, limit: u32, active: u8) -> Result<Pins, AllocError>
@@ -165,6 +165,39 @@ impl Pins {
         for number in 0..tree.numbers() {
             let is_free = self.is_unpinned(tree, &known, Dir::new(number));
             known[number as usize] = is_free;
+        }
+        Ok(known)
+    }
+
+    /// The pin that holds a directory, where that is known of all with smaller numbers. A number without a directory counts as
+    /// one of the root's children.
+    fn held_by(&self, tree: &Tree, known: &[Option<Rank>], dir: Dir) -> Option<Rank>
+        requires room { dir < length self.now.own }
+        requires known { known.now ≡ map (nearest_pin tree.now.entries self.now.own) (below dir) }
+        ensures { result ≡ nearest_pin tree.now.entries self.now.own dir }
+    {
+        let above = match tree.row(dir) {
+            Some(row) => row.parent,
+            None => Dir::ROOT,
+        };
+        if let Some(rank) = self.own[dir.number() as usize] {
+            return Some(rank);
+        }
+        if dir == Dir::ROOT {
+            return None;
+        }
+        known[above.number() as usize]
+    }
+
+    /// The pin that holds each directory, by its number: one pass, since a parent's number is smaller.
+    pub fn nearest(&self, alloc: Global, tree: &Tree) -> Result<Vec<Option<Rank>>, AllocError>
+        requires { tree.now.limit ≤ length self.now.own }
+        ensures { IfOk result (λ pins. pins.items ≡ map (nearest_pin tree.now.entries self.now.own) (below (length tree.now.entries))) }
+    {
+        let mut known = Vec::with_capacity(alloc, tree.numbers() as usize)?;
+        for number in 0..tree.numbers() {
+            let pin = self.held_by(tree, &known, Dir::new(number));
+            known.push(pin)?;
         }
         Ok(known)
     }

@@ -3,24 +3,20 @@ use Rattle.std.proofs.Common.{◌≡◌, ℕ, Bool, true, false, List, [], ◌�
 use Rattle.mds_types.specs.declared.plan.Plan.{Plan}
 use Rattle.mds_types.specs.Problem.{ProblemData}
 use Rattle.mds_types.specs.Certificate.{IsBest}
-use Rattle.dirtree.specs.declared.tree_error.TreeError.{TreeError}
-use Rattle.dirtree.specs.Tree as tree
 use Rattle.export_machine.specs.Cluster.{World as Cluster}
 use Rattle.export_machine.specs.declared.event.Event.{Event}
 use Rattle.export_machine.specs.declared.event.Event.TheVariants.{Made, Gone}
-use Rattle.export_machine.specs.declared.step_error.StepError.{StepError}
 use Rattle.export_machine.specs.Entries.{logs_export}
 use Rattle.export_machine.specs.Step as machine
-use Rattle.board_state.specs.declared.board_error.BoardError.{BoardError}
-use Rattle.board_state.specs.declared.board_error.BoardError.TheVariants as error
 use Rattle.board_state.specs.declared.change.Answer.{Answer}
 use Rattle.board_state.specs.declared.change.Change.{Change}
 use Rattle.board_state.specs.declared.change.Change.TheVariants.{Make, Remove, Mask, Deposit, Tick, Step, Open, Adopt}
 use Rattle.board_state.specs.declared.change.Change.TheVariants as change
-use Rattle.board_state.specs.State.{State, Opened, start, refusal, happens, next, marked, marked_if, first_of, problem_of, or_cause, when, of_tree, of_step, cause, event_limit, after_event}
-use Rattle.board_state.specs.Steps.{IsAllowed, IsBestForOpen}
+use Rattle.board_state.specs.State.{State, Opened, start, refusal, happens, next, marked, marked_if, problem_of, after_event}
+use Rattle.board_state.specs.Steps.{IsBestForOpen}
+use Rattle.board_state.proofs.Accepted.{may_make, may_remove, may_step}
 use Rattle.mds_board.specs.declared.entry.Entry.{Entry}
-use Rattle.mds_board.specs.History.{IsReplay, after}
+use Rattle.mds_board.specs.History.{IsReplay}
 use Rattle.mds_board.specs.Promises.{AdoptsBest, opens, opened_at, cluster_event, cluster_events}
 
 -- the problem that is open
@@ -78,31 +74,19 @@ adopts_best limit active history t h before more plan reply is =
 
 -- The cluster is the machine's after the history's events.
 
-neither : (a b : Option BoardError) → or_cause a b ≡ None → (a ≡ None) × (b ≡ None)
-neither None b h = (refl, h)
-neither (Some e) b h = absurd (cc)
-
-no_cause : (s : State) (c : Change) → refusal s c ≡ None → cause s c ≡ None
-unfolding refusal
-no_cause s c h = (neither _ _ h).1
-
-step_none : (o : Option StepError) → of_step o ≡ None → o ≡ None
-step_none None h = refl
-step_none (Some e) h = absurd (cc)
-
 stepped : (w : Cluster) (e : Event) → machine.refusal w e ≡ None → after_event w e ≡ (machine.step w e).1
 unfolding machine.step
 stepped w e h = rw h refl
 
 ran : (s : State) (c : Change) → refusal s c ≡ None → (next s c).cluster ≡ machine.run s.cluster (cluster_event c)
 unfolding happens
-ran s (Make parent name inodes) h = stepped s.cluster (Made parent) (step_none _ (neither _ _ (no_cause s (Make parent name inodes) h)).1)
-ran s (Remove d) h = stepped s.cluster (Gone d) (step_none _ (neither _ _ (no_cause s (Remove d) h)).1)
+ran s (Make parent name inodes) h = stepped s.cluster (Made parent) (may_make s parent name inodes h).1
+ran s (Remove d) h = stepped s.cluster (Gone d) (may_remove s d h).1
 ran s (change.Pin d value) h = refl
 ran s (Mask bits) h = refl
 ran s (Deposit hits) h = refl
 ran s Tick h = refl
-ran s (Step e) h = stepped s.cluster e (step_none _ (no_cause s (Step e) h))
+ran s (Step e) h = stepped s.cluster e (may_step s e h)
 ran s Open h = refl
 ran s (Adopt plan) h = refl
 

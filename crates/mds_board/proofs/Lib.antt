@@ -1,2 +1,3 @@
+pub mod Forced
 pub mod Headline
 pub mod Replays

@@ -1,9 +1,7 @@
 -- What holds of every history.
-use Rattle.std.specs.Prelude.{◌≡◌, ◌≢◌, ℕ, List, [], ◌∷◌, ◌++◌, Option, Some, None, ◌⊎◌, Contains}
+use Rattle.std.specs.Prelude.{◌≡◌, List, [], ◌∷◌, ◌++◌, Option, Some, None}
 use Rattle.mds_types.specs.declared.plan.Plan.{Plan}
 use Rattle.mds_types.specs.Certificate.{IsBest}
-use Rattle.mds_types.specs.Problem.{ProblemData}
-use Rattle.export_machine.specs.Cluster.{World as Cluster}
 use Rattle.export_machine.specs.declared.event.Event.{Event}
 use Rattle.export_machine.specs.declared.event.Event.TheVariants.{Made, Gone}
 use Rattle.export_machine.specs.Step as machine
@@ -14,7 +12,7 @@ use Rattle.board_state.specs.declared.change.Change.TheVariants.{Make, Remove, M
 use Rattle.board_state.specs.declared.change.Change.TheVariants as change
 use Rattle.board_state.specs.State.{State, start, problem_of}
 use Rattle.mds_board.specs.declared.entry.Entry.{Entry}
-use Rattle.mds_board.specs.History.{World, IsReplay, after}
+use Rattle.mds_board.specs.History.{World, IsReplay}
 
 -- the state in which the last problem was opened that no plan was adopted for
 abbrev pub opens : State → Option State → Change → Option State

@@ -1,10 +1,11 @@
 //! The board.
-ghost use Rattle.std.specs.Prelude.{◌≡◌, ◌⊎◌, [], IfOk, IfErr, OnOk, OnErr, MatchBool, None, Some, replicate, true};
-ghost use Rattle.mds_types.specs.Certificate.{IsBest};
+ghost use Rattle.std.specs.Prelude.{◌≡◌, ◌⊎◌, ℕ, ◌+◌, [], IfOk, IfErr, OnOk, OnErr, MatchBool, None, Some, replicate, true};
+ghost use Rattle.mds_types.specs.Certificate.{IsBest, IsCertified};
 ghost use Rattle.mds_types.specs.declared.plan.Plan.{Plan};
 ghost use Rattle.heat_ledger.specs.Opening.{fresh_share};
-ghost use Rattle.heat_ledger.specs.Rows.{counted_rows, raised};
-ghost use Rattle.board_state.specs.State.{balance_refusal, happens, problem_of, refusal, start};
+ghost use Rattle.heat_ledger.specs.Ledger.{begun_of, hits_of, pending_of, weight_of};
+ghost use Rattle.heat_ledger.specs.Rows.{at, counted_rows, raised};
+ghost use Rattle.board_state.specs.State.{balance_refusal, happens, next, problem_of, refusal, start};
 ghost use Rattle.board_state.specs.Steps.{is_inner, spelled};
 ghost use Rattle.mds_board.specs.History.{IsAnswer, recorded};
 
@@ -17,7 +18,7 @@ use board_state::{
 };
 use export_machine::{Event, Reply};
 use heat_ledger::Share;
-use mds_types::{Dir, Plan, Problem, Rank, RankSet};
+use mds_types::{Dir, Order, Plan, Problem, Rank, RankSet};
 use naming::Naming;
 use std::alloc::{AllocError, Global};
 use std::marker::Model;
@@ -191,23 +192,33 @@ impl<J: Naming, M: Publisher<J>> Board<J, M> {
         Ok(given)
     }
 
-    /// Puts a plan in force that is best for the problem that is open.
-    pub fn adopt(&mut self, alloc: Global, plan: Plan) -> Result<(), BoardError>
-        ensures { IsAnswer self.old (Change.Adopt plan) (spelled (λ _. Answer.Done) result) self.new }
+    /// Puts a plan in force that is best for the problem that is open. It answers the orders by which the directories come
+    /// to the ranks that the plan gives them.
+    pub fn adopt(&mut self, alloc: Global, plan: Plan) -> Result<Vec<Order>, BoardError>
+        ensures { IsAnswer self.old (Change.Adopt plan) (spelled (λ orders. Answer.Orders orders.items) result) self.new }
     {
         let Ok(kept) = room_for_plan(alloc, &mut self.history, plan) else {
             return Err(or_memory(self.state.adopt_refusal()));
         };
-        self.state.adopt(alloc, kept.plan())?;
-        keep(&mut self.history, Change::Adopt(kept), Answer::Done);
-        Ok(())
+        let (given, orders) = self.state.adopt(alloc, kept.plan())?;
+        keep(
+            &mut self.history,
+            Change::Adopt(kept),
+            Answer::Orders(orders),
+        );
+        Ok(given)
     }
 
-    /// Opens the problem, solves it and adopts the plan: two events. It refuses for want of places, a balancer that is
-    /// off and memory alone.
+    /// Opens the problem, solves it and adopts the plan: two events. It answers the plan's orders, as the history has them.
+    /// It refuses for want of places, a balancer that is off and memory alone.
     #[tactic(auto, unfolding(board_state::specs::State::happens))]
-    pub fn balance<S: Solver>(&mut self, alloc: Global, solver: &S) -> Result<(), BoardError>
-        ensures ok { OnOk result ((plan : Plan) × IsBest (problem_of self.old.state) plan × (refusal self.old.state Change.Open ≡ None)
+    pub fn balance<S: Solver>(
+        &mut self,
+        alloc: Global,
+        solver: &S,
+    ) -> Result<Vec<Order>, BoardError>
+        ensures ok { IfOk result (λ orders. (plan : Plan) × IsBest (problem_of self.old.state) plan × IsCertified (problem_of self.old.state) plan × (refusal self.old.state Change.Open ≡ None)
+            × (Answer.Orders orders.items ≡ (happens (next self.old.state Change.Open) (Change.Adopt plan)).reply)
             × (self.new ≡ recorded (recorded self.old Change.Open) (Change.Adopt plan))) }
         ensures err { IfErr result (λ e. (balance_refusal self.old.state ≡ Some e) ⊎ ((balance_refusal self.old.state ≡ None) × (e ≡ BoardError.Memory))) }
         ensures unchanged { OnErr result (self.new ≡ self.old) }
@@ -215,9 +226,8 @@ impl<J: Naming, M: Publisher<J>> Board<J, M> {
         if self.history.reserve(2).is_err() {
             return Err(or_memory(self.state.balance_refusal()));
         }
-        let (problem, plan) = self.state.balance(alloc, solver)?;
-        keep_both(&mut self.history, problem, plan);
-        Ok(())
+        let done = self.state.balance(alloc, solver)?;
+        Ok(keep_both(&mut self.history, done))
     }
 
     /// Publishes the map, and says whether memory sufficed. It is no event.
@@ -225,6 +235,17 @@ impl<J: Naming, M: Publisher<J>> Board<J, M> {
         ensures { MatchBool result (self.new ≡ record self.old { published = self.old.state.map }) (self.new ≡ self.old) }
     {
         self.state.publish()
+    }
+
+    /// For whoever has all shares of the ledger: the counted and the pending hits are the hits of the shares, and the
+    /// begun requests theirs. It changes nothing, and is no event.
+    pub fn audit(&mut self, shares: &mut Vec<Share<J>>)
+        requires { weight_of shares.old.items ≡ self.old.shares }
+        ensures hits { (dir : ℕ) → at self.new.state.counted dir + pending_of shares.new.items dir ≡ hits_of shares.new.items dir }
+        ensures begun { (dir : ℕ) → at self.new.state.begun dir ≡ begun_of shares.new.items dir }
+        ensures same { (self.new ≡ self.old) × (shares.new.items ≡ shares.old.items) }
+    {
+        self.state.audit(shares);
     }
 
     /// Ends the map: its readers find it closed.

@@ -7,6 +7,7 @@
 pub mod board;
 pub mod entry;
 mod keeping;
+mod lookups;
 mod reads;
 
 pub use board::Board;

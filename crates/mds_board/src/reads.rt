@@ -1,18 +1,22 @@
 //! What a board says.
-ghost use Rattle.std.specs.Prelude.{◌≡◌};
-ghost use Rattle.board_state.specs.State.{usable};
+ghost use Rattle.std.specs.Prelude.{◌≡◌, IfOk, MatchOption, None};
+ghost use Rattle.std.specs.Option.{option_map};
+ghost use Rattle.heat_ledger.specs.Rows.{at};
+ghost use Rattle.board_state.specs.State.{pin_orders, usable};
+ghost use Rattle.mds_board.specs.InForce.{IsBestInForce, adopted_at, plan_in_force};
 ghost use Rattle.mds_board.specs.Promises.{IsKept};
 
 use crate::board::Board;
 use crate::entry::Entry;
-use authority_map::Publisher;
-use board_state::InForce;
+use authority_map::{Publisher, Told};
+use board_state::{Change, InForce};
 use dir_pins::Pins;
 use dirtree::Tree;
 use export_machine::Cluster;
 use heat_decay::Heat;
-use mds_types::RankSet;
+use mds_types::{Dir, Order, Plan, RankSet};
 use naming::Naming;
+use std::alloc::{AllocError, Global};
 
 impl<J: Naming, M: Publisher<J>> Board<J, M> {
     /// The accepted changes, each with its reply, in order.
@@ -70,5 +74,54 @@ impl<J: Naming, M: Publisher<J>> Board<J, M> {
         ensures { result.now ≡ self.now.state.in_force }
     {
         self.state.in_force()
+    }
+
+    /// The plan in force.
+    pub fn plan_in_force(&self) -> Option<&Plan>
+        ensures exact { option_map (λ plan. plan.now) result ≡ plan_in_force self.now }
+        ensures best { MatchOption result (self.now.state.in_force ≡ None) (λ plan. IsBestInForce self.now.state.in_force plan.now) }
+    {
+        match self.in_force() {
+            Some(force) => adopted_at(&self.history, force.event() as usize),
+            None => None,
+        }
+    }
+
+    /// The orders by which each directory that a pin holds comes to the rank of its pin.
+    pub fn pin_orders(&self, alloc: Global) -> Result<Vec<Order>, AllocError>
+        ensures { IfOk result (λ found. found.items ≡ pin_orders self.now.state) }
+    {
+        self.state.pin_orders(alloc)
+    }
+
+    /// The hits on a directory that were deposited.
+    pub fn counted(&self, dir: Dir) -> u64
+        ensures { result ≡ at self.now.state.counted dir }
+    {
+        self.state.counted(dir)
+    }
+
+    /// The requests on a directory that were begun.
+    pub fn begun(&self, dir: Dir) -> u64
+        ensures { result ≡ at self.now.state.begun dir }
+    {
+        self.state.begun(dir)
+    }
+
+    /// A token of what is published, for the map's readers.
+    pub fn tell(&self) -> Told<J>
+        ensures { result ≡ self.now.published }
+    {
+        self.state.tell()
+    }
+}
+
+// The plan that an event adopted.
+fn adopted_at(history: &[Entry], event: usize) -> Option<&Plan>
+    ensures { option_map (λ plan. plan.now) result ≡ adopted_at history.now event }
+{
+    match &history.get(event)?.change {
+        Change::Adopt(plan) => Some(plan.plan()),
+        _ => None,
     }
 }

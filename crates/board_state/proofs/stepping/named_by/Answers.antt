@@ -1,4 +1,4 @@
-use Rattle.std.proofs.Common.{◌≡◌, ◌<◌, None, IsSome, subst}
+use Rattle.std.proofs.Common.{◌≡◌, None, IsSome, subst}
 use Rattle.export_machine.specs.Step as machine
 use Rattle.export_machine.specs.declared.event.Event.{Event}
 use Rattle.board_state.proofs.Mapping.{notifies}

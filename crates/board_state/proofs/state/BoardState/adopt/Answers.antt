@@ -1,4 +1,4 @@
-use Rattle.std.proofs.Common.{IsSome, sym, ap, arith, subst}
+use Rattle.std.proofs.Common.{sym, ap, arith}
 use Rattle.board_state.specs.Steps.{Present}
 use Rattle.board_state.proofs.Accepted.{has_place, may_adopt}
 use Rattle.board_state.proofs.state.BoardState.adopt.Goals as goal

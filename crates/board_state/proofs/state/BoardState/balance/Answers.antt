@@ -1,5 +1,5 @@
-use Rattle.std.proofs.Common.{◌≡◌, ◌∙◌, sym, ap, subst, refl}
-use Rattle.mds_types.specs.Certificate.{IsBest}
+use Rattle.std.proofs.Common.{◌∙◌, sym, ap, subst, refl}
+use Rattle.mds_types.specs.Certificate.{IsBest, IsCertified}
 use Rattle.mds_types.specs.Problem.{ProblemData}
 use Rattle.board_state.specs.State.{Opened, happens}
 use Rattle.board_state.proofs.Accepted.{may_open, balance_opens, balance_adopts}
@@ -18,6 +18,8 @@ returns-clause-ok g c =
       balance_opens c.args.self.now.state (sym c.in_default.ensures),
       c.in-Ok.ensures.given.1 ∙ given,
       balance_adopts c.args.self.now.state c.in-Ok-solved.plan (sym c.in_default.ensures),
-      subst (λ (q : ProblemData). IsBest q c.in-Ok-solved.plan) given c.in-Ok-solved.ensures,
+      subst (λ (q : ProblemData). IsBest q c.in-Ok-solved.plan) given c.in-Ok-solved.ensures.best,
+      c.in-Ok-plan_orders.ensures.kept ∙ rw (c.deref.ensures.value, c.plan-2.ensures, dirs) refl,
       rw (problem, dirs, ← c.self.view_is) refl,
+      subst (λ (q : ProblemData). IsCertified q c.in-Ok-solved.plan) given c.in-Ok-solved.ensures.certified,
     )

@@ -1,5 +1,5 @@
-use Rattle.std.proofs.Common.{◌≡◌, ◌∙◌, ◌++◌, None, ℕ, List, ◌<◌, refl, sym, ap, subst, arith, append-nil}
-use Rattle.authority_map.specs.Operations.{Operation, rank_after}
+use Rattle.std.proofs.Common.{◌≡◌, ◌∙◌, ◌++◌, None, ℕ, ◌<◌, refl, sym, ap, subst, arith, append-nil}
+use Rattle.authority_map.specs.Operations.{rank_after}
 use Rattle.export_machine.specs.Authority.{named_of}
 use Rattle.export_machine.specs.Cluster.{World}
 use Rattle.export_machine.specs.declared.event.Event.TheVariants.{Begin}

@@ -1,5 +1,5 @@
-use Rattle.std.proofs.Common.{◌≡◌, ◌∙◌, ◌++◌, ◌∷◌, [], ◌<◌, None, ℕ, List, refl, sym, ap, subst, arith, append_assoc, slice_set}
-use Rattle.authority_map.specs.Operations.{Operation, rank_after}
+use Rattle.std.proofs.Common.{◌≡◌, ◌∙◌, ◌++◌, ◌<◌, None, ℕ, sym, ap, subst, arith, append_assoc, slice_set}
+use Rattle.authority_map.specs.Operations.{rank_after}
 use Rattle.dirtree.specs.Tree as tree
 use Rattle.export_machine.specs.Authority.{named_of}
 use Rattle.export_machine.specs.Cluster.{World}

@@ -1,4 +1,4 @@
-use Rattle.std.proofs.Common.{sym, ap, arith, subst, ◌≡◌, None, Some, ◌∙◌, to_z, of_z, w32}
+use Rattle.std.proofs.Common.{sym, ap, arith, subst, ◌≡◌, None, ◌∙◌, to_z, of_z, w32}
 use Rattle.board_state.specs.Steps.{Present}
 use Rattle.dir_pins.specs.Pins.{pin_refusal}
 use Rattle.board_state.proofs.Accepted.{has_place, may_pin}

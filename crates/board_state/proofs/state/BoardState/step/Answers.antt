@@ -1,5 +1,5 @@
-use Rattle.std.proofs.Common.{◌≡◌, ◌∙◌, ◌++◌, ◌<◌, None, Some, ℕ, List, All, inl, refl, sym, ap, subst, arith, append_assoc}
-use Rattle.authority_map.specs.Operations.{Operation, rank_after}
+use Rattle.std.proofs.Common.{◌≡◌, ◌∙◌, ◌++◌, None, inl, refl, sym, ap, subst, arith, append_assoc}
+use Rattle.authority_map.specs.Operations.{rank_after}
 use Rattle.export_machine.specs.Authority.{named_of}
 use Rattle.export_machine.specs.Cluster.{World}
 use Rattle.export_machine.specs.View.{IsReached}

@@ -1,7 +1,6 @@
-use Rattle.std.proofs.Common.{◌∙◌, ◌++◌, ◌∷◌, [], List, ap, sym, ℕ, to_z, of_z, w32}
+use Rattle.std.proofs.Common.{◌∙◌, ◌++◌, ◌∷◌, [], List, ap, sym}
+use Rattle.mds_types.specs.declared.order.Order.{Order}
 use Rattle.mds_types.specs.declared.plan.Plan.{Plan}
-use Rattle.mds_types.specs.Problem.{ProblemData}
-use Rattle.export_machine.specs.declared.event.Event.{Event}
 use Rattle.board_state.specs.declared.change.Answer.TheVariants as answer
 use Rattle.board_state.specs.declared.change.Change.TheVariants as change
 use Rattle.mds_board.specs.declared.entry.Entry.{Entry}
@@ -10,5 +9,7 @@ use Rattle.mds_board.proofs.board.Board.adopt.Goals as goal
 
 pub invariant_of-self-2 : goal.invariant_of-self-2
 invariant_of-self-2 g c =
-    keeps c.self.inside.state c.adopt.new.self c.self.inside.history.items c.keep.new.history.items (change.Adopt c.plan.result.now) (answer.Done) c.self.invariant c.in_ok-adopt.ensures
-    (c.keep.ensures ∙ (ap (λ (p : Plan). c.room_for_plan.new.history.items ++ record { change = change.Adopt p; reply = answer.Done } ∷ []) (sym c.plan.ensures) ∙ ap (λ (es : List Entry). es ++ record { change = change.Adopt c.plan.result.now; reply = answer.Done } ∷ []) c.room_for_plan.ensures.same))
+    keeps c.self.inside.state c.adopt.new.self c.self.inside.history.items c.keep.new.history.items (change.Adopt c.plan.result.now) (answer.Orders c.in_ok-given.given.items) c.self.invariant c.in_ok-given.ensures.step
+    (c.keep.ensures ∙ (ap (λ (p : Plan). c.room_for_plan.new.history.items ++ record { change = change.Adopt p; reply = answer.Orders c.in_ok-given.orders } ∷ []) (sym c.plan.ensures)
+    ∙ (ap (λ (os : List Order). c.room_for_plan.new.history.items ++ record { change = change.Adopt c.plan.result.now; reply = answer.Orders os } ∷ []) c.in_ok-given.ensures.twice
+    ∙ ap (λ (es : List Entry). es ++ record { change = change.Adopt c.plan.result.now; reply = answer.Orders c.in_ok-given.given.items } ∷ []) c.room_for_plan.ensures.same)))

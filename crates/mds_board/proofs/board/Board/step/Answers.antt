@@ -1,6 +1,4 @@
-use Rattle.std.proofs.Common.{◌∙◌, ◌++◌, ◌∷◌, [], List, ap, sym, ℕ, to_z, of_z, w32}
-use Rattle.mds_types.specs.declared.plan.Plan.{Plan}
-use Rattle.mds_types.specs.Problem.{ProblemData}
+use Rattle.std.proofs.Common.{◌∙◌, ◌++◌, ◌∷◌, [], List, ap}
 use Rattle.export_machine.specs.declared.event.Event.{Event}
 use Rattle.board_state.specs.declared.change.Answer.TheVariants as answer
 use Rattle.board_state.specs.declared.change.Change.TheVariants as change

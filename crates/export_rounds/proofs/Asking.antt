@@ -1,0 +1,88 @@
+-- How orders stand while a board goes on.
+use Rattle.std.proofs.Common.{◌≡◌, ◌≤◌, ◌<◌, ◌+◌, ℕ, zero, suc, false, take, List, [], ◌∷◌, ◌++◌, length, Some, slice_get, get_or, refl, sym, ap, ◌∙◌, subst, arith}
+use Rattle.std.proofs.Math.ListN.{set}
+use Rattle.mds_types.specs.declared.order.Order.{Order}
+use Rattle.mds_board.specs.History.{World}
+use Rattle.export_rounds.specs.declared.standing.Standing.{Standing}
+use Rattle.export_rounds.specs.declared.standing.Standing.TheVariants.{Waiting, Started, Refused}
+use Rattle.export_rounds.specs.Asked.{AreAsked, IsAsked, is_waiting}
+use Rattle.export_rounds.specs.Further.{IsFurther}
+use Rattle.export_rounds.specs.Outcomes.{IsStarted}
+use Rattle.export_rounds.specs.Pairs.{AreEach}
+use Rattle.export_rounds.proofs.Going.{joins}
+use Rattle.export_rounds.proofs.Ordering.{get_first, get_last, no_fewer, orders_stay}
+
+pub each_maps : {A B : Type 0} (R S : A → B → Type 0) → ((a : A) (b : B) → R a b → S a b) → (xs : List A) (ys : List B) → AreEach R xs ys → AreEach S xs ys
+each_maps R S f [] [] h = tt
+each_maps R S f (a ∷ xs) (b ∷ ys) h = (f a b h.0, each_maps R S f xs ys h.1)
+each_maps R S f [] (b ∷ ys) h = absurd h
+each_maps R S f (a ∷ xs) [] h = absurd h
+
+pub each_set : {A B : Type 0} (R S : A → B → Type 0) → ((a : A) (b : B) → R a b → S a b) → (xs : List A) (ys : List B) (k : ℕ) (b d : B) → k < length ys
+    → ((a : A) → R a (get_or ys k d) → S a b) → AreEach R xs ys → AreEach S xs (set ys k b)
+each_set R S f [] [] k b d l g h = absurd (omega arith)
+each_set R S f (a ∷ xs) (c ∷ ys) zero b d l g h = (g a h.0, each_maps R S f xs ys h.1)
+each_set R S f (a ∷ xs) (c ∷ ys) (suc k) b d l g h = (f a c h.0, each_set R S f xs ys k b d (omega arith) g h.1)
+each_set R S f [] (c ∷ ys) k b d l g h = absurd h
+each_set R S f (a ∷ xs) [] k b d l g h = absurd h
+
+started_stays : (first now new : World) (order : Order) (x : ℕ) → IsFurther now new → IsStarted first now order x → IsStarted first new order x
+started_stays first now new order x h s =
+    let more = orders_stay now new h in
+    (s.0, ap (λ (os : List Order). slice_get os x) more.1 ∙ get_first now.state.cluster.orders more.0 x order s.1)
+
+pub asked_stays : (first now new : World) → IsFurther now new → (order : Order) (standing : Standing) → IsAsked first now order standing → IsAsked first new order standing
+asked_stays first now new h order (Waiting waiting) is = is
+asked_stays first now new h order (Started x) is = started_stays first now new order x h is
+asked_stays first now new h order (Refused error) is = (is.0, is.1, joins is.0 now new is.2 h, is.3)
+
+pub all_stay : (first now new : World) (orders : List Order) (standings : List Standing) → IsFurther now new → AreAsked first now orders standings → AreAsked first new orders standings
+all_stay first now new orders standings h all = each_maps (IsAsked first now) (IsAsked first new) (asked_stays first now new h) orders standings all
+
+pub each_long : {A B : Type 0} (R : A → B → Type 0) (xs : List A) (ys : List B) → AreEach R xs ys → length xs ≡ length ys
+each_long R [] [] h = refl
+each_long R (a ∷ xs) (b ∷ ys) h = ap suc (each_long R xs ys h.1)
+each_long R [] (b ∷ ys) h = absurd h
+each_long R (a ∷ xs) [] h = absurd h
+
+pub each_snoc : {A B : Type 0} (R : A → B → Type 0) (xs : List A) (ys : List B) (a : A) (b : B) → R a b → AreEach R xs ys → AreEach R (xs ++ a ∷ []) (ys ++ b ∷ [])
+each_snoc R [] [] a b r h = (r, tt)
+each_snoc R (x ∷ xs) (y ∷ ys) a b r h = (h.0, each_snoc R xs ys a b r h.1)
+each_snoc R [] (y ∷ ys) a b r h = absurd h
+each_snoc R (x ∷ xs) [] a b r h = absurd h
+
+-- what is told of the first elements, and of the next one
+pub each_next : {A B C : Type 0} (R : A → B → Type 0) (S : A → C → Type 0) (xs : List A) (ys : List B) (i : ℕ) (d : B) (c : C) (zs : List C) → AreEach R xs ys
+    → i < length ys → ((a : A) → R a (get_or ys i d) → S a c) → AreEach S (take i xs) zs → AreEach S (take (suc i) xs) (zs ++ c ∷ [])
+each_next R S [] [] i d c zs h n f t = absurd (omega arith)
+each_next R S (a ∷ xs) (b ∷ ys) zero d c [] h n f t = (f a h.0, tt)
+each_next R S (a ∷ xs) (b ∷ ys) zero d c (z ∷ zs) h n f t = absurd t
+each_next R S (a ∷ xs) (b ∷ ys) (suc i) d c [] h n f t = absurd t
+each_next R S (a ∷ xs) (b ∷ ys) (suc i) d c (z ∷ zs) h n f t = (t.0, each_next R S xs ys i d c zs h.1 (omega arith) f t.1)
+each_next R S [] (b ∷ ys) i d c zs h n f t = absurd h
+each_next R S (a ∷ xs) [] i d c zs h n f t = absurd h
+
+-- an order that has just been started
+pub newly_started : (first now new : World) (order waiting : Order) (x : ℕ) → IsFurther first now → waiting ≡ order → x ≡ length now.state.cluster.orders
+    → new.state.cluster.orders ≡ now.state.cluster.orders ++ waiting ∷ [] → IsStarted first new order x
+newly_started first now new order waiting x h is e more = (
+  subst (λ n. length first.state.cluster.orders ≤ n) (sym e) (no_fewer first now h),
+  ap (λ (os : List Order). slice_get os x) more
+      ∙ (ap (λ n. slice_get (now.state.cluster.orders ++ waiting ∷ []) n) e ∙ (get_last now.state.cluster.orders waiting ∙ ap (λ (o : Order). Some o) is)),
+)
+
+-- one more doesn't wait
+pub settled_more : (xs : List Standing) (i : ℕ) (s : Standing) → i < length xs → ((k : ℕ) (d : Standing) → k < i → is_waiting (get_or xs k d) ≡ false)
+    → is_waiting s ≡ false → (k : ℕ) (d : Standing) → k < i + 1 → is_waiting (get_or (set xs i s) k d) ≡ false
+settled_more [] i s l h w k d n = absurd (omega arith)
+settled_more (x ∷ xs) zero s l h w zero d n = w
+settled_more (x ∷ xs) zero s l h w (suc k) d n = absurd (omega arith)
+settled_more (x ∷ xs) (suc i) s l h w zero d n = h zero d (omega arith)
+settled_more (x ∷ xs) (suc i) s l h w (suc k) d n = settled_more xs i s (omega arith) (λ j e m. h (suc j) e (omega arith)) w k d (omega arith)
+
+-- an order that stands otherwise
+pub one_changed : (first now new : World) (orders : List Order) (standings : List Standing) (k : ℕ) (s d : Standing) → IsFurther now new → k < length standings
+    → ((order : Order) → IsAsked first now order (get_or standings k d) → IsAsked first new order s) → AreAsked first now orders standings
+    → AreAsked first new orders (set standings k s)
+one_changed first now new orders standings k s d h near f all =
+    each_set (IsAsked first now) (IsAsked first new) (asked_stays first now new h) orders standings k s d near f all

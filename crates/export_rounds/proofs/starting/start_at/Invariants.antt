@@ -1,0 +1,12 @@
+use Rattle.std.proofs.Common.{List}
+use Rattle.mds_board.specs.History.{World}
+use Rattle.mds_types.specs.declared.order.Order.{Order}
+use Rattle.export_rounds.specs.Asked.{AreAsked}
+use Rattle.export_rounds.specs.Further.{IsFurther}
+use Rattle.export_rounds.proofs.starting.start_at.Given as goal
+
+abbrev pub invariant-loop-standing : goal.invariant-loop-standing
+invariant-loop-standing g l = record {
+  further : IsFurther l.fn.board l.board;
+  asked : (first : World) (orders : List Order) → IsFurther first l.fn.board → AreAsked first l.fn.board orders l.fn.standings.items → AreAsked first l.board orders l.standing-items;
+}

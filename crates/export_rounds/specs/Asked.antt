@@ -1,0 +1,25 @@
+-- How orders stand in a phase.
+use Rattle.std.specs.Prelude.{◌≡◌, ◌<◌, ℕ, Bool, true, false, List, length, slice_index_or}
+use Rattle.mds_types.specs.declared.order.Order.{Order}
+use Rattle.mds_board.specs.History.{World}
+use Rattle.export_rounds.specs.declared.standing.Standing.{Standing}
+use Rattle.export_rounds.specs.declared.standing.Standing.TheVariants.{Waiting, Started, Refused}
+use Rattle.export_rounds.specs.Outcomes.{IsStarted, IsRefused}
+use Rattle.export_rounds.specs.Pairs.{AreEach}
+
+-- how an order stands in a phase that began at first
+abbrev pub IsAsked : World → World → Order → Standing → Type 0
+IsAsked first now order (Waiting waiting) = waiting ≡ order
+IsAsked first now order (Started x) = IsStarted first now order x
+IsAsked first now order (Refused error) = IsRefused first now order error
+
+abbrev pub AreAsked : World → World → List Order → List Standing → Type 0
+AreAsked first now orders standings = AreEach (IsAsked first now) orders standings
+
+abbrev pub is_waiting : Standing → Bool
+is_waiting (Waiting order) = true
+is_waiting _ = false
+
+-- none waits any more
+abbrev pub AreSettled : List Standing → Type 0
+AreSettled standings = (k : ℕ) (d : Standing) → k < length standings → is_waiting (slice_index_or standings k d) ≡ false

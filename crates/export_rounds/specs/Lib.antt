@@ -1,0 +1,4 @@
+pub mod Asked
+pub mod Further
+pub mod Outcomes
+pub mod Pairs

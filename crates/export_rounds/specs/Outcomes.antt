@@ -1,0 +1,48 @@
+-- What became of orders.
+use Rattle.std.specs.Prelude.{◌≡◌, ◌≤◌, ℕ, List, length, slice_get, Some}
+use Rattle.export_machine.specs.Authority.{exporter_of, importer_of}
+use Rattle.export_machine.specs.declared.event.Event.TheVariants.{Start}
+use Rattle.export_machine.specs.declared.exporter.ExporterState.{ExporterState}
+use Rattle.export_machine.specs.declared.exporter.ExporterState.TheVariants.{Aborted}
+use Rattle.export_machine.specs.declared.importer.ImporterState.{ImporterState}
+use Rattle.export_machine.specs.declared.importer.ImporterState.TheVariants.{Imported}
+use Rattle.mds_types.specs.declared.order.Order.{Order}
+use Rattle.board_state.specs.declared.board_error.BoardError.{BoardError}
+use Rattle.board_state.specs.declared.change.Change.TheVariants.{Step}
+use Rattle.board_state.specs.Steps.{IsDue}
+use Rattle.mds_board.specs.History.{World}
+use Rattle.export_rounds.specs.declared.outcome.Outcome.{Outcome}
+use Rattle.export_rounds.specs.declared.outcome.Outcome.TheVariants.{Done, Open, Refused}
+use Rattle.export_rounds.specs.declared.outcome.Outcome.TheVariants as outcome
+use Rattle.export_rounds.specs.Further.{IsFurther}
+use Rattle.export_rounds.specs.Pairs.{AreEach}
+
+-- this export is the order's, and was started between the two
+abbrev pub IsStarted : World → World → Order → ℕ → Type 0
+IsStarted old new order x = (length old.state.cluster.orders ≤ x) × (slice_get new.state.cluster.orders x ≡ Some order)
+
+-- between the two there was a state in which the order was refused for this
+abbrev pub IsRefused : World → World → Order → BoardError → Type 0
+IsRefused old new order error =
+    (between : World) × IsFurther old between × IsFurther between new
+    × IsDue between.state (Step (Start order.from order.to order.dirs)) error
+
+-- the word for an export in these states at its two ranks
+abbrev pub word : ℕ → ExporterState → ImporterState → Outcome
+word x _ Imported = Done x
+word x Aborted _ = outcome.Aborted x
+word x _ _ = Open x
+
+-- the export of an order, with its word by its states
+abbrev pub IsTold : World → World → Order → Outcome → Type 0
+IsTold old new order told =
+    (x : ℕ) × IsStarted old new order x × (told ≡ word x (exporter_of new.state.cluster x) (importer_of new.state.cluster x))
+
+-- What became of an order is why it was refused, or how its export stands.
+abbrev pub IsOutcome : World → World → Order → Outcome → Type 0
+IsOutcome old new order (Refused error) = IsRefused old new order error
+IsOutcome old new order told = IsTold old new order told
+
+-- one for each order, in their order
+abbrev pub AreOutcomes : World → World → List Order → List Outcome → Type 0
+AreOutcomes old new orders outcomes = AreEach (IsOutcome old new) orders outcomes

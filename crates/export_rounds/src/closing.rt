@@ -1,0 +1,82 @@
+//! The end of a phase.
+ghost use Rattle.std.specs.Prelude.{◌≡◌, ◌<◌, ◌≤◌, List, [], false, length, vec_capacity};
+ghost use Rattle.export_machine.specs.Authority.{exporter_of, importer_of};
+ghost use Rattle.mds_board.specs.History.{World};
+ghost use Rattle.mds_types.specs.declared.order.Order.{Order as TheOrder};
+ghost use Rattle.export_rounds.specs.Asked.{AreAsked, AreSettled, IsAsked, is_waiting};
+ghost use Rattle.export_rounds.specs.Further.{IsFurther};
+ghost use Rattle.export_rounds.specs.Outcomes.{AreOutcomes, IsOutcome, word};
+
+use crate::outcome::Outcome;
+use crate::standing::Standing;
+use crate::stepping::try_step;
+use authority_map::Publisher;
+use export_machine::{Cluster, Event, ExporterState, ImporterState};
+use mds_board::Board;
+use naming::Naming;
+use std::alloc::Global;
+
+/// Aborts the exports of the phase that aren't logged.
+pub(crate) fn abort_rest<J: Naming, M: Publisher<J>>(
+    board: &mut Board<J, M>,
+    alloc: Global,
+    standings: &[Standing],
+)
+    ensures { IsFurther board.old board.new }
+{
+    for standing in standings {
+        if let Standing::Started(export) = standing {
+            if is_before_log(board.cluster(), *export) {
+                try_step(board, alloc, Event::Abort(*export));
+            }
+        }
+    }
+}
+
+fn is_before_log(cluster: &Cluster, export: u32) -> bool {
+    matches!(
+        cluster.states(export),
+        Some((
+            ExporterState::Discovering
+                | ExporterState::Freezing
+                | ExporterState::Preparing
+                | ExporterState::Exporting,
+            _
+        ))
+    )
+}
+
+/// Tells what became of orders, where there is room for it.
+pub(crate) fn tell(cluster: &Cluster, standings: &[Standing], outcomes: &mut Vec<Outcome>)
+    requires settled { AreSettled standings.now }
+    requires room { length standings.now ≤ vec_capacity outcomes.old }
+    requires none { outcomes.old.items ≡ [] }
+    ensures { (first now : World) (orders : List TheOrder) → now.state.cluster ≡ cluster.now.world → AreAsked first now orders standings.now → AreOutcomes first now orders outcomes.new.items }
+{
+    for standing in standings {
+        outcomes.push_reserved(outcome(cluster, standing));
+    }
+}
+
+// What became of an order.
+fn outcome(cluster: &Cluster, standing: &Standing) -> Outcome
+    requires settled { is_waiting standing.now ≡ false }
+    ensures { (first now : World) (order : TheOrder) → now.state.cluster ≡ cluster.now.world → IsAsked first now order standing.now → IsOutcome first now order result }
+{
+    match standing {
+        Standing::Waiting(_) => unreachable!(),
+        Standing::Refused(error) => Outcome::Refused(*error),
+        Standing::Started(export) => outcome_of(cluster, *export),
+    }
+}
+
+// How an export stands.
+fn outcome_of(cluster: &Cluster, export: u32) -> Outcome
+    ensures { export < length cluster.now.world.orders → result ≡ word export (exporter_of cluster.now.world export) (importer_of cluster.now.world export) }
+{
+    match cluster.states(export) {
+        Some((_, ImporterState::Imported)) => Outcome::Done(export),
+        Some((ExporterState::Aborted, _)) => Outcome::Aborted(export),
+        _ => Outcome::Open(export),
+    }
+}

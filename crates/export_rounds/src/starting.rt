@@ -1,0 +1,90 @@
+//! Orders are started.
+ghost use Rattle.std.specs.Prelude.{◌≡◌, List, false, IfOk};
+ghost use Rattle.mds_board.specs.History.{World};
+ghost use Rattle.mds_types.specs.declared.order.Order.{Order as TheOrder};
+ghost use Rattle.export_rounds.specs.Asked.{AreAsked, AreSettled, IsAsked, is_waiting};
+ghost use Rattle.export_rounds.specs.Further.{IsFurther};
+
+use crate::desk::Desk;
+use crate::standing::Standing;
+use crate::stepping::start;
+use authority_map::Publisher;
+use board_state::BoardError;
+use mds_board::Board;
+use mds_types::Order;
+use naming::Naming;
+use std::alloc::{AllocError, Global};
+use std::mem::replace;
+
+/// The orders, as ones that wait.
+pub(crate) fn waiting(alloc: Global, orders: &[Order]) -> Result<Vec<Standing>, AllocError>
+    ensures { IfOk result (λ standings. (w : World) → AreAsked w w orders.now standings.items) }
+{
+    let mut standings = Vec::with_capacity(alloc, orders.len())?;
+    for order in orders {
+        standings.push(Standing::Waiting(order.copied(alloc)?))?;
+    }
+    Ok(standings)
+}
+
+/// Starts the orders of a rank that wait, and lays the exports on its desk.
+pub(crate) fn start_at<J: Naming, M: Publisher<J>>(
+    board: &mut Board<J, M>,
+    alloc: Global,
+    standings: &mut Vec<Standing>,
+    desk: &mut Desk,
+)
+    ensures further { IsFurther board.old board.new }
+    ensures asked { (first : World) (orders : List TheOrder) → IsFurther first board.old → AreAsked first board.old orders standings.old.items → AreAsked first board.new orders standings.new.items }
+{
+    for standing in standings.iter_mut() {
+        if standing.is_waiting_at(desk.rank) {
+            if let Some(export) = settle(board, alloc, standing) {
+                let _ = desk.exports.push(export);
+            }
+        }
+    }
+}
+
+/// Starts the orders that still wait: those whose exporter is no active rank, so that each is refused.
+pub(crate) fn settle_rest<J: Naming, M: Publisher<J>>(
+    board: &mut Board<J, M>,
+    alloc: Global,
+    standings: &mut Vec<Standing>,
+)
+    ensures further { IsFurther board.old board.new }
+    ensures asked { (first : World) (orders : List TheOrder) → IsFurther first board.old → AreAsked first board.old orders standings.old.items → AreAsked first board.new orders standings.new.items }
+    ensures settled { AreSettled standings.new.items }
+{
+    for standing in standings.iter_mut() {
+        let _ = settle(board, alloc, standing);
+    }
+}
+
+// Starts an order if it waits, and tells its export.
+fn settle<J: Naming, M: Publisher<J>>(
+    board: &mut Board<J, M>,
+    alloc: Global,
+    standing: &mut Standing,
+) -> Option<u32>
+    ensures further { IsFurther board.old board.new }
+    ensures asked { (first : World) (order : TheOrder) → IsFurther first board.old → IsAsked first board.old order standing.old → IsAsked first board.new order standing.new }
+    ensures settled { is_waiting standing.new ≡ false }
+{
+    match replace(standing, Standing::Refused(BoardError::Memory)) {
+        Standing::Waiting(order) => match start(board, alloc, order) {
+            Ok(export) => {
+                *standing = Standing::Started(export);
+                Some(export)
+            }
+            Err(error) => {
+                *standing = Standing::Refused(error);
+                None
+            }
+        },
+        settled => {
+            *standing = settled;
+            None
+        }
+    }
+}

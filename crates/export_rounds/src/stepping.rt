@@ -1,0 +1,50 @@
+//! Single steps on a board.
+ghost use Rattle.std.specs.Prelude.{◌≡◌, ◌++◌, ◌∷◌, [], length, true, IfOk, IfErr};
+ghost use Rattle.board_state.specs.declared.change.Change.TheVariants.{Step};
+ghost use Rattle.board_state.specs.Steps.{IsDue, is_inner};
+ghost use Rattle.export_rounds.specs.Further.{IsFurther};
+
+use authority_map::Publisher;
+use board_state::BoardError;
+use export_machine::{Event, Reply};
+use mds_board::Board;
+use mds_types::Order;
+use naming::Naming;
+use std::alloc::Global;
+
+/// An event of the cluster, and whether it was accepted. A refused one is passed over.
+pub(crate) fn try_step<J: Naming, M: Publisher<J>>(
+    board: &mut Board<J, M>,
+    alloc: Global,
+    event: Event,
+) -> bool
+    requires inner { is_inner event ≡ true }
+    ensures { IsFurther board.old board.new }
+{
+    board.step(alloc, event).is_ok()
+}
+
+/// Publishes the map, if memory suffices.
+pub(crate) fn try_publish<J: Naming, M: Publisher<J>>(board: &mut Board<J, M>)
+    ensures { IsFurther board.old board.new }
+{
+    let _ = board.publish();
+}
+
+/// Starts an export, and tells its number.
+pub(crate) fn start<J: Naming, M: Publisher<J>>(
+    board: &mut Board<J, M>,
+    alloc: Global,
+    order: Order,
+) -> Result<u32, BoardError>
+    ensures further { IsFurther board.old board.new }
+    ensures started { IfOk result (λ x. (x ≡ length board.old.state.cluster.orders) × (board.new.state.cluster.orders ≡ board.old.state.cluster.orders ++ order ∷ [])) }
+    ensures refused { IfErr result (λ e. IsDue board.old.state (Step (Event.Start order.from order.to order.dirs)) e) }
+{
+    let Order { from, to, dirs } = order;
+    let reply = board.step(alloc, Event::Start(from, to, dirs))?;
+    match reply {
+        Reply::Export(export, _) => Ok(export),
+        _ => unreachable!(),
+    }
+}

@@ -1,0 +1,102 @@
+//! The turn of a rank in a round.
+ghost use Rattle.export_rounds.specs.Further.{IsFurther};
+
+use crate::desk::{Desk, is_awaited, is_under_way};
+use crate::stepping::{try_publish, try_step};
+use authority_map::Publisher;
+use export_machine::{Cluster, Event, ExporterState};
+use mds_board::Board;
+use naming::Naming;
+use std::alloc::Global;
+
+/// A rank takes the messages that have come, goes on with its exports, and publishes the map if it changed that.
+pub(crate) fn take_turn<J: Naming, M: Publisher<J>>(
+    board: &mut Board<J, M>,
+    alloc: Global,
+    desk: &mut Desk,
+)
+    ensures { IsFurther board.old board.new }
+{
+    take_messages(board, alloc, &desk.messages);
+    desk.messages.clear();
+    freeze(board, alloc, &desk.exports);
+    if notify(board, alloc, &desk.exports) {
+        try_publish(board);
+    }
+    let cluster = board.cluster();
+    desk.exports.retain(|export| is_at_work(cluster, *export));
+}
+
+/// A rank asks what became of its imports that were left started.
+pub(crate) fn ask<J: Naming, M: Publisher<J>>(board: &mut Board<J, M>, alloc: Global, desk: &Desk)
+    ensures { IsFurther board.old board.new }
+{
+    for import in desk.imports.iter() {
+        try_step(board, alloc, Event::Ask(*import));
+    }
+}
+
+// Delivers messages, but for those about an export whose import is over.
+fn take_messages<J: Naming, M: Publisher<J>>(
+    board: &mut Board<J, M>,
+    alloc: Global,
+    messages: &[u32],
+)
+    ensures { IsFurther board.old board.new }
+{
+    for message in messages {
+        if is_wanted(board.cluster(), *message) {
+            try_step(board, alloc, Event::Deliver(*message));
+        }
+    }
+}
+
+fn is_wanted(cluster: &Cluster, message: u32) -> bool {
+    match cluster.to(message) {
+        Some((export, _)) => is_awaited(cluster, export),
+        None => false,
+    }
+}
+
+// Freezes the exports that are in state freezing.
+fn freeze<J: Naming, M: Publisher<J>>(board: &mut Board<J, M>, alloc: Global, exports: &[u32])
+    ensures { IsFurther board.old board.new }
+{
+    for export in exports {
+        if is_freezing(board.cluster(), *export) {
+            try_step(board, alloc, Event::Froze(*export));
+        }
+    }
+}
+
+// Notifies of the exports that are logged, and says whether it did.
+fn notify<J: Naming, M: Publisher<J>>(
+    board: &mut Board<J, M>,
+    alloc: Global,
+    exports: &[u32],
+) -> bool
+    ensures { IsFurther board.old board.new }
+{
+    let mut notified = false;
+    for export in exports {
+        if is_logged(board.cluster(), *export) {
+            notified |= try_step(board, alloc, Event::Notify(*export));
+        }
+    }
+    notified
+}
+
+fn is_freezing(cluster: &Cluster, export: u32) -> bool {
+    matches!(cluster.states(export), Some((ExporterState::Freezing, _)))
+}
+
+fn is_logged(cluster: &Cluster, export: u32) -> bool {
+    matches!(cluster.states(export), Some((ExporterState::Logged, _)))
+}
+
+fn is_at_work(cluster: &Cluster, export: u32) -> bool {
+    match cluster.states(export) {
+        Some((exporter, _)) => is_under_way(exporter),
+        None => false,
+    }
+}

@@ -1,0 +1,11 @@
+//! Tests of the rounds of exports, by their public calls.
+#![tactic(auto)]
+
+#[cfg(test)]
+mod boards;
+#[cfg(test)]
+mod many;
+#[cfg(test)]
+mod moves;
+#[cfg(test)]
+mod steps;

@@ -1,0 +1,82 @@
+//! A phase of many exports.
+ghost use Rattle.std.specs.Prelude.{◌≡◌};
+
+use crate::boards::open;
+use crate::steps::{moved, rank};
+use authority_map::Publisher;
+use export_rounds::Outcome;
+use mds_board::Board;
+use mds_types::Dir;
+use naming::Naming;
+use std::alloc::Global;
+use std::marker::Brand;
+use std::process::Abort;
+use std::sync::Wait;
+use std::test::Fail;
+
+/// Exports of the phase, each of one directory.
+const MANY: u32 = 32_768;
+
+// Directories 1 to MANY, at most eight below each.
+fn fill<J: Naming, M: Publisher<J>>(
+    rt: &impl Abort,
+    alloc: Global,
+    board: &mut Board<J, M>,
+) -> Result<(), Fail> {
+    for number in 0..MANY {
+        let name = format!(in alloc; "d{number}")?;
+        let made = board.make(alloc, Dir::new(number / 8), name.as_str(), 1);
+        assert!(rt; made.is_ok(), "{number}");
+    }
+    Ok(())
+}
+
+fn move_all<J: Naming, M: Publisher<J>>(
+    rt: &impl Abort,
+    alloc: Global,
+    board: &mut Board<J, M>,
+) -> Result<(), Fail> {
+    fill(rt, alloc, board)?;
+    let mut rows = Vec::with_capacity(alloc, MANY as usize)?;
+    for number in 0..MANY {
+        rows.push((0, 1, number + 1))?;
+    }
+    let outcomes = moved(alloc, board, &rows)?;
+    assert_eq!(rt; outcomes.len(), MANY as usize);
+    for (number, outcome) in (0..MANY).zip(outcomes.iter()) {
+        assert_eq!(rt; *outcome, Outcome::Done(number));
+    }
+    all_stand(rt, board);
+    Ok(())
+}
+
+fn all_stand<J: Naming, M: Publisher<J>>(rt: &impl Abort, board: &Board<J, M>) {
+    for number in 0..MANY {
+        let authority = board.cluster().authority(Dir::new(number + 1));
+        assert_eq!(rt; authority, Some(rank(1)), "{number}");
+    }
+}
+
+fn on_board<J: Naming, R: Wait + Drop>(
+    rt: &impl Abort,
+    waits: R,
+    alloc: Global,
+    book: heat_ledger::Opened,
+    map: authority_map::Opened,
+) -> Result<(), Fail>
+    requires book { book ≡ J.ledger }
+    requires map { map ≡ J.map }
+    requires limit { J.limit ≡ 65536 }
+{
+    let mut board = open::<J, R>(waits, alloc, book, map, 65536, 2)?;
+    let done = move_all(rt, alloc, &mut board);
+    board.end();
+    done
+}
+
+#[test]
+fn each_of_many_exports_is_done(rt: HostRuntime) -> Result<(), Fail> {
+    let book = heat_ledger::Opened::new(rt.alloc())?;
+    let map = authority_map::Opened::new();
+    on_board::<Brand, _>(&rt, &rt, rt.alloc(), book, map)
+}

@@ -1,0 +1,33 @@
+-- What a script has made: the board, the shares of its ledger, the requests that wait, and the orders that were kept.
+use Rattle.std.specs.Prelude.{ℕ, ◌<◌, List, [], length, replicate, true, All}
+use Rattle.heat_ledger.specs.Ledger.{ShareData}
+use Rattle.heat_ledger.specs.Opening.{fresh_share}
+use Rattle.mds_types.specs.declared.order.Order.{Order}
+use Rattle.board_state.specs.State.{start}
+use Rattle.mds_board.specs.History.{World}
+use Rattle.script_board.specs.declared.load.Load.{Load}
+
+-- share k is the one of rank k; kept are the orders of the last plan, until they are carried out or forgotten
+pub record BoardData : Type 0 where
+  pub world : World
+  pub shares : List ShareData
+  pub loads : List Load
+  pub kept : List Order
+
+-- the root alone at rank 0, without pin, heat, hit, mask or request; the map isn't published yet
+abbrev pub empty_board : ℕ → ℕ → BoardData
+empty_board limit active = record {
+  world = record { state = start limit active; is_open = true; shares = active; published = []; history = [] };
+  shares = replicate active (fresh_share limit);
+  loads = [];
+  kept = [];
+}
+
+-- readers see all operations on the map
+abbrev pub publish : BoardData → BoardData
+publish b = record b { world = record b.world { published = b.world.state.map } }
+
+-- The requests are on directories below the limit, and rank 0 has a share.
+pub record IsBoard (limit : ℕ) (b : BoardData) : Type 0 where
+  pub loads_inside : All (λ load. load.dir < limit) b.loads
+  pub some_shares : 0 < length b.shares

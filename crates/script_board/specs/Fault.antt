@@ -1,0 +1,40 @@
+-- Why a line is faulty.
+use Rattle.std.specs.Prelude.{◌≡◌, ◌⊎◌, Bool, true, false, Option, Some, None, Result, Ok, Err, IsOk}
+use Rattle.dirtree.specs.declared.tree_error.TreeError.{TreeError}
+use Rattle.board_state.specs.declared.board_error.BoardError.{BoardError}
+use Rattle.board_state.specs.declared.board_error.BoardError.TheVariants as board
+use Rattle.board_state.specs.Refused.{tree_refused}
+use Rattle.script_board.specs.declared.fault.Fault.{Fault}
+use Rattle.script_board.specs.declared.fault.Fault.TheVariants.{Memory, Refused}
+
+-- want of memory is one fault, wherever it comes from
+abbrev pub board_fault : BoardError → Fault
+board_fault board.Memory = Memory
+board_fault (board.Tree e) = Refused (board.Tree e)
+board_fault (board.Pin e) = Refused (board.Pin e)
+board_fault (board.Step e) = Refused (board.Step e)
+board_fault board.BalancerOff = Refused board.BalancerOff
+board_fault board.NoProblem = Refused board.NoProblem
+board_fault (board.Changed event) = Refused (board.Changed event)
+board_fault board.NotBest = Refused board.NotBest
+board_fault board.HistoryFull = Refused board.HistoryFull
+
+abbrev pub tree_fault : TreeError → Fault
+tree_fault e = board_fault (tree_refused e)
+
+-- what is done, unless a cause stands
+abbrev pub unless : {A : Type 0} → Option BoardError → A → Result A Fault
+unless None x = Ok x
+unless (Some e) x = Err (board_fault e)
+
+-- the fault is the one that is due, or want of memory where none is
+abbrev pub IsDue : {A : Type 0} → Result A Fault → Fault → Type 0
+IsDue due fault = (due ≡ Err fault) ⊎ ((fault ≡ Memory) × IsOk due)
+
+-- the same of a line, which may also have found no room for its fields, whatever it says
+abbrev pub IsDueOrNoRoom : {A : Type 0} → Result A Fault → Fault → Type 0
+IsDueOrNoRoom due fault = IsDue due fault ⊎ (fault ≡ Memory)
+
+abbrev pub is_memory : Fault → Bool
+is_memory Memory = true
+is_memory _ = false

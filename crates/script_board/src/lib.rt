@@ -1,0 +1,20 @@
+//! What a script has made: a board with the shares of its ledger, the requests that wait, and the orders of the last plan;
+//! and what each command of a script does to it.
+#![tactic(auto)]
+
+mod commands;
+mod cost;
+pub mod fault;
+pub mod load;
+mod moving;
+pub mod parts;
+pub mod plan;
+mod reads;
+pub mod script_board;
+mod serve;
+mod stat;
+
+pub use fault::Fault;
+pub use load::Load;
+pub use parts::Parts;
+pub use script_board::ScriptBoard;

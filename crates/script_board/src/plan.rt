@@ -1,0 +1,40 @@
+//! The command `plan`: a best plan for the directories that no pin holds.
+ghost use Rattle.std.specs.Prelude.{◌≡◌, IfErr, IfOk, OnErr, OnOk};
+ghost use Rattle.mds_types.specs.Certificate.{IsBest, IsCertified};
+ghost use Rattle.mds_types.specs.declared.plan.Plan.{Plan as ThePlan};
+ghost use Rattle.script_board.specs.Fault.{IsDue};
+ghost use Rattle.script_board.specs.Plan.{IsPlanned, plan_due};
+
+use crate::fault::Fault;
+use crate::script_board::ScriptBoard;
+use authority_map::Publisher;
+use board_state::Solver;
+use mds_types::{Plan, Problem};
+use naming::Naming;
+use planner::solve;
+use std::alloc::{AllocError, Global};
+use std::thread::Threads;
+
+/// The planner, on a program's threads.
+#[derive(Drop)]
+pub struct Planner<'r, R: Threads> {
+    rt: &'r R,
+}
+
+impl<'r, R: Threads> Solver for Planner<'r, R> {
+    fn solve(&self, alloc: Global, problem: &Problem) -> Result<Plan, AllocError> {
+        solve(self.rt, alloc, problem)
+    }
+}
+
+impl<J: Naming, M: Publisher<J>> ScriptBoard<J, M> {
+    /// Makes a best plan and adopts it. Its orders are kept, in place of earlier ones, for the next `move`.
+    pub fn plan<R: Threads>(&mut self, rt: &R, alloc: Global) -> Result<(), Fault>
+        ensures done { OnOk result ((plan : ThePlan) × IsPlanned self.old plan self.new) }
+        ensures fault { IfErr result (IsDue (plan_due self.old)) }
+        ensures unchanged { OnErr result (self.new ≡ self.old) }
+    {
+        self.kept = self.board.balance(alloc, &Planner { rt })?;
+        Ok(())
+    }
+}

@@ -1,0 +1,87 @@
+//! What a report and a plan read of the board.
+ghost use Rattle.std.specs.Prelude.{◌≡◌, ◌<◌, ◌≤◌, IfOk, IsTrue, length, slice_index, slice_index_or, string_bytes, true};
+ghost use Rattle.authority_map.specs.Operations.{rank_after};
+ghost use Rattle.dirtree.specs.Path.{path_of};
+ghost use Rattle.dirtree.specs.Tree.{is_there};
+ghost use Rattle.dir_pins.specs.Pins.{nearest_pin};
+ghost use Rattle.board_state.specs.State.{usable};
+
+use crate::script_board::ScriptBoard;
+use authority_map::Publisher;
+use mds_types::{Dir, Rank, RankSet};
+use naming::Naming;
+use std::alloc::{AllocError, Global};
+
+impl<J: Naming, M: Publisher<J>> ScriptBoard<J, M> {
+    /// How many directory numbers were given.
+    pub fn numbers(&self) -> u32
+        ensures count { result ≡ length self.now.world.state.directories.entries }
+        ensures some { 1 ≤ result }
+    {
+        self.board.tree().numbers()
+    }
+
+    /// Whether there is such a directory.
+    pub fn contains(&self, dir: Dir) -> bool
+        ensures there { result ≡ is_there self.now.world.state.directories.entries dir }
+        ensures below { IsTrue result → dir < self.now.world.state.directories.limit }
+    {
+        self.board.tree().contains(dir)
+    }
+
+    /// The path of a directory that is there.
+    pub fn path(&self, alloc: Global, dir: Dir) -> Result<String, AllocError>
+        requires { is_there self.now.world.state.directories.entries dir ≡ true }
+        ensures { IfOk result (λ path. string_bytes path ≡ path_of self.now.world.state.directories.entries dir) }
+    {
+        match self.board.tree().path(alloc, dir) {
+            Ok(path) => Ok(path),
+            Err(_) => Err(AllocError),
+        }
+    }
+
+    /// The pin that holds a directory that is there.
+    pub fn pin_of(&self, dir: Dir) -> Option<Rank>
+        requires { is_there self.now.world.state.directories.entries dir ≡ true }
+        ensures { result ≡ nearest_pin self.now.world.state.directories.entries self.now.world.state.pins.own dir }
+    {
+        self.board.pin_of(dir)
+    }
+
+    /// How many ranks are active.
+    pub fn active(&self) -> u8
+        ensures { result ≡ self.now.world.state.pins.active }
+    {
+        self.board.pins().active()
+    }
+
+    /// The active ranks that the mask has.
+    pub fn usable(&self) -> RankSet
+        ensures { result ≡ usable self.now.world.state }
+    {
+        self.board.usable()
+    }
+
+    /// The heat of a directory, in accesses.
+    pub fn heat_of(&self, dir: Dir) -> u64
+        requires { dir < self.now.world.state.directories.limit }
+        ensures { result ≡ slice_index self.now.world.state.heats.heats dir }
+    {
+        self.board.heat_of(dir)
+    }
+
+    /// The hits on a directory that were deposited.
+    pub fn hits_of(&self, dir: Dir) -> u64
+        ensures { result ≡ slice_index_or self.now.world.state.counted dir 0 }
+    {
+        self.board.counted(dir)
+    }
+
+    /// The rank that a reader of the map finds for a directory.
+    pub fn rank_of(&mut self, dir: Dir) -> Option<Rank>
+        ensures rank { result ≡ rank_after self.old.world.published dir }
+        ensures same { self.new ≡ self.old }
+    {
+        self.board.find_published(&mut self.reader, dir)
+    }
+}
