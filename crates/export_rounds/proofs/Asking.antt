@@ -1,6 +1,9 @@
 -- How orders stand while a board goes on.
-use Rattle.std.proofs.Common.{◌≡◌, ◌≤◌, ◌<◌, ◌+◌, ℕ, zero, suc, false, take, List, [], ◌∷◌, ◌++◌, length, Some, slice_get, get_or, refl, sym, ap, ◌∙◌, subst, arith}
+use Rattle.std.proofs.Common.{◌≡◌, ◌≤◌, ◌<◌, ◌+◌, ℕ, zero, suc, Bool, cond, false, take, List, [], ◌∷◌, ◌++◌, length, Some, slice_get, get_or, refl, sym, ap, ◌∙◌, subst, arith}
 use Rattle.std.proofs.Math.ListN.{set}
+use Rattle.std.proofs.lemmas.List.Sums.{sum_by-append, sum_by-set}
+use Rattle.std.specs.List.{count_by}
+use Rattle.export_rounds.specs.Asked.{ones}
 use Rattle.mds_types.specs.declared.order.Order.{Order}
 use Rattle.mds_board.specs.History.{World}
 use Rattle.export_rounds.specs.declared.standing.Standing.{Standing}
@@ -86,3 +89,12 @@ pub one_changed : (first now new : World) (orders : List Order) (standings : Lis
     → AreAsked first new orders (set standings k s)
 one_changed first now new orders standings k s d h near f all =
     each_set (IsAsked first now) (IsAsked first new) (asked_stays first now new h) orders standings k s d near f all
+
+-- counts
+
+pub count_snoc : {A : Type 0} (p : A → Bool) (xs : List A) (x : A) → count_by p (xs ++ x ∷ []) ≡ count_by p xs + ones (p x)
+count_snoc p xs x = let e = sum_by-append (λ y. cond (p y) 1 0) xs (x ∷ []) in omega (arith, e)
+
+pub count_set : {A : Type 0} (p : A → Bool) (xs : List A) (i : ℕ) (x d : A) → i < length xs
+    → count_by p (set xs i x) + ones (p (get_or xs i d)) ≡ count_by p xs + ones (p x)
+count_set p xs i x d h = sum_by-set (λ y. cond (p y) 1 0) xs i x d h

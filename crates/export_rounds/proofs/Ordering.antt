@@ -1,5 +1,5 @@
 -- Exports that were started stay.
-use Rattle.std.proofs.Common.{◌≡◌, ◌≤◌, ℕ, zero, suc, Bool, true, false, cond, List, [], ◌∷◌, ◌++◌, length, All, Some, slice_get, refl, sym, ap, ◌∙◌, arith, append-nil, append_assoc, length-append}
+use Rattle.std.proofs.Common.{◌≡◌, ◌≤◌, ℕ, zero, suc, Bool, true, false, cond, Result, Ok, Err, MatchBool, List, [], ◌∷◌, ◌++◌, length, All, Some, slice_get, refl, sym, ap, ◌∙◌, arith, append-nil, append_assoc, length-append}
 use Rattle.export_machine.specs.Authority.{is_stopped}
 use Rattle.export_machine.specs.Cluster.{World as Cluster}
 use Rattle.export_machine.specs.declared.event.Event.{Event}
@@ -14,12 +14,14 @@ use Rattle.board_state.specs.declared.change.Change.TheVariants.{Make, Remove, M
 use Rattle.board_state.specs.declared.change.Change.TheVariants as change
 use Rattle.board_state.specs.declared.change.Answer.TheVariants as answer
 use Rattle.board_state.specs.State.{State, after_event, happens, next}
-use Rattle.board_state.specs.Steps.{is_inner}
+use Rattle.board_state.specs.declared.board_error.BoardError.{BoardError}
+use Rattle.board_state.specs.Steps.{is_inner, spelled}
 use Rattle.board_state.proofs.Mapping.{after_step}
 use Rattle.mds_board.specs.declared.entry.Entry.{Entry}
-use Rattle.mds_board.specs.History.{World, IsReplay, recorded}
+use Rattle.mds_board.specs.History.{World, IsAnswer, IsReplay, recorded}
 use Rattle.export_rounds.specs.Further.{IsFurther, IsInner}
-use Rattle.export_rounds.proofs.Going.{head_has, tail_have}
+use Rattle.export_rounds.specs.Asked.{StartsNone, is_later}
+use Rattle.export_rounds.proofs.Going.{head_has, joins, publishes, stays, steps, tail_have}
 
 -- the order that an event starts
 abbrev pub started_by : Event → List Order
@@ -94,3 +96,44 @@ pub start_orders : (old new : World) (order : Order) → new ≡ recorded old (S
 start_orders old new order h =
     ap (λ (w : World). w.state.cluster.orders) h
     ∙ (ap (λ (t : State). t.cluster.orders) (after_step old.state (Start order.from order.to order.dirs) refl) ∙ event_orders old.state.cluster (Start order.from order.to order.dirs) refl)
+
+-- no export is started
+
+pub stays_none : (w : World) → StartsNone w w
+stays_none w = record { further = stays w; orders = refl }
+
+pub joins_none : (old between new : World) → StartsNone old between → StartsNone between new → StartsNone old new
+joins_none old between new h k = record { further = joins old between new h.further k.further; orders = k.orders ∙ h.orders }
+
+none_by : (e : Event) → is_later e ≡ true → started_by e ≡ []
+none_by (Start from to dirs) h = absurd (cc)
+none_by (Made p) h = refl
+none_by (Gone d) h = refl
+none_by (Begin r d) h = refl
+none_by (End t) h = refl
+none_by (Deliver m) h = refl
+none_by (Froze x) h = refl
+none_by (Notify x) h = refl
+none_by (Abort x) h = refl
+none_by (Stop r) h = refl
+none_by (Restart r) h = refl
+none_by (Ask x) h = refl
+
+later_orders : (old new : World) (e : Event) → is_inner e ≡ true → is_later e ≡ true → new ≡ recorded old (Step e) → new.state.cluster.orders ≡ old.state.cluster.orders
+later_orders old new e inner later h =
+    ap (λ (w : World). w.state.cluster.orders) h
+    ∙ (ap (λ (t : State). t.cluster.orders) (after_step old.state e inner)
+    ∙ (event_orders old.state.cluster e inner ∙ (ap (λ os. old.state.cluster.orders ++ os) (none_by e later) ∙ append-nil old.state.cluster.orders)))
+
+answer_orders : (old : World) (e : Event) (result : Result Reply BoardError) (new : World) → is_inner e ≡ true → is_later e ≡ true
+    → IsAnswer old (Step e) (spelled answer.Reply result) new → new.state.cluster.orders ≡ old.state.cluster.orders
+answer_orders old e (Ok r) new inner later h = later_orders old new e inner later h.3
+answer_orders old e (Err error) new inner later h = ap (λ (w : World). w.state.cluster.orders) h.1
+
+pub steps_none : (old : World) (e : Event) (result : Result Reply BoardError) (new : World) → is_inner e ≡ true → is_later e ≡ true
+    → IsAnswer old (Step e) (spelled answer.Reply result) new → StartsNone old new
+steps_none old e result new inner later h = record { further = steps old e result new inner h; orders = answer_orders old e result new inner later h }
+
+pub publishes_none : (done : Bool) (old new : World) → MatchBool done (new ≡ record old { published = old.state.map }) (new ≡ old) → StartsNone old new
+publishes_none true old new h = record { further = publishes true old new h; orders = ap (λ (w : World). w.state.cluster.orders) h }
+publishes_none false old new h = record { further = publishes false old new h; orders = ap (λ (w : World). w.state.cluster.orders) h }

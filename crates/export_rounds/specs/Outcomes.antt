@@ -1,5 +1,5 @@
 -- What became of orders.
-use Rattle.std.specs.Prelude.{◌≡◌, ◌≤◌, ℕ, List, length, slice_get, Some}
+use Rattle.std.specs.Prelude.{◌≡◌, ◌≤◌, ◌+◌, ℕ, Bool, true, false, List, length, count_by, slice_get, Some}
 use Rattle.export_machine.specs.Authority.{exporter_of, importer_of}
 use Rattle.export_machine.specs.declared.event.Event.TheVariants.{Start}
 use Rattle.export_machine.specs.declared.exporter.ExporterState.{ExporterState}
@@ -46,3 +46,12 @@ IsOutcome old new order told = IsTold old new order told
 -- one for each order, in their order
 abbrev pub AreOutcomes : World → World → List Order → List Outcome → Type 0
 AreOutcomes old new orders outcomes = AreEach (IsOutcome old new) orders outcomes
+
+-- an export was started for it
+abbrev pub is_started : Outcome → Bool
+is_started (Refused error) = false
+is_started _ = true
+
+-- No other exports were started.
+abbrev pub AreAll : World → World → List Outcome → Type 0
+AreAll old new outcomes = length new.state.cluster.orders ≡ length old.state.cluster.orders + count_by is_started outcomes

@@ -1,11 +1,10 @@
 //! The end of a phase.
-ghost use Rattle.std.specs.Prelude.{◌≡◌, ◌<◌, ◌≤◌, List, [], false, length, vec_capacity};
+ghost use Rattle.std.specs.Prelude.{◌≡◌, ◌<◌, ◌≤◌, List, [], count_by, false, true, length, vec_capacity};
 ghost use Rattle.export_machine.specs.Authority.{exporter_of, importer_of};
 ghost use Rattle.mds_board.specs.History.{World};
 ghost use Rattle.mds_types.specs.declared.order.Order.{Order as TheOrder};
-ghost use Rattle.export_rounds.specs.Asked.{AreAsked, AreSettled, IsAsked, is_waiting};
-ghost use Rattle.export_rounds.specs.Further.{IsFurther};
-ghost use Rattle.export_rounds.specs.Outcomes.{AreOutcomes, IsOutcome, word};
+ghost use Rattle.export_rounds.specs.Asked.{AreAsked, AreSettled, IsAsked, StartsNone, is_begun, is_waiting};
+ghost use Rattle.export_rounds.specs.Outcomes.{AreOutcomes, IsOutcome, is_started, word};
 
 use crate::outcome::Outcome;
 use crate::standing::Standing;
@@ -22,7 +21,7 @@ pub(crate) fn abort_rest<J: Naming, M: Publisher<J>>(
     alloc: Global,
     standings: &[Standing],
 )
-    ensures { IsFurther board.old board.new }
+    ensures { StartsNone board.old board.new }
 {
     for standing in standings {
         if let Standing::Started(export) = standing {
@@ -51,7 +50,8 @@ pub(crate) fn tell(cluster: &Cluster, standings: &[Standing], outcomes: &mut Vec
     requires settled { AreSettled standings.now }
     requires room { length standings.now ≤ vec_capacity outcomes.old }
     requires none { outcomes.old.items ≡ [] }
-    ensures { (first now : World) (orders : List TheOrder) → now.state.cluster ≡ cluster.now.world → AreAsked first now orders standings.now → AreOutcomes first now orders outcomes.new.items }
+    ensures told { (first now : World) (orders : List TheOrder) → now.state.cluster ≡ cluster.now.world → AreAsked first now orders standings.now → AreOutcomes first now orders outcomes.new.items }
+    ensures counted { count_by is_started outcomes.new.items ≡ count_by is_begun standings.now }
 {
     for standing in standings {
         outcomes.push_reserved(outcome(cluster, standing));
@@ -61,7 +61,8 @@ pub(crate) fn tell(cluster: &Cluster, standings: &[Standing], outcomes: &mut Vec
 // What became of an order.
 fn outcome(cluster: &Cluster, standing: &Standing) -> Outcome
     requires settled { is_waiting standing.now ≡ false }
-    ensures { (first now : World) (order : TheOrder) → now.state.cluster ≡ cluster.now.world → IsAsked first now order standing.now → IsOutcome first now order result }
+    ensures told { (first now : World) (order : TheOrder) → now.state.cluster ≡ cluster.now.world → IsAsked first now order standing.now → IsOutcome first now order result }
+    ensures counted { is_started result ≡ is_begun standing.now }
 {
     match standing {
         Standing::Waiting(_) => unreachable!(),
@@ -72,7 +73,8 @@ fn outcome(cluster: &Cluster, standing: &Standing) -> Outcome
 
 // How an export stands.
 fn outcome_of(cluster: &Cluster, export: u32) -> Outcome
-    ensures { export < length cluster.now.world.orders → result ≡ word export (exporter_of cluster.now.world export) (importer_of cluster.now.world export) }
+    ensures told { export < length cluster.now.world.orders → result ≡ word export (exporter_of cluster.now.world export) (importer_of cluster.now.world export) }
+    ensures started { is_started result ≡ true }
 {
     match cluster.states(export) {
         Some((_, ImporterState::Imported)) => Outcome::Done(export),

@@ -1,10 +1,10 @@
 //! A phase of exports.
-ghost use Rattle.std.specs.Prelude.{◌≡◌, List, IfOk, OnErr};
+ghost use Rattle.std.specs.Prelude.{◌≡◌, ◌+◌, List, count_by, length, IfOk, OnErr};
 ghost use Rattle.mds_board.specs.History.{World};
 ghost use Rattle.mds_types.specs.declared.order.Order.{Order as TheOrder};
-ghost use Rattle.export_rounds.specs.Asked.{AreAsked};
+ghost use Rattle.export_rounds.specs.Asked.{AreAsked, StartsNone, is_begun};
 ghost use Rattle.export_rounds.specs.Further.{IsFurther};
-ghost use Rattle.export_rounds.specs.Outcomes.{AreOutcomes};
+ghost use Rattle.export_rounds.specs.Outcomes.{AreAll, AreOutcomes};
 
 use crate::closing::{abort_rest, tell};
 use crate::desk::{Desk, set_up, sort_out};
@@ -34,6 +34,7 @@ pub fn carry_out_orders<J: Naming, M: Publisher<J>>(
 ) -> Result<Vec<Outcome>, AllocError>
     ensures further { IsFurther board.old board.new }
     ensures outcomes { IfOk result (λ outcomes. AreOutcomes board.old board.new orders.now outcomes.items) }
+    ensures all { IfOk result (λ outcomes. AreAll board.old board.new outcomes.items) }
     ensures unchanged { OnErr result (board.new ≡ board.old) }
 {
     let mut outcomes = Vec::with_capacity(alloc, orders.len())?;
@@ -57,6 +58,7 @@ fn first_round<J: Naming, M: Publisher<J>>(
 )
     ensures further { IsFurther board.old board.new }
     ensures asked { (first : World) (orders : List TheOrder) → IsFurther first board.old → AreAsked first board.old orders standings.old.items → AreAsked first board.new orders standings.new.items }
+    ensures counted { length board.new.state.cluster.orders + count_by is_begun standings.old.items ≡ length board.old.state.cluster.orders + count_by is_begun standings.new.items }
 {
     for desk in desks.iter_mut() {
         start_at(board, alloc, standings, desk);
@@ -72,7 +74,7 @@ fn later_rounds<J: Naming, M: Publisher<J>>(
     desks: &mut Vec<Desk>,
     first: u32,
 )
-    ensures { IsFurther board.old board.new }
+    ensures { StartsNone board.old board.new }
 {
     let mut seen = first;
     for _ in 0..LATER_ROUNDS {
@@ -89,7 +91,7 @@ fn take_turns<J: Naming, M: Publisher<J>>(
     alloc: Global,
     desks: &mut Vec<Desk>,
 )
-    ensures { IsFurther board.old board.new }
+    ensures { StartsNone board.old board.new }
 {
     for desk in desks.iter_mut() {
         take_turn(board, alloc, desk);

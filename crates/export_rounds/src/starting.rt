@@ -1,8 +1,8 @@
 //! Orders are started.
-ghost use Rattle.std.specs.Prelude.{◌≡◌, List, false, IfOk};
+ghost use Rattle.std.specs.Prelude.{◌≡◌, ◌+◌, List, count_by, false, length, IfOk};
 ghost use Rattle.mds_board.specs.History.{World};
 ghost use Rattle.mds_types.specs.declared.order.Order.{Order as TheOrder};
-ghost use Rattle.export_rounds.specs.Asked.{AreAsked, AreSettled, IsAsked, is_waiting};
+ghost use Rattle.export_rounds.specs.Asked.{AreAsked, AreSettled, IsAsked, is_begun, is_waiting, ones};
 ghost use Rattle.export_rounds.specs.Further.{IsFurther};
 
 use crate::desk::Desk;
@@ -18,7 +18,8 @@ use std::mem::replace;
 
 /// The orders, as ones that wait.
 pub(crate) fn waiting(alloc: Global, orders: &[Order]) -> Result<Vec<Standing>, AllocError>
-    ensures { IfOk result (λ standings. (w : World) → AreAsked w w orders.now standings.items) }
+    ensures asked { IfOk result (λ standings. (w : World) → AreAsked w w orders.now standings.items) }
+    ensures none { IfOk result (λ standings. count_by is_begun standings.items ≡ 0) }
 {
     let mut standings = Vec::with_capacity(alloc, orders.len())?;
     for order in orders {
@@ -36,6 +37,7 @@ pub(crate) fn start_at<J: Naming, M: Publisher<J>>(
 )
     ensures further { IsFurther board.old board.new }
     ensures asked { (first : World) (orders : List TheOrder) → IsFurther first board.old → AreAsked first board.old orders standings.old.items → AreAsked first board.new orders standings.new.items }
+    ensures counted { length board.new.state.cluster.orders + count_by is_begun standings.old.items ≡ length board.old.state.cluster.orders + count_by is_begun standings.new.items }
 {
     for standing in standings.iter_mut() {
         if standing.is_waiting_at(desk.rank) {
@@ -54,6 +56,7 @@ pub(crate) fn settle_rest<J: Naming, M: Publisher<J>>(
 )
     ensures further { IsFurther board.old board.new }
     ensures asked { (first : World) (orders : List TheOrder) → IsFurther first board.old → AreAsked first board.old orders standings.old.items → AreAsked first board.new orders standings.new.items }
+    ensures counted { length board.new.state.cluster.orders + count_by is_begun standings.old.items ≡ length board.old.state.cluster.orders + count_by is_begun standings.new.items }
     ensures settled { AreSettled standings.new.items }
 {
     for standing in standings.iter_mut() {
@@ -69,6 +72,7 @@ fn settle<J: Naming, M: Publisher<J>>(
 ) -> Option<u32>
     ensures further { IsFurther board.old board.new }
     ensures asked { (first : World) (order : TheOrder) → IsFurther first board.old → IsAsked first board.old order standing.old → IsAsked first board.new order standing.new }
+    ensures counted { length board.new.state.cluster.orders + ones (is_begun standing.old) ≡ length board.old.state.cluster.orders + ones (is_begun standing.new) }
     ensures settled { is_waiting standing.new ≡ false }
 {
     match replace(standing, Standing::Refused(BoardError::Memory)) {

@@ -1,7 +1,8 @@
 //! Single steps on a board.
-ghost use Rattle.std.specs.Prelude.{◌≡◌, ◌++◌, ◌∷◌, [], length, true, IfOk, IfErr};
+ghost use Rattle.std.specs.Prelude.{◌≡◌, ◌++◌, ◌∷◌, [], length, true, IfOk, IfErr, OnErr};
 ghost use Rattle.board_state.specs.declared.change.Change.TheVariants.{Step};
 ghost use Rattle.board_state.specs.Steps.{IsDue, is_inner};
+ghost use Rattle.export_rounds.specs.Asked.{StartsNone, is_later};
 ghost use Rattle.export_rounds.specs.Further.{IsFurther};
 
 use authority_map::Publisher;
@@ -19,14 +20,15 @@ pub(crate) fn try_step<J: Naming, M: Publisher<J>>(
     event: Event,
 ) -> bool
     requires inner { is_inner event ≡ true }
-    ensures { IsFurther board.old board.new }
+    requires later { is_later event ≡ true }
+    ensures { StartsNone board.old board.new }
 {
     board.step(alloc, event).is_ok()
 }
 
 /// Publishes the map, if memory suffices.
 pub(crate) fn try_publish<J: Naming, M: Publisher<J>>(board: &mut Board<J, M>)
-    ensures { IsFurther board.old board.new }
+    ensures { StartsNone board.old board.new }
 {
     let _ = board.publish();
 }
@@ -40,6 +42,7 @@ pub(crate) fn start<J: Naming, M: Publisher<J>>(
     ensures further { IsFurther board.old board.new }
     ensures started { IfOk result (λ x. (x ≡ length board.old.state.cluster.orders) × (board.new.state.cluster.orders ≡ board.old.state.cluster.orders ++ order ∷ [])) }
     ensures refused { IfErr result (λ e. IsDue board.old.state (Step (Event.Start order.from order.to order.dirs)) e) }
+    ensures unchanged { OnErr result (board.new ≡ board.old) }
 {
     let Order { from, to, dirs } = order;
     let reply = board.step(alloc, Event::Start(from, to, dirs))?;

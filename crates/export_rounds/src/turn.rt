@@ -1,5 +1,5 @@
 //! The turn of a rank in a round.
-ghost use Rattle.export_rounds.specs.Further.{IsFurther};
+ghost use Rattle.export_rounds.specs.Asked.{StartsNone};
 
 use crate::desk::{Desk, is_awaited, is_under_way};
 use crate::stepping::{try_publish, try_step};
@@ -15,7 +15,7 @@ pub(crate) fn take_turn<J: Naming, M: Publisher<J>>(
     alloc: Global,
     desk: &mut Desk,
 )
-    ensures { IsFurther board.old board.new }
+    ensures { StartsNone board.old board.new }
 {
     take_messages(board, alloc, &desk.messages);
     desk.messages.clear();
@@ -29,7 +29,7 @@ pub(crate) fn take_turn<J: Naming, M: Publisher<J>>(
 
 /// A rank asks what became of its imports that were left started.
 pub(crate) fn ask<J: Naming, M: Publisher<J>>(board: &mut Board<J, M>, alloc: Global, desk: &Desk)
-    ensures { IsFurther board.old board.new }
+    ensures { StartsNone board.old board.new }
 {
     for import in desk.imports.iter() {
         try_step(board, alloc, Event::Ask(*import));
@@ -42,7 +42,7 @@ fn take_messages<J: Naming, M: Publisher<J>>(
     alloc: Global,
     messages: &[u32],
 )
-    ensures { IsFurther board.old board.new }
+    ensures { StartsNone board.old board.new }
 {
     for message in messages {
         if is_wanted(board.cluster(), *message) {
@@ -60,7 +60,7 @@ fn is_wanted(cluster: &Cluster, message: u32) -> bool {
 
 // Freezes the exports that are in state freezing.
 fn freeze<J: Naming, M: Publisher<J>>(board: &mut Board<J, M>, alloc: Global, exports: &[u32])
-    ensures { IsFurther board.old board.new }
+    ensures { StartsNone board.old board.new }
 {
     for export in exports {
         if is_freezing(board.cluster(), *export) {
@@ -75,7 +75,7 @@ fn notify<J: Naming, M: Publisher<J>>(
     alloc: Global,
     exports: &[u32],
 ) -> bool
-    ensures { IsFurther board.old board.new }
+    ensures { StartsNone board.old board.new }
 {
     let mut notified = false;
     for export in exports {

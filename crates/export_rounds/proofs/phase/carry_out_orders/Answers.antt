@@ -1,6 +1,8 @@
-use Rattle.std.proofs.Common.{List, length, ap, sym, subst, arith}
+use Rattle.std.proofs.Common.{List, length, ap, sym, subst, arith, ◌∙◌}
+use Rattle.std.specs.List.{count_by}
+use Rattle.mds_types.specs.declared.order.Order.{Order}
 use Rattle.export_rounds.specs.declared.standing.Standing.{Standing}
-use Rattle.export_rounds.specs.Asked.{AreAsked, IsAsked}
+use Rattle.export_rounds.specs.Asked.{AreAsked, IsAsked, is_begun}
 use Rattle.export_rounds.proofs.Asking.{all_stay, each_long}
 use Rattle.export_rounds.proofs.Going.{joins, stays}
 use Rattle.export_rounds.proofs.phase.carry_out_orders.Goals as goal
@@ -9,9 +11,9 @@ pub tell-requires-clause-room : goal.tell-requires-clause-room
 tell-requires-clause-room g c =
     let b = c.args.board.now in
     let orders = c.args.orders.now in
-    let asked = c.first_round.ensures.asked b orders (stays b) (c.in_ok-standings.ensures b) in
-    let later = all_stay b c.first_round.new.board c.later_rounds.new.board orders c.first_round.new.standings.items c.later_rounds.ensures asked in
-    let settled = c.settle_rest.ensures.asked b orders (joins _ _ _ c.first_round.ensures.further c.later_rounds.ensures) later in
+    let asked = c.first_round.ensures.asked b orders (stays b) (c.in_ok-standings.ensures.asked b) in
+    let later = all_stay b c.first_round.new.board c.later_rounds.new.board orders c.first_round.new.standings.items c.later_rounds.ensures.further asked in
+    let settled = c.settle_rest.ensures.asked b orders (joins _ _ _ c.first_round.ensures.further c.later_rounds.ensures.further) later in
     let long = each_long (IsAsked b c.settle_rest.new.board) orders c.settle_rest.new.standings.items settled in
     let same = ap (λ (xs : List Standing). length xs) c.deref-2.ensures.value in
     let exact = c.in_ok-outcomes.ensures.exact in
@@ -19,15 +21,25 @@ tell-requires-clause-room g c =
 
 pub returns-clause-further : goal.returns-clause-further
 returns-clause-further g c =
-    joins _ _ _ c.first_round.ensures.further (joins _ _ _ c.later_rounds.ensures (joins _ _ _ c.settle_rest.ensures.further c.abort_rest.ensures))
+    joins _ _ _ c.first_round.ensures.further (joins _ _ _ c.later_rounds.ensures.further (joins _ _ _ c.settle_rest.ensures.further c.abort_rest.ensures.further))
 
 pub returns-clause-outcomes : goal.returns-clause-outcomes
 returns-clause-outcomes g c =
     let b = c.args.board.now in
     let orders = c.args.orders.now in
-    let asked = c.first_round.ensures.asked b orders (stays b) (c.in_ok-standings.ensures b) in
-    let later = all_stay b c.first_round.new.board c.later_rounds.new.board orders c.first_round.new.standings.items c.later_rounds.ensures asked in
-    let settled = c.settle_rest.ensures.asked b orders (joins _ _ _ c.first_round.ensures.further c.later_rounds.ensures) later in
-    let last = all_stay b c.settle_rest.new.board c.abort_rest.new.board orders c.settle_rest.new.standings.items c.abort_rest.ensures settled in
-    c.tell.ensures b c.abort_rest.new.board orders (sym c.cluster-3.ensures)
+    let asked = c.first_round.ensures.asked b orders (stays b) (c.in_ok-standings.ensures.asked b) in
+    let later = all_stay b c.first_round.new.board c.later_rounds.new.board orders c.first_round.new.standings.items c.later_rounds.ensures.further asked in
+    let settled = c.settle_rest.ensures.asked b orders (joins _ _ _ c.first_round.ensures.further c.later_rounds.ensures.further) later in
+    let last = all_stay b c.settle_rest.new.board c.abort_rest.new.board orders c.settle_rest.new.standings.items c.abort_rest.ensures.further settled in
+    c.tell.ensures.told b c.abort_rest.new.board orders (sym c.cluster-3.ensures)
     (subst (λ (xs : List Standing). AreAsked b c.abort_rest.new.board orders xs) (sym c.deref-2.ensures.value) last)
+
+pub returns-clause-all : goal.returns-clause-all
+returns-clause-all g c =
+    let first = c.first_round.ensures.counted in
+    let none = c.in_ok-standings.ensures.none in
+    let later = ap (λ (os : List Order). length os) c.later_rounds.ensures.orders in
+    let rest = c.settle_rest.ensures.counted in
+    let last = ap (λ (os : List Order). length os) c.abort_rest.ensures.orders in
+    let told = c.tell.ensures.counted ∙ ap (λ (xs : List Standing). count_by is_begun xs) c.deref-2.ensures.value in
+    omega arith
