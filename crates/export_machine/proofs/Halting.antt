@@ -1,13 +1,6 @@
 -- Tables that a loop changes place by place.
-use Rattle.std.proofs.Common.{◌≡◌, ℕ, zero, suc, ◌+◌, ◌<◌, ◌≤◌, Bool, true, false, ◌||◌, cond, List, [], ◌∷◌, length, get_or, set, take, refl, sym, ap, ◌∙◌, arith}
-use Rattle.export_machine.specs.declared.importer.ImporterState.{ImporterState}
-use Rattle.export_machine.specs.declared.importer.ImporterState.TheVariants.{Dropped}
-use Rattle.export_machine.specs.declared.journal.JournalEntry.{JournalEntry}
-use Rattle.export_machine.specs.Authority.{is_same, has_entry}
+use Rattle.std.proofs.Common.{◌≡◌, ℕ, zero, suc, ◌+◌, ◌<◌, ◌≤◌, List, [], ◌∷◌, length, get_or, set, refl, ap, ◌∙◌, arith}
 use Rattle.export_machine.specs.Step.{map_at}
-use Rattle.export_machine.proofs.Views.{has_push}
-use Rattle.export_machine.proofs.Lists.{take_next}
-use Rattle.export_machine.proofs.Marks.{map_at_same, unchanged, set_mark}
 
 -- a list of which the elements below n are changed
 abbrev pub changed_below : {A : Type 0} → (ℕ → A → A) → ℕ → List A → List A
@@ -63,39 +56,7 @@ pub same_here : {A B : Type 0} (f g : ℕ → A → B) (xs : List A) (d : A) →
 same_here f g [] d h = refl
 same_here f g (x ∷ xs) d h = rw (h 0 (omega arith)) (ap (λ ys. g 0 x ∷ ys) (same_here (λ k. f (suc k)) (λ k. g (suc k)) xs d (λ k l. h (suc k) (omega arith))))
 
--- entries that imports were dropped
-
+-- a change of what was changed
 pub fused : {A B C : Type 0} (f : ℕ → B → C) (g : ℕ → A → B) (xs : List A) → map_at f (map_at g xs) ≡ map_at (λ k a. f k (g k a)) xs
 fused f g [] = refl
 fused f g (x ∷ xs) = ap (λ ys. f 0 (g 0 x) ∷ ys) (fused (λ k. f (suc k)) (λ k. g (suc k)) xs)
-
-pub tells_other : (e : JournalEntry) → ((x : ℕ) → e ≡ JournalEntry.Dropped x → ⊥) → (states : List ImporterState) →
-    states ≡ map_at (λ x state. cond (is_same e (JournalEntry.Dropped x)) Dropped state) states
-tells_other (JournalEntry.Made d) n states = sym (unchanged states)
-tells_other (JournalEntry.Gone d) n states = sym (unchanged states)
-tells_other (JournalEntry.Started x) n states = sym (unchanged states)
-tells_other (JournalEntry.Exported x) n states = sym (unchanged states)
-tells_other (JournalEntry.Notified x) n states = sym (unchanged states)
-tells_other (JournalEntry.Imported x) n states = sym (unchanged states)
-tells_other (JournalEntry.Dropped x) n states = absurd (n x refl)
-
-pub tells_dropped : (x : ℕ) (states : List ImporterState) → set states x Dropped ≡ map_at (λ y state. cond (is_same (JournalEntry.Dropped x) (JournalEntry.Dropped y)) Dropped state) states
-tells_dropped x states = ap (λ ss. set ss x Dropped) (sym (unchanged states)) ∙ set_mark (λ k. false) Dropped states x
-
-pub tells_none : (states : List ImporterState) → states ≡ map_at (λ x state. cond (has_entry [] (JournalEntry.Dropped x)) Dropped state) states
-tells_none states = sym (unchanged states)
-
-pub tells_next : (journal : List JournalEntry) (i : ℕ) (e : JournalEntry) (states old : List ImporterState) → i < length journal → e ≡ get_or journal i e →
-    states ≡ map_at (λ x state. cond (has_entry (take i journal) (JournalEntry.Dropped x)) Dropped state) old →
-    map_at (λ x state. cond (is_same e (JournalEntry.Dropped x)) Dropped state) states ≡ map_at (λ x state. cond (has_entry (take (i + 1) journal) (JournalEntry.Dropped x)) Dropped state) old
-tells_next journal i e states old l m s =
-    ap (λ ss. map_at (λ x state. cond (is_same e (JournalEntry.Dropped x)) Dropped state) ss) s
-    ∙ (fused (λ x state. cond (is_same e (JournalEntry.Dropped x)) Dropped state) (λ x state. cond (has_entry (take i journal) (JournalEntry.Dropped x)) Dropped state) old
-    ∙ map_at_same _ _ (λ x state. both (is_same e (JournalEntry.Dropped x)) (has_entry (take i journal) (JournalEntry.Dropped x)) state
-    ∙ ap (λ b. cond b Dropped state) (sym (ap (λ j. has_entry j (JournalEntry.Dropped x)) (take_next journal i e l m) ∙ has_push (take i journal) e (JournalEntry.Dropped x)))) old)
-  where
-    both : (a b : Bool) (state : ImporterState) → cond a Dropped (cond b Dropped state) ≡ cond (b || a) Dropped state
-    both true true state = refl
-    both true false state = refl
-    both false true state = refl
-    both false false state = refl
