@@ -4,9 +4,8 @@
 //! nanoseconds of processor time for all of them, the least of several runs; a copy of each event is kept with its
 //! answer, in room that the first run takes. `alone LIST` is the same with nothing kept. `reads` times the reads, with a sum
 //! of what they answered. `start` times the start of an export of 32,768 directories by rising numbers: asked for, and
-//! applied. `stop` times stops: of a rank at which a thousand requests run, after 400,000 that ended; after 20,000 exports
-//! that ended, of a rank where nothing is open, and of one where a thousand exports are. `events LIST` prints the list, one
-//! event a line, so that other programs can be timed on it: those before the line `now` aren't timed.
+//! applied. `stop` times the stop of a rank at which a thousand requests run, after 400,000 that ended. `events LIST` prints the list, one event a line, so that other programs can be timed on it: those before
+//! the line `now` aren't timed.
 
 mod lists;
 
@@ -161,14 +160,6 @@ fn time_named(rt: &HostRuntime, cluster: &Cluster) -> io::Result<()> {
     println!(rt; "named events {READS} accepted {sum} nanos {time}")
 }
 
-/// Times the roots of subtrees, a directory of the tree.
-fn time_roots(rt: &HostRuntime, cluster: &Cluster) -> io::Result<()> {
-    let start = rt.thread_cpu_time()?;
-    let roots = cluster.roots(rt.alloc())?;
-    let time = nanos(start, rt.thread_cpu_time()?);
-    println!(rt; "roots events 32768 accepted {} nanos {time}", roots.len())
-}
-
 /// Times the reads of the cluster after the mixed list.
 fn time_reads(rt: &HostRuntime) -> io::Result<()> {
     let list = make_events(rt.alloc(), Kind::Mixed)?;
@@ -178,8 +169,7 @@ fn time_reads(rt: &HostRuntime) -> io::Result<()> {
     }
     time_authority(rt, &cluster)?;
     time_serves(rt, &cluster)?;
-    time_named(rt, &cluster)?;
-    time_roots(rt, &cluster)
+    time_named(rt, &cluster)
 }
 
 /// The least times of `can_apply` and of `apply`, of the same start. Each start is given up, so that the next is accepted.
@@ -226,23 +216,13 @@ fn with_ended(alloc: Global) -> io::Result<Cluster> {
     Ok(cluster)
 }
 
-/// So many exports of one directory start at rank 0.
-fn start_small(alloc: Global, cluster: &mut Cluster, exports: u32) -> io::Result<()> {
-    let to = Rank::new(1).unwrap_or_default();
-    for number in 0..exports {
-        let dirs = vec![in alloc; Dir::new(number)]?;
-        let _ = cluster.apply(Event::Start(Rank::default(), to, Dirs::new(dirs)));
-    }
-    Ok(())
-}
-
-/// The least time of a stop of rank 0 that ends requests and aborts exports.
-fn time_stops(rt: &HostRuntime, name: &str, cluster: &mut Cluster, requests: u32, exports: u32) -> io::Result<()> {
+/// The least time of a stop that ends running requests.
+fn time_stop(rt: &HostRuntime) -> io::Result<()> {
+    let mut cluster = with_ended(rt.alloc())?;
     let mut least = u128::MAX;
     let mut accepted: u64 = 0;
     for _ in 0..RUNS {
-        begin(cluster, requests);
-        start_small(rt.alloc(), cluster, exports)?;
+        begin(&mut cluster, RUNNING);
         let start = rt.thread_cpu_time()?;
         let answer = cluster.apply(Event::Stop(Rank::default()));
         least = nanos(start, rt.thread_cpu_time()?).min(least);
@@ -251,21 +231,7 @@ fn time_stops(rt: &HostRuntime, name: &str, cluster: &mut Cluster, requests: u32
         }
         let _ = cluster.apply(Event::Restart(Rank::default()));
     }
-    let ended = requests.saturating_add(exports).max(1);
-    println!(rt; "{name} events {ended} accepted {accepted} nanos {least}")
-}
-
-/// The least times of stops, after requests and exports that ended.
-fn time_stop(rt: &HostRuntime) -> io::Result<()> {
-    let mut cluster = with_ended(rt.alloc())?;
-    time_stops(rt, "stop", &mut cluster, RUNNING, 0)?;
-    let list = make_events(rt.alloc(), Kind::Back)?;
-    let mut after = prepared(rt.alloc(), &list.before)?;
-    for event in &list.timed {
-        let _ = after.apply(event.copied(rt.alloc())?);
-    }
-    time_stops(rt, "stop-idle", &mut after, 0, 0)?;
-    time_stops(rt, "stop-exports", &mut after, 0, RUNNING)
+    println!(rt; "stop events {RUNNING} accepted {accepted} nanos {least}")
 }
 
 fn print_event(out: &mut impl Write, event: &Event) -> io::Result<()> {

@@ -10,14 +10,13 @@ use Rattle.export_machine.specs.Cluster.{World}
 use Rattle.mds_types.specs.declared.order.Order.{Order}
 use Rattle.export_machine.specs.Authority.{is_among, order_in, from_of, to_of, exporter_of, importer_of, has, authority, open_export}
 use Rattle.export_machine.specs.Step.{refusal, causes, map_at, is_before_log, exporter_by_journal, importer_by_journal, ends_at, recovered, stops}
-use Rattle.export_machine.specs.declared.event.Event.TheVariants.{Stop, Restart}
+use Rattle.export_machine.specs.declared.event.Event.TheVariants.{Stop}
 use Rattle.export_machine.specs.View.{IsReached}
 use Rattle.export_machine.specs.Kept.{Indexes, IsIndexed, AreListed, is_passing, exporter_at_stop, importer_at_stop}
 use Rattle.export_machine.proofs.Safe.{Safe}
 use Rattle.export_machine.proofs.Reached.{by_safe}
 use Rattle.export_machine.proofs.Events.{not_refused}
 use Rattle.export_machine.proofs.Theorem.{not_refused_causes}
-use Rattle.export_machine.proofs.Found.{orders_by}
 use Rattle.export_machine.proofs.Stops.{exporter_journaled, importer_journaled}
 use Rattle.export_machine.proofs.Halting.{same_here}
 use Rattle.export_machine.proofs.Views.{map_at_get, map_at_past}
@@ -103,13 +102,6 @@ stopped_indexed w i is stopped = record {
 pub stop_rank : (w : World) (rank : ℕ) → refusal w (Stop rank) ≡ None → rank < w.ranks
 unfolding causes
 stop_rank w rank h = leb-false w.ranks rank (not_refused _ _ (not_refused_causes w (Stop rank) h).0)
-
-pub restart_rank : (w : World) (rank : ℕ) → refusal w (Restart rank) ≡ None → rank < w.ranks
-unfolding causes
-restart_rank w rank h = leb-false w.ranks rank (not_refused _ _ (not_refused_causes w (Restart rank) h).0)
-
-pub rank_there : (w : World) → IsReached w → (rank : ℕ) → rank < w.ranks → rank < length w.journals
-rank_there w r rank h = orders_by w r rank (length w.journals) (λ safe. rw safe.all_ranks h)
 
 pub before_stops : (s : ExporterState) → is_before_log s ≡ true → exporter_at_stop s ≡ Aborted
 before_stops Discovering h = refl

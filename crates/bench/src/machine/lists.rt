@@ -14,9 +14,6 @@ const DIRS: u32 = 32_768;
 /// How many rounds a list of small changes has.
 const ROUNDS: u32 = 60_000;
 
-/// How many exports of one directory go there and back.
-const BACKS: u32 = 10_000;
-
 /// How often the great export goes there and back.
 const TURNS: u8 = 8;
 
@@ -33,8 +30,6 @@ pub enum Kind {
     Export,
     /// The same, listed in disorder.
     Disorder,
-    /// Exports of one directory, there and back.
-    Back,
 }
 
 impl Kind {
@@ -46,7 +41,6 @@ impl Kind {
             "mixed" => Some(Kind::Mixed),
             "export" => Some(Kind::Export),
             "disorder" => Some(Kind::Disorder),
-            "back" => Some(Kind::Back),
             _ => None,
         }
     }
@@ -60,7 +54,6 @@ impl fmt::Display for Kind {
             Kind::Mixed => "mixed",
             Kind::Export => "export",
             Kind::Disorder => "disorder",
-            Kind::Back => "back",
         })
     }
 }
@@ -208,20 +201,6 @@ impl Maker {
     }
 }
 
-/// Directories of the tree's lowest level go to rank 1 and back, one after the other.
-fn send_back(maker: &mut Maker) -> io::Result<()> {
-    let first = Rank::default();
-    let second = Rank::new(1).unwrap_or_default();
-    for number in 0..BACKS {
-        let dir = Dir::new(DIRS - 1 - number);
-        let there = vec![in maker.alloc; dir]?;
-        maker.export(first, second, there)?;
-        let back = vec![in maker.alloc; dir]?;
-        maker.export(second, first, back)?;
-    }
-    Ok(())
-}
-
 /// Each directory, by rising numbers or in disorder.
 pub fn all_dirs(alloc: Global, disorder: bool) -> io::Result<Vec<Dir>> {
     let mut dirs = Vec::new(alloc);
@@ -266,7 +245,6 @@ pub fn make_events(alloc: Global, kind: Kind) -> io::Result<Events> {
         }
         Kind::Export => maker.great_exports(false)?,
         Kind::Disorder => maker.great_exports(true)?,
-        Kind::Back => send_back(&mut maker)?,
     }
     let timed = maker.events;
     Ok(Events { before, timed })
