@@ -20,7 +20,7 @@ use Rattle.export_machine.specs.declared.event.Event.{Event}
 use Rattle.export_machine.specs.declared.event.Event.TheVariants.{Begin, End, Start, Deliver, Froze, Notify, Abort, Stop, Restart, Ask}
 use Rattle.export_machine.specs.View.{IsReached, IsAnswer}
 use Rattle.export_machine.specs.Room.{IsRefusal, IsAsRoomy, KeepsRoom}
-use Rattle.export_machine.specs.Kept.{world_of, indexes_of, IsKept, IsIndexed, has_room, has_places, has_list_places, has_dir_places, has_export_places, has_spare, is_spare, entered_at, is_ready, is_ready_entry, is_ready_list, state_of}
+use Rattle.export_machine.specs.Kept.{world_of, indexes_of, IsKept, IsIndexed, has_room, has_entry_places, has_list_places, places_of, has_dir_places, has_export_places, has_spare, is_spare, entered_at, is_ready, is_ready_entry, is_ready_list, state_of}
 use Rattle.export_machine.proofs.Views.{push_same, push_other, length_push, map_at_length}
 use Rattle.export_machine.proofs.Frame.{Framed, delivered_frame, happens_fixed}
 use Rattle.export_machine.proofs.Reached.{reached_step}
@@ -223,6 +223,8 @@ module _ (old new : Records) (e : Event) (reply : Reply) (kept : IsKept old) (ac
     children_places = indexed.children_places;
     unmarked = indexed.unmarked;
     requests = indexed.requests;
+    listed = indexed.listed;
+    dropped_places = indexed.dropped_places;
   }
 
   pub kept_step : IsKept (record new { events = new.events + 1 })
@@ -261,24 +263,7 @@ kept_same old new w i k = record {
     bound : (f g : World → ℕ) → f (world_of old) ≤ g (world_of old) → f (world_of new) ≤ g (world_of new)
     bound f g h = (let a : f (world_of new) ≡ f (world_of old) = ap f w in let b : g (world_of new) ≡ g (world_of old) = ap g w in omega arith)
 
-pub list_places : (old : Records) (e : Event) (new : Records) → new ≡ record old { journals = new.journals } → has_list_places new e ≡ has_list_places old e
-list_places old e new h = ap (λ (r : Records). has_list_places r e) h ∙ same e
-  where
-    same : (f : Event) → has_list_places (record old { journals = new.journals }) f ≡ has_list_places old f
-    same (Event.Made p) = refl
-    same (Event.Gone d) = refl
-    same (Begin r d) = refl
-    same (End t) = refl
-    same (Start f t ds) = refl
-    same (Deliver k) = refl
-    same (Froze x) = refl
-    same (Notify x) = refl
-    same (Abort x) = refl
-    same (Stop r) = refl
-    same (Restart r) = refl
-    same (Ask x) = refl
-
-pub room_parts : (r : Records) (e : Event) → has_room r e ≡ true → (has_places r.journals.items (entered_at (world_of r) e) ≡ true) × (has_list_places r e ≡ true)
+pub room_parts : (r : Records) (e : Event) → has_room r e ≡ true → (has_entry_places r (entered_at (world_of r) e) ≡ true) × (has_list_places r e ≡ true)
 unfolding has_room
 room_parts r e h = and_parts _ _ h
 
@@ -289,16 +274,23 @@ places_are [] (suc r) = refl
 places_are (j ∷ js) zero = refl
 places_are (j ∷ js) (suc r) = places_are js r
 
+both_places : {S T A : Type 0} (js : List (Vec S A)) (ls : List (Vec T A)) (r : ℕ) → get_or (places_of js ls) r true ≡ (is_spare (slice_get js r) && is_spare (slice_get ls r))
+both_places [] ls r = places_are ls r
+both_places (j ∷ js) [] zero = refl
+both_places {T = T} (j ∷ js) [] (suc r) = both_places {T = T} js [] r
+both_places (j ∷ js) (l ∷ ls) zero = refl
+both_places (j ∷ js) (l ∷ ls) (suc r) = both_places js ls r
+
 pub ready_is : (r : Records) (e : Event) → is_ready (state_of r) e ≡ has_room r e
 unfolding is_ready has_room
-ready_is r e = both (is_ready_entry (state_of r).room (entered_at (world_of r) e)) (has_places r.journals.items (entered_at (world_of r) e)) (is_ready_list (state_of r).room e) (has_list_places r e) (entry (entered_at (world_of r) e)) (lists e)
+ready_is r e = both (is_ready_entry (state_of r).room (entered_at (world_of r) e)) (has_entry_places r (entered_at (world_of r) e)) (is_ready_list (state_of r).room e) (has_list_places r e) (entry (entered_at (world_of r) e)) (lists e)
   where
     both : (a b c d : Bool) → a ≡ b → c ≡ d → (a && c) ≡ (b && d)
     both a b c d h k = rw (h, k) refl
 
-    entry : (o : Option ℕ) → is_ready_entry (state_of r).room o ≡ has_places r.journals.items o
+    entry : (o : Option ℕ) → is_ready_entry (state_of r).room o ≡ has_entry_places r o
     entry None = refl
-    entry (Some k) = places_are r.journals.items k
+    entry (Some k) = both_places r.journals.items r.open_at.items k
 
     lists : (f : Event) → is_ready_list (state_of r).room f ≡ has_list_places r f
     lists (Event.Made p) = refl
@@ -314,11 +306,6 @@ ready_is r e = both (is_ready_entry (state_of r).room (entered_at (world_of r) e
     lists (Restart k) = refl
     lists (Ask x) = refl
 
-pub grown_room : (old mid new : Records) (e : Event) (rank : Option ℕ) → rank ≡ entered_at (world_of old) e → world_of new ≡ world_of old → new.journals ≡ mid.journals →
-    has_places mid.journals.items rank ≡ true → has_list_places new e ≡ true → has_room new e ≡ true
-unfolding has_room
-grown_room old mid new e rank r w j p l = rw (l, w, ← r, j, p) refl
-
 -- room that is kept list by list is kept for each event
 
 and_keeps : (a b c d : Bool) → (a ≡ true → c ≡ true) → (b ≡ true → d ≡ true) → (a && b) ≡ true → (c && d) ≡ true
@@ -329,9 +316,9 @@ module _ (old new : Records) (roomy : IsAsRoomy old new) (world : world_of new �
   dir_places = and_keeps _ _ _ _ (and_keeps _ _ _ _ (and_keeps _ _ _ _ (and_keeps _ _ _ _ (and_keeps _ _ _ _ (and_keeps _ _ _ _ roomy.parents roomy.named) roomy.owners) roomy.opened) roomy.running) roomy.children) roomy.marks
 
   export_places : has_export_places old ≡ true → has_export_places new ≡ true
-  export_places = and_keeps _ _ _ _ (and_keeps _ _ _ _ (and_keeps _ _ _ _ roomy.orders roomy.exporters) roomy.importers) roomy.sent
+  export_places = and_keeps _ _ _ _ (and_keeps _ _ _ _ (and_keeps _ _ _ _ (and_keeps _ _ _ _ (and_keeps _ _ _ _ roomy.orders roomy.exporters) roomy.importers) roomy.sent) roomy.dropped) roomy.all_open
 
-  lists_kept : (e : Event) → has_list_places old e ≡ true → has_list_places new e ≡ true
+  pub lists_kept : (e : Event) → has_list_places old e ≡ true → has_list_places new e ≡ true
   lists_kept (Event.Made p) h = dir_places h
   lists_kept (Event.Gone d) h = refl
   lists_kept (Begin r d) h = and_keeps _ _ _ _ roomy.tickets (roomy.tickets_at r) h
@@ -345,9 +332,9 @@ module _ (old new : Records) (roomy : IsAsRoomy old new) (world : world_of new �
   lists_kept (Restart r) h = refl
   lists_kept (Ask x) h = roomy.sent h
 
-  places_kept : (o : Option ℕ) → has_places old.journals.items o ≡ true → has_places new.journals.items o ≡ true
+  pub places_kept : (o : Option ℕ) → has_entry_places old o ≡ true → has_entry_places new o ≡ true
   places_kept None h = refl
-  places_kept (Some rank) h = roomy.journals rank h
+  places_kept (Some rank) h = and_keeps _ _ _ _ (roomy.journals rank) (roomy.open_at rank) h
 
   room_kept : (e : Event) → has_room old e ≡ true → has_room new e ≡ true
   unfolding has_room
@@ -356,3 +343,12 @@ module _ (old new : Records) (roomy : IsAsRoomy old new) (world : world_of new �
 
   pub keeps_room : KeepsRoom (state_of old) (state_of new)
   keeps_room e h = ready_is new e ∙ room_kept e (sym (ready_is old e) ∙ h)
+
+pub grown_room : (old mid new : Records) (e : Event) (rank : Option ℕ) → rank ≡ entered_at (world_of old) e → world_of new ≡ world_of old → IsAsRoomy mid new →
+    has_entry_places mid rank ≡ true → has_list_places new e ≡ true → has_room new e ≡ true
+unfolding has_room
+grown_room old mid new e rank r w roomy p l = rw (l, w, ← r, kept rank p) refl
+  where
+    kept : (o : Option ℕ) → has_entry_places mid o ≡ true → has_entry_places new o ≡ true
+    kept None h = refl
+    kept (Some k) h = and_keeps _ _ _ _ (roomy.journals k) (roomy.open_at k) h

@@ -61,7 +61,7 @@ end_filed ranks ts ls t by = record { filed = filed; ranked = by.ranked }
 
 -- the tickets of requests that ended go
 
-among_filter : (test : ℕ → Bool) (xs : List ℕ) (t : ℕ) → is_among xs t ≡ true → test t ≡ true → is_among (filter test xs) t ≡ true
+pub among_filter : (test : ℕ → Bool) (xs : List ℕ) (t : ℕ) → is_among xs t ≡ true → test t ≡ true → is_among (filter test xs) t ≡ true
 among_filter test [] t h k = h
 among_filter test (x ∷ xs) t h k = elim (or_cases (eqb x t) (is_among xs t) h) [
   | inl e ↦ first (eqb-true x t e)

@@ -18,6 +18,7 @@ use Rattle.export_machine.proofs.Events.{no_requests, elsewhere_dir}
 use Rattle.export_machine.proofs.Tidy.{Tidy, run_tidy, start_tidy}
 use Rattle.export_machine.proofs.Owners.{made_authority, made_others_authority, gone_authority, gone_others_authority}
 use Rattle.export_machine.proofs.Found.{options_by}
+use Rattle.export_machine.proofs.Listed.{entry_listed, entry_drops_none}
 use Rattle.export_machine.proofs.Indexing.{entry_open, default}
 
 pub replicate_push : {A : Type 0} (n : ℕ) (a : A) → replicate n a ++ a ∷ [] ≡ replicate (suc n) a
@@ -97,7 +98,7 @@ module _ (w : World) (a p : ℕ) (near : a < length w.journals) where
       (counts_none (eqb p d && not (eqb (length w.parents) d)) (unlike (eqb p d) (eqb (length w.parents) d) (ne_eqb p d (λ k. n (sym k)))))
 
   pub made_indexed : IsReached w → (i : Indexes) → IsIndexed w i → p < length w.parents → (r : ℕ) → r ≡ get_or (i.children ++ 0 ∷ []) p r →
-      IsIndexed grown (record { owners = i.owners ++ Some a ∷ []; opened = i.opened ++ None ∷ []; running = i.running ++ 0 ∷ []; children = set (i.children ++ 0 ∷ []) p (r + 1); marks = i.marks ++ false ∷ []; tickets_at = i.tickets_at })
+      IsIndexed grown (record { owners = i.owners ++ Some a ∷ []; opened = i.opened ++ None ∷ []; running = i.running ++ 0 ∷ []; children = set (i.children ++ 0 ∷ []) p (r + 1); marks = i.marks ++ false ∷ []; tickets_at = i.tickets_at; open_at = i.open_at; dropped = i.dropped })
   made_indexed reached i is l r h = record {
     owners = λ d. options_by w reached (get_or (i.owners ++ Some a ∷ []) d None) (authority grown d) (λ safe. owner safe d);
     opened = λ d. opened d ∙ sym (grown_open d);
@@ -109,6 +110,8 @@ module _ (w : World) (a p : ℕ) (near : a < length w.journals) where
     children_places = length-set (i.children ++ 0 ∷ []) p (r + 1) ∙ longer i.children w.parents 0 (Some p) is.children_places;
     unmarked = ap (λ ms. ms ++ false ∷ []) is.unmarked ∙ (replicate_push (length w.parents) false ∙ ap (λ n. replicate n false) (sym (length_push w.parents (Some p) ∙ succ (length w.parents))));
     requests = is.requests;
+    listed = entry_listed w.ranks w.orders w.exporters w.importers w.journals i.open_at i.dropped is.listed (journals w a (JournalEntry.Made (length w.parents))).journals (entry_drops_none w a (JournalEntry.Made (length w.parents)) near (λ y. refl));
+    dropped_places = is.dropped_places;
   }
     where
       succ : (n : ℕ) → n + 1 ≡ suc n
@@ -210,6 +213,8 @@ module _ (w : World) (a d p : ℕ) (near : a < length w.journals) (there : d < l
     children_places = length-set i.children p (r - 1) ∙ (is.children_places ∙ sym (length-set w.parents d None));
     unmarked = is.unmarked ∙ ap (λ n. replicate n false) (sym (length-set w.parents d None));
     requests = is.requests;
+    listed = entry_listed w.ranks w.orders w.exporters w.importers w.journals i.open_at i.dropped is.listed (journals w a (JournalEntry.Gone d)).journals (entry_drops_none w a (JournalEntry.Gone d) near (λ y. refl));
+    dropped_places = is.dropped_places;
   }
     where
       ended : (t : ℕ) (q : Request) → request_of w t ≡ Some q → q.dir ≢ d

@@ -14,19 +14,20 @@ use Rattle.mds_types.specs.declared.order.Order.{Order}
 use Rattle.export_machine.specs.Authority.{no_order, is_among, is_inside, from_of, to_of, exporter_of, importer_of, named_of, has, is_same, authority, first_below, is_open, is_aborted, open_export, runs_on}
 use Rattle.export_machine.specs.Step.{running_on, map_at, exporter_to, journals, is_before_log, is_child}
 use Rattle.export_machine.specs.View.{IsReached}
-use Rattle.export_machine.specs.Kept.{Indexes, IsIndexed, AreByRank, count_at}
+use Rattle.export_machine.specs.Kept.{Indexes, IsIndexed, AreByRank, AreListed, count_at}
 use Rattle.export_machine.proofs.Owning.{is_over, place}
 use Rattle.export_machine.proofs.Views.{map_at_get, map_at_past, map_at_length, has_adds}
 use Rattle.export_machine.proofs.Safe.{Safe, phase_by, phase_of}
 use Rattle.export_machine.proofs.Lookups.{itself, open_over}
+use Rattle.export_machine.proofs.Listed.{exporter_listed}
 use Rattle.export_machine.proofs.ByRank.{begin_filed, end_filed}
 use Rattle.export_machine.proofs.Lists.{running_begun, running_ended, runs_here}
 use Rattle.export_machine.proofs.Found.{orders_by, first_is_none, first_same, Safely, options_safely, orders_safely}
 
 -- authorities and open exports stay, requests and parents too
 pub same_indexed : (w v : World) (i : Indexes) → IsIndexed w i → ((d : ℕ) → authority v d ≡ authority w d) → ((d : ℕ) → open_export v d ≡ open_export w d) →
-    v.tickets ≡ w.tickets → v.parents ≡ w.parents → v.ranks ≡ w.ranks → IsIndexed v i
-same_indexed w v i is a o t p n = record {
+    v.tickets ≡ w.tickets → v.parents ≡ w.parents → v.ranks ≡ w.ranks → (ns : List Bool) → AreListed v.ranks v.orders v.exporters v.importers v.journals i.open_at ns → length ns ≡ length v.orders → IsIndexed v (record i { dropped = ns })
+same_indexed w v i is a o t p n ns l c = record {
   owners = λ d. is.owners d ∙ sym (a d);
   opened = λ d. is.opened d ∙ sym (o d);
   running = λ d. is.running d ∙ sym (ap (λ ts. count_by (runs_on (d ∷ [])) ts) t);
@@ -37,6 +38,8 @@ same_indexed w v i is a o t p n = record {
   children_places = is.children_places ∙ sym (ap length p);
   unmarked = is.unmarked ∙ sym (ap (λ (ps : List (Option ℕ)). replicate (length ps) false) p);
   requests = rw (t, n) is.requests;
+  listed = l;
+  dropped_places = c;
 }
 
 -- the tickets that are kept by rank change alone
@@ -52,6 +55,25 @@ refiled w i is ls by = record {
   children_places = is.children_places;
   unmarked = is.unmarked;
   requests = by;
+  listed = is.listed;
+  dropped_places = is.dropped_places;
+}
+
+-- the exports that are listed by rank change alone
+pub relisted : (w : World) (i : Indexes) → IsIndexed w i → (ls : List (List ℕ)) → AreListed w.ranks w.orders w.exporters w.importers w.journals ls i.dropped → IsIndexed w (record i { open_at = ls })
+relisted w i is ls l = record {
+  owners = is.owners;
+  opened = is.opened;
+  running = is.running;
+  children = is.children;
+  owner_places = is.owner_places;
+  opened_places = is.opened_places;
+  running_places = is.running_places;
+  children_places = is.children_places;
+  unmarked = is.unmarked;
+  requests = is.requests;
+  listed = l;
+  dropped_places = is.dropped_places;
 }
 
 -- which exports are open
@@ -161,7 +183,8 @@ pub froze_indexed : (w : World) (i : Indexes) (x : ℕ) → IsIndexed w i → ex
     IsIndexed (record (exporter_to w x Preparing) { sent = ms }) i
 unfolding authority
 froze_indexed w i x is e ms = same_indexed w (record (exporter_to w x Preparing) { sent = ms }) i is (λ d. refl)
-    (λ d. open_stays (exporter_to w x Preparing) (record (exporter_to w x Preparing) { sent = ms }) refl (λ y. refl) d ∙ exporter_open w x Preparing (rw e refl) d) refl refl refl
+    (λ d. open_stays (exporter_to w x Preparing) (record (exporter_to w x Preparing) { sent = ms }) refl (λ y. refl) d ∙ exporter_open w x Preparing (rw e refl) d) refl refl refl i.dropped
+    (exporter_listed w.ranks w.orders w.exporters w.importers w.journals i.open_at i.dropped is.listed x Preparing (λ k. rw e refl)) is.dropped_places
 
 -- Abort
 
@@ -202,6 +225,8 @@ module _ (w : World) (x : ℕ) (near : x < length w.exporters) (ms : List Messag
     children_places = is.children_places;
     unmarked = is.unmarked;
     requests = is.requests;
+    listed = exporter_listed w.ranks w.orders w.exporters w.importers w.journals i.open_at i.dropped is.listed x Aborted (λ k. absurd (cc));
+    dropped_places = is.dropped_places;
   }
 
 -- Begin and End
@@ -241,6 +266,8 @@ begin_indexed w i q is near ranked r h ts t = record {
   children_places = is.children_places;
   unmarked = is.unmarked;
   requests = rw t (begin_filed w.ranks w.tickets i.tickets_at q is.requests ranked);
+  listed = is.listed;
+  dropped_places = is.dropped_places;
 }
   where
     plain : (n : ℕ) → n + 0 ≡ n
@@ -279,6 +306,8 @@ end_indexed w i t q is e near r h = record {
   children_places = is.children_places;
   unmarked = is.unmarked;
   requests = end_filed w.ranks w.tickets i.tickets_at t is.requests;
+  listed = is.listed;
+  dropped_places = is.dropped_places;
 }
   where
     less : (m n k : ℕ) → m + n ≡ k → n ≡ 1 → k - 1 ≡ m

@@ -18,6 +18,7 @@ pub mod Owners
 pub mod Found
 pub mod Lists
 pub mod Indexing
+pub mod Listed
 pub mod Accepted
 pub mod Marks
 pub mod Rows

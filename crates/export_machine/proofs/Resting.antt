@@ -28,6 +28,8 @@ use Rattle.export_machine.proofs.Reached.{reached_step, started}
 use Rattle.export_machine.proofs.Stops.{exporter_journaled, importer_journaled}
 use Rattle.export_machine.proofs.Halted.{exporters_by, importers_by, same_exporter, same_importer}
 use Rattle.export_machine.proofs.Accepted.{numbers_by}
+use Rattle.export_machine.proofs.Halting.{same_here}
+use Rattle.export_machine.proofs.Marks.{unchanged}
 use Rattle.export_machine.proofs.Noted.{adds, entered_has}
 use Rattle.export_machine.proofs.Entries.{is_recorded}
 use Rattle.export_machine.proofs.Tidy.{set_false}
@@ -351,3 +353,17 @@ module _ (w : World) (h : IsReached w) (r : ℕ) (stopped : is_stopped w r ≡ t
     imports = λ x e. importers_by w h (importer_of w x) (importer_by_journal w r x)
         (λ safe. sym (subst (λ s. importer_by_journal w s x ≡ importer_at_stop (has w (to_of w x) (JournalEntry.Dropped x)) (importer_of w x)) e (importer_journaled w safe r x) ∙ import_kept x e));
   }
+
+  -- so a restart changes no state
+  pub restarts_same : restarts w r ≡ record w { stopped = set w.stopped r false }
+  restarts_same =
+      ap (λ es. record (restarts w r) { exporters = es }) (same_here _ (λ x s. s) w.exporters Aborted (λ x l. exporting x (eqb (from_of w x) r) refl) ∙ unchanged w.exporters)
+      ∙ ap (λ is. record w { importers = is; stopped = set w.stopped r false }) (same_here _ (λ x s. s) w.importers Unknown (λ x l. importing x (eqb (to_of w x) r) refl) ∙ unchanged w.importers)
+    where
+      exporting : (x : ℕ) (b : Bool) → eqb (from_of w x) r ≡ b → cond b (exporter_by_journal w r x) (exporter_of w x) ≡ exporter_of w x
+      exporting x true e = sym (is_recovered.exports x (eqb-true (from_of w x) r e))
+      exporting x false e = refl
+
+      importing : (x : ℕ) (b : Bool) → eqb (to_of w x) r ≡ b → cond b (importer_by_journal w r x) (importer_of w x) ≡ importer_of w x
+      importing x true e = sym (is_recovered.imports x (eqb-true (to_of w x) r e))
+      importing x false e = refl

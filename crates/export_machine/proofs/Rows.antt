@@ -1,5 +1,5 @@
 -- How the tables by directory follow each message.
-use Rattle.std.proofs.Common.{◌≡◌, ◌≢◌, ℕ, ◌<◌, Bool, true, false, ◌&&◌, ◌||◌, not, eqb, cond, List, length, get_or, Some, None, refl, sym, ap, ◌∙◌, inl, inr, arith}
+use Rattle.std.proofs.Common.{◌≡◌, ◌≢◌, ℕ, ◌<◌, Bool, true, false, ◌&&◌, ◌||◌, not, eqb, cond, List, length, get_or, set, Some, None, refl, sym, ap, ◌∙◌, inl, inr, arith}
 use Rattle.std.proofs.lemmas.Bool.{cases_eq}
 use Rattle.std.specs.List.{slice_get}
 use Rattle.export_machine.specs.declared.exporter.ExporterState.{ExporterState}
@@ -11,9 +11,10 @@ use Rattle.export_machine.specs.declared.importer.ImporterState.TheVariants.{Unk
 use Rattle.export_machine.specs.declared.message.Message.TheVariants.{ExportAck, Finish, Cancel}
 use Rattle.export_machine.specs.Cluster.{World}
 use Rattle.export_machine.specs.Authority.{is_inside, from_of, to_of, exporter_of, importer_of, has, owns, owned_after, is_same, authority, is_open, is_aborted, open_export}
-use Rattle.export_machine.specs.Step.{map_at, exporter_to, importer_to, journals, names_importer, is_started}
+use Rattle.export_machine.specs.Step.{map_at, exporter_to, importer_to, journals, names_importer, is_started, is_before_log}
 use Rattle.export_machine.specs.View.{IsReached}
-use Rattle.export_machine.specs.Kept.{Indexes, IsIndexed}
+use Rattle.export_machine.specs.Kept.{Indexes, IsIndexed, AreListed}
+use Rattle.std.proofs.lemmas.List.{length-set}
 use Rattle.export_machine.proofs.Owning.{is_moving, is_over}
 use Rattle.export_machine.proofs.Views.{map_at_length, has_adds, owns_at, owns_other, not_past}
 use Rattle.export_machine.proofs.Safe.{Safe, phase_by, phase_of, exporter_at, exporter_phases, importer_at, importer_phases, started_safe, dropped_safe, notify_safe, same_phase}
@@ -22,13 +23,15 @@ use Rattle.export_machine.proofs.Deliver.{ack_started}
 use Rattle.export_machine.proofs.Walks.{quiet_authority, logged_inside, logged_outside}
 use Rattle.export_machine.proofs.Owners.{finish_authority}
 use Rattle.export_machine.proofs.Found.{options_by, orders_by}
+use Rattle.export_machine.proofs.Listed.{exporter_listed, importer_listed, entry_listed, entry_drops_none, dropped_listed}
 use Rattle.export_machine.proofs.Indexing.{same_indexed, open_stays, exporter_open, entry_open, inside_there, marked, shut_opened}
 
 -- states and messages alone change
 
-pub importer_indexed : (w : World) (i : Indexes) → IsIndexed w i → (importers : List ImporterState) (ms : List Message) → IsIndexed (record w { importers = importers; sent = ms }) i
+pub importer_indexed : (w : World) (i : Indexes) → IsIndexed w i → (importers : List ImporterState) (ms : List Message) (open_at : List (List ℕ)) → AreListed w.ranks w.orders w.exporters importers w.journals open_at i.dropped →
+    IsIndexed (record w { importers = importers; sent = ms }) (record i { open_at = open_at })
 unfolding authority open_export
-importer_indexed w i is importers ms = record {
+importer_indexed w i is importers ms open_at l = record {
   owners = is.owners;
   opened = is.opened;
   running = is.running;
@@ -39,13 +42,16 @@ importer_indexed w i is importers ms = record {
   children_places = is.children_places;
   unmarked = is.unmarked;
   requests = is.requests;
+  listed = l;
+  dropped_places = is.dropped_places;
 }
 
-pub exporter_indexed : (w : World) (i : Indexes) (x : ℕ) (s : ExporterState) → IsIndexed w i → is_aborted (exporter_of w x) ≡ is_aborted s → (ms : List Message) →
-    IsIndexed (record (exporter_to w x s) { sent = ms }) i
+pub exporter_indexed : (w : World) (i : Indexes) (x : ℕ) (s : ExporterState) → IsIndexed w i → is_aborted (exporter_of w x) ≡ is_aborted s →
+    (is_before_log s ≡ true → is_before_log (exporter_of w x) ≡ true) → (ms : List Message) → IsIndexed (record (exporter_to w x s) { sent = ms }) i
 unfolding authority
-exporter_indexed w i x s is e ms = same_indexed w (record (exporter_to w x s) { sent = ms }) i is (λ d. refl)
-    (λ d. open_stays (exporter_to w x s) (record (exporter_to w x s) { sent = ms }) refl (λ y. refl) d ∙ exporter_open w x s e d) refl refl refl
+exporter_indexed w i x s is e f ms = same_indexed w (record (exporter_to w x s) { sent = ms }) i is (λ d. refl)
+    (λ d. open_stays (exporter_to w x s) (record (exporter_to w x s) { sent = ms }) refl (λ y. refl) d ∙ exporter_open w x s e d) refl refl refl i.dropped
+    (exporter_listed w.ranks w.orders w.exporters w.importers w.journals i.open_at i.dropped is.listed x s f) is.dropped_places
 
 -- an entry that moves nothing
 
@@ -75,21 +81,26 @@ module _ (w : World) (x : ℕ) (s : ImporterState) (e : JournalEntry) (ms : List
   noted_open d = entry_open (importer_to w x s) (to_of w x) e ranked elsewhere d
       ∙ open_stays w (importer_to w x s) refl (λ y. refl) d
 
-  pub noted_indexed : IsReached w → (i : Indexes) → IsIndexed w i → ((safe : Safe w) → Safe (journals (importer_to w x s) (to_of w x) e) × (phase_by (exporter_of w x) s ≡ phase_of w x)) → IsIndexed noted i
+  pub noted_indexed : IsReached w → (i : Indexes) → IsIndexed w i → ((safe : Safe w) → Safe (journals (importer_to w x s) (to_of w x) e) × (phase_by (exporter_of w x) s ≡ phase_of w x)) →
+      (ns : List Bool) → AreListed noted.ranks noted.orders noted.exporters noted.importers noted.journals i.open_at ns → length ns ≡ length w.orders → IsIndexed noted (record i { dropped = ns })
   unfolding authority
-  noted_indexed r i is f = same_indexed w noted i is
+  noted_indexed r i is f ns l c = same_indexed w noted i is
       (λ d. options_by w r (authority noted d) (authority w d) (λ safe. noted_authority safe (f safe).0 (f safe).1 d))
-      (λ d. open_stays (journals (importer_to w x s) (to_of w x) e) noted refl (λ y. refl) d ∙ noted_open d) refl refl refl
+      (λ d. open_stays (journals (importer_to w x s) (to_of w x) e) noted refl (λ y. refl) d ∙ noted_open d) refl refl refl ns l c
 
 pub export_indexed : (w : World) (i : Indexes) (x : ℕ) (ms : List Message) → IsReached w → IsIndexed w i → importer_of w x ≡ Prepared → x < length w.importers → to_of w x < length w.journals →
     IsIndexed (record (journals (importer_to w x Started) (to_of w x) (JournalEntry.Started x)) { sent = ms }) i
 export_indexed w i x ms r is was near ranked = noted_indexed w x Started (JournalEntry.Started x) ms near ranked (λ d o. refl) (λ y. refl) r i is
     (λ safe. (started_safe w safe x was, rw was (same_phase (exporter_of w x) Prepared Started refl refl)))
+    i.dropped (entry_listed w.ranks w.orders w.exporters (importer_to w x Started).importers w.journals i.open_at i.dropped
+    (importer_listed w.ranks w.orders w.exporters w.importers w.journals i.open_at i.dropped is.listed x Started (λ k. absurd (cc)))
+    (journals (importer_to w x Started) (to_of w x) (JournalEntry.Started x)).journals (entry_drops_none w (to_of w x) (JournalEntry.Started x) ranked (λ y. refl))) is.dropped_places
 
 pub dropped_indexed : (w : World) (i : Indexes) (x k : ℕ) → IsReached w → IsIndexed w i → importer_of w x ≡ Started → x < length w.importers → to_of w x < length w.journals → slice_get w.sent k ≡ Some (Cancel x) →
-    IsIndexed (journals (importer_to w x Dropped) (to_of w x) (JournalEntry.Dropped x)) i
-dropped_indexed w i x k r is was near ranked sent = noted_indexed w x Dropped (JournalEntry.Dropped x) w.sent near ranked (λ d o. refl) (λ y. refl) r i is
+    x < length w.orders → IsIndexed (journals (importer_to w x Dropped) (to_of w x) (JournalEntry.Dropped x)) (record i { dropped = set i.dropped x true })
+dropped_indexed w i x k r is was near ranked sent there = noted_indexed w x Dropped (JournalEntry.Dropped x) w.sent near ranked (λ d o. refl) (λ y. refl) r i is
     (λ safe. (dropped_safe w safe x was (safe.tables.cancel k x sent), rw (safe.tables.cancel k x sent) refl))
+    (set i.dropped x true) (dropped_listed w i.open_at i.dropped is.listed x is.dropped_places there ranked) (length-set i.dropped x true ∙ is.dropped_places)
 
 -- the log entry: the importer is the authority of the export's directories
 
@@ -126,6 +137,10 @@ module _ (w : World) (x k : ℕ) (was : exporter_of w x ≡ Exporting) (sent : s
     children_places = is.children_places;
     unmarked = is.unmarked;
     requests = is.requests;
+    listed = entry_listed w.ranks w.orders (exporter_to w x Logged).exporters w.importers w.journals i.open_at i.dropped
+        (exporter_listed w.ranks w.orders w.exporters w.importers w.journals i.open_at i.dropped is.listed x Logged (λ k. absurd (cc))) logged.journals
+        (entry_drops_none w (from_of w x) (JournalEntry.Exported x) ranked (λ y. refl));
+    dropped_places = is.dropped_places;
   }
 
 -- the importer imports: the export is over
@@ -173,6 +188,10 @@ module _ (w : World) (x k : ℕ) (was : importer_of w x ≡ Started) (sent : sli
     children_places = is.children_places;
     unmarked = is.unmarked;
     requests = is.requests;
+    listed = entry_listed w.ranks w.orders w.exporters (importer_to w x Imported).importers w.journals i.open_at i.dropped
+        (importer_listed w.ranks w.orders w.exporters w.importers w.journals i.open_at i.dropped is.listed x Imported (λ k. absurd (cc))) finished.journals
+        (entry_drops_none w (to_of w x) (JournalEntry.Imported x) ranked (λ y. refl));
+    dropped_places = is.dropped_places;
   }
 
 -- the map names the importer
@@ -227,4 +246,7 @@ module _ (w : World) (x : ℕ) (was : exporter_of w x ≡ Logged) (ranked : from
       (λ d. options_by w r (authority notified d) (authority w d) (λ safe. notified_authority safe d))
       (λ d. open_stays (journals (exporter_to w x Done) (from_of w x) (JournalEntry.Notified x)) notified refl (λ y. refl) d
       ∙ (entry_open (exporter_to w x Done) (from_of w x) (JournalEntry.Notified x) ranked (λ y. refl) d ∙ exporter_open w x Done (rw was refl) d))
-      refl refl refl
+      refl refl refl i.dropped
+      (entry_listed w.ranks w.orders (exporter_to w x Done).exporters w.importers w.journals i.open_at i.dropped
+      (exporter_listed w.ranks w.orders w.exporters w.importers w.journals i.open_at i.dropped is.listed x Done (λ k. absurd (cc))) notified.journals
+      (entry_drops_none w (from_of w x) (JournalEntry.Notified x) ranked (λ y. refl))) is.dropped_places

@@ -1,26 +1,28 @@
 -- How the tables by directory follow an export that starts.
-use Rattle.std.proofs.Common.{◌≡◌, ◌≢◌, ℕ, suc, ◌<◌, Bool, true, false, ◌&&◌, not, eqb, cond, List, [], ◌∷◌, ◌++◌, length, get_or, Option, Some, None, refl, sym, ap, ◌∙◌, arith}
+use Rattle.std.proofs.Common.{◌≡◌, ◌≢◌, ℕ, suc, ◌<◌, Bool, true, false, ◌&&◌, not, eqb, cond, List, [], ◌∷◌, ◌++◌, ◌+◌, length, get_or, set, Option, Some, None, refl, sym, ap, ◌∙◌, inl, inr, ◌⊎◌, arith}
 use Rattle.std.specs.List.{list_all}
-use Rattle.std.proofs.lemmas.Bool.{leb-false, not-false}
-use Rattle.std.proofs.lemmas.List.{get_or_past}
+use Rattle.std.proofs.lemmas.Bool.{cases_eq, cases_Bool, leb-false, not-false}
+use Rattle.std.proofs.lemmas.List.{get_or_past, length-set}
 use Rattle.export_machine.specs.declared.journal.JournalEntry.{JournalEntry}
 use Rattle.export_machine.specs.declared.exporter.ExporterState.{ExporterState}
 use Rattle.export_machine.specs.declared.exporter.ExporterState.TheVariants.{Discovering, Aborted}
 use Rattle.export_machine.specs.declared.importer.ImporterState.TheVariants.{Unknown}
 use Rattle.export_machine.specs.Cluster.{World}
 use Rattle.mds_types.specs.declared.order.Order.{Order}
-use Rattle.export_machine.specs.Authority.{no_order, is_among, is_inside, is_present, to_of, importer_of, has, authority, is_open, is_aborted, open_export, or_else}
-use Rattle.export_machine.specs.Step.{refusal, causes, map_at, busy, elsewhere, repeats, is_connected}
+use Rattle.export_machine.specs.Authority.{no_order, order_in, is_among, is_inside, is_present, to_of, importer_of, has, authority, is_open, is_aborted, open_export, or_else}
+use Rattle.export_machine.specs.Step.{refusal, causes, map_at, busy, elsewhere, repeats, is_connected, is_before_log}
 use Rattle.export_machine.specs.declared.event.Event.TheVariants.{Start}
 use Rattle.export_machine.specs.View.{IsReached}
-use Rattle.export_machine.specs.Kept.{Indexes, IsIndexed}
-use Rattle.export_machine.proofs.Views.{push_same, push_other, map_at_length}
+use Rattle.export_machine.specs.Kept.{Indexes, IsIndexed, AreListed, is_passing}
+use Rattle.export_machine.proofs.Listed.{pushed, pushed_here}
+use Rattle.export_machine.proofs.Accepted.{numbers_by}
+use Rattle.export_machine.proofs.Views.{push_same, push_other, length_push, map_at_length}
 use Rattle.export_machine.proofs.Safe.{Safe}
 use Rattle.export_machine.proofs.Lookups.{authority_is, no_open, free_owner}
 use Rattle.export_machine.proofs.Events.{NoneOf, none_of, not_refused, busy_none, is_here, least_none, all_there, there_near, with_export}
 use Rattle.export_machine.proofs.Theorem.{not_refused_causes}
 use Rattle.export_machine.proofs.Owners.{start_authority}
-use Rattle.export_machine.proofs.Found.{options_by, first_same}
+use Rattle.export_machine.proofs.Found.{options_by, tests_by, first_same}
 use Rattle.export_machine.proofs.Indexing.{marked}
 
 and_no : (a b : Bool) → (not a && b) ≡ true → a ≡ false
@@ -50,16 +52,16 @@ module _ (w : World) (from to : ℕ) (dirs : List ℕ) (h : refusal w (Start fro
   pub start_closed : (d : ℕ) → is_among dirs d ≡ true → open_export w d ≡ None
   start_closed d i = busy_none (open_export w d) (leaves d i).0
 
-  from_rank : from < w.ranks
+  pub start_from_rank : from < w.ranks
   unfolding causes
-  from_rank = leb-false w.ranks from (not_refused _ _ (not_refused_causes w (Start from to dirs) h).0)
+  start_from_rank = leb-false w.ranks from (not_refused _ _ (not_refused_causes w (Start from to dirs) h).0)
 
   to_rank : to < w.ranks
   unfolding causes
   to_rank = leb-false w.ranks to (not_refused _ _ (not_refused_causes w (Start from to dirs) h).1.0)
 
   started_authority : Safe w → (d : ℕ) → authority (with_export w from to dirs) d ≡ authority w d
-  started_authority safe d = start_authority w safe from to dirs (rw safe.all_ranks from_rank) (rw safe.all_ranks to_rank)
+  started_authority safe d = start_authority w safe from to dirs (rw safe.all_ranks start_from_rank) (rw safe.all_ranks to_rank)
       (λ c i. free_owner w safe from c (authority_is w c from (is_here from (authority w c) (leaves c i).1.0)).1 (no_open w safe c (start_closed c i)))
       (λ x c i j. no_open w safe c (start_closed c i) x j) d
 
@@ -117,8 +119,55 @@ module _ (w : World) (from to : ℕ) (dirs : List ℕ) (h : refusal w (Start fro
             plain None = refl
             plain (Some a) = refl
 
+  new_listed : IsReached w → (ls : List (List ℕ)) (ns : List Bool) → AreListed w.ranks w.orders w.exporters w.importers w.journals ls ns → length ns ≡ length w.orders →
+      AreListed w.ranks (with_export w from to dirs).orders (with_export w from to dirs).exporters (with_export w from to dirs).importers w.journals (set ls from (get_or ls from [] ++ length w.orders ∷ [])) (ns ++ false ∷ [])
+  new_listed r ls ns l places = record {
+    exports = λ x h. elim (cases_eq x (length w.orders)) [
+      | inl e ↦ rw (e, here) (pushed_here ls from (length w.orders) ranked)
+      | inr n ↦ rw (other x n) (pushed ls from (length w.orders) (order_in w.orders x).from x ranked (l.exports x (ap is_before_log (sym (push_other w.exporters Discovering Aborted x (λ k. n (k ∙ exporting)))) ∙ h)))
+    ];
+    imports = λ x h k. elim (cases_eq x (length w.orders)) [
+      | inl e ↦ absurd (differ (ap is_passing (sym (ap (λ j. get_or (w.importers ++ Unknown ∷ []) j Unknown) (e ∙ sym importing) ∙ push_same w.importers Unknown Unknown)) ∙ h))
+      | inr n ↦ rw (other x n) (pushed ls from (length w.orders) (order_in w.orders x).to x ranked
+          (l.imports x (ap is_passing (sym (push_other w.importers Unknown Unknown x (λ j. n (j ∙ importing)))) ∙ h) (ap (λ (o : Order). has w o.to (JournalEntry.Dropped x)) (sym (other x n)) ∙ k)))
+    ];
+    tells = λ x. elim (cases_eq x (length w.orders)) [
+      | inl e ↦ ap (λ j. get_or (ns ++ false ∷ []) j false) (e ∙ sym places) ∙ (push_same ns false false ∙ sym (ap (λ (o : Order). has w o.to (JournalEntry.Dropped x)) (ap (order_in (with_export w from to dirs).orders) e ∙ here) ∙ fresh x e))
+      | inr n ↦ push_other ns false false x (λ k. n (k ∙ places)) ∙ (l.tells x ∙ ap (λ (o : Order). has w o.to (JournalEntry.Dropped x)) (sym (other x n)))
+    ];
+    ranked = length-set ls from (get_or ls from [] ++ length w.orders ∷ []) ∙ l.ranked;
+  }
+    where
+      exporting : length w.exporters ≡ length w.orders
+      exporting = numbers_by w r (length w.exporters) (length w.orders) (λ safe. safe.exporting)
+
+      importing : length w.importers ≡ length w.orders
+      importing = numbers_by w r (length w.importers) (length w.orders) (λ safe. safe.importing)
+
+      ranked : from < length ls
+      ranked = rw l.ranked start_from_rank
+
+      here : order_in (with_export w from to dirs).orders (length w.orders) ≡ record { from = from; to = to; dirs = dirs }
+      here = push_same w.orders (record { from = from; to = to; dirs = dirs }) no_order
+
+      other : (x : ℕ) → x ≢ length w.orders → order_in (with_export w from to dirs).orders x ≡ order_in w.orders x
+      other x n = push_other w.orders (record { from = from; to = to; dirs = dirs }) no_order x n
+
+      differ : false ≡ true → ⊥
+      differ e = cc
+
+      unknown : (x : ℕ) → x ≡ length w.orders → importer_of w x ≡ Unknown
+      unknown x e = get_or_past w.importers x Unknown (omega (arith, importing))
+
+      fresh : (x : ℕ) → x ≡ length w.orders → has w to (JournalEntry.Dropped x) ≡ false
+      fresh x e = tests_by w r (has w to (JournalEntry.Dropped x)) false (λ safe. go safe (cases_Bool (has w to (JournalEntry.Dropped x))))
+        where
+          go : Safe w → (has w to (JournalEntry.Dropped x) ≡ true) ⊎ (has w to (JournalEntry.Dropped x) ≡ false) → has w to (JournalEntry.Dropped x) ≡ false
+          go safe (inr f) = f
+          go safe (inl t) = absurd (cc (sym (unknown x e) ∙ (safe.tables.dropped to x t).1))
+
   pub start_indexed : IsReached w → (i : Indexes) → IsIndexed w i →
-      IsIndexed (with_export w from to dirs) (record i { opened = map_at (λ k old. cond (is_among dirs k) (Some (length w.orders)) old) i.opened })
+      IsIndexed (with_export w from to dirs) (record i { opened = map_at (λ k old. cond (is_among dirs k) (Some (length w.orders)) old) i.opened; open_at = set i.open_at from (get_or i.open_at from [] ++ length w.orders ∷ []); dropped = i.dropped ++ false ∷ [] })
   start_indexed r i is = record {
     owners = λ d. options_by w r (get_or i.owners d None) (authority (with_export w from to dirs) d) (λ safe. is.owners d ∙ sym (started_authority safe d));
     opened = λ d. options_by w r (get_or (map_at (λ k old. cond (is_among dirs k) (Some (length w.orders)) old) i.opened) d None) (open_export (with_export w from to dirs) d)
@@ -131,4 +180,6 @@ module _ (w : World) (from to : ℕ) (dirs : List ℕ) (h : refusal w (Start fro
     children_places = is.children_places;
     unmarked = is.unmarked;
     requests = is.requests;
+    listed = new_listed r i.open_at i.dropped is.listed is.dropped_places;
+    dropped_places = length_push i.dropped false ∙ (ap (λ n. n + 1) is.dropped_places ∙ sym (length_push w.orders (record { from = from; to = to; dirs = dirs })));
   }

@@ -1,5 +1,5 @@
 -- The tables of a new cluster.
-use Rattle.std.proofs.Common.{◌≡◌, ℕ, zero, suc, ◌+◌, ◌≤◌, Bool, true, false, ◌&&◌, not, eqb, cond, [], ◌∷◌, length, get_or, Some, None, refl, sym, ap, ◌∙◌, inl, inr, ◌⊎◌, arith}
+use Rattle.std.proofs.Common.{◌≡◌, ℕ, zero, suc, ◌+◌, ◌≤◌, Bool, true, false, ◌&&◌, not, eqb, cond, [], ◌∷◌, length, get_or, set, Some, None, refl, sym, ap, ◌∙◌, inl, inr, ◌⊎◌, arith}
 use Rattle.std.proofs.lemmas.Bool.{false≢true}
 use Rattle.export_machine.specs.Cluster.{World}
 use Rattle.export_machine.specs.Authority.{IsAuthority, authority, open_export, is_present, named_of, runs_on}
@@ -14,6 +14,8 @@ use Rattle.export_machine.proofs.Theorem.{start_safe, safe_named, safe_gone}
 use Rattle.export_machine.proofs.Authorities.{authority_found, no_authority}
 use Rattle.export_machine.proofs.Walks.{authority_near}
 use Rattle.export_machine.proofs.ByRank.{start_filed}
+use Rattle.export_machine.specs.declared.journal.JournalEntry.{JournalEntry}
+use Rattle.export_machine.proofs.Listed.{start_listed, no_drops}
 use Rattle.export_machine.proofs.Lists.{counted}
 use Rattle.std.specs.Prelude.{replicate}
 
@@ -47,7 +49,7 @@ module _ (limit ranks : ℕ) (some : 1 ≤ ranks) where
   opened zero = refl
   opened (suc d) = refl
 
-  pub start_indexed : IsIndexed (start limit ranks) (record { owners = Some 0 ∷ []; opened = None ∷ []; running = 0 ∷ []; children = 0 ∷ []; marks = false ∷ []; tickets_at = replicate ranks [] })
+  pub start_indexed : IsIndexed (start limit ranks) (record { owners = Some 0 ∷ []; opened = None ∷ []; running = 0 ∷ []; children = 0 ∷ []; marks = false ∷ []; tickets_at = replicate ranks []; open_at = replicate ranks []; dropped = [] })
   unfolding start
   start_indexed = record {
     owners = owners;
@@ -60,6 +62,8 @@ module _ (limit ranks : ℕ) (some : 1 ≤ ranks) where
     children_places = refl;
     unmarked = refl;
     requests = start_filed ranks;
+    listed = start_listed ranks (set (replicate ranks []) 0 (JournalEntry.Made 0 ∷ [])) (no_drops ranks);
+    dropped_places = refl;
   }
     where
       running : (d : ℕ) → get_or {A = ℕ} (0 ∷ []) d 0 ≡ running_on (start limit ranks) (d ∷ [])

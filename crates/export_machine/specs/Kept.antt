@@ -1,8 +1,9 @@
 -- What the tables of a cluster stand for, and what always holds of them.
-use Rattle.std.specs.Prelude.{◌≡◌, ◌≤◌, ◌<◌, ℕ, ◌+◌, suc, Bool, true, ◌&&◌, nat_lt, List, [], ◌∷◌, map, length, Option, None, Some, Result, Ok, Err, slice_get, slice_index_or, vec_len, vec_capacity, Vec, if◌then◌else◌, replicate, false, not, ◌==◌, is_some}
+use Rattle.std.specs.Prelude.{◌≡◌, ◌≤◌, ◌<◌, ℕ, ◌+◌, suc, Bool, true, ◌&&◌, nat_lt, List, [], ◌∷◌, map, length, Option, None, Some, Result, Ok, Err, slice_get, slice_index_or, vec_len, vec_capacity, Vec, if◌then◌else◌, replicate, false, not, ◌==◌, ◌||◌, is_some}
+use Rattle.std.specs.List.{list_all}
 use Rattle.export_machine.specs.Cluster.{World}
-use Rattle.export_machine.specs.Authority.{authority, open_export, is_among, order_in, from_of, exporter_of, importer_of}
-use Rattle.export_machine.specs.Step.{running_on, is_child, about, receiver, repeats, comes}
+use Rattle.export_machine.specs.Authority.{authority, open_export, is_among, order_in, from_of, exporter_of, importer_of, has_entry}
+use Rattle.export_machine.specs.Step.{running_on, is_child, about, receiver, repeats, comes, is_before_log}
 use Rattle.export_machine.specs.View.{IsReached}
 use Rattle.export_machine.specs.declared.event.Event.{Event}
 use Rattle.export_machine.specs.declared.event.Reply.{Reply}
@@ -10,8 +11,10 @@ use Rattle.export_machine.specs.declared.event.Request.{Request}
 use Rattle.export_machine.specs.declared.exporter.ExporterState.{ExporterState}
 use Rattle.export_machine.specs.declared.importer.ImporterState.{ImporterState}
 use Rattle.export_machine.specs.declared.exporter.ExporterState.TheVariants.{Logged, Done, Aborted}
-use Rattle.export_machine.specs.declared.importer.ImporterState.TheVariants.{Unknown, Started, Imported, Dropped}
+use Rattle.export_machine.specs.declared.importer.ImporterState.TheVariants.{Unknown, Discovered, Prepared, Started, Imported, Dropped}
+use Rattle.export_machine.specs.declared.journal.JournalEntry.{JournalEntry}
 use Rattle.export_machine.specs.declared.message.Message.{Message}
+use Rattle.mds_types.specs.declared.order.Order.{Order}
 use Rattle.export_machine.specs.declared.step_error.StepError.{StepError}
 use Rattle.export_machine.specs.declared.records.Records.{Records}
 
@@ -40,9 +43,11 @@ pub record Indexes : Type 0 where
   pub children : List ℕ  -- how many children it has
   pub marks : List Bool  -- none, between the tests of lists
   pub tickets_at : List (List ℕ)  -- by rank: tickets that were given there
+  pub open_at : List (List ℕ)  -- by rank: exports whose state there its journal didn't tell
+  pub dropped : List Bool  -- by export: whether its importer's journal has it as dropped
 
 abbrev pub indexes_of : Records → Indexes
-indexes_of r = record { owners = r.owners.items; opened = r.opened.items; running = r.running.items; children = r.children.items; marks = r.marks.items; tickets_at = map (λ list. list.items) r.tickets_at.items }
+indexes_of r = record { owners = r.owners.items; opened = r.opened.items; running = r.running.items; children = r.children.items; marks = r.marks.items; tickets_at = map (λ list. list.items) r.tickets_at.items; open_at = map (λ list. list.items) r.open_at.items; dropped = r.dropped.items }
 
 -- how many places of a list pass the test
 abbrev pub count_at : {A : Type 0} → (ℕ → A → Bool) → List A → ℕ
@@ -57,6 +62,30 @@ pub record AreByRank (ranks : ℕ) (tickets : List (Option Request)) (tickets_at
   pub filed : (t : ℕ) (q : Request) → slice_index_or tickets t None ≡ Some q → is_among (slice_index_or tickets_at q.rank []) t ≡ true
   pub ranked : length tickets_at ≡ ranks
 
+-- the states of an import that a stop forgets, where the journal doesn't have it as dropped
+abbrev pub is_passing : ImporterState → Bool
+is_passing Discovered = true
+is_passing Prepared = true
+is_passing Dropped = true
+is_passing _ = false
+
+-- the importer's journal has the export as dropped
+abbrev pub has_dropped : List Order → List (List JournalEntry) → ℕ → Bool
+has_dropped orders journals x = has_entry (slice_index_or journals (order_in orders x).to []) (JournalEntry.Dropped x)
+
+-- each export whose state at a rank a stop of the rank would change is among those of the rank
+pub record AreListed (ranks : ℕ) (orders : List Order) (exporters : List ExporterState) (importers : List ImporterState) (journals : List (List JournalEntry)) (open_at : List (List ℕ)) (dropped : List Bool) : Type 0 where
+  pub exports : (x : ℕ) → is_before_log (slice_index_or exporters x Aborted) ≡ true → is_among (slice_index_or open_at (order_in orders x).from []) x ≡ true
+  pub imports : (x : ℕ) → is_passing (slice_index_or importers x Unknown) ≡ true → has_dropped orders journals x ≡ false → is_among (slice_index_or open_at (order_in orders x).to []) x ≡ true
+  pub tells : (x : ℕ) → slice_index_or dropped x false ≡ has_dropped orders journals x
+  pub ranked : length open_at ≡ ranks
+
+-- a stop of the rank would change the export's state there
+abbrev pub is_open_at : ℕ → List Order → List ExporterState → List ImporterState → List Bool → ℕ → Bool
+is_open_at rank orders exporters importers dropped x =
+    nat_lt x (length orders) && ((((order_in orders x).from == rank) && is_before_log (slice_index_or exporters x Aborted))
+    || (((order_in orders x).to == rank) && is_passing (slice_index_or importers x Unknown) && not (slice_index_or dropped x false)))
+
 pub record IsIndexed (w : World) (i : Indexes) : Type 0 where
   pub owners : (d : ℕ) → slice_index_or i.owners d None ≡ authority w d
   pub opened : (d : ℕ) → slice_index_or i.opened d None ≡ open_export w d
@@ -68,6 +97,8 @@ pub record IsIndexed (w : World) (i : Indexes) : Type 0 where
   pub children_places : length i.children ≡ length w.parents
   pub unmarked : i.marks ≡ replicate (length w.parents) false
   pub requests : AreByRank w.ranks w.tickets i.tickets_at
+  pub listed : AreListed w.ranks w.orders w.exporters w.importers w.journals i.open_at i.dropped
+  pub dropped_places : length i.dropped ≡ length w.orders
 
 -- a directory that is there, and one whose parent is another directory with a mark
 
@@ -112,9 +143,10 @@ is_spare (Some list) = has_spare list
 abbrev pub has_place : {T A : Type 0} → List (Vec T A) → ℕ → Bool
 has_place lists rank = is_spare (slice_get lists rank)
 
-abbrev pub has_places : {T A : Type 0} → List (Vec T A) → Option ℕ → Bool
-has_places journals None = true
-has_places journals (Some rank) = has_place journals rank
+-- the rank's journal and its list of exports have a place
+abbrev pub has_entry_places : Records → Option ℕ → Bool
+has_entry_places r None = true
+has_entry_places r (Some rank) = has_place r.journals.items rank && has_place r.open_at.items rank
 
 abbrev pub receiver_of : World → Option Message → Option ℕ
 receiver_of w None = None
@@ -133,7 +165,7 @@ has_dir_places r =
     has_spare r.parents && has_spare r.named && has_spare r.owners && has_spare r.opened && has_spare r.running && has_spare r.children && has_spare r.marks
 
 abbrev pub has_export_places : Records → Bool
-has_export_places r = has_spare r.orders && has_spare r.exporters && has_spare r.importers && has_spare r.sent
+has_export_places r = has_spare r.orders && has_spare r.exporters && has_spare r.importers && has_spare r.sent && has_spare r.dropped && list_all (λ list. has_spare list) r.open_at.items
 
 abbrev pub has_ticket_places : Records → ℕ → Bool
 has_ticket_places r rank = has_spare r.tickets && has_place r.tickets_at.items rank
@@ -154,7 +186,7 @@ has_list_places r (Event.Restart rank) = true
 has_list_places r (Event.Ask export) = has_spare r.sent
 
 unfoldable pub has_room : Records → Event → Bool
-has_room r e = has_places r.journals.items (entered_at (world_of r) e) && has_list_places r e
+has_room r e = has_entry_places r (entered_at (world_of r) e) && has_list_places r e
 
 -- What a rank can rely on where a message comes, and what it then did.
 
@@ -163,6 +195,7 @@ pub record CanReceive (r : Records) (message : Message) : Type 0 where
   pub sent : (number : ℕ) × (slice_get r.sent.items number ≡ Some message)
   pub spare : has_spare r.sent ≡ true
   pub place : has_place r.journals.items (receiver (world_of r) message) ≡ true
+  pub listing : has_place r.open_at.items (receiver (world_of r) message) ≡ true
   pub few : r.events < 1048576
 
 pub record IsReceived (old : Records) (message : Message) (reply : Reply) (new : Records) : Type 0 where
@@ -193,11 +226,17 @@ pub record Room : Type 0 where
   pub messages : Bool
   pub tickets : Bool
   pub requests : List Bool  -- by rank: for the ticket of a request there
-  pub entries : List Bool  -- by rank: in its journal
+  pub entries : List Bool  -- by rank: in its journal, and for an export there
 
 pub record State : Type 0 where
   pub world : World
   pub room : Room
+
+-- by rank: whether both lists have a place
+abbrev pub places_of : {S T A : Type 0} → List (Vec S A) → List (Vec T A) → List Bool
+places_of [] lists = map (λ list. has_spare list) lists
+places_of {T = T} (journal ∷ journals) [] = (has_spare journal && true) ∷ places_of {T = T} journals []
+places_of (journal ∷ journals) (list ∷ lists) = (has_spare journal && has_spare list) ∷ places_of journals lists
 
 abbrev pub state_of : Records → State
 state_of r = record {
@@ -208,7 +247,7 @@ state_of r = record {
     messages = has_spare r.sent;
     tickets = has_spare r.tickets;
     requests = map (λ list. has_spare list) r.tickets_at.items;
-    entries = map (λ journal. has_spare journal) r.journals.items;
+    entries = places_of r.journals.items r.open_at.items;
   };
 }
 
@@ -245,4 +284,4 @@ states_of w x = if nat_lt x (length w.orders) then Some (exporter_of w x, import
 
 -- those of a new cluster
 abbrev pub first_indexes : ℕ → Indexes
-first_indexes ranks = record { owners = Some 0 ∷ []; opened = None ∷ []; running = 0 ∷ []; children = 0 ∷ []; marks = false ∷ []; tickets_at = replicate ranks [] }
+first_indexes ranks = record { owners = Some 0 ∷ []; opened = None ∷ []; running = 0 ∷ []; children = 0 ∷ []; marks = false ∷ []; tickets_at = replicate ranks []; open_at = replicate ranks []; dropped = [] }

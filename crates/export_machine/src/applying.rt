@@ -1,11 +1,12 @@
 //! One event: its refusal, its memory, its effect, in this order.
 
+ghost use Rattle.std.specs.List.{list_all};
 ghost use Rattle.std.specs.Prelude.{◌≡◌, ◌<◌, ℕ, length, map, Some, None, true, Ok, OnOk, OnErr, IsOk, IfSome, IfErr};
 ghost use Rattle.export_machine.specs.Step.{refusal, happens, step};
 ghost use Rattle.export_machine.specs.declared.event.Event.{Event as StepEvent};
 ghost use Rattle.export_machine.specs.View.{IsAnswer};
 ghost use Rattle.export_machine.specs.Room.{IsAsRoomy, IsRefusal};
-ghost use Rattle.export_machine.specs.Kept.{world_of, indexes_of, has_room, has_place, has_places, has_list_places, has_ticket_places, has_dir_places, has_export_places, entered_at, IsKept, IsIndexed};
+ghost use Rattle.export_machine.specs.Kept.{world_of, indexes_of, has_room, has_place, has_spare, has_entry_places, has_list_places, has_ticket_places, has_dir_places, has_export_places, entered_at, IsKept, IsIndexed};
 
 use crate::event::{Event, Reply};
 use crate::records::Records;
@@ -13,15 +14,30 @@ use crate::step_error::StepError;
 use mds_types::Rank;
 use std::alloc::AllocError;
 
-/// Takes room for one more in a rank's list.
-fn grow_list<T: Copy>(lists: &mut Vec<Vec<T>>, rank: Rank) -> Result<(), AllocError>
-    requires near { rank < length lists.old.items }
+/// Takes room for one more in one of the lists.
+fn grow_list<T: Copy>(lists: &mut Vec<Vec<T>>, index: usize) -> Result<(), AllocError>
+    requires near { index < length lists.old.items }
     ensures entries { map (λ list. list.items) lists.new.items ≡ map (λ list. list.items) lists.old.items }
-    ensures room { OnOk result (has_place lists.new.items rank ≡ true) }
-    ensures ready { has_place lists.old.items rank ≡ true → IsOk result }
+    ensures room { OnOk result (has_place lists.new.items index ≡ true) }
+    ensures ready { has_place lists.old.items index ≡ true → IsOk result }
+    ensures all { list_all (λ list. has_spare list) lists.old.items ≡ true → list_all (λ list. has_spare list) lists.new.items ≡ true }
     ensures spare { (other : ℕ) → has_place lists.old.items other ≡ true → has_place lists.new.items other ≡ true }
 {
-    lists[rank.number() as usize].reserve(1)
+    lists[index].reserve(1)
+}
+
+/// Takes room for one more in each of the lists.
+fn grow_all<T: Copy>(lists: &mut Vec<Vec<T>>) -> Result<(), AllocError>
+    ensures entries { map (λ list. list.items) lists.new.items ≡ map (λ list. list.items) lists.old.items }
+    ensures room { OnOk result (list_all (λ list. has_spare list) lists.new.items ≡ true) }
+    ensures ready { list_all (λ list. has_spare list) lists.old.items ≡ true → IsOk result }
+    ensures all { list_all (λ list. has_spare list) lists.old.items ≡ true → list_all (λ list. has_spare list) lists.new.items ≡ true }
+    ensures spare { (other : ℕ) → has_place lists.old.items other ≡ true → has_place lists.new.items other ≡ true }
+{
+    for index in 0..lists.len() {
+        grow_list(lists, index)?;
+    }
+    Ok(())
 }
 
 impl Records {
@@ -29,7 +45,6 @@ impl Records {
     fn grow_dirs(&mut self) -> Result<(), AllocError>
         ensures world { world_of self.new ≡ world_of self.old }
         ensures indexes { indexes_of self.new ≡ indexes_of self.old }
-        ensures journals { self.new.journals ≡ self.old.journals }
         ensures room { OnOk result (has_dir_places self.new ≡ true) }
         ensures ready { has_dir_places self.old ≡ true → IsOk result }
         ensures spare { IsAsRoomy self.old self.new }
@@ -47,7 +62,6 @@ impl Records {
     fn grow_exports(&mut self) -> Result<(), AllocError>
         ensures world { world_of self.new ≡ world_of self.old }
         ensures indexes { indexes_of self.new ≡ indexes_of self.old }
-        ensures journals { self.new.journals ≡ self.old.journals }
         ensures room { OnOk result (has_export_places self.new ≡ true) }
         ensures ready { has_export_places self.old ≡ true → IsOk result }
         ensures spare { IsAsRoomy self.old self.new }
@@ -55,14 +69,15 @@ impl Records {
         self.orders.reserve(1)?;
         self.exporters.reserve(1)?;
         self.importers.reserve(1)?;
-        self.sent.reserve(1)
+        self.sent.reserve(1)?;
+        self.dropped.reserve(1)?;
+        grow_all(&mut self.open_at)
     }
 
     /// Takes room for the ticket of one more request at this rank, if it is one.
     fn grow_tickets(&mut self, rank: Rank) -> Result<(), AllocError>
         ensures world { world_of self.new ≡ world_of self.old }
         ensures indexes { indexes_of self.new ≡ indexes_of self.old }
-        ensures journals { self.new.journals ≡ self.old.journals }
         ensures room { OnOk result (has_ticket_places self.new rank ≡ true) }
         ensures ready { has_ticket_places self.old rank ≡ true → IsOk result }
         ensures spare { IsAsRoomy self.old self.new }
@@ -71,7 +86,7 @@ impl Records {
         if rank.number() as usize >= self.tickets_at.len() {
             return Ok(());
         }
-        grow_list(&mut self.tickets_at, rank)
+        grow_list(&mut self.tickets_at, rank.number() as usize)
     }
 
     /// The effect of an accepted event for which there is room.
@@ -117,14 +132,19 @@ impl Records {
     /// Takes room for one more entry, where an entry is written.
     fn grow_entry(&mut self, rank: Option<Rank>) -> Result<(), AllocError>
         requires near { IfSome rank (λ r. r < length self.old.journals.items) }
+        requires listing { IfSome rank (λ r. r < length self.old.open_at.items) }
         ensures world { world_of self.new ≡ world_of self.old }
-        ensures others { self.new ≡ record self.old { journals = self.new.journals } }
-        ensures room { OnOk result (has_places self.new.journals.items rank ≡ true) }
-        ensures ready { has_places self.old.journals.items rank ≡ true → IsOk result }
-        ensures spare { (other : ℕ) → has_place self.old.journals.items other ≡ true → has_place self.new.journals.items other ≡ true }
+        ensures indexes { indexes_of self.new ≡ indexes_of self.old }
+        ensures others { self.new ≡ record self.old { journals = self.new.journals; open_at = self.new.open_at } }
+        ensures room { OnOk result (has_entry_places self.new rank ≡ true) }
+        ensures ready { has_entry_places self.old rank ≡ true → IsOk result }
+        ensures spare { IsAsRoomy self.old self.new }
     {
         match rank {
-            Some(rank) => grow_list(&mut self.journals, rank),
+            Some(rank) => {
+                grow_list(&mut self.journals, rank.number() as usize)?;
+                grow_list(&mut self.open_at, rank.number() as usize)
+            }
             None => Ok(()),
         }
     }
@@ -133,7 +153,6 @@ impl Records {
     fn grow_lists(&mut self, event: &Event) -> Result<(), AllocError>
         ensures world { world_of self.new ≡ world_of self.old }
         ensures indexes { indexes_of self.new ≡ indexes_of self.old }
-        ensures journals { self.new.journals ≡ self.old.journals }
         ensures room { OnOk result (has_list_places self.new (event.now) ≡ true) }
         ensures ready { has_list_places self.old (event.now) ≡ true → IsOk result }
         ensures spare { IsAsRoomy self.old self.new }

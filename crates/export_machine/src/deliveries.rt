@@ -9,7 +9,7 @@ ghost use Rattle.export_machine.specs.Entries.{logs_export, is_log, delivered_en
 ghost use Rattle.export_machine.specs.Kept.{world_of, indexes_of, has_room, IsKept, IsIndexed, CanReceive, IsReceived, addressed};
 ghost use Rattle.export_machine.specs.Step.{about};
 
-use crate::changes::{enter, mark, send};
+use crate::changes::{enter, mark, put, send};
 use crate::event::{Event, Reply};
 use crate::exporter::ExporterState;
 use crate::importer::ImporterState;
@@ -26,6 +26,8 @@ impl Records {
         match self.importer(export) {
             ImporterState::Unknown => {
                 self.importers[export as usize] = ImporterState::Discovered;
+                let to = self.orders[export as usize].to;
+                enter(&mut self.open_at, to, export);
                 send(&mut self.sent, Message::DiscoverAck(export))
             }
             _ => Reply::Ignored,
@@ -81,7 +83,9 @@ impl Records {
                 self.importers[export as usize] = ImporterState::Started;
                 let to = self.orders[export as usize].to;
                 enter(&mut self.journals, to, JournalEntry::Started(export));
-                send(&mut self.sent, Message::ExportAck(export))
+                let reply = send(&mut self.sent, Message::ExportAck(export));
+                self.note_told(to);
+                reply
             }
             _ => Reply::Ignored,
         }
@@ -96,12 +100,10 @@ impl Records {
             ExporterState::Exporting => {
                 self.exporters[export as usize] = ExporterState::Logged;
                 let order = &self.orders[export as usize];
-                enter(
-                    &mut self.journals,
-                    order.from,
-                    JournalEntry::Exported(export),
-                );
+                let from = order.from;
+                enter(&mut self.journals, from, JournalEntry::Exported(export));
                 mark(&mut self.owners, order.dirs.as_slice(), Some(order.to));
+                self.note_told(from);
                 Reply::Changed
             }
             _ => Reply::Ignored,
@@ -130,7 +132,13 @@ impl Records {
         ensures { IsReceived self.old (Message.Cancel export) result self.new }
     {
         match self.importer(export) {
-            ImporterState::Unknown | ImporterState::Discovered | ImporterState::Prepared => {
+            ImporterState::Unknown => {
+                self.importers[export as usize] = ImporterState::Dropped;
+                let to = self.orders[export as usize].to;
+                enter(&mut self.open_at, to, export);
+                Reply::Changed
+            }
+            ImporterState::Discovered | ImporterState::Prepared => {
                 self.importers[export as usize] = ImporterState::Dropped;
                 Reply::Changed
             }
@@ -138,6 +146,7 @@ impl Records {
                 self.importers[export as usize] = ImporterState::Dropped;
                 let to = self.orders[export as usize].to;
                 enter(&mut self.journals, to, JournalEntry::Dropped(export));
+                put(&mut self.dropped, export as usize, true);
                 Reply::Changed
             }
             ImporterState::Imported | ImporterState::Dropped => Reply::Ignored,

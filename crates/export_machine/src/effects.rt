@@ -69,12 +69,12 @@ impl Records {
         ensures indexed { IsIndexed (world_of self.new) (indexes_of self.new) }
     {
         self.exporters[export as usize] = ExporterState::Aborted;
-        mark(
-            &mut self.opened,
-            self.orders[export as usize].dirs.as_slice(),
-            None,
-        );
-        send(&mut self.sent, Message::Cancel(export))
+        let order = &self.orders[export as usize];
+        let from = order.from;
+        mark(&mut self.opened, order.dirs.as_slice(), None);
+        let reply = send(&mut self.sent, Message::Cancel(export));
+        self.note_told(from);
+        reply
     }
 
     /// A directory is made below this parent. It has its parent's authority.
@@ -139,6 +139,8 @@ impl Records {
         self.exporters.push_reserved(ExporterState::Discovering);
         self.importers.push_reserved(ImporterState::Unknown);
         self.sent.push_reserved(Message::Discover(export));
+        self.dropped.push_reserved(false);
+        enter(&mut self.open_at, from, export);
         Reply::Export(export, message)
     }
 

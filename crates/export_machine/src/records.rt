@@ -3,7 +3,8 @@
 //! Beside the journals, states, messages and map there are four tables by directory, which the rest determines: its
 //! authority, the open export that it is in, how many requests run on it and how many children it has. So no read
 //! folds a journal and no event searches the exports. A fifth, of marks, is for the test of a list of directories. By
-//! rank there are the tickets of its requests, so that a stop needn't look through those of all requests that ever were.
+//! rank there are the tickets of its requests and the exports that are open there, so that a stop needn't look through
+//! all requests and exports that ever were.
 
 ghost use Rattle.std.specs.Prelude.{◌≡◌, ℕ, ◌<◌, ◌≤◌, IfOk, map, replicate, slice_set, false, ◌∷◌, [], length, Some, slice_index_or};
 ghost use Rattle.export_machine.specs.Authority.{is_present, authority, open_export, is_stopped, exporter_of, importer_of, from_of, to_of, order_in, frozen_by, serves, named_of, journal_of};
@@ -49,6 +50,12 @@ pub struct Records {
     pub(crate) tickets_at: Vec<Vec<u32>>,
     /// By rank: how many of those requests ended.
     pub(crate) ended_at: Vec<u32>,
+    /// By rank: the exports whose state there its journal doesn't tell, and some of those that it tells.
+    pub(crate) open_at: Vec<Vec<u32>>,
+    /// By rank: how many of those its journal tells.
+    pub(crate) told_at: Vec<u32>,
+    /// By export: whether its importer's journal has it as dropped.
+    pub(crate) dropped: Vec<bool>,
 }
 
 /// An empty list for each rank.
@@ -120,6 +127,9 @@ impl Records {
             marks: vec![in alloc; false]?,
             tickets_at: empty_lists(alloc, ranks)?,
             ended_at: vec![in alloc; 0; ranks as usize]?,
+            open_at: empty_lists(alloc, ranks)?,
+            told_at: vec![in alloc; 0; ranks as usize]?,
+            dropped: Vec::new(alloc),
         })
     }
 

@@ -1,10 +1,10 @@
 //! What a stop leaves of a rank's requests and states, and what its journal tells at a restart.
 
-ghost use Rattle.std.specs.Prelude.{◌≡◌, ◌<◌, ℕ, filter, is_some, length, Some, None, true, false, slice_set, slice_index_or, if◌then◌else◌, ◌==◌};
-ghost use Rattle.export_machine.specs.Authority.{order_in, from_of, to_of, importer_of, journal_of, has, has_entry, is_same, request_of};
+ghost use Rattle.std.specs.Prelude.{◌≡◌, ◌<◌, ℕ, filter, is_some, length, Some, None, true, false, not, ◌&&◌, slice_set, slice_index_or, if◌then◌else◌, ◌==◌};
+ghost use Rattle.export_machine.specs.Authority.{is_among, from_of, to_of, exporter_of, importer_of, has, request_of};
 ghost use Rattle.export_machine.specs.Step.{refusal, happens, map_at, is_before_log, ends_at};
 ghost use Rattle.export_machine.specs.declared.event.Event.{Event as StepEvent};
-ghost use Rattle.export_machine.specs.Kept.{world_of, indexes_of, IsKept, IsIndexed, exporter_at_stop, importer_at_stop};
+ghost use Rattle.export_machine.specs.Kept.{world_of, indexes_of, is_passing, is_open_at, IsKept, IsIndexed, exporter_at_stop, importer_at_stop};
 ghost use Rattle.export_machine.specs.declared.event.Request.{Request};
 
 use crate::changes::{mark, put};
@@ -27,43 +27,68 @@ fn is_before_log(state: ExporterState) -> bool
     }
 }
 
-/// What is left of an import at a rank that stops, entries that it was dropped apart.
-fn forgotten(stops: bool, state: ImporterState) -> ImporterState
-    ensures { result ≡ (if stops then importer_at_stop false state else state) }
+/// Whether a stop forgets this state of an import, where the journal doesn't have it as dropped.
+fn is_passing(state: ImporterState) -> bool
+    ensures { result ≡ is_passing state }
+{
+    match state {
+        ImporterState::Discovered | ImporterState::Prepared | ImporterState::Dropped => true,
+        ImporterState::Unknown | ImporterState::Started | ImporterState::Imported => false,
+    }
+}
+
+/// What a stop leaves of an import.
+fn left_of(dropped: bool, state: ImporterState) -> ImporterState
+    ensures { result ≡ importer_at_stop dropped state }
 {
     match state {
         ImporterState::Started | ImporterState::Imported => state,
-        _ if stops => ImporterState::Unknown,
-        _ => state,
+        ImporterState::Dropped if dropped => state,
+        _ => ImporterState::Unknown,
     }
 }
 
-/// What is left of the imports of a rank that stops, entries that they were dropped apart.
-fn forget_all(importers: &mut Vec<ImporterState>, orders: &[Order], rank: Rank)
-    requires near { length importers.old.items ≡ length orders.now }
-    ensures { importers.new.items ≡ map_at (λ x state. if (order_in orders.now x).to == rank then importer_at_stop false state else state) importers.old.items }
-{
-    for export in 0..orders.len() {
-        importers[export] = forgotten(orders[export].to == rank, importers[export]);
+/// The states of all exports at both ranks, for a rank's list of those whose state there a stop would change.
+#[derive(Clone, Copy)]
+struct Open<'a> {
+    rank: Rank,
+    orders: &'a [Order],
+    exporters: &'a [ExporterState],
+    importers: &'a [ImporterState],
+    dropped: &'a [bool],
+}
+
+impl<'a> Open<'a> {
+    fn exports(&self, order: &Order, export: u32) -> bool
+        ensures { result ≡ ((order.now.from == self.now.rank) && is_before_log (slice_index_or self.now.exporters.now export ExporterState.Aborted)) }
+    {
+        order.from == self.rank
+            && is_before_log(value_at(self.exporters, export as usize, ExporterState::Aborted))
     }
-}
 
-/// An entry that an import was dropped tells its state.
-fn recall(importers: &mut Vec<ImporterState>, entry: JournalEntry)
-    ensures { importers.new.items ≡ map_at (λ x state. if is_same entry (JournalEntry.Dropped x) then ImporterState.Dropped else state) importers.old.items }
-{
-    let JournalEntry::Dropped(export) = entry else {
-        return;
-    };
-    put(importers, export as usize, ImporterState::Dropped);
-}
+    fn imports(&self, order: &Order, export: u32) -> bool
+        ensures { result ≡ ((order.now.to == self.now.rank) && is_passing (slice_index_or self.now.importers.now export ImporterState.Unknown) && not (slice_index_or self.now.dropped.now export false)) }
+    {
+        order.to == self.rank
+            && is_passing(value_at(self.importers, export as usize, ImporterState::Unknown))
+            && !value_at(self.dropped, export as usize, false)
+    }
 
-/// The entries of a journal that imports were dropped tell their states.
-fn recall_all(importers: &mut Vec<ImporterState>, journal: &[JournalEntry])
-    ensures { importers.new.items ≡ map_at (λ x state. if has_entry journal.now (JournalEntry.Dropped x) then ImporterState.Dropped else state) importers.old.items }
-{
-    for entry in journal {
-        recall(importers, *entry);
+    fn has(&self, export: u32) -> bool
+        ensures { result ≡ is_open_at self.now.rank self.now.orders.now self.now.exporters.now self.now.importers.now self.now.dropped.now export }
+    {
+        if export as usize >= self.orders.len() {
+            return false;
+        }
+        let order = &self.orders[export as usize];
+        self.exports(order, export) || self.imports(order, export)
+    }
+
+    /// Keeps those exports whose state at the rank a stop would change.
+    fn keep(&self, listed: &mut Vec<u32>)
+        ensures { listed.new.items ≡ filter (is_open_at self.now.rank self.now.orders.now self.now.exporters.now self.now.importers.now self.now.dropped.now) listed.old.items }
+    {
+        listed.retain(|export| self.has(*export));
     }
 }
 
@@ -81,32 +106,101 @@ fn keep_running(listed: &mut Vec<u32>, tickets: &[Option<Request>])
 }
 
 impl Records {
+    /// Whether a stop of the rank aborts the export.
+    fn is_halted(&self, rank: Rank, export: usize) -> bool
+        requires near { length self.now.exporters.items ≡ length self.now.orders.items }
+        ensures { result ≡ ((from_of (world_of self.now) export == rank) && is_before_log (exporter_of (world_of self.now) export)) }
+    {
+        export < self.orders.len()
+            && self.orders[export].from == rank
+            && is_before_log(value_at(&self.exporters, export, ExporterState::Aborted))
+    }
+
     /// The rank's exports without a log entry are aborted.
     fn halt_exports(&mut self, rank: Rank)
         requires kept { IsKept self.old }
+        requires ranked { rank < length self.old.open_at.items }
         ensures others { self.new ≡ record self.old { exporters = self.new.exporters; opened = self.new.opened } }
         ensures exporters { self.new.exporters.items ≡ map_at (λ x state. if from_of (world_of self.old) x == rank then exporter_at_stop state else state) self.old.exporters.items }
         ensures indexed { IsIndexed (world_of self.new) (indexes_of self.new) }
     {
-        for export in 0..self.orders.len() {
-            if self.orders[export].from == rank && is_before_log(self.exporters[export]) {
+        let index = rank.number() as usize;
+        for at in 0..self.open_at[index].len() {
+            let export = self.open_at[index][at] as usize;
+            if self.is_halted(rank, export) {
                 self.exporters[export] = ExporterState::Aborted;
                 mark(&mut self.opened, self.orders[export].dirs.as_slice(), None);
             }
         }
     }
 
-    /// The rank's imports are as its journal tells.
+    /// What a stop of the rank leaves of an import.
+    fn import_at_stop(&self, rank: Rank, export: usize) -> ImporterState
+        requires near { length self.now.importers.items ≡ length self.now.orders.items }
+        ensures { result ≡ (if to_of (world_of self.now) export == rank then importer_at_stop (slice_index_or self.now.dropped.items export false) (importer_of (world_of self.now) export) else importer_of (world_of self.now) export) }
+    {
+        let state = value_at(&self.importers, export, ImporterState::Unknown);
+        if export >= self.orders.len() || self.orders[export].to != rank {
+            return state;
+        }
+        left_of(value_at(&self.dropped, export, false), state)
+    }
+
+    /// The rank's imports that it hasn't journaled are unknown.
     fn halt_imports(&mut self, rank: Rank)
         requires near { length self.old.importers.items ≡ length self.old.orders.items }
-        requires ranked { rank < length self.old.journals.items }
-        requires dropped { (x : ℕ) → has (world_of self.old) rank (JournalEntry.Dropped x) ≡ true → (to_of (world_of self.old) x ≡ rank) × (importer_of (world_of self.old) x ≡ ImporterState.Dropped) }
+        requires ranked { rank < length self.old.open_at.items }
+        requires indexed { IsIndexed (world_of self.old) (indexes_of self.old) }
+        requires dropped { (x : ℕ) → has (world_of self.old) rank (JournalEntry.Dropped x) ≡ true → importer_of (world_of self.old) x ≡ ImporterState.Dropped }
         ensures others { self.new ≡ record self.old { importers = self.new.importers } }
         ensures importers { self.new.importers.items
             ≡ map_at (λ x state. if to_of (world_of self.old) x == rank then importer_at_stop (has (world_of self.old) rank (JournalEntry.Dropped x)) state else state) self.old.importers.items }
     {
-        forget_all(&mut self.importers, &self.orders, rank);
-        recall_all(&mut self.importers, &self.journals[rank.number() as usize]);
+        let index = rank.number() as usize;
+        for at in 0..self.open_at[index].len() {
+            let export = self.open_at[index][at] as usize;
+            let state = self.import_at_stop(rank, export);
+            put(&mut self.importers, export, state);
+        }
+    }
+
+    /// Drops those of the rank's exports from its list whose states there its journal tells.
+    fn keep_open(&mut self, rank: Rank)
+        requires near { rank < length self.old.open_at.items }
+        requires indexed { IsIndexed (world_of self.old) (indexes_of self.old) }
+        requires exporting { length self.old.exporters.items ≡ length self.old.orders.items }
+        requires importing { length self.old.importers.items ≡ length self.old.orders.items }
+        ensures others { self.new ≡ record self.old { open_at = self.new.open_at; told_at = self.new.told_at } }
+        ensures indexed { IsIndexed (world_of self.new) (indexes_of self.new) }
+    {
+        let open = Open {
+            rank,
+            orders: &self.orders,
+            exporters: &self.exporters,
+            importers: &self.importers,
+            dropped: &self.dropped,
+        };
+        open.keep(&mut self.open_at[rank.number() as usize]);
+        put(&mut self.told_at, rank.number() as usize, 0);
+    }
+
+    /// The journal tells the state of one more of the rank's exports. Once half of those that are listed are told, they
+    /// go: so a stop of the rank takes time that grows with its open exports alone.
+    pub(crate) fn note_told(&mut self, rank: Rank)
+        requires near { rank < length self.old.open_at.items }
+        requires indexed { IsIndexed (world_of self.old) (indexes_of self.old) }
+        requires exporting { length self.old.exporters.items ≡ length self.old.orders.items }
+        requires importing { length self.old.importers.items ≡ length self.old.orders.items }
+        ensures others { self.new ≡ record self.old { open_at = self.new.open_at; told_at = self.new.told_at } }
+        ensures indexed { IsIndexed (world_of self.new) (indexes_of self.new) }
+    {
+        let index = rank.number() as usize;
+        let told = value_at(&self.told_at, index, 0).saturating_add(1);
+        if (told as usize) <= self.open_at[index].len() / 2 {
+            put(&mut self.told_at, index, told);
+        } else {
+            self.keep_open(rank);
+        }
     }
 
     /// A request ended at this rank. Once half of the tickets that are kept for the rank are of such requests, they go: so
@@ -184,12 +278,13 @@ impl Records {
     {
         self.halt_exports(rank);
         self.halt_imports(rank);
+        self.keep_open(rank);
         self.end_requests(rank);
         put(&mut self.stopped, rank.number() as usize, true);
         Reply::Changed
     }
 
-    /// A rank runs again. What its journal tells of its states is what a stop leaves.
+    /// A rank runs again. Its states are those that its journal tells, as the stop left them.
     pub(crate) fn restart(&mut self, rank: Rank) -> Reply
         requires kept { IsKept self.old }
         requires accepted { refusal (world_of self.old) (StepEvent.Restart rank) ≡ None }
@@ -199,8 +294,6 @@ impl Records {
         if !self.is_stopped(rank) {
             return Reply::Ignored;
         }
-        self.halt_exports(rank);
-        self.halt_imports(rank);
         put(&mut self.stopped, rank.number() as usize, false);
         Reply::Changed
     }

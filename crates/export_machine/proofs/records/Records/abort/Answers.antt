@@ -1,12 +1,13 @@
 use Rattle.std.proofs.Common.{◌≡◌, ◌<◌, ℕ, cond, length, Option, None, List, sym, ap, ◌∙◌, subst, refl, arith}
 use Rattle.std.proofs.lemmas.Bool.{and_parts, ltb-true}
-use Rattle.export_machine.specs.Authority.{is_among, is_inside, order_in}
+use Rattle.export_machine.specs.Authority.{is_among, is_inside, order_in, from_of}
 use Rattle.export_machine.specs.Step.{happens, map_at}
 use Rattle.export_machine.specs.declared.event.Event.TheVariants.{Abort}
 use Rattle.export_machine.specs.Kept.{world_of, indexes_of, has_room, IsIndexed}
+use Rattle.std.proofs.lemmas.List.{length-map, length-set}
 use Rattle.export_machine.proofs.Indexing.{abort_there, abort_indexed, aborted}
 use Rattle.export_machine.proofs.Reached.{by_safe}
-use Rattle.export_machine.proofs.Accepted.{room_left, as_exporter, dirs_here, abort_order, abort_state}
+use Rattle.export_machine.proofs.Accepted.{numbers_by, exporter_rank, from_here, room_left, as_exporter, dirs_here, abort_order, abort_state}
 use Rattle.export_machine.proofs.records.Records.abort.Goals as goal
 
 pub index_mut-requires : goal.index_mut-requires
@@ -14,38 +15,59 @@ index_mut-requires c =
     let near : c.args.export < length c.args.self.now.exporters.items = as_exporter (world_of c.args.self.now) c.requires.kept.reached c.args.export (abort_order (world_of c.args.self.now) c.args.export c.requires.accepted) in
     omega arith
 
-pub index-requires : goal.index-requires
-index-requires c =
+pub index-order-requires : goal.index-order-requires
+index-order-requires c =
     let near : c.args.export < length c.args.self.now.orders.items = abort_order (world_of c.args.self.now) c.args.export c.requires.accepted in
     omega arith
 
 pub mark-requires : goal.mark-requires
 mark-requires c =
     let near : c.args.export < length c.args.self.now.orders.items = abort_order (world_of c.args.self.now) c.args.export c.requires.accepted in
-    let e : (order_in c.args.self.now.orders.items c.args.export).dirs ≡ c.as_slice.result.now = dirs_here c.args.self.now.orders.items c.args.export c.index.result.now near c.index.ensures ∙ sym c.as_slice.ensures in
+    let e : (order_in c.args.self.now.orders.items c.args.export).dirs ≡ c.as_slice.result.now = dirs_here c.args.self.now.orders.items c.args.export c.index-order.result.now near c.index-order.ensures ∙ sym c.as_slice.ensures in
     record {
       near = λ d h. rw c.requires.kept.indexed.opened_places
           (abort_there (world_of c.args.self.now) (by_safe (world_of c.args.self.now) c.requires.kept.reached) c.args.export (abort_state (world_of c.args.self.now) c.args.export c.requires.accepted) d (ap (λ (ds : List ℕ). is_among ds d) e ∙ h));
     }
 
-pub send-requires-clause-room : goal.send-requires-clause-room
+pub send-reply-requires-clause-room : goal.send-reply-requires-clause-room
 unfolding has_room
-send-requires-clause-room c = ltb-true _ _ (and_parts _ _ c.requires.room).1
+send-reply-requires-clause-room c = ltb-true _ _ (and_parts _ _ c.requires.room).1
 
-pub send-requires-clause-few : goal.send-requires-clause-few
-send-requires-clause-few c = let left = room_left (world_of c.args.self.now) (Abort c.args.export) c.requires.accepted in omega (arith, c.requires.kept.sent)
+pub send-reply-requires-clause-few : goal.send-reply-requires-clause-few
+send-reply-requires-clause-few c = let left = room_left (world_of c.args.self.now) (Abort c.args.export) c.requires.accepted in omega (arith, c.requires.kept.sent)
+
+pub note_told-requires-clause-near : goal.note_told-requires-clause-near
+note_told-requires-clause-near c =
+    let w = world_of c.args.self.now in
+    let order = abort_order w c.args.export c.requires.accepted in
+    let near : c.args.export < length c.args.self.now.orders.items = order in
+    let t : from_of w c.args.export ≡ c.index-order.result.now.from = from_here c.args.self.now.orders.items c.args.export c.index-order.result.now near c.index-order.ensures in
+    let k : c.index-order.result.now.from < length w.journals = rw (← t) (exporter_rank w c.requires.kept.reached c.args.export order) in
+    let ranks : w.ranks ≡ length w.journals = numbers_by w c.requires.kept.reached _ _ (λ safe. sym safe.all_ranks) in
+    omega (arith, c.requires.kept.indexed.listed.ranked, length-map c.args.self.now.open_at.items (λ l. l.items))
+
+pub note_told-requires-clause-exporting : goal.note_told-requires-clause-exporting
+note_told-requires-clause-exporting c =
+    length-set c.args.self.now.exporters.items _ _ ∙ numbers_by (world_of c.args.self.now) c.requires.kept.reached (length c.args.self.now.exporters.items) (length c.args.self.now.orders.items) (λ safe. safe.exporting)
+
+pub note_told-requires-clause-importing : goal.note_told-requires-clause-importing
+note_told-requires-clause-importing c =
+    numbers_by (world_of c.args.self.now) c.requires.kept.reached (length c.args.self.now.importers.items) (length c.args.self.now.orders.items) (λ safe. safe.importing)
+
+pub note_told-requires-clause-indexed : goal.note_told-requires-clause-indexed
+note_told-requires-clause-indexed c =
+    let order = abort_order (world_of c.args.self.now) c.args.export c.requires.accepted in
+    let near : c.args.export < length c.args.self.now.orders.items = order in
+    let e : (order_in c.args.self.now.orders.items c.args.export).dirs ≡ c.as_slice.result.now = dirs_here c.args.self.now.orders.items c.args.export c.index-order.result.now near c.index-order.ensures ∙ sym c.as_slice.ensures in
+    let marked : map_at (λ k old. cond (is_inside (world_of c.args.self.now) c.args.export k) None old) c.args.self.now.opened.items ≡ c.mark.new.table.items =
+    ap (λ (ds : List ℕ). map_at (λ k old. cond (is_among ds k) None old) c.args.self.now.opened.items) e ∙ sym c.mark.ensures in
+    subst (λ (xs : List (Option ℕ)). IsIndexed (aborted (world_of c.args.self.now) c.args.export (as_exporter (world_of c.args.self.now) c.requires.kept.reached c.args.export order) c.send-reply.new.sent.items) (record (indexes_of c.args.self.now) { opened = xs })) marked
+    (abort_indexed (world_of c.args.self.now) c.args.export (as_exporter (world_of c.args.self.now) c.requires.kept.reached c.args.export order) c.send-reply.new.sent.items (by_safe (world_of c.args.self.now) c.requires.kept.reached) (indexes_of c.args.self.now)
+    c.requires.kept.indexed (abort_state (world_of c.args.self.now) c.args.export c.requires.accepted))
 
 pub returns-clause-effect : goal.returns-clause-effect
 unfolding happens
-returns-clause-effect c = rw (c.send.ensures.items, c.send.ensures.reply) refl
+returns-clause-effect c = rw (c.note_told.ensures.others, c.send-reply.ensures.items, c.send-reply.ensures.reply) refl
 
 pub returns-clause-indexed : goal.returns-clause-indexed
-returns-clause-indexed c =
-    let order = abort_order (world_of c.args.self.now) c.args.export c.requires.accepted in
-    let near : c.args.export < length c.args.self.now.orders.items = order in
-    let e : (order_in c.args.self.now.orders.items c.args.export).dirs ≡ c.as_slice.result.now = dirs_here c.args.self.now.orders.items c.args.export c.index.result.now near c.index.ensures ∙ sym c.as_slice.ensures in
-    let marked : map_at (λ k old. cond (is_inside (world_of c.args.self.now) c.args.export k) None old) c.args.self.now.opened.items ≡ c.mark.new.table.items =
-    ap (λ (ds : List ℕ). map_at (λ k old. cond (is_among ds k) None old) c.args.self.now.opened.items) e ∙ sym c.mark.ensures in
-    subst (λ (xs : List (Option ℕ)). IsIndexed (aborted (world_of c.args.self.now) c.args.export (as_exporter (world_of c.args.self.now) c.requires.kept.reached c.args.export order) c.send.new.sent.items) (record (indexes_of c.args.self.now) { opened = xs })) marked
-    (abort_indexed (world_of c.args.self.now) c.args.export (as_exporter (world_of c.args.self.now) c.requires.kept.reached c.args.export order) c.send.new.sent.items (by_safe (world_of c.args.self.now) c.requires.kept.reached) (indexes_of c.args.self.now)
-    c.requires.kept.indexed (abort_state (world_of c.args.self.now) c.args.export c.requires.accepted))
+returns-clause-indexed c = c.note_told.ensures.indexed

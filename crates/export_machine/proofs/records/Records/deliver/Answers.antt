@@ -4,7 +4,7 @@ use Rattle.std.specs.List.{slice_get}
 use Rattle.export_machine.specs.Authority.{is_stopped}
 use Rattle.export_machine.specs.Step.{happens, receiver}
 use Rattle.export_machine.specs.declared.event.Event.TheVariants.{Deliver}
-use Rattle.export_machine.specs.Kept.{world_of, has_room, entered_at, has_places, has_spare, receiver_of}
+use Rattle.export_machine.specs.Kept.{world_of, has_room, entered_at, has_entry_places, has_spare, receiver_of}
 use Rattle.export_machine.specs.Step.{about}
 use Rattle.export_machine.proofs.Found.{orders_by}
 use Rattle.export_machine.proofs.Accepted.{deliver_near, item_at, room_left}
@@ -33,12 +33,13 @@ unfolding has_room entered_at
 receive-requires c =
     let sent : slice_get c.args.self.now.sent.items c.args.message ≡ Some c.index-message.result.now =
     item_at c.args.self.now.sent.items c.args.message c.index-message.result.now (deliver_near (world_of c.args.self.now) c.args.message c.requires.accepted) c.index-message.ensures in
-    let room : (has_places c.args.self.now.journals.items (receiver_of (world_of c.args.self.now) (slice_get c.args.self.now.sent.items c.args.message)) ≡ true) × (has_spare c.args.self.now.sent ≡ true) = and_parts _ _ c.requires.room in
+    let room : (has_entry_places c.args.self.now (receiver_of (world_of c.args.self.now) (slice_get c.args.self.now.sent.items c.args.message)) ≡ true) × (has_spare c.args.self.now.sent ≡ true) = and_parts _ _ c.requires.room in
     record {
       kept = c.requires.kept;
       sent = (c.args.message, sent);
       spare = room.1;
-      place = rw sent at room.0;
+      place = (and_parts _ _ (rw sent at room.0)).0;
+      listing = (and_parts _ _ (rw sent at room.0)).1;
       few = room_left (world_of c.args.self.now) (Deliver c.args.message) c.requires.accepted;
     }
 

@@ -10,5 +10,5 @@ returns-in-Discovering c =
     let e : exporter_of (world_of c.args.self.now) c.args.export ≡ Discovering = sym c.exporter.ensures ∙ c.in-Discovering.is in
     record {
       effect = rw e refl;
-      indexed = exporter_indexed (world_of c.args.self.now) (indexes_of c.args.self.now) c.args.export Freezing c.requires.kept.indexed (rw e refl) c.args.self.now.sent.items;
+      indexed = exporter_indexed (world_of c.args.self.now) (indexes_of c.args.self.now) c.args.export Freezing c.requires.kept.indexed (rw e refl) (λ k. rw e refl) c.args.self.now.sent.items;
     }

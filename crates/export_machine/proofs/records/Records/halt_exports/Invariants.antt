@@ -1,15 +1,16 @@
-use Rattle.std.proofs.Common.{◌≡◌, cond, eqb}
+use Rattle.std.proofs.Common.{◌≡◌, [], cond, eqb, get_or, take}
 use Rattle.export_machine.specs.Authority.{from_of}
 use Rattle.export_machine.specs.Kept.{world_of, indexes_of, IsIndexed, exporter_at_stop}
 use Rattle.export_machine.proofs.Found.{Safely}
-use Rattle.export_machine.proofs.Halting.{changed_below}
+use Rattle.export_machine.proofs.Listed.{changed_among}
 use Rattle.export_machine.proofs.records.Records.halt_exports.Given as goal
 
--- the exports so far are as a stop leaves them
-abbrev pub invariant-loop-export : goal.invariant-loop-export
-invariant-loop-export l = record {
+-- the exports that are listed so far are as a stop leaves them
+abbrev pub invariant-loop-at : goal.invariant-loop-at
+invariant-loop-at l = record {
   others : l.self ≡ record l.fn.self { exporters = l.self.exporters; opened = l.self.opened };
-  exporters : l.self.exporters.items ≡ changed_below (λ x state. cond (eqb (from_of (world_of l.fn.self) x) l.rank) (exporter_at_stop state) state) l.export l.fn.self.exporters.items;
+  exporters : l.self.exporters.items
+      ≡ changed_among (λ x state. cond (eqb (from_of (world_of l.fn.self) x) l.rank) (exporter_at_stop state) state) (take l.at (get_or (indexes_of l.fn.self).open_at l.rank [])) l.fn.self.exporters.items;
   indexed : IsIndexed (world_of l.self) (indexes_of l.self);
   safely : Safely (world_of l.self);
 }

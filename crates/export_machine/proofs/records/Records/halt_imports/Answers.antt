@@ -1,26 +1,77 @@
-use Rattle.std.proofs.Common.{◌≡◌, ◌<◌, List, [], Vec, Global, false, cond, eqb, map, length, get_or, sym, ap, ◌∙◌}
-use Rattle.std.proofs.lemmas.List.{get_or-map}
-use Rattle.export_machine.specs.declared.importer.ImporterState.TheVariants.{Dropped}
+use Rattle.std.proofs.Common.{◌≡◌, ◌<◌, ◌≤◌, ℕ, Bool, List, [], true, false, cond, eqb, length, get_or, take, sym, ap, ◌∙◌, refl, arith}
+use Rattle.std.proofs.lemmas.Bool.{eqb-true}
+use Rattle.export_machine.specs.declared.importer.ImporterState.{ImporterState}
+use Rattle.export_machine.specs.declared.importer.ImporterState.TheVariants.{Unknown}
 use Rattle.export_machine.specs.declared.journal.JournalEntry.{JournalEntry}
-use Rattle.export_machine.specs.Authority.{order_in, to_of, has, has_entry, journal_of}
-use Rattle.export_machine.specs.Step.{map_at}
-use Rattle.export_machine.specs.Kept.{world_of, importer_at_stop}
-use Rattle.export_machine.proofs.Halted.{dropped_stay}
+use Rattle.export_machine.specs.declared.records.Records.{Records}
+use Rattle.export_machine.specs.Authority.{order_in, to_of, has, is_among, importer_of}
+use Rattle.export_machine.specs.Kept.{world_of, indexes_of, importer_at_stop}
+use Rattle.export_machine.proofs.ByRank.{list_here}
+use Rattle.export_machine.proofs.Marks.{map_at_same}
+use Rattle.export_machine.proofs.Views.{map_at_length}
+use Rattle.export_machine.proofs.Listed.{change_among_none, change_among_next, change_among_all}
+use Rattle.export_machine.proofs.Halted.{left_twice, unlisted_importer}
 use Rattle.export_machine.proofs.records.Records.halt_imports.Goals as goal
 
-abbrev items_of : Vec JournalEntry Global → List JournalEntry
-items_of j = j.items
+pub loop-at-init : goal.loop-at-init
+loop-at-init c = record {
+  others = refl;
+  importers = change_among_none (λ x state. cond (eqb (to_of (world_of c.args.self.now) x) c.args.rank) (importer_at_stop (get_or c.args.self.now.dropped.items x false) state) state) c.args.self.now.importers.items;
+}
+
+pub import_at_stop-state-requires : goal.import_at_stop-state-requires
+import_at_stop-state-requires c =
+    let self = c.loop-at.self in
+    let g = λ (x : ℕ) (state : ImporterState). cond (eqb (to_of (world_of c.args.self.now) x) c.args.rank) (importer_at_stop (get_or c.args.self.now.dropped.items x false) state) state in
+    let listed : List ℕ = get_or (indexes_of c.args.self.now).open_at c.args.rank [] in
+    let as_many : length self.importers.items ≡ length c.args.self.now.importers.items = ap length c.loop-at.invariant.importers ∙ map_at_length (λ k a. cond (is_among (take c.loop-at.at listed) k) (g k a) a) c.args.self.now.importers.items in
+    let orders : length self.orders.items ≡ length c.args.self.now.orders.items = ap (λ (r : Records). length r.orders.items) c.loop-at.invariant.others in
+    record { near = as_many ∙ (c.requires.near ∙ sym orders) }
+
+pub loop-at-preserved : goal.loop-at-preserved
+loop-at-preserved c =
+    let self = c.loop-at.self in
+    let xs = c.args.self.now.importers.items in
+    let g = λ (x : ℕ) (state : ImporterState). cond (eqb (to_of (world_of c.args.self.now) x) c.args.rank) (importer_at_stop (get_or c.args.self.now.dropped.items x false) state) state in
+    let listed : List ℕ = get_or (indexes_of c.args.self.now).open_at c.args.rank [] in
+    let n = c.index-in-loop-at-2.result.now in
+    let lists : self.open_at ≡ c.args.self.now.open_at = ap (λ (r : Records). r.open_at) c.loop-at.invariant.others in
+    let here : listed ≡ c.index-in-loop-at.result.now.items =
+    list_here c.args.self.now.open_at.items c.number-index.result c.args.rank c.index-in-loop-at.result.now c.number-index.ensures.value c.requires.ranked
+    (c.index-in-loop-at.ensures ∙ ap (λ ls. get_or ls.items c.number-index.result c.index-in-loop-at.result.now) lists) in
+    let first : listed ≡ c.index.result.now.items =
+    list_here c.args.self.now.open_at.items c.number-index.result c.args.rank c.index.result.now c.number-index.ensures.value c.requires.ranked c.index.ensures in
+    let near : c.loop-at.at < length listed = rw first (omega arith) in
+    let read : n ≡ get_or listed c.loop-at.at n = c.index-in-loop-at-2.ensures ∙ ap (λ l. get_or l c.loop-at.at n) (sym here) in
+    let to : to_of (world_of self) n ≡ to_of (world_of c.args.self.now) n = ap (λ (r : Records). (order_in r.orders.items n).to) c.loop-at.invariant.others in
+    let drops : get_or self.dropped.items n false ≡ get_or c.args.self.now.dropped.items n false = ap (λ (r : Records). get_or r.dropped.items n false) c.loop-at.invariant.others in
+    let twice = λ (k : ℕ) (a : ImporterState). left_twice (eqb (to_of (world_of c.args.self.now) k) c.args.rank) (get_or c.args.self.now.dropped.items k false) a in
+    let s : ImporterState = importer_of (world_of self) n in
+    let value : c.import_at_stop-state.result ≡ g n s =
+    c.import_at_stop-state.ensures
+    ∙ (ap (λ k. cond (eqb k c.args.rank) (importer_at_stop (get_or self.dropped.items n false) s) s) to ∙ ap (λ d. cond (eqb (to_of (world_of c.args.self.now) n) c.args.rank) (importer_at_stop d s) s) drops) in
+    record {
+      others = ap (λ (r : Records). record r { importers = c.put.new.table }) c.loop-at.invariant.others;
+      importers = c.put.ensures.items ∙ change_among_next g twice listed c.loop-at.at n xs self.importers.items c.import_at_stop-state.result Unknown near read c.loop-at.invariant.importers value;
+    }
 
 pub returns-clause-importers : goal.returns-clause-importers
 returns-clause-importers c =
-    let js = c.args.self.now.journals.items in
-    let near : c.number.result < length js = rw c.number.ensures.value c.requires.ranked in
-    let journal : c.deref-2.result.now ≡ journal_of (world_of c.args.self.now) c.args.rank =
-    c.deref-2.ensures.value ∙ (ap items_of c.index.ensures ∙ (sym (get_or-map items_of js c.number.result c.index.result.now [] near) ∙ ap (λ m. get_or (map items_of js) m []) c.number.ensures.value)) in
-    let forgot : c.forget_all.new.importers.items
-    ≡ map_at (λ x state. cond (eqb (to_of (world_of c.args.self.now) x) c.args.rank) (importer_at_stop false state) state) c.args.self.now.importers.items =
-    c.forget_all.ensures ∙ ap (λ os. map_at (λ x state. cond (eqb (order_in os x).to c.args.rank) (importer_at_stop false state) state) c.args.self.now.importers.items) c.deref.ensures.value in
-    c.recall_all.ensures
-    ∙ (ap (λ j. map_at (λ x state. cond (has_entry j (JournalEntry.Dropped x)) Dropped state) c.forget_all.new.importers.items) journal
-    ∙ (ap (λ ss. map_at (λ x state. cond (has (world_of c.args.self.now) c.args.rank (JournalEntry.Dropped x)) Dropped state) ss) forgot
-    ∙ dropped_stay (world_of c.args.self.now) c.args.rank c.requires.dropped))
+    let w = world_of c.args.self.now in
+    let i = indexes_of c.args.self.now in
+    let g = λ (x : ℕ) (state : ImporterState). cond (eqb (to_of w x) c.args.rank) (importer_at_stop (get_or i.dropped x false) state) state in
+    let listed : List ℕ = get_or (indexes_of c.args.self.now).open_at c.args.rank [] in
+    let first : listed ≡ c.index.result.now.items =
+    list_here c.args.self.now.open_at.items c.number-index.result c.args.rank c.index.result.now c.number-index.ensures.value c.requires.ranked c.index.ensures in
+    let past : length listed ≤ c.loop-at.at = rw first (omega arith) in
+    c.loop-at.invariant.importers
+    ∙ (change_among_all g listed c.loop-at.at c.args.self.now.importers.items Unknown past
+    (λ k h. unlisted_importer w.ranks w.orders w.exporters w.importers w.journals i.open_at i.dropped c.requires.indexed.listed c.args.rank
+    (λ x e t. c.requires.dropped x (ap (λ r. has w r (JournalEntry.Dropped x)) (sym e) ∙ (sym (c.requires.indexed.listed.tells x) ∙ t))) k h)
+    ∙ map_at_same _ _ (λ x state. tells x state (eqb (to_of w x) c.args.rank) refl) c.args.self.now.importers.items)
+  where
+    tells : (x : ℕ) (state : ImporterState) (b : Bool) → eqb (to_of (world_of c.args.self.now) x) c.args.rank ≡ b →
+        cond b (importer_at_stop (get_or (indexes_of c.args.self.now).dropped x false) state) state ≡ cond b (importer_at_stop (has (world_of c.args.self.now) c.args.rank (JournalEntry.Dropped x)) state) state
+    tells x state false e = refl
+    tells x state true e =
+        ap (λ d. importer_at_stop d state) (c.requires.indexed.listed.tells x ∙ ap (λ r. has (world_of c.args.self.now) r (JournalEntry.Dropped x)) (eqb-true (to_of (world_of c.args.self.now) x) c.args.rank e))

@@ -5,7 +5,8 @@ use Rattle.export_machine.specs.declared.exporter.ExporterState.TheVariants.{Exp
 use Rattle.export_machine.specs.Authority.{exporter_of, from_of, to_of, is_among, order_in}
 use Rattle.export_machine.specs.Step.{map_at}
 use Rattle.export_machine.proofs.Accepted.{dirs_here}
-use Rattle.export_machine.proofs.Receiving.{known, from_is, to_is, from_near, from_rank}
+use Rattle.export_machine.proofs.Receiving.{known, from_is, to_is, from_near, from_rank, from_list, as_exporters, as_importers}
+use Rattle.std.proofs.lemmas.List.{length-set}
 use Rattle.export_machine.proofs.Rows.{log_there, log_indexed}
 use Rattle.export_machine.proofs.records.Records.log.Goals as goal
 
@@ -27,8 +28,11 @@ mark-requires c =
       near = λ d h. rw c.requires.kept.indexed.owner_places (log_there (world_of c.args.self.now) c.requires.kept.reached c.args.export e d (ap (λ (ds : List ℕ). is_among ds d) f ∙ h));
     }
 
-pub returns-in-Exporting : goal.returns-in-Exporting
-returns-in-Exporting c =
+pub note_told-requires-clause-near : goal.note_told-requires-clause-near
+note_told-requires-clause-near c = from_list c.args.self.now (Message.ExportAck c.args.export) c.requires c.index-order.result.now c.index-order.ensures
+
+pub note_told-requires-clause-indexed : goal.note_told-requires-clause-indexed
+note_told-requires-clause-indexed c =
     let e : exporter_of (world_of c.args.self.now) c.args.export ≡ Exporting = sym c.exporter.ensures ∙ c.in-Exporting.is in
     let t : from_of (world_of c.args.self.now) c.args.export ≡ c.index-order.result.now.from = from_is c.args.self.now (Message.ExportAck c.args.export) c.requires c.index-order.result.now c.index-order.ensures in
     let f : (order_in c.args.self.now.orders.items c.args.export).dirs ≡ c.as_slice.result.now =
@@ -36,7 +40,19 @@ returns-in-Exporting c =
     let u : to_of (world_of c.args.self.now) c.args.export ≡ c.index-order.result.now.to = to_is c.args.self.now (Message.ExportAck c.args.export) c.requires c.index-order.result.now c.index-order.ensures in
     let m : map_at (λ k old. cond (is_among (order_in c.args.self.now.orders.items c.args.export).dirs k) (Some (to_of (world_of c.args.self.now) c.args.export)) old) c.args.self.now.owners.items ≡ c.mark.new.table.items =
     ap (λ (ds : List ℕ). map_at (λ k old. cond (is_among ds k) (Some (to_of (world_of c.args.self.now) c.args.export)) old) c.args.self.now.owners.items) f ∙ ap (λ (s : ℕ). map_at (λ k old. cond (is_among c.as_slice.result.now k) (Some s) old) c.args.self.now.owners.items) u ∙ sym c.mark.ensures in
+    rw (c.enter.ensures.entered, ← t, ← m) (log_indexed (world_of c.args.self.now) c.args.export c.requires.sent.0 e c.requires.sent.1 (from_rank c.args.self.now (Message.ExportAck c.args.export) c.requires) c.requires.kept.reached (indexes_of c.args.self.now) c.requires.kept.indexed)
+
+pub note_told-requires-clause-exporting : goal.note_told-requires-clause-exporting
+note_told-requires-clause-exporting c = length-set c.args.self.now.exporters.items _ _ ∙ as_exporters c.args.self.now (Message.ExportAck c.args.export) c.requires
+
+pub note_told-requires-clause-importing : goal.note_told-requires-clause-importing
+note_told-requires-clause-importing c = as_importers c.args.self.now (Message.ExportAck c.args.export) c.requires
+
+pub returns-in-Exporting : goal.returns-in-Exporting
+returns-in-Exporting c =
+    let e : exporter_of (world_of c.args.self.now) c.args.export ≡ Exporting = sym c.exporter.ensures ∙ c.in-Exporting.is in
+    let t : from_of (world_of c.args.self.now) c.args.export ≡ c.index-order.result.now.from = from_is c.args.self.now (Message.ExportAck c.args.export) c.requires c.index-order.result.now c.index-order.ensures in
     record {
-      effect = rw (e, c.enter.ensures.entered, ← t) refl;
-      indexed = rw (c.enter.ensures.entered, ← t, ← m) (log_indexed (world_of c.args.self.now) c.args.export c.requires.sent.0 e c.requires.sent.1 (from_rank c.args.self.now (Message.ExportAck c.args.export) c.requires) c.requires.kept.reached (indexes_of c.args.self.now) c.requires.kept.indexed);
+      effect = rw (c.note_told.ensures.others, e, c.enter.ensures.entered, ← t) refl;
+      indexed = c.note_told.ensures.indexed;
     }

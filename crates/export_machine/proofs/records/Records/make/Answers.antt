@@ -3,7 +3,7 @@ use Rattle.std.proofs.lemmas.Bool.{and_parts, ltb-true}
 use Rattle.std.proofs.lemmas.List.{length-map}
 use Rattle.export_machine.specs.Authority.{authority}
 use Rattle.export_machine.specs.Step.{happens, is_child}
-use Rattle.export_machine.specs.Kept.{world_of, indexes_of, has_room, entered_at, children_of, has_places}
+use Rattle.export_machine.specs.Kept.{world_of, indexes_of, has_room, entered_at, children_of, has_entry_places}
 use Rattle.export_machine.proofs.Growing.{made_indexed, children_is, count_within}
 use Rattle.export_machine.proofs.Accepted.{as_rank, made_parent, made_few, made_has}
 use Rattle.export_machine.proofs.records.Records.make.Goals as goal
@@ -25,7 +25,7 @@ pub enter-requires-clause-room : goal.enter-requires-clause-room
 unfolding has_room entered_at
 enter-requires-clause-room c =
     let a : authority (world_of c.args.self.now) c.args.parent ≡ Some c.in-Some.rank = sym c.authority.ensures ∙ c.in-Some.is in
-    ap (has_places c.args.self.now.journals.items) (sym a) ∙ (and_parts _ _ c.requires.room).0
+    (and_parts _ _ (ap (has_entry_places c.args.self.now) (sym a) ∙ (and_parts _ _ c.requires.room).0)).0
 
 pub push_reserved-requires : goal.push_reserved-requires
 unfolding has_room entered_at

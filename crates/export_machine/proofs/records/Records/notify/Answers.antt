@@ -33,7 +33,7 @@ enter-requires-clause-room c =
     let order = notify_order (world_of c.args.self.now) c.args.export c.requires.accepted in
     let near : c.args.export < length c.args.self.now.orders.items = order in
     let t : from_of (world_of c.args.self.now) c.args.export ≡ c.index-order.result.now.from = from_here c.args.self.now.orders.items c.args.export c.index-order.result.now near c.index-order.ensures in
-    rw (← t) (and_parts _ _ c.requires.room).0
+    rw (← t) (and_parts _ _ (and_parts _ _ c.requires.room).0).0
 
 pub mark-requires : goal.mark-requires
 mark-requires c =

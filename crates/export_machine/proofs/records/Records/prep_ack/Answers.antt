@@ -10,5 +10,5 @@ returns-in-Preparing c =
     let e : exporter_of (world_of c.args.self.now) c.args.export ≡ Preparing = sym c.exporter.ensures ∙ c.in-Preparing.is in
     record {
       effect = rw (e, c.send.ensures.items, c.send.ensures.reply) refl;
-      indexed = exporter_indexed (world_of c.args.self.now) (indexes_of c.args.self.now) c.args.export Exporting c.requires.kept.indexed (rw e refl) c.send.new.sent.items;
+      indexed = exporter_indexed (world_of c.args.self.now) (indexes_of c.args.self.now) c.args.export Exporting c.requires.kept.indexed (rw e refl) (λ k. rw e refl) c.send.new.sent.items;
     }

@@ -10,7 +10,7 @@ returns-in-Done c =
     let e : exporter_of (world_of c.args.self.now) c.args.export ≡ Done = sym c.exporter.ensures ∙ c.in-Done.is in
     record {
       effect = rw (e, c.send.ensures.items, c.send.ensures.reply) refl;
-      indexed = importer_indexed (world_of c.args.self.now) (indexes_of c.args.self.now) c.requires.kept.indexed _ _;
+      indexed = importer_indexed (world_of c.args.self.now) (indexes_of c.args.self.now) c.requires.kept.indexed _ _ _ c.requires.kept.indexed.listed;
     }
 
 pub returns-in-Aborted : goal.returns-in-Aborted
@@ -18,5 +18,5 @@ returns-in-Aborted c =
     let e : exporter_of (world_of c.args.self.now) c.args.export ≡ Aborted = sym c.exporter.ensures ∙ c.in-Aborted.is in
     record {
       effect = rw (e, c.send-in-Aborted.ensures.items, c.send-in-Aborted.ensures.reply) refl;
-      indexed = importer_indexed (world_of c.args.self.now) (indexes_of c.args.self.now) c.requires.kept.indexed _ _;
+      indexed = importer_indexed (world_of c.args.self.now) (indexes_of c.args.self.now) c.requires.kept.indexed _ _ _ c.requires.kept.indexed.listed;
     }

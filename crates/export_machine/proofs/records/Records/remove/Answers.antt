@@ -4,7 +4,7 @@ use Rattle.std.specs.Option.{is_some}
 use Rattle.std.proofs.lemmas.List.{length-map}
 use Rattle.export_machine.specs.Authority.{authority}
 use Rattle.export_machine.specs.Step.{happens}
-use Rattle.export_machine.specs.Kept.{world_of, indexes_of, has_room, entered_at, has_places}
+use Rattle.export_machine.specs.Kept.{world_of, indexes_of, has_room, entered_at, has_entry_places}
 use Rattle.export_machine.proofs.Events.{there_near}
 use Rattle.export_machine.proofs.Indexing.{default}
 use Rattle.export_machine.proofs.Growing.{gone_indexed, parent_below, some_child}
@@ -47,7 +47,7 @@ pub enter-requires-clause-room : goal.enter-requires-clause-room
 unfolding has_room entered_at
 enter-requires-clause-room c =
     let a : authority (world_of c.args.self.now) c.args.dir ≡ Some c.in-Some.rank = sym c.authority.ensures ∙ c.in-Some.is in
-    ap (has_places c.args.self.now.journals.items) (sym a) ∙ (and_parts _ _ c.requires.room).0
+    (and_parts _ _ (ap (has_entry_places c.args.self.now) (sym a) ∙ (and_parts _ _ c.requires.room).0)).0
 
 pub index_mut-requires-2 : goal.index_mut-requires-2
 index_mut-requires-2 c =

@@ -3,7 +3,9 @@ use Rattle.std.proofs.lemmas.Bool.{and_parts, ltb-true}
 use Rattle.export_machine.specs.Authority.{is_among}
 use Rattle.export_machine.specs.Step.{happens}
 use Rattle.export_machine.specs.Kept.{world_of, indexes_of, has_room}
-use Rattle.export_machine.proofs.Starting.{start_there, start_few, start_indexed}
+use Rattle.std.proofs.lemmas.List.{length-map}
+use Rattle.export_machine.proofs.Listed.{all_spare}
+use Rattle.export_machine.proofs.Starting.{start_from_rank, start_there, start_few, start_indexed}
 use Rattle.export_machine.proofs.records.Records.start.Goals as goal
 
 pub overflow_cast-export : goal.overflow_cast-export
@@ -20,19 +22,32 @@ mark-requires c =
 
 pub push_reserved-requires : goal.push_reserved-requires
 unfolding has_room
-push_reserved-requires c = ltb-true _ _ (and_parts _ _ (and_parts _ _ (and_parts _ _ (and_parts _ _ c.requires.room).1).0).0).0
+push_reserved-requires c = ltb-true _ _ (and_parts _ _ (and_parts _ _ (and_parts _ _ (and_parts _ _ (and_parts _ _ (and_parts _ _ c.requires.room).1).0).0).0).0).0
 
 pub push_reserved-requires-2 : goal.push_reserved-requires-2
 unfolding has_room
-push_reserved-requires-2 c = ltb-true _ _ (and_parts _ _ (and_parts _ _ (and_parts _ _ (and_parts _ _ c.requires.room).1).0).0).1
+push_reserved-requires-2 c = ltb-true _ _ (and_parts _ _ (and_parts _ _ (and_parts _ _ (and_parts _ _ (and_parts _ _ (and_parts _ _ c.requires.room).1).0).0).0).0).1
 
 pub push_reserved-requires-3 : goal.push_reserved-requires-3
 unfolding has_room
-push_reserved-requires-3 c = ltb-true _ _ (and_parts _ _ (and_parts _ _ (and_parts _ _ c.requires.room).1).0).1
+push_reserved-requires-3 c = ltb-true _ _ (and_parts _ _ (and_parts _ _ (and_parts _ _ (and_parts _ _ (and_parts _ _ c.requires.room).1).0).0).0).1
 
 pub push_reserved-requires-4 : goal.push_reserved-requires-4
 unfolding has_room
-push_reserved-requires-4 c = ltb-true _ _ (and_parts _ _ (and_parts _ _ c.requires.room).1).1
+push_reserved-requires-4 c = ltb-true _ _ (and_parts _ _ (and_parts _ _ (and_parts _ _ (and_parts _ _ c.requires.room).1).0).0).1
+
+pub push_reserved-requires-5 : goal.push_reserved-requires-5
+unfolding has_room
+push_reserved-requires-5 c = ltb-true _ _ (and_parts _ _ (and_parts _ _ (and_parts _ _ c.requires.room).1).0).1
+
+pub enter-requires-clause-near : goal.enter-requires-clause-near
+enter-requires-clause-near c =
+    let few : c.args.from < (world_of c.args.self.now).ranks = start_from_rank (world_of c.args.self.now) c.args.from c.args.to c.args.dirs c.requires.accepted in
+    omega (arith, c.requires.kept.indexed.listed.ranked, length-map c.args.self.now.open_at.items (λ l. l.items))
+
+pub enter-requires-clause-room : goal.enter-requires-clause-room
+unfolding has_room
+enter-requires-clause-room c = all_spare c.args.self.now.open_at.items (and_parts _ _ (and_parts _ _ c.requires.room).1).1 c.args.from
 
 pub returns-clause-effect : goal.returns-clause-effect
 unfolding happens
@@ -56,6 +71,8 @@ returns-clause-indexed c =
       c.push_reserved-2.ensures.items,
       c.push_reserved-3.ensures.items,
       c.push_reserved-4.ensures.items,
+      c.push_reserved-5.ensures.items,
+      c.enter.ensures.entered,
       c.mark.ensures,
       c.as_slice.ensures,
       n,
