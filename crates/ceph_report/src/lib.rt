@@ -2,6 +2,8 @@
 //! directories as a script of `mdbal`.
 #![tactic(auto)]
 
+pub mod foreign;
+pub mod json;
 pub mod mdbal_script;
 pub mod moves;
 pub mod own_list;
@@ -10,6 +12,8 @@ pub mod pins_script;
 pub mod report;
 pub mod shown;
 
+pub use foreign::own_pins;
+pub use json::make_json;
 pub use mdbal_script::make_script;
 pub use moves::{Move, Sums, goals_of, moves_of, sums_of};
 pub use own_list::make_own_list;

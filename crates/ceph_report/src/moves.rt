@@ -1,72 +1,139 @@
 //! What goes where: heat and inodes by rank, and by pin.
 
+ghost use Rattle.std.specs.Prelude.{◌≡◌, ◌==◌, ◌&&◌, ◌<◌, ◌+◌, not, length, slice_index, IfOk, ℕ};
+ghost use Rattle.ceph_snapshot.specs.Rows.{is_free};
+ghost use Rattle.ceph_report.specs.Amounts.{AreAmounts, goal_at, goal_of, heat_now};
+
 use ceph_pins::{Change, PinRow};
 use ceph_snapshot::{Directory, Held};
 use mds_types::Rank;
 use mds_types::limits::RANK_LIMIT;
 use std::alloc::{AllocError, Global};
 
-/// Numbers of one rank.
-#[derive(Clone, Copy, Debug, Default, PartialEq, Eq)]
+/// Numbers of each of 64 ranks.
+#[derive(Drop)]
 pub struct Sums {
-    /// The heat of the directories that are there now, in thousandths.
-    pub now: u64,
-    /// The inodes that come.
-    pub into: u64,
-    /// The inodes that go.
-    pub out: u64,
+    /// `now[r]` is the heat of what is at rank r now, in thousandths.
+    pub now: Vec<u64>,
+    /// `into[r]` is how many inodes come to rank r.
+    pub into: Vec<u64>,
+    /// `out[r]` is how many inodes go from rank r.
+    pub out: Vec<u64>,
 }
 
 /// The rank that a directory is to be at: where it is held, or else its target.
-fn goal(hold: Held, row: &PinRow) -> Rank {
-    match hold.rank() {
-        Some(rank) => rank,
-        None => row.target,
+fn goal(hold: Held, target: Rank) -> Rank
+    ensures { result ≡ goal_of hold target }
+{
+    match hold {
+        Held::Free => target,
+        Held::Pinned(rank) | Held::Spread(rank) => rank,
     }
 }
 
 /// The rank that each directory is to be at.
-pub fn goals_of(alloc: Global, holds: &[Held], rows: &[PinRow]) -> Result<Vec<Rank>, AllocError> {
+pub fn goals_of(alloc: Global, holds: &[Held], rows: &[PinRow]) -> Result<Vec<Rank>, AllocError>
+    requires { length holds.now ≡ length rows.now }
+    ensures size { IfOk result (λ goals. length goals.items ≡ length rows.now) }
+    ensures goals { IfOk result (λ goals. (i : ℕ) → i < length rows.now → slice_index goals.items i ≡ goal_at holds.now rows.now i) }
+{
     let mut goals = Vec::with_capacity(alloc, rows.len())?;
-    for (hold, row) in holds.iter().zip(rows) {
-        goals.push(goal(*hold, row))?;
+    for (at, row) in rows.iter().enumerate() {
+        goals.push(goal(holds[at], row.target))?;
     }
     Ok(goals)
 }
 
-/// Adds what a directory brings to the numbers of the ranks.
-fn add(sums: &mut [Sums], directory: &Directory, hold: Held, row: &PinRow) {
-    let (from, to) = (directory.now, goal(hold, row));
-    let moves = from != to && hold == Held::Free;
-    if let Some(sum) = sums.get_mut(usize::from(from.number())) {
-        if !directory.is_spread {
-            sum.now = sum.now.saturating_add(directory.heat);
-        }
-        if moves {
-            sum.out = sum.out.saturating_add(directory.inodes);
-        }
-    }
-    if let (true, Some(sum)) = (moves, sums.get_mut(usize::from(to.number()))) {
-        sum.into = sum.into.saturating_add(directory.inodes);
+/// Whether a directory that is at rank `now` goes to another one. What is held stays.
+fn is_leaving(now: Rank, hold: Held, goal: Rank) -> bool
+    ensures { result ≡ (is_free hold && not (now == goal)) }
+{
+    match hold {
+        Held::Free => now != goal,
+        Held::Pinned(_) | Held::Spread(_) => false,
     }
 }
 
-/// The numbers of each of 64 ranks. `spread` is the heat of what is spread.
+/// The heat at each rank now, with `spread`, the heat of what is spread.
+fn heats_now(
+    alloc: Global,
+    directories: &[Directory],
+    spread: &[u64],
+) -> Result<Vec<u64>, AllocError>
+    requires { length spread.now ≡ 64 }
+    ensures { IfOk result (λ heats. AreAmounts heats.items (λ r. slice_index spread.now r + heat_now directories.now r (length directories.now))) }
+{
+    let mut heats = spread.to_vec(alloc)?;
+    for (at, directory) in directories.iter().enumerate() {
+        if !directory.is_spread {
+            let number = usize::from(directory.now.number());
+            heats[number] = heats[number].saturating_add(directory.heat);
+        }
+    }
+    Ok(heats)
+}
+
+/// The inodes that come to each rank.
+fn inodes_into(
+    alloc: Global,
+    directories: &[Directory],
+    holds: &[Held],
+    goals: &[Rank],
+) -> Result<Vec<u64>, AllocError>
+    requires holds { length holds.now ≡ length directories.now }
+    requires goals { length goals.now ≡ length directories.now }
+    ensures { IfOk result (λ inodes. length inodes.items ≡ 64) }
+{
+    let mut inodes = vec![in alloc; 0u64; usize::from(RANK_LIMIT)]?;
+    for (at, directory) in directories.iter().enumerate() {
+        if is_leaving(directory.now, holds[at], goals[at]) {
+            let number = usize::from(goals[at].number());
+            inodes[number] = inodes[number].saturating_add(directory.inodes);
+        }
+    }
+    Ok(inodes)
+}
+
+/// The inodes that go from each rank.
+fn inodes_away(
+    alloc: Global,
+    directories: &[Directory],
+    holds: &[Held],
+    goals: &[Rank],
+) -> Result<Vec<u64>, AllocError>
+    requires holds { length holds.now ≡ length directories.now }
+    requires goals { length goals.now ≡ length directories.now }
+    ensures { IfOk result (λ inodes. length inodes.items ≡ 64) }
+{
+    let mut inodes = vec![in alloc; 0u64; usize::from(RANK_LIMIT)]?;
+    for (at, directory) in directories.iter().enumerate() {
+        if is_leaving(directory.now, holds[at], goals[at]) {
+            let number = usize::from(directory.now.number());
+            inodes[number] = inodes[number].saturating_add(directory.inodes);
+        }
+    }
+    Ok(inodes)
+}
+
+/// The numbers of each of 64 ranks. `goals[i]` is the rank that directory i is to be at, and `spread` the heat of what is spread.
 pub fn sums_of(
     alloc: Global,
     directories: &[Directory],
     holds: &[Held],
-    rows: &[PinRow],
+    goals: &[Rank],
     spread: &[u64],
-) -> Result<Vec<Sums>, AllocError> {
-    let mut sums = vec![in alloc; Sums::default(); usize::from(RANK_LIMIT)]?;
-    for (sum, heat) in sums.iter_mut().zip(spread) {
-        sum.now = *heat;
-    }
-    for (directory, (hold, row)) in directories.iter().zip(holds.iter().zip(rows)) {
-        add(sums.as_mut_slice(), directory, *hold, row);
-    }
-    Ok(sums)
+) -> Result<Sums, AllocError>
+    requires holds { length holds.now ≡ length directories.now }
+    requires goals { length goals.now ≡ length directories.now }
+    requires spread { length spread.now ≡ 64 }
+    ensures now { IfOk result (λ sums. AreAmounts sums.now.items (λ r. slice_index spread.now r + heat_now directories.now r (length directories.now))) }
+    ensures into { IfOk result (λ sums. length sums.into.items ≡ 64) }
+    ensures out { IfOk result (λ sums. length sums.out.items ≡ 64) }
+{
+    let now = heats_now(alloc, directories, spread)?;
+    let into = inodes_into(alloc, directories, holds, goals)?;
+    let out = inodes_away(alloc, directories, holds, goals)?;
+    Ok(Sums { now, into, out })
 }
 
 /// What a pin brings to its rank.

@@ -1,5 +1,6 @@
 //! A picture of the directories: a box a directory under its parent's, as wide as the heat at and below it, in the colour of the
-//! rank that it is to be at. Where the rank differs from the parent's the edge is thick. Small boxes are left out together.
+//! rank that it is to be at. Where the rank differs from the parent's the edge is thick. The children of a directory that are too
+//! cold for boxes of their own have a grey one together, behind the others.
 
 use crate::shown::push_path;
 use ceph_snapshot::Directory;
@@ -10,8 +11,8 @@ use std::fmt::Write;
 /// The width of the root's box, in hundredths of a pixel.
 const WIDTH: u64 = 140_000;
 
-/// The width below which a box isn't drawn, in hundredths of a pixel.
-const LEAST_WIDTH: u64 = 60;
+/// The width below which a directory has no box of its own, in hundredths of a pixel.
+const LEAST_WIDTH: u64 = 100;
 
 /// The height of a box, in pixels.
 const HEIGHT: u64 = 18;
@@ -33,6 +34,18 @@ struct Place {
     taken: u64,
     /// How many boxes are above it.
     depth: u64,
+    /// How many directories there are at and below it.
+    count: u64,
+    /// What its children come to that have no box of their own.
+    rest: Rest,
+}
+
+/// What the children of a directory come to that have no box of their own, with all below them.
+#[derive(Clone, Copy, Debug, Default)]
+struct Rest {
+    count: u64,
+    heat: u64,
+    inodes: u64,
 }
 
 /// Adds what is at and below a directory to its parent.
@@ -43,6 +56,7 @@ fn add_below(places: &mut [Place], at: usize, parent: usize) {
     if let Some(above) = places.get_mut(parent) {
         above.heat = above.heat.saturating_add(place.heat);
         above.inodes = above.inodes.saturating_add(place.inodes);
+        above.count = above.count.saturating_add(place.count);
     }
 }
 
@@ -53,6 +67,7 @@ fn sums_below(alloc: Global, directories: &[Directory]) -> Result<Vec<Place>, Al
         places.push(Place {
             heat: directory.heat,
             inodes: directory.inodes,
+            count: 1,
             ..Place::default()
         })?;
     }
@@ -76,20 +91,33 @@ fn width_of(heat: u64, all: u64) -> u64 {
     }
 }
 
-/// Puts a directory's box behind those of its siblings.
+/// Adds a directory that is too cold for a box to what its siblings without one come to.
+fn add_rest(above: &mut Place, place: Place) {
+    above.rest = Rest {
+        count: above.rest.count.saturating_add(place.count),
+        heat: above.rest.heat.saturating_add(place.heat),
+        inodes: above.rest.inodes.saturating_add(place.inodes),
+    };
+}
+
+/// Puts a directory's box behind those of its siblings, if it is wide enough for one.
 fn put(places: &mut [Place], at: usize, parent: usize, all: u64) {
-    let Some(above) = places.get(parent).copied() else {
+    let (Some(above), Some(mut place)) = (places.get(parent).copied(), places.get(at).copied())
+    else {
         return;
     };
-    let mut width = 0;
-    if let Some(place) = places.get_mut(at) {
-        width = width_of(place.heat, all);
-        place.width = width;
-        place.left = above.left.saturating_add(above.taken);
-        place.depth = above.depth.saturating_add(1);
+    place.width = width_of(place.heat, all);
+    place.left = above.left.saturating_add(above.taken);
+    place.depth = above.depth.saturating_add(1);
+    if let Some(there) = places.get_mut(at) {
+        *there = place;
     }
     if let Some(above) = places.get_mut(parent) {
-        above.taken = above.taken.saturating_add(width);
+        if place.width < LEAST_WIDTH {
+            add_rest(above, place);
+        } else {
+            above.taken = above.taken.saturating_add(place.width);
+        }
     }
 }
 
@@ -178,6 +206,29 @@ fn push_box(
     text.push_str("</g>\n")
 }
 
+/// Adds the box that the children of a directory have together that have none of their own, if that is wide enough.
+fn push_rest(text: &mut String, place: &Place, all: u64) -> Result<(), AllocError> {
+    let Rest {
+        count,
+        heat,
+        inodes,
+    } = place.rest;
+    let width = width_of(heat, all);
+    if width < LEAST_WIDTH {
+        return Ok(());
+    }
+    let top = place.depth.saturating_add(1).saturating_mul(HEIGHT);
+    let heat = heat / 1000;
+    write!(
+        text,
+        "<g><title>{count} directories together\nheat {heat}\ninodes {inodes}</title>\n<rect x=\""
+    )?;
+    push_hundredths(text, place.left.saturating_add(place.taken))?;
+    write!(text, "\" y=\"{top}\" width=\"")?;
+    push_hundredths(text, width)?;
+    writeln!(text, "\" height=\"{HEIGHT}\" fill=\"#ddd\"/></g>")
+}
+
 /// How many boxes are drawn above one another.
 fn levels(places: &[Place]) -> u64 {
     let drawn = places.iter().filter(|place| place.width >= LEAST_WIDTH);
@@ -185,7 +236,7 @@ fn levels(places: &[Place]) -> u64 {
         .map(|place| place.depth)
         .max()
         .unwrap_or(0)
-        .saturating_add(1)
+        .saturating_add(2)
 }
 
 /// Adds what stands before the boxes.
@@ -209,11 +260,13 @@ pub fn make_picture(
     let places = places_of(alloc, directories)?;
     let mut text = String::new(alloc);
     push_head(&mut text, levels(places.as_slice()))?;
+    let all = places.first().map_or(0, |root| root.heat);
     for (directory, (place, rank)) in directories.iter().zip(places.iter().zip(ranks)) {
         if place.width >= LEAST_WIDTH {
             let above = ranks.get(directory.parent as usize);
             let is_cut = above.is_some_and(|above| above != rank);
             push_box(&mut text, alloc, directory, place, *rank, is_cut)?;
+            push_rest(&mut text, place, all)?;
         }
     }
     text.push_str("</svg>\n")?;

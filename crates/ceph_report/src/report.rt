@@ -1,4 +1,5 @@
 //! The report, for people.
+ghost use Rattle.std.specs.Prelude.{◌≡◌, slice_index};
 
 use crate::moves::{Move, Sums};
 use crate::shown::{per_mille_above, push_heat, push_path, push_percent};
@@ -22,7 +23,7 @@ pub struct Facts<'a> {
     /// The plan.
     pub plan: &'a Planned,
     /// What each rank has now, and what comes and goes.
-    pub sums: &'a [Sums],
+    pub sums: &'a Sums,
     /// The heat that is held at each rank by pins of others, in thousandths.
     pub pinned: &'a [u64],
     /// What each new pin brings.
@@ -35,23 +36,32 @@ pub struct Facts<'a> {
 const MOVES_TOLD: usize = 40;
 
 /// The greatest heat of a rank now, in thousandths.
-pub fn greatest_now(sums: &[Sums]) -> u64 {
-    sums.iter().map(|sum| sum.now).max().unwrap_or(0)
+pub fn greatest_now(sums: &Sums) -> u64 {
+    sums.now.iter().copied().max().unwrap_or(0)
+}
+
+/// The number at a place, 0 where there is none.
+pub(crate) fn number_at(numbers: &[u64], at: usize) -> u64
+    ensures { result ≡ slice_index numbers.now at }
+{
+    numbers.get(at).copied().unwrap_or(0)
 }
 
 /// Adds the table of ranks.
 fn push_ranks(text: &mut String, facts: &Facts) -> Result<(), AllocError> {
     text.push_str("rank         now     planned      pinned   inodes in  inodes out\n")?;
     let plan = facts.plan;
-    for (number, sum) in facts.sums.iter().enumerate() {
+    for (number, now) in facts.sums.now.iter().enumerate() {
         let rank = u8::try_from(number).ok().and_then(Rank::new);
         let is_used = rank.is_some_and(|rank| facts.ranks.has(rank));
-        if is_used || sum.now > 0 {
+        if is_used || *now > 0 {
             write!(text, "{number:>4}")?;
-            push_heat(text, sum.now)?;
-            push_heat(text, plan.packing.load.get(number).copied().unwrap_or(0))?;
-            push_heat(text, facts.pinned.get(number).copied().unwrap_or(0))?;
-            writeln!(text, "{:>12}{:>12}", sum.into, sum.out)?;
+            push_heat(text, *now)?;
+            push_heat(text, number_at(&plan.packing.load, number))?;
+            push_heat(text, number_at(facts.pinned, number))?;
+            let into = number_at(&facts.sums.into, number);
+            let out = number_at(&facts.sums.out, number);
+            writeln!(text, "{into:>12}{out:>12}")?;
         }
     }
     Ok(())

@@ -2,6 +2,8 @@
 //!
 //! A directory is held by the nearest pin at or above it that this program didn't set. What is spread counts as held where it
 //! lies.
+ghost use Rattle.std.specs.Prelude.{◌≡◌, ◌<◌, ◌+◌, ◌↔◌, ℕ, Some, false, length, min, slice_index, true, IfOk};
+ghost use Rattle.ceph_snapshot.specs.Holding.{AreParentsFirst, IsHeld, held_at, held_below, hold_below, is_at, most_heat};
 
 use crate::directory::Directory;
 use mds_types::Rank;
@@ -20,8 +22,12 @@ pub enum Held {
 }
 
 impl Held {
+    ghost use Rattle.ceph_snapshot.specs.Holding.{is_at};
+
     /// The rank at which it is held.
-    pub fn rank(self) -> Option<Rank> {
+    pub fn rank(self) -> Option<Rank>
+        ensures { (r : ℕ) → (result ≡ Some r) ↔ (is_at self r ≡ true) }
+    {
         match self {
             Held::Free => None,
             Held::Pinned(rank) | Held::Spread(rank) => Some(rank),
@@ -29,28 +35,43 @@ impl Held {
     }
 }
 
-/// What holds a directory whose parent is held so.
-fn held_below(directory: &Directory, above: Held) -> Held {
-    if let Some(rank) = directory.pin {
+/// The rank at which a directory's heat counts as held. What is spread itself counts where it was seen.
+fn counted(is_spread: bool, hold: Held) -> Option<Rank>
+    ensures { (r : ℕ) → (result ≡ Some r) ↔ ((is_at hold r ≡ true) × (is_spread ≡ false)) }
+{
+    if is_spread { None } else { hold.rank() }
+}
+
+/// What holds a directory with this pin that is at rank `now`, where its parent is held so.
+fn next_hold(pin: Option<Rank>, is_spread: bool, now: Rank, above: Held) -> Held
+    ensures { result ≡ hold_below pin is_spread now above }
+{
+    if let Some(rank) = pin {
         return Held::Pinned(rank);
     }
-    if directory.is_spread {
-        return Held::Spread(directory.now);
+    if is_spread {
+        return Held::Spread(now);
     }
     match above {
-        Held::Spread(_) => Held::Spread(directory.now),
+        Held::Spread(_) => Held::Spread(now),
         Held::Free | Held::Pinned(_) => above,
     }
 }
 
 /// What holds each directory. The root itself can't be pinned.
-pub fn holds(alloc: Global, directories: &[Directory]) -> Result<Vec<Held>, AllocError> {
+pub fn holds(alloc: Global, directories: &[Directory]) -> Result<Vec<Held>, AllocError>
+    ensures size { IfOk result (λ holds. length holds.items ≡ length directories.now) }
+    ensures held { IfOk result (λ holds. AreParentsFirst directories.now → (i : ℕ) → i < length directories.now → IsHeld directories.now i (held_at holds.items i)) }
+{
     let mut found = Vec::with_capacity(alloc, directories.len())?;
     for (at, directory) in directories.iter().enumerate() {
-        let above = found.get(directory.parent as usize).copied();
-        let hold = match above {
-            Some(above) if at > 0 => held_below(directory, above),
-            _ => Held::Free,
+        let hold = if at == 0 {
+            Held::Free
+        } else {
+            match found.get(directory.parent as usize) {
+                Some(above) => next_hold(directory.pin, directory.is_spread, directory.now, *above),
+                None => Held::Free,
+            }
         };
         found.push(hold)?;
     }
@@ -63,16 +84,17 @@ pub fn held_heat(
     directories: &[Directory],
     holds: &[Held],
     spread: &[u64],
-) -> Result<Vec<u64>, AllocError> {
-    let mut heats = vec![in alloc; 0u64; usize::from(RANK_LIMIT)]?;
-    for (heat, more) in heats.iter_mut().zip(spread) {
-        *heat = *more;
-    }
-    for (directory, hold) in directories.iter().zip(holds) {
-        if let (Some(rank), false) = (hold.rank(), directory.is_spread) {
-            if let Some(heat) = heats.get_mut(usize::from(rank.number())) {
-                *heat = heat.saturating_add(directory.heat);
-            }
+) -> Result<Vec<u64>, AllocError>
+    requires holds { length holds.now ≡ length directories.now }
+    requires spread { length spread.now ≡ 64 }
+    ensures size { IfOk result (λ heats. length heats.items ≡ 64) }
+    ensures heats { IfOk result (λ heats. (r : ℕ) → r < 64 → slice_index heats.items r ≡ min most_heat (slice_index spread.now r + held_below directories.now holds.now r (length directories.now))) }
+{
+    let mut heats = spread.to_vec(alloc)?;
+    for (at, directory) in directories.iter().enumerate() {
+        if let Some(rank) = counted(directory.is_spread, holds[at]) {
+            let number = usize::from(rank.number());
+            heats[number] = heats[number].saturating_add(directory.heat);
         }
     }
     Ok(heats)

@@ -7,10 +7,12 @@ pub mod folding;
 pub mod gathering;
 pub mod held;
 mod names;
+pub mod rows;
 pub mod snapshot;
 
 pub use directory::Directory;
 pub use folding::fold;
 pub use gathering::{Gathering, SnapshotError};
 pub use held::{Held, held_heat, holds};
+pub use rows::rows_of;
 pub use snapshot::Snapshot;

@@ -95,6 +95,9 @@ fn pinned_and_spread_heat_is_held(rt: HostRuntime) -> Result<(), Fail> {
         Held::Pinned(rank(1)),
     ];
     assert_eq!(rt; holds.as_slice(), table.as_slice());
+    if snapshot.spread.len() != 64 {
+        return Err(Fail::from("lengths"));
+    }
     let heat = held_heat(rt.alloc(), &snapshot.directories, &holds, &snapshot.spread)?;
     assert_eq!(rt; heat.first(), Some(&40));
     assert_eq!(rt; heat.get(1), Some(&960));

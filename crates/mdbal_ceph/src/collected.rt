@@ -1,5 +1,6 @@
 //! Reads the files that `ceph/collect` wrote.
 
+use crate::progress::Progress;
 use anyhow::{Context, Error, bail};
 use ceph_dumps::{
     Cluster, DumpError, read_cluster, read_listing, read_loads, read_own_list, read_subtrees,
@@ -8,7 +9,7 @@ use ceph_snapshot::{Gathering, Snapshot};
 use mds_types::Rank;
 use mds_types::limits::RANK_LIMIT;
 use std::io::ErrorKind;
-use std::rt::Files;
+use std::rt::{Clock, Files};
 use std::{fs, io};
 
 /// The most samples that are read.
@@ -62,8 +63,9 @@ fn samples_of<R: Files + AllocGlobal>(rt: &R, folder: &str, rank: u32) -> Result
 }
 
 /// Adds the dumps of a rank.
-fn add_rank<R: Files + AllocGlobal>(
+fn add_rank<R: Files + AllocGlobal + Clock + Eprint>(
     rt: &R,
+    progress: &mut Progress,
     gathering: &mut Gathering,
     folder: &str,
     rank: Rank,
@@ -76,6 +78,7 @@ fn add_rank<R: Files + AllocGlobal>(
     gathering.add_subtrees(rank, roots.as_slice())?;
     for sample in 1..=samples {
         let path = format!(in rt.alloc(); "{folder}/loads.{number}.{sample}.json")?;
+        progress.tell(rt, path.as_str());
         let bytes = needed(rt, path.as_str())?;
         let loads = whole(path.as_str(), read_loads(rt.alloc(), bytes.as_slice()))?;
         gathering.add_loads(rank, loads.as_slice())?;
@@ -117,8 +120,9 @@ fn ranks_of<R: Files + AllocGlobal>(rt: &R, folder: &str) -> Result<(Cluster, u8
 }
 
 /// Reads a folder, and the list of pins of an earlier plan if there is one.
-pub fn read_collected<R: Files + AllocGlobal>(
+pub fn read_collected<R: Files + AllocGlobal + Clock + Eprint>(
     rt: &R,
+    progress: &mut Progress,
     folder: &str,
     own: Option<&str>,
 ) -> Result<Collected, Error> {
@@ -131,7 +135,7 @@ pub fn read_collected<R: Files + AllocGlobal>(
     let mut gathering = Gathering::new(rt.alloc())?;
     for number in cluster.ranks.as_slice() {
         match u8::try_from(*number).ok().and_then(Rank::new) {
-            Some(rank) => add_rank(rt, &mut gathering, folder, rank, samples)?,
+            Some(rank) => add_rank(rt, progress, &mut gathering, folder, rank, samples)?,
             None => bail!("{folder}/fs.json: rank {number} is none of 0 to 63"),
         }
     }

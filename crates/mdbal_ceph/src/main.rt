@@ -4,6 +4,7 @@
 mod collected;
 mod input;
 mod outcome;
+mod progress;
 mod settings;
 
 use anyhow::Error;

@@ -1,20 +1,22 @@
 //! Plans, and writes what came of it.
+ghost use Rattle.std.specs.Prelude.{◌<◌, ◌≤◌, ◌-◌, ◌*◌, ◌↔◌, IsTrue};
 
 use crate::collected::{Collected, read_collected};
-use crate::input::{own_pins, ranks_of, rows_of};
+use crate::input::ranks_of;
+use crate::progress::Progress;
 use crate::settings::Settings;
 use anyhow::{Context, Error, bail};
 use ceph_plan::{Proposal, propose};
 use ceph_report::{
-    Facts, Sums, goals_of, greatest_now, make_own_list, make_picture, make_pins_script,
-    make_report, make_script, moves_of, sums_of,
+    Facts, Sums, goals_of, greatest_now, make_json, make_own_list, make_picture, make_pins_script,
+    make_report, make_script, moves_of, own_pins, sums_of,
 };
-use ceph_snapshot::{Directory, Held, fold, held_heat, holds};
-use mds_types::RankSet;
-use mds_types::limits::DIR_LIMIT;
+use ceph_snapshot::{Directory, Held, fold, held_heat, holds, rows_of};
+use mds_types::limits::{DIR_LIMIT, RANK_LIMIT};
+use mds_types::{Rank, RankSet};
 use std::alloc::Global;
 use std::fs;
-use std::rt::Files;
+use std::rt::{Clock, Files};
 
 /// What was planned, and of what.
 #[derive(Drop)]
@@ -29,20 +31,24 @@ struct Outcome {
     directories: Vec<Directory>,
     /// How many directories were folded into their parents before.
     folded: usize,
-    /// The heat at each rank of what is spread, in thousandths.
-    spread: Vec<u64>,
     /// What holds each directory.
     holds: Vec<Held>,
     /// The heat that is held at each rank, in thousandths.
     pinned: Vec<u64>,
     /// The plan, and the changes of pins.
     proposal: Proposal,
+    /// The rank that each directory is to be at.
+    goals: Vec<Rank>,
+    /// What each rank has now, and what comes and goes.
+    sums: Sums,
 }
 
 /// Whether the hottest rank gets cooler by at least so many percent.
-fn is_worth_it(now: u64, planned: u64, percent: u8) -> bool {
+fn is_worth_it(now: u64, planned: u64, percent: u8) -> bool
+    ensures { IsTrue result ↔ ((planned < now) × (now * percent ≤ (now - planned) * 100)) }
+{
     let gain = now.saturating_sub(planned);
-    gain > 0 && gain.saturating_mul(100) >= now.saturating_mul(u64::from(percent))
+    gain > 0 && u128::from(gain) * 100 >= u128::from(now) * u128::from(percent)
 }
 
 /// The ranks that may have a part.
@@ -62,47 +68,52 @@ fn planned(alloc: Global, settings: &Settings, collected: Collected) -> Result<O
     let (size, samples) = (collected.size, collected.samples);
     let spread = collected.snapshot.spread;
     let (directories, folded) = fold(alloc, collected.snapshot.directories, DIR_LIMIT as usize)?;
+    if spread.len() != usize::from(RANK_LIMIT) {
+        bail!("there aren't 64 ranks");
+    }
     let holds = holds(alloc, &directories)?;
     let pinned = held_heat(alloc, &directories, &holds, &spread)?;
     let rows = rows_of(alloc, &directories, &holds)?;
     let own = own_pins(alloc, &directories)?;
-    if own.len() != rows.len() {
-        bail!("the directories don't fit together");
-    }
     let (parts, keep) = (settings.parts, settings.keep);
     let proposal = propose(alloc, &rows, parts, &pinned, ranks, keep, &own)?;
+    let goals = goals_of(alloc, &holds, &proposal.rows)?;
+    let sums = sums_of(alloc, &directories, &holds, &goals, &spread)?;
     Ok(Outcome {
         size,
         ranks,
         samples,
         directories,
         folded,
-        spread,
         holds,
         pinned,
         proposal,
+        goals,
+        sums,
     })
 }
 
-/// The report.
-fn told(alloc: Global, outcome: &Outcome, sums: &[Sums]) -> Result<String, Error> {
+/// The report, or the same as JSON.
+fn told(alloc: Global, outcome: &Outcome, is_json: bool) -> Result<String, Error> {
     let (directories, holds) = (outcome.directories.as_slice(), outcome.holds.as_slice());
     let (rows, changes) = (&outcome.proposal.rows, &outcome.proposal.changes);
     let moves = moves_of(alloc, directories, holds, rows, changes)?;
-    let text = make_report(
-        alloc,
-        &Facts {
-            directories,
-            folded: outcome.folded,
-            samples: outcome.samples,
-            ranks: outcome.ranks,
-            plan: &outcome.proposal.plan,
-            sums,
-            pinned: &outcome.pinned,
-            moves: &moves,
-            changes: changes.len(),
-        },
-    )?;
+    let facts = Facts {
+        directories,
+        folded: outcome.folded,
+        samples: outcome.samples,
+        ranks: outcome.ranks,
+        plan: &outcome.proposal.plan,
+        sums: &outcome.sums,
+        pinned: &outcome.pinned,
+        moves: &moves,
+        changes: changes.len(),
+    };
+    let text = if is_json {
+        make_json(alloc, &facts, changes)?
+    } else {
+        make_report(alloc, &facts)?
+    };
     Ok(text)
 }
 
@@ -131,8 +142,7 @@ fn write_views<R: Files + AllocGlobal>(
 ) -> Result<(), Error> {
     let (directories, holds) = (outcome.directories.as_slice(), outcome.holds.as_slice());
     if let Some(file) = settings.svg {
-        let goals = goals_of(rt.alloc(), holds, &outcome.proposal.rows)?;
-        let picture = make_picture(rt.alloc(), directories, &goals)?;
+        let picture = make_picture(rt.alloc(), directories, &outcome.goals)?;
         fs::write(rt, file, picture).context(format_args!("{file}"))?;
     }
     if let Some(file) = settings.script {
@@ -143,27 +153,27 @@ fn write_views<R: Files + AllocGlobal>(
 }
 
 /// Reads what was collected, plans, writes the files that are asked for, and gives the report.
-pub fn carry_out<R: Files + AllocGlobal>(rt: &R, settings: &Settings) -> Result<String, Error> {
+pub fn carry_out<R: Files + AllocGlobal + Clock + Eprint>(
+    rt: &R,
+    settings: &Settings,
+) -> Result<String, Error> {
     let alloc = rt.alloc();
-    let collected = read_collected(rt, settings.folder, settings.own)?;
+    let mut progress = Progress::begin(rt);
+    let collected = read_collected(rt, &mut progress, settings.folder, settings.own)?;
+    progress.tell(rt, "planning");
     let outcome = planned(alloc, settings, collected)?;
-    let (directories, holds) = (outcome.directories.as_slice(), outcome.holds.as_slice());
-    let sums = sums_of(
-        alloc,
-        directories,
-        holds,
-        &outcome.proposal.rows,
-        &outcome.spread,
-    )?;
-    let mut text = told(alloc, &outcome, &sums)?;
+    progress.tell(rt, "writing");
+    let mut text = told(alloc, &outcome, settings.is_json)?;
     write_views(rt, settings, &outcome)?;
     let greatest = outcome.proposal.plan.packing.greatest;
-    if !is_worth_it(greatest_now(&sums), greatest, settings.least_gain) {
+    if is_worth_it(greatest_now(&outcome.sums), greatest, settings.least_gain) {
+        if let Some(file) = settings.pins {
+            write_pins(rt, file, settings.mount, &outcome)?;
+        }
+    } else if !settings.is_json {
         text.push_str(
             "\nnothing is proposed: the hottest rank gets cooler by less than --least-gain asks\n",
         )?;
-    } else if let Some(file) = settings.pins {
-        write_pins(rt, file, settings.mount, &outcome)?;
     }
     Ok(text)
 }

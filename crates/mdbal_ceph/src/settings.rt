@@ -2,7 +2,7 @@
 
 use ceph_plan::Parts;
 use clap::error::ErrorKind;
-use clap::{Arg, ArgMatches, Command, Error, value_parser};
+use clap::{Arg, ArgAction, ArgMatches, Command, Error, value_parser};
 use mds_types::RankSet;
 use mds_types::limits::RANK_LIMIT;
 use std::alloc::{AllocError, Global};
@@ -34,6 +34,8 @@ pub struct Settings<'a> {
     pub svg: Option<&'a str>,
     /// Where the directories go as a script of `mdbal`.
     pub script: Option<&'a str>,
+    /// Whether the report is JSON.
+    pub is_json: bool,
 }
 
 /// Why there is nothing to do.
@@ -117,11 +119,16 @@ fn writing<'a>(alloc: Global, command: Command<'a>) -> Result<Command<'a>, Alloc
     let pins = "Write the pins as a shell script to FILE, and their list to FILE.own";
     let svg = "Write a picture of the directories, as SVG";
     let script = "Write the directories as a script of mdbal";
+    let json = Arg::new(alloc, "json")
+        .long("json")
+        .action(ArgAction::SetTrue)
+        .help("Print the plan as JSON in place of the report");
     command
         .arg(text(alloc, "mount", "PATH", mount).default_value("/mnt/cephfs"))?
         .arg(text(alloc, "pins", "FILE", pins))?
         .arg(text(alloc, "svg", "FILE", svg))?
-        .arg(text(alloc, "script", "FILE", script))
+        .arg(text(alloc, "script", "FILE", script))?
+        .arg(json)
 }
 
 /// The program's command, as `clap` knows it.
@@ -168,6 +175,7 @@ fn found<'a>(matches: &ArgMatches<'a>) -> Result<Settings<'a>, Refused> {
         pins: matches.get_str("pins"),
         svg: matches.get_str("svg"),
         script: matches.get_str("script"),
+        is_json: matches.get_flag("json"),
     })
 }
 

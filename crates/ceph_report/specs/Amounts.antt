@@ -1,0 +1,27 @@
+-- Where directories are to be, and what each rank has now.
+use Rattle.std.specs.Prelude.{◌≡◌, ◌==◌, ◌&&◌, ◌<◌, ℕ, not, List, length, min, slice_index, if◌then◌else◌}
+use Rattle.mds_types.specs.Sums.{sum_below}
+use Rattle.ceph_pins.specs.declared.row.PinRow.{PinRow}
+use Rattle.ceph_pins.specs.Rule.{target_at}
+use Rattle.ceph_snapshot.specs.declared.directory.Directory.{Directory}
+use Rattle.ceph_snapshot.specs.declared.held.Held.{Held}
+use Rattle.ceph_snapshot.specs.declared.held.Held.TheVariants.{Free, Pinned, Spread}
+use Rattle.ceph_snapshot.specs.Holding.{heat_at, held_at, is_spread_at, most_heat, now_at}
+
+-- the rank that a directory is to be at: where it is held, or else its target
+abbrev pub goal_of : Held → ℕ → ℕ
+goal_of Free target = target
+goal_of (Pinned rank) target = rank
+goal_of (Spread rank) target = rank
+
+abbrev pub goal_at : List Held → List PinRow → ℕ → ℕ
+goal_at holds rows i = goal_of (held_at holds i) (target_at rows i)
+
+-- of the first n directories, the heat of those that are at rank r and aren't spread
+abbrev pub heat_now : List Directory → ℕ → ℕ → ℕ
+heat_now directories r n = sum_below n (λ i. if (now_at directories i == r) && not (is_spread_at directories i) then heat_at directories i else 0)
+
+-- a number for each of 64 ranks, as far as 64 bits can count
+pub record AreAmounts (amounts : List ℕ) (of : ℕ → ℕ) : Type 0 where
+  pub size : length amounts ≡ 64
+  pub at : (r : ℕ) → r < 64 → slice_index amounts r ≡ min most_heat (of r)

@@ -1,0 +1,23 @@
+-- The pins that directories have of their own, as the planner of pins takes them.
+use Rattle.std.specs.Prelude.{◌≡◌, ◌==◌, ◌<◌, ℕ, List, length, slice_get, Option, Some, None, if◌then◌else◌}
+use Rattle.std.specs.Option.{option_map_or}
+use Rattle.ceph_pins.specs.Rule.{first_of}
+use Rattle.ceph_plan.specs.declared.proposal.OwnPins.{OwnPins}
+use Rattle.ceph_plan.specs.Asked.{own_at}
+use Rattle.ceph_snapshot.specs.declared.directory.Directory.{Directory}
+use Rattle.ceph_snapshot.specs.Holding.{is_spread_at, now_at, pin_at}
+
+-- the pin of an earlier plan
+abbrev pub earlier_at : List Directory → ℕ → Option ℕ
+earlier_at directories i = option_map_or (λ (d : Directory). d.earlier) (slice_get directories i) None
+
+-- the pin that is to stay: somebody else's, or else where it lies, where it is spread. The root has none
+abbrev pub foreign_at : List Directory → ℕ → Option ℕ
+foreign_at directories i =
+    if i == 0 then None
+    else first_of (pin_at directories i) (if is_spread_at directories i then Some (now_at directories i) else None)
+
+-- the pins of the first n directories, and no more
+pub record AreOwnPins (directories : List Directory) (n : ℕ) (own : List OwnPins) : Type 0 where
+  pub size : length own ≡ n
+  pub pins : (i : ℕ) → i < n → own_at own i ≡ record { foreign = foreign_at directories i; earlier = earlier_at directories i }
