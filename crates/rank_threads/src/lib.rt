@@ -6,6 +6,7 @@
 
 pub mod board_cell;
 mod desk;
+mod phase;
 mod serving;
 pub mod work;
 
