@@ -1,5 +1,5 @@
 -- Shares come back in rank order.
-use Rattle.std.proofs.Common.{◌≡◌, ℕ, ◌<◌, ◌≤◌, List, [], ◌∷◌, ◌++◌, length, map, Vec, Global, vec_capacity, refl, sym, ap, ◌∙◌, subst, inl, inr}
+use Rattle.std.proofs.Common.{◌≡◌, ℕ, suc, ◌<◌, ◌≤◌, List, [], ◌∷◌, ◌++◌, length, map, Vec, Global, vec_capacity, refl, sym, ap, ◌∙◌, subst, inl, inr}
 use Rattle.std.specs.List.{All, AllZip}
 use Rattle.std.proofs.lemmas.List.{map-append}
 use Rattle.std.proofs.lemmas.List.Elements.{All-push}
@@ -65,3 +65,16 @@ returned_all limit shares olds old scripts before script some all given news bac
 
 pub clean_last : (news back : List ShareData) (new : ShareData) → back ≡ news ++ new ∷ [] → All (λ s. IsClean s) news → IsClean new → All (λ s. IsClean s) back
 clean_last news back new is all last = subst (λ (l : List ShareData). All (λ s. IsClean s) l) (sym is) (All-push (λ (s : ShareData). IsClean s) news new all last)
+
+module _ {A B : Type 0} (R : A → B → Type 0) where
+  pub zip_more : (xs : List A) (ys : List B) (x : A) (y : B) → AllZip R xs ys → R x y → AllZip R (xs ++ x ∷ []) (ys ++ y ∷ [])
+  zip_more [] [] x y all r = (r, tt)
+  zip_more [] (w ∷ ys) x y all r = absurd all
+  zip_more (v ∷ xs) [] x y all r = absurd all
+  zip_more (v ∷ xs) (w ∷ ys) x y all r = (all.0, zip_more xs ys x y all.1 r)
+
+  pub zip_length : (xs : List A) (ys : List B) → AllZip R xs ys → length xs ≡ length ys
+  zip_length [] [] all = refl
+  zip_length [] (w ∷ ys) all = absurd all
+  zip_length (v ∷ xs) [] all = absurd all
+  zip_length (v ∷ xs) (w ∷ ys) all = ap (λ n. suc n) (zip_length xs ys all.1)

@@ -6,9 +6,10 @@
 
 pub mod board_cell;
 mod desk;
-mod phase;
+pub mod phase;
 mod serving;
 pub mod work;
 
 pub use board_cell::{BoardCell, Phase, Phased};
+pub use phase::{Ranks, serve_phase};
 pub use work::{Gate, OpenGate, Work, WorkAnswer, WorkError};

@@ -1,9 +1,9 @@
 //! The requests of all ranks, by a thread a rank.
-ghost use Rattle.std.specs.Prelude.{◌≡◌, ◌<◌, ◌≤◌, [], IfOk, OnErr, OnOk, length, map, vec_capacity, vec_len};
+ghost use Rattle.std.specs.Prelude.{◌≡◌, ◌<◌, ◌≤◌, ◌+◌, ◌↔◌, [], ◌∷◌, ◌++◌, IfErr, IfOk, IsOk, OnErr, length, map, vec_capacity, vec_len};
 ghost use Rattle.std.specs.List.{All, AllZip};
-ghost use Rattle.heat_ledger.specs.Ledger.{IsClean};
+ghost use Rattle.heat_ledger.specs.Ledger.{IsClean, ShareData};
 ghost use Rattle.rank_threads.specs.Going.{WentOn};
-ghost use Rattle.rank_threads.specs.Serving.{AreReturned, IsDeposited, IsReturned, IsServed};
+ghost use Rattle.rank_threads.specs.Serving.{AreReturned, IsDeposited};
 
 use crate::board_cell::{BoardCell, Phase};
 use crate::desk::{Desk, serve_beside};
@@ -14,7 +14,7 @@ use heat_ledger::Share;
 use mds_board::Board;
 use mds_types::Rank;
 use naming::Naming;
-use std::alloc::{AllocError, Global};
+use std::alloc::{AllocError, AllocFailed, Global};
 use std::marker::{Brand, Send, Sync};
 use std::sync::Wait;
 use std::thread::Threads;
@@ -167,5 +167,77 @@ fn serve_ranks<
     with_desk(rt, alloc, cell, ranks, desk)
 }
 
-ghost use Rattle.std.specs.Prelude.{ℕ, ◌+◌, List, ◌∷◌, ◌++◌, ◌↔◌, IsOk};
-ghost use Rattle.heat_ledger.specs.Ledger.{ShareData};
+// An empty list for each script, with room for its answers.
+fn lay(alloc: Global, scripts: &[Vec<Work>]) -> Result<Vec<Vec<WorkAnswer>>, AllocError>
+    ensures { IfOk result (λ rooms. AllZip (λ script room. (room.items ≡ []) × (length script.items ≤ vec_capacity room)) scripts.now rooms.items) }
+{
+    let mut rooms = Vec::new(alloc);
+    for script in scripts {
+        rooms.push(Vec::with_capacity(alloc, script.len())?)?;
+    }
+    Ok(rooms)
+}
+
+// Serves the requests of all ranks over a board that `K` names.
+fn serve_named<
+    J: Naming + Send + Sync,
+    M: Publisher<J> + Send,
+    K: Phase + Send + Sync,
+    R: Threads + Wait + Sync,
+    G: Gate + Sync,
+>(
+    rt: &R,
+    alloc: Global,
+    board: Board<J, M>,
+    gate: &G,
+    scripts: &[Vec<Work>],
+    shares: Vec<Share<J>>,
+    rooms: Vec<Vec<WorkAnswer>>,
+) -> (Board<J, M>, Ranks<J>)
+    requires board { board ≡ K.before }
+    requires few { length scripts.now ≤ 64 }
+    requires equal { vec_len shares ≡ length scripts.now }
+    requires rooms { (vec_len rooms ≡ length scripts.now) × AllZip (λ script room. (room.items ≡ []) × (length script.items ≤ vec_capacity room)) scripts.now rooms.items }
+    ensures board { WentOn K.before result.0 }
+    ensures returned { AreReturned J.limit shares.items (map (λ s. s.items) scripts.now) (map (λ a. a.items) result.1.answers.items) result.1.shares.items }
+    ensures clean { IsOk result.1.deposited → All (λ s. IsClean s) result.1.shares.items }
+{
+    let cell = BoardCell::<J, M, K>::new(board);
+    let ranks = serve_ranks(rt, alloc, &cell, gate, scripts, shares, rooms);
+    (cell.into_board(), ranks)
+}
+
+/// Serves the requests of each rank in order, by a thread a rank, and deposits the hits of their shares. `scripts[k]` and
+/// `shares[k]` are rank k's.
+///
+/// The board afterwards is the board before with steps and deposits alone on top of its history. All memory for the answers
+/// is asked for before the first request; where it is refused, board and shares come back as they were.
+pub fn serve_phase<
+    J: Naming + Send + Sync,
+    M: Publisher<J> + Send,
+    R: Threads + Wait + Sync,
+    G: Gate + Sync,
+>(
+    rt: &R,
+    alloc: Global,
+    board: Board<J, M>,
+    gate: &G,
+    scripts: &[Vec<Work>],
+    shares: Vec<Share<J>>,
+) -> (Board<J, M>, Result<Ranks<J>, AllocFailed<Vec<Share<J>>>>)
+    requires few { length scripts.now ≤ 64 }
+    requires equal { vec_len shares ≡ length scripts.now }
+    ensures board { WentOn board result.0 }
+    ensures returned { IfOk result.1 (λ ranks. AreReturned J.limit shares.items (map (λ s. s.items) scripts.now) (map (λ a. a.items) ranks.answers.items) ranks.shares.items) }
+    ensures clean { IfOk result.1 (λ ranks. IsOk ranks.deposited → All (λ s. IsClean s) ranks.shares.items) }
+    ensures memory { IfErr result.1 (λ e. e.value.items ≡ shares.items) }
+    ensures unchanged { OnErr result.1 (result.0 ≡ board) }
+{
+    let Ok(rooms) = lay(alloc, scripts) else {
+        return (board, Err(AllocFailed { value: shares }));
+    };
+    let (board, ranks) = serve_named::<J, M, Brand, R, G>(
+        rt, alloc, board, gate, scripts, shares, rooms,
+    );
+    (board, Ok(ranks))
+}

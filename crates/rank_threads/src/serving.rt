@@ -1,6 +1,7 @@
 //! The requests of one rank are served in order.
-ghost use Rattle.std.specs.Prelude.{All, false, ◌≡◌, ◌∷◌, [], ◌<◌, ◌≤◌, IsNone, IsSome, length, vec_capacity};
-ghost use Rattle.rank_threads.specs.Serving.{Counted, Fits, IsServed, after_hits};
+ghost use Rattle.std.specs.Prelude.{◌≡◌, ◌<◌, ◌≤◌, [], ◌∷◌, All, IsNone, IsSome, Some, false, length, vec_capacity};
+ghost use Rattle.std.specs.Option.{option_map};
+ghost use Rattle.rank_threads.specs.Serving.{Counted, Fits, IsServed, after_hits, no_thread};
 
 use crate::board_cell::{BoardCell, Phase};
 use crate::work::{Gate, Work, WorkAnswer, WorkError};
@@ -120,7 +121,3 @@ pub(crate) fn serve_script<J: Naming, M: Publisher<J>, K: Phase, R: Wait, G: Gat
         answers.push_reserved(answer);
     }
 }
-
-ghost use Rattle.rank_threads.specs.Serving.{no_thread};
-ghost use Rattle.std.specs.Prelude.{Some};
-ghost use Rattle.std.specs.Option.{option_map};
