@@ -13,13 +13,13 @@ pub(crate) struct JitterGate;
 
 impl Gate for JitterGate {
     fn before(&self, rank: Rank, number: usize) {
-        if (usize::from(rank.number()) + number) % 2 == 0 {
+        if number.wrapping_add(usize::from(rank.number())) % 2 == 0 {
             thread::yield_now();
         }
     }
 
     fn after(&self, rank: Rank, number: usize) {
-        if (usize::from(rank.number()) + number) % 3 == 0 {
+        if number.wrapping_add(usize::from(rank.number())) % 3 == 0 {
             thread::yield_now();
         }
     }
