@@ -1,5 +1,5 @@
 -- What answers count in a share, one after another.
-use Rattle.std.proofs.Common.{◌≡◌, ◌≢◌, ℕ, zero, suc, ◌+◌, ◌<◌, ◌==◌, Bool, true, false, List, [], ◌∷◌, ◌++◌, length, map, set, Option, Some, None, refl, sym, ap, ◌∙◌, subst, arith}
+use Rattle.std.proofs.Common.{◌≡◌, ◌≢◌, ℕ, zero, suc, ◌+◌, ◌<◌, ◌==◌, Bool, true, false, List, [], ◌∷◌, ◌++◌, length, set, Some, None, refl, sym, ap, ◌∙◌, arith}
 use Rattle.std.proofs.lemmas.Bool.Decides.{nat_tests}
 use Rattle.std.specs.List.{AllZip}
 use Rattle.std.specs.Prelude.{if◌then◌else◌}
@@ -8,7 +8,7 @@ use Rattle.heat_ledger.specs.Rows.{at, raised, with_row}
 use Rattle.heat_ledger.proofs.RowLemmas.{at_set_same, at_set_other}
 use Rattle.rank_threads.specs.declared.work.Work.{Work}
 use Rattle.rank_threads.specs.declared.work.WorkAnswer.{WorkAnswer}
-use Rattle.rank_threads.specs.Serving.{Fits, IsServed, Counted, after_hits, hits_on, begun_on, if_on, one_if}
+use Rattle.rank_threads.specs.Serving.{Fits, IsServed, Counted, after_hits, hits_on, begun_on, if_on}
 
 set_none : (xs : List ℕ) (d : ℕ) → set xs d (at xs d + 0) ≡ xs
 set_none [] d = refl

@@ -1,10 +1,5 @@
-use Rattle.std.proofs.Common.{◌≡◌, ◌≤◌, ◌∷◌, ◌++◌, [], rules, List, length, vec_len, arith, map, vec_capacity, Vec, Global, refl, sym, ap, ◌∙◌, subst}
-use Rattle.std.specs.List.{All, AllZip}
-use Rattle.heat_ledger.specs.Ledger.{ShareData, IsClean}
-use Rattle.rank_threads.specs.declared.work.Work.{Work}
-use Rattle.rank_threads.specs.declared.work.WorkAnswer.{WorkAnswer}
-use Rattle.rank_threads.specs.Serving.{AreReturned}
-use Rattle.rank_threads.proofs.Returning.{HasRoom, rooms_last, returned, returned_last, returned_all, clean_last}
+use Rattle.std.proofs.Common.{◌≡◌, ◌≤◌, rules, length, vec_len, arith}
+use Rattle.rank_threads.proofs.Returning.{rooms_last, returned, returned_all, clean_last}
 use Rattle.rank_threads.proofs.phase.+fn-serve_ranks-serve_beside+serve_ranks.Goals as goal
 
 pub serve_beside-desk-requires-clause-rest : goal.serve_beside-desk-requires-clause-rest

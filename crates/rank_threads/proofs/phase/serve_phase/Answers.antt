@@ -1,4 +1,4 @@
-use Rattle.std.proofs.Common.{length, vec_len, sym, arith}
+use Rattle.std.proofs.Common.{arith}
 use Rattle.std.proofs.lemmas.Grind.{common_steps}
 use Rattle.rank_threads.proofs.Returning.{HasRoom, zip_length}
 use Rattle.rank_threads.proofs.phase.serve_phase.Goals as goal
