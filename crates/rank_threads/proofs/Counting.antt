@@ -1,0 +1,115 @@
+-- What answers count in a share, one after another.
+use Rattle.std.proofs.Common.{◌≡◌, ◌≢◌, ℕ, zero, suc, ◌+◌, ◌<◌, ◌==◌, Bool, true, false, List, [], ◌∷◌, ◌++◌, length, set, Some, None, refl, sym, ap, ◌∙◌, arith}
+use Rattle.std.proofs.lemmas.Bool.Decides.{nat_tests}
+use Rattle.std.specs.List.{AllZip}
+use Rattle.std.specs.Prelude.{if◌then◌else◌}
+use Rattle.heat_ledger.specs.Ledger.{ShareData}
+use Rattle.heat_ledger.specs.Rows.{at, raised, with_row}
+use Rattle.heat_ledger.proofs.RowLemmas.{at_set_same, at_set_other}
+use Rattle.rank_threads.specs.declared.work.Work.{Work}
+use Rattle.rank_threads.specs.declared.work.WorkAnswer.{WorkAnswer}
+use Rattle.rank_threads.specs.Serving.{Fits, IsServed, Counted, after_hits, hits_on, begun_on, if_on}
+
+set_none : (xs : List ℕ) (d : ℕ) → set xs d (at xs d + 0) ≡ xs
+set_none [] d = refl
+set_none (x ∷ xs) zero = let same : x + 0 ≡ x = omega arith in ap (λ (y : ℕ). y ∷ xs) same
+set_none (x ∷ xs) (suc d) = ap (λ (ys : List ℕ). x ∷ ys) (set_none xs d)
+
+set_more : (xs : List ℕ) (d n : ℕ) → raised (set xs d (at xs d + n)) d ≡ set xs d (at xs d + (n + 1))
+set_more [] d n = refl
+set_more (x ∷ xs) zero n = let same : x + n + 1 ≡ x + (n + 1) = omega arith in ap (λ (y : ℕ). y ∷ xs) same
+set_more (x ∷ xs) (suc d) n = ap (λ (ys : List ℕ). x ∷ ys) (set_more xs d n)
+
+pub hits_none : (share : ShareData) (d : ℕ) → share ≡ after_hits share d 0
+hits_none share d = rw (set_none share.hits d, set_none share.pending d) refl
+
+pub hits_more : (share mid : ShareData) (d n : ℕ) → mid ≡ after_hits share d n → record mid { hits = raised mid.hits d; pending = raised mid.pending d } ≡ after_hits share d (n + 1)
+hits_more share mid d n is = rw (is, set_more share.hits d n, set_more share.pending d n) refl
+
+-- a row with more on one directory
+row_at : (xs : List ℕ) (k n d : ℕ) → d < length xs → at (with_row xs (k, n)) d ≡ at xs d + (if k == d then n else 0)
+row_at xs k n d inside = on (k == d) refl
+  where
+    on : (b : Bool) → (k == d) ≡ b → at (with_row xs (k, n)) d ≡ at xs d + (if b then n else 0)
+    on true is = let here : k ≡ d = grind (arith, nat_tests) in rw here (at_set_same xs d (at xs d + n) inside)
+    on false is =
+        let other : d ≢ k = λ here. (let there : k ≡ d = sym here in let bad : (k == d) ≡ true = grind (arith, nat_tests) in let no = sym is ∙ bad in cc) in
+        let none : at xs d + 0 ≡ at xs d = omega arith in at_set_other xs k (at xs k + n) d other ∙ sym none
+
+none_on : (d : ℕ) (w : Work) → if_on d w 0 ≡ 0
+none_on d w = on (w.dir == d) 0
+  where
+    on : (b : Bool) (n : ℕ) → (if b then n else n) ≡ n
+    on true n = refl
+    on false n = refl
+
+-- a request that began
+pub counted_one : (limit n t : ℕ) (s : ShareData) (w : Work) (a : WorkAnswer) → length s.hits ≡ limit → length s.pending ≡ limit → length s.begun ≡ limit
+    → a.ticket ≡ Some t → a.hits ≡ n
+    → Counted limit s (w ∷ []) (a ∷ []) (after_hits (record s { begun = raised s.begun w.dir }) w.dir n)
+counted_one limit n t s w a lh lp lb ticket hits = record {
+  weight = refl;
+  hits = λ d inside. (let near : d < length s.hits = omega arith in let e = row_at s.hits w.dir n d near in rw hits (omega arith));
+  pending = λ d inside. (let near : d < length s.pending = omega arith in let e = row_at s.pending w.dir n d near in rw hits (omega arith));
+  begun = λ d inside. (let near : d < length s.begun = omega arith in let e = row_at s.begun w.dir 1 d near in rw ticket (omega arith));
+}
+
+-- a request that didn't begin
+pub counted_refused : (limit : ℕ) (s : ShareData) (w : Work) (a : WorkAnswer) → a.ticket ≡ None → a.hits ≡ 0 → Counted limit s (w ∷ []) (a ∷ []) s
+counted_refused limit s w a ticket hits = record {
+  weight = refl;
+  hits = λ d inside. (let e = none_on d w in rw hits (omega arith));
+  pending = λ d inside. (let e = none_on d w in rw hits (omega arith));
+  begun = λ d inside. (let e = none_on d w in rw ticket (omega arith));
+}
+
+hits_on_more : (d : ℕ) (works : List Work) (answers : List WorkAnswer) (w : Work) (a : WorkAnswer) → length works ≡ length answers
+    → hits_on d (works ++ w ∷ []) (answers ++ a ∷ []) ≡ hits_on d works answers + hits_on d (w ∷ []) (a ∷ [])
+hits_on_more d [] [] w a same = omega arith
+hits_on_more d [] (b ∷ answers) w a same = absurd (cc)
+hits_on_more d (v ∷ works) [] w a same = absurd (cc)
+hits_on_more d (v ∷ works) (b ∷ answers) w a same = let rest : length works ≡ length answers = omega arith in let e = hits_on_more d works answers w a rest in omega arith
+
+begun_on_more : (d : ℕ) (works : List Work) (answers : List WorkAnswer) (w : Work) (a : WorkAnswer) → length works ≡ length answers
+    → begun_on d (works ++ w ∷ []) (answers ++ a ∷ []) ≡ begun_on d works answers + begun_on d (w ∷ []) (a ∷ [])
+begun_on_more d [] [] w a same = omega arith
+begun_on_more d [] (b ∷ answers) w a same = absurd (cc)
+begun_on_more d (v ∷ works) [] w a same = absurd (cc)
+begun_on_more d (v ∷ works) (b ∷ answers) w a same = let rest : length works ≡ length answers = omega arith in let e = begun_on_more d works answers w a rest in omega arith
+
+fits_more : (works : List Work) (answers : List WorkAnswer) (w : Work) (a : WorkAnswer) → AllZip Fits works answers → Fits w a → AllZip Fits (works ++ w ∷ []) (answers ++ a ∷ [])
+fits_more [] [] w a all fits = (fits, tt)
+fits_more [] (b ∷ answers) w a all fits = absurd all
+fits_more (v ∷ works) [] w a all fits = absurd all
+fits_more (v ∷ works) (b ∷ answers) w a all fits = (all.0, fits_more works answers w a all.1 fits)
+
+fits_length : (works : List Work) (answers : List WorkAnswer) → AllZip Fits works answers → length works ≡ length answers
+fits_length [] [] all = refl
+fits_length [] (b ∷ answers) all = absurd all
+fits_length (v ∷ works) [] all = absurd all
+fits_length (v ∷ works) (b ∷ answers) all = ap (λ n. suc n) (fits_length works answers all.1)
+
+pub served_none : (limit : ℕ) (s : ShareData) → IsServed limit s [] [] s
+served_none limit s = record {
+  fits = tt;
+  counted = record {
+    weight = refl;
+    hits = λ d inside. omega arith;
+    pending = λ d inside. omega arith;
+    begun = λ d inside. omega arith;
+  };
+}
+
+-- one request more
+pub served_more : (limit : ℕ) (old mid new : ShareData) (works : List Work) (answers : List WorkAnswer) (w : Work) (a : WorkAnswer)
+    → IsServed limit old works answers mid → Fits w a → Counted limit mid (w ∷ []) (a ∷ []) new → IsServed limit old (works ++ w ∷ []) (answers ++ a ∷ []) new
+served_more limit old mid new works answers w a h fits one =
+    let same = fits_length works answers h.fits in record {
+      fits = fits_more works answers w a h.fits fits;
+      counted = record {
+        weight = one.weight ∙ h.counted.weight;
+        hits = λ d inside. (let p = h.counted.hits d inside in let q = one.hits d inside in let e = hits_on_more d works answers w a same in omega arith);
+        pending = λ d inside. (let p = h.counted.pending d inside in let q = one.pending d inside in let e = hits_on_more d works answers w a same in omega arith);
+        begun = λ d inside. (let p = h.counted.begun d inside in let q = one.begun d inside in let e = begun_on_more d works answers w a same in omega arith);
+      };
+    }

@@ -1,0 +1,84 @@
+-- How requests are answered, and what they count in the share of their rank.
+use Rattle.std.specs.Prelude.{◌≡◌, ◌⊎◌, ℕ, ◌+◌, ◌<◌, ◌==◌, if◌then◌else◌, List, [], ◌∷◌, Option, Some, None}
+use Rattle.std.specs.List.{AllZip}
+use Rattle.heat_ledger.specs.Ledger.{ShareData, IsClean}
+use Rattle.heat_ledger.specs.Rows.{at, with_row}
+use Rattle.rank_threads.specs.declared.work.Work.{Work}
+use Rattle.rank_threads.specs.declared.work.WorkAnswer.{WorkAnswer}
+use Rattle.rank_threads.specs.declared.work.WorkError.{WorkError}
+use Rattle.rank_threads.specs.declared.work.WorkError.TheVariants.{Board, Share, NoThread}
+
+-- A request that began has all its hits, or fewer and the refusal of a hit. One that didn't has none, and another refusal.
+abbrev pub IsOutcome : ℕ → ℕ → Option ℕ → Option WorkError → Type 0
+IsOutcome wanted hits (Some ticket) None = hits ≡ wanted
+IsOutcome wanted hits (Some ticket) (Some (Share e)) = hits < wanted
+IsOutcome wanted hits None (Some (Board e)) = hits ≡ 0
+IsOutcome wanted hits None (Some NoThread) = hits ≡ 0
+IsOutcome wanted hits None None = ⊥
+IsOutcome wanted hits None (Some (Share e)) = ⊥
+IsOutcome wanted hits (Some ticket) (Some (Board e)) = ⊥
+IsOutcome wanted hits (Some ticket) (Some NoThread) = ⊥
+
+-- the answer is one that the request can have
+abbrev pub Fits : Work → WorkAnswer → Type 0
+Fits work answer = IsOutcome work.hits answer.hits answer.ticket answer.refused
+
+-- the answer where there is no thread
+abbrev pub no_thread : WorkAnswer
+no_thread = record { ticket = None; hits = 0; refused = Some NoThread }
+
+-- 1 for a ticket
+abbrev pub one_if : Option ℕ → ℕ
+one_if None = 0
+one_if (Some ticket) = 1
+
+-- a number that counts for one directory alone
+abbrev pub if_on : ℕ → Work → ℕ → ℕ
+if_on d work n = if work.dir == d then n else 0
+
+-- the hits on a directory that the answers to these requests name
+abbrev pub hits_on : ℕ → List Work → List WorkAnswer → ℕ
+hits_on d [] answers = 0
+hits_on d (w ∷ works) [] = 0
+hits_on d (w ∷ works) (a ∷ answers) = if_on d w a.hits + hits_on d works answers
+
+-- the requests on a directory that began, by their answers
+abbrev pub begun_on : ℕ → List Work → List WorkAnswer → ℕ
+begun_on d [] answers = 0
+begun_on d (w ∷ works) [] = 0
+begun_on d (w ∷ works) (a ∷ answers) = if_on d w (one_if a.ticket) + begun_on d works answers
+
+-- the share, with so many hits more on a directory
+abbrev pub after_hits : ShareData → ℕ → ℕ → ShareData
+after_hits share d n = record share { hits = with_row share.hits (d, n); pending = with_row share.pending (d, n) }
+
+-- On each directory below the limit a share counts what the answers name.
+pub record Counted (limit : ℕ) (old : ShareData) (works : List Work) (answers : List WorkAnswer) (new : ShareData) : Type 0 where
+  pub weight : new.weight ≡ old.weight
+  pub hits : (d : ℕ) → d < limit → at new.hits d ≡ at old.hits d + hits_on d works answers
+  pub pending : (d : ℕ) → d < limit → at new.pending d ≡ at old.pending d + hits_on d works answers
+  pub begun : (d : ℕ) → d < limit → at new.begun d ≡ at old.begun d + begun_on d works answers
+
+-- Each request has an answer, in order, and the share counts what these name.
+pub record IsServed (limit : ℕ) (old : ShareData) (works : List Work) (answers : List WorkAnswer) (new : ShareData) : Type 0 where
+  pub fits : AllZip Fits works answers
+  pub counted : Counted limit old works answers new
+
+-- The share was cleared of its pending hits by a deposit, or is as it was.
+abbrev pub IsDeposited : ShareData → ShareData → Type 0
+IsDeposited old new = ((new.hits ≡ old.hits) × (new.begun ≡ old.begun) × (new.weight ≡ old.weight)) × (IsClean new ⊎ (new ≡ old))
+
+-- What a phase makes of a rank's share: each request has an answer, in order; on each directory below the limit hits and
+-- begun requests rise by what these name; and the hits are deposited, or pending.
+pub record IsReturned (limit : ℕ) (old : ShareData) (works : List Work) (answers : List WorkAnswer) (new : ShareData) : Type 0 where
+  pub fits : AllZip Fits works answers
+  pub weight : new.weight ≡ old.weight
+  pub hits : (d : ℕ) → d < limit → at new.hits d ≡ at old.hits d + hits_on d works answers
+  pub begun : (d : ℕ) → d < limit → at new.begun d ≡ at old.begun d + begun_on d works answers
+  pub pending : IsClean new ⊎ ((d : ℕ) → d < limit → at new.pending d ≡ at old.pending d + hits_on d works answers)
+
+-- the same of the shares of all ranks, in their order
+abbrev pub AreReturned : ℕ → List ShareData → List (List Work) → List (List WorkAnswer) → List ShareData → Type 0
+AreReturned limit [] [] [] [] = Unit {0}
+AreReturned limit (s ∷ shares) (w ∷ scripts) (a ∷ answers) (t ∷ after) = IsReturned limit s w a t × AreReturned limit shares scripts answers after
+AreReturned _ _ _ _ _ = ⊥

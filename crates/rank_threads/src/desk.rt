@@ -1,0 +1,122 @@
+//! A thread for the requests of one rank.
+ghost use Rattle.std.specs.Prelude.{◌≡◌, ◌≤◌, [], length, vec_capacity};
+ghost use Rattle.rank_threads.specs.Serving.{IsServed};
+
+use crate::board_cell::{BoardCell, Phase};
+use crate::serving::serve_script;
+use crate::work::{Gate, Work, WorkAnswer};
+use authority_map::Publisher;
+use heat_ledger::Share;
+use mds_types::Rank;
+use naming::Naming;
+use std::alloc::Global;
+use std::marker::{Send, Sync};
+use std::snapshot::Snapshot;
+use std::sync::Wait;
+use std::sync::atomic::{AtomicBool, Ordering};
+use std::thread;
+use std::thread::{Promise, Threads};
+
+/// A rank's share, with the answers to its requests.
+#[derive(Drop)]
+pub(crate) struct Desk<J: Naming> {
+    pub(crate) share: Share<J>,
+    pub(crate) answers: Vec<WorkAnswer>,
+}
+
+// What a thread makes of a desk: the share that it had, and its script.
+#[derive(Drop)]
+struct Served<J: Naming>(Snapshot<Share<J>>, Snapshot<Vec<Work>>);
+
+impl<J: Naming> Promise<Desk<J>> for Served<J> {
+    ghost use Rattle.rank_threads.specs.Serving.{IsServed};
+
+    ghost kept_by = { λ p desk. IsServed J.limit p.0.value p.1.value.items desk.answers.items desk.share };
+}
+
+// Serves the requests of a rank, or refuses them where it has no thread.
+fn serve_desk<J: Naming, M: Publisher<J>, K: Phase, R: Wait, G: Gate>(
+    rt: &R,
+    alloc: Global,
+    cell: &BoardCell<J, M, K>,
+    gate: &G,
+    no_thread: &AtomicBool,
+    rank: Rank,
+    script: &Vec<Work>,
+    desk: Desk<J>,
+) -> Desk<J>
+    requires empty { desk.answers.items ≡ [] }
+    requires room { length script.now.items ≤ vec_capacity desk.answers }
+    ensures { IsServed J.limit desk.share script.now.items result.answers.items result.share }
+{
+    let Desk {
+        mut share,
+        mut answers,
+    } = desk;
+    let has_thread = !no_thread.load(Ordering::SeqCst);
+    serve_script(
+        rt,
+        alloc,
+        cell,
+        gate,
+        has_thread,
+        rank,
+        script,
+        &mut share,
+        &mut answers,
+    );
+    Desk { share, answers }
+}
+
+/// Serves the requests of a rank by a thread of its own, while this one does the rest. Where there is no thread they are
+/// refused.
+pub(crate) fn serve_beside<
+    J: Naming + Send + Sync,
+    M: Publisher<J> + Send,
+    K: Phase + Send + Sync,
+    R: Threads + Wait + Sync,
+    G: Gate + Sync,
+    T,
+    F: FnOnce() -> T,
+>(
+    rt: &R,
+    alloc: Global,
+    cell: &BoardCell<J, M, K>,
+    gate: &G,
+    rank: Rank,
+    script: &Vec<Work>,
+    desk: Desk<J>,
+    rest: F,
+) -> (Desk<J>, T)
+    requires rest { F.pre rest }
+    requires empty { desk.answers.items ≡ [] }
+    requires room { length script.now.items ≤ vec_capacity desk.answers }
+    ensures served { IsServed J.limit desk.share script.now.items result.0.answers.items result.0.share }
+    ensures rest { F.post rest result.1 }
+{
+    let no_thread = AtomicBool::new(false);
+    let was = Snapshot::of(&desk.share);
+    thread::scope(
+        thread::scope_env(),
+        rt,
+        |scope| -> (Desk<J>, T)
+            requires { F.pre rest × (desk.answers.items ≡ []) × (length script.now.items ≤ vec_capacity desk.answers) }
+            ensures { IsServed J.limit desk.share script.entry.now.items result.0.answers.items result.0.share × F.post rest result.1 }
+        {
+            let promise = Served(Snapshot::of(&desk.share), Snapshot::of(script));
+            match scope.spawn_with(promise, || {
+                serve_desk(rt, alloc, cell, gate, &no_thread, rank, script, desk)
+            }) {
+                Ok(child) => {
+                    let done = rest();
+                    (child.join(rt), done)
+                }
+                Err(refused) => {
+                    no_thread.store(true, Ordering::SeqCst);
+                    let desk = (refused.value)();
+                    (desk, rest())
+                }
+            }
+        },
+    )
+}

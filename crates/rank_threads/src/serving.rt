@@ -1,0 +1,123 @@
+//! The requests of one rank are served in order.
+ghost use Rattle.std.specs.Prelude.{◌≡◌, ◌<◌, ◌≤◌, [], ◌∷◌, All, IsNone, IsSome, Some, false, length, vec_capacity};
+ghost use Rattle.std.specs.Option.{option_map};
+ghost use Rattle.rank_threads.specs.Serving.{Counted, Fits, IsServed, after_hits, no_thread};
+
+use crate::board_cell::{BoardCell, Phase};
+use crate::work::{Gate, Work, WorkAnswer, WorkError};
+use authority_map::Publisher;
+use export_machine::Event;
+use heat_ledger::{HitError, Share};
+use mds_types::{Dir, Rank};
+use naming::Naming;
+use std::alloc::Global;
+use std::sync::Wait;
+
+// Counts hits on a directory up to the first that is refused, and says how many there were.
+fn count<J: Naming>(share: &mut Share<J>, dir: Dir, hits: u32) -> (u32, Option<HitError>)
+    ensures all { IsNone result.1 → result.0 ≡ hits }
+    ensures fewer { IsSome result.1 → result.0 < hits }
+    ensures share { share.new ≡ after_hits share.old dir result.0 }
+{
+    for counted in 0..hits {
+        if let Err(error) = share.hit(dir) {
+            return (counted, Some(error));
+        }
+    }
+    (hits, None)
+}
+
+// Serves a request. The lock is held for each event alone.
+fn serve_one<J: Naming, M: Publisher<J>, K: Phase, R: Wait, G: Gate>(
+    rt: &R,
+    alloc: Global,
+    cell: &BoardCell<J, M, K>,
+    gate: &G,
+    share: &mut Share<J>,
+    rank: Rank,
+    number: usize,
+    work: Work,
+) -> WorkAnswer
+    ensures fits { Fits work result }
+    ensures counted { Counted J.limit share.old (work ∷ []) (result ∷ []) share.new }
+{
+    let _rows = share.limit();
+    let begun = cell.lock(rt).begin(share, rank, work.dir);
+    gate.before(rank, number);
+    let answer = match begun {
+        Ok(ticket) => {
+            let (hits, refused) = count(share, work.dir, work.hits);
+            // the rank may have stopped, which ended the request
+            let _end = cell.lock(rt).step(alloc, Event::End(ticket));
+            counted(ticket, hits, refused)
+        }
+        Err(error) => WorkAnswer::refused(WorkError::Board(error)),
+    };
+    gate.after(rank, number);
+    answer
+}
+
+// The answer to a request that began.
+fn counted(ticket: u32, hits: u32, refused: Option<HitError>) -> WorkAnswer
+    ensures ticket { result.ticket ≡ Some ticket }
+    ensures hits { result.hits ≡ hits }
+    ensures refused { result.refused ≡ option_map WorkError.Share refused }
+{
+    let refused = match refused {
+        Some(error) => Some(WorkError::Share(error)),
+        None => None,
+    };
+    WorkAnswer {
+        ticket: Some(ticket),
+        hits,
+        refused,
+    }
+}
+
+// Serves a request, or refuses it where the rank has no thread.
+fn answer_to<J: Naming, M: Publisher<J>, K: Phase, R: Wait, G: Gate>(
+    rt: &R,
+    alloc: Global,
+    cell: &BoardCell<J, M, K>,
+    gate: &G,
+    has_thread: bool,
+    share: &mut Share<J>,
+    rank: Rank,
+    number: usize,
+    work: Work,
+) -> WorkAnswer
+    ensures fits { Fits work result }
+    ensures counted { Counted J.limit share.old (work ∷ []) (result ∷ []) share.new }
+    ensures refused { has_thread ≡ false → result ≡ no_thread }
+{
+    if has_thread {
+        serve_one(rt, alloc, cell, gate, share, rank, number, work)
+    } else {
+        WorkAnswer::no_thread()
+    }
+}
+
+/// Serves the requests of a rank in order, or refuses them where it has no thread. There is room for their answers.
+pub(crate) fn serve_script<J: Naming, M: Publisher<J>, K: Phase, R: Wait, G: Gate>(
+    rt: &R,
+    alloc: Global,
+    cell: &BoardCell<J, M, K>,
+    gate: &G,
+    has_thread: bool,
+    rank: Rank,
+    script: &[Work],
+    share: &mut Share<J>,
+    answers: &mut Vec<WorkAnswer>,
+)
+    requires empty { answers.old.items ≡ [] }
+    requires room { length script.now ≤ vec_capacity answers.old }
+    ensures served { IsServed J.limit share.old script.now answers.new.items share.new }
+    ensures refused { has_thread ≡ false → All (λ a. a ≡ no_thread) answers.new.items }
+{
+    for (number, work) in script.iter().enumerate() {
+        let answer = answer_to(
+            rt, alloc, cell, gate, has_thread, share, rank, number, *work,
+        );
+        answers.push_reserved(answer);
+    }
+}

@@ -1,0 +1,78 @@
+//! Requests and their answers.
+
+use board_state::BoardError;
+use heat_ledger::HitError;
+use mds_types::{Dir, Rank};
+
+/// Is told of each request of a rank, by its number in the rank's script: before its hits, and after its end. No lock is
+/// held then.
+pub trait Gate {
+    /// A request was asked for, and has counted no hit.
+    fn before(&self, rank: Rank, number: usize);
+
+    /// A request has its answer.
+    fn after(&self, rank: Rank, number: usize);
+}
+
+/// A gate that does nothing.
+pub struct OpenGate;
+
+impl Gate for OpenGate {
+    fn before(&self, _rank: Rank, _number: usize) {}
+
+    fn after(&self, _rank: Rank, _number: usize) {}
+}
+
+/// A request on a directory, of so many hits.
+#[derive(Clone, Copy, Debug, PartialEq, Eq)]
+pub struct Work {
+    /// The directory.
+    pub dir: Dir,
+    /// How often it is hit.
+    pub hits: u32,
+}
+
+/// Why a request isn't served, or not whole.
+#[derive(Clone, Copy, Debug, PartialEq, Eq)]
+pub enum WorkError {
+    /// The request didn't begin.
+    Board(BoardError),
+    /// A hit wasn't counted. Those before it were.
+    Share(HitError),
+    /// The system gave no thread for the rank.
+    NoThread,
+}
+
+/// What became of a request.
+#[derive(Clone, Copy, Debug, PartialEq, Eq)]
+pub struct WorkAnswer {
+    /// The ticket with which it began.
+    pub ticket: Option<u32>,
+    /// How many hits were counted.
+    pub hits: u32,
+    /// Why it wasn't served, or not whole.
+    pub refused: Option<WorkError>,
+}
+
+impl WorkAnswer {
+    ghost use Rattle.std.specs.Prelude.{◌≡◌, None, Some};
+    ghost use Rattle.rank_threads.specs.Serving.{no_thread};
+
+    /// The answer to a request that didn't begin.
+    pub fn refused(error: WorkError) -> WorkAnswer
+        ensures { result ≡ record { ticket = None; hits = 0; refused = Some error } }
+    {
+        WorkAnswer {
+            ticket: None,
+            hits: 0,
+            refused: Some(error),
+        }
+    }
+
+    /// The answer to a request of a rank for which there is no thread.
+    pub fn no_thread() -> WorkAnswer
+        ensures { result ≡ no_thread }
+    {
+        WorkAnswer::refused(WorkError::NoThread)
+    }
+}
