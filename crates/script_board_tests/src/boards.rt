@@ -1,0 +1,44 @@
+//! Script's boards of two ranks with room for eight directories.
+ghost use Rattle.std.specs.Prelude.{◌≡◌};
+
+use authority_map::{MapWriter, Publisher};
+use board_state::BoardParts;
+use mds_types::Rank;
+use naming::Naming;
+use script_board::{Parts, ScriptBoard};
+use std::alloc::Global;
+use std::sync::Wait;
+use std::test::Fail;
+
+/// A board with the root alone.
+pub(crate) fn open<J: Naming, R: Wait + Drop>(
+    rt: R,
+    alloc: Global,
+    book: heat_ledger::Opened,
+    map: authority_map::Opened,
+) -> Result<ScriptBoard<J, MapWriter<J, R>>, Fail>
+    requires book { book ≡ J.ledger }
+    requires map { map ≡ J.map }
+    requires limit { J.limit ≡ 8 }
+{
+    let Ok((writer, mut readers)) = MapWriter::<J, R>::open(rt, alloc, map, 8, 1) else {
+        return Err("no map".into());
+    };
+    let Some(reader) = readers.pop() else {
+        writer.end();
+        return Err("no reader".into());
+    };
+    let parts = Parts::new(BoardParts::new(book, writer), reader);
+    match ScriptBoard::new(alloc, parts, 8, 2) {
+        Ok(board) => Ok(board),
+        Err(parts) => {
+            parts.end();
+            Err("no board".into())
+        }
+    }
+}
+
+/// The rank of a number.
+pub(crate) fn rank(number: u8) -> Result<Rank, Fail> {
+    Ok(Rank::new(number).ok_or("no rank")?)
+}

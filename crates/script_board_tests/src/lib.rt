@@ -1,0 +1,9 @@
+//! Tests of a script's board, by its public calls.
+#![tactic(auto)]
+
+#[cfg(test)]
+mod boards;
+#[cfg(test)]
+mod moves;
+#[cfg(test)]
+mod requests;
