@@ -1,0 +1,12 @@
+//! What is printed for a script's commands.
+#![tactic(auto)]
+
+mod cost;
+mod moved;
+mod plan;
+pub mod print;
+pub mod reply;
+mod stat;
+
+pub use print::{Unprinted, print_reply};
+pub use reply::Reply;

@@ -1,0 +1,48 @@
+//! The lines of `plan`.
+ghost use Rattle.std.specs.Prelude.{◌≡◌, IfOk, string_bytes, true};
+ghost use Rattle.dirtree.specs.Tree.{is_there};
+ghost use Rattle.script_replies.specs.Plan.{first_line, plan_line, plan_part_line, proof_word};
+
+use authority_map::Publisher;
+use board_problem::PlanPart;
+use mds_types::{CutProof, Plan};
+use naming::Naming;
+use script_board::ScriptBoard;
+use std::alloc::{AllocError, Global};
+
+pub(crate) fn plan_part_line<J: Naming, M: Publisher<J>>(
+    alloc: Global,
+    board: &ScriptBoard<J, M>,
+    part: PlanPart,
+) -> Result<String, AllocError>
+    requires { is_there board.now.world.state.directories.entries part.top ≡ true }
+    ensures { IfOk result (λ line. string_bytes line ≡ plan_part_line board.now part) }
+{
+    let path = board.path(alloc, part.top)?;
+    let rank = part.rank.number();
+    let heat = part.heat;
+    let inodes = part.inodes;
+    format!(in alloc; "part {path} rank {rank} heat {heat} inodes {inodes}\n")
+}
+
+fn first_line(alloc: Global, greatest: u64, moved: u64, proof: &str) -> Result<String, AllocError>
+    ensures { IfOk result (λ line. string_bytes line ≡ first_line greatest moved proof.now) }
+{
+    format!(in alloc; "plan greatest {greatest} moved {moved} proof {proof}\n")
+}
+
+pub(crate) fn plan_line(alloc: Global, plan: &Plan) -> Result<String, AllocError>
+    ensures { IfOk result (λ line. string_bytes line ≡ plan_line plan.now) }
+{
+    first_line(alloc, plan.greatest, plan.moved, proof_word(&plan.cut))
+}
+
+fn proof_word(proof: &CutProof) -> &'static str
+    ensures { result.now ≡ proof_word proof.now }
+{
+    match proof {
+        CutProof::Zero => "zero",
+        CutProof::Heavy(_) => "heavy",
+        CutProof::Table(_) => "table",
+    }
+}
