@@ -3,10 +3,11 @@
 
 mod cost;
 mod moved;
-mod plan;
+pub mod plan;
 pub mod print;
 pub mod reply;
 mod stat;
 
+pub use plan::parts_in_force;
 pub use print::{Unprinted, print_reply};
 pub use reply::Reply;

@@ -1,10 +1,14 @@
 //! The lines of `plan`.
-ghost use Rattle.std.specs.Prelude.{◌≡◌, IfOk, string_bytes, true};
+ghost use Rattle.std.specs.Prelude.{◌≡◌, All, IfOk, Some, string_bytes, true};
 ghost use Rattle.dirtree.specs.Tree.{is_there};
-ghost use Rattle.script_replies.specs.Plan.{first_line, plan_line, plan_part_line, proof_word};
+ghost use Rattle.mds_types.specs.declared.plan.Plan.{Plan as ThePlan};
+ghost use Rattle.mds_board.specs.InForce.{plan_in_force};
+ghost use Rattle.script_board.specs.Board.{BoardData};
+ghost use Rattle.script_board.specs.Plan.{IsPlanned};
+ghost use Rattle.script_replies.specs.Plan.{first_line, parts_in_force, plan_line, plan_part_line, proof_word};
 
 use authority_map::Publisher;
-use board_problem::PlanPart;
+use board_problem::{PlanPart, parts};
 use mds_types::{CutProof, Plan};
 use naming::Naming;
 use script_board::ScriptBoard;
@@ -45,4 +49,25 @@ fn proof_word(proof: &CutProof) -> &'static str
         CutProof::Heavy(_) => "heavy",
         CutProof::Table(_) => "table",
     }
+}
+
+/// The parts of the plan that was just made and adopted.
+pub fn parts_in_force<J: Naming, M: Publisher<J>>(
+    alloc: Global,
+    board: &ScriptBoard<J, M>,
+) -> Result<Vec<PlanPart>, AllocError>
+    requires { (old : BoardData) × (plan : ThePlan) × IsPlanned old plan board.now }
+    ensures plan { (old : BoardData) (plan : ThePlan) → IsPlanned old plan board.now → plan_in_force board.now.world ≡ Some plan }
+    ensures parts { IfOk result (λ parts. parts.items ≡ parts_in_force board.now) }
+    ensures there { IfOk result (λ parts. All (λ part. is_there board.now.world.state.directories.entries part.top ≡ true) parts.items) }
+{
+    let made = board.board();
+    made.promises();
+    let Some(force) = made.in_force() else {
+        unreachable!()
+    };
+    let Some(plan) = made.plan_in_force() else {
+        unreachable!()
+    };
+    parts(alloc, force.problem(), force.dirs(), plan)
 }
