@@ -8,11 +8,19 @@ ghost use Rattle.board_state.specs.State.{usable};
 
 use crate::script_board::ScriptBoard;
 use authority_map::Publisher;
+use mds_board::Board;
 use mds_types::{Dir, Rank, RankSet};
 use naming::Naming;
 use std::alloc::{AllocError, Global};
 
 impl<J: Naming, M: Publisher<J>> ScriptBoard<J, M> {
+    /// The board.
+    pub fn board(&self) -> &Board<J, M>
+        ensures { result.now ≡ self.now.world }
+    {
+        &self.board
+    }
+
     /// How many directory numbers were given.
     pub fn numbers(&self) -> u32
         ensures count { result ≡ length self.now.world.state.directories.entries }

@@ -1,0 +1,6 @@
+pub mod Cost
+pub mod Move
+pub mod Plan
+pub mod Printed
+pub mod Reply
+pub mod Stat

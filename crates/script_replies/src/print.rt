@@ -1,0 +1,140 @@
+//! Writing a reply, line by line.
+ghost use Rattle.std.specs.Prelude.{◌≡◌, ◌<◌, ℕ, IfOk, IsErrOf, IsSome, Some, OnErr, OnOk, ◌++◌, [], length, slice_index_or, string_bytes, take};
+ghost use Rattle.std.specs.Io.KnownBytes.{Appends};
+ghost use Rattle.script_engine.specs.Known.{AppendsFront};
+ghost use Rattle.script_replies.specs.Printed.{joined};
+ghost use Rattle.mds_types.specs.declared.plan.Plan.{Plan as ThePlan};
+ghost use Rattle.mds_board.specs.InForce.{plan_in_force};
+ghost use Rattle.script_replies.specs.Plan.{plan_line};
+ghost use Rattle.script_replies.specs.Reply.{IsPrintable, reply_lines};
+
+use crate::cost::{cost_line, part_line};
+use crate::moved::{export_line, move_line};
+use crate::plan::{plan_line, plan_part_line};
+use crate::reply::Reply;
+use crate::stat::{cluster_line, dir_line};
+use authority_map::Publisher;
+use naming::Naming;
+use script_board::ScriptBoard;
+use script_engine::{WriteFailed, write_whole};
+use std::alloc::{AllocError, Global};
+use std::io::Write;
+
+/// How many bytes of lines are written at once, in bytes.
+const CHUNK_SIZE: usize = 65536;
+
+/// Why the lines of a reply weren't all written.
+#[derive(Clone, Copy, Debug, PartialEq, Eq)]
+pub enum Unprinted {
+    /// A line found no memory. The lines before it were written.
+    Memory,
+    /// A write failed.
+    Write,
+}
+
+impl From<WriteFailed> for Unprinted {
+    ghost use Rattle.std.specs.Prelude.{◌≡◌};
+    ghost use Rattle.script_replies.specs.declared.print.Unprinted.TheVariants.{Write};
+
+    ghost from_gives = { λ _ e. e ≡ Write };
+
+    fn from(_e: WriteFailed) -> Unprinted {
+        Unprinted::Write
+    }
+}
+
+/// Writes the lines of a reply, in pieces of 64 KB or a little more.
+pub fn print_reply<J: Naming, M: Publisher<J>, W: Write>(
+    board: &mut ScriptBoard<J, M>,
+    alloc: Global,
+    reply: &Reply,
+    writer: &mut W,
+) -> Result<(), Unprinted>
+    requires { IsPrintable board.old reply.now }
+    ensures done { OnOk result (Appends (W.contents writer.old) (W.contents writer.new) (joined (reply_lines board.old reply.now))) }
+    ensures memory { IsErrOf result Unprinted.Memory → (count : ℕ) × (count < length (reply_lines board.old reply.now)) × Appends (W.contents writer.old) (W.contents writer.new) (joined (take count (reply_lines board.old reply.now))) }
+    ensures write { IsErrOf result Unprinted.Write → AppendsFront (W.contents writer.old) (W.contents writer.new) (joined (reply_lines board.old reply.now)) }
+    ensures same { board.new ≡ board.old }
+{
+    let mut chunk = String::new(alloc);
+    for index in 0..reply.line_count() {
+        match push_line(board, alloc, reply, index, &mut chunk) {
+            Ok(()) => {}
+            Err(_) => {
+                write_whole(writer, chunk.as_bytes())?;
+                return Err(Unprinted::Memory);
+            }
+        }
+        if chunk.len() >= CHUNK_SIZE {
+            write_whole(writer, chunk.as_bytes())?;
+            chunk.clear();
+        }
+    }
+    write_whole(writer, chunk.as_bytes())?;
+    Ok(())
+}
+
+// One line more in a chunk.
+fn push_line<J: Naming, M: Publisher<J>>(
+    board: &mut ScriptBoard<J, M>,
+    alloc: Global,
+    reply: &Reply,
+    index: usize,
+    chunk: &mut String,
+) -> Result<(), AllocError>
+    requires there { IsPrintable board.old reply.now }
+    requires inside { index < length (reply_lines board.old reply.now) }
+    ensures more { OnOk result (string_bytes chunk.new ≡ string_bytes chunk.old ++ slice_index_or (reply_lines board.old reply.now) index []) }
+    ensures unchanged { OnErr result (string_bytes chunk.new ≡ string_bytes chunk.old) }
+    ensures same { board.new ≡ board.old }
+{
+    let line = line(board, alloc, reply, index)?;
+    chunk.push_str(&line)
+}
+
+// One line of a reply.
+fn line<J: Naming, M: Publisher<J>>(
+    board: &mut ScriptBoard<J, M>,
+    alloc: Global,
+    reply: &Reply,
+    index: usize,
+) -> Result<String, AllocError>
+    requires there { IsPrintable board.old reply.now }
+    requires inside { index < length (reply_lines board.old reply.now) }
+    ensures line { IfOk result (λ line. string_bytes line ≡ slice_index_or (reply_lines board.old reply.now) index []) }
+    ensures same { board.new ≡ board.old }
+{
+    match reply {
+        Reply::Nothing => unreachable!(),
+        Reply::Cost(parts) => match index {
+            0 => cost_line(alloc, parts),
+            _ => part_line(alloc, board, parts[index - 1]),
+        },
+        Reply::Plan(parts) => match index {
+            0 => line_in_force(alloc, board),
+            _ => plan_part_line(alloc, board, parts[index - 1]),
+        },
+        Reply::Move(orders, outcomes) => match index {
+            0 => move_line(alloc, orders.len()),
+            _ => export_line(alloc, board, &orders[index - 1], outcomes[index - 1]),
+        },
+        Reply::Stat(dirs) => match index {
+            0 => cluster_line(alloc, board, dirs.len()),
+            _ => dir_line(alloc, board, dirs[index - 1]),
+        },
+    }
+}
+
+// The line on the plan in force.
+fn line_in_force<J: Naming, M: Publisher<J>>(
+    alloc: Global,
+    board: &ScriptBoard<J, M>,
+) -> Result<String, AllocError>
+    requires { IsSome (plan_in_force board.now.world) }
+    ensures { (plan : ThePlan) → plan_in_force board.now.world ≡ Some plan → IfOk result (λ line. string_bytes line ≡ plan_line plan) }
+{
+    match board.board().plan_in_force() {
+        Some(plan) => plan_line(alloc, plan),
+        None => unreachable!(),
+    }
+}

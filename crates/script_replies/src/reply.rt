@@ -1,0 +1,39 @@
+//! What a command prints.
+ghost use Rattle.std.specs.Prelude.{◌≡◌, length};
+ghost use Rattle.script_board.specs.Board.{BoardData};
+ghost use Rattle.script_replies.specs.Reply.{IsPrintable, reply_lines};
+
+use board_problem::PlanPart;
+use division_cost::Part;
+use export_rounds::Outcome;
+use mds_types::{Dir, Order};
+
+/// What a command prints, from which its lines are made one by one as they are written.
+#[derive(Drop)]
+pub enum Reply {
+    /// No line.
+    Nothing,
+    /// The parts of a division.
+    Cost(Vec<Part>),
+    /// The plan in force, by its parts.
+    Plan(Vec<PlanPart>),
+    /// Orders, each with what became of it.
+    Move(Vec<Order>, Vec<Outcome>),
+    /// A report on these directories.
+    Stat(Vec<Dir>),
+}
+
+impl Reply {
+    /// How many lines a board prints for it.
+    pub fn line_count(&self) -> usize
+        ensures { (board : BoardData) → IsPrintable board self.now → result ≡ length (reply_lines board self.now) }
+    {
+        match self {
+            Reply::Nothing => 0,
+            Reply::Cost(parts) => parts.len() + 1,
+            Reply::Plan(parts) => parts.len() + 1,
+            Reply::Move(orders, _) => orders.len() + 1,
+            Reply::Stat(dirs) => dirs.len() + 1,
+        }
+    }
+}
