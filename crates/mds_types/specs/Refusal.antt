@@ -2,6 +2,8 @@
 use Rattle.std.specs.Prelude.{ℕ, List, [], ◌∷◌, ◌++◌, codes, decimal}
 use Rattle.mds_types.specs.declared.refusal.Refusal.{Refusal}
 use Rattle.mds_types.specs.declared.refusal.Refusal.TheVariants as refusal
+use Rattle.mds_types.specs.declared.refusal.RefusalValue.{RefusalValue}
+use Rattle.mds_types.specs.declared.refusal.RefusalValue.TheVariants.{Nothing, Number, Stage}
 use Rattle.mds_types.specs.declared.refusal.ExportStage.{ExportStage}
 use Rattle.mds_types.specs.declared.refusal.ExportStage.TheVariants as stage
 
@@ -53,21 +55,30 @@ name refusal.NotBest = codes "32 NotBest"
 name refusal.HistoryFull = codes "33 HistoryFull"
 name refusal.NoReader = codes "34 NoReader"
 name refusal.Pinned = codes "35 Pinned"
+name refusal.NoThread = codes "36 NoThread"
 
 -- the value behind it, where there is one
+abbrev pub value_of : Refusal → RefusalValue
+value_of (refusal.BadParent row) = Number row
+value_of (refusal.TooHot row) = Number row
+value_of (refusal.Missing weight) = Number weight
+value_of (refusal.Heavy row) = Number row
+value_of (refusal.Elsewhere rank) = Number rank
+value_of (refusal.Busy export) = Number export
+value_of (refusal.Frozen export) = Number export
+value_of (refusal.NotYet requests) = Number requests
+value_of (refusal.Late stage) = Stage stage
+value_of (refusal.Changed event) = Number event
+value_of (refusal.Stopped rank) = Number rank
+value_of _ = Nothing
+
+abbrev pub value_words : RefusalValue → List ℕ
+value_words Nothing = []
+value_words (Number number) = 32 ∷ decimal number
+value_words (Stage stage) = 32 ∷ stage_word stage
+
 abbrev pub value : Refusal → List ℕ
-value (refusal.BadParent row) = 32 ∷ decimal row
-value (refusal.TooHot row) = 32 ∷ decimal row
-value (refusal.Missing weight) = 32 ∷ decimal weight
-value (refusal.Heavy row) = 32 ∷ decimal row
-value (refusal.Elsewhere rank) = 32 ∷ decimal rank
-value (refusal.Busy export) = 32 ∷ decimal export
-value (refusal.Frozen export) = 32 ∷ decimal export
-value (refusal.NotYet requests) = 32 ∷ decimal requests
-value (refusal.Late stage) = 32 ∷ stage_word stage
-value (refusal.Changed event) = 32 ∷ decimal event
-value (refusal.Stopped rank) = 32 ∷ decimal rank
-value _ = []
+value refusal = value_words (value_of refusal)
 
 -- what is printed
 abbrev pub words : Refusal → List ℕ

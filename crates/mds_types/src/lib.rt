@@ -23,4 +23,4 @@ pub use plan::Plan;
 pub use problem::{Problem, ProblemError, ProblemRow};
 pub use rank::Rank;
 pub use rank_set::{BadMask, RankSet};
-pub use refusal::{ExportStage, Refusal};
+pub use refusal::{ExportStage, Refusal, RefusalValue};

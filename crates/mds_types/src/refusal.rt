@@ -5,7 +5,7 @@
 //! never changes its meaning and is never used again.
 ghost use Rattle.std.specs.Prelude.{◌≡◌, Some};
 ghost use Rattle.std.specs.Fmt.{DisplaysOnOk};
-ghost use Rattle.mds_types.specs.Refusal.{name, stage_word, value};
+ghost use Rattle.mds_types.specs.Refusal.{name, stage_word, value, value_of};
 
 use crate::rank::Rank;
 use std::fmt;
@@ -114,6 +114,19 @@ pub enum Refusal {
     NoReader,
     /// A pin holds a directory that is named as a top.
     Pinned,
+    /// The system gave no thread for the rank.
+    NoThread,
+}
+
+/// What is printed behind a refusal's name.
+#[derive(Clone, Copy, Debug, PartialEq, Eq)]
+pub enum RefusalValue {
+    /// The name says all.
+    Nothing,
+    /// A number: of a row, a rank, an export, an event, or how many.
+    Number(u32),
+    /// How far an export has come.
+    Stage(ExportStage),
 }
 
 impl Refusal {
@@ -158,12 +171,13 @@ impl Refusal {
             Refusal::HistoryFull => "33 HistoryFull",
             Refusal::NoReader => "34 NoReader",
             Refusal::Pinned => "35 Pinned",
+            Refusal::NoThread => "36 NoThread",
         }
     }
 
-    /// Writes the value, behind a space.
-    fn write_value<W: fmt::Write>(self, f: &mut fmt::Formatter<W>) -> fmt::Result
-        ensures { DisplaysOnOk W.write_str_gives f.old result (Some (value self)) f.new }
+    /// Its value.
+    pub fn value(self) -> RefusalValue
+        ensures { result ≡ value_of self }
     {
         match self {
             Refusal::BadParent(number)
@@ -172,17 +186,27 @@ impl Refusal {
             | Refusal::Busy(number)
             | Refusal::Frozen(number)
             | Refusal::NotYet(number)
-            | Refusal::Changed(number) => write!(f, " {number}"),
-            Refusal::Missing(weight) => write!(f, " {weight}"),
+            | Refusal::Changed(number) => RefusalValue::Number(number),
+            Refusal::Missing(weight) => RefusalValue::Number(u32::from(weight)),
             Refusal::Elsewhere(rank) | Refusal::Stopped(rank) => {
-                let number = rank.number();
-                write!(f, " {number}")
+                RefusalValue::Number(u32::from(rank.number()))
             }
-            Refusal::Late(stage) => {
+            Refusal::Late(stage) => RefusalValue::Stage(stage),
+            _ => RefusalValue::Nothing,
+        }
+    }
+
+    /// Writes the value, behind a space.
+    fn write_value<W: fmt::Write>(self, f: &mut fmt::Formatter<W>) -> fmt::Result
+        ensures { DisplaysOnOk W.write_str_gives f.old result (Some (value self)) f.new }
+    {
+        match self.value() {
+            RefusalValue::Nothing => Ok(()),
+            RefusalValue::Number(number) => write!(f, " {number}"),
+            RefusalValue::Stage(stage) => {
                 f.write_str(" ")?;
                 f.write_str(stage.text())
             }
-            _ => Ok(()),
         }
     }
 }
