@@ -52,6 +52,9 @@ pub data Command : Type 0 where
   Tick : Command
   Cost : List (List ℕ) → Command
   Plan : Command
+  Move : Command
+  Stop : ℕ → Command
+  Restart : ℕ → Command
   Stat : Command
 
 -- what a word and the fields behind it spell
@@ -79,6 +82,18 @@ abbrev pub load : List (List ℕ) → Option Command
 load (path ∷ n ∷ []) = option_map (Load path) (number 1 1000000 n)
 load fields = None
 
+-- the number of a rank
+abbrev pub rank_of : List ℕ → Option ℕ
+rank_of field = number 0 63 field
+
+abbrev pub stop : List (List ℕ) → Option Command
+stop (n ∷ []) = option_map Stop (rank_of n)
+stop fields = None
+
+abbrev pub restart : List (List ℕ) → Option Command
+restart (n ∷ []) = option_map Restart (rank_of n)
+restart fields = None
+
 -- a command that has no fields behind its word
 abbrev pub alone : Command → List (List ℕ) → Option Command
 alone c [] = Some c
@@ -97,6 +112,9 @@ command (word ∷ rest) =
     else if bytes_eq word (codes "tick") then alone Tick rest
     else if bytes_eq word (codes "cost") then Some (Cost rest)
     else if bytes_eq word (codes "plan") then alone Plan rest
+    else if bytes_eq word (codes "move") then alone Move rest
+    else if bytes_eq word (codes "stop") then stop rest
+    else if bytes_eq word (codes "restart") then restart rest
     else if bytes_eq word (codes "stat") then alone Stat rest
     else None
 

@@ -17,6 +17,9 @@ view made.Go = line.Go
 view made.Tick = line.Tick
 view (made.Cost paths) = line.Cost (map (λ p. p.now) paths.items)
 view made.Plan = line.Plan
+view made.Move = line.Move
+view (made.Stop rank) = line.Stop rank
+view (made.Restart rank) = line.Restart rank
 view made.Stat = line.Stat
 
 abbrev pub asked_view : Asked → line.Asked

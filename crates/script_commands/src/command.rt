@@ -2,12 +2,13 @@
 ghost use Rattle.std.specs.Prelude.{◌≡◌, ◌∷◌, map, IfOk, true};
 ghost use Rattle.std.specs.List.{list_all};
 ghost use Rattle.std.specs.Option.{option_map};
-ghost use Rattle.script_commands.specs.Commands.{alone, command, is_plain, load, make_dir, mask, pin, ranks, remove_dir};
+ghost use Rattle.script_commands.specs.Commands.{alone, command, is_plain, load, make_dir, mask, pin, rank_of, ranks, remove_dir, restart, stop};
 ghost use Rattle.script_commands.specs.View.{view};
 
 use crate::fields::text;
 use crate::number::{number, pin_value};
 use crate::rank_count::RankCount;
+use mds_types::Rank;
 use std::alloc::{AllocError, Global};
 
 /// A command, with its texts as they stand in the line.
@@ -32,6 +33,12 @@ pub enum Command<'a> {
     Cost(Vec<&'a str>),
     /// The best plan for the directories that no pin holds.
     Plan,
+    /// The orders of pins and of the last plan are carried out.
+    Move,
+    /// A rank stops.
+    Stop(Rank),
+    /// A rank runs again.
+    Restart(Rank),
     /// The report on all directories.
     Stat,
 }
@@ -42,6 +49,40 @@ fn ranks<'a>(rest: &[&'a [u8]]) -> Option<Command<'a>>
     match rest {
         [n] => match number(n, 1, 64) {
             Some(n) => Some(Command::Ranks(RankCount { number: n as u8 })),
+            None => None,
+        },
+        _ => None,
+    }
+}
+
+// A rank by its number, 0 to 63.
+fn rank(field: &[u8]) -> Option<Rank>
+    ensures { result ≡ rank_of field.now }
+{
+    match number(field, 0, 63) {
+        Some(n) => Rank::new(n as u8),
+        None => None,
+    }
+}
+
+fn stop<'a>(rest: &[&'a [u8]]) -> Option<Command<'a>>
+    ensures { option_map view result ≡ stop (map (λ field. field.now) rest.now) }
+{
+    match rest {
+        [number] => match rank(number) {
+            Some(rank) => Some(Command::Stop(rank)),
+            None => None,
+        },
+        _ => None,
+    }
+}
+
+fn restart<'a>(rest: &[&'a [u8]]) -> Option<Command<'a>>
+    ensures { option_map view result ≡ restart (map (λ field. field.now) rest.now) }
+{
+    match rest {
+        [number] => match rank(number) {
+            Some(rank) => Some(Command::Restart(rank)),
             None => None,
         },
         _ => None,
@@ -166,6 +207,12 @@ pub fn find_command<'a>(
         Ok(Some(Command::Cost(texts(alloc, rest)?)))
     } else if word == b"plan".as_slice() {
         Ok(alone(Command::Plan, rest))
+    } else if word == b"move".as_slice() {
+        Ok(alone(Command::Move, rest))
+    } else if word == b"stop".as_slice() {
+        Ok(stop(rest))
+    } else if word == b"restart".as_slice() {
+        Ok(restart(rest))
     } else if word == b"stat".as_slice() {
         Ok(alone(Command::Stat, rest))
     } else {

@@ -5,7 +5,7 @@ use Rattle.std.proofs.KnownBytes.{Appends-trans, Consumes-kept, Consumes-trans, 
 use Rattle.std.specs.List.{AllByRecursion}
 use Rattle.script_engine.specs.Known.{AppendsFront}
 use Rattle.script_engine.specs.Lines.{lines_of, whole_lines, IsLine, ended}
-use Rattle.script_engine.specs.Answers.{Answer, Takes, Run, text_of, all_accepted}
+use Rattle.script_engine.specs.Answers.{Answer, Takes, Run}
 use Rattle.script_engine.specs.Progress.{Stands, Broken, Ends, Cut}
 use Rattle.script_engine.specs.Runs.{AcceptsUpTo, AnswersAll, AnswersSome, AnswersWhole, Gives}
 use Rattle.script_engine.specs.Devices.{Reading}

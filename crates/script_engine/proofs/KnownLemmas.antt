@@ -16,19 +16,13 @@ front_after old mid new a b whole part = (a ++ part.0, part.1, ap (λ (t : List 
 pub front_wider : (old new : Option (List ℕ)) (a b : List ℕ) → AppendsFront old new a → AppendsFront old new (a ++ b)
 front_wider old new a b part = (part.0, part.1 ++ b, ap (λ (t : List ℕ). t ++ b) part.2 ∙ append_assoc part.0 part.1 b, part.3)
 
--- what stands after a write of one of five pieces failed, where piece b is the text t
-module _ (u v : Option (List ℕ)) (a b c d e t s : List ℕ) (is : t ≡ b) (says : s ≡ d) where
-  pub fails_1 : AppendsFront u v a → AppendsFront u v (a ++ b ++ c ++ d ++ e)
-  fails_1 x = front_wider u v (a ++ b ++ c ++ d) e (front_wider u v (a ++ b ++ c) d (front_wider u v (a ++ b) c (front_wider u v a b x)))
+-- what stands after a write of one of three pieces failed, where piece b is the text t
+module _ (u v : Option (List ℕ)) (a b c t : List ℕ) (is : t ≡ b) where
+  pub fails_1 : AppendsFront u v a → AppendsFront u v (a ++ b ++ c)
+  fails_1 x = front_wider u v (a ++ b) c (front_wider u v a b x)
 
-  pub fails_2 : (m : Option (List ℕ)) → Appends u m a → AppendsFront m v t → AppendsFront u v (a ++ b ++ c ++ d ++ e)
-  fails_2 m w x = front_wider u v (a ++ b ++ c ++ d) e (front_wider u v (a ++ b ++ c) d (front_wider u v (a ++ b) c (front_after u m v a b w (subst (λ (y : List ℕ). AppendsFront m v y) is x))))
+  pub fails_2 : (m : Option (List ℕ)) → Appends u m a → AppendsFront m v t → AppendsFront u v (a ++ b ++ c)
+  fails_2 m w x = front_wider u v (a ++ b) c (front_after u m v a b w (subst (λ (y : List ℕ). AppendsFront m v y) is x))
 
-  pub fails_3 : (m n : Option (List ℕ)) → Appends u m a → Appends m n t → AppendsFront n v c → AppendsFront u v (a ++ b ++ c ++ d ++ e)
-  fails_3 m n w x y = front_wider u v (a ++ b ++ c ++ d) e (front_wider u v (a ++ b ++ c) d (front_after u n v (a ++ b) c (Appends-trans u m n a b w (subst (λ (z : List ℕ). Appends m n z) is x)) y))
-
-  pub fails_4 : (m n o : Option (List ℕ)) → Appends u m a → Appends m n t → Appends n o c → AppendsFront o v s → AppendsFront u v (a ++ b ++ c ++ d ++ e)
-  fails_4 m n o w x y z = front_wider u v (a ++ b ++ c ++ d) e (front_after u o v (a ++ b ++ c) d (Appends-trans u n o (a ++ b) c (Appends-trans u m n a b w (subst (λ (z : List ℕ). Appends m n z) is x)) y) (subst (λ (y : List ℕ). AppendsFront o v y) says z))
-
-  pub fails_5 : (m n o p : Option (List ℕ)) → Appends u m a → Appends m n t → Appends n o c → Appends o p s → AppendsFront p v e → AppendsFront u v (a ++ b ++ c ++ d ++ e)
-  fails_5 m n o p w x y z q = front_after u p v (a ++ b ++ c ++ d) e (Appends-trans u o p (a ++ b ++ c) d (Appends-trans u n o (a ++ b) c (Appends-trans u m n a b w (subst (λ (z : List ℕ). Appends m n z) is x)) y) (subst (λ (y : List ℕ). Appends o p y) says z)) q
+  pub fails_3 : (m n : Option (List ℕ)) → Appends u m a → Appends m n t → AppendsFront n v c → AppendsFront u v (a ++ b ++ c)
+  fails_3 m n w x y = front_after u n v (a ++ b) c (Appends-trans u m n a b w (subst (λ (z : List ℕ). Appends m n z) is x)) y

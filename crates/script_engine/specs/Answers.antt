@@ -1,5 +1,5 @@
 -- What is written for the lines of a script, one after another.
-use Rattle.mds_types.specs.Refusal.{name}
+use Rattle.mds_types.specs.Refusal.{words}
 use Rattle.mds_types.specs.declared.refusal.Refusal.TheVariants.{Memory}
 use Rattle.std.specs.Prelude.{◌≡◌, ℕ, ◌+◌, Bool, true, false, not, ◌&&◌, MatchBool, List, [], ◌∷◌, ◌++◌, ◌⊎◌, codes, decimal, if◌then◌else◌}
 
@@ -9,13 +9,17 @@ pub record Answer : Type 0 where
   pub accepted : Bool
   pub ample : Bool
 
+-- what stands before the reason that a line is faulty
+abbrev pub line_start : ℕ → List ℕ
+line_start number = codes "line " ++ decimal number ++ codes ": "
+
 -- what a faulty line is answered
 abbrev pub fault_text : ℕ → List ℕ → List ℕ
-fault_text number why = codes "line " ++ decimal number ++ codes ": " ++ why ++ 10 ∷ []
+fault_text number why = line_start number ++ why ++ 10 ∷ []
 
 -- the answer to a line whose bytes or fields found no room
 abbrev pub no_room : ℕ → Answer
-no_room number = record { text = fault_text number (codes "refused " ++ name Memory); accepted = false; ample = false }
+no_room number = record { text = fault_text number (codes "refused " ++ words Memory); accepted = false; ample = false }
 
 abbrev pub text_of : List Answer → List ℕ
 text_of [] = []

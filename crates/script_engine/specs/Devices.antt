@@ -1,6 +1,5 @@
 -- What is known of the devices of a run: in proofs, the bytes that went through them.
-use Rattle.std.specs.Prelude.{◌≡◌, ℕ, Bool, List, ◌++◌, Option}
-use Rattle.std.specs.Io.KnownBytes.{Consumes}
+use Rattle.std.specs.Prelude.{ℕ, Bool, List}
 
 -- a reader, the bytes that it gave so far, how often it was read, and whether it came to its end: whether a read that had
 -- room gave nothing

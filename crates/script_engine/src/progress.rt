@@ -39,7 +39,7 @@ impl Progress {
         if self.has_room {
             interpreter.answer(alloc, self.number, &self.line, writer)
         } else {
-            write_refusal(writer, self.number, Refusal::Memory.text())?;
+            write_refusal(writer, self.number, Refusal::Memory)?;
             Ok(false)
         }
     }

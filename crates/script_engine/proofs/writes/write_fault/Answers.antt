@@ -1,31 +1,21 @@
-use Rattle.std.proofs.Common.{◌∷◌, [], ◌∙◌, refl}
-use Rattle.std.specs.Prelude.{codes, decimal}
+use Rattle.std.proofs.Common.{◌∷◌, [], refl}
 use Rattle.std.proofs.lemmas.Result.{err_from_is_err_and, on_err_weaker}
-use Rattle.script_engine.proofs.KnownLemmas.{fails_1, fails_2, fails_3, fails_4, fails_5}
+use Rattle.script_engine.specs.Answers.{line_start}
+use Rattle.script_engine.proofs.KnownLemmas.{fails_1, fails_2, fails_3}
 use Rattle.script_engine.proofs.writes.write_fault.Goals as goal
+
+pub returns-in_err-write_start-clause-err : goal.returns-in_err-write_start-clause-err
+returns-in_err-write_start-clause-err g c =
+    let p = err_from_is_err_and c.from_residual.result c.from_residual.ensures.1 in
+    rw p.1 (fails_1 _ _ (line_start c.args.number) c.args.why.now (10 ∷ []) c.args.why.now refl c.in_err-write_start.ensures.err)
 
 pub returns-in_err-write_whole-clause-err : goal.returns-in_err-write_whole-clause-err
 returns-in_err-write_whole-clause-err g c =
-    let p = err_from_is_err_and c.from_residual.result c.from_residual.ensures.1 in
-    rw p.1 (fails_1 _ _ (codes "line ") (decimal c.args.number) (codes ": ") c.args.why.now (10 ∷ []) (decimal c.args.number) c.args.why.now refl refl c.in_err-write_whole.ensures.err)
-
-pub returns-in_err-write_whole-2-clause-err : goal.returns-in_err-write_whole-2-clause-err
-returns-in_err-write_whole-2-clause-err g c =
-    let p = err_from_is_err_and c.from_residual-in_err-write_whole-2.result c.from_residual-in_err-write_whole-2.ensures.1 in
-    rw p.1 (fails_2 _ _ (codes "line ") (decimal c.args.number) (codes ": ") c.args.why.now (10 ∷ []) c.as_bytes.result.now c.args.why.now (c.as_bytes.ensures.value ∙ c.format.ensures.text) refl _ c.in_ok-write_whole.ensures.ok c.in_err-write_whole-2.ensures.err)
-
-pub returns-in_err-write_whole-3-clause-err : goal.returns-in_err-write_whole-3-clause-err
-returns-in_err-write_whole-3-clause-err g c =
-    let p = err_from_is_err_and c.from_residual-in_err-write_whole-3.result c.from_residual-in_err-write_whole-3.ensures.1 in
-    rw p.1 (fails_3 _ _ (codes "line ") (decimal c.args.number) (codes ": ") c.args.why.now (10 ∷ []) c.as_bytes.result.now c.args.why.now (c.as_bytes.ensures.value ∙ c.format.ensures.text) refl _ _ c.in_ok-write_whole.ensures.ok c.in_ok-write_whole-2.ensures.ok c.in_err-write_whole-3.ensures.err)
-
-pub returns-in_err-write_whole-4-clause-err : goal.returns-in_err-write_whole-4-clause-err
-returns-in_err-write_whole-4-clause-err g c =
-    let p = err_from_is_err_and c.from_residual-in_err-write_whole-4.result c.from_residual-in_err-write_whole-4.ensures.1 in
-    rw p.1 (fails_4 _ _ (codes "line ") (decimal c.args.number) (codes ": ") c.args.why.now (10 ∷ []) c.as_bytes.result.now c.as_bytes-2.result.now (c.as_bytes.ensures.value ∙ c.format.ensures.text) c.as_bytes-2.ensures.value _ _ _ c.in_ok-write_whole.ensures.ok c.in_ok-write_whole-2.ensures.ok c.in_ok-write_whole-3.ensures.ok c.in_err-write_whole-4.ensures.err)
+    let p = err_from_is_err_and c.from_residual-in_err-write_whole.result c.from_residual-in_err-write_whole.ensures.1 in
+    rw p.1 (fails_2 _ _ (line_start c.args.number) c.args.why.now (10 ∷ []) c.as_bytes.result.now c.as_bytes.ensures.value _ c.in_ok-write_start.ensures.ok c.in_err-write_whole.ensures.err)
 
 pub returns-clause-err : goal.returns-clause-err
 returns-clause-err g c =
-    on_err_weaker c.write_whole-5.result
-    (λ last. fails_5 _ _ (codes "line ") (decimal c.args.number) (codes ": ") c.args.why.now (10 ∷ []) c.as_bytes.result.now c.as_bytes-2.result.now (c.as_bytes.ensures.value ∙ c.format.ensures.text) c.as_bytes-2.ensures.value _ _ _ _ c.in_ok-write_whole.ensures.ok c.in_ok-write_whole-2.ensures.ok c.in_ok-write_whole-3.ensures.ok c.in_ok-write_whole-4.ensures.ok last)
-    c.write_whole-5.ensures.err
+    on_err_weaker c.write_whole-2.result
+    (λ last. fails_3 _ _ (line_start c.args.number) c.args.why.now (10 ∷ []) c.as_bytes.result.now c.as_bytes.ensures.value _ _ c.in_ok-write_start.ensures.ok c.in_ok-write_whole.ensures.ok last)
+    c.write_whole-2.ensures.err
