@@ -1,11 +1,6 @@
-pub mod BoardLemmas
-pub mod CostLemmas
-pub mod MapLemmas
-pub mod MaskLemmas
-pub mod PlanLemmas
+pub mod OutcomeLemmas
 pub mod ReportLemmas
 pub mod ScriptLemmas
-pub mod ServeLemmas
+pub mod ServedLemmas
 pub mod SessionLemmas
-pub mod SlashLemmas
 pub mod VisibleLemmas

@@ -1,11 +1,8 @@
-pub mod Board
-pub mod Commands
-pub mod Cost
+pub mod Does
+pub mod Done
 pub mod Fault
-pub mod Plan
+pub mod Outcome
 pub mod Printed
-pub mod Reply
 pub mod Script
 pub mod Session
-pub mod Stat
 pub mod Visible

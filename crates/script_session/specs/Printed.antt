@@ -1,15 +1,11 @@
 -- What a command prints.
-use Rattle.std.specs.Prelude.{ℕ, List}
-use Rattle.std.specs.List.{flat_map}
+use Rattle.std.specs.Prelude.{ℕ, List, []}
+use Rattle.script_board.specs.declared.fault.Fault.{Fault}
 
--- what a command prints line by line, and how many requests it refused since a share was full
+-- lines, and then a refusal for each request that met one
 pub record Printed : Type 0 where
   pub lines : List (List ℕ)
-  pub refused : ℕ
+  pub refused : List Fault
 
 abbrev pub only_lines : List (List ℕ) → Printed
-only_lines lines = record { lines = lines; refused = 0 }
-
--- lines one after another, each with its newline
-abbrev pub joined : List (List ℕ) → List ℕ
-joined lines = flat_map (λ line. line) lines
+only_lines lines = record { lines = lines; refused = [] }

@@ -1,12 +1,21 @@
 -- What a run of a script from its beginning has written.
-use Rattle.std.specs.Prelude.{ℕ, Bool, List, Option}
+use Rattle.std.specs.Prelude.{ℕ, Bool, List, Option, Some, None}
+use Rattle.mds_board.specs.Promises.{IsKept}
+use Rattle.script_board.specs.Board.{BoardData}
 use Rattle.script_engine.specs.Runs.{AcceptsUpTo, AnswersAll, AnswersSome, AnswersWhole}
 use Rattle.script_session.specs.Session.{SessionData, answers, beginning}
 
+-- what holds of every board: its state is the replay of its history, each adopted plan is best, and each directory has exactly
+-- one authority
+abbrev pub IsKeptAt : Option BoardData → Type 0
+IsKeptAt None = Unit {0}
+IsKeptAt (Some b) = IsKept b.world
+
 module _ (limit : ℕ) (strict : Bool) where
-  -- these lines are answered, and all answers were written; accepted says whether each line was accepted
+  -- These lines are answered, and all answers were written. Accepted says whether each line was accepted. What holds of every
+  -- board holds of the one that is left.
   abbrev pub AllAnswered : List (List ℕ) → Bool → Option (List ℕ) → Option (List ℕ) → Type 0
-  AllAnswered lines accepted before after = (last : SessionData) × AnswersAll answers strict (beginning limit) lines last accepted before after
+  AllAnswered lines accepted before after = (last : SessionData) × AnswersAll answers strict (beginning limit) lines last accepted before after × IsKeptAt last.board
 
   -- the whole lines of these bytes are answered, and all answers were written
   abbrev pub WholeAnswered : List ℕ → Option (List ℕ) → Option (List ℕ) → Type 0

@@ -3,16 +3,17 @@ ghost use Rattle.std.specs.Prelude.{◌≡◌, ℕ, Bool, List, true};
 ghost use Rattle.std.specs.List.{list_all};
 ghost use Rattle.script_engine.specs.Answers.{Answer, IsDetermined, Run, all_ample, played, text_of};
 ghost use Rattle.script_engine.specs.Lines.{lines_of};
-ghost use Rattle.script_session.specs.Session.{SessionData, answer_to, answers, beginning, is_sure};
+ghost use Rattle.script_session.specs.Outcome.{answer_to, is_sure};
+ghost use Rattle.script_session.specs.Session.{SessionData, answers, beginning};
 ghost use Rattle.script_session.specs.Visible.{NoneSaysMemory, is_visible};
 
-/// Where memory suffices for a line that asks for no plan, its answer and what it leads to are a function of the
+/// Where memory suffices for a line that asks for no plan and no move, its answer and what it leads to are a function of the
 /// session, the line's number and the line.
 pub fn determined()
     ensures { IsDetermined is_sure answers answer_to }
 {}
 
-/// What a run of a script without `plan` writes is a function of its bytes, the limit and `strict`, where memory sufficed
+/// What a run of a script without `plan` and `move` writes is a function of its bytes, the limit and `strict`, where memory sufficed
 /// for each line.
 pub fn output_is_determined()
     ensures { (limit : ℕ) (strict : Bool) (bytes : List ℕ) (replies : List Answer) (last : SessionData)
@@ -20,8 +21,8 @@ pub fn output_is_determined()
         → all_ample replies ≡ true → text_of replies ≡ text_of (played answer_to strict (beginning limit) 1 (lines_of bytes)).0 }
 {}
 
-/// Want of memory is seen in the output: what a run of a script without `plan` and `stat` writes is a function of its
-/// bytes, the limit and `strict`, where no answer says `refused 0 Memory`.
+/// Want of memory is seen in the output: what a run of a script without `plan`, `move`, `go` and `stat` writes is a function of
+/// its bytes, the limit and `strict`, where no answer says `refused 0 Memory`.
 pub fn output_is_visible()
     ensures { (limit : ℕ) (strict : Bool) (bytes : List ℕ) (replies : List Answer) (last : SessionData)
         → list_all is_visible (lines_of bytes) ≡ true → Run answers strict (beginning limit) 1 (lines_of bytes) replies last

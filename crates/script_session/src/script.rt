@@ -4,10 +4,11 @@ ghost use Rattle.script_engine.specs.Lines.{lines_of};
 ghost use Rattle.script_engine.specs.Runs.{Gives, IsEnded};
 ghost use Rattle.script_session.specs.Script.{AcceptedUpTo, AllAnswered, SomeAnswered, WholeAnswered};
 
-use crate::board_parts::BoardParts;
 use crate::session::Session;
 use authority_map::MapWriter;
+use board_state::BoardParts;
 use naming::Naming;
+use script_board::Parts;
 use script_engine::{Input, RunError, run_script};
 use std::alloc::Global;
 use std::io::{Read, Write};
@@ -95,6 +96,7 @@ fn run_named<J: Naming, T: Threads + Wait, R: Read, W: Write>(
     };
     let mut session = Session::<J, MapWriter<J, &T>, T>::new(rt, limit, parts);
     let done = run_script(alloc, &mut session, input, writer, strict);
+    session.promises();
     session.end();
     done
 }
@@ -106,7 +108,7 @@ fn open_parts<'r, J: Naming, T: Wait>(
     book: heat_ledger::Opened,
     map: authority_map::Opened,
     limit: u32,
-) -> Option<BoardParts<J, MapWriter<J, &'r T>>>
+) -> Option<Parts<J, MapWriter<J, &'r T>>>
     requires book { book ≡ J.ledger }
     requires map { map ≡ J.map }
     requires limit { limit ≡ J.limit }
@@ -115,7 +117,7 @@ fn open_parts<'r, J: Naming, T: Wait>(
 {
     match MapWriter::<J, &T>::open(rt, alloc, map, limit, 1) {
         Ok((writer, mut readers)) => match readers.pop() {
-            Some(reader) => Some(BoardParts::new(book, writer, reader)),
+            Some(reader) => Some(Parts::new(BoardParts::new(book, writer), reader)),
             None => unreachable!(),
         },
         Err(_) => None,

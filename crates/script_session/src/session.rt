@@ -1,21 +1,26 @@
 //! A session: the board that `ranks` makes, and the lines that come before it.
-ghost use Rattle.std.specs.Prelude.{◌≡◌, ◌<◌, ◌≤◌, ◌⊎◌, ℕ, IfErr, IfOk, IsErrOf, OnErr, OnOk, Ok, Some, None, [], length, take};
+ghost use Rattle.std.specs.Prelude.{◌≡◌, ◌<◌, ◌≤◌, ◌⊎◌, ℕ, Bool, IfErr, IfOk, IsErrOf, OnErr, OnOk, Some, None, [], length, take, true};
 ghost use Rattle.script_commands.specs.Commands.{Ranks, asked};
 ghost use Rattle.script_commands.specs.Commands as words;
-ghost use Rattle.script_session.specs.Session.{before_ranks};
 ghost use Rattle.script_commands.specs.View.{asked_view, view};
-ghost use Rattle.script_session.specs.Fault.{IsDue, IsDueOrNoRoom};
+ghost use Rattle.script_session.specs.Does.{IsCaused};
+ghost use Rattle.script_session.specs.Done.{IsShowable, IsShowableAt, shown, shown_at};
+ghost use Rattle.script_replies.specs.Printed.{joined};
+ghost use Rattle.script_engine.specs.Known.{AppendsFront};
+ghost use Rattle.std.specs.Io.KnownBytes.{Appends};
+ghost use Rattle.script_session.specs.Script.{IsKeptAt};
+ghost use Rattle.script_session.specs.Printed.{only_lines};
+ghost use Rattle.script_session.specs.Session.{DoesAt, IsCausedOrNoRoom, IsDone, IsTold, asked_cause, beginning, cause_at, published};
 
-use crate::board::Board;
-use crate::board_parts::BoardParts;
-use crate::fault::Fault;
-use crate::print::Unprinted;
-use crate::reply::Reply;
+use crate::carry_out::carry_out;
+use crate::done::Done;
 use crate::report::{write_fault, write_refused};
 use authority_map::Publisher;
 use naming::Naming;
+use script_board::{Fault, Parts, ScriptBoard};
 use script_commands::{Asked, Command, RankCount, read_line};
 use script_engine::{Interpreter, WriteFailed};
+use script_replies::{Reply, Unprinted, parts_in_force, print_reply};
 use std::alloc::{AllocError, Global};
 use std::io::Write;
 use std::marker::Model;
@@ -28,8 +33,8 @@ use std::thread::Threads;
 pub struct Session<'r, J: Naming, M: Publisher<J>, R: Threads> {
     rt: &'r R,
     limit: u32,
-    parts: Option<BoardParts<J, M>>,
-    board: Option<Board<J, M>>,
+    parts: Option<Parts<J, M>>,
+    board: Option<ScriptBoard<J, M>>,
 }
 
 impl<'r, J: Naming, M: Publisher<J>, R: Threads> Model for Session<'r, J, M, R> {
@@ -56,15 +61,10 @@ fn fill<T>(place: &mut Option<T>, value: T)
 }
 
 impl<'r, J: Naming, M: Publisher<J>, R: Threads> Session<'r, J, M, R> {
-    ghost use Rattle.script_session.specs.Session.{asked_outcome, beginning, line_outcome, held, outcome_at, published, IsDone, IsTold};
-    ghost use Rattle.script_session.specs.Printed.{joined, only_lines};
-    ghost use Rattle.script_session.specs.Reply.{IsShowable, shown};
     ghost use Rattle.script_engine.specs.Answers.{Answer};
-    ghost use Rattle.script_engine.specs.Known.{AppendsFront};
-    ghost use Rattle.std.specs.Io.KnownBytes.{Appends};
 
     /// The session at the beginning of a script. Its tree is to give at most `limit` numbers.
-    pub fn new(rt: &'r R, limit: u32, parts: BoardParts<J, M>) -> Session<'r, J, M, R>
+    pub fn new(rt: &'r R, limit: u32, parts: Parts<J, M>) -> Session<'r, J, M, R>
         requires limit { limit ≡ J.limit }
         requires some { 1 ≤ limit }
         requires few { limit ≤ 65536 }
@@ -94,20 +94,31 @@ impl<'r, J: Naming, M: Publisher<J>, R: Threads> Session<'r, J, M, R> {
         }
     }
 
-    /// Makes the board. Where memory is refused, its parts are kept.
-    fn begin(&mut self, alloc: Global, active: RankCount) -> Result<Reply, Fault>
+    /// What holds of every board holds of this one: its state is the replay of its history, each adopted plan is best for
+    /// the problem of its opening, and each directory has exactly one authority. It does nothing.
+    pub fn promises(&self)
+        ensures { IsKeptAt self.now.board }
+    {
+        if let Some(board) = &self.board {
+            board.board().promises();
+        }
+    }
+
+    // Makes the board. Where memory is refused, its parts are kept.
+    fn begin(&mut self, alloc: Global, active: RankCount) -> Result<Done, Fault>
         requires { self.old.board ≡ None }
-        ensures done { IfOk result (λ reply. (reply ≡ Reply.Nothing) × (held self.old (before_ranks self.old.limit (Ranks active.number)) ≡ Ok (only_lines [], self.new))) }
+        ensures done { IfOk result (λ done. IsDone self.old (words.Asks (Ranks active.number)) (shown_at self.new.board done) true self.new) }
+        ensures showable { IfOk result (IsShowableAt self.new.board) }
         ensures fault { IfErr result (λ fault. fault ≡ Fault.Memory) }
         ensures unchanged { OnErr result (self.new ≡ self.old) }
     {
         let Some(parts) = self.parts.take() else {
             unreachable!()
         };
-        match Board::new(alloc, parts, self.limit, active.number) {
+        match ScriptBoard::new(alloc, parts, self.limit, active.number) {
             Ok(board) => {
                 fill(&mut self.board, board);
-                Ok(Reply::Nothing)
+                Ok(Done::Lines(Reply::Nothing))
             }
             Err(parts) => {
                 fill(&mut self.parts, parts);
@@ -116,15 +127,15 @@ impl<'r, J: Naming, M: Publisher<J>, R: Threads> Session<'r, J, M, R> {
         }
     }
 
-    /// Carries out a command. Before `ranks` was accepted no other is.
-    pub fn carry_out(&mut self, alloc: Global, command: Command<'_>) -> Result<Reply, Fault>
-        ensures done { IfOk result (λ reply. IsDone self.old (held self.old (outcome_at self.old.limit self.old.board (view command.entry))) (words.Asks (view command.entry)) (shown self.new.board reply) self.new) }
-        ensures showable { IfOk result (IsShowable self.new.board) }
-        ensures fault { IfErr result (IsDue (outcome_at self.old.limit self.old.board (view command.entry))) }
+    // Carries out a command. Before `ranks` was accepted no other is.
+    fn carry_out(&mut self, alloc: Global, command: Command<'_>) -> Result<Done, Fault>
+        ensures done { IfOk result (λ done. (ample : Bool) × IsDone self.old (words.Asks (view command.entry)) (shown_at self.new.board done) ample self.new) }
+        ensures showable { IfOk result (IsShowableAt self.new.board) }
+        ensures fault { IfErr result (IsCaused (cause_at self.old.board (view command.entry))) }
         ensures unchanged { OnErr result (self.new ≡ self.old) }
     {
         if let Some(board) = &mut self.board {
-            return board.carry_out(self.rt, alloc, command);
+            return carry_out(board, self.rt, alloc, command);
         }
         match command {
             Command::Ranks(active) => self.begin(alloc, active),
@@ -132,26 +143,26 @@ impl<'r, J: Naming, M: Publisher<J>, R: Threads> Session<'r, J, M, R> {
         }
     }
 
-    /// Carries out what a line asks for. The reply is what it prints.
-    pub fn carry_asked(&mut self, alloc: Global, what: Asked<'_>) -> Result<Reply, Fault>
-        ensures done { IfOk result (λ reply. IsDone self.old (asked_outcome self.old (asked_view what.entry)) (asked_view what.entry) (shown self.new.board reply) self.new) }
-        ensures showable { IfOk result (IsShowable self.new.board) }
-        ensures fault { IfErr result (IsDue (asked_outcome self.old (asked_view what.entry))) }
+    // Carries out what a line asks for, and answers what it prints.
+    fn carry_asked(&mut self, alloc: Global, what: Asked<'_>) -> Result<Done, Fault>
+        ensures done { IfOk result (λ done. (ample : Bool) × IsDone self.old (asked_view what.entry) (shown_at self.new.board done) ample self.new) }
+        ensures showable { IfOk result (IsShowableAt self.new.board) }
+        ensures fault { IfErr result (IsCaused (asked_cause self.old (asked_view what.entry))) }
         ensures unchanged { OnErr result (self.new ≡ self.old) }
     {
         match what {
-            Asked::Nothing => Ok(Reply::Nothing),
+            Asked::Nothing => Ok(Done::Lines(Reply::Nothing)),
             Asked::Syntax => Err(Fault::Syntax),
             Asked::Asks(command) => self.carry_out(alloc, command),
         }
     }
 
-    /// Reads a line and carries out what it asks for. The reply is what it prints. Where the line's fields find no room,
-    /// it is refused whatever it says.
-    pub fn take_line(&mut self, alloc: Global, line: &[u8]) -> Result<Reply, Fault>
-        ensures done { IfOk result (λ reply. IsDone self.old (line_outcome self.old line.now) (asked line.now) (shown self.new.board reply) self.new) }
-        ensures showable { IfOk result (IsShowable self.new.board) }
-        ensures fault { IfErr result (IsDueOrNoRoom (line_outcome self.old line.now)) }
+    // Reads a line, carries out what it asks for, and answers what it prints. Where the line's fields find no room, it is
+    // refused whatever it says.
+    fn take_line(&mut self, alloc: Global, line: &[u8]) -> Result<Done, Fault>
+        ensures done { IfOk result (λ done. (ample : Bool) × IsDone self.old (asked line.now) (shown_at self.new.board done) ample self.new) }
+        ensures showable { IfOk result (IsShowableAt self.new.board) }
+        ensures fault { IfErr result (IsCausedOrNoRoom (asked_cause self.old (asked line.now))) }
         ensures unchanged { OnErr result (self.new ≡ self.old) }
     {
         let what = read_line(alloc, line)?;
@@ -167,38 +178,38 @@ impl<'r, J: Naming, M: Publisher<J>, R: Threads> Session<'r, J, M, R> {
         }
     }
 
-    // Writes the lines of a reply.
+    // Writes the lines of what was done.
     fn print<W: Write>(
         &mut self,
         alloc: Global,
-        reply: &Reply,
+        done: &Done,
         writer: &mut W,
     ) -> Result<(), Unprinted>
-        requires { IsShowable self.old.board reply.now }
-        ensures done { OnOk result (Appends (W.contents writer.old) (W.contents writer.new) (joined (shown self.old.board reply.now).lines)) }
-        ensures memory { IsErrOf result Unprinted.Memory → (count : ℕ) × (count < length (shown self.old.board reply.now).lines) × Appends (W.contents writer.old) (W.contents writer.new) (joined (take count (shown self.old.board reply.now).lines)) }
-        ensures write { IsErrOf result Unprinted.Write → AppendsFront (W.contents writer.old) (W.contents writer.new) (joined (shown self.old.board reply.now).lines) }
+        requires { IsShowableAt self.old.board done.now }
+        ensures done { OnOk result (Appends (W.contents writer.old) (W.contents writer.new) (joined (shown_at self.old.board done.now).lines)) }
+        ensures memory { IsErrOf result Unprinted.Memory → (count : ℕ) × (count < length (shown_at self.old.board done.now).lines) × Appends (W.contents writer.old) (W.contents writer.new) (joined (take count (shown_at self.old.board done.now).lines)) }
+        ensures write { IsErrOf result Unprinted.Write → AppendsFront (W.contents writer.old) (W.contents writer.new) (joined (shown_at self.old.board done.now).lines) }
         ensures same { self.new ≡ self.old }
     {
         match &mut self.board {
-            Some(board) => board.print(alloc, reply, writer),
+            Some(board) => print(board, alloc, done, writer),
             None => Ok(()),
         }
     }
 
-    // Writes a reply, and publishes the map if the line is accepted. It says whether it is.
+    // Writes what was done, and publishes the map if the line is accepted. It says whether it is.
     fn settle<W: Write>(
         &mut self,
         alloc: Global,
         number: u64,
-        reply: &Reply,
+        done: &Done,
         writer: &mut W,
     ) -> Result<bool, WriteFailed>
-        requires { IsShowable self.old.board reply.now }
-        ensures ok { IfOk result (λ accepted. (a : Answer) × IsTold number (shown self.old.board reply.now) self.old a self.new × (accepted ≡ a.accepted) × Appends (W.contents writer.old) (W.contents writer.new) a.text) }
-        ensures err { OnErr result ((a : Answer) × IsTold number (shown self.old.board reply.now) self.old a self.new × AppendsFront (W.contents writer.old) (W.contents writer.new) a.text) }
+        requires { IsShowableAt self.old.board done.now }
+        ensures ok { IfOk result (λ accepted. (ample : Bool) → (a : Answer) × IsTold number (shown_at self.old.board done.now) ample self.old a self.new × (accepted ≡ a.accepted) × Appends (W.contents writer.old) (W.contents writer.new) a.text) }
+        ensures err { OnErr result ((ample : Bool) → (a : Answer) × IsTold number (shown_at self.old.board done.now) ample self.old a self.new × AppendsFront (W.contents writer.old) (W.contents writer.new) a.text) }
     {
-        match self.print(alloc, reply, writer) {
+        match self.print(alloc, done, writer) {
             Ok(()) => {}
             Err(Unprinted::Memory) => {
                 write_fault(writer, number, Fault::Memory)?;
@@ -206,12 +217,36 @@ impl<'r, J: Naming, M: Publisher<J>, R: Threads> Session<'r, J, M, R> {
             }
             Err(Unprinted::Write) => return Err(WriteFailed),
         }
-        write_refused(writer, number, reply.refused())?;
-        if reply.refused() > 0 {
+        let refused = done.refused();
+        write_refused(writer, number, refused)?;
+        if !refused.is_empty() {
             return Ok(false);
         }
         self.publish();
         Ok(true)
+    }
+}
+
+// Writes the lines of what was done to a board.
+fn print<J: Naming, M: Publisher<J>, W: Write>(
+    board: &mut ScriptBoard<J, M>,
+    alloc: Global,
+    done: &Done,
+    writer: &mut W,
+) -> Result<(), Unprinted>
+    requires { IsShowable board.old done.now }
+    ensures done { OnOk result (Appends (W.contents writer.old) (W.contents writer.new) (joined (shown board.old done.now).lines)) }
+    ensures memory { IsErrOf result Unprinted.Memory → (count : ℕ) × (count < length (shown board.old done.now).lines) × Appends (W.contents writer.old) (W.contents writer.new) (joined (take count (shown board.old done.now).lines)) }
+    ensures write { IsErrOf result Unprinted.Write → AppendsFront (W.contents writer.old) (W.contents writer.new) (joined (shown board.old done.now).lines) }
+    ensures same { board.new ≡ board.old }
+{
+    match done {
+        Done::Served(_) => Ok(()),
+        Done::Planned => match parts_in_force(alloc, board) {
+            Ok(parts) => print_reply(board, alloc, &Reply::Plan(parts), writer),
+            Err(_) => Err(Unprinted::Memory),
+        },
+        Done::Lines(reply) => print_reply(board, alloc, reply, writer),
     }
 }
 
@@ -230,7 +265,7 @@ impl<'r, J: Naming, M: Publisher<J>, R: Threads> Interpreter for Session<'r, J, 
         writer: &mut W,
     ) -> Result<bool, WriteFailed> {
         match self.take_line(alloc, line) {
-            Ok(reply) => self.settle(alloc, number, &reply, writer),
+            Ok(done) => self.settle(alloc, number, &done, writer),
             Err(fault) => {
                 write_fault(writer, number, fault)?;
                 Ok(false)

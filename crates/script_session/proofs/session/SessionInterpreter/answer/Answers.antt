@@ -5,12 +5,12 @@ use Rattle.script_session.proofs.session.SessionInterpreter.answer.Goals as goal
 pub returns-in-Ok-clause-ok : goal.returns-in-Ok-clause-ok
 returns-in-Ok-clause-ok g c =
     let done = c.in-Ok.ensures.done in
-    IfOk-weaker c.settle.result _ _ (λ accepted told. (told.0, answered c.args.self.now c.take_line.new.self c.settle.new.self c.args.number c.args.line.now _ told.0 done told.1, told.2, told.3)) c.settle.ensures.ok
+    IfOk-weaker c.settle.result _ _ (λ accepted told. let t = told done.0 in (t.0, answered c.args.self.now c.take_line.new.self c.settle.new.self c.args.number c.args.line.now _ done.0 t.0 done.1 t.1, t.2, t.3)) c.settle.ensures.ok
 
 pub returns-in-Ok-clause-err : goal.returns-in-Ok-clause-err
 returns-in-Ok-clause-err g c =
     let done = c.in-Ok.ensures.done in
-    on_err_weaker c.settle.result (λ told. (told.0, answered c.args.self.now c.take_line.new.self c.settle.new.self c.args.number c.args.line.now _ told.0 done told.1, told.2)) c.settle.ensures.err
+    on_err_weaker c.settle.result (λ told. let t = told done.0 in (t.0, answered c.args.self.now c.take_line.new.self c.settle.new.self c.args.number c.args.line.now _ done.0 t.0 done.1 t.1, t.2)) c.settle.ensures.err
 
 pub returns-in_err-write_fault-in-Err-clause-err : goal.returns-in_err-write_fault-in-Err-clause-err
 returns-in_err-write_fault-in-Err-clause-err g c =

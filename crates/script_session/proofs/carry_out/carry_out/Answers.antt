@@ -1,0 +1,9 @@
+use Rattle.std.proofs.Common.{refl, sym, true}
+use Rattle.export_rounds.proofs.Asking.{each_long}
+use Rattle.script_session.proofs.carry_out.carry_out.Goals as goal
+
+pub returns-in-Plan-clause-done : goal.returns-in-Plan-clause-done
+returns-in-Plan-clause-done g c = let made = c.in_ok-plan-in-Plan.ensures.done in rw c.in-Plan.is (true, (made.0, made.1, refl, refl))
+
+pub returns-in-Move-clause-showable : goal.returns-in-Move-clause-showable
+returns-in-Move-clause-showable g c = sym (each_long _ _ _ c.in_ok-orders-in-Move.ensures.done.outcomes)

@@ -1,6 +1,0 @@
-use Rattle.std.proofs.Common.{◌∙◌, append_assoc}
-use Rattle.std.proofs.lemmas.Result.{IfOk-weaker}
-use Rattle.script_session.proofs.cost.cost_line.Goals as goal
-
-pub returns : goal.returns
-returns c = IfOk-weaker c.format.result _ _ (λ s e. e ∙ simp (append_assoc, c.greatest_heat-greatest.ensures)) c.format.ensures.ok

@@ -1,0 +1,29 @@
+//! What a command that was carried out prints.
+ghost use Rattle.std.specs.Prelude.{◌≡◌};
+ghost use Rattle.script_session.specs.Done.{refused_by};
+
+use script_board::Fault;
+use script_replies::Reply;
+
+/// What a command that was carried out prints.
+#[derive(Drop)]
+pub enum Done {
+    /// A line for each refusal that the requests met which were served.
+    Served(Vec<Fault>),
+    /// The plan that was adopted. Its parts are made when it is printed.
+    Planned,
+    /// These lines.
+    Lines(Reply),
+}
+
+impl Done {
+    /// The refusals that requests met.
+    pub fn refused(&self) -> &[Fault]
+        ensures { result.now ≡ refused_by self.now }
+    {
+        match self {
+            Done::Served(refused) => refused.as_slice(),
+            _ => &[],
+        }
+    }
+}
