@@ -1,3 +1,4 @@
+pub mod HistoryLemmas
 pub mod OutcomeLemmas
 pub mod ReportLemmas
 pub mod ScriptLemmas

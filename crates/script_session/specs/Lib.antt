@@ -1,6 +1,7 @@
 pub mod Does
 pub mod Done
 pub mod Fault
+pub mod History
 pub mod Outcome
 pub mod Printed
 pub mod Script

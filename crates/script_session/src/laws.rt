@@ -3,6 +3,7 @@ ghost use Rattle.std.specs.Prelude.{◌≡◌, ℕ, Bool, List, true};
 ghost use Rattle.std.specs.List.{list_all};
 ghost use Rattle.script_engine.specs.Answers.{Answer, IsDetermined, Run, all_ample, played, text_of};
 ghost use Rattle.script_engine.specs.Lines.{lines_of};
+ghost use Rattle.script_session.specs.History.{GoesOn};
 ghost use Rattle.script_session.specs.Outcome.{answer_to, is_sure};
 ghost use Rattle.script_session.specs.Session.{SessionData, answers, beginning};
 ghost use Rattle.script_session.specs.Visible.{NoneSaysMemory, is_visible};
@@ -27,4 +28,10 @@ pub fn output_is_visible()
     ensures { (limit : ℕ) (strict : Bool) (bytes : List ℕ) (replies : List Answer) (last : SessionData)
         → list_all is_visible (lines_of bytes) ≡ true → Run answers strict (beginning limit) 1 (lines_of bytes) replies last
         → NoneSaysMemory 1 replies → text_of replies ≡ text_of (played answer_to strict (beginning limit) 1 (lines_of bytes)).0 }
+{}
+
+/// The history of a session's board before a line is a beginning of the one after it: what a line does is added to it, and
+/// nothing is taken away.
+pub fn histories_grow()
+    ensures { (old new : SessionData) (number : ℕ) (line : List ℕ) (a : Answer) → answers old number line a new → GoesOn old.board new.board }
 {}

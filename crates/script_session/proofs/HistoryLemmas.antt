@@ -1,0 +1,189 @@
+-- Each line leaves a longer history, or the same.
+use Rattle.std.proofs.Common.{◌≡◌, ◌==◌, ℕ, Bool, true, false, cond, List, [], ◌∷◌, ◌++◌, length, refl, sym, ap, subst, ◌∙◌, append_assoc, append-nil, inl, inr, Option, Some, None, Result, Ok, Err}
+use Rattle.std.specs.Prelude.{option_map}
+use Rattle.board_state.specs.declared.board_error.BoardError.{BoardError}
+use Rattle.board_state.specs.declared.change.Change.{Change}
+use Rattle.board_state.specs.declared.change.Change.TheVariants as change
+use Rattle.board_state.specs.State.{refusal}
+use Rattle.export_machine.specs.declared.event.Event.TheVariants as event
+use Rattle.export_machine.specs.declared.event.Reply.{Reply}
+use Rattle.export_machine.specs.declared.event.Reply.TheVariants as reply
+use Rattle.heat_ledger.specs.Ledger.{ShareData}
+use Rattle.mds_board.specs.declared.entry.Entry.{Entry}
+use Rattle.mds_board.specs.History.{World, entry_of, recorded}
+use Rattle.mds_types.specs.Mask.{mask_bits}
+use Rattle.mds_types.specs.declared.plan.Plan.{Plan}
+use Rattle.script_commands.specs.Commands as line
+use Rattle.script_commands.specs.Commands.{Asked, Command, asked}
+use Rattle.script_engine.specs.Answers.{Answer}
+use Rattle.script_board.specs.declared.fault.Fault.{Fault}
+use Rattle.script_board.specs.declared.load.Load.{Load}
+use Rattle.script_board.specs.Board.{BoardData, publish}
+use Rattle.script_board.specs.Commands.{◌>>=◌, changed, find, last_slash, make_below, masked, parent_path, replanned}
+use Rattle.script_board.specs.Fault.{unless}
+use Rattle.script_board.specs.Plan.{planned}
+use Rattle.script_board.specs.Serve.{AreDeposited, AreServed, Asked as AskedOf, IsAskedUnless, IsDeposited, IsEnded, IsGone, IsServed, Serving, asked_rank, begin_of, deposit, deposit_of, deposited, ended, place_of, recorded_unless, reply_to, share_at, waiting}
+use Rattle.script_session.specs.Does.{Does}
+use Rattle.script_session.specs.History.{GoesOn, IsBeginning}
+use Rattle.script_session.specs.Printed.{Printed}
+use Rattle.script_session.specs.Session.{DoesAt, IsDone, IsTold, SessionData, answers, published}
+
+itself : (h : List Entry) → IsBeginning h h
+itself h = ([], sym (append-nil h))
+
+further : (a b c : List Entry) → IsBeginning a b → IsBeginning b c → IsBeginning a c
+further a b c p q = (p.0 ++ q.0, q.1 ∙ ap (λ (h : List Entry). h ++ q.0) p.1 ∙ append_assoc a p.0 q.0)
+
+-- the same of boards
+abbrev Longer : BoardData → BoardData → Type 0
+Longer b c = IsBeginning b.world.history c.world.history
+
+one_more : (w : World) (c : Change) → IsBeginning w.history (recorded w c).history
+one_more w c = (entry_of w.state c ∷ [], refl)
+
+from_unless : (r : Option BoardError) (b x new : BoardData) → Longer b x → unless r x ≡ Ok new → Longer b new
+from_unless None b x new longer is = let same : x ≡ new = cc in subst (λ (y : BoardData). Longer b y) same longer
+from_unless (Some e) b x new longer is = cc
+
+bound : (b new : BoardData) (r : Result ℕ Fault) (f : ℕ → Result BoardData Fault) → ((d : ℕ) → f d ≡ Ok new → Longer b new) → (r >>= f) ≡ Ok new → Longer b new
+bound b new (Ok d) f longer is = longer d is
+bound b new (Err e) f longer is = cc
+
+abbrev fine : BoardData → Result BoardData Fault
+fine x = Ok x
+
+module _ (b new : BoardData) where
+  from_changed : (c : Change) → changed b c ≡ Ok new → Longer b new
+  from_changed c is = from_unless (refusal b.world.state c) b _ new (one_more b.world c) is
+
+  from_replanned : (c : Change) → replanned b c ≡ Ok new → Longer b new
+  from_replanned c is = from_unless (refusal b.world.state c) b _ new (one_more b.world c) is
+
+  from_made : (s : Option (List ℕ × List ℕ)) (inodes : ℕ) → make_below b s inodes ≡ Ok new → Longer b new
+  from_made None inodes is = cc
+  from_made (Some parts) inodes is = bound b new (find b (parent_path parts.0)) _ (λ parent. from_replanned (change.Make parent parts.1 inodes)) is
+
+  from_masked : (m : Option ℕ) → masked b m ≡ Ok new → Longer b new
+  from_masked None is = cc
+  from_masked (Some bits) is = from_replanned (change.Mask bits) is
+
+  from_same : (x : BoardData) → Longer b x → fine x ≡ Ok new → Longer b new
+  from_same x longer is = let same : x ≡ new = cc in subst (λ (y : BoardData). Longer b y) same longer
+
+tried_longer : (r : Option BoardError) (w : World) (c : Change) → IsBeginning w.history (recorded_unless r w c).history
+tried_longer None w c = one_more w c
+tried_longer (Some e) w c = itself w.history
+
+ended_longer : (w : World) (reply : Reply) → IsBeginning w.history (ended w reply).history
+ended_longer w (reply.Dir dir) = itself w.history
+ended_longer w (reply.Ticket ticket) = tried_longer (refusal w.state (change.Step (event.End ticket))) w (change.Step (event.End ticket))
+ended_longer w (reply.Export export message) = itself w.history
+ended_longer w (reply.Sent message) = itself w.history
+ended_longer w reply.Changed = itself w.history
+ended_longer w reply.Ignored = itself w.history
+
+same_world : (w new end : World) → new ≡ end → IsBeginning w.history end.history → IsBeginning w.history new.history
+same_world w new end is longer = subst (λ (x : World). IsBeginning w.history x.history) (sym is) longer
+
+is_ended_longer : (w : World) (reply : Reply) (ample : Bool) (new : World) → IsEnded w reply ample new → IsBeginning w.history new.history
+is_ended_longer w reply true new h = same_world w new (ended w reply) h (ended_longer w reply)
+is_ended_longer w reply false new h = same_world w new w h (itself w.history)
+
+asked_longer : (r : Option BoardError) (w : World) (share : ShareData) (rank : ℕ) (l : Load) (ample : Bool) (a : AskedOf) → IsAskedUnless r w share rank l ample a → IsBeginning w.history a.world.history
+asked_longer None w share rank l ample a (inl h) =
+    further w.history (recorded w (begin_of rank l)).history a.world.history (one_more w (begin_of rank l)) (is_ended_longer (recorded w (begin_of rank l)) (reply_to w rank l) ample a.world h.0)
+asked_longer None w share rank l ample a (inr h) = same_world w a.world w (ap (λ (x : AskedOf). x.world) h.1) (itself w.history)
+asked_longer (Some e) w share rank l ample a h = same_world w a.world w (ap (λ (x : AskedOf). x.world) h.1) (itself w.history)
+
+served_longer : (s : Serving) (l : Load) (ample : Bool) (new : Serving) → IsServed s l ample new → IsBeginning s.world.history new.world.history
+served_longer s l ample new h =
+    let rank : ℕ = asked_rank s.world l.dir in
+    same_world s.world new.world h.0.world (ap (λ (x : Serving). x.world) h.2)
+    (asked_longer (refusal s.world.state (begin_of rank l)) s.world (share_at s.shares (place_of s.shares rank)) rank l ample h.0 h.1)
+
+all_served_longer : (s : Serving) (loads : List Load) (ample : Bool) (new : Serving) → AreServed s loads ample new → IsBeginning s.world.history new.world.history
+all_served_longer s [] ample new h = same_world s.world new.world s.world (ap (λ (x : Serving). x.world) h.1) (itself s.world.history)
+all_served_longer s (l ∷ loads) ample new h =
+    further s.world.history h.2.world.history new.world.history (served_longer s l h.0 h.2 h.3) (all_served_longer h.2 loads h.1 new h.4)
+
+deposit_longer : (r : Option BoardError) (w : World) (share : ShareData) → IsBeginning w.history (deposited r w share).0.history
+deposit_longer None w share = one_more w (deposit_of share)
+deposit_longer (Some e) w share = itself w.history
+
+deposited_longer : (w : World) (share : ShareData) (ample : Bool) (new : World) (after : ShareData) → IsDeposited w share ample new after → IsBeginning w.history new.history
+deposited_longer w share true new after h = same_world w new (deposit w share).0 (ap (λ (x : World × ShareData). x.0) h) (deposit_longer (refusal w.state (deposit_of share)) w share)
+deposited_longer w share false new after h = same_world w new w h.1 (itself w.history)
+
+all_deposited_longer : (w : World) (shares : List ShareData) (ample : Bool) (new : World) (after : List ShareData) → AreDeposited w shares ample new after → IsBeginning w.history new.history
+all_deposited_longer w [] ample new after h = same_world w new w h.1 (itself w.history)
+all_deposited_longer w (share ∷ shares) ample new after h =
+    further w.history h.2.history new.history (deposited_longer w share h.0 h.2 h.3 h.5) (all_deposited_longer h.2 shares h.1 new h.4 h.6)
+
+gone_longer : (b : BoardData) (refused : List Fault) (ample : Bool) (new : BoardData) → IsGone b refused ample new → Longer b new
+gone_longer b refused ample new h =
+    subst (λ (x : BoardData). Longer b x) (sym h.8)
+    (further b.world.history h.2.world.history h.3.history
+      (all_served_longer (record { world = b.world; shares = b.shares; refused = [] }) (waiting b) h.0 h.2 h.5)
+      (all_deposited_longer h.2.world h.2.shares h.1 h.3 h.4 h.6))
+
+planned_longer : (b : BoardData) (plan : Plan) (new : BoardData) → new ≡ planned b plan → Longer b new
+planned_longer b plan new is =
+    let opened : World = recorded b.world change.Open in
+    subst (λ (x : BoardData). Longer b x) (sym is)
+    (further b.world.history opened.history (recorded opened (change.Adopt plan)).history (one_more b.world change.Open) (one_more opened (change.Adopt plan)))
+
+same_longer : (b new : BoardData) → new ≡ b → Longer b new
+same_longer b new is = subst (λ (x : BoardData). Longer b x) (sym is) (itself b.world.history)
+
+does_longer : (b : BoardData) (c : Command) (p : Printed) (ample : Bool) (new : BoardData) → Does b c p ample new → Longer b new
+does_longer b (line.Ranks n) p ample new h = absurd h
+does_longer b (line.Mask text) p ample new h = from_masked b new (mask_bits text) h.0
+does_longer b (line.MakeDir path inodes) p ample new h = from_made b new (last_slash path) inodes h.0
+does_longer b (line.RemoveDir path) p ample new h = bound b new (find b path) _ (λ d. from_replanned b new (change.Remove d)) h.0
+does_longer b (line.Pin path value) p ample new h = bound b new (find b path) _ (λ d. from_replanned b new (change.Pin d value)) h.0
+does_longer b (line.Load path hits) p ample new h = bound b new (find b path) _ (λ d. from_same b new _ (itself b.world.history)) h.0
+does_longer b line.Go p ample new h = gone_longer b p.refused ample new h.0
+does_longer b line.Tick p ample new h = from_changed b new change.Tick h.0
+does_longer b (line.Cost paths) p ample new h = same_longer b new h.4
+does_longer b line.Plan p ample new h = planned_longer b h.0 new h.1.adopted
+does_longer b line.Move p ample new h = (h.2.further.more, h.2.further.history)
+does_longer b (line.Stop rank) p ample new h = from_changed b new _ h.0
+does_longer b (line.Restart rank) p ample new h = from_changed b new _ h.0
+does_longer b line.Stat p ample new h = same_longer b new h.2
+
+-- a session's board goes on
+abbrev OnFrom : SessionData → SessionData → Type 0
+OnFrom old new = GoesOn old.board new.board
+
+stays : (o : Option BoardData) → GoesOn o o
+stays None = tt
+stays (Some b) = itself b.world.history
+
+done_on : (o : Option BoardData) (limit : ℕ) (c : Command) (p : Printed) (ample : Bool) (new : BoardData) → DoesAt limit o c p ample new → GoesOn o (Some new)
+done_on None limit c p ample new h = tt
+done_on (Some b) limit c p ample new h = does_longer b c p ample new h
+
+line_on : (s : SessionData) (what : Asked) (p : Printed) (ample : Bool) (mid : SessionData) → IsDone s what p ample mid → OnFrom s mid
+line_on s line.Nothing p ample mid h = subst (λ (x : SessionData). OnFrom s x) (sym h.2) (stays s.board)
+line_on s line.Syntax p ample mid h = absurd h
+line_on s (line.Asks c) p ample mid h = subst (λ (x : SessionData). OnFrom s x) (sym h.2) (done_on s.board s.limit c p ample h.0 h.1)
+
+-- publishing the map adds no event
+published_on : (o u : Option BoardData) → GoesOn o u → GoesOn o (option_map publish u)
+published_on None u h = tt
+published_on (Some b) (Some c) h = h
+published_on (Some b) None h = absurd h
+
+settled_on : (o : Option BoardData) (x : Bool) (mid : SessionData) → GoesOn o mid.board → GoesOn o (let after : SessionData = cond x (published mid) mid in after).board
+settled_on o true mid h = published_on o mid.board h
+settled_on o false mid h = h
+
+told_on : (old : SessionData) (number : ℕ) (p : Printed) (ample : Bool) (mid : SessionData) (a : Answer) (new : SessionData) → OnFrom old mid → IsTold number p ample mid a new → OnFrom old new
+told_on old number p ample mid a new h (inl (inl is)) = subst (λ (x : SessionData). OnFrom old x) (sym is.1) (settled_on old.board (length p.refused == 0) mid h)
+told_on old number p ample mid a new h (inl (inr is)) = subst (λ (x : SessionData). OnFrom old x) (sym is.1) h
+told_on old number p ample mid a new h (inr cut) = subst (λ (x : SessionData). OnFrom old x) (sym cut.3) h
+
+pub answered_on : (old new : SessionData) (number : ℕ) (bytes : List ℕ) (a : Answer) → answers old number bytes a new → GoesOn old.board new.board
+answered_on old new number bytes a (inl (p, ample, mid, done, told)) = told_on old number p ample mid a new (line_on old (asked bytes) p ample mid done) told
+answered_on old new number bytes a (inr (inl (fault, stands, is, same))) = subst (λ (x : SessionData). OnFrom old x) (sym same) (stays old.board)
+answered_on old new number bytes a (inr (inr (none, is, same))) = subst (λ (x : SessionData). OnFrom old x) (sym same) (stays old.board)
