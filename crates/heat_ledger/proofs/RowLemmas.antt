@@ -1,7 +1,6 @@
 -- Entries of rows.
-use Rattle.std.proofs.Common.{◌≡◌, ◌≢◌, ℕ, zero, suc, ◌+◌, ◌-◌, ◌<◌, ◌≤◌, List, [], ◌∷◌, Bool, true, false, true≢false, set, length, replicate, refl, sym, ap, ◌∙◌, arith, length-set, get_or}
-use native.Mathlib.Decide.{ℕ_discrete}
-use Rattle.heat_ledger.specs.Rows.{at, sums, differences, raised, IsZero}
+use Rattle.std.proofs.Common.{◌≡◌, ◌≢◌, ℕ, zero, suc, ◌+◌, ◌-◌, ◌<◌, ◌≤◌, List, [], ◌∷◌, set, length, replicate, refl, sym, ap, ◌∙◌, arith, length-set, get_or}
+use Rattle.heat_ledger.specs.Rows.{at, sums, differences, raised, raised_by, IsZero}
 
 pub at_set_same : (xs : List ℕ) (d y : ℕ) → d < length xs → at (set xs d y) d ≡ y
 at_set_same [] d y h = absurd (omega arith)
@@ -23,6 +22,21 @@ at_raised_other xs d k n = at_set_other xs d (at xs d + 1) k n
 
 pub length-raised : (xs : List ℕ) (d : ℕ) → length (raised xs d) ≡ length xs
 length-raised xs d = length-set xs d (at xs d + 1)
+
+pub at_raised_by_same : (xs : List ℕ) (d n : ℕ) → d < length xs → at (raised_by xs d n) d ≡ at xs d + n
+at_raised_by_same xs d n h = at_set_same xs d (at xs d + n) h
+
+pub at_raised_by_other : (xs : List ℕ) (d n k : ℕ) → k ≢ d → at (raised_by xs d n) k ≡ at xs k
+at_raised_by_other xs d n k m = at_set_other xs d (at xs d + n) k m
+
+pub length-raised_by : (xs : List ℕ) (d n : ℕ) → length (raised_by xs d n) ≡ length xs
+length-raised_by xs d n = length-set xs d (at xs d + n)
+
+-- none more changes nothing
+pub raised_by_none : (xs : List ℕ) (d : ℕ) → raised_by xs d 0 ≡ xs
+raised_by_none [] d = refl
+raised_by_none (x ∷ xs) zero = let e : x + 0 ≡ x = omega arith in cc
+raised_by_none (x ∷ xs) (suc d) = ap (λ (ys : List ℕ). x ∷ ys) (raised_by_none xs d)
 
 pub at_past : (xs : List ℕ) (k : ℕ) → length xs ≤ k → at xs k ≡ 0
 at_past [] k h = refl

@@ -21,6 +21,10 @@ differences (x ∷ xs) (y ∷ ys) = (x - y) ∷ differences xs ys
 abbrev pub raised : List ℕ → ℕ → List ℕ
 raised counts dir = slice_set counts dir (at counts dir + 1)
 
+-- the row with so many more at this directory
+abbrev pub raised_by : List ℕ → ℕ → ℕ → List ℕ
+raised_by counts dir more = slice_set counts dir (at counts dir + more)
+
 -- no directory has a count
 abbrev pub IsZero : List ℕ → Type 0
 IsZero counts = (dir : ℕ) → at counts dir ≡ 0

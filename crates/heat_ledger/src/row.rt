@@ -31,7 +31,7 @@ impl Model for Row {
 
 impl Row {
     ghost use Rattle.std.specs.Prelude.{◌≡◌, ℕ, ◌+◌, ◌^◌, ◌<◌, ◌↔◌, IsTrue, IfOk, length, replicate};
-    ghost use Rattle.heat_ledger.specs.Rows.{at, sums, raised, counted_rows, IsZero};
+    ghost use Rattle.heat_ledger.specs.Rows.{at, sums, raised, raised_by, counted_rows, IsZero};
 
     /// No directory has a count.
     pub(crate) fn new(alloc: Global, limit: u32) -> Result<Row, AllocError>
@@ -63,6 +63,17 @@ impl Row {
         ensures { self.new ≡ raised self.old dir }
     {
         add(&mut self.counts, &mut self.touched, dir.number(), 1);
+    }
+
+    /// So many more for a directory, which may be none.
+    pub(crate) fn raise_by(&mut self, dir: Dir, more: u64)
+        requires inside { dir < length self.old }
+        requires fits { at self.old dir + more < 2 ^ 64 }
+        ensures { self.new ≡ raised_by self.old dir more }
+    {
+        if more > 0 {
+            add(&mut self.counts, &mut self.touched, dir.number(), more);
+        }
     }
 
     /// Whether no directory has a count.
