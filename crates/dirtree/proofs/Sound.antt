@@ -279,3 +279,8 @@ indexed_below limit nodes p d name sound h =
 
 pub indexed_there : (limit : ℕ) (nodes : List (Option Node)) (p d : ℕ) (name : List ℕ) → IsSound limit nodes → indexed_at nodes p name ≡ Some d → is_there (entries_of nodes) d ≡ true
 indexed_there limit nodes p d name sound h = there_by_key (entries_of nodes) d (key p name) (sound.index.finds p d name h).1
+
+pub indexed_named : (limit : ℕ) (nodes : List (Option Node)) (p d : ℕ) (name : List ℕ) → IsSound limit nodes → indexed_at nodes p name ≡ Some d → is_name name ≡ true
+indexed_named limit nodes p d name sound h =
+    let at = sound.index.finds p d name h in
+    (sound.index.above d (key p name) at.0 at.1).1

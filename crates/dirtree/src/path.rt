@@ -43,17 +43,16 @@ impl Tree {
         self.step(at, rest)
     }
 
+    // A child's name is a name, so only what names no child is looked at.
     fn step(&self, from: Dir, name: &str) -> Result<Dir, TreeError>
         ensures child { result ≡ walk self.now.entries from (name.now ∷ []) }
         ensures below { IfOk result (λ child. child < self.now.limit) }
         ensures there { IfOk result (λ child. is_there self.now.entries child ≡ true) }
     {
-        if !is_name(name) {
-            return Err(TreeError::BadName);
-        }
         match self.child(from, name) {
             Some(child) => Ok(child),
-            None => Err(TreeError::NoDir),
+            None if is_name(name) => Err(TreeError::NoDir),
+            None => Err(TreeError::BadName),
         }
     }
 

@@ -119,6 +119,7 @@ impl Tree {
         ensures child { result ≡ child_of self.now.entries parent name.now }
         ensures below { IfSome result (λ child. child < self.now.limit) }
         ensures there { IfSome result (λ child. is_there self.now.entries child ≡ true) }
+        ensures named { OnSome result (is_name name.now ≡ true) }
     {
         let _ = &self.limit;
         match indexed(&self.nodes, parent.number() as usize, name) {

@@ -1,4 +1,5 @@
 pub mod RowLemmas
+pub mod Padding
 pub mod Marks
 pub mod Listed
 pub mod Totals

@@ -1,7 +1,7 @@
 -- Entries of rows.
-use Rattle.std.proofs.Common.{◌≡◌, ◌≢◌, ℕ, zero, suc, ◌+◌, ◌-◌, ◌<◌, ◌≤◌, List, [], ◌∷◌, Bool, true, false, true≢false, set, length, replicate, refl, sym, ap, ◌∙◌, arith, length-set, get_or}
+use Rattle.std.proofs.Common.{◌≡◌, ◌≢◌, ℕ, zero, suc, ◌+◌, ◌-◌, ◌<◌, ◌≤◌, List, [], ◌∷◌, set, length, replicate, refl, sym, ap, ◌∙◌, arith, length-set, get_or}
 use native.Mathlib.Decide.{ℕ_discrete}
-use Rattle.heat_ledger.specs.Rows.{at, sums, differences, raised, IsZero}
+use Rattle.heat_ledger.specs.Rows.{at, sums, differences, raised, raised_by, IsZero}
 
 pub at_set_same : (xs : List ℕ) (d y : ℕ) → d < length xs → at (set xs d y) d ≡ y
 at_set_same [] d y h = absurd (omega arith)
@@ -23,6 +23,21 @@ at_raised_other xs d k n = at_set_other xs d (at xs d + 1) k n
 
 pub length-raised : (xs : List ℕ) (d : ℕ) → length (raised xs d) ≡ length xs
 length-raised xs d = length-set xs d (at xs d + 1)
+
+pub at_raised_by_same : (xs : List ℕ) (d n : ℕ) → d < length xs → at (raised_by xs d n) d ≡ at xs d + n
+at_raised_by_same xs d n h = at_set_same xs d (at xs d + n) h
+
+pub at_raised_by_other : (xs : List ℕ) (d n k : ℕ) → k ≢ d → at (raised_by xs d n) k ≡ at xs k
+at_raised_by_other xs d n k m = at_set_other xs d (at xs d + n) k m
+
+pub length-raised_by : (xs : List ℕ) (d n : ℕ) → length (raised_by xs d n) ≡ length xs
+length-raised_by xs d n = length-set xs d (at xs d + n)
+
+-- none more changes nothing
+pub raised_by_none : (xs : List ℕ) (d : ℕ) → raised_by xs d 0 ≡ xs
+raised_by_none [] d = refl
+raised_by_none (x ∷ xs) zero = let e : x + 0 ≡ x = omega arith in cc
+raised_by_none (x ∷ xs) (suc d) = ap (λ (ys : List ℕ). x ∷ ys) (raised_by_none xs d)
 
 pub at_past : (xs : List ℕ) (k : ℕ) → length xs ≤ k → at xs k ≡ 0
 at_past [] k h = refl
@@ -76,3 +91,26 @@ zero_row xs n e zeros = same_rows xs (replicate n 0) (e ∙ sym (length-replicat
 
 pub sum_row : (new xs ys : List ℕ) → length new ≡ length xs → length ys ≡ length xs → ((k : ℕ) → at new k ≡ at xs k + at ys k) → new ≡ sums xs ys
 sum_row new xs ys e f h = same_rows new (sums xs ys) (e ∙ sym (length-sums xs ys f)) (λ k. h k ∙ sym (at_sums xs ys k))
+
+-- an entry that moves from one row to another
+pub moved_entry : (into from : List ℕ) (d v dir : ℕ) → d < length into → d < length from → v ≡ at into d + at from d → at (set into d v) dir + at (set from d 0) dir ≡ at into dir + at from dir
+moved_entry into from d v dir inside within is = entry (ℕ_discrete dir d)
+  where
+    entry : Dec (dir ≡ d) → at (set into d v) dir + at (set from d 0) dir ≡ at into dir + at from dir
+    entry (yes e) = omega (arith, is, ap (at (set into d v)) e, at_set_same into d v inside, ap (at (set from d 0)) e, at_set_same from d 0 within, ap (at into) e, ap (at from) e)
+    entry (no n) = omega (arith, at_set_other into d v dir n, at_set_other from d 0 dir n)
+
+pub emptied_entry : (from : List ℕ) (d dir : ℕ) → d < length from → at (set from d 0) dir ≤ at from dir
+emptied_entry from d dir within = entry (ℕ_discrete dir d)
+  where
+    entry : Dec (dir ≡ d) → at (set from d 0) dir ≤ at from dir
+    entry (yes e) = omega (arith, ap (at (set from d 0)) e, at_set_same from d 0 within)
+    entry (no n) = omega (arith, at_set_other from d 0 dir n)
+
+pub emptied_next : (from noted : List ℕ) (d j k : ℕ) → d ≡ at noted j → d < length from → (k < j → at from (at noted k) ≡ 0) → k < j + 1 → at (set from d 0) (at noted k) ≡ 0
+emptied_next from noted d j k is within before less = entry (ℕ_discrete (at noted k) d) (ℕ_discrete k j)
+  where
+    entry : Dec (at noted k ≡ d) → Dec (k ≡ j) → at (set from d 0) (at noted k) ≡ 0
+    entry (yes e) _ = ap (at (set from d 0)) e ∙ at_set_same from d 0 within
+    entry (no n) (yes e) = absurd (n (ap (at noted) e ∙ sym is))
+    entry (no n) (no m) = at_set_other from d 0 (at noted k) n ∙ before (omega arith)

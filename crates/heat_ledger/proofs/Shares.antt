@@ -2,15 +2,16 @@
 use Rattle.std.proofs.Common.{◌≡◌, ◌≢◌, ℕ, ◌+◌, ◌*◌, ◌<◌, ◌≤◌, List, length, replicate, refl, sym, ap, ◌∙◌, arith}
 use native.Mathlib.Decide.{ℕ_discrete}
 use Rattle.heat_ledger.specs.declared.tally.Hand.{Hand}
-use Rattle.heat_ledger.specs.Rows.{at, sums, raised}
+use Rattle.heat_ledger.specs.Rows.{at, sums, raised, raised_by}
 use Rattle.heat_ledger.specs.Tally.{most, both_of, holding, IsLearned}
 use Rattle.heat_ledger.specs.Ledger.{hit_slot, begun_slot, spread, unit, IsShare}
-use Rattle.heat_ledger.proofs.RowLemmas.{at_sums, at_raised_same, at_raised_other, at_replicate, length-raised, length-sums, length-replicate}
+use Rattle.heat_ledger.proofs.RowLemmas.{at_sums, at_raised_same, at_raised_other, at_raised_by_same, at_raised_by_other, at_replicate, length-raised, length-raised_by, length-sums, length-replicate}
 use Rattle.heat_ledger.proofs.Slots.{at_spread_hits, at_spread_begun, at_unit_same, at_unit_other}
 
-pub hit_kept : (limit : ℕ) (hand : Hand) (weight d : ℕ) (hits pending begun : List ℕ) → IsShare limit hand weight hits pending begun → d < limit → at hits d < most
-    → IsShare limit hand weight (raised hits d) (raised pending d) begun
-hit_kept limit hand weight d hits pending begun s inside less = record {
+-- a share that counts so many hits of a directory stays one, while they find room
+pub count_kept : (limit : ℕ) (hand : Hand) (weight d n : ℕ) (hits pending begun : List ℕ) → IsShare limit hand weight hits pending begun → d < limit → at hits d + n ≤ weight * most
+    → IsShare limit hand weight (raised_by hits d n) (raised_by pending d n) begun
+count_kept limit hand weight d n hits pending begun s inside fits = record {
   holds = s.holds;
   weighs = s.weighs;
   some = s.some;
@@ -18,8 +19,8 @@ hit_kept limit hand weight d hits pending begun s inside less = record {
   known = λ k. known k (ℕ_discrete k d);
   begins = s.begins;
   room = λ k. room k (ℕ_discrete k d);
-  as_hits = length-raised hits d ∙ s.as_hits;
-  as_pending = length-raised pending d ∙ s.as_pending;
+  as_hits = length-raised_by hits d n ∙ s.as_hits;
+  as_pending = length-raised_by pending d n ∙ s.as_pending;
   as_begun = s.as_begun;
 }
   where
@@ -29,17 +30,21 @@ hit_kept limit hand weight d hits pending begun s inside less = record {
     in_pending : d < length pending
     in_pending = let e = s.as_pending in omega arith
 
-    known : (k : ℕ) → Dec (k ≡ d) → at hand.amounts (hit_slot k) + at (raised pending d) k ≡ at (raised hits d) k
+    known : (k : ℕ) → Dec (k ≡ d) → at hand.amounts (hit_slot k) + at (raised_by pending d n) k ≡ at (raised_by hits d n) k
     known k (yes e) =
-        let p : at (raised pending d) k ≡ at pending d + 1 = ap (at (raised pending d)) e ∙ at_raised_same pending d in_pending in
-        let q : at (raised hits d) k ≡ at hits d + 1 = ap (at (raised hits d)) e ∙ at_raised_same hits d in_hits in
+        let p : at (raised_by pending d n) k ≡ at pending d + n = ap (at (raised_by pending d n)) e ∙ at_raised_by_same pending d n in_pending in
+        let q : at (raised_by hits d n) k ≡ at hits d + n = ap (at (raised_by hits d n)) e ∙ at_raised_by_same hits d n in_hits in
         let r = s.known k in let u : at pending k ≡ at pending d = ap (at pending) e in let v : at hits k ≡ at hits d = ap (at hits) e in
         omega arith
-    known k (no n) = let p = at_raised_other pending d k n in let q = at_raised_other hits d k n in let r = s.known k in omega arith
+    known k (no m) = let p = at_raised_by_other pending d n k m in let q = at_raised_by_other hits d n k m in let r = s.known k in omega arith
 
-    room : (k : ℕ) → Dec (k ≡ d) → at (raised hits d) k ≤ weight * most
-    room k (yes e) = let q : at (raised hits d) k ≡ at hits d + 1 = ap (at (raised hits d)) e ∙ at_raised_same hits d in_hits in let w = s.some in omega arith
-    room k (no n) = let q = at_raised_other hits d k n in let r = s.room k in omega arith
+    room : (k : ℕ) → Dec (k ≡ d) → at (raised_by hits d n) k ≤ weight * most
+    room k (yes e) = let q : at (raised_by hits d n) k ≡ at hits d + n = ap (at (raised_by hits d n)) e ∙ at_raised_by_same hits d n in_hits in omega arith
+    room k (no m) = let q = at_raised_by_other hits d n k m in let r = s.room k in omega arith
+
+pub hit_kept : (limit : ℕ) (hand : Hand) (weight d : ℕ) (hits pending begun : List ℕ) → IsShare limit hand weight hits pending begun → d < limit → at hits d < most
+    → IsShare limit hand weight (raised hits d) (raised pending d) begun
+hit_kept limit hand weight d hits pending begun s inside less = count_kept limit hand weight d 1 hits pending begun s inside (let w = s.some in omega arith)
 
 -- what a directory's counts are at most
 pub hits_fit : (limit : ℕ) (hand : Hand) (weight : ℕ) (hits pending begun : List ℕ) → IsShare limit hand weight hits pending begun → (d : ℕ) → (at hits d ≤ 65 * most) × (at pending d ≤ 65 * most)

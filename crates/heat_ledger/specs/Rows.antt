@@ -1,5 +1,5 @@
 -- Rows of counts, one count for each directory number below a limit.
-use Rattle.std.specs.Prelude.{◌≡◌, ℕ, ◌+◌, ◌-◌, List, [], ◌∷◌, slice_index_or, slice_set, filter, nat_lt}
+use Rattle.std.specs.Prelude.{◌≡◌, ℕ, ◌+◌, ◌-◌, List, [], ◌∷◌, ◌++◌, length, replicate, slice_index_or, slice_set, filter, nat_lt}
 
 -- the count of a directory, and 0 past the limit
 abbrev pub at : List ℕ → ℕ → ℕ
@@ -20,6 +20,14 @@ differences (x ∷ xs) (y ∷ ys) = (x - y) ∷ differences xs ys
 -- the row with one more at this directory
 abbrev pub raised : List ℕ → ℕ → List ℕ
 raised counts dir = slice_set counts dir (at counts dir + 1)
+
+-- the row with so many more at this directory
+abbrev pub raised_by : List ℕ → ℕ → ℕ → List ℕ
+raised_by counts dir more = slice_set counts dir (at counts dir + more)
+
+-- the counts that are kept, and 0 for each further directory below the limit
+abbrev pub padded : ℕ → List ℕ → List ℕ
+padded limit counts = counts ++ replicate (limit - length counts) 0
 
 -- no directory has a count
 abbrev pub IsZero : List ℕ → Type 0

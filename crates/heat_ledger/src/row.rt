@@ -1,7 +1,8 @@
 //! Counts by directory, and which directories have one.
 //!
 //! A row notes each directory at its first count, so that what is done with all counts takes time
-//! for the directories that were counted, and not for all that there could be.
+//! for the directories that were counted, and not for all that there could be. It asks for all its memory when it is made,
+//! and writes to it as far as the last directory that was counted: a row without counts touches none.
 ghost use Rattle.std.specs.Prelude.{◌≡◌, ℕ, ◌+◌, ◌^◌, ◌<◌, ◌≤◌, ◌↔◌, [], IsTrue, IfOk, length, map, slice_set, vec_capacity};
 ghost use Rattle.heat_ledger.specs.Rows.{at, IsZero};
 ghost use Rattle.heat_ledger.specs.Touched.{IsTracked};
@@ -13,6 +14,8 @@ use std::marker::Model;
 /// A count for each directory below a limit. A contract sees the list of the counts.
 #[derive(Drop)]
 pub(crate) struct Row {
+    limit: u32,
+    // Up to the last directory that had a count, or not as far: the others have none.
     counts: Vec<u64>,
     // The directories that have a count, in the order of their first ones.
     touched: Vec<u32>,
@@ -20,33 +23,38 @@ pub(crate) struct Row {
 
 impl Model for Row {
     ghost use Rattle.std.specs.Prelude.{List, ℕ, ◌≤◌, length, vec_capacity};
+    ghost use Rattle.heat_ledger.specs.Rows.{padded};
     ghost use Rattle.heat_ledger.specs.Touched.{IsTracked};
 
     ghost Value = { List ℕ };
 
-    ghost view = { λ row. row.counts.items };
+    ghost view = { λ row. padded row.limit row.counts.items };
 
-    ghost invariant = { λ row. IsTracked row.counts.items row.touched.items × (length row.counts.items ≤ vec_capacity row.touched) };
+    ghost invariant = { λ row. IsTracked row.counts.items row.touched.items × (length row.counts.items ≤ row.limit) × (row.limit ≤ vec_capacity row.counts) × (row.limit ≤ vec_capacity row.touched) };
 }
 
 impl Row {
     ghost use Rattle.std.specs.Prelude.{◌≡◌, ℕ, ◌+◌, ◌^◌, ◌<◌, ◌↔◌, IsTrue, IfOk, length, replicate};
-    ghost use Rattle.heat_ledger.specs.Rows.{at, sums, raised, counted_rows, IsZero};
+    ghost use Rattle.heat_ledger.specs.Rows.{at, sums, raised, raised_by, counted_rows, IsZero};
 
     /// No directory has a count.
     pub(crate) fn new(alloc: Global, limit: u32) -> Result<Row, AllocError>
         ensures { IfOk result (λ row. row ≡ replicate limit 0) }
     {
-        let counts = vec![in alloc; 0u64; limit as usize]?;
+        let counts = Vec::with_capacity(alloc, limit as usize)?;
         let touched = Vec::with_capacity(alloc, limit as usize)?;
-        Ok(Row { counts, touched })
+        Ok(Row {
+            limit,
+            counts,
+            touched,
+        })
     }
 
     /// How many directories there are room for.
     pub(crate) fn len(&self) -> usize
         ensures { result ≡ length self.now }
     {
-        self.counts.len()
+        self.limit as usize
     }
 
     /// The count of a directory, and 0 where there is none.
@@ -62,7 +70,20 @@ impl Row {
         requires fits { at self.old dir + 1 < 2 ^ 64 }
         ensures { self.new ≡ raised self.old dir }
     {
+        reach(&mut self.counts, dir.number() as usize + 1);
         add(&mut self.counts, &mut self.touched, dir.number(), 1);
+    }
+
+    /// So many more for a directory, which may be none.
+    pub(crate) fn raise_by(&mut self, dir: Dir, more: u64)
+        requires inside { dir < length self.old }
+        requires fits { at self.old dir + more < 2 ^ 64 }
+        ensures { self.new ≡ raised_by self.old dir more }
+    {
+        if more > 0 {
+            reach(&mut self.counts, dir.number() as usize + 1);
+            add(&mut self.counts, &mut self.touched, dir.number(), more);
+        }
     }
 
     /// Whether no directory has a count.
@@ -99,8 +120,26 @@ impl Row {
         requires fits { (dir : ℕ) → at self.old dir + at other dir < 2 ^ 64 }
         ensures { self.new ≡ sums self.old other }
     {
-        let Row { counts, touched } = other;
+        let Row {
+            limit: _limit,
+            counts,
+            touched,
+        } = other;
+        reach(&mut self.counts, counts.len());
         add_all(&mut self.counts, &mut self.touched, &counts, &touched);
+    }
+}
+
+// Lets a list have so many counts at least. Those that come are 0.
+fn reach(counts: &mut Vec<u64>, count: usize)
+    requires { count ≤ vec_capacity counts.old }
+    ensures same { (dir : ℕ) → at counts.new.items dir ≡ at counts.old.items dir }
+    ensures reached { count ≤ length counts.new.items }
+    ensures within { (limit : ℕ) → length counts.old.items ≤ limit → count ≤ limit → length counts.new.items ≤ limit }
+    ensures capacity { vec_capacity counts.new ≡ vec_capacity counts.old }
+{
+    while counts.len() < count {
+        counts.push_reserved(0);
     }
 }
 
@@ -113,7 +152,7 @@ fn add(counts: &mut Vec<u64>, touched: &mut Vec<u32>, dir: u32, more: u64)
     requires fits { at counts.old.items dir + more < 2 ^ 64 }
     ensures counts { counts.new.items ≡ slice_set counts.old.items dir (at counts.old.items dir + more) }
     ensures tracked { IsTracked counts.new.items touched.new.items }
-    ensures capacity { vec_capacity touched.new ≡ vec_capacity touched.old }
+    ensures capacity { (vec_capacity touched.new ≡ vec_capacity touched.old) × (vec_capacity counts.new ≡ vec_capacity counts.old) }
 {
     let place = dir as usize;
     if counts[place] == 0 {
@@ -131,12 +170,12 @@ fn add_all(
 )
     requires tracked { IsTracked counts.old.items touched.old.items × IsTracked others.now.items other_touched.now.items }
     requires room { length counts.old.items ≤ vec_capacity touched.old }
-    requires lengths { length others.now.items ≡ length counts.old.items }
+    requires lengths { length others.now.items ≤ length counts.old.items }
     requires fits { (dir : ℕ) → at counts.old.items dir + at others.now.items dir < 2 ^ 64 }
     ensures sums { (dir : ℕ) → at counts.new.items dir ≡ at counts.old.items dir + at others.now.items dir }
     ensures length { length counts.new.items ≡ length counts.old.items }
     ensures tracked { IsTracked counts.new.items touched.new.items }
-    ensures capacity { vec_capacity touched.new ≡ vec_capacity touched.old }
+    ensures capacity { (vec_capacity touched.new ≡ vec_capacity touched.old) × (vec_capacity counts.new ≡ vec_capacity counts.old) }
 {
     for j in 0..other_touched.len() {
         let dir = other_touched[j];
@@ -146,11 +185,12 @@ fn add_all(
 
 // Moves the counts of the directories that have one.
 fn move_all(into: &mut Vec<u64>, from: &mut Vec<u64>, touched: &Vec<u32>)
-    requires lengths { length from.old.items ≡ length into.old.items }
+    requires lengths { length from.old.items ≤ length into.old.items }
     requires fits { (dir : ℕ) → at into.old.items dir + at from.old.items dir < 2 ^ 64 }
     requires tracked { IsTracked from.old.items touched.now.items }
     ensures sums { (dir : ℕ) → at into.new.items dir ≡ at into.old.items dir + at from.old.items dir }
     ensures zero { IsZero from.new.items }
+    ensures capacity { vec_capacity from.new ≡ vec_capacity from.old }
     ensures lengths { (length into.new.items ≡ length into.old.items) × (length from.new.items ≡ length from.old.items) }
 {
     for j in 0..touched.len() {

@@ -16,8 +16,9 @@ pub const HIT_LIMIT: u64 = 1 << 56;
 /// by directory. A share that was opened has the weight 1, and shares that were joined have the
 /// sum of their weights.
 ///
-/// `J` names the board whose book it is. All memory was taken when the book was opened: 36 bytes
-/// a directory.
+/// `J` names the board whose book it is. All memory was asked for when the book was opened: 36 bytes
+/// a directory. A share writes to it as far as the last directory that it counted, so one that
+/// counts nothing takes up address space alone.
 #[derive(Drop)]
 pub struct Share<J: Naming> {
     pub(crate) desk: Arc<Desk, Global>,
@@ -42,8 +43,8 @@ impl<J: Naming> Model for Share<J> {
 }
 
 impl<J: Naming> Share<J> {
-    ghost use Rattle.std.specs.Prelude.{◌≡◌, ℕ, List, ◌+◌, ◌^◌, ◌<◌, ◌≤◌, ◌↔◌, IsTrue, IsErrOf, IfOk, OnOk, OnErr, length, fold};
-    ghost use Rattle.heat_ledger.specs.Rows.{at, sums, raised, counted_rows, with_row};
+    ghost use Rattle.std.specs.Prelude.{◌≡◌, ℕ, List, ◌+◌, ◌-◌, ◌^◌, ◌<◌, ◌≤◌, ◌↔◌, IsTrue, IsErrOf, IfOk, OnOk, OnErr, length, min, fold};
+    ghost use Rattle.heat_ledger.specs.Rows.{at, sums, raised, raised_by, counted_rows, with_row};
     ghost use Rattle.heat_ledger.specs.Ledger.{IsClean, IsSeated, IsShare};
 
     /// The hits on a directory that this share has counted, deposited or not.
@@ -116,6 +117,20 @@ impl<J: Naming> Share<J> {
         self.hits.raise(dir);
         self.pending.raise(dir);
         Ok(())
+    }
+
+    /// Counts so many hits of a directory as `hit` would, which refuses those that find no room
+    /// below 2^56, and says how many were counted. However many they are, it is one addition.
+    pub fn count(&mut self, dir: Dir, hits: u32) -> u32
+        requires inside { dir < J.limit }
+        ensures counted { result ≡ min hits (2 ^ 56 - at self.old.hits dir) }
+        ensures share { self.new ≡ record self.old { hits = raised_by self.old.hits dir result; pending = raised_by self.old.pending dir result } }
+    {
+        let room = HIT_LIMIT.saturating_sub(self.hits.get(dir));
+        let counted = u64::from(hits).min(room);
+        self.hits.raise_by(dir, counted);
+        self.pending.raise_by(dir, counted);
+        counted as u32
     }
 
     /// Takes in another share of the same book.

@@ -189,6 +189,11 @@ fn count_surely<J: Naming, R: Abort>(
         (0, 0)
     );
     assert_eq!(rt; (book.limit(), share.weight()), (4, 1));
+    assert_eq!(rt; share.count(last, 1_000_000), 1_000_000);
+    assert_eq!(rt;
+        (share.hits(last), share.pending(last)),
+        (1_000_003, 1_000_000)
+    );
     Ok(())
 }
 

@@ -51,7 +51,7 @@ module _ {S : Type 0} (answers : S → ℕ → List ℕ → Answer → S → Typ
   pub ends_last : (bytes text : List ℕ) (now new : S) (p : Progress) (accepted : Bool) (a : Answer) (s : Stands answers strict start bytes text now p) → (strict && not p.accepted) ≡ false → s.rest ≢ [] → Takes answers now p.number s.rest a new → accepted ≡ (p.accepted && a.accepted) → Ends answers strict start bytes text a.text new accepted
   ends_last bytes text now new p accepted a s going some takes good = record {
     replies = s.replies ++ a ∷ [];
-    run = subst (λ (ls : List (List ℕ)). Run answers strict start 1 ls (s.replies ++ a ∷ []) new) (sym (lines_last bytes s.lines s.rest s.split s.are_lines s.is_line some)) (one_more answers strict start bytes text now new p a s going takes);
+    run = subst (λ (ls : List (List ℕ)). Run answers strict start 1 ls (s.replies ++ a ∷ []) new) (sym (lines_last bytes s.lines s.rest s.split s.are_lines s.is_line some)) (one_more answers strict start bytes text s.rest now new p a s going takes);
     good = good ∙ ap (λ (v : Bool). v && a.accepted) s.good ∙ sym (all_accepted_push s.replies a);
     written = one_text answers strict start bytes text now p a s;
   }
@@ -63,7 +63,7 @@ module _ {S : Type 0} (answers : S → ℕ → List ℕ → Answer → S → Typ
     replies = s.replies ++ a ∷ [];
     now = new;
     split = lines_last bytes s.lines s.rest s.split s.are_lines s.is_line some ∙ sym (append-nil (s.lines ++ s.rest ∷ []));
-    run = one_more answers strict start bytes text now new p a s going takes;
+    run = one_more answers strict start bytes text s.rest now new p a s going takes;
     written = one_text answers strict start bytes text now p a s;
   }
 

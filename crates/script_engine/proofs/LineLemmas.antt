@@ -1,5 +1,6 @@
 -- The lines of bytes that are whole lines and a rest.
-use Rattle.std.proofs.Common.{◌≡◌, ◌≢◌, ℕ, false, ◌==◌, List, [], ◌∷◌, ◌++◌, refl, sym, ap, ◌∙◌, append_assoc}
+use Rattle.std.proofs.Common.{◌≡◌, ◌≢◌, ℕ, zero, suc, ◌<◌, true, ◌==◌, List, [], ◌∷◌, ◌++◌, length, take, drop, get_or, refl, sym, ap, ◌∙◌, append_assoc, arith}
+use Rattle.std.proofs.lemmas.Bool.{false_from_ne_true}
 use Rattle.std.specs.List.{AllByRecursion}
 use Rattle.script_engine.specs.Lines.{lines_of, whole_lines, IsLine, ended}
 
@@ -7,9 +8,25 @@ pub ended_push : (lines : List (List ℕ)) (line : List ℕ) → ended (lines ++
 ended_push [] line = refl
 ended_push (l ∷ lines) line = ap (λ (t : List ℕ). l ++ 10 ∷ t) (ended_push lines line) ∙ sym (append_assoc l (10 ∷ ended lines) (line ++ 10 ∷ []))
 
-pub is_line_push : (line : List ℕ) (b : ℕ) → IsLine line → (b == 10) ≡ false → IsLine (line ++ b ∷ [])
-is_line_push [] b is plain = (plain, tt)
-is_line_push (c ∷ line) b is plain = (is.0, is_line_push line b is.1 plain)
+pub is_line_append : (line part : List ℕ) → IsLine line → IsLine part → IsLine (line ++ part)
+is_line_append [] part is more = more
+is_line_append (b ∷ line) part is more = (is.0, is_line_append line part is.1 more)
+
+-- what stands before the first newline is a line
+pub is_line_before : (bytes : List ℕ) (n : ℕ) → ((k : ℕ) → k < n → (get_or bytes k 0 == 10) ≡ true → ⊥) → IsLine (take n bytes)
+is_line_before bytes zero none = tt
+is_line_before [] (suc n) none = tt
+is_line_before (b ∷ bytes) (suc n) none = (false_from_ne_true (b == 10) (none 0 (omega arith)), is_line_before bytes n (λ k inside. none (suc k) (omega arith)))
+
+pub is_line_whole : (bytes : List ℕ) → ((k : ℕ) → k < length bytes → (get_or bytes k 0 == 10) ≡ true → ⊥) → IsLine bytes
+is_line_whole [] none = tt
+is_line_whole (b ∷ bytes) none = (false_from_ne_true (b == 10) (none 0 (omega arith)), is_line_whole bytes (λ k inside. none (suc k) (omega arith)))
+
+-- the bytes before a newline, the newline, and the bytes behind it
+pub cut_at : (bytes : List ℕ) (n : ℕ) → n < length bytes → get_or bytes n 0 ≡ 10 → bytes ≡ take n bytes ++ 10 ∷ drop (suc n) bytes
+cut_at [] n inside is = absurd (omega arith)
+cut_at (b ∷ bytes) zero inside is = ap (λ (c : ℕ). c ∷ bytes) is
+cut_at (b ∷ bytes) (suc n) inside is = ap (λ (t : List ℕ). b ∷ t) (cut_at bytes n (omega arith) is)
 
 pub all_push : (lines : List (List ℕ)) (line : List ℕ) → AllByRecursion IsLine lines → IsLine line → AllByRecursion IsLine (lines ++ line ∷ [])
 all_push [] line all is = (is, tt)

@@ -1,13 +1,15 @@
-//! How far a run has come: the line that has begun, and what one more byte of the script does.
+//! How far a run has come: the line that has begun, and what the next piece of the script does.
 ghost use Rattle.std.specs.Prelude.{◌≡◌, ◌≢◌, MatchBool, Bool, ℕ, ◌+◌, ◌<◌, ◌≤◌, ◌^◌, ◌++◌, ◌∷◌, [], List, OnOk, OnErr, IfOk, true, false, not, ◌&&◌, length};
 ghost use Rattle.std.specs.Io.KnownBytes.{Appends};
 ghost use Rattle.script_engine.specs.Known.{AppendsFront};
 ghost use Rattle.script_engine.specs.Answers.{Answer, Takes};
+ghost use Rattle.script_engine.specs.Lines.{IsLine};
 ghost use Rattle.script_engine.specs.Progress.{Holds, Stands, Broken, Ends, Cut};
 
 use crate::interpreter::Interpreter;
 use crate::writes::{WriteFailed, write_refusal};
 use mds_types::Refusal;
+use memchr::memchr;
 use std::alloc::Global;
 use std::io::Write;
 
@@ -21,8 +23,24 @@ pub(crate) struct Progress {
 }
 
 impl Progress {
-    /// Has the line answered that ends here.
-    fn answer_line<I: Interpreter, W: Write>(
+    /// Puts bytes of the line into the buffer, where there is room.
+    fn hold(&mut self, part: &[u8])
+        ensures kept { self.new.has_room ≡ true → (self.old.has_room ≡ true) × (self.new.line.items ≡ self.old.line.items ++ part.now) }
+        ensures holds { (rest : List ℕ) → Holds rest self.old.line.items self.old.has_room
+            → Holds (rest ++ part.now) self.new.line.items self.new.has_room }
+        ensures number { self.new.number ≡ self.old.number }
+        ensures accepted { self.new.accepted ≡ self.old.accepted }
+    {
+        if !self.has_room {
+            return;
+        }
+        if self.line.extend_from_slice(part).is_err() {
+            self.has_room = false;
+        }
+    }
+
+    /// Has the line answered that the buffer has.
+    fn answer_held<I: Interpreter, W: Write>(
         &self,
         alloc: Global,
         interpreter: &mut I,
@@ -44,27 +62,54 @@ impl Progress {
         }
     }
 
-    /// Ends the line, and begins the next.
+    /// Has the line answered that ends with these bytes. One that has just begun is handed on as it is.
+    fn answer_line<I: Interpreter, W: Write>(
+        &mut self,
+        alloc: Global,
+        interpreter: &mut I,
+        writer: &mut W,
+        part: &[u8],
+    ) -> Result<bool, WriteFailed>
+        requires { I.ready }
+        ensures ok { IfOk result (λ accepted. (line : List ℕ) → (self.old.has_room ≡ true → self.old.line.items ++ part.now ≡ line)
+            → (a : Answer) × Takes I.answers interpreter.old self.old.number line a interpreter.new
+            × (accepted ≡ a.accepted) × Appends (W.contents writer.old) (W.contents writer.new) a.text) }
+        ensures err { OnErr result ((line : List ℕ) → (self.old.has_room ≡ true → self.old.line.items ++ part.now ≡ line)
+            → (a : Answer) × Takes I.answers interpreter.old self.old.number line a interpreter.new
+            × AppendsFront (W.contents writer.old) (W.contents writer.new) a.text) }
+        ensures number { self.new.number ≡ self.old.number }
+        ensures accepted { self.new.accepted ≡ self.old.accepted }
+    {
+        if self.has_room && self.line.is_empty() {
+            return interpreter.answer(alloc, self.number, part, writer);
+        }
+        self.hold(part);
+        let accepted = self.answer_held(alloc, interpreter, writer)?;
+        Ok(accepted)
+    }
+
+    /// Ends the line with these bytes, and begins the next.
     fn end_line<I: Interpreter, W: Write>(
         &mut self,
         alloc: Global,
         interpreter: &mut I,
         writer: &mut W,
+        part: &[u8],
     ) -> Result<(), WriteFailed>
         requires ready { I.ready }
         requires number { self.old.number + 1 < 2 ^ 64 }
-        ensures ok { OnOk result ((line : List ℕ) → (self.old.has_room ≡ true → self.old.line.items ≡ line)
+        ensures ok { OnOk result ((line : List ℕ) → (self.old.has_room ≡ true → self.old.line.items ++ part.now ≡ line)
             → (a : Answer) × Takes I.answers interpreter.old self.old.number line a interpreter.new
             × (self.new.accepted ≡ (self.old.accepted && a.accepted))
             × Appends (W.contents writer.old) (W.contents writer.new) a.text) }
         ensures begun { OnOk result ((self.new.line.items ≡ []) × (self.new.has_room ≡ true)
             × (self.new.number ≡ self.old.number + 1)) }
         ensures number { self.new.number ≤ self.old.number + 1 }
-        ensures err { OnErr result ((line : List ℕ) → (self.old.has_room ≡ true → self.old.line.items ≡ line)
+        ensures err { OnErr result ((line : List ℕ) → (self.old.has_room ≡ true → self.old.line.items ++ part.now ≡ line)
             → (a : Answer) × Takes I.answers interpreter.old self.old.number line a interpreter.new
             × AppendsFront (W.contents writer.old) (W.contents writer.new) a.text) }
     {
-        let accepted = self.answer_line(alloc, interpreter, writer)?;
+        let accepted = self.answer_line(alloc, interpreter, writer, part)?;
         self.accepted = self.accepted && accepted;
         self.number += 1;
         self.line.clear();
@@ -72,48 +117,30 @@ impl Progress {
         Ok(())
     }
 
-    /// Puts a byte of the line into the buffer, where there is room.
-    fn hold(&mut self, byte: u8)
-        ensures holds { (rest : List ℕ) → Holds rest self.old.line.items self.old.has_room
-            → Holds (rest ++ byte ∷ []) self.new.line.items self.new.has_room }
-        ensures number { self.new.number ≡ self.old.number }
-        ensures accepted { self.new.accepted ≡ self.old.accepted }
-    {
-        if !self.has_room {
-            return;
-        }
-        if self.line.push(byte).is_err() {
-            self.has_room = false;
-        }
-    }
-
-    /// Takes the next byte. After the end of a strict run that changes nothing.
-    fn take_byte<I: Interpreter, W: Write>(
+    /// Takes a line's last bytes and the newline behind them. After the end of a strict run that changes nothing.
+    fn take_line<I: Interpreter, W: Write>(
         &mut self,
         alloc: Global,
         interpreter: &mut I,
         writer: &mut W,
         strict: bool,
-        byte: u8,
+        part: &[u8],
     ) -> Result<(), WriteFailed>
         requires ready { I.ready }
         requires number { self.old.number + 1 < 2 ^ 64 }
+        requires line { IsLine part.now }
         ensures ok { OnOk result ((start : I) (bytes text : List ℕ) → Stands I.answers strict start bytes text interpreter.old self.old
-            → (more : List ℕ) × Stands I.answers strict start (bytes ++ byte ∷ []) (text ++ more) interpreter.new self.new
+            → (more : List ℕ) × Stands I.answers strict start (bytes ++ (part.now ++ 10 ∷ [])) (text ++ more) interpreter.new self.new
             × Appends (W.contents writer.old) (W.contents writer.new) more) }
         ensures number { self.new.number ≤ self.old.number + 1 }
         ensures err { OnErr result ((start : I) (bytes text : List ℕ) → Stands I.answers strict start bytes text interpreter.old self.old
-            → (tail : List ℕ) × Broken I.answers strict start (bytes ++ byte ∷ []) text tail
+            → (tail : List ℕ) × Broken I.answers strict start (bytes ++ (part.now ++ 10 ∷ [])) text tail
             × AppendsFront (W.contents writer.old) (W.contents writer.new) tail) }
     {
         if strict && !self.accepted {
             return Ok(());
         }
-        if byte == b'\n' {
-            self.end_line(alloc, interpreter, writer)?;
-            return Ok(());
-        }
-        self.hold(byte);
+        self.end_line(alloc, interpreter, writer, part)?;
         Ok(())
     }
 
@@ -136,9 +163,12 @@ impl Progress {
             → (tail : List ℕ) × Broken I.answers strict start (bytes ++ piece.now) text tail
             × AppendsFront (W.contents writer.old) (W.contents writer.new) tail) }
     {
-        for byte in piece {
-            self.take_byte(alloc, interpreter, writer, strict, *byte)?;
+        let mut rest = piece;
+        while let Some(end) = memchr(b'\n', rest) {
+            self.take_line(alloc, interpreter, writer, strict, &rest[..end])?;
+            rest = &rest[end + 1..];
         }
+        self.hold(rest);
         Ok(())
     }
 
@@ -175,7 +205,7 @@ impl Progress {
         if !self.has_begun() {
             return Ok(self.accepted);
         }
-        self.end_line(alloc, interpreter, writer)?;
+        self.end_line(alloc, interpreter, writer, b"")?;
         Ok(self.accepted)
     }
 }

@@ -1,4 +1,4 @@
-use Rattle.std.proofs.Common.{◌≡◌, ◌≢◌, ◌+◌, ◌<◌, ◌≤◌, ℕ, List, set, length, refl, sym, ap, ◌∙◌, arith, rules, subst}
+use Rattle.std.proofs.Common.{◌≡◌, ◌+◌, ◌<◌, ℕ, List, set, length, sym, ap, ◌∙◌, arith, rules, subst}
 use native.Mathlib.Decide.{ℕ_discrete}
 use Rattle.heat_ledger.specs.Rows.{at}
 use Rattle.heat_ledger.specs.Touched.{IsTracked}
@@ -75,6 +75,7 @@ loop-j-preserved c =
       search rules,
       search rules,
       subst (λ (l : List ℕ). IsAdded l old others noted (c.loop-j.j + 1)) counts (added_next c.loop-j.counts.items old others noted c.loop-j.j d c.requires.tracked.1 inside found (omega arith) c.loop-j.invariant.3),
+      search rules,
     )
 
 pub returns-clause-sums : goal.returns-clause-sums

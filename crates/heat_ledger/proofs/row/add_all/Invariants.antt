@@ -14,3 +14,4 @@ invariant-loop-j l =
     × IsTracked l.counts.items l.touched.items
     × (vec_capacity l.touched ≡ vec_capacity l.fn.touched)
     × IsAdded l.counts.items l.fn.counts.items l.others.items l.other_touched.items l.j
+    × (vec_capacity l.counts ≡ vec_capacity l.fn.counts)

@@ -1,7 +1,7 @@
-use Rattle.std.proofs.Common.{◌≡◌, ◌<◌, length, ap, arith, rules}
+use Rattle.std.proofs.Common.{◌≡◌, ◌∙◌, ◌+◌, ◌<◌, length, arith, rules}
 use native.Mathlib.Decide.{ℕ_discrete}
 use Rattle.heat_ledger.specs.Rows.{at}
-use Rattle.heat_ledger.proofs.RowLemmas.{at_within}
+use Rattle.heat_ledger.proofs.RowLemmas.{at_within, moved_entry, emptied_entry, emptied_next}
 use Rattle.heat_ledger.proofs.Marks.{tracked_inside, settled}
 use Rattle.heat_ledger.proofs.row.move_all.Goals as goal
 
@@ -41,3 +41,28 @@ pub returns-clause-zero : goal.returns-clause-zero
 returns-clause-zero c dir =
     let i = c.loop-j.invariant in
     settled c.loop-j.from.items c.args.from.now.items c.args.touched.now.items dir c.requires.tracked (i.3 dir) (λ k h. i.4 k (search rules)) (ℕ_discrete (at c.loop-j.from.items dir) 0)
+
+pub loop-j-preserved : goal.loop-j-preserved
+loop-j-preserved c =
+    let d = c.index.result.now in
+    let j = c.loop-j.j in
+    let noted = c.args.touched.now.items in
+    let into = c.loop-j.into.items in
+    let from = c.loop-j.from.items in
+    let i = c.loop-j.invariant in
+    let v = c.index_mut.result.now + c.index-in-loop-j.result.now in
+    let inside : j < length noted = search rules in
+    let found : d ≡ at noted j = search (rules, at_within) in
+    let within : d < length c.args.from.now.items = omega (arith, tracked_inside c.args.from.now.items noted j c.requires.tracked inside) in
+    let there : d < length from = omega (arith, i.1) in
+    let here : d < length into = omega (arith, i.0, c.requires.lengths) in
+    let had : c.index_mut.result.now ≡ at into d = search (rules, at_within) in
+    let came : c.index-in-loop-j.result.now ≡ at from d = search (rules, at_within) in
+    let sum : v ≡ at into d + at from d = omega arith in (
+      search rules,
+      search rules,
+      λ dir. moved_entry into from d v dir here there sum ∙ i.2 dir,
+      λ dir. (let e = emptied_entry from d dir there in let f = i.3 dir in omega arith),
+      λ k less. emptied_next from noted d j k found there (λ before. i.4 k before) less,
+      search rules,
+    )

@@ -1,4 +1,4 @@
-use Rattle.std.proofs.Common.{◌≡◌, ℕ, ◌+◌, ◌<◌, ◌≤◌, length}
+use Rattle.std.proofs.Common.{◌≡◌, ℕ, ◌+◌, ◌<◌, ◌≤◌, length, vec_capacity}
 use Rattle.heat_ledger.specs.Rows.{at}
 use Rattle.heat_ledger.proofs.row.move_all.Given as goal
 
@@ -10,3 +10,4 @@ invariant-loop-j l =
     × ((dir : ℕ) → at l.into.items dir + at l.from.items dir ≡ at l.fn.into.items dir + at l.fn.from.items dir)
     × ((dir : ℕ) → at l.from.items dir ≤ at l.fn.from.items dir)
     × ((k : ℕ) → k < l.j → at l.from.items (at l.touched.items k) ≡ 0)
+    × (vec_capacity l.from ≡ vec_capacity l.fn.from)

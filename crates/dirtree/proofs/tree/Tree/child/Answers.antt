@@ -2,7 +2,7 @@ use Rattle.std.proofs.Common.{◌≡◌, ap, sym, ◌∙◌, refl, ◌<◌, arit
 use Rattle.dirtree.specs.Tree.{Directories, child_of}
 use Rattle.dirtree.specs.Keeps.{entries_of, indexed_at}
 use Rattle.dirtree.proofs.Nodes.{child_of-indexed}
-use Rattle.dirtree.proofs.Sound.{indexed_below, indexed_there}
+use Rattle.dirtree.proofs.Sound.{indexed_below, indexed_named, indexed_there}
 use Rattle.dirtree.proofs.tree.Tree.child.Goals as goal
 
 pub returns-in-Some-clause-child : goal.returns-in-Some-clause-child
@@ -31,3 +31,8 @@ returns-in-Some-clause-there c =
     let read : indexed_at c.self.inside.nodes.items c.args.parent c.args.name.now ≡ Some c.in-Some.child = sym (c.in-Some.ensures ∙ rw (c.deref.ensures.value, c.number.ensures) refl) in
     let view : entries_of c.self.inside.nodes.items ≡ c.args.self.now.entries = ap (λ (t : Directories). t.entries) c.self.view_is in
     rw (c.new.ensures, ← view) (indexed_there c.self.inside.limit c.self.inside.nodes.items c.args.parent c.in-Some.child c.args.name.now c.self.invariant read)
+
+pub returns-in-Some-clause-named : goal.returns-in-Some-clause-named
+returns-in-Some-clause-named c =
+    let read : indexed_at c.self.inside.nodes.items c.args.parent c.args.name.now ≡ Some c.in-Some.child = sym (c.in-Some.ensures ∙ rw (c.deref.ensures.value, c.number.ensures) refl) in
+    indexed_named c.self.inside.limit c.self.inside.nodes.items c.args.parent c.in-Some.child c.args.name.now c.self.invariant read

@@ -1,4 +1,4 @@
-use Rattle.std.proofs.Common.{◌≡◌, ◌<◌, ℕ, List, length, map, ap, sym, ◌∙◌, arith, rules, subst, All, IfOk}
+use Rattle.std.proofs.Common.{◌≡◌, ◌<◌, ℕ, List, length, map, sym, ◌∙◌, arith, rules, subst, All, IfOk}
 use Rattle.std.proofs.lemmas.List.Sorted.{IsNonDecreasingBy-from_sort, All-permutation}
 use Rattle.std.specs.List.Sorted.{IsPermutation, IsNonDecreasing}
 use Rattle.heat_ledger.specs.Rows.{at, counted_rows}
@@ -6,6 +6,7 @@ use Rattle.heat_ledger.specs.Touched.{IsTracked}
 use Rattle.heat_ledger.proofs.RowLemmas.{at_within}
 use Rattle.heat_ledger.proofs.Marks.{tracked_inside}
 use Rattle.heat_ledger.proofs.Listed.{sorted_rows}
+use Rattle.heat_ledger.proofs.Padding.{counted_padded}
 use Rattle.heat_ledger.proofs.row.Row.rows.Goals as goal
 
 -- each noted directory is among those that can have a count
@@ -35,5 +36,5 @@ returns c =
     let rows : map (λ d. (d, at counts d)) dirs ≡ counted_rows counts = sorted_rows counts touched dirs c.self.invariant.0 order up in
     let sorted : c.as_slice-2.result.now ≡ dirs = search rules in
     let same : c.as_slice-3.result.now ≡ counts = search rules in
-    let whole : map (λ d. (d, at c.as_slice-3.result.now d)) c.as_slice-2.result.now ≡ counted_rows c.args.self.now = rw (sorted, same, ← c.self.view_is) rows in
+    let whole : map (λ d. (d, at c.as_slice-3.result.now d)) c.as_slice-2.result.now ≡ counted_rows c.args.self.now = rw (sorted, same, ← c.self.view_is) (rows ∙ sym (counted_padded c.self.inside.limit counts)) in
     subst (λ (l : List (ℕ × ℕ)). IfOk c.with_counts.result (λ found. found.items ≡ l)) whole c.with_counts.ensures
