@@ -1,6 +1,6 @@
 //! Shares of the ledger deposit hits, and requests begin.
-ghost use Rattle.std.specs.Prelude.{◌≡◌, ◌≤◌, ◌+◌, ℕ, List, IfOk, OnOk, OnErr, fold, replicate};
-ghost use Rattle.heat_ledger.specs.Ledger.{begun_of, hits_of, pending_of, weight_of};
+ghost use Rattle.std.specs.Prelude.{◌≡◌, ◌≤◌, ◌+◌, ℕ, List, All, true, false, IsErr, IfErr, IfOk, OnOk, OnErr, fold, replicate};
+ghost use Rattle.heat_ledger.specs.Ledger.{IsClean, begun_of, hits_of, pending_of, weight_of};
 ghost use Rattle.heat_ledger.specs.Rows.{at, counted_rows, raised};
 ghost use Rattle.board_state.specs.State.{refusal, happens, warmed};
 ghost use Rattle.board_state.specs.Steps.{IsStep, spelled};
@@ -13,7 +13,7 @@ use dirtree::Tree;
 use export_machine::laws::recorded;
 use export_machine::{Event, Reply};
 use heat_decay::Heat;
-use heat_ledger::Share;
+use heat_ledger::{Missing, Share};
 use mds_types::{Dir, Rank};
 use naming::Naming;
 use std::alloc::Global;
@@ -101,6 +101,22 @@ impl<J: Naming, M: Publisher<J>> BoardState<J, M> {
         ensures same { (self.new ≡ self.old) × (shares.new.items ≡ shares.old.items) }
     {
         self.book.audit(shares);
+    }
+
+    /// Closes the ledger over all its shares, which have nothing pending and are used up: what was counted is what they
+    /// counted. Where some are missing, it says how much weight they have, and hands the shares back. It is no event.
+    pub fn close(&mut self, shares: Vec<Share<J>>) -> Result<(), (Missing, Vec<Share<J>>)>
+        requires { All IsClean shares.items }
+        ensures ok { OnOk result ((self.old.is_open ≡ true) × (self.new ≡ record self.old { is_open = false })) }
+        ensures all { OnOk result (weight_of shares.items ≡ self.old.shares) }
+        ensures hits { OnOk result ((dir : ℕ) → at self.new.state.counted dir ≡ hits_of shares.items dir) }
+        ensures begun { OnOk result ((dir : ℕ) → at self.new.state.begun dir ≡ begun_of shares.items dir) }
+        ensures missing { IfErr result (λ e. (1 ≤ e.0.0) × (e.0.0 + weight_of shares.items ≡ self.old.shares)) }
+        ensures handed_back { IfErr result (λ e. e.1.items ≡ shares.items) }
+        ensures closed { self.old.is_open ≡ false → IsErr result }
+        ensures err { OnErr result (self.new ≡ self.old) }
+    {
+        self.book.close(shares)
     }
 
     /// The hits on a directory that were deposited.

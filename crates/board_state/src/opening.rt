@@ -19,6 +19,31 @@ impl Model for OpenProblem {
     ghost view = { λ o. record { problem = o.problem; dirs = o.dirs.items; changed = o.changed } };
 }
 
+impl OpenProblem {
+    ghost use Rattle.std.specs.Prelude.{◌≡◌};
+
+    /// The problem.
+    pub fn problem(&self) -> &Problem
+        ensures { result.now ≡ self.now.problem }
+    {
+        &self.problem
+    }
+
+    /// The directory of each row of the problem.
+    pub fn dirs(&self) -> &[Dir]
+        ensures { result.now ≡ self.now.dirs }
+    {
+        &self.dirs
+    }
+
+    /// The first event since the opening that changed what the problem was made of.
+    pub fn changed(&self) -> Option<u32>
+        ensures { result ≡ self.now.changed }
+    {
+        self.changed
+    }
+}
+
 /// The event that put a plan in force, with the plan's problem and the directories of the problem's rows.
 #[derive(Drop)]
 pub struct InForce {

@@ -116,6 +116,13 @@ impl<J: Naming, M: Publisher<J>> BoardState<J, M> {
         self.mask.among(self.pins.active())
     }
 
+    /// The problem that is open.
+    pub fn opened(&self) -> &Option<OpenProblem>
+        ensures { result.now ≡ self.now.state.opened }
+    {
+        &self.opened
+    }
+
     /// The plan in force: its problem, the directories of the problem's rows, and the event that adopted it.
     pub fn in_force(&self) -> &Option<InForce>
         ensures { result.now ≡ self.now.state.in_force }

@@ -1,3 +1,4 @@
 pub mod Forced
 pub mod Headline
+pub mod Listing
 pub mod Replays

@@ -1,9 +1,9 @@
 //! The board.
-ghost use Rattle.std.specs.Prelude.{◌≡◌, ◌⊎◌, ℕ, ◌+◌, [], IfOk, IfErr, OnOk, OnErr, MatchBool, None, Some, replicate, true};
+ghost use Rattle.std.specs.Prelude.{◌≡◌, ◌⊎◌, ℕ, ◌+◌, [], All, IfOk, IfErr, IsErr, OnOk, OnErr, MatchBool, None, Some, false, replicate, true};
 ghost use Rattle.mds_types.specs.Certificate.{IsBest, IsCertified};
 ghost use Rattle.mds_types.specs.declared.plan.Plan.{Plan};
 ghost use Rattle.heat_ledger.specs.Opening.{fresh_share};
-ghost use Rattle.heat_ledger.specs.Ledger.{begun_of, hits_of, pending_of, weight_of};
+ghost use Rattle.heat_ledger.specs.Ledger.{IsClean, begun_of, hits_of, pending_of, weight_of};
 ghost use Rattle.heat_ledger.specs.Rows.{at, counted_rows, raised};
 ghost use Rattle.board_state.specs.State.{balance_refusal, happens, next, problem_of, refusal, start};
 ghost use Rattle.board_state.specs.Steps.{is_inner, spelled};
@@ -17,7 +17,7 @@ use board_state::{
     or_memory,
 };
 use export_machine::{Event, Reply};
-use heat_ledger::Share;
+use heat_ledger::{Missing, Share};
 use mds_types::{Dir, Order, Plan, Problem, Rank, RankSet};
 use naming::Naming;
 use std::alloc::{AllocError, Global};
@@ -246,6 +246,22 @@ impl<J: Naming, M: Publisher<J>> Board<J, M> {
         ensures same { (self.new ≡ self.old) × (shares.new.items ≡ shares.old.items) }
     {
         self.state.audit(shares);
+    }
+
+    /// Closes the ledger over all its shares, which have nothing pending and are used up: what was counted is what they
+    /// counted. Where some are missing, it says how much weight they have, and hands the shares back. It is no event.
+    pub fn close(&mut self, shares: Vec<Share<J>>) -> Result<(), (Missing, Vec<Share<J>>)>
+        requires { All IsClean shares.items }
+        ensures ok { OnOk result ((self.old.is_open ≡ true) × (self.new ≡ record self.old { is_open = false })) }
+        ensures all { OnOk result (weight_of shares.items ≡ self.old.shares) }
+        ensures hits { OnOk result ((dir : ℕ) → at self.new.state.counted dir ≡ hits_of shares.items dir) }
+        ensures begun { OnOk result ((dir : ℕ) → at self.new.state.begun dir ≡ begun_of shares.items dir) }
+        ensures missing { IfErr result (λ e. (1 ≤ e.0.0) × (e.0.0 + weight_of shares.items ≡ self.old.shares)) }
+        ensures handed_back { IfErr result (λ e. e.1.items ≡ shares.items) }
+        ensures closed { self.old.is_open ≡ false → IsErr result }
+        ensures err { OnErr result (self.new ≡ self.old) }
+    {
+        self.state.close(shares)
     }
 
     /// Ends the map: its readers find it closed.

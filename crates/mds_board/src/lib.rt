@@ -5,10 +5,13 @@
 #![tactic(auto)]
 
 pub mod board;
+pub mod command;
 pub mod entry;
 mod keeping;
 mod lookups;
 mod reads;
+mod running;
 
 pub use board::Board;
+pub use command::Command;
 pub use entry::Entry;

@@ -1,18 +1,19 @@
 //! What a board says.
-ghost use Rattle.std.specs.Prelude.{◌≡◌, IfOk, MatchOption, None};
+ghost use Rattle.std.specs.Prelude.{◌≡◌, ◌++◌, IfOk, MatchOption, None, OnOk};
 ghost use Rattle.std.specs.Option.{option_map};
 ghost use Rattle.heat_ledger.specs.Rows.{at};
 ghost use Rattle.board_state.specs.State.{pin_orders, usable};
 ghost use Rattle.mds_board.specs.InForce.{IsBestInForce, adopted_at, plan_in_force};
-ghost use Rattle.mds_board.specs.Promises.{IsKept};
+ghost use Rattle.export_machine.specs.Step.{run, start};
+ghost use Rattle.mds_board.specs.Promises.{IsKept, cluster_event, cluster_events};
 
 use crate::board::Board;
 use crate::entry::Entry;
 use authority_map::{Publisher, Told};
-use board_state::{Change, InForce};
+use board_state::{Change, InForce, OpenProblem};
 use dir_pins::Pins;
 use dirtree::Tree;
-use export_machine::Cluster;
+use export_machine::{Cluster, Event};
 use heat_decay::Heat;
 use mds_types::{Dir, Order, Plan, RankSet};
 use naming::Naming;
@@ -24,6 +25,19 @@ impl<J: Naming, M: Publisher<J>> Board<J, M> {
         ensures { result.now ≡ self.now.history }
     {
         &self.history
+    }
+
+    /// The events of the cluster in the history, in order: a directory that was made is `Made`, one that was removed `Gone`. A
+    /// new cluster to which they happen is this board's.
+    pub fn cluster_events(&self, alloc: Global) -> Result<Vec<Event>, AllocError>
+        ensures events { IfOk result (λ found. found.items ≡ cluster_events self.now.history) }
+        ensures again { IfOk result (λ found. run (start self.now.state.directories.limit self.now.state.pins.active) found.items ≡ self.now.state.cluster) }
+    {
+        let mut events = Vec::new(alloc);
+        for entry in &self.history {
+            list_event(alloc, &mut events, &entry.change)?;
+        }
+        Ok(events)
     }
 
     /// What holds of every board, whatever was done to it: its state is the replay of its history, each adopted plan is best
@@ -67,6 +81,13 @@ impl<J: Naming, M: Publisher<J>> Board<J, M> {
         ensures { result ≡ usable self.now.state }
     {
         self.state.usable()
+    }
+
+    /// The problem that is open.
+    pub fn opened(&self) -> &Option<OpenProblem>
+        ensures { result.now ≡ self.now.state.opened }
+    {
+        self.state.opened()
     }
 
     /// The plan in force: its problem, the directories of the problem's rows, and the event that adopted it.
@@ -124,4 +145,17 @@ fn adopted_at(history: &[Entry], event: usize) -> Option<&Plan>
         Change::Adopt(plan) => Some(plan.plan()),
         _ => None,
     }
+}
+
+// Lists the event of the cluster that a change makes, if it makes one.
+fn list_event(alloc: Global, events: &mut Vec<Event>, change: &Change) -> Result<(), AllocError>
+    ensures { OnOk result (events.new.items ≡ events.old.items ++ cluster_event change.now) }
+{
+    match change {
+        Change::Make(parent, _, _) => events.push(Event::Made(*parent))?,
+        Change::Remove(dir) => events.push(Event::Gone(*dir))?,
+        Change::Step(event) => events.push(event.event().copied(alloc)?)?,
+        _ => {}
+    }
+    Ok(())
 }

@@ -1,0 +1,24 @@
+//! What a list asks of a board.
+
+use board_state::Name;
+use export_machine::Event;
+use mds_types::{Dir, RankSet};
+
+/// What a board is asked for.
+#[derive(Drop)]
+pub enum Command {
+    /// Makes a directory below this parent, with this name and so many inodes.
+    Make(Dir, Name, u32),
+    /// Removes a directory.
+    Remove(Dir),
+    /// Pins a directory on a rank or, by -1, takes its own pin away.
+    Pin(Dir, i32),
+    /// Says which ranks the balancer may use.
+    Mask(RankSet),
+    /// Halves all heats.
+    Tick,
+    /// An event of the cluster that neither makes nor removes a directory nor begins a request.
+    Step(Event),
+    /// Opens the problem, solves it and adopts the plan.
+    Balance,
+}

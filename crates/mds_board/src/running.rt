@@ -1,0 +1,84 @@
+//! Lists of commands.
+ghost use Rattle.std.specs.Prelude.{◌≡◌, All, IfOk, OnErr, true};
+ghost use Rattle.board_state.specs.Steps.{is_inner, spelled};
+ghost use Rattle.mds_board.specs.History.{IsAnswer};
+ghost use Rattle.mds_board.specs.Commands.{AreCarriedOut, IsCarriedOut, is_fit};
+
+use crate::board::Board;
+use crate::command::Command;
+use authority_map::Publisher;
+use board_state::{Answer, BoardError, Change, Orders, Solver, or_memory};
+use export_machine::{Event, Reply};
+use naming::Naming;
+use std::alloc::{AllocError, Global};
+
+impl<J: Naming, M: Publisher<J>> Board<J, M> {
+    /// Carries out commands one after the other, whatever the ones before were answered. It gives the answer to each.
+    /// Memory for the answers is asked for before the first command.
+    pub fn run<S: Solver>(
+        &mut self,
+        alloc: Global,
+        solver: &S,
+        commands: &[Command],
+    ) -> Result<Vec<Result<Answer, BoardError>>, AllocError>
+        requires fit { All (λ c. is_fit c ≡ true) commands.now }
+        ensures answers { IfOk result (λ answers. AreCarriedOut self.old commands.now answers.items self.new) }
+        ensures unchanged { OnErr result (self.new ≡ self.old) }
+    {
+        let mut answers = Vec::with_capacity(alloc, commands.len())?;
+        for command in commands {
+            answers.push_reserved(self.carry_out(alloc, solver, command));
+        }
+        Ok(answers)
+    }
+
+    /// Carries out one command.
+    fn carry_out<S: Solver>(
+        &mut self,
+        alloc: Global,
+        solver: &S,
+        command: &Command,
+    ) -> Result<Answer, BoardError>
+        requires fit { is_fit command.now ≡ true }
+        ensures { IsCarriedOut self.old command.now result self.new }
+    {
+        match command {
+            Command::Make(parent, name, inodes) => {
+                let dir = self.make(alloc, *parent, name.as_str(), *inodes)?;
+                Ok(Answer::Dir(dir))
+            }
+            Command::Remove(dir) => {
+                self.remove(*dir)?;
+                Ok(Answer::Done)
+            }
+            Command::Pin(dir, pin) => {
+                self.set_pin(*dir, *pin)?;
+                Ok(Answer::Done)
+            }
+            Command::Mask(mask) => {
+                self.set_mask(*mask)?;
+                Ok(Answer::Done)
+            }
+            Command::Tick => {
+                self.tick()?;
+                Ok(Answer::Done)
+            }
+            Command::Step(event) => Ok(Answer::Reply(self.step_copy(alloc, event)?)),
+            Command::Balance => {
+                let orders = self.balance(alloc, solver)?;
+                Ok(Answer::Orders(Orders::new(orders)))
+            }
+        }
+    }
+
+    /// An event of the cluster, of which a copy is made.
+    fn step_copy(&mut self, alloc: Global, event: &Event) -> Result<Reply, BoardError>
+        requires inner { is_inner event.now ≡ true }
+        ensures { IsAnswer self.old (Change.Step event.now) (spelled Answer.Reply result) self.new }
+    {
+        let Ok(copy) = event.copied(alloc) else {
+            return Err(or_memory(self.state.step_refusal(event)));
+        };
+        self.step(alloc, copy)
+    }
+}
