@@ -1,5 +1,4 @@
 pub mod BoardLemmas
 pub mod CostLemmas
-pub mod CountLemmas
 pub mod ServeLemmas
 pub mod SlashLemmas

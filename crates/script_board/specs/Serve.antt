@@ -8,7 +8,7 @@ use Rattle.export_machine.specs.declared.event.Reply.TheVariants.{Ticket}
 use Rattle.export_machine.specs.Step as machine
 use Rattle.heat_ledger.specs.Ledger.{ShareData}
 use Rattle.heat_ledger.specs.Opening.{fresh_share}
-use Rattle.heat_ledger.specs.Rows.{at, counted_rows, raised}
+use Rattle.heat_ledger.specs.Rows.{at, counted_rows, raised, raised_by}
 use Rattle.board_state.specs.declared.board_error.BoardError.{BoardError}
 use Rattle.board_state.specs.declared.change.Change.{Change}
 use Rattle.board_state.specs.declared.change.Change.TheVariants.{Deposit, Step}
@@ -59,7 +59,7 @@ fitting share l = min l.hits (2 ^ 56 - at share.hits l.dir)
 
 -- a share that counted hits on a directory
 abbrev pub hit_by : ShareData → ℕ → ℕ → ShareData
-hit_by share d hits = record share { hits = slice_set share.hits d (at share.hits d + hits); pending = slice_set share.pending d (at share.pending d + hits) }
+hit_by share d hits = record share { hits = raised_by share.hits d hits; pending = raised_by share.pending d hits }
 
 -- the share that began a request and counted its hits
 abbrev pub counted_in : ShareData → Load → ShareData

@@ -4,14 +4,14 @@ ghost use Rattle.authority_map.specs.Operations.{rank_after};
 ghost use Rattle.dirtree.specs.Tree.{is_there};
 ghost use Rattle.heat_ledger.specs.Rows.{at};
 ghost use Rattle.mds_board.specs.History.{World};
-ghost use Rattle.script_board.specs.Serve.{AreDeposited, AreServed, IsAsked, IsDeposited, IsEnded, IsGone, IsServed, asked_rank, hit_by, met, place_of};
+ghost use Rattle.script_board.specs.Serve.{AreDeposited, AreServed, IsAsked, IsDeposited, IsEnded, IsGone, IsServed, asked_rank, met, place_of};
 
 use crate::fault::Fault;
 use crate::load::Load;
 use crate::script_board::ScriptBoard;
 use authority_map::{MapReader, Publisher};
 use export_machine::{Event, Reply};
-use heat_ledger::{HIT_LIMIT, Share};
+use heat_ledger::Share;
 use mds_board::Board;
 use mds_types::{Dir, Rank};
 use naming::Naming;
@@ -63,21 +63,6 @@ fn place_of<J: Naming>(shares: &[Share<J>], rank: Rank) -> usize
     if place < shares.len() { place } else { 0 }
 }
 
-// Counts hits on a directory, as many as find room, and says how many did.
-fn count<J: Naming>(share: &mut Share<J>, dir: Dir, hits: u32) -> u32
-    requires inside { dir < J.limit }
-    ensures counted { result ≡ min hits (HIT_LIMIT - at share.old.hits dir) }
-    ensures share { share.new ≡ hit_by share.old dir result }
-{
-    let _limit = share.limit();
-    for counted in 0..hits {
-        let Ok(()) = share.hit(dir) else {
-            return counted;
-        };
-    }
-    hits
-}
-
 // A request ends, unless there is no memory for that.
 #[tactic(auto, unfolding(board_state::specs::State::happens))]
 fn end<J: Naming, M: Publisher<J>>(alloc: Global, board: &mut Board<J, M>, begun: Reply)
@@ -105,7 +90,7 @@ fn ask<J: Naming, M: Publisher<J>>(
     match board.begin(share, rank, load.dir) {
         Err(error) => Some(Fault::from(error)),
         Ok(begun) => {
-            let counted = count(share, load.dir, load.hits);
+            let counted = share.count(load.dir, load.hits);
             end(alloc, board, begun);
             if counted == load.hits {
                 None
