@@ -123,8 +123,8 @@ gone_longer : (b : BoardData) (refused : List Fault) (ample : Bool) (new : Board
 gone_longer b refused ample new h =
     subst (λ (x : BoardData). Longer b x) (sym h.8)
     (further b.world.history h.2.world.history h.3.history
-      (all_served_longer (record { world = b.world; shares = b.shares; refused = [] }) (waiting b) h.0 h.2 h.5)
-      (all_deposited_longer h.2.world h.2.shares h.1 h.3 h.4 h.6))
+    (all_served_longer (record { world = b.world; shares = b.shares; refused = [] }) (waiting b) h.0 h.2 h.5)
+    (all_deposited_longer h.2.world h.2.shares h.1 h.3 h.4 h.6))
 
 planned_longer : (b : BoardData) (plan : Plan) (new : BoardData) → new ≡ planned b plan → Longer b new
 planned_longer b plan new is =
