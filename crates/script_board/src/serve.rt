@@ -1,9 +1,6 @@
 //! The command `go`: the waiting requests are served.
-ghost use Rattle.std.specs.Prelude.{◌≡◌, ◌⊎◌, ℕ, ◌+◌, ◌-◌, ◌<◌, ◌≤◌, ◌++◌, ◌∷◌, [], All, Bool, List, IfOk, OnErr, filter, length, min, slice_index, slice_set, vec_len, vec_capacity, true};
-ghost use Rattle.authority_map.specs.Operations.{rank_after};
+ghost use Rattle.std.specs.Prelude.{◌≡◌, ◌<◌, ◌≤◌, ◌++◌, [], All, Bool, List, IfOk, OnErr, filter, length, vec_capacity};
 ghost use Rattle.dirtree.specs.Tree.{is_there};
-ghost use Rattle.heat_ledger.specs.Rows.{at};
-ghost use Rattle.mds_board.specs.History.{World};
 ghost use Rattle.script_board.specs.Serve.{AreDeposited, AreServed, IsAsked, IsDeposited, IsEnded, IsGone, IsServed, asked_rank, met, place_of};
 
 use crate::fault::Fault;
