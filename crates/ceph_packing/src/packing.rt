@@ -25,7 +25,8 @@ pub struct Packing {
 
 /// Whether each of these parts is below `count`.
 pub fn are_parts(part: &[u32], count: u32) -> bool
-    ensures { IsTrue result → (i : ℕ) → i < length part.now → slice_index part.now i < count }
+    ensures parts { IsTrue result → (i : ℕ) → i < length part.now → slice_index part.now i < count }
+    ensures only { All (λ p. p < count) part.now → IsTrue result }
 {
     part.iter().all(|part| *part < count)
 }
@@ -34,6 +35,7 @@ pub fn are_parts(part: &[u32], count: u32) -> bool
 pub fn are_pinned(pinned: &[u64]) -> bool
     ensures size { IsTrue result → length pinned.now ≡ 64 }
     ensures small { IsTrue result → All (λ n. n ≤ 2 ^ 57) pinned.now }
+    ensures only { length pinned.now ≡ 64 → All (λ n. n ≤ 2 ^ 57) pinned.now → IsTrue result }
 {
     pinned.len() == 64 && pinned.iter().all(|heat| *heat <= 1 << 57)
 }
