@@ -55,3 +55,17 @@ narrow-end items text lead n is past =
     ∙ ap (λ (rest : List ℕ). items ++ rest) (sym (narrow-nothing lead))
     ∙ ap (λ (rest : List ℕ). items ++ narrow_behind lead rest) (sym (drop_all n text past))
     ∙ is
+
+-- plain bytes are read as they are, and written so
+pub narrow-plain : (text : List ℕ) → All (λ byte. byte < 128) text → narrow_behind None text ≡ text
+narrow-plain [] all = refl
+narrow-plain (b ∷ text) all =
+    plain_byte b text (All-head (λ byte. byte < 128) b text all)
+    ∙ ap (λ (rest : List ℕ). b ∷ rest) (narrow-plain text (All-tail (λ byte. byte < 128) b text all))
+
+pub wide-plain : (bytes : List ℕ) → All (λ byte. byte < 128) bytes → wide bytes ≡ bytes
+wide-plain [] all = refl
+wide-plain (b ∷ bytes) all =
+    let small : b < 128 = All-head (λ byte. byte < 128) b bytes all in
+    let is : ltb b 128 ≡ true = grind (arith, nat_tests) in
+    rw is (ap (λ (rest : List ℕ). b ∷ rest) (wide-plain bytes (All-tail (λ byte. byte < 128) b bytes all)))

@@ -47,10 +47,25 @@ fn zero_over(word: &mut [u8])
     }
 }
 
+/// Whether `inf` or `nan` stands anywhere, in strings or not. All places are looked at, which a processor does for many at once.
+fn may_have_words(text: &[u8]) -> bool {
+    let (second, third) = (text.get(1..).unwrap_or(&[]), text.get(2..).unwrap_or(&[]));
+    let mut found = false;
+    for ((a, b), c) in text.iter().zip(second).zip(third) {
+        let is_inf = (*a == b'i') & (*b == b'n') & (*c == b'f');
+        let is_nan = (*a == b'n') & (*b == b'a') & (*c == b'n');
+        found |= is_inf | is_nan;
+    }
+    found
+}
+
 /// Writes over each bare word outside of strings. No byte comes to stand elsewhere, so lines and columns stay.
 pub fn write_over_bare_words(text: &mut [u8])
     ensures { length text.new ≡ length text.old }
 {
+    if !may_have_words(text) {
+        return;
+    }
     let mut place = Place::Bare;
     for at in 0..text.len() {
         let byte = text[at];

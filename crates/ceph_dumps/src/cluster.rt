@@ -33,7 +33,7 @@ pub struct Cluster {
 /// The ranks of a file system.
 pub fn read_cluster(alloc: Global, bytes: &[u8]) -> Result<Cluster, DumpError> {
     let text = text_of(alloc, bytes)?;
-    let dump: FileSystemDump = read_json(alloc, bytes, text.as_slice())?;
+    let dump: FileSystemDump = read_json(alloc, text.as_slice())?;
     let MdsMapDump {
         max_mds,
         ranks,

@@ -6,17 +6,15 @@ use crate::wide_bytes::widened;
 use serde::Deserialize;
 use std::alloc::{AllocError, Global};
 
-/// The column, from 1, of the byte that was widened to the one at this column of its line.
+/// The column, from 1, of the byte that was widened to the one at this column of its widened line.
 fn column_of(line: &[u8], wide: usize) -> usize {
-    let mut left = wide;
-    for (column, byte) in line.iter().enumerate() {
-        let width = if *byte < 128 { 1 } else { 2 };
-        if left <= width {
-            return column + 1;
+    let mut column = 0usize;
+    for byte in line.iter().take(wide) {
+        if !matches!(*byte, 128..=191) {
+            column = column.saturating_add(1);
         }
-        left -= width;
     }
-    line.len()
+    column
 }
 
 /// What the reader says of an error, without the place, which it tells in the widened text.
@@ -28,16 +26,16 @@ fn reason_of(alloc: Global, error: &serde_json::Error) -> Result<String, AllocEr
     }
 }
 
-/// The error of the reader, with the column as the file has it.
-fn placed(alloc: Global, bytes: &[u8], error: serde_json::Error) -> Result<DumpError, AllocError> {
+/// The error of the reader of a text, with the column as the file has it.
+fn placed(alloc: Global, text: &[u8], error: serde_json::Error) -> Result<DumpError, AllocError> {
     if error.is_memory() {
         return Ok(DumpError::Memory);
     }
     let (line, wide) = (error.line(), error.column());
     let mut column = wide;
-    for (at, text) in bytes.split(|byte| *byte == b'\n').enumerate() {
+    for (at, here) in text.split(|byte| *byte == b'\n').enumerate() {
         if at + 1 == line {
-            column = column_of(text, wide);
+            column = column_of(here, wide);
         }
     }
     Ok(DumpError::Json {
@@ -55,13 +53,9 @@ pub fn text_of(alloc: Global, bytes: &[u8]) -> Result<Vec<u8>, AllocError> {
 }
 
 /// What the text of a dump says. Errors tell the place in the dump's own bytes.
-pub fn read_json<'a, T: Deserialize<'a>>(
-    alloc: Global,
-    bytes: &[u8],
-    text: &'a [u8],
-) -> Result<T, DumpError> {
+pub fn read_json<'a, T: Deserialize<'a>>(alloc: Global, text: &'a [u8]) -> Result<T, DumpError> {
     match serde_json::from_slice(alloc, text) {
         Ok(value) => Ok(value),
-        Err(error) => Err(placed(alloc, bytes, error)?),
+        Err(error) => Err(placed(alloc, text, error)?),
     }
 }

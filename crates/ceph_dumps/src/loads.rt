@@ -60,7 +60,7 @@ pub fn read_loads(alloc: Global, bytes: &[u8]) -> Result<Vec<FragmentHeat>, Dump
     ensures { IfOk result (λ found. All (λ fragment. fragment.heat ≤ HEAT_LIMIT) found.items) }
 {
     let text = text_of(alloc, bytes)?;
-    let dump: LoadsDump = read_json(alloc, bytes, text.as_slice())?;
+    let dump: LoadsDump = read_json(alloc, text.as_slice())?;
     let mut found = Vec::with_capacity(alloc, dump.dirfrags.len())?;
     for fragment in dump.dirfrags.as_slice() {
         found.push(FragmentHeat {

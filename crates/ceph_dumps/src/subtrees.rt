@@ -42,7 +42,7 @@ pub struct SubtreeRoot {
 /// The roots of the subtrees that a rank knows.
 pub fn read_subtrees(alloc: Global, bytes: &[u8]) -> Result<Vec<SubtreeRoot>, DumpError> {
     let text = text_of(alloc, bytes)?;
-    let dump: Vec<RootDump> = read_json(alloc, bytes, text.as_slice())?;
+    let dump: Vec<RootDump> = read_json(alloc, text.as_slice())?;
     let mut found = Vec::with_capacity(alloc, dump.len())?;
     for root in dump.as_slice() {
         found.push(SubtreeRoot {

@@ -2,7 +2,7 @@
 ghost use Rattle.std.specs.Prelude.{◌≡◌, ◌<◌, ◌≤◌, ◌*◌, ℕ, length, slice_index, true, IfOk};
 ghost use Rattle.mds_types.specs.RankSet.{has_rank};
 
-use crate::bound::has_number;
+use crate::bound::{has_number, most};
 use mds_types::{ProblemRow, Rank, RankSet};
 use std::alloc::{AllocError, Global};
 
@@ -110,9 +110,18 @@ fn rank_for(loads: &[u64], here: &[u64], heat: u64, limit: u64, ranks: RankSet) 
     }
 }
 
+/// A rank for each part, and what that comes to.
+#[derive(Drop)]
+struct Choice {
+    /// `rank[p]` is the rank of part p.
+    rank: Vec<Rank>,
+    /// The greatest load of a rank of the set.
+    greatest: u64,
+}
+
 /// A rank of the set for each part: rank 0 for part `top`. A part stays where most of it is while the load there is
 /// within the limit.
-pub fn choose(
+fn choose_within(
     alloc: Global,
     heats: &[u64],
     cells: &[u64],
@@ -120,15 +129,15 @@ pub fn choose(
     pinned: &[u64],
     ranks: RankSet,
     limit: u64,
-) -> Result<Vec<Rank>, AllocError>
+) -> Result<Choice, AllocError>
     requires few { length heats.now ≤ 64 }
     requires cells { length cells.now ≡ length heats.now * 64 }
     requires top { top < length heats.now }
     requires pinned { length pinned.now ≡ 64 }
     requires zero { has_rank ranks 0 ≡ true }
-    ensures size { IfOk result (λ rank. length rank.items ≡ length heats.now) }
-    ensures top { IfOk result (λ rank. slice_index rank.items top ≡ 0) }
-    ensures usable { IfOk result (λ rank. (p : ℕ) → p < length heats.now → has_rank ranks (slice_index rank.items p) ≡ true) }
+    ensures size { IfOk result (λ choice. length choice.rank.items ≡ length heats.now) }
+    ensures top { IfOk result (λ choice. slice_index choice.rank.items top ≡ 0) }
+    ensures usable { IfOk result (λ choice. (p : ℕ) → p < length heats.now → has_rank ranks (slice_index choice.rank.items p) ≡ true) }
 {
     let mut rank = vec![in alloc; Rank::default(); heats.len()]?;
     let mut loads = pinned.to_vec(alloc)?;
@@ -143,5 +152,36 @@ pub fn choose(
             rank[at] = to;
         }
     }
-    Ok(rank)
+    let greatest = most(&loads, ranks);
+    Ok(Choice { rank, greatest })
+}
+
+/// A rank of the set for each part: rank 0 for part `top`.
+///
+/// Another part stays at the rank that has most of its inodes, unless the load there would pass by `keep` percent the
+/// greatest load of a choice that looks at heat alone.
+pub fn choose(
+    alloc: Global,
+    heats: &[u64],
+    cells: &[u64],
+    top: u32,
+    pinned: &[u64],
+    ranks: RankSet,
+    keep: u8,
+) -> Result<Vec<Rank>, AllocError>
+    requires few { length heats.now ≤ 64 }
+    requires cells { length cells.now ≡ length heats.now * 64 }
+    requires top { top < length heats.now }
+    requires pinned { length pinned.now ≡ 64 }
+    requires zero { has_rank ranks 0 ≡ true }
+    ensures size { IfOk result (λ rank. length rank.items ≡ length heats.now) }
+    ensures top { IfOk result (λ rank. slice_index rank.items top ≡ 0) }
+    ensures usable { IfOk result (λ rank. (p : ℕ) → p < length heats.now → has_rank ranks (slice_index rank.items p) ≡ true) }
+{
+    let plain = choose_within(alloc, heats, cells, top, pinned, ranks, 0)?;
+    let more = (plain.greatest / 100).saturating_mul(u64::from(keep));
+    let limit = plain.greatest.saturating_add(more);
+    let kept = choose_within(alloc, heats, cells, top, pinned, ranks, limit)?;
+    let choice = if kept.greatest <= limit { kept } else { plain };
+    Ok(choice.rank)
 }

@@ -25,7 +25,8 @@ pub struct Packing {
 
 /// Whether each of these parts is below `count`.
 pub fn are_parts(part: &[u32], count: u32) -> bool
-    ensures { IsTrue result → (i : ℕ) → i < length part.now → slice_index part.now i < count }
+    ensures parts { IsTrue result → (i : ℕ) → i < length part.now → slice_index part.now i < count }
+    ensures only { All (λ p. p < count) part.now → IsTrue result }
 {
     part.iter().all(|part| *part < count)
 }
@@ -34,44 +35,9 @@ pub fn are_parts(part: &[u32], count: u32) -> bool
 pub fn are_pinned(pinned: &[u64]) -> bool
     ensures size { IsTrue result → length pinned.now ≡ 64 }
     ensures small { IsTrue result → All (λ n. n ≤ 2 ^ 57) pinned.now }
+    ensures only { length pinned.now ≡ 64 → All (λ n. n ≤ 2 ^ 57) pinned.now → IsTrue result }
 {
     pinned.len() == 64 && pinned.iter().all(|heat| *heat <= 1 << 57)
-}
-
-/// Packs the parts of rows on ranks. A part stays where most of it is while the load there is within the limit.
-fn pack_within(
-    alloc: Global,
-    rows: &[ProblemRow],
-    part: &[u32],
-    count: u32,
-    pinned: &[u64],
-    ranks: RankSet,
-    limit: u64,
-) -> Result<Packing, AllocError>
-    requires forest { IsForest rows.now }
-    requires some { 0 < length rows.now }
-    requires few { count ≤ 64 }
-    requires parts { length part.now ≡ length rows.now }
-    requires below { (i : ℕ) → i < length rows.now → slice_index part.now i < count }
-    requires size { length pinned.now ≡ 64 }
-    requires small { All (λ n. n ≤ 2 ^ 57) pinned.now }
-    requires zero { has_rank ranks 0 ≡ true }
-    ensures packing { IfOk result (λ packing. IsPacking ranks pinned.now rows.now part.now count packing) }
-    ensures bound { IfOk result (λ packing. IsLowerBound ranks pinned.now rows.now packing.bound) }
-    ensures three { IfOk result (λ packing. IsAsGreatAsThree ranks pinned.now rows.now packing.bound) }
-{
-    let heats = part_heats(alloc, rows, part, count)?;
-    let cells = part_inodes(alloc, rows, part, count)?;
-    let rank = choose(alloc, &heats, &cells, part[0], pinned, ranks, limit)?;
-    let load = loads(alloc, rows, part, &rank, pinned)?;
-    let greatest = most(&load, ranks);
-    let bound = lower_bound(rows, pinned, ranks);
-    Ok(Packing {
-        rank,
-        load,
-        greatest,
-        bound,
-    })
 }
 
 /// Packs the parts of rows on ranks. `part[i]` is the part of row i, and `pinned[r]` the heat of what is pinned to
@@ -100,13 +66,16 @@ pub fn pack(
     ensures bound { IfOk result (λ packing. IsLowerBound ranks pinned.now rows.now packing.bound) }
     ensures three { IfOk result (λ packing. IsAsGreatAsThree ranks pinned.now rows.now packing.bound) }
 {
-    let plain = pack_within(alloc, rows, part, count, pinned, ranks, 0)?;
-    let more = (plain.greatest / 100).saturating_mul(u64::from(keep));
-    let limit = plain.greatest.saturating_add(more);
-    let kept = pack_within(alloc, rows, part, count, pinned, ranks, limit)?;
-    if kept.greatest <= limit {
-        Ok(kept)
-    } else {
-        Ok(plain)
-    }
+    let heats = part_heats(alloc, rows, part, count)?;
+    let cells = part_inodes(alloc, rows, part, count)?;
+    let rank = choose(alloc, &heats, &cells, part[0], pinned, ranks, keep)?;
+    let load = loads(alloc, rows, part, &rank, pinned)?;
+    let greatest = most(&load, ranks);
+    let bound = lower_bound(rows, pinned, ranks);
+    Ok(Packing {
+        rank,
+        load,
+        greatest,
+        bound,
+    })
 }

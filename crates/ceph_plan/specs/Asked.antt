@@ -1,5 +1,5 @@
 -- What is asked of export pins, and what the changes of pins lead through.
-use Rattle.std.specs.Prelude.{◌≡◌, ◌==◌, ◌<◌, ◌⊎◌, ℕ, List, length, slice_index_or, take, Option, Some, None, if◌then◌else◌}
+use Rattle.std.specs.Prelude.{◌≡◌, ◌==◌, ◌<◌, ◌⊎◌, ℕ, List, length, slice_index_or, take, Some, None, if◌then◌else◌}
 use Rattle.mds_types.specs.declared.problem.ProblemRow.{ProblemRow}
 use Rattle.mds_types.specs.Problem.{parent_at}
 use Rattle.ceph_pins.specs.declared.row.Change.{Change}

@@ -2,7 +2,7 @@
 ghost use Rattle.std.specs.Prelude.{◌≡◌, ◌<◌, ℕ, length, slice_index, false, IfOk, IsErrOf};
 ghost use Rattle.mds_types.specs.RankSet.{has_rank};
 ghost use Rattle.ceph_pins.specs.Rule.{IsRealized};
-ghost use Rattle.ceph_pins.specs.Changes.{applied, before_pin};
+ghost use Rattle.ceph_pins.specs.Changes.{AreNeeded, applied, before_pin};
 ghost use Rattle.ceph_plan.specs.Asked.{ArePinRows, MovesOnce};
 ghost use Rattle.ceph_plan.specs.Plans.{IsPlan};
 
@@ -79,6 +79,8 @@ pub fn propose(
     ensures realized { IfOk result (λ found. IsRealized found.rows.items (applied (before_pin found.rows.items) found.changes.items)) }
     // once some are made, the nearest pin of each row is where it was, or where it is in the end
     ensures once { IfOk result (λ found. MovesOnce found.rows.items found.changes.items) }
+    // each change gives its row another pin than it had
+    ensures needed { IfOk result (λ found. AreNeeded found.rows.items found.changes.items) }
     ensures zero { has_rank ranks 0 ≡ false → IsErrOf result PlanError.NoRankZero }
 {
     let plan = choose_plan(alloc, rows, parts, pinned, ranks, keep)?;

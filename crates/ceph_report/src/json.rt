@@ -87,8 +87,8 @@ pub fn make_json(alloc: Global, facts: &Facts, changes: &[Change]) -> Result<Str
     )?;
     writeln!(
         text,
-        "\"greatest\":{},\"bound\":{},\"inodes_moved\":{},",
-        packing.greatest, packing.bound, facts.plan.moved
+        "\"greatest\":{},\"bound\":{},\"inodes_moved\":{},\"pins_standing\":{},",
+        packing.greatest, packing.bound, facts.plan.moved, facts.standing
     )?;
     text.push_str("\"ranks\":[")?;
     push_ranks(&mut text, facts)?;

@@ -2,8 +2,9 @@
 
 ghost use Rattle.std.specs.Prelude.{◌≡◌, ◌==◌, ◌&&◌, ◌<◌, ◌+◌, not, length, slice_index, IfOk, ℕ};
 ghost use Rattle.ceph_snapshot.specs.Rows.{is_free};
-ghost use Rattle.ceph_report.specs.Amounts.{AreAmounts, goal_at, goal_of, heat_now};
+ghost use Rattle.ceph_report.specs.Amounts.{AreAmounts, goal_at, goal_of, going_of, heat_now, inodes_from, inodes_to};
 
+use crate::pins::pins_after;
 use ceph_pins::{Change, PinRow};
 use ceph_snapshot::{Directory, Held};
 use mds_types::Rank;
@@ -54,6 +55,17 @@ fn is_leaving(now: Rank, hold: Held, goal: Rank) -> bool
     }
 }
 
+/// How many of a directory's inodes go to another rank: all of them, or none.
+fn going(now: Rank, hold: Held, goal: Rank, inodes: u64) -> u64
+    ensures { result ≡ going_of now hold goal inodes }
+{
+    if is_leaving(now, hold, goal) {
+        inodes
+    } else {
+        0
+    }
+}
+
 /// The heat at each rank now, with `spread`, the heat of what is spread.
 fn heats_now(
     alloc: Global,
@@ -82,14 +94,13 @@ fn inodes_into(
 ) -> Result<Vec<u64>, AllocError>
     requires holds { length holds.now ≡ length directories.now }
     requires goals { length goals.now ≡ length directories.now }
-    ensures { IfOk result (λ inodes. length inodes.items ≡ 64) }
+    ensures { IfOk result (λ inodes. AreAmounts inodes.items (λ r. inodes_to directories.now holds.now goals.now r (length directories.now))) }
 {
     let mut inodes = vec![in alloc; 0u64; usize::from(RANK_LIMIT)]?;
     for (at, directory) in directories.iter().enumerate() {
-        if is_leaving(directory.now, holds[at], goals[at]) {
-            let number = usize::from(goals[at].number());
-            inodes[number] = inodes[number].saturating_add(directory.inodes);
-        }
+        let number = usize::from(goals[at].number());
+        let more = going(directory.now, holds[at], goals[at], directory.inodes);
+        inodes[number] = inodes[number].saturating_add(more);
     }
     Ok(inodes)
 }
@@ -103,14 +114,13 @@ fn inodes_away(
 ) -> Result<Vec<u64>, AllocError>
     requires holds { length holds.now ≡ length directories.now }
     requires goals { length goals.now ≡ length directories.now }
-    ensures { IfOk result (λ inodes. length inodes.items ≡ 64) }
+    ensures { IfOk result (λ inodes. AreAmounts inodes.items (λ r. inodes_from directories.now holds.now goals.now r (length directories.now))) }
 {
     let mut inodes = vec![in alloc; 0u64; usize::from(RANK_LIMIT)]?;
     for (at, directory) in directories.iter().enumerate() {
-        if is_leaving(directory.now, holds[at], goals[at]) {
-            let number = usize::from(directory.now.number());
-            inodes[number] = inodes[number].saturating_add(directory.inodes);
-        }
+        let number = usize::from(directory.now.number());
+        let more = going(directory.now, holds[at], goals[at], directory.inodes);
+        inodes[number] = inodes[number].saturating_add(more);
     }
     Ok(inodes)
 }
@@ -127,8 +137,8 @@ pub fn sums_of(
     requires goals { length goals.now ≡ length directories.now }
     requires spread { length spread.now ≡ 64 }
     ensures now { IfOk result (λ sums. AreAmounts sums.now.items (λ r. slice_index spread.now r + heat_now directories.now r (length directories.now))) }
-    ensures into { IfOk result (λ sums. length sums.into.items ≡ 64) }
-    ensures out { IfOk result (λ sums. length sums.out.items ≡ 64) }
+    ensures into { IfOk result (λ sums. AreAmounts sums.into.items (λ r. inodes_to directories.now holds.now goals.now r (length directories.now))) }
+    ensures out { IfOk result (λ sums. AreAmounts sums.out.items (λ r. inodes_from directories.now holds.now goals.now r (length directories.now))) }
 {
     let now = heats_now(alloc, directories, spread)?;
     let into = inodes_into(alloc, directories, holds, goals)?;
@@ -149,19 +159,18 @@ pub struct Move {
     pub to: Rank,
 }
 
-/// The place of the directory whose new pin holds each directory; its own place where none does.
-fn holders(alloc: Global, rows: &[PinRow], changes: &[Change]) -> Result<Vec<usize>, AllocError> {
-    let mut is_pinned = vec![in alloc; false; rows.len()]?;
-    for change in changes {
-        if let (Some(pinned), Some(_)) = (is_pinned.get_mut(change.row as usize), change.pin) {
-            *pinned = true;
-        }
-    }
+/// The place of the directory whose pin holds each directory; its own place where none does.
+fn holders(
+    alloc: Global,
+    rows: &[PinRow],
+    pins: &[Option<Rank>],
+) -> Result<Vec<usize>, AllocError> {
     let mut holders = Vec::with_capacity(alloc, rows.len())?;
     for (at, row) in rows.iter().enumerate() {
+        let is_pinned = pins.get(at).is_some_and(|pin| pin.is_some());
         let above = holders.get(row.parent as usize).copied();
         let holder = match above {
-            Some(above) if is_pinned.get(at) == Some(&false) => above,
+            Some(above) if !is_pinned => above,
             _ => at,
         };
         holders.push(holder)?;
@@ -199,7 +208,8 @@ fn brought(
     Ok(brought)
 }
 
-/// What each new pin brings to its rank, the most inodes first. Pins that bring nothing are left out.
+/// What each pin of this program brings to its rank once the changes are made, the most inodes first. Pins that bring nothing
+/// are left out.
 pub fn moves_of(
     alloc: Global,
     directories: &[Directory],
@@ -207,12 +217,12 @@ pub fn moves_of(
     rows: &[PinRow],
     changes: &[Change],
 ) -> Result<Vec<Move>, AllocError> {
-    let holders = holders(alloc, rows, changes)?;
+    let pins = pins_after(alloc, rows, changes)?;
+    let holders = holders(alloc, rows, pins.as_slice())?;
     let brought = brought(alloc, directories, holds, rows, holders.as_slice())?;
     let mut moves = Vec::new(alloc);
-    for change in changes {
-        let at = change.row as usize;
-        if let (Some(to), Some(sum)) = (change.pin, brought.get(at)) {
+    for (at, (pin, sum)) in pins.iter().zip(brought.as_slice()).enumerate() {
+        if let Some(to) = *pin {
             if sum.inodes > 0 {
                 moves.push(Move {
                     inodes: sum.inodes,

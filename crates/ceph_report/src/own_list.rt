@@ -1,6 +1,7 @@
 //! The list of the pins that this program set: a line `RANK NAME` each, with names as `getfattr` writes them.
 
-use ceph_pins::Change;
+use crate::pins::pins_after;
+use ceph_pins::{Change, PinRow};
 use ceph_snapshot::Directory;
 use std::alloc::{AllocError, Global};
 
@@ -17,15 +18,18 @@ fn push_name(list: &mut Vec<u8>, path: &[u8]) -> Result<(), AllocError> {
     Ok(())
 }
 
-/// The list of the pins that these changes set.
+/// The list of the pins of this program once the changes are made: those that stand already and those that are set, deepest
+/// first.
 pub fn make_own_list(
     alloc: Global,
     directories: &[Directory],
+    rows: &[PinRow],
     changes: &[Change],
 ) -> Result<Vec<u8>, AllocError> {
     let mut list = Vec::new(alloc);
-    for change in changes {
-        if let (Some(rank), Some(directory)) = (change.pin, directories.get(change.row as usize)) {
+    let pins = pins_after(alloc, rows, changes)?;
+    for (directory, pin) in directories.iter().zip(pins.as_slice()).rev() {
+        if let Some(rank) = *pin {
             let rank = format!(in alloc; "{} ", rank.number())?;
             list.extend_from_slice(rank.as_bytes())?;
             push_name(&mut list, directory.path.as_slice())?;

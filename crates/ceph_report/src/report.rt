@@ -1,10 +1,12 @@
 //! The report, for people.
-ghost use Rattle.std.specs.Prelude.{◌≡◌, slice_index};
+ghost use Rattle.std.specs.Prelude.{◌≡◌, ◌<◌, ◌↔◌, slice_index, IsTrue};
+ghost use Rattle.mds_types.specs.declared.limits.TheConstants.{HEAT_LIMIT};
 
 use crate::moves::{Move, Sums};
 use crate::shown::{per_mille_above, push_heat, push_path, push_percent};
 use ceph_plan::Planned;
 use ceph_snapshot::Directory;
+use mds_types::limits::HEAT_LIMIT;
 use mds_types::{Rank, RankSet};
 use std::alloc::{AllocError, Global};
 use std::fmt::Write;
@@ -30,6 +32,8 @@ pub struct Facts<'a> {
     pub moves: &'a [Move],
     /// How many changes of pins there are.
     pub changes: usize,
+    /// How many pins of an earlier plan stand as they are.
+    pub standing: usize,
 }
 
 /// How many moves are told one by one.
@@ -89,11 +93,15 @@ fn push_result(text: &mut String, facts: &Facts) -> Result<(), AllocError> {
     text.push_str(
         "  Heat is a sample: it lies 3 to 5 % from the load that is offered, and more behind a walk over the directories.\n\n",
     )?;
-    writeln!(
+    write!(
         text,
         "{} parts, {} inodes move, {} changes of pins",
         facts.plan.count, facts.plan.moved, facts.changes
-    )
+    )?;
+    if facts.standing > 0 {
+        write!(text, ", {} pins stand already", facts.standing)?;
+    }
+    text.push('\n')
 }
 
 /// Adds the moves, the largest first.
@@ -114,6 +122,27 @@ fn push_moves(text: &mut String, facts: &Facts) -> Result<(), AllocError> {
     let more = facts.moves.len().saturating_sub(MOVES_TOLD);
     if more > 0 {
         writeln!(text, "and {more} smaller ones")?;
+    }
+    Ok(())
+}
+
+/// Whether a directory is hotter than a plan can count.
+fn is_capped(heat: u64) -> bool
+    ensures { IsTrue result ↔ (HEAT_LIMIT < heat) }
+{
+    heat > HEAT_LIMIT
+}
+
+/// Adds the directories whose heat is counted as less than it is.
+fn push_capped(text: &mut String, facts: &Facts) -> Result<(), AllocError> {
+    for directory in facts.directories {
+        if is_capped(directory.heat) {
+            text.push_str("hotter than a plan can count, and counted as ")?;
+            push_heat(text, HEAT_LIMIT)?;
+            text.push_str(": ")?;
+            push_path(text, directory.path.as_slice())?;
+            text.push('\n')?;
+        }
     }
     Ok(())
 }
@@ -152,5 +181,6 @@ pub fn make_report(alloc: Global, facts: &Facts) -> Result<String, AllocError> {
     push_result(&mut text, facts)?;
     push_moves(&mut text, facts)?;
     push_left_out(&mut text, facts)?;
+    push_capped(&mut text, facts)?;
     Ok(text)
 }

@@ -77,11 +77,8 @@ impl Gathering {
         })
     }
 
-    /// The number of a path that has its parent's number already.
-    fn child(&mut self, path: &[u8], parent: u32) -> Result<u32, SnapshotError> {
-        if let Some(number) = self.names.number(path) {
-            return Ok(number);
-        }
+    /// Gives a path below a directory with this number one of its own.
+    fn add(&mut self, path: &[u8], parent: u32) -> Result<u32, SnapshotError> {
         let Ok(number) = u32::try_from(self.nodes.len()) else {
             return Err(SnapshotError::TooMany);
         };
@@ -92,6 +89,18 @@ impl Gathering {
         Ok(number)
     }
 
+    /// The nearest directory above a path that has a number: how many bytes its path has, and the number.
+    fn nearest(&self, path: &[u8]) -> (usize, u32) {
+        for end in (1..path.len()).rev() {
+            if path[end] == b'/' {
+                if let Some(number) = self.names.number(&path[..end]) {
+                    return (end, number);
+                }
+            }
+        }
+        (0, 0)
+    }
+
     /// The number of a path, and none for one that is in no tree of users, as a rank's own directory.
     fn number(&mut self, path: &[u8]) -> Result<Option<u32>, SnapshotError> {
         if let Some(number) = self.names.number(path) {
@@ -100,13 +109,13 @@ impl Gathering {
         if !path.starts_with(b"/") || path.contains(&0) {
             return Ok(None);
         }
-        let mut number = 0;
-        for end in 1..path.len() {
-            if path[end] == b'/' {
-                number = self.child(&path[..end], number)?;
+        let (above, mut number) = self.nearest(path);
+        for end in above..path.len() {
+            if end > above && path[end] == b'/' {
+                number = self.add(&path[..end], number)?;
             }
         }
-        number = self.child(path, number)?;
+        number = self.add(path, number)?;
         Ok(Some(number))
     }
 

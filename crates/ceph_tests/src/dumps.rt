@@ -36,6 +36,71 @@ fn refuses_loads_that_are_cut(rt: HostRuntime) -> Result<(), Fail> {
     Ok(())
 }
 
+/// The subtrees of a rank, as Ceph prints them.
+const SUBTREES: &[u8] =
+    b"[{\"is_auth\":true,\"auth_first\":1,\"auth_second\":-2,\"export_pin\":2,\"distributed_ephemeral_pin\":true,\"dir\":{\"path\":\"/u\xfe\"}}]";
+
+/// The ranks of a file system.
+const CLUSTER: &[u8] =
+    b"{\"mdsmap\":{\"max_mds\":3,\"in\":[0,2],\"bal_rank_mask\":\"0x5\"},\"id\":1}";
+
+#[test]
+fn refuses_other_dumps_that_are_cut(rt: HostRuntime) -> Result<(), Fail> {
+    for end in 0..SUBTREES.len() {
+        assert!(rt;
+            read_subtrees(rt.alloc(), &SUBTREES[..end]).is_err(),
+            "cut at {end}"
+        );
+    }
+    for end in 0..CLUSTER.len() {
+        assert!(rt;
+            read_cluster(rt.alloc(), &CLUSTER[..end]).is_err(),
+            "cut at {end}"
+        );
+    }
+    Ok(())
+}
+
+#[test]
+fn names_no_other_path_where_a_byte_is_broken(rt: HostRuntime) -> Result<(), Fail> {
+    // a broken byte is refused, or all that is read has the number of paths that were told, or fewer
+    for at in 0..LOADS.len() {
+        for byte in [b'\0', b'"', b'\\', b'{', b']', b',', b'-', 0xff] {
+            let mut text = Vec::from_slice(rt.alloc(), LOADS)?;
+            if let Some(place) = text.get_mut(at) {
+                *place = byte;
+            }
+            if let Ok(found) = read_loads(rt.alloc(), text.as_slice()) {
+                assert!(rt; found.len() <= 3, "{byte} at {at}");
+            }
+        }
+    }
+    Ok(())
+}
+
+#[test]
+fn reads_long_names_of_any_bytes(rt: HostRuntime) -> Result<(), Fail> {
+    // names longer than the pieces that are widened at once, with a byte from 0x80 at each place of a piece
+    let head = b"{\"dirfrags\":[{\"path\":\"/";
+    let tail = b"\",\"pop_me\":{\"Decay Counters\":[{\"value\":3}]}}]}";
+    for at in 0..600usize {
+        let mut name = vec![in rt.alloc(); b'n'; 600]?;
+        if let Some(place) = name.get_mut(at) {
+            *place = 0xfe;
+        }
+        let mut text = Vec::from_slice(rt.alloc(), head)?;
+        text.extend_from_slice(name.as_slice())?;
+        text.extend_from_slice(tail)?;
+        let found = read_loads(rt.alloc(), text.as_slice())?;
+        let [fragment] = found.as_slice() else {
+            return Err(Fail::from("not one"));
+        };
+        assert_eq!(rt; fragment.path.get(1..), Some(name.as_slice()), "{at}");
+        assert_eq!(rt; fragment.heat, 3000);
+    }
+    Ok(())
+}
+
 #[test]
 fn tells_where_a_dump_is_broken(rt: HostRuntime) -> Result<(), Fail> {
     let text = b"{\"dirfrags\":[\n{\"path\":\"\xff\",\"pop_me\":1}]}";

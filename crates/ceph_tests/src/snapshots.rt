@@ -1,7 +1,7 @@
 //! Snapshots from dumps, and what pins hold in them.
 
 use ceph_dumps::{FragmentHeat, Listed, SubtreeRoot};
-use ceph_snapshot::{Gathering, Held, Snapshot, fold, held_heat, holds};
+use ceph_snapshot::{Directory, Gathering, Held, Snapshot, fold, held_heat, holds};
 use mds_types::Rank;
 use std::alloc::Global;
 use std::test::Fail;
@@ -120,6 +120,37 @@ fn cold_leaves_are_folded(rt: HostRuntime) -> Result<(), Fail> {
             (found.heat, found.inodes, found.parent),
             (heat, inodes, parent)
         );
+    }
+    Ok(())
+}
+
+/// Heat and inodes of all directories.
+fn sums(directories: &[Directory]) -> (u64, u64) {
+    let (mut heat, mut inodes) = (0u64, 0u64);
+    for directory in directories {
+        heat = heat.saturating_add(directory.heat);
+        inodes = inodes.saturating_add(directory.inodes);
+    }
+    (heat, inodes)
+}
+
+#[test]
+fn folding_keeps_heat_and_inodes(rt: HostRuntime) -> Result<(), Fail> {
+    for limit in 1..60usize {
+        let mut all = Gathering::new(rt.alloc())?;
+        for number in 1..60u64 {
+            let (high, low) = (number / 9, number % 9);
+            let path = format!(in rt.alloc(); "/a{high}/b{low}/c{}", number % 4)?;
+            let heat = number * 37 % 101;
+            all.add_loads(rank(0), &loads(rt.alloc(), &[(path.as_bytes(), heat)])?)?;
+        }
+        let directories = all.snapshot(1, 1)?.directories;
+        let before = sums(directories.as_slice());
+        let count = directories.len();
+        let (kept, folded) = fold(rt.alloc(), directories, limit)?;
+        assert_eq!(rt; sums(kept.as_slice()), before, "{limit}");
+        assert_eq!(rt; kept.len().saturating_add(folded), count);
+        assert_eq!(rt; kept.len(), limit.min(count));
     }
     Ok(())
 }

@@ -9,7 +9,7 @@ use anyhow::{Context, Error, bail};
 use ceph_plan::{Proposal, propose};
 use ceph_report::{
     Facts, Sums, goals_of, greatest_now, make_json, make_own_list, make_picture, make_pins_script,
-    make_report, make_script, moves_of, own_pins, sums_of,
+    make_report, make_script, moves_of, own_pins, standing_pins, sums_of,
 };
 use ceph_snapshot::{Directory, Held, fold, held_heat, holds, rows_of};
 use mds_types::limits::{DIR_LIMIT, RANK_LIMIT};
@@ -108,6 +108,7 @@ fn told(alloc: Global, outcome: &Outcome, is_json: bool) -> Result<String, Error
         pinned: &outcome.pinned,
         moves: &moves,
         changes: changes.len(),
+        standing: standing_pins(alloc, rows, changes)?,
     };
     let text = if is_json {
         make_json(alloc, &facts, changes)?
@@ -117,7 +118,7 @@ fn told(alloc: Global, outcome: &Outcome, is_json: bool) -> Result<String, Error
     Ok(text)
 }
 
-/// Writes the script of the changes, and the list of the pins that it sets.
+/// Writes the script of the changes, and the list of the pins that stand once it has run.
 fn write_pins<R: Files + AllocGlobal>(
     rt: &R,
     file: &str,
@@ -129,7 +130,7 @@ fn write_pins<R: Files + AllocGlobal>(
     let script = make_pins_script(rt.alloc(), directories, changes, mount.as_bytes())?;
     fs::write(rt, file, script).context(format_args!("{file}"))?;
     let own = format!(in rt.alloc(); "{file}.own")?;
-    let list = make_own_list(rt.alloc(), directories, changes)?;
+    let list = make_own_list(rt.alloc(), directories, &outcome.proposal.rows, changes)?;
     fs::write(rt, own.as_str(), list).context(format_args!("{own}"))?;
     Ok(())
 }

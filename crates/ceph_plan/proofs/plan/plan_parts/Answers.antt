@@ -1,4 +1,4 @@
-use Rattle.std.proofs.Common.{◌≡◌, ℕ, List, ap, subst, slice_index, rules}
+use Rattle.std.proofs.Common.{◌≡◌, List, ap, subst, slice_index, rules}
 use Rattle.mds_types.specs.declared.problem.ProblemRow.{ProblemRow}
 use Rattle.mds_types.specs.Division.{IsDivision}
 use Rattle.mds_types.specs.Problem.{ProblemData}

@@ -1,7 +1,7 @@
 use Rattle.std.proofs.Common.{List, subst}
 use Rattle.ceph_pins.specs.declared.row.PinRow.{PinRow}
 use Rattle.ceph_pins.specs.Rule.{IsRealized}
-use Rattle.ceph_pins.specs.Changes.{applied, before_pin}
+use Rattle.ceph_pins.specs.Changes.{AreNeeded, applied, before_pin}
 use Rattle.ceph_plan.specs.Asked.{MovesOnce}
 use Rattle.ceph_plan.proofs.proposal.propose.Goals as goal
 
@@ -12,3 +12,7 @@ returns-clause-realized c =
 pub returns-clause-once : goal.returns-clause-once
 returns-clause-once c =
     subst (λ (rows : List PinRow). MovesOnce rows c.in_ok-changes.changes.items) c.deref-4.ensures.value c.in_ok-changes.ensures.once
+
+pub returns-clause-needed : goal.returns-clause-needed
+returns-clause-needed c =
+    subst (λ (rows : List PinRow). AreNeeded rows c.in_ok-changes.changes.items) c.deref-4.ensures.value c.in_ok-changes.ensures.needed

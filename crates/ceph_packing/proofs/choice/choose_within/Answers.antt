@@ -1,7 +1,7 @@
 use Rattle.std.proofs.Common.{◌∙◌, length-set, sym}
 use Rattle.std.proofs.lemmas.List.{get_or-set_other}
 use Rattle.ceph_packing.proofs.Bounds.{set_usable}
-use Rattle.ceph_packing.proofs.choice.choose.Goals as goal
+use Rattle.ceph_packing.proofs.choice.choose_within.Goals as goal
 
 pub loop-part-preserved-then-at-heats : goal.loop-part-preserved-then-at-heats
 loop-part-preserved-then-at-heats c = record {
