@@ -1,2 +1,3 @@
 pub mod Going
+pub mod Refused
 pub mod Serving
