@@ -1,3 +1,4 @@
+pub mod Carrying
 pub mod Counting
 pub mod GoingOn
 pub mod Returning

@@ -1,4 +1,4 @@
-//! Requests and their answers.
+//! Requests and their answers, and who is told of them.
 
 use board_state::BoardError;
 use heat_ledger::HitError;
@@ -6,13 +6,13 @@ use mds_types::{Dir, Rank, Refusal};
 use std::error::Error;
 use std::fmt;
 
-/// Is told of each request of a rank, by its number in the rank's script: before its hits, and after its end. No lock is
-/// held then.
+/// Is told of each request of a rank, by its number in the rank's script: before its hits, and after its end. In a phase of
+/// exports it is told of each turn of a rank, by its round. No lock is held then.
 pub trait Gate {
-    /// A request was asked for, and has counted no hit.
+    /// A request was asked for, and has counted no hit; or a turn begins.
     fn before(&self, rank: Rank, number: usize);
 
-    /// A request has its answer.
+    /// A request has its answer, or a turn is over.
     fn after(&self, rank: Rank, number: usize);
 }
 
