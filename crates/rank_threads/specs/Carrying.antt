@@ -10,6 +10,7 @@ use Rattle.export_rounds.specs.Outcomes.{IsRefused, IsStarted}
 use Rattle.export_rounds.specs.Pairs.{AreEach}
 use Rattle.mds_board.specs.History.{World}
 use Rattle.mds_types.specs.declared.order.Order.{Order}
+use Rattle.rank_threads.specs.Adding.{GoesOnBy}
 use Rattle.rank_threads.specs.declared.order_outcome.OrderOutcome.{OrderOutcome}
 use Rattle.rank_threads.specs.declared.order_outcome.OrderOutcome.TheVariants.{Aborted, Done, NoThread, Open}
 use Rattle.rank_threads.specs.declared.order_outcome.OrderOutcome.TheVariants as outcome
@@ -35,6 +36,7 @@ is_begun _ = false
 -- The board has gone on by exports alone, each order stands as is kept, and no other exports were started.
 pub record IsUnderWay (first : World) (orders : List Order) (c : Carried) : Type 0 where
   pub further : IsFurther first c.board
+  pub events : GoesOnBy (length first.state.cluster.orders) first c.board
   pub asked : AreEach (IsAsked first c.board) orders c.standings
   pub counted : length c.board.state.cluster.orders ≡ length first.state.cluster.orders + count_by is_begun c.standings
 

@@ -1,3 +1,4 @@
+pub mod Adding
 pub mod Carrying
 pub mod Going
 pub mod Refused

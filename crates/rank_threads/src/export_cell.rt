@@ -1,8 +1,10 @@
 //! The board and its orders under their lock.
-ghost use Rattle.std.specs.Prelude.{◌≡◌, IfSome, count_by, true};
+ghost use Rattle.std.specs.Prelude.{◌≡◌, ◌≤◌, IfSome, count_by, length, true};
+ghost use Rattle.board_state.specs.declared.change.Change.TheVariants as Change;
 ghost use Rattle.board_state.specs.Steps.{is_inner};
 ghost use Rattle.export_rounds.specs.Asked.{is_later};
 ghost use Rattle.export_rounds.specs.Pairs.{AreEach};
+ghost use Rattle.rank_threads.specs.Adding.{IsOfPhase};
 ghost use Rattle.rank_threads.specs.Carrying.{IsAsked, IsUnderWay, is_begun};
 
 use crate::settling::settle_at;
@@ -66,10 +68,11 @@ impl<J: Naming, M: Publisher<J>, K: ExportPhase> Exporting<J, M, K> {
         settle_at(&mut self.board, alloc, &mut self.standings, number)
     }
 
-    /// An event of the cluster that starts no export, and whether it was accepted.
+    /// An event by which exports go on, or an export of the phase is aborted, and whether it was accepted.
     pub(crate) fn step(&mut self, alloc: Global, event: Event) -> bool
         requires inner { is_inner event ≡ true }
         requires later { is_later event ≡ true }
+        requires ours { IsOfPhase (length K.before.state.cluster.orders) (Change.Step event) }
     {
         self.board.step(alloc, event).is_ok()
     }
@@ -80,7 +83,9 @@ impl<J: Naming, M: Publisher<J>, K: ExportPhase> Exporting<J, M, K> {
     }
 
     /// The export that was started for the order of this number.
-    pub(crate) fn started(&self, number: usize) -> Option<u32> {
+    pub(crate) fn started(&self, number: usize) -> Option<u32>
+        ensures { IfSome result (λ x. length K.before.state.cluster.orders ≤ x) }
+    {
         match self.standings.get(number) {
             Some(Standing::Started(export)) => Some(*export),
             _ => None,

@@ -2,6 +2,7 @@
 ghost use Rattle.std.specs.Prelude.{◌≡◌, ◌≤◌, [], count_by, length, vec_capacity, IfOk, OnErr};
 ghost use Rattle.export_rounds.specs.Further.{IsFurther};
 ghost use Rattle.export_rounds.specs.Pairs.{AreEach};
+ghost use Rattle.rank_threads.specs.Adding.{GoesOnBy};
 ghost use Rattle.rank_threads.specs.Carrying.{AreAll, AreTold, IsAsked, is_begun};
 
 use crate::export_cell::{ExportCell, ExportPhase};
@@ -138,6 +139,7 @@ fn carry_out_named<
     requires none { count_by is_begun prepared.standings.items ≡ 0 }
     requires room { (prepared.outcomes.items ≡ []) × (length orders.now ≤ vec_capacity prepared.outcomes) }
     ensures further { IsFurther board result.0 }
+    ensures events { GoesOnBy (length board.state.cluster.orders) board result.0 }
     ensures outcomes { AreTold board result.0 orders.now result.1.items }
     ensures all { AreAll board result.0 result.1.items }
 {
@@ -178,6 +180,7 @@ pub fn export_phase<
     orders: &[Order],
 ) -> (Board<J, M>, Result<Vec<OrderOutcome>, AllocError>)
     ensures further { IsFurther board result.0 }
+    ensures events { GoesOnBy (length board.state.cluster.orders) board result.0 }
     ensures outcomes { IfOk result.1 (λ outcomes. AreTold board result.0 orders.now outcomes.items) }
     ensures all { IfOk result.1 (λ outcomes. AreAll board result.0 outcomes.items) }
     ensures unchanged { OnErr result.1 (result.0 ≡ board) }

@@ -1,5 +1,5 @@
 //! Orders are started.
-ghost use Rattle.std.specs.Prelude.{◌≡◌, ◌+◌, ◌++◌, ◌∷◌, [], List, count_by, length, IfOk, IfErr, OnErr};
+ghost use Rattle.std.specs.Prelude.{◌≡◌, ℕ, ◌+◌, ◌++◌, ◌∷◌, [], List, count_by, length, IfOk, IfErr, OnErr};
 ghost use Rattle.board_state.specs.declared.change.Change.TheVariants.{Step};
 ghost use Rattle.board_state.specs.Steps.{IsDue};
 ghost use Rattle.export_rounds.specs.Asked.{ones};
@@ -7,6 +7,7 @@ ghost use Rattle.export_rounds.specs.Further.{IsFurther};
 ghost use Rattle.export_rounds.specs.Pairs.{AreEach};
 ghost use Rattle.mds_board.specs.History.{World};
 ghost use Rattle.mds_types.specs.declared.order.Order.{Order as TheOrder};
+ghost use Rattle.rank_threads.specs.Adding.{GoesOnBy};
 ghost use Rattle.rank_threads.specs.Carrying.{Carried, IsAsked, IsUnderWay, is_begun};
 
 use crate::standing::Standing;
@@ -46,12 +47,14 @@ pub(crate) fn settle_at<J: Naming, M: Publisher<J>>(
 }
 
 // Starts an order if it waits, and tells its export.
+#[tactic(auto, using(crate::proofs::Adding::nothing_added))]
 fn settle<J: Naming, M: Publisher<J>>(
     board: &mut Board<J, M>,
     alloc: Global,
     standing: &mut Standing,
 ) -> Option<u32>
     ensures further { IsFurther board.old board.new }
+    ensures events { (before : ℕ) → GoesOnBy before board.old board.new }
     ensures asked { (first : World) (order : TheOrder) → IsFurther first board.old → IsAsked first board.old order standing.old → IsAsked first board.new order standing.new }
     ensures counted { length board.new.state.cluster.orders + ones (is_begun standing.old) ≡ length board.old.state.cluster.orders + ones (is_begun standing.new) }
 {
@@ -80,6 +83,7 @@ fn start<J: Naming, M: Publisher<J>>(
     order: Order,
 ) -> Result<u32, BoardError>
     ensures further { IsFurther board.old board.new }
+    ensures events { (before : ℕ) → GoesOnBy before board.old board.new }
     ensures started { IfOk result (λ x. (x ≡ length board.old.state.cluster.orders) × (board.new.state.cluster.orders ≡ board.old.state.cluster.orders ++ order ∷ [])) }
     ensures refused { IfErr result (λ e. IsDue board.old.state (Step (Event.Start order.from order.to order.dirs)) e) }
     ensures unchanged { OnErr result (board.new ≡ board.old) }
