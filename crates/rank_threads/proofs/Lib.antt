@@ -3,3 +3,4 @@ pub mod Carrying
 pub mod Counting
 pub mod GoingOn
 pub mod Returning
+pub mod Summing

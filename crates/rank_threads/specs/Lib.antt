@@ -3,3 +3,4 @@ pub mod Carrying
 pub mod Going
 pub mod Refused
 pub mod Serving
+pub mod Totals

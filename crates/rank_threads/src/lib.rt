@@ -17,10 +17,12 @@ mod serving;
 mod settling;
 mod standing;
 mod telling;
+pub mod totals;
 pub mod work;
 
 pub use board_cell::{BoardCell, Phase, Phased};
 pub use exporting::export_phase;
 pub use order_outcome::OrderOutcome;
 pub use phase::{Ranks, serve_phase};
+pub use totals::serve_with_totals;
 pub use work::{Gate, OpenGate, Work, WorkAnswer, WorkError};
