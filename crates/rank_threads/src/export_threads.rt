@@ -12,17 +12,7 @@ use std::marker::{Send, Sync};
 use std::sync::Wait;
 use std::sync::atomic::{AtomicBool, Ordering};
 use std::thread;
-use std::thread::{Promise, Threads};
-
-// A thread hands its desk back, and nothing is said of it: what it did to the board is known by the lock's type.
-#[derive(Drop)]
-struct HandedBack;
-
-impl Promise<ExportDesk> for HandedBack {
-    ghost use Rattle.std.specs.Prelude.{};
-
-    ghost kept_by = { λ p desk. Unit {0} };
-}
+use std::thread::Threads;
 
 // A rank takes its turn, where it has a thread. Without one it can't start its orders.
 fn turn_at<J: Naming, M: Publisher<J>, K: ExportPhase, R: Wait, G: Gate>(
@@ -72,9 +62,7 @@ fn turn_beside<
             requires { F.pre rest }
             ensures { F.post rest result.1 }
         {
-            match scope.spawn_with(HandedBack, || {
-                turn_at(rt, alloc, cell, gate, &no_thread, round, desk)
-            }) {
+            match scope.spawn(|| { turn_at(rt, alloc, cell, gate, &no_thread, round, desk) }) {
                 Ok(child) => {
                     let done = rest();
                     (child.join(rt), done)
