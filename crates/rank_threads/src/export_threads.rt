@@ -14,7 +14,7 @@ use std::sync::atomic::{AtomicBool, Ordering};
 use std::thread;
 use std::thread::Threads;
 
-// A rank takes its turn, where it has a thread. Without one it can't start its orders.
+// A rank takes its turn. Where it has no thread its orders aren't started, and what is under way goes on by this one.
 fn turn_at<J: Naming, M: Publisher<J>, K: ExportPhase, R: Wait, G: Gate>(
     rt: &R,
     alloc: Global,
@@ -27,9 +27,8 @@ fn turn_at<J: Naming, M: Publisher<J>, K: ExportPhase, R: Wait, G: Gate>(
     let mut desk = desk;
     if no_thread.load(Ordering::SeqCst) {
         desk.orders.clear();
-    } else {
-        take_turn(rt, alloc, cell, gate, round, &mut desk);
     }
+    take_turn(rt, alloc, cell, gate, round, &mut desk);
     desk
 }
 

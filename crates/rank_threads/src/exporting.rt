@@ -164,7 +164,7 @@ fn carry_out_named<
 /// freezing, notifies of its logged ones and publishes the map if it did. In the first round it starts its orders and asks
 /// about its imports that were left started before that. An event that is refused is passed over. What isn't logged after the
 /// last round is aborted, but for exports of earlier phases. The orders of a rank for which there is no thread in the first
-/// round aren't started; in a later round it has no turn.
+/// round aren't started; what else it has to look after goes on by the calling thread.
 ///
 /// All memory for the answer is asked for before the first event.
 pub fn export_phase<
