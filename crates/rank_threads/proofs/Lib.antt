@@ -1,3 +1,6 @@
+pub mod Adding
+pub mod Carrying
 pub mod Counting
 pub mod GoingOn
 pub mod Returning
+pub mod Summing

@@ -1,16 +1,18 @@
-//! Requests and their answers.
+//! Requests and their answers, and who is told of them.
 
 use board_state::BoardError;
 use heat_ledger::HitError;
-use mds_types::{Dir, Rank};
+use mds_types::{Dir, Rank, Refusal};
+use std::error::Error;
+use std::fmt;
 
-/// Is told of each request of a rank, by its number in the rank's script: before its hits, and after its end. No lock is
-/// held then.
+/// Is told of each request of a rank, by its number in the rank's script: before its hits, and after its end. In a phase of
+/// exports it is told of each turn of a rank, by its round. No lock is held then.
 pub trait Gate {
-    /// A request was asked for, and has counted no hit.
+    /// A request was asked for, and has counted no hit; or a turn begins.
     fn before(&self, rank: Rank, number: usize);
 
-    /// A request has its answer.
+    /// A request has its answer, or a turn is over.
     fn after(&self, rank: Rank, number: usize);
 }
 
@@ -33,6 +35,8 @@ pub struct Work {
 }
 
 /// Why a request isn't served, or not whole.
+///
+/// It prints as the numbered refusal that it is, with the value where there is one.
 #[derive(Clone, Copy, Debug, PartialEq, Eq)]
 pub enum WorkError {
     /// The request didn't begin.
@@ -42,6 +46,35 @@ pub enum WorkError {
     /// The system gave no thread for the rank.
     NoThread,
 }
+
+impl From<WorkError> for Refusal {
+    ghost use Rattle.std.specs.Prelude.{◌≡◌};
+    ghost use Rattle.rank_threads.specs.Refused.{refusal_of};
+
+    ghost from_gives = { λ error refusal. refusal ≡ refusal_of error };
+
+    fn from(error: WorkError) -> Refusal {
+        match error {
+            WorkError::Board(error) => Refusal::from(error),
+            WorkError::Share(error) => Refusal::from(error),
+            WorkError::NoThread => Refusal::NoThread,
+        }
+    }
+}
+
+impl fmt::Display for WorkError {
+    ghost use Rattle.std.specs.Prelude.{Some};
+    ghost use Rattle.mds_types.specs.Refusal.{words};
+    ghost use Rattle.rank_threads.specs.Refused.{refusal_of};
+
+    ghost output = { λ error. Some (words (refusal_of error)) };
+
+    fn fmt<W: fmt::Write>(&self, f: &mut fmt::Formatter<W>) -> fmt::Result {
+        fmt::Display::fmt(&Refusal::from(*self), f)
+    }
+}
+
+impl Error for WorkError {}
 
 /// What became of a request.
 #[derive(Clone, Copy, Debug, PartialEq, Eq)]

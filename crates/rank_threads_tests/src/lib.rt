@@ -1,7 +1,11 @@
-//! Tests of the rank threads: two ranks on a board with two directories.
+//! Tests of the rank threads: requests of two ranks, and orders of three.
 #![tactic(auto)]
 
+#[cfg(test)]
+mod exports;
 #[cfg(test)]
 mod gates;
 #[cfg(test)]
 mod requests;
+#[cfg(test)]
+mod whole;

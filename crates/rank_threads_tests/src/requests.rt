@@ -1,5 +1,6 @@
 //! Requests of two ranks, and what they leave on the board.
 ghost use Rattle.std.specs.Prelude.{◌≡◌, IfOk, length, vec_len};
+ghost use Rattle.heat_ledger.specs.Ledger.{weight_of};
 
 use crate::gates::{JitterGate, MeetingGate};
 use authority_map::MapWriter;
@@ -20,7 +21,7 @@ fn rank(number: u8) -> Result<Rank, Fail> {
     Ok(Rank::new(number).ok_or("no rank")?)
 }
 
-fn work(dir: u32, hits: u32) -> Work {
+pub(crate) fn work(dir: u32, hits: u32) -> Work {
     Work {
         dir: Dir::new(dir),
         hits,
@@ -39,8 +40,12 @@ fn refused(error: StepError) -> WorkAnswer {
     WorkAnswer::refused(WorkError::Board(BoardError::Step(error)))
 }
 
-// The scripts of two ranks.
-fn scripts(alloc: Global, first: &[Work], second: &[Work]) -> Result<Vec<Vec<Work>>, Fail>
+/// The scripts of two ranks.
+pub(crate) fn scripts(
+    alloc: Global,
+    first: &[Work],
+    second: &[Work],
+) -> Result<Vec<Vec<Work>>, Fail>
     ensures { IfOk result (λ all. vec_len all ≡ 2) }
 {
     let mut one = Vec::new(alloc);
@@ -53,8 +58,8 @@ fn scripts(alloc: Global, first: &[Work], second: &[Work]) -> Result<Vec<Vec<Wor
     Ok(all)
 }
 
-// A board of two ranks with /a, and a share for each rank.
-fn open<'r, J: Naming, R: Wait>(
+/// A board of two ranks with /a, and all shares of its ledger: one for each rank.
+pub(crate) fn open<'r, J: Naming, R: Wait>(
     rt: &'r R,
     alloc: Global,
     book: heat_ledger::Opened,
@@ -64,6 +69,7 @@ fn open<'r, J: Naming, R: Wait>(
     requires map { map ≡ J.map }
     requires limit { J.limit ≡ 8 }
     ensures shares { IfOk result (λ r. vec_len r.1 ≡ 2) }
+    ensures whole { IfOk result (λ r. weight_of r.1.items ≡ r.0.shares) }
 {
     let Ok((writer, _readers)) = MapWriter::<J, &'r R>::open(rt, alloc, map, 8, 1) else {
         return Err("no map".into());
@@ -131,7 +137,7 @@ fn serve<J: Naming + Send + Sync, R: Threads + Wait + Sync, G: Gate + Sync>(
     }
 }
 
-fn names(alloc: Global) -> Result<(heat_ledger::Opened, authority_map::Opened), Fail> {
+pub(crate) fn names(alloc: Global) -> Result<(heat_ledger::Opened, authority_map::Opened), Fail> {
     Ok((
         heat_ledger::Opened::new(alloc)?,
         authority_map::Opened::new(),

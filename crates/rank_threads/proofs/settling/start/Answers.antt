@@ -1,0 +1,17 @@
+use Rattle.std.proofs.Common.{◌∙◌, sym}
+use Rattle.export_rounds.proofs.Ordering.{start_orders, start_reply}
+use Rattle.export_machine.specs.declared.event.Event.TheVariants.{Start}
+use Rattle.rank_threads.proofs.Adding.{answer_added}
+use Rattle.rank_threads.proofs.settling.start.Goals as goal
+
+pub unreachable-requires : goal.unreachable-requires
+unreachable-requires g c =
+    c.in_default.not-Export _ _ (start_reply c.args.board.now.state c.args.order.from c.args.order.to c.args.order.dirs c.in_ok-reply.reply c.in_ok-reply.ensures.2)
+
+pub returns-clause-started : goal.returns-clause-started
+returns-clause-started g c =
+    let is = sym c.in-Export.is ∙ start_reply c.args.board.now.state c.args.order.from c.args.order.to c.args.order.dirs c.in_ok-reply.reply c.in_ok-reply.ensures.2 in
+    (cc, start_orders c.args.board.now c.step.new.self c.args.order c.in_ok-reply.ensures.3)
+
+pub returns-clause-events : goal.returns-clause-events
+returns-clause-events g c = λ before. answer_added before c.args.board.now (Start c.args.order.from c.args.order.to c.args.order.dirs) c.step.result c.step.new.self tt c.step.ensures

@@ -1,0 +1,146 @@
+//! Orders of three ranks, and what they leave on the board.
+ghost use Rattle.std.specs.Prelude.{◌≡◌};
+
+use crate::gates::JitterGate;
+use authority_map::MapWriter;
+use board_state::{BoardError, BoardParts};
+use export_machine::{Event, StepError};
+use mds_board::Board;
+use mds_types::{Dir, Dirs, Order, Rank};
+use naming::Naming;
+use rank_threads::{OrderOutcome, WorkError, export_phase};
+use std::alloc::{AllocError, Global};
+use std::marker::{Brand, Send, Sync};
+use std::sync::Wait;
+use std::test::Fail;
+use std::thread::Threads;
+
+fn rank(number: u8) -> Rank {
+    Rank::new(number).unwrap_or(Rank::default())
+}
+
+// Orders of one directory each: from a rank, to a rank, the directory.
+fn orders(alloc: Global, rows: &[(u8, u8, u32)]) -> Result<Vec<Order>, AllocError> {
+    let mut orders = Vec::new(alloc);
+    for (from, to, dir) in rows {
+        let mut dirs = Vec::new(alloc);
+        dirs.push(Dir::new(*dir))?;
+        orders.push(Order {
+            from: rank(*from),
+            to: rank(*to),
+            dirs: Dirs::new(dirs),
+        })?;
+    }
+    Ok(orders)
+}
+
+// A board of three ranks with /a and /b.
+fn open<'r, J: Naming, R: Wait>(
+    rt: &'r R,
+    alloc: Global,
+    book: heat_ledger::Opened,
+    map: authority_map::Opened,
+) -> Result<Board<J, MapWriter<J, &'r R>>, Fail>
+    requires book { book ≡ J.ledger }
+    requires map { map ≡ J.map }
+    requires limit { J.limit ≡ 8 }
+{
+    let Ok((writer, _readers)) = MapWriter::<J, &'r R>::open(rt, alloc, map, 8, 1) else {
+        return Err("no map".into());
+    };
+    match Board::new(alloc, BoardParts::new(book, writer), 8, 3) {
+        Ok((mut board, _shares)) => {
+            let a = board.make(alloc, Dir::ROOT, "a", 1).is_ok();
+            if a && board.make(alloc, Dir::ROOT, "b", 1).is_ok() {
+                return Ok(board);
+            }
+            board.end();
+            Err("no directory".into())
+        }
+        Err(parts) => {
+            parts.end();
+            Err("no board".into())
+        }
+    }
+}
+
+// What three phases told, and who has /a and /b then.
+#[derive(Drop)]
+struct Seen {
+    there: Vec<OrderOutcome>,
+    back: Vec<OrderOutcome>,
+    late: Vec<OrderOutcome>,
+    authorities: (Option<Rank>, Option<Rank>),
+}
+
+// Directories go there and back, and there again when rank 2 has stopped.
+fn carry_out<J: Naming + Send + Sync, R: Threads + Wait + Sync>(
+    rt: &R,
+    alloc: Global,
+    names: (heat_ledger::Opened, authority_map::Opened),
+) -> Result<Seen, Fail>
+    requires book { names.0 ≡ J.ledger }
+    requires map { names.1 ≡ J.map }
+    requires limit { J.limit ≡ 8 }
+{
+    let there = orders(alloc, &[(0, 1, 1), (0, 2, 2)])?;
+    let back = orders(alloc, &[(1, 0, 1), (2, 0, 2)])?;
+    let late = orders(alloc, &[(3, 0, 1), (0, 1, 1), (0, 2, 2)])?;
+    let (book, map) = names;
+    let board = open::<J, R>(rt, alloc, book, map)?;
+    let (board, there) = export_phase(rt, alloc, board, &JitterGate, &there);
+    let (mut board, back) = export_phase(rt, alloc, board, &JitterGate, &back);
+    let stopped = board.step(alloc, Event::Stop(rank(2))).is_ok();
+    let (board, late) = export_phase(rt, alloc, board, &JitterGate, &late);
+    let authorities = (
+        board.cluster().authority(Dir::new(1)),
+        board.cluster().authority(Dir::new(2)),
+    );
+    board.end();
+    if !stopped {
+        return Err("no stop".into());
+    }
+    Ok(Seen {
+        there: there?,
+        back: back?,
+        late: late?,
+        authorities,
+    })
+}
+
+// Whatever the schedule: what one rank gives has the numbers in the order of its orders, and what two ranks give at once is
+// done too. An export to a stopped rank is aborted.
+#[test]
+fn ranks_carry_out_orders(rt: HostRuntime) -> Result<(), Fail> {
+    for _ in 0..20u32 {
+        let book = heat_ledger::Opened::new(rt.alloc())?;
+        let map = authority_map::Opened::new();
+        let seen = carry_out::<Brand, _>(&rt, rt.alloc(), (book, map))?;
+        let there = [OrderOutcome::Done(0), OrderOutcome::Done(1)];
+        assert_eq!(rt; seen.there.as_slice(), there.as_slice());
+        let back = [OrderOutcome::Done(2), OrderOutcome::Done(3)];
+        let crossed = [OrderOutcome::Done(3), OrderOutcome::Done(2)];
+        assert!(rt;
+            seen.back.as_slice() == back.as_slice() || seen.back.as_slice() == crossed.as_slice()
+        );
+        let late = [
+            OrderOutcome::Refused(BoardError::Step(StepError::NoRank)),
+            OrderOutcome::Done(4),
+            OrderOutcome::Aborted(5),
+        ];
+        assert_eq!(rt; seen.late.as_slice(), late.as_slice());
+        assert_eq!(rt; seen.authorities, (Some(rank(1)), Some(rank(0))));
+    }
+    Ok(())
+}
+
+// What is printed where a rank has no thread.
+#[test]
+fn no_thread_is_printed_by_its_number(rt: HostRuntime) -> Result<(), Fail> {
+    let text = format!(in rt.alloc(); "{}", WorkError::NoThread)?;
+    assert_eq!(rt; text.as_str(), "36 NoThread");
+    let refused = WorkError::Board(BoardError::Step(StepError::Stopped(rank(3))));
+    let text = format!(in rt.alloc(); "{refused}")?;
+    assert_eq!(rt; text.as_str(), "28 Stopped 3");
+    Ok(())
+}
