@@ -1,0 +1,23 @@
+# Completions of mdbal and mdbal_ceph for bash: source this file, or put it into the folder of bash-completion.
+_mdbal() {
+    local cur=${COMP_WORDS[COMP_CWORD]} prev=${COMP_WORDS[COMP_CWORD-1]}
+    case $prev in
+        --limit) return ;;
+    esac
+    COMPREPLY=($(compgen -W '--limit --strict --help --version' -- "$cur"))
+}
+_mdbal_ceph() {
+    local cur=${COMP_WORDS[COMP_CWORD]} prev=${COMP_WORDS[COMP_CWORD-1]}
+    case $prev in
+        --parts) COMPREPLY=($(compgen -W 'auto' -- "$cur")); return ;;
+        --own|--pins|--svg|--script) COMPREPLY=($(compgen -f -- "$cur")); return ;;
+        --mount) COMPREPLY=($(compgen -d -- "$cur")); return ;;
+        --mask|--least-gain|--keep) return ;;
+    esac
+    case $cur in
+        -*) COMPREPLY=($(compgen -W '--parts --mask --own --least-gain --keep --mount --pins --svg --script --json --help --version' -- "$cur")) ;;
+        *) COMPREPLY=($(compgen -d -- "$cur")) ;;
+    esac
+}
+complete -F _mdbal mdbal
+complete -F _mdbal_ceph mdbal_ceph
