@@ -16,7 +16,7 @@ pub enum SnapshotError {
     /// The allocator refused a growth.
     #[error("no memory")]
     Memory,
-    /// There are more than 2^32 directories.
+    /// There are more directories, or more heat or inodes at one, than can be counted or planned.
     #[error("too many directories")]
     TooMany,
 }
