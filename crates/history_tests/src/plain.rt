@@ -20,7 +20,7 @@ pub(crate) const NAMES: [&str; 10] = ["a", "b", "c", "d", "e", "f", "g", "h", ".
 const HOTTEST: u64 = 1 << 40;
 
 /// A directory that is there.
-#[derive(Clone, Copy, Debug, PartialEq, Eq)]
+#[derive(Clone, Copy)]
 pub(crate) struct Node {
     pub(crate) parent: Dir,
     pub(crate) name: usize,
@@ -30,7 +30,7 @@ pub(crate) struct Node {
 }
 
 /// What a message says, of which export.
-#[derive(Clone, Copy, Debug, PartialEq, Eq)]
+#[derive(Clone, Copy)]
 pub(crate) enum Word {
     Discover,
     DiscoverAck,
@@ -44,7 +44,7 @@ pub(crate) enum Word {
 }
 
 /// An export with its states. A directory's bit says that it moves.
-#[derive(Clone, Copy, Debug, PartialEq, Eq)]
+#[derive(Clone, Copy)]
 pub(crate) struct Export {
     pub(crate) from: Rank,
     pub(crate) to: Rank,
@@ -150,16 +150,34 @@ impl Plain {
         self.nodes.iter().filter(|node| node.is_some()).count()
     }
 
+    /// The parent of a directory that is there.
+    pub(crate) fn parent(&self, dir: Dir) -> Option<Dir> {
+        match self.nodes.get(dir.number() as usize) {
+            Some(Some(node)) => Some(node.parent),
+            _ => None,
+        }
+    }
+
     fn has_child(&self, dir: Dir) -> bool {
-        (1..self.numbers()).any(|child| self
-            .node(Dir::new(child))
-            .is_some_and(|node| node.parent == dir))
+        for child in self.nodes.iter().skip(1) {
+            if let Some(node) = child {
+                if node.parent == dir {
+                    return true;
+                }
+            }
+        }
+        false
     }
 
     fn has_child_named(&self, dir: Dir, name: usize) -> bool {
-        (1..self.numbers()).any(|child| self
-            .node(Dir::new(child))
-            .is_some_and(|node| node.parent == dir && node.name == name))
+        for child in self.nodes.iter().skip(1) {
+            if let Some(node) = child {
+                if node.parent == dir && node.name == name {
+                    return true;
+                }
+            }
+        }
+        false
     }
 
     pub(crate) fn write(&mut self, rank: Rank, entry: JournalEntry) -> Result<(), AllocError> {

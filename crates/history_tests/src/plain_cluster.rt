@@ -174,7 +174,7 @@ impl Plain {
         for _ in 0..LIMIT {
             for number in 1..self.numbers() {
                 let dir = Dir::new(number);
-                let parent = self.node(dir).map_or(Dir::ROOT, |node| node.parent);
+                let parent = self.parent(dir).unwrap_or(Dir::ROOT);
                 let both = bit(dir) | bit(parent);
                 if dirs & both == both && joined & both != 0 {
                     joined |= both;
@@ -338,21 +338,24 @@ impl Plain {
         Ok(Reply::Export(counted(number), message))
     }
 
-    fn name(&mut self, dir: u32, to: Rank) {
-        if let Some(named) = self.named.get_mut(dir as usize) {
-            *named = Some(to);
+    // Each of these directories is named by this rank.
+    fn name(&mut self, dirs: u128, to: Rank) {
+        for dir in 0..self.numbers() {
+            if dirs & bit(Dir::new(dir)) != 0 {
+                if let Some(named) = self.named.get_mut(dir as usize) {
+                    *named = Some(to);
+                }
+            }
         }
     }
 
     fn notify(&mut self, number: usize) -> Result<Reply, AllocError> {
-        if let Some(export) = self.exports.get(number).copied() {
-            self.write(export.from, JournalEntry::Notified(counted(number)))?;
-            for dir in 0..self.numbers() {
-                if export.dirs & bit(Dir::new(dir)) != 0 {
-                    self.name(dir, export.to);
-                }
-            }
-        }
+        let Some(export) = self.exports.get(number) else {
+            return Ok(Reply::Ignored);
+        };
+        let (from, to, dirs) = (export.from, export.to, export.dirs);
+        self.write(from, JournalEntry::Notified(counted(number)))?;
+        self.name(dirs, to);
         self.set_exporter(number, ExporterState::Done);
         self.send(Word::Finish, number)
     }

@@ -77,7 +77,7 @@ impl Plain {
         let way = self.going(dir, targets);
         let mut top = dir;
         for _ in 0..self.numbers() {
-            let parent = self.node(top).map_or(Dir::ROOT, |node| node.parent);
+            let parent = self.parent(top).unwrap_or(Dir::ROOT);
             if self.going(parent, targets) != way {
                 break;
             }

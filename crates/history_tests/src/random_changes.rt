@@ -244,7 +244,9 @@ fn balance<J: Naming, M: Publisher<J>>(
 }
 
 /// What takes an export further, if nothing stands in the way.
-fn next_step(plain: &Plain, export: u32) -> Event {
+fn next_step(plain: &Plain, export: u32) -> Event
+    ensures { is_inner result ≡ true }
+{
     let last = plain
         .sent
         .iter()
@@ -350,34 +352,51 @@ fn change<J: Naming, M: Publisher<J>>(
     }
 }
 
+/// How many exports are over at the importer, with all of their directories or with none.
+fn ended(plain: &Plain) -> (u32, u32) {
+    let mut imported: u32 = 0;
+    let mut dropped: u32 = 0;
+    for export in &plain.exports {
+        match &export.importer {
+            ImporterState::Imported => imported = imported.saturating_add(1),
+            ImporterState::Dropped => dropped = dropped.saturating_add(1),
+            _ => {}
+        }
+    }
+    (imported, dropped)
+}
+
+fn aborted(plain: &Plain) -> u32 {
+    let mut aborted: u32 = 0;
+    for export in &plain.exports {
+        if export.exporter == ExporterState::Aborted {
+            aborted = aborted.saturating_add(1);
+        }
+    }
+    aborted
+}
+
+/// How many plans were adopted and how many pins set.
+fn decided(history: &[Entry]) -> (u32, u32) {
+    let mut adopted: u32 = 0;
+    let mut pinned: u32 = 0;
+    for entry in history {
+        match &entry.change {
+            Change::Adopt(_) => adopted = adopted.saturating_add(1),
+            Change::Pin(_, _) => pinned = pinned.saturating_add(1),
+            _ => {}
+        }
+    }
+    (adopted, pinned)
+}
+
 /// Enough of each kind of change was accepted: else the choices above are too narrow.
 fn is_varied(history: &[Entry], plain: &Plain) -> bool {
-    let imported = plain
-        .exports
-        .iter()
-        .filter(|export| export.importer == ImporterState::Imported)
-        .count();
-    let dropped = plain
-        .exports
-        .iter()
-        .filter(|export| export.importer == ImporterState::Dropped)
-        .count();
-    let aborted = plain
-        .exports
-        .iter()
-        .filter(|export| export.exporter == ExporterState::Aborted)
-        .count();
-    let adopted = history
-        .iter()
-        .filter(|entry| matches!(&entry.change, Change::Adopt(_)))
-        .count();
-    let pinned = history
-        .iter()
-        .filter(|entry| matches!(&entry.change, Change::Pin(_, _)))
-        .count();
+    let (imported, dropped) = ended(plain);
+    let (adopted, pinned) = decided(history);
     plain.requests.len() > 50
         && imported > 20
-        && aborted > 8
+        && aborted(plain) > 8
         && dropped > 2
         && adopted > 20
         && pinned > 20
