@@ -122,7 +122,7 @@ fn changed<J: Naming, R: Wait + Drop>(
     requires map { map ≡ J.map }
     requires limit { J.limit ≡ 8 }
 {
-    let (mut board, mut shares) = open::<J, R>(waits, alloc, book, map)?;
+    let (mut board, mut shares, _readers) = open::<J, R>(waits, alloc, book, map, 8, 2)?;
     let done = match shares.first_mut() {
         Some(share) => set_up(rt, alloc, &mut board)
             .and_then(|()| use_it(rt, alloc, &mut board, share))

@@ -4,6 +4,20 @@
 #[cfg(test)]
 mod adopting;
 #[cfg(test)]
+mod agreeing;
+#[cfg(test)]
 mod boards;
 #[cfg(test)]
 mod changes;
+#[cfg(test)]
+mod choices;
+#[cfg(test)]
+mod plain;
+#[cfg(test)]
+mod plain_cluster;
+#[cfg(test)]
+mod plain_plans;
+#[cfg(test)]
+mod plain_solver;
+#[cfg(test)]
+mod random_changes;
