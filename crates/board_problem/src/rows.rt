@@ -53,15 +53,17 @@ pub fn rows(
     ensures dirs { IfOk result (λ found. found.dirs.items ≡ unpinned tree.now.entries pins.now.own) }
     ensures forest { IfOk result (λ found. IsForest found.rows.items) }
 {
-    let marks = pins.marks(alloc, tree)?;
-    let mut places = vec![in alloc; 0u32; tree.numbers() as usize]?;
-    let mut rows = Vec::new(alloc);
-    let mut dirs = Vec::new(alloc);
+    let count = tree.numbers() as usize;
+    let mut known = vec![in alloc; false; count]?;
+    let mut places = vec![in alloc; 0u32; count]?;
+    let mut rows = Vec::with_capacity(alloc, count)?;
+    let mut dirs = Vec::with_capacity(alloc, count)?;
     for number in 0..tree.numbers() {
+        let dir = Dir::new(number);
         places[number as usize] = rows.len() as u32;
-        let is_free = marks[number as usize];
+        let is_free = pins.is_unpinned(tree, &known, dir);
+        known[number as usize] = is_free;
         if is_free {
-            let dir = Dir::new(number);
             rows.push(row(tree, heat, now, &places, dir))?;
             dirs.push(dir)?;
         }

@@ -52,10 +52,10 @@ impl<J: Naming, M: Publisher<J>> BoardState<J, M> {
         if let Some(error) = self.balance_refusal() {
             return Err(error);
         }
-        let Ok((asked, kept, opening)) = self.problems(alloc) else {
+        let Ok((kept, opening)) = self.problems(alloc) else {
             return Err(BoardError::Memory);
         };
-        let Ok(plan) = solved(alloc, solver, &asked) else {
+        let Ok(plan) = solved(alloc, solver, kept.problem()) else {
             return Err(BoardError::Memory);
         };
         let Ok((given, orders)) = self.plan_orders(alloc, &opening.dirs, plan.plan()) else {

@@ -4,6 +4,7 @@ use export_machine::{Event, Reply};
 use mds_types::{Dir, Order, Plan, Problem, RankSet};
 use std::alloc::{AllocError, Global};
 use std::marker::Model;
+use std::sync::Arc;
 
 /// The name of a directory. To a contract it is its bytes.
 #[derive(Drop)]
@@ -170,18 +171,19 @@ impl KeptPlan {
     }
 }
 
-/// A problem at a place of its own. To a contract it is the problem.
+/// A problem at a place of its own, which several may keep. To a contract it is the problem.
 #[derive(Drop)]
 pub struct KeptProblem {
-    problem: Box<Problem, Global>,
+    problem: Arc<Problem, Global>,
 }
 
 impl Model for KeptProblem {
     ghost use Rattle.mds_types.specs.Problem.{ProblemData};
+    ghost use Rattle.std.specs.Arc.{arc_value};
 
     ghost Value = { ProblemData };
 
-    ghost view = { λ kept. kept.problem.value };
+    ghost view = { λ kept. arc_value kept.problem };
 }
 
 impl KeptProblem {
@@ -192,7 +194,16 @@ impl KeptProblem {
         ensures { IfOk result (λ kept. kept ≡ problem) }
     {
         Ok(KeptProblem {
-            problem: Box::new(alloc, problem)?,
+            problem: Arc::new(alloc, problem)?,
+        })
+    }
+
+    /// The same problem at the same place, for one more to keep. It is refused where 2^63 keep it already.
+    pub fn shared(&self) -> Result<KeptProblem, AllocError>
+        ensures { IfOk result (λ kept. kept ≡ self.now) }
+    {
+        Ok(KeptProblem {
+            problem: Arc::try_clone(&self.problem)?,
         })
     }
 

@@ -35,7 +35,7 @@ impl<J: Naming, M: Publisher<J>> BoardState<J, M> {
     fn authorities(&self, alloc: Global) -> Result<Vec<Rank>, AllocError>
         ensures { IfOk result (λ ranks. ranks.items ≡ authorities self.now.state) }
     {
-        let mut ranks = Vec::new(alloc);
+        let mut ranks = Vec::with_capacity(alloc, self.tree.numbers() as usize)?;
         for number in 0..self.tree.numbers() {
             let rank = self.cluster.authority(Dir::new(number));
             ranks.push(rank.unwrap_or(Rank::default()))?;
@@ -43,14 +43,11 @@ impl<J: Naming, M: Publisher<J>> BoardState<J, M> {
         Ok(ranks)
     }
 
-    // The problem three times, to give, to keep and to hold open, with the directories of its rows.
-    pub(crate) fn problems(
-        &self,
-        alloc: Global,
-    ) -> Result<(Problem, KeptProblem, OpenProblem), AllocError>
+    // The problem twice, to keep and to hold open, with the directories of its rows.
+    pub(crate) fn problems(&self, alloc: Global) -> Result<(KeptProblem, OpenProblem), AllocError>
         requires { 0 < rank_count (usable self.now.state) }
-        ensures given { IfOk result (λ p. (p.0 ≡ problem_of self.now.state) × (p.1 ≡ p.0)) }
-        ensures opening { IfOk result (λ p. p.2 ≡ record { problem = problem_of self.now.state; dirs = dirs_of self.now.state; changed = None }) }
+        ensures kept { IfOk result (λ p. p.0 ≡ problem_of self.now.state) }
+        ensures opening { IfOk result (λ p. p.1 ≡ record { problem = problem_of self.now.state; dirs = dirs_of self.now.state; changed = None }) }
     {
         let now = self.authorities(alloc)?;
         let Ok(found) = open(
@@ -63,14 +60,27 @@ impl<J: Naming, M: Publisher<J>> BoardState<J, M> {
         ) else {
             return Err(AllocError);
         };
-        let own = found.problem.copied(alloc)?;
-        let kept = KeptProblem::new(alloc, found.problem.copied(alloc)?)?;
+        let kept = KeptProblem::new(alloc, found.problem)?;
         let opening = OpenProblem {
-            problem: own,
+            problem: kept.shared()?,
             dirs: found.dirs,
             changed: None,
         };
-        Ok((found.problem, kept, opening))
+        Ok((kept, opening))
+    }
+
+    // The problem to give, to keep and to hold open.
+    fn problems_and_one(
+        &self,
+        alloc: Global,
+    ) -> Result<(Problem, KeptProblem, OpenProblem), AllocError>
+        requires { 0 < rank_count (usable self.now.state) }
+        ensures given { IfOk result (λ p. (p.0 ≡ problem_of self.now.state) × (p.1 ≡ p.0)) }
+        ensures opening { IfOk result (λ p. p.2 ≡ record { problem = problem_of self.now.state; dirs = dirs_of self.now.state; changed = None }) }
+    {
+        let (kept, opening) = self.problems(alloc)?;
+        let given = kept.problem().copied(alloc)?;
+        Ok((given, kept, opening))
     }
 
     /// Opens the problem of the directories that no pin holds, with their heats and authorities as they are. It is
@@ -83,7 +93,7 @@ impl<J: Naming, M: Publisher<J>> BoardState<J, M> {
         if let Some(error) = self.open_refusal() {
             return Err(error);
         }
-        let Ok((given, kept, opening)) = self.problems(alloc) else {
+        let Ok((given, kept, opening)) = self.problems_and_one(alloc) else {
             return Err(BoardError::Memory);
         };
         self.opened = Some(opening);
@@ -115,7 +125,7 @@ impl<J: Naming, M: Publisher<J>> BoardState<J, M> {
         ensures not { IfOk result (λ yes. yes ≡ false → IsNotCertified self.now.state.opened plan.now) }
     {
         match &self.opened {
-            Some(opened) => check(alloc, &opened.problem, plan),
+            Some(opened) => check(alloc, opened.problem(), plan),
             None => unreachable!(),
         }
     }

@@ -1,12 +1,13 @@
 //! The problem that is open, and the plan in force.
 
+use crate::change::KeptProblem;
 use mds_types::{Dir, Problem};
 use std::marker::Model;
 
 /// The problem that is open, with the directories of its rows, and the first event since that changed what it was made of.
 #[derive(Drop)]
 pub struct OpenProblem {
-    pub(crate) problem: Problem,
+    pub(crate) problem: KeptProblem,
     pub(crate) dirs: Vec<Dir>,
     pub(crate) changed: Option<u32>,
 }
@@ -26,7 +27,7 @@ impl OpenProblem {
     pub fn problem(&self) -> &Problem
         ensures { result.now ≡ self.now.problem }
     {
-        &self.problem
+        self.problem.problem()
     }
 
     /// The directory of each row of the problem.
@@ -47,7 +48,7 @@ impl OpenProblem {
 /// The event that put a plan in force, with the plan's problem and the directories of the problem's rows.
 #[derive(Drop)]
 pub struct InForce {
-    pub(crate) problem: Problem,
+    pub(crate) problem: KeptProblem,
     pub(crate) dirs: Vec<Dir>,
     pub(crate) event: u32,
 }
@@ -67,7 +68,7 @@ impl InForce {
     pub fn problem(&self) -> &Problem
         ensures { result.now ≡ self.now.problem }
     {
-        &self.problem
+        self.problem.problem()
     }
 
     /// The directory of each row of the problem.

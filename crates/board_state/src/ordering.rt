@@ -15,7 +15,7 @@ impl<J: Naming, M: Publisher<J>> BoardState<J, M> {
     fn holders(&self, alloc: Global) -> Result<Vec<Option<Rank>>, AllocError>
         ensures { IfOk result (λ ranks. ranks.items ≡ holders self.now.state) }
     {
-        let mut ranks = Vec::new(alloc);
+        let mut ranks = Vec::with_capacity(alloc, self.tree.numbers() as usize)?;
         for number in 0..self.tree.numbers() {
             ranks.push(self.cluster.authority(Dir::new(number)))?;
         }

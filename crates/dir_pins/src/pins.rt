@@ -139,7 +139,7 @@ impl Pins {
     }
 
     /// Whether a directory is there and no pin holds it, where that is known of all with smaller numbers.
-    fn is_unpinned(&self, tree: &Tree, known: &[bool], dir: Dir) -> bool
+    pub fn is_unpinned(&self, tree: &Tree, known: &[bool], dir: Dir) -> bool
         requires room { tree.now.limit ≤ length self.now.own }
         requires size { length known.now ≡ length tree.now.entries }
         requires inside { dir < length tree.now.entries }

@@ -41,12 +41,9 @@ pub(crate) fn move_of(
 ) -> Option<Move>
     ensures { result ≡ move_of tree.now.entries now.now target.now dir }
 {
-    if !tree.contains(dir) {
-        return None;
-    }
     let from = rank_at(now, dir)?;
     let to = rank_at(target, dir)?;
-    if from == to {
+    if from == to || !tree.contains(dir) {
         return None;
     }
     Some(Move { from, to })

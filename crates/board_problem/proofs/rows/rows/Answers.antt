@@ -1,11 +1,11 @@
 use Rattle.std.proofs.Common.{◌≡◌, ◌<◌, ◌≤◌, ◌^◌, ◌+◌, ◌∙◌, ℕ, List, Option, Bool, true, false, refl, ap, sym, arith, length, length-append, length-set, set, append-nil, [], ◌∷◌}
 use Rattle.std.proofs.lemmas.List.{length-map}
-use Rattle.std.specs.Prelude.{filter, slice_index}
+use Rattle.std.specs.Prelude.{filter, slice_index, slice_index_or}
 use Rattle.std.proofs.lemmas.List.Elements.{All-push}
 use Rattle.mds_types.specs.declared.problem.ProblemRow.{ProblemRow}
 use Rattle.dirtree.specs.Tree.{Entry, parent_of}
 use Rattle.dir_pins.specs.Pins.{below, is_unpinned, unpinned}
-use Rattle.dir_pins.proofs.NearestPin.{below_more, read_mark}
+use Rattle.dir_pins.proofs.NearestPin.{below_more, known_more}
 use Rattle.board_problem.specs.ProblemRows.{place_of, problem_rows, row_of}
 use Rattle.board_problem.proofs.Places.{place}
 use Rattle.board_problem.proofs.RowsSoFar.{forest, map_one, map_same, parent_low, row_read, set_more}
@@ -19,13 +19,13 @@ loop-number-preserved c =
     let heats : List ℕ = c.args.heat.now.heats in
     let now : List ℕ = c.args.now.now in
     let n : ℕ = c.loop-number.number in
-    let marks : List Bool = c.in_ok-marks.marks.items in
     let test : ℕ → Bool = is_unpinned es own in
     let of : ℕ → ProblemRow = row_of es heats now (unpinned es own) in
     let inside : n < length es = omega (arith, c.loop-number-test.true, c.numbers-number-end.ensures.value) in
-    let within : n < length marks = omega (arith, inside, c.in_ok-marks.ensures.size) in
+    let within : n < length c.loop-number.known.items = omega (arith, inside, c.loop-number.invariant.marks) in
     let at_places : n < length c.loop-number.places.items = omega (arith, inside, c.loop-number.invariant.size) in
-    let marked : c.index-is_free.result.now ≡ test n = read_mark marks n c.index-is_free.result.now within c.index-is_free.ensures ∙ c.in_ok-marks.ensures.unpinned n inside in
+    let marked : c.is_unpinned-is_free.result ≡ test n = c.is_unpinned-is_free.ensures ∙ rw c.new-dir.ensures refl in
+    let known : (d : ℕ) → d < n + 1 → slice_index_or (set c.loop-number.known.items n c.is_unpinned-is_free.result) d false ≡ test d = known_more c.loop-number.known.items test n c.is_unpinned-is_free.result within marked c.loop-number.invariant.known in
     let long : length c.loop-number.rows.items ≡ length (filter test (below n)) = ap length c.loop-number.invariant.rows ∙ length-map (filter test (below n)) of in
     let listed : c.len.result ≡ length c.loop-number.rows.items = omega (arith, c.len.ensures, c.loop-number.rows.ok) in
     let here : c.len.result ≡ place_of (unpinned es own) n = listed ∙ long ∙ sym (place test (length es) n (omega (arith, inside))) in
@@ -33,12 +33,14 @@ loop-number-preserved c =
     elim c.if-is_free.branch [
       | then-is_free+in_ok-push+in_ok-push-2 w ↦
           let is : test n ≡ true = sym marked ∙ w.if-is_free.true in
-          let at : w.new-dir.result ≡ n = w.new-dir.ensures in
-          let parent : slice_index w.deref.result.now (parent_of es n) ≡ place_of (unpinned es own) (parent_of es n) = rw w.deref.ensures.value (placed (parent_of es n) (omega (arith, parent_low es c.numbers-number-end.ensures.tree n))) in
-          let row : w.row.result ≡ of n = w.row.ensures.row ∙ (rw at (row_read es heats now (unpinned es own) n (slice_index w.deref.result.now (parent_of es n)) parent)) in
+          let at : c.new-dir.result ≡ n = c.new-dir.ensures in
+          let parent : slice_index w.deref-then-is_free.result.now (parent_of es n) ≡ place_of (unpinned es own) (parent_of es n) = rw w.deref-then-is_free.ensures.value (placed (parent_of es n) (omega (arith, parent_low es c.numbers-number-end.ensures.tree n))) in
+          let row : w.row.result ≡ of n = w.row.ensures.row ∙ (rw at (row_read es heats now (unpinned es own) n (slice_index w.deref-then-is_free.result.now (parent_of es n)) parent)) in
           rw (w.rows-is, w.dirs-is, w.in_ok-push.ensures.items, w.in_ok-push-2.ensures.items) (record {
             end = omega (arith, inside);
             size = simp length-set c.loop-number.invariant.size;
+            marks = simp length-set c.loop-number.invariant.marks;
+            known = known;
             few = omega (arith, length-append c.loop-number.rows.items (w.row.result ∷ []), c.loop-number.invariant.few);
             places = placed;
             dirs = rw (c.loop-number.invariant.dirs, at, below_more test n, is) refl;
@@ -50,6 +52,8 @@ loop-number-preserved c =
           rw (w.rows-is, w.dirs-is) (record {
             end = omega (arith, inside);
             size = simp length-set c.loop-number.invariant.size;
+            marks = simp length-set c.loop-number.invariant.marks;
+            known = known;
             few = omega (arith, c.loop-number.invariant.few);
             places = placed;
             dirs = c.loop-number.invariant.dirs ∙ (rw (below_more test n, is) (sym (append-nil (filter test (below n)))));

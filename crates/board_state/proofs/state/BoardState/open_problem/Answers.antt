@@ -3,8 +3,8 @@ use Rattle.board_state.specs.Steps.{Present}
 use Rattle.board_state.proofs.Accepted.{has_place, may_open}
 use Rattle.board_state.proofs.state.BoardState.open_problem.Goals as goal
 
-pub problems-requires : goal.problems-requires
-problems-requires g c = may_open _ (sym c.in_default.ensures)
+pub problems_and_one-requires : goal.problems_and_one-requires
+problems_and_one-requires g c = may_open _ (sym c.in_default.ensures)
 
 pub overflow_add-self : goal.overflow_add-self
 overflow_add-self g c =
