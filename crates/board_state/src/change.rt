@@ -72,10 +72,10 @@ impl Hits {
     }
 }
 
-/// Export orders. To a contract it is the list of them.
+/// Export orders at a place of their own, so that a reply without them takes little room. To a contract it is the list of them.
 #[derive(Drop)]
 pub struct Orders {
-    list: Vec<Order>,
+    list: Box<Vec<Order>, Global>,
 }
 
 impl Model for Orders {
@@ -84,24 +84,26 @@ impl Model for Orders {
 
     ghost Value = { List Order };
 
-    ghost view = { λ orders. orders.list.items };
+    ghost view = { λ orders. orders.list.value.items };
 }
 
 impl Orders {
-    ghost use Rattle.std.specs.Prelude.{◌≡◌};
+    ghost use Rattle.std.specs.Prelude.{◌≡◌, IfOk};
 
     /// The orders of a list.
-    pub fn new(list: Vec<Order>) -> Orders
-        ensures { result ≡ list.items }
+    pub fn new(alloc: Global, list: Vec<Order>) -> Result<Orders, AllocError>
+        ensures { IfOk result (λ orders. orders ≡ list.items) }
     {
-        Orders { list }
+        Ok(Orders {
+            list: Box::new(alloc, list)?,
+        })
     }
 
     /// The orders.
     pub fn as_slice(&self) -> &[Order]
         ensures { result.now ≡ self.now }
     {
-        &self.list
+        self.list.as_slice()
     }
 }
 

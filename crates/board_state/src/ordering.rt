@@ -46,7 +46,7 @@ impl<J: Naming, M: Publisher<J>> BoardState<J, M> {
         let target = targets(alloc, self.tree.numbers(), dirs, plan)?;
         let given = orders(alloc, &self.tree, &now, &target)?;
         let kept = copied(alloc, &given)?;
-        Ok((given, Orders::new(kept)))
+        Ok((given, Orders::new(alloc, kept)?))
     }
 }
 

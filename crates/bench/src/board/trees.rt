@@ -41,7 +41,13 @@ pub fn grow_star<J: Naming, M: Publisher<J>>(
     Ok(())
 }
 
-/// Heats the directories, a few of them much.
+/// Hits on a directory, many on a few of them.
+fn hits(random: &mut Random) -> u32 {
+    let hits = (1u64 << 34) / (random.below(65536) + 4);
+    hits.min(u64::from(u32::MAX)) as u32
+}
+
+/// Heats the directories.
 pub fn heat<J: Naming, M: Publisher<J>>(
     alloc: Global,
     board: &mut Board<J, M>,
@@ -49,9 +55,10 @@ pub fn heat<J: Naming, M: Publisher<J>>(
 ) -> io::Result<()> {
     let mut random = Random::new(7);
     for number in 0..DIR_LIMIT {
-        let _counted = share.count(Dir::new(number), ((1u64 << 34) / (random.below(65536) + 4)).min(u64::from(u32::MAX)) as u32);
+        let _counted = share.count(Dir::new(number), hits(&mut random));
     }
-    board
-        .deposit(alloc, share)
-        .map_err(|_| failed("no deposit"))
+    if board.deposit(alloc, share).is_err() {
+        return Err(failed("no deposit"));
+    }
+    Ok(())
 }

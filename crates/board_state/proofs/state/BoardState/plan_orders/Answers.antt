@@ -13,4 +13,4 @@ returns-clause-given g c =
     rw (c.in_ok-given.ensures.exact, tree, now, target) refl
 
 pub returns-clause-kept : goal.returns-clause-kept
-returns-clause-kept g c = c.new.ensures ∙ (c.in_ok-kept.ensures ∙ (c.deref-3.ensures.value ∙ returns-clause-given g c))
+returns-clause-kept g c = c.in_ok-new.ensures ∙ (c.in_ok-kept.ensures ∙ (c.deref-3.ensures.value ∙ returns-clause-given g c))
