@@ -1,5 +1,7 @@
 -- What `go` does: the waiting requests begin, are counted and end, and each share deposits its hits.
-use Rattle.std.specs.Prelude.{◌≡◌, ◌⊎◌, ℕ, ◌+◌, ◌-◌, ◌^◌, ◌==◌, ◌&&◌, nat_lt, min, if◌then◌else◌, Bool, true, false, List, [], ◌∷◌, ◌++◌, filter, fold, length, replicate, slice_index_or, slice_set, Option, Some, None}
+use Rattle.std.specs.List.{list_any}
+use Rattle.std.specs.Option.{option_or}
+use Rattle.std.specs.Prelude.{◌≡◌, ◌⊎◌, ℕ, ◌-◌, ◌^◌, ◌==◌, nat_lt, min, if◌then◌else◌, Bool, true, false, not, List, [], ◌∷◌, ◌++◌, filter, fold, length, replicate, slice_index_or, slice_set, Option, Some, None}
 use Rattle.authority_map.specs.Operations.{rank_after}
 use Rattle.dirtree.specs.Tree as tree
 use Rattle.export_machine.specs.declared.event.Event.TheVariants.{Begin, End}
@@ -18,9 +20,9 @@ use Rattle.script_board.specs.declared.fault.Fault.{Fault}
 use Rattle.script_board.specs.declared.fault.Fault.TheVariants.{Memory, ShareFull}
 use Rattle.script_board.specs.declared.load.Load.{Load}
 use Rattle.script_board.specs.Board.{BoardData}
-use Rattle.script_board.specs.Fault.{board_fault}
+use Rattle.script_board.specs.Fault.{board_fault, is_memory}
 
--- the board and its shares between two requests, and the refusals so far, one a request at most
+-- the board and its shares between two requests or deposits, and the refusals so far
 pub record Serving : Type 0 where
   pub world : World
   pub shares : List ShareData
@@ -45,13 +47,13 @@ share_at shares place = slice_index_or shares place (fresh_share 0)
 abbrev pub place_of : List ShareData → ℕ → ℕ
 place_of shares rank = if nat_lt rank (length shares) then rank else 0
 
--- a change is made, if it isn't refused
-abbrev pub recorded_unless : Option BoardError → World → Change → World
-recorded_unless None w c = recorded w c
-recorded_unless (Some e) w c = w
+-- a change is made, or a cause refuses it; and what refused it
+abbrev pub tried_unless : Option BoardError → World → Change → World × Option Fault
+tried_unless None w c = (recorded w c, None)
+tried_unless (Some e) w c = (w, Some (board_fault e))
 
-abbrev pub tried : World → Change → World
-tried w c = recorded_unless (refusal w.state c) w c
+abbrev pub tried : World → Change → World × Option Fault
+tried w c = tried_unless (refusal w.state c) w c
 
 -- how many hits of a request find room, where a share takes 2^56 of a directory
 abbrev pub fitting : ShareData → Load → ℕ
@@ -69,15 +71,18 @@ abbrev pub unless_all : Bool → Option Fault
 unless_all true = None
 unless_all false = Some ShareFull
 
--- the refusal that a request met, if it met one
+-- the refusal that a request or a deposit met, if it met one
 abbrev pub met : Option Fault → List Fault
 met None = []
 met (Some fault) = fault ∷ []
 
--- the request's ticket is given back
-abbrev pub ended : World → Reply → World
-ended w (Ticket ticket) = tried w (Step (End ticket))
-ended w _ = w
+abbrev pub end_of : ℕ → Change
+end_of ticket = Step (End ticket)
+
+-- the request's ticket is given back, or that is refused
+abbrev pub ended : World → Reply → World × Option Fault
+ended w (Ticket ticket) = tried w (end_of ticket)
+ended w _ = (w, None)
 
 abbrev pub begin_of : ℕ → Load → Change
 begin_of rank l = Step (Begin rank l.dir)
@@ -85,14 +90,22 @@ begin_of rank l = Step (Begin rank l.dir)
 abbrev pub reply_to : World → ℕ → Load → Reply
 reply_to w rank l = (machine.happens w.state.cluster (Begin rank l.dir)).reply
 
--- the board and the share after a request, and what refused it
+-- the board and the share after a request or a deposit, and what refused it
 pub record Asked : Type 0 where
   pub world : World
   pub share : ShareData
   pub fault : Option Fault
 
+-- A request that began is counted and ends. A refusal of its end is told, and else that of a hit, if either met one.
+abbrev pub begun : World × Option Fault → ShareData → Load → Asked
+begun end share l = record {
+  world = end.0;
+  share = counted_in share l;
+  fault = option_or end.1 (unless_all (fitting share l == l.hits));
+}
+
 abbrev pub asked_unless : Option BoardError → World → ShareData → ℕ → Load → Asked
-asked_unless None w share rank l = record { world = ended (recorded w (begin_of rank l)) (reply_to w rank l); share = counted_in share l; fault = unless_all (fitting share l == l.hits) }
+asked_unless None w share rank l = begun (ended (recorded w (begin_of rank l)) (reply_to w rank l)) share l
 asked_unless (Some e) w share rank l = record { world = w; share = share; fault = Some (board_fault e) }
 
 -- a request is asked of a rank: it begins, is counted and ends, or is refused
@@ -115,67 +128,95 @@ served b = fold serve (record { world = b.world; shares = b.shares; refused = []
 abbrev pub deposit_of : ShareData → Change
 deposit_of share = Deposit (counted_rows share.pending)
 
--- a share's pending hits are deposited, if the board doesn't refuse that
-abbrev pub deposited : Option BoardError → World → ShareData → World × ShareData
-deposited None w share = (recorded w (deposit_of share), record share { pending = replicate (length share.pending) 0 })
-deposited (Some e) w share = (w, share)
+abbrev pub deposited : Option BoardError → World → ShareData → Asked
+deposited None w share = record {
+  world = recorded w (deposit_of share);
+  share = record share { pending = replicate (length share.pending) 0 };
+  fault = None;
+}
+deposited (Some e) w share = record { world = w; share = share; fault = Some (board_fault e) }
 
-abbrev pub deposit : World → ShareData → World × ShareData
+-- a share's pending hits are deposited, or stay where the board refuses that
+abbrev pub deposit : World → ShareData → Asked
 deposit w share = deposited (refusal w.state (deposit_of share)) w share
 
--- the shares deposit in the order of their ranks
-abbrev pub deposit_all : World → List ShareData → World × List ShareData
-deposit_all w [] = (w, [])
-deposit_all w (share ∷ more) = ((deposit_all (deposit w share).0 more).0, (deposit w share).1 ∷ (deposit_all (deposit w share).0 more).1)
-
-abbrev pub go : BoardData → BoardData
-go b = record b {
-  world = (deposit_all (served b).world (served b).shares).0;
-  shares = (deposit_all (served b).world (served b).shares).1;
-  loads = [];
+-- one share's deposit, and then those of the others
+abbrev pub with_deposit : Asked → Serving → Serving
+with_deposit a others = record {
+  world = others.world;
+  shares = a.share ∷ others.shares;
+  refused = met a.fault ++ others.refused;
 }
 
--- The same, where memory may be refused. The flag says whether it sufficed; where it did, each step is as above.
+-- the shares deposit in the order of their ranks
+abbrev pub deposit_all : World → List ShareData → Serving
+deposit_all w [] = record { world = w; shares = []; refused = [] }
+deposit_all w (share ∷ more) = with_deposit (deposit w share) (deposit_all (deposit w share).world more)
 
--- the request ends, or stays open for want of memory
-abbrev pub IsEnded : World → Reply → Bool → World → Type 0
-IsEnded w reply true new = new ≡ ended w reply
-IsEnded w reply false new = new ≡ w
+-- the deposits, when the requests were served
+abbrev pub deposits : BoardData → Serving
+deposits b = deposit_all (served b).world (served b).shares
 
--- a request that nothing refuses begins, is counted and ends, or is refused for want of memory
-abbrev pub IsAskedUnless : Option BoardError → World → ShareData → ℕ → Load → Bool → Asked → Type 0
-IsAskedUnless None w share rank l ample a =
-    (IsEnded (recorded w (begin_of rank l)) (reply_to w rank l) ample a.world × (a.share ≡ counted_in share l) × (a.fault ≡ unless_all (fitting share l == l.hits)))
-    ⊎ ((ample ≡ false) × (a ≡ record { world = w; share = share; fault = Some Memory }))
-IsAskedUnless (Some e) w share rank l ample a = (ample ≡ true) × (a ≡ asked_unless (Some e) w share rank l)
+abbrev pub go : BoardData → BoardData
+go b = record b { world = (deposits b).world; shares = (deposits b).shares; loads = [] }
 
-abbrev pub IsAsked : World → ShareData → ℕ → Load → Bool → Asked → Type 0
-IsAsked w share rank l ample a = IsAskedUnless (refusal w.state (begin_of rank l)) w share rank l ample a
+-- the refusals that requests met, in their order, and then those that deposits met
+abbrev pub go_refused : BoardData → List Fault
+go_refused b = (served b).refused ++ (deposits b).refused
 
-abbrev pub IsServed : Serving → Load → Bool → Serving → Type 0
-IsServed s l ample new =
-    (a : Asked) × IsAsked s.world (share_at s.shares (place_of s.shares (asked_rank s.world l.dir))) (asked_rank s.world l.dir) l ample a
+-- The same, where memory may be refused. Each step that a cause refuses is as above. Another is as above too, or memory was
+-- refused: then that is told, and the step has changed nothing.
+
+abbrev pub IsTriedUnless : Option BoardError → World → Change → Option Fault → World → Type 0
+IsTriedUnless None w c told new = ((told ≡ None) × (new ≡ recorded w c)) ⊎ ((told ≡ Some Memory) × (new ≡ w))
+IsTriedUnless (Some e) w c told new = (told ≡ Some (board_fault e)) × (new ≡ w)
+
+abbrev pub IsEnded : World → Reply → Option Fault → World → Type 0
+IsEnded w (Ticket ticket) told new = IsTriedUnless (refusal w.state (end_of ticket)) w (end_of ticket) told new
+IsEnded w _ told new = (told ≡ None) × (new ≡ w)
+
+-- for want of memory a request or a deposit left all as it was
+abbrev pub forgone : World → ShareData → Asked
+forgone w share = record { world = w; share = share; fault = Some Memory }
+
+abbrev pub IsAskedUnless : Option BoardError → World → ShareData → ℕ → Load → Asked → Type 0
+IsAskedUnless None w share rank l a =
+    ((told : Option Fault) × IsEnded (recorded w (begin_of rank l)) (reply_to w rank l) told a.world
+    × (a.share ≡ counted_in share l) × (a.fault ≡ option_or told (unless_all (fitting share l == l.hits))))
+    ⊎ (a ≡ forgone w share)
+IsAskedUnless (Some e) w share rank l a = a ≡ asked_unless (Some e) w share rank l
+
+abbrev pub IsAsked : World → ShareData → ℕ → Load → Asked → Type 0
+IsAsked w share rank l a = IsAskedUnless (refusal w.state (begin_of rank l)) w share rank l a
+
+abbrev pub IsServed : Serving → Load → Serving → Type 0
+IsServed s l new =
+    (a : Asked) × IsAsked s.world (share_at s.shares (place_of s.shares (asked_rank s.world l.dir))) (asked_rank s.world l.dir) l a
     × (new ≡ with_answer s (place_of s.shares (asked_rank s.world l.dir)) a)
 
-abbrev pub AreServed : Serving → List Load → Bool → Serving → Type 0
-AreServed s [] ample new = (ample ≡ true) × (new ≡ s)
-AreServed s (l ∷ more) ample new = (first : Bool) × (rest : Bool) × (mid : Serving) × IsServed s l first mid × AreServed mid more rest new × (ample ≡ (first && rest))
+abbrev pub AreServed : Serving → List Load → Serving → Type 0
+AreServed s [] new = new ≡ s
+AreServed s (l ∷ more) new = (mid : Serving) × IsServed s l mid × AreServed mid more new
 
--- a share's hits are deposited, or stay pending for want of memory where the board doesn't refuse
-abbrev pub IsDeposited : World → ShareData → Bool → World → ShareData → Type 0
-IsDeposited w share true new after = (new, after) ≡ deposit w share
-IsDeposited w share false new after = (refusal w.state (deposit_of share) ≡ None) × (new ≡ w) × (after ≡ share)
+abbrev pub IsDepositedUnless : Option BoardError → World → ShareData → Asked → Type 0
+IsDepositedUnless None w share a = (a ≡ deposited None w share) ⊎ (a ≡ forgone w share)
+IsDepositedUnless (Some e) w share a = a ≡ deposited (Some e) w share
 
-abbrev pub AreDeposited : World → List ShareData → Bool → World → List ShareData → Type 0
-AreDeposited w [] ample new after = (ample ≡ true) × (new ≡ w) × (after ≡ [])
-AreDeposited w (share ∷ more) ample new after =
-    (first : Bool) × (rest : Bool) × (mid : World) × (one : ShareData) × (others : List ShareData)
-    × IsDeposited w share first mid one × AreDeposited mid more rest new others × (after ≡ one ∷ others) × (ample ≡ (first && rest))
+abbrev pub IsDeposited : World → ShareData → Asked → Type 0
+IsDeposited w share a = IsDepositedUnless (refusal w.state (deposit_of share)) w share a
+
+abbrev pub AreDeposited : World → List ShareData → Serving → Type 0
+AreDeposited w [] new = new ≡ record { world = w; shares = []; refused = [] }
+AreDeposited w (share ∷ more) new =
+    (a : Asked) × (others : Serving) × IsDeposited w share a × AreDeposited a.world more others × (new ≡ with_deposit a others)
 
 -- The waiting requests were served and the shares deposited; these refusals were met.
-abbrev pub IsGone : BoardData → List Fault → Bool → BoardData → Type 0
-IsGone old refused ample new =
-    (first : Bool) × (rest : Bool) × (s : Serving) × (w : World) × (shares : List ShareData)
-    × AreServed (record { world = old.world; shares = old.shares; refused = [] }) (waiting old) first s
-    × AreDeposited s.world s.shares rest w shares × (refused ≡ s.refused)
-    × (new ≡ record old { world = w; shares = shares; loads = [] }) × (ample ≡ (first && rest))
+abbrev pub IsGone : BoardData → List Fault → BoardData → Type 0
+IsGone old refused new =
+    (s : Serving) × (d : Serving) × AreServed (record { world = old.world; shares = old.shares; refused = [] }) (waiting old) s
+    × AreDeposited s.world s.shares d × (refused ≡ s.refused ++ d.refused)
+    × (new ≡ record old { world = d.world; shares = d.shares; loads = [] })
+
+-- Memory sufficed for all that `go` did, unless a refusal says otherwise.
+abbrev pub is_ample : List Fault → Bool
+is_ample refused = not (list_any is_memory refused)

@@ -1,7 +1,7 @@
 //! The command `go`: the waiting requests are served.
-ghost use Rattle.std.specs.Prelude.{◌≡◌, ◌<◌, ◌≤◌, ◌++◌, [], All, Bool, List, IfOk, OnErr, filter, length, vec_capacity};
+ghost use Rattle.std.specs.Prelude.{◌≡◌, ◌<◌, ◌≤◌, ◌+◌, ◌++◌, [], All, List, IfOk, OnErr, filter, length, vec_capacity, vec_len};
 ghost use Rattle.dirtree.specs.Tree.{is_there};
-ghost use Rattle.script_board.specs.Serve.{AreDeposited, AreServed, IsAsked, IsDeposited, IsEnded, IsGone, IsServed, asked_rank, met, place_of};
+ghost use Rattle.script_board.specs.Serve.{AreDeposited, AreServed, IsAsked, IsDeposited, IsEnded, IsGone, IsServed, asked_rank, met, place_of, unless_all};
 
 use crate::fault::Fault;
 use crate::load::Load;
@@ -16,12 +16,13 @@ use std::alloc::{AllocError, Global};
 
 impl<J: Naming, M: Publisher<J>> ScriptBoard<J, M> {
     /// Serves the waiting requests in their order, each at the rank that the map names, and deposits what the shares
-    /// counted. It answers the refusals that the requests met, one each at most. Memory for these is asked for first.
+    /// counted. It answers the refusals that were met: one a request at most, in their order, and then one a share at most,
+    /// in the order of the ranks. Memory for these is asked for first.
     pub fn go(&mut self, alloc: Global) -> Result<Vec<Fault>, AllocError>
-        ensures done { IfOk result (λ refused. (ample : Bool) × IsGone self.old refused.items ample self.new) }
+        ensures done { IfOk result (λ refused. IsGone self.old refused.items self.new) }
         ensures unchanged { OnErr result (self.new ≡ self.old) }
     {
-        let mut refused = Vec::with_capacity(alloc, self.loads.len())?;
+        let mut refused = Vec::with_capacity(alloc, self.loads.len() + self.shares.len())?;
         serve_all(
             alloc,
             &mut self.board,
@@ -30,7 +31,7 @@ impl<J: Naming, M: Publisher<J>> ScriptBoard<J, M> {
             &self.loads,
             &mut refused,
         );
-        deposit_all(alloc, &mut self.board, &mut self.shares);
+        deposit_all(alloc, &mut self.board, &mut self.shares, &mut refused);
         self.loads.clear();
         Ok(refused)
     }
@@ -60,15 +61,30 @@ fn place_of<J: Naming>(shares: &[Share<J>], rank: Rank) -> usize
     if place < shares.len() { place } else { 0 }
 }
 
-// A request ends, unless there is no memory for that.
+// Gives a request's ticket back, and says what refused that, if anything did.
 #[tactic(auto, unfolding(board_state::specs::State::happens))]
-fn end<J: Naming, M: Publisher<J>>(alloc: Global, board: &mut Board<J, M>, begun: Reply)
-    ensures ended { (ample : Bool) × IsEnded board.old begun ample board.new }
+fn end<J: Naming, M: Publisher<J>>(
+    alloc: Global,
+    board: &mut Board<J, M>,
+    begun: Reply,
+) -> Option<Fault>
+    ensures ended { IsEnded board.old begun result board.new }
     ensures directories { board.new.state.directories ≡ board.old.state.directories }
 {
-    if let Reply::Ticket(ticket) = begun {
-        let _ended = board.step(alloc, Event::End(ticket));
+    let Reply::Ticket(ticket) = begun else {
+        return None;
+    };
+    match board.step(alloc, Event::End(ticket)) {
+        Ok(_reply) => None,
+        Err(refusal) => Some(Fault::from(refusal)),
     }
+}
+
+// What refused the hits of a request, if not all found room.
+fn unless_all(all: bool) -> Option<Fault>
+    ensures { result ≡ unless_all all }
+{
+    if all { None } else { Some(Fault::ShareFull) }
 }
 
 // Asks a request of a rank, with the rank's share, and says what refused it, if anything did.
@@ -81,19 +97,14 @@ fn ask<J: Naming, M: Publisher<J>>(
     load: Load,
 ) -> Option<Fault>
     requires inside { load.dir < J.limit }
-    ensures asked { (ample : Bool) × IsAsked board.old share.old rank load ample (record { world = board.new; share = share.new; fault = result }) }
+    ensures asked { IsAsked board.old share.old rank load (record { world = board.new; share = share.new; fault = result }) }
     ensures directories { board.new.state.directories ≡ board.old.state.directories }
 {
     match board.begin(share, rank, load.dir) {
         Err(error) => Some(Fault::from(error)),
         Ok(begun) => {
             let counted = share.count(load.dir, load.hits);
-            end(alloc, board, begun);
-            if counted == load.hits {
-                None
-            } else {
-                Some(Fault::ShareFull)
-            }
+            end(alloc, board, begun).or(unless_all(counted == load.hits))
         }
     }
 }
@@ -109,8 +120,8 @@ fn serve<J: Naming, M: Publisher<J>>(
 ) -> Option<Fault>
     requires inside { load.dir < J.limit }
     requires some { 0 < length shares.old }
-    ensures served { (refused : List Fault) → (ample : Bool)
-        × IsServed (record { world = board.old; shares = shares.old; refused = refused }) load ample (record { world = board.new; shares = shares.new; refused = refused ++ met result }) }
+    ensures served { (refused : List Fault)
+        → IsServed (record { world = board.old; shares = shares.old; refused = refused }) load (record { world = board.new; shares = shares.new; refused = refused ++ met result }) }
     ensures directories { board.new.state.directories ≡ board.old.state.directories }
     ensures count { length shares.new ≡ length shares.old }
 {
@@ -132,9 +143,11 @@ fn serve_all<J: Naming, M: Publisher<J>>(
     requires some { 0 < length shares.old }
     requires none { refused.old.items ≡ [] }
     requires room { length loads.now ≤ vec_capacity refused.old }
-    ensures served { (ample : Bool) × AreServed (record { world = board.old; shares = shares.old; refused = [] }) (filter (λ l. is_there board.old.state.directories.entries l.dir) loads.now) ample (record { world = board.new; shares = shares.new; refused = refused.new.items }) }
+    ensures served { AreServed (record { world = board.old; shares = shares.old; refused = [] }) (filter (λ l. is_there board.old.state.directories.entries l.dir) loads.now) (record { world = board.new; shares = shares.new; refused = refused.new.items }) }
     ensures directories { board.new.state.directories ≡ board.old.state.directories }
     ensures count { length shares.new ≡ length shares.old }
+    ensures few { vec_len refused.new ≤ length loads.now }
+    ensures capacity { vec_capacity refused.new ≡ vec_capacity refused.old }
 {
     for load in loads {
         if !board.tree().contains(load.dir) {
@@ -146,14 +159,21 @@ fn serve_all<J: Naming, M: Publisher<J>>(
     }
 }
 
-// Deposits what a share counted, unless the board refuses it or there is no memory.
+// Deposits what a share counted, and says what refused that, if anything did.
 #[tactic(auto, unfolding(board_state::specs::State::happens))]
-fn deposit<J: Naming, M: Publisher<J>>(alloc: Global, board: &mut Board<J, M>, share: &mut Share<J>)
-    ensures deposited { (ample : Bool) × IsDeposited board.old share.old ample board.new share.new }
+fn deposit<J: Naming, M: Publisher<J>>(
+    alloc: Global,
+    board: &mut Board<J, M>,
+    share: &mut Share<J>,
+) -> Option<Fault>
+    ensures deposited { IsDeposited board.old share.old (record { world = board.new; share = share.new; fault = result }) }
     ensures directories { board.new.state.directories ≡ board.old.state.directories }
 {
     let _limit = share.limit();
-    let _deposited = board.deposit(alloc, share);
+    if let Err(error) = board.deposit(alloc, share) {
+        return Some(Fault::from(error));
+    }
+    None
 }
 
 // Each share deposits, in the order of their ranks.
@@ -161,12 +181,17 @@ fn deposit_all<J: Naming, M: Publisher<J>>(
     alloc: Global,
     board: &mut Board<J, M>,
     shares: &mut [Share<J>],
+    refused: &mut Vec<Fault>,
 )
-    ensures deposited { (ample : Bool) × AreDeposited board.old shares.old ample board.new shares.new }
+    requires room { vec_len refused.old + length shares.old ≤ vec_capacity refused.old }
+    ensures deposited { (told : List Fault) × AreDeposited board.old shares.old (record { world = board.new; shares = shares.new; refused = told })
+        × (refused.new.items ≡ refused.old.items ++ told) }
     ensures directories { board.new.state.directories ≡ board.old.state.directories }
     ensures count { length shares.new ≡ length shares.old }
 {
     for place in 0..shares.len() {
-        deposit(alloc, board, &mut shares[place]);
+        if let Some(fault) = deposit(alloc, board, &mut shares[place]) {
+            refused.push_reserved(fault);
+        }
     }
 }

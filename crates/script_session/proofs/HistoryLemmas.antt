@@ -5,7 +5,6 @@ use Rattle.board_state.specs.declared.board_error.BoardError.{BoardError}
 use Rattle.board_state.specs.declared.change.Change.{Change}
 use Rattle.board_state.specs.declared.change.Change.TheVariants as change
 use Rattle.board_state.specs.State.{refusal}
-use Rattle.export_machine.specs.declared.event.Event.TheVariants as event
 use Rattle.export_machine.specs.declared.event.Reply.{Reply}
 use Rattle.export_machine.specs.declared.event.Reply.TheVariants as reply
 use Rattle.heat_ledger.specs.Ledger.{ShareData}
@@ -22,7 +21,7 @@ use Rattle.script_board.specs.Board.{BoardData, publish}
 use Rattle.script_board.specs.Commands.{◌>>=◌, changed, find, last_slash, make_below, masked, parent_path, replanned}
 use Rattle.script_board.specs.Fault.{unless}
 use Rattle.script_board.specs.Plan.{planned}
-use Rattle.script_board.specs.Serve.{AreDeposited, AreServed, Asked as AskedOf, IsAskedUnless, IsDeposited, IsEnded, IsGone, IsServed, Serving, asked_rank, begin_of, deposit, deposit_of, deposited, ended, place_of, recorded_unless, reply_to, share_at, waiting}
+use Rattle.script_board.specs.Serve.{AreDeposited, AreServed, Asked as AskedOf, IsAskedUnless, IsDepositedUnless, IsEnded, IsGone, IsServed, IsTriedUnless, Serving, asked_rank, begin_of, deposit_of, end_of, place_of, reply_to, share_at, waiting}
 use Rattle.script_session.specs.Does.{Does}
 use Rattle.script_session.specs.History.{GoesOn, IsBeginning}
 use Rattle.script_session.specs.Printed.{Printed}
@@ -70,61 +69,59 @@ module _ (b new : BoardData) where
   from_same : (x : BoardData) → Longer b x → fine x ≡ Ok new → Longer b new
   from_same x longer is = let same : x ≡ new = cc in subst (λ (y : BoardData). Longer b y) same longer
 
-tried_longer : (r : Option BoardError) (w : World) (c : Change) → IsBeginning w.history (recorded_unless r w c).history
-tried_longer None w c = one_more w c
-tried_longer (Some e) w c = itself w.history
-
-ended_longer : (w : World) (reply : Reply) → IsBeginning w.history (ended w reply).history
-ended_longer w (reply.Dir dir) = itself w.history
-ended_longer w (reply.Ticket ticket) = tried_longer (refusal w.state (change.Step (event.End ticket))) w (change.Step (event.End ticket))
-ended_longer w (reply.Export export message) = itself w.history
-ended_longer w (reply.Sent message) = itself w.history
-ended_longer w reply.Changed = itself w.history
-ended_longer w reply.Ignored = itself w.history
-
 same_world : (w new end : World) → new ≡ end → IsBeginning w.history end.history → IsBeginning w.history new.history
 same_world w new end is longer = subst (λ (x : World). IsBeginning w.history x.history) (sym is) longer
 
-is_ended_longer : (w : World) (reply : Reply) (ample : Bool) (new : World) → IsEnded w reply ample new → IsBeginning w.history new.history
-is_ended_longer w reply true new h = same_world w new (ended w reply) h (ended_longer w reply)
-is_ended_longer w reply false new h = same_world w new w h (itself w.history)
+-- a world that stays has its history
+stays_long : (w new : World) → new ≡ w → IsBeginning w.history new.history
+stays_long w new is = same_world w new w is (itself w.history)
 
-asked_longer : (r : Option BoardError) (w : World) (share : ShareData) (rank : ℕ) (l : Load) (ample : Bool) (a : AskedOf) → IsAskedUnless r w share rank l ample a → IsBeginning w.history a.world.history
-asked_longer None w share rank l ample a (inl h) =
-    further w.history (recorded w (begin_of rank l)).history a.world.history (one_more w (begin_of rank l)) (is_ended_longer (recorded w (begin_of rank l)) (reply_to w rank l) ample a.world h.0)
-asked_longer None w share rank l ample a (inr h) = same_world w a.world w (ap (λ (x : AskedOf). x.world) h.1) (itself w.history)
-asked_longer (Some e) w share rank l ample a h = same_world w a.world w (ap (λ (x : AskedOf). x.world) h.1) (itself w.history)
+tried_longer : (r : Option BoardError) (w : World) (c : Change) (told : Option Fault) (new : World) → IsTriedUnless r w c told new → IsBeginning w.history new.history
+tried_longer None w c told new (inl h) = same_world w new (recorded w c) h.1 (one_more w c)
+tried_longer None w c told new (inr h) = stays_long w new h.1
+tried_longer (Some e) w c told new h = stays_long w new h.1
 
-served_longer : (s : Serving) (l : Load) (ample : Bool) (new : Serving) → IsServed s l ample new → IsBeginning s.world.history new.world.history
-served_longer s l ample new h =
+ended_longer : (w : World) (begun : Reply) (told : Option Fault) (new : World) → IsEnded w begun told new → IsBeginning w.history new.history
+ended_longer w (reply.Dir dir) told new h = stays_long w new h.1
+ended_longer w (reply.Ticket ticket) told new h = tried_longer (refusal w.state (end_of ticket)) w (end_of ticket) told new h
+ended_longer w (reply.Export export message) told new h = stays_long w new h.1
+ended_longer w (reply.Sent message) told new h = stays_long w new h.1
+ended_longer w reply.Changed told new h = stays_long w new h.1
+ended_longer w reply.Ignored told new h = stays_long w new h.1
+
+asked_longer : (r : Option BoardError) (w : World) (share : ShareData) (rank : ℕ) (l : Load) (a : AskedOf) → IsAskedUnless r w share rank l a → IsBeginning w.history a.world.history
+asked_longer None w share rank l a (inl (told, ends, counted, fault)) =
+    further w.history (recorded w (begin_of rank l)).history a.world.history (one_more w (begin_of rank l)) (ended_longer (recorded w (begin_of rank l)) (reply_to w rank l) told a.world ends)
+asked_longer None w share rank l a (inr h) = stays_long w a.world (ap (λ (x : AskedOf). x.world) h)
+asked_longer (Some e) w share rank l a h = stays_long w a.world (ap (λ (x : AskedOf). x.world) h)
+
+served_longer : (s : Serving) (l : Load) (new : Serving) → IsServed s l new → IsBeginning s.world.history new.world.history
+served_longer s l new h =
     let rank : ℕ = asked_rank s.world l.dir in
     same_world s.world new.world h.0.world (ap (λ (x : Serving). x.world) h.2)
-    (asked_longer (refusal s.world.state (begin_of rank l)) s.world (share_at s.shares (place_of s.shares rank)) rank l ample h.0 h.1)
+    (asked_longer (refusal s.world.state (begin_of rank l)) s.world (share_at s.shares (place_of s.shares rank)) rank l h.0 h.1)
 
-all_served_longer : (s : Serving) (loads : List Load) (ample : Bool) (new : Serving) → AreServed s loads ample new → IsBeginning s.world.history new.world.history
-all_served_longer s [] ample new h = same_world s.world new.world s.world (ap (λ (x : Serving). x.world) h.1) (itself s.world.history)
-all_served_longer s (l ∷ loads) ample new h =
-    further s.world.history h.2.world.history new.world.history (served_longer s l h.0 h.2 h.3) (all_served_longer h.2 loads h.1 new h.4)
+all_served_longer : (s : Serving) (loads : List Load) (new : Serving) → AreServed s loads new → IsBeginning s.world.history new.world.history
+all_served_longer s [] new h = stays_long s.world new.world (ap (λ (x : Serving). x.world) h)
+all_served_longer s (l ∷ loads) new h = further s.world.history h.0.world.history new.world.history (served_longer s l h.0 h.1) (all_served_longer h.0 loads new h.2)
 
-deposit_longer : (r : Option BoardError) (w : World) (share : ShareData) → IsBeginning w.history (deposited r w share).0.history
-deposit_longer None w share = one_more w (deposit_of share)
-deposit_longer (Some e) w share = itself w.history
+deposited_longer : (r : Option BoardError) (w : World) (share : ShareData) (a : AskedOf) → IsDepositedUnless r w share a → IsBeginning w.history a.world.history
+deposited_longer None w share a (inl h) = same_world w a.world (recorded w (deposit_of share)) (ap (λ (x : AskedOf). x.world) h) (one_more w (deposit_of share))
+deposited_longer None w share a (inr h) = stays_long w a.world (ap (λ (x : AskedOf). x.world) h)
+deposited_longer (Some e) w share a h = stays_long w a.world (ap (λ (x : AskedOf). x.world) h)
 
-deposited_longer : (w : World) (share : ShareData) (ample : Bool) (new : World) (after : ShareData) → IsDeposited w share ample new after → IsBeginning w.history new.history
-deposited_longer w share true new after h = same_world w new (deposit w share).0 (ap (λ (x : World × ShareData). x.0) h) (deposit_longer (refusal w.state (deposit_of share)) w share)
-deposited_longer w share false new after h = same_world w new w h.1 (itself w.history)
+all_deposited_longer : (w : World) (shares : List ShareData) (new : Serving) → AreDeposited w shares new → IsBeginning w.history new.world.history
+all_deposited_longer w [] new h = stays_long w new.world (ap (λ (x : Serving). x.world) h)
+all_deposited_longer w (share ∷ shares) new h =
+    further w.history h.0.world.history new.world.history (deposited_longer (refusal w.state (deposit_of share)) w share h.0 h.2)
+    (same_world h.0.world new.world h.1.world (ap (λ (x : Serving). x.world) h.4) (all_deposited_longer h.0.world shares h.1 h.3))
 
-all_deposited_longer : (w : World) (shares : List ShareData) (ample : Bool) (new : World) (after : List ShareData) → AreDeposited w shares ample new after → IsBeginning w.history new.history
-all_deposited_longer w [] ample new after h = same_world w new w h.1 (itself w.history)
-all_deposited_longer w (share ∷ shares) ample new after h =
-    further w.history h.2.history new.history (deposited_longer w share h.0 h.2 h.3 h.5) (all_deposited_longer h.2 shares h.1 new h.4 h.6)
-
-gone_longer : (b : BoardData) (refused : List Fault) (ample : Bool) (new : BoardData) → IsGone b refused ample new → Longer b new
-gone_longer b refused ample new h =
-    subst (λ (x : BoardData). Longer b x) (sym h.8)
-    (further b.world.history h.2.world.history h.3.history
-    (all_served_longer (record { world = b.world; shares = b.shares; refused = [] }) (waiting b) h.0 h.2 h.5)
-    (all_deposited_longer h.2.world h.2.shares h.1 h.3 h.4 h.6))
+gone_longer : (b : BoardData) (refused : List Fault) (new : BoardData) → IsGone b refused new → Longer b new
+gone_longer b refused new (s, d, serves, deposit_ends, told, is) =
+    subst (λ (x : BoardData). Longer b x) (sym is)
+    (further b.world.history s.world.history d.world.history
+    (all_served_longer (record { world = b.world; shares = b.shares; refused = [] }) (waiting b) s serves)
+    (all_deposited_longer s.world s.shares d deposit_ends))
 
 planned_longer : (b : BoardData) (plan : Plan) (new : BoardData) → new ≡ planned b plan → Longer b new
 planned_longer b plan new is =
@@ -142,7 +139,7 @@ does_longer b (line.MakeDir path inodes) p ample new h = from_made b new (last_s
 does_longer b (line.RemoveDir path) p ample new h = bound b new (find b path) _ (λ d. from_replanned b new (change.Remove d)) h.0
 does_longer b (line.Pin path value) p ample new h = bound b new (find b path) _ (λ d. from_replanned b new (change.Pin d value)) h.0
 does_longer b (line.Load path hits) p ample new h = bound b new (find b path) _ (λ d. from_same b new _ (itself b.world.history)) h.0
-does_longer b line.Go p ample new h = gone_longer b p.refused ample new h.0
+does_longer b line.Go p ample new h = gone_longer b p.refused new h.0
 does_longer b line.Tick p ample new h = from_changed b new change.Tick h.0
 does_longer b (line.Cost paths) p ample new h = same_longer b new h.4
 does_longer b line.Plan p ample new h = planned_longer b h.0 new h.1.adopted

@@ -2,6 +2,7 @@ pub mod HistoryLemmas
 pub mod OutcomeLemmas
 pub mod ReportLemmas
 pub mod ScriptLemmas
+pub mod SeenLemmas
 pub mod ServedLemmas
 pub mod SessionLemmas
 pub mod VisibleLemmas

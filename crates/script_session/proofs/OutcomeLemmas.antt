@@ -23,7 +23,7 @@ does_outcome b (line.RemoveDir path) p ample new sure h suffices = quiet_outcome
 does_outcome b (line.Pin path value) p ample new sure h suffices = quiet_outcome _ p ample new h
 does_outcome b (line.Load path hits) p ample new sure h suffices = quiet_outcome _ p ample new h
 does_outcome b line.Go p ample new sure h suffices =
-    let gone = gone_exact b p.refused ample new h.0 suffices in
+    let gone = gone_exact b p.refused new h.0 (sym h.2 ∙ suffices) in
     λ i. Ok (record { lines = sym h.1 i; refused = sym gone.0 i }, sym gone.1 i)
 does_outcome b line.Tick p ample new sure h suffices = quiet_outcome _ p ample new h
 does_outcome b (line.Cost paths) p ample new sure h suffices =

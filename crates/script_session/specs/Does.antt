@@ -13,7 +13,7 @@ use Rattle.script_board.specs.Commands.{load, make_dir, remove_dir, restart, set
 use Rattle.script_board.specs.Cost.{cost}
 use Rattle.script_board.specs.Move.{IsMoved}
 use Rattle.script_board.specs.Plan.{IsPlanned, plan_due}
-use Rattle.script_board.specs.Serve.{IsGone}
+use Rattle.script_board.specs.Serve.{IsGone, is_ample}
 use Rattle.script_replies.specs.Cost.{cost_lines}
 use Rattle.script_replies.specs.Move.{move_lines}
 use Rattle.script_replies.specs.Plan.{parts_in_force, plan_lines}
@@ -50,7 +50,7 @@ abbrev pub IsQuiet : Result BoardData Fault → Printed → Bool → BoardData �
 IsQuiet changed p ample new = (changed ≡ Ok new) × (p ≡ only_lines []) × (ample ≡ true)
 
 -- The board accepts the command: this is printed, and this is the board after it. Ample says whether memory sufficed for all
--- that it does; only `go` can go on without.
+-- that it does; only `go` can go on without, and then tells it.
 abbrev pub Does : BoardData → Command → Printed → Bool → BoardData → Type 0
 Does b (line.Ranks n) p ample new = ⊥
 Does b (line.Mask text) p ample new = IsQuiet (set_mask b text) p ample new
@@ -58,7 +58,7 @@ Does b (line.MakeDir path inodes) p ample new = IsQuiet (make_dir b path inodes)
 Does b (line.RemoveDir path) p ample new = IsQuiet (remove_dir b path) p ample new
 Does b (line.Pin path value) p ample new = IsQuiet (set_pin b path value) p ample new
 Does b (line.Load path hits) p ample new = IsQuiet (load b path hits) p ample new
-Does b line.Go p ample new = IsGone b p.refused ample new × (p.lines ≡ [])
+Does b line.Go p ample new = IsGone b p.refused new × (p.lines ≡ []) × (ample ≡ is_ample p.refused)
 Does b line.Tick p ample new = IsQuiet (tick b) p ample new
 Does b (line.Cost paths) p ample new =
     (parts : List Part) × (cost b paths ≡ Ok parts) × (p ≡ only_lines (cost_lines b parts)) × (ample ≡ true) × (new ≡ b)

@@ -9,7 +9,7 @@ use Rattle.script_board.specs.declared.fault.Fault.TheVariants.{Syntax, NoRanks,
 use Rattle.script_board.specs.Board.{BoardData, empty_board}
 use Rattle.script_board.specs.Commands.{load, make_dir, remove_dir, restart, set_mask, set_pin, stop, tick}
 use Rattle.script_board.specs.Cost.{cost}
-use Rattle.script_board.specs.Serve.{go, served}
+use Rattle.script_board.specs.Serve.{go, go_refused}
 use Rattle.script_replies.specs.Cost.{cost_lines}
 use Rattle.script_replies.specs.Stat.{stat_lines}
 use Rattle.script_session.specs.Printed.{Printed, only_lines}
@@ -35,7 +35,7 @@ outcome b (line.MakeDir path inodes) = silent (make_dir b path inodes)
 outcome b (line.RemoveDir path) = silent (remove_dir b path)
 outcome b (line.Pin path value) = silent (set_pin b path value)
 outcome b (line.Load path hits) = silent (load b path hits)
-outcome b line.Go = Ok (record { lines = []; refused = (served b).refused }, go b)
+outcome b line.Go = Ok (record { lines = []; refused = go_refused b }, go b)
 outcome b line.Tick = silent (tick b)
 outcome b (line.Cost paths) = costed b (cost b paths)
 outcome b line.Plan = Err Memory

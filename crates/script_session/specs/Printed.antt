@@ -2,7 +2,7 @@
 use Rattle.std.specs.Prelude.{ℕ, List, []}
 use Rattle.script_board.specs.declared.fault.Fault.{Fault}
 
--- lines, and then a refusal for each request that met one
+-- lines, and then the refusals that requests and deposits met
 pub record Printed : Type 0 where
   pub lines : List (List ℕ)
   pub refused : List Fault

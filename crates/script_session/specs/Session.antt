@@ -55,7 +55,7 @@ IsCausedOrNoRoom stands fault = IsCaused stands fault ⊎ (fault ≡ Memory)
 abbrev pub refusal_lines : ℕ → List Fault → List ℕ
 refusal_lines number refused = flat_map (λ fault. fault_text number (words fault)) refused
 
--- A line that refused a request isn't accepted.
+-- A line that refused a request or a deposit isn't accepted.
 abbrev pub done_answer : ℕ → Printed → Bool → Answer
 done_answer number p ample = record { text = joined p.lines ++ refusal_lines number p.refused; accepted = length p.refused == 0; ample = ample }
 

@@ -1,10 +1,11 @@
 -- What a script's output says of want of memory.
-use Rattle.std.specs.Prelude.{◌≡◌, ℕ, ◌+◌, Bool, true, false, List, [], ◌∷◌, ◌++◌}
+use Rattle.std.specs.Prelude.{◌≡◌, ◌⊎◌, ℕ, ◌+◌, Bool, true, false, List, [], ◌∷◌, ◌++◌}
 use Rattle.script_engine.specs.Answers.{Answer, fault_text}
 use Rattle.script_commands.specs.Commands as line
 use Rattle.script_commands.specs.Commands.{Asked, asked}
 use Rattle.script_board.specs.declared.fault.Fault.TheVariants.{Memory}
 use Rattle.script_session.specs.Fault.{words}
+use Rattle.script_session.specs.Session.{SessionData, published}
 
 -- the answer ends with the line that says want of memory
 abbrev pub SaysMemory : ℕ → Answer → Type 0
@@ -15,8 +16,8 @@ abbrev pub NoneSaysMemory : ℕ → List Answer → Type 0
 NoneSaysMemory number [] = Unit {0}
 NoneSaysMemory number (a ∷ more) = (SaysMemory number a → ⊥) × NoneSaysMemory (number + 1) more
 
--- Whether a line's answer tells each want of memory: not so `go`, which leaves a ticket or a deposit that finds none, nor the
--- report, which shows how much of the map is published.
+-- Whether a line's answer is the same however much of the map is published: not so `go`, whose requests are asked of the ranks
+-- that the published map names, nor the report, which shows them. (A map that isn't published for want of memory isn't told.)
 abbrev pub tells_all : Asked → Bool
 tells_all (line.Asks line.Go) = false
 tells_all (line.Asks line.Plan) = false
@@ -27,3 +28,11 @@ tells_all _ = true
 -- a line whose answer is known once it is known that it doesn't say want of memory
 abbrev pub is_visible : List ℕ → Bool
 is_visible bytes = tells_all (asked bytes)
+
+-- no line of the answer says want of memory
+abbrev pub TellsNoMemory : ℕ → Answer → Type 0
+TellsNoMemory number a = (front back : List ℕ) → a.text ≡ front ++ (fault_text number (words Memory) ++ back) → ⊥
+
+-- the answer is the one that is due, and so is the session after it, but that its map may not have been published
+abbrev pub IsSeenAs : Answer → SessionData → Answer × SessionData → Type 0
+IsSeenAs a new due = (a.text ≡ due.0.text) × (a.accepted ≡ due.0.accepted) × ((new ≡ due.1) ⊎ (published new ≡ due.1))

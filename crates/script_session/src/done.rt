@@ -8,7 +8,7 @@ use script_replies::Reply;
 /// What a command that was carried out prints.
 #[derive(Drop)]
 pub enum Done {
-    /// A line for each refusal that the requests met which were served.
+    /// A line for each refusal that requests and deposits met.
     Served(Vec<Fault>),
     /// The plan that was adopted. Its parts are made when it is printed.
     Planned,
@@ -17,7 +17,7 @@ pub enum Done {
 }
 
 impl Done {
-    /// The refusals that requests met.
+    /// The refusals that requests and deposits met.
     pub fn refused(&self) -> &[Fault]
         ensures { result.now ≡ refused_by self.now }
     {

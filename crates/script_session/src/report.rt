@@ -28,7 +28,7 @@ pub fn write_fault<W: Write>(writer: &mut W, number: u64, fault: Fault) -> Resul
     }
 }
 
-/// Writes a line for each refusal that requests met.
+/// Writes a line for each refusal that requests and deposits met.
 pub fn write_refused<W: Write>(
     writer: &mut W,
     number: u64,

@@ -1,5 +1,5 @@
 use Rattle.std.proofs.Common.{◌≡◌, ◌+◌, ℕ, Bool, true, List, ◌++◌, Option, append-nil, ap, arith, refl, subst, sym, ◌∙◌}
-use Rattle.std.specs.Prelude.{◌&&◌, filter, take}
+use Rattle.std.specs.Prelude.{filter, take}
 use Rattle.dirtree.specs.Tree.{is_there, Directories}
 use Rattle.script_board.specs.declared.fault.Fault.{Fault}
 use Rattle.script_board.specs.declared.load.Load.{Load}
@@ -18,8 +18,8 @@ loop-load-preserved g c =
     let step = c.serve.ensures.served c.loop-load.refused.items in
     let first : Serving = record { world = c.args.board.now; shares = c.args.shares.now; refused = c.args.refused.now.items } in
     let passes : test item ≡ true = ap (λ (t : Directories). is_there t.entries item.dir) (sym (c.tree.ensures ∙ inv.directories)) ∙ (sym c.contains.ensures.there ∙ c.if-not-contains.false) in
-    let all : AreServed first (filter test (take (i + 1) c.args.loads.now)) (before.0 && step.0) (record { world = c.serve.new.board; shares = c.serve.new.shares; refused = c.loop-load.refused.items ++ met c.serve.result }) =
-    served_step first c.args.loads.now test i item before.0 _ step.0 _ c.loop-load-test.true (rw (← c.load-item.is) passes) before.1 (rw (← c.load-item.is) step.1) in
+    let all : AreServed first (filter test (take (i + 1) c.args.loads.now)) (record { world = c.serve.new.board; shares = c.serve.new.shares; refused = c.loop-load.refused.items ++ met c.serve.result }) =
+    served_step first c.args.loads.now test i item _ _ c.loop-load-test.true (rw (← c.load-item.is) passes) before (rw (← c.load-item.is) step) in
     elim c.match-serve.branch [
       | in-Some w ↦
           let same : c.loop-load.refused.items ++ met c.serve.result ≡ c.match-serve.refused.items = ap (λ (o : Option Fault). c.loop-load.refused.items ++ met o) w.in-Some.is ∙ sym (rw w.refused-is w.push_reserved.ensures.items) in
@@ -28,7 +28,7 @@ loop-load-preserved g c =
             count = c.serve.ensures.count ∙ inv.count;
             few = rw w.refused-is (omega (arith, inv.few, w.push_reserved.ensures.len));
             room = rw w.refused-is (w.push_reserved.ensures.capacity ∙ inv.room);
-            served = (before.0 && step.0, subst (λ (r : List Fault). AreServed first (filter test (take (i + 1) c.args.loads.now)) (before.0 && step.0) (record { world = c.serve.new.board; shares = c.serve.new.shares; refused = r })) same all);
+            served = subst (λ (r : List Fault). AreServed first (filter test (take (i + 1) c.args.loads.now)) (record { world = c.serve.new.board; shares = c.serve.new.shares; refused = r })) same all;
           }
       | in_default w ↦
           let same : c.loop-load.refused.items ++ met c.serve.result ≡ c.match-serve.refused.items = ap (λ (o : Option Fault). c.loop-load.refused.items ++ met o) w.in_default.is ∙ (append-nil c.loop-load.refused.items ∙ sym (rw w.refused-is refl)) in
@@ -37,6 +37,6 @@ loop-load-preserved g c =
             count = c.serve.ensures.count ∙ inv.count;
             few = rw w.refused-is (omega (arith, inv.few));
             room = rw w.refused-is inv.room;
-            served = (before.0 && step.0, subst (λ (r : List Fault). AreServed first (filter test (take (i + 1) c.args.loads.now)) (before.0 && step.0) (record { world = c.serve.new.board; shares = c.serve.new.shares; refused = r })) same all);
+            served = subst (λ (r : List Fault). AreServed first (filter test (take (i + 1) c.args.loads.now)) (record { world = c.serve.new.board; shares = c.serve.new.shares; refused = r })) same all;
           }
     ]

@@ -1,4 +1,4 @@
-use Rattle.std.proofs.Common.{◌≡◌, ◌≤◌, Bool, length, take}
+use Rattle.std.proofs.Common.{◌≡◌, ◌≤◌, length, take}
 use Rattle.std.specs.Prelude.{filter, vec_capacity, vec_len}
 use Rattle.dirtree.specs.Tree.{is_there}
 use Rattle.script_board.specs.Serve.{AreServed}
@@ -11,7 +11,7 @@ invariant-loop-load g l = record {
   count : length l.shares ≡ length l.initial.shares;
   few : vec_len l.refused ≤ l.load-index;
   room : vec_capacity l.refused ≡ vec_capacity l.initial.refused;
-  served : (ample : Bool) × AreServed (record { world = l.initial.board; shares = l.initial.shares; refused = l.initial.refused.items })
-      (filter (λ x. is_there l.initial.board.state.directories.entries x.dir) (take l.load-index l.loads)) ample
+  served : AreServed (record { world = l.initial.board; shares = l.initial.shares; refused = l.initial.refused.items })
+      (filter (λ x. is_there l.initial.board.state.directories.entries x.dir) (take l.load-index l.loads))
       (record { world = l.board; shares = l.shares; refused = l.refused.items });
 }
