@@ -1,8 +1,10 @@
--- What all directories have together, and which have nothing left.
-use Rattle.std.specs.Prelude.{◌≡◌, ℕ, List}
+-- What folding leaves: the directories that are kept, each with what the folded ones below it had.
+use Rattle.std.specs.Prelude.{◌≡◌, ◌==◌, ◌<◌, ℕ, zero, suc, Bool, true, false, not, List, length, slice_get, slice_index, slice_index_or, Option, Some, None, if◌then◌else◌}
 use Rattle.std.specs.List.{sum_by}
+use Rattle.std.specs.Option.{option_map}
+use Rattle.mds_types.specs.Sums.{count_below, sum_below}
 use Rattle.ceph_snapshot.specs.declared.directory.Directory.{Directory}
-use Rattle.ceph_snapshot.specs.Holding.{heat_at, inodes_at}
+use Rattle.ceph_snapshot.specs.Holding.{climb, earlier_at, heat_at, inodes_at, is_holding, now_at, parent_at}
 
 abbrev pub all_heat : List Directory → ℕ
 all_heat directories = sum_by (λ d. d.heat) directories
@@ -10,7 +12,61 @@ all_heat directories = sum_by (λ d. d.heat) directories
 abbrev pub all_inodes : List Directory → ℕ
 all_inodes directories = sum_by (λ d. d.inodes) directories
 
--- what directory i had was passed on
-pub record IsEmptied (directories : List Directory) (i : ℕ) : Type 0 where
-  pub heat : heat_at directories i ≡ 0
-  pub inodes : inodes_at directories i ≡ 0
+-- whether directory i is marked in a list
+abbrev pub is_marked : List Bool → ℕ → Bool
+is_marked marks i = slice_index_or marks i false
+
+-- a directory that may be folded: it isn't the root, has no pin of its own, isn't spread, and is where its parent is
+pub record IsPlain (directories : List Directory) (i : ℕ) : Type 0 where
+  pub below : 0 < i
+  pub free : is_holding directories i ≡ false
+  pub unset : earlier_at directories i ≡ None
+  pub here : now_at directories i ≡ now_at directories (parent_at directories i)
+
+-- how many of the first n directories are kept; of one that is kept that is its new place
+abbrev pub kept_below : (ℕ → Bool) → ℕ → ℕ
+kept_below gone n = count_below n (λ i. not (gone i))
+
+-- of the directories at and above i, the nearest that is kept
+pub record IsHome (directories : List Directory) (gone : ℕ → Bool) (i home : ℕ) : Type 0 where
+  pub steps : ℕ
+  pub there : climb directories steps i ≡ home
+  pub kept : gone home ≡ false
+  pub nearer : (n : ℕ) → n < steps → gone (climb directories n i) ≡ true
+
+-- what the first n directories have whose home is there
+abbrev pub brought : (ℕ → ℕ) → (ℕ → ℕ) → ℕ → ℕ → ℕ
+brought amount home n there = sum_below n (λ i. if home i == there then amount i else 0)
+
+-- a kept directory with the heat and the inodes of all whose home it is, and its parent by its new place
+abbrev pub with_amounts : ℕ → ℕ → ℕ → Directory → Directory
+with_amounts parent heat inodes d = record d { parent = parent; heat = heat; inodes = inodes }
+
+abbrev pub folded : List Directory → (ℕ → Bool) → (ℕ → ℕ) → ℕ → Option Directory
+folded directories gone home i =
+    option_map (with_amounts
+    (kept_below gone (parent_at directories i))
+    (brought (heat_at directories) home (length directories) i)
+    (brought (inodes_at directories) home (length directories) i))
+    (slice_get directories i)
+
+-- what is left where these are gone: each kept directory stands at its new place, and what the others had is at the nearest
+-- above them that is kept
+pub record HasLeft (directories left : List Directory) (gone : ℕ → Bool) (home : ℕ → ℕ) : Type 0 where
+  pub nearest : (i : ℕ) → i < length directories → IsHome directories gone i (home i)
+  pub inside : (i : ℕ) → i < length directories → home i < length directories
+  pub size : length left ≡ kept_below gone (length directories)
+  pub kept : (i : ℕ) → i < length directories → gone i ≡ false → slice_get left (kept_below gone i) ≡ folded directories gone home i
+
+-- only plain directories are gone, each with all below it
+pub record AreGone (directories : List Directory) (gone : ℕ → Bool) : Type 0 where
+  pub plain : (i : ℕ) → i < length directories → gone i ≡ true → IsPlain directories i
+  pub below : (i : ℕ) → 0 < i → i < length directories → gone (parent_at directories i) ≡ true → gone i ≡ true
+
+abbrev pub IsFolded : List Directory → List Directory → Type 0
+IsFolded directories left = (gone : ℕ → Bool) × (home : ℕ → ℕ) × AreGone directories gone × HasLeft directories left gone home
+
+-- directory i with another parent and these amounts
+abbrev pub put_together : List Directory → List ℕ → List ℕ → List ℕ → ℕ → Option Directory
+put_together directories parents heats inodes i =
+    option_map (with_amounts (slice_index parents i) (slice_index heats i) (slice_index inodes i)) (slice_get directories i)

@@ -22,6 +22,9 @@ now_at directories i = option_map_or (λ (d : Directory). d.now) (slice_get dire
 abbrev pub pin_at : List Directory → ℕ → Option ℕ
 pin_at directories i = option_map_or (λ (d : Directory). d.pin) (slice_get directories i) None
 
+abbrev pub earlier_at : List Directory → ℕ → Option ℕ
+earlier_at directories i = option_map_or (λ (d : Directory). d.earlier) (slice_get directories i) None
+
 abbrev pub is_spread_at : List Directory → ℕ → Bool
 is_spread_at directories i = option_map_or (λ (d : Directory). d.is_spread) (slice_get directories i) false
 

@@ -1,227 +1,162 @@
-//! Folds the coldest leaves of a tree into their parents, where there are more directories than the planner takes.
-//!
-//! Leaves are chosen first, the coldest first, each with the heat of what was chosen below it. Then what a chosen directory has
-//! goes to its parent, from the last directory to the first, and the others are kept.
-ghost use Rattle.std.specs.Prelude.{◌≡◌, ◌≢◌, ◌+◌, ◌<◌, ◌≤◌, ◌^◌, ◌↔◌, ℕ, IsTrue, Some, true, length, slice_get, IfOk, OnOk};
-ghost use Rattle.std.specs.Bool.{OnTrue};
-ghost use Rattle.ceph_snapshot.specs.Folding.{IsEmptied, all_heat, all_inodes};
+//! Folds the coldest directories into those above them, where there are more than the planner takes.
+ghost use Rattle.std.specs.Prelude.{◌≡◌, ◌+◌, ◌<◌, ◌≤◌, ◌^◌, ℕ, IsTrue, false, true, length, slice_get, slice_index, IfOk, IsOkAnd};
+ghost use Rattle.std.specs.Option.{option_map};
+ghost use Rattle.ceph_snapshot.specs.Folding.{HasLeft, IsFolded, IsHome, all_heat, all_inodes, is_marked, kept_below, put_together, with_amounts};
+ghost use Rattle.ceph_snapshot.specs.Holding.{AreParentsFirst, parent_at};
 
+use crate::amounts::{heats_home, inodes_home};
+use crate::coldest::coldest;
 use crate::directory::Directory;
 use crate::gathering::SnapshotError;
 use std::alloc::{AllocError, Global};
-use std::collections::BinaryHeap;
-use std::mem;
 
-/// Adds what a leaf has to its parent, if the sums can be counted.
-fn fold_into(parent: &mut Directory, heat: u64, inodes: u64) -> bool
-    ensures heat { OnTrue result (parent.new.heat ≡ parent.old.heat + heat) }
-    ensures inodes { OnTrue result (parent.new.inodes ≡ parent.old.inodes + inodes) }
-    ensures fits { IsTrue result ↔ ((parent.old.heat + heat < 2 ^ 64) × (parent.old.inodes + inodes < 2 ^ 64)) }
+/// Whether the root names itself and each other directory stands behind its parent.
+fn are_parents_first(directories: &[Directory]) -> bool
+    ensures { IsTrue result → AreParentsFirst directories.now }
 {
-    let heat = parent.heat.checked_add(heat);
-    let inodes = parent.inodes.checked_add(inodes);
-    let (Some(heat), Some(inodes)) = (heat, inodes) else {
-        return false;
-    };
-    parent.heat = heat;
-    parent.inodes = inodes;
-    true
-}
-
-/// Passes what a directory has on to its parent. Gives no for one with no parent before it, and where the two together are too
-/// much to be counted.
-fn pass_on(directories: &mut [Directory], at: usize) -> bool
-    requires { at < length directories.old }
-    ensures size { length directories.new ≡ length directories.old }
-    ensures heat { OnTrue result (all_heat directories.new ≡ all_heat directories.old) }
-    ensures inodes { OnTrue result (all_inodes directories.new ≡ all_inodes directories.old) }
-    ensures empty { OnTrue result (IsEmptied directories.new at) }
-    ensures behind { (i : ℕ) → at < i → slice_get directories.new i ≡ slice_get directories.old i }
-{
-    let leaf = &mut directories[at];
-    let above = leaf.parent as usize;
-    let heat = mem::take(&mut leaf.heat);
-    let inodes = mem::take(&mut leaf.inodes);
-    above < at && fold_into(&mut directories[above], heat, inodes)
-}
-
-/// Passes what each directory that is gone has on to its parent, the last first, so that it comes to the nearest that is kept.
-fn pass_up(directories: &mut [Directory], gone: &[bool]) -> bool
-    requires { length gone.now ≡ length directories.old }
-    ensures size { length directories.new ≡ length directories.old }
-    ensures heat { OnTrue result (all_heat directories.new ≡ all_heat directories.old) }
-    ensures inodes { OnTrue result (all_inodes directories.new ≡ all_inodes directories.old) }
-    ensures empty { OnTrue result ((i : ℕ) → slice_get gone.now i ≡ Some true → IsEmptied directories.new i) }
-{
-    for at in (0..directories.len()).rev() {
-        if gone[at] && !pass_on(directories, at) {
+    for (at, directory) in directories.iter().enumerate() {
+        if directory.parent as usize > at.saturating_sub(1) {
             return false;
         }
     }
     true
 }
 
-/// How many children each directory has.
-fn children(alloc: Global, directories: &[Directory]) -> Result<Vec<u32>, AllocError> {
-    let mut children = vec![in alloc; 0u32; directories.len()]?;
-    for directory in directories.iter().skip(1) {
-        if let Some(count) = children.get_mut(directory.parent as usize) {
-            *count = count.saturating_add(1);
-        }
-    }
-    Ok(children)
-}
-
-/// Whether a directory may be folded: it isn't the root, is where its parent is, has no pin and isn't spread.
-fn is_plain(directories: &[Directory], at: usize) -> bool {
-    let Some(directory) = directories.get(at) else {
-        return false;
-    };
-    let Some(parent) = directories.get(directory.parent as usize) else {
-        return false;
-    };
-    at > 0
-        && directory.pin.is_none()
-        && directory.earlier.is_none()
-        && !directory.is_spread
-        && directory.now == parent.now
-}
-
-/// The leaves that may be folded, the coldest on top.
-type Leaves = BinaryHeap<(u64, usize)>;
-
-/// A tree from which leaves are chosen.
-#[derive(Drop)]
-struct Shrinking {
-    /// How many children of each directory aren't chosen.
-    children: Vec<u32>,
-    /// The heat of each directory with what was chosen below it.
-    heats: Vec<u64>,
-    /// What can be chosen next.
-    leaves: Leaves,
-}
-
-impl Shrinking {
-    /// Nothing is chosen yet.
-    fn new(alloc: Global, directories: &[Directory]) -> Result<Shrinking, AllocError> {
-        let mut heats = Vec::with_capacity(alloc, directories.len())?;
-        for directory in directories {
-            heats.push(directory.heat)?;
-        }
-        Ok(Shrinking {
-            children: children(alloc, directories)?,
-            heats,
-            leaves: BinaryHeap::new(alloc),
-        })
-    }
-
-    /// Puts a directory among the leaves if it is one and may be folded.
-    fn add_leaf(&mut self, directories: &[Directory], at: usize) -> Result<(), AllocError> {
-        if self.children.get(at) == Some(&0) && is_plain(directories, at) {
-            if let Some(heat) = self.heats.get(at) {
-                self.leaves.push((u64::MAX - *heat, at))?;
-            }
-        }
-        Ok(())
-    }
-
-    /// Chooses the coldest leaf, whose parent is a leaf where it was the last child.
-    fn choose(&mut self, directories: &[Directory]) -> Result<usize, SnapshotError> {
-        let Some((cold, at)) = self.leaves.pop() else {
-            return Err(SnapshotError::TooMany);
-        };
-        let Some(directory) = directories.get(at) else {
-            return Err(SnapshotError::TooMany);
-        };
-        let above = directory.parent as usize;
-        if let (Some(count), Some(heat)) = (
-            self.children.get_mut(above),
-            self.heats.get_mut(above),
-        ) {
-            *count = count.saturating_sub(1);
-            *heat = heat.saturating_add(u64::MAX - cold);
-        }
-        self.add_leaf(directories, above)?;
-        Ok(at)
-    }
-}
-
-/// Which directories are gone once as many are folded as it takes to leave `limit`, if so many can be.
-fn gone(alloc: Global, directories: &[Directory], limit: usize) -> Result<Vec<bool>, SnapshotError>
-    ensures { IfOk result (λ gone. length gone.items ≡ length directories.now) }
+/// The nearest directory that is kept, at or above each.
+fn homes(alloc: Global, directories: &[Directory], gone: &[bool]) -> Result<Vec<usize>, AllocError>
+    requires first { AreParentsFirst directories.now }
+    requires size { length gone.now ≡ length directories.now }
+    requires root { is_marked gone.now 0 ≡ false }
+    ensures size { IfOk result (λ homes. length homes.items ≡ length directories.now) }
+    ensures inside { IfOk result (λ homes. (i : ℕ) → i < length directories.now → slice_index homes.items i < length directories.now) }
+    ensures homes { IfOk result (λ homes. (i : ℕ) → i < length directories.now → IsHome directories.now (is_marked gone.now) i (slice_index homes.items i)) }
 {
-    let mut shrinking = Shrinking::new(alloc, directories)?;
-    for at in 0..directories.len() {
-        shrinking.add_leaf(directories, at)?;
+    let mut homes = Vec::with_capacity(alloc, directories.len())?;
+    for (at, directory) in directories.iter().enumerate() {
+        let home = if gone[at] {
+            homes[directory.parent as usize]
+        } else {
+            at
+        };
+        homes.push(home)?;
     }
-    let mut gone = vec![in alloc; false; directories.len()]?;
-    let mut kept = directories.len();
-    while kept > limit {
-        let at = shrinking.choose(directories)?;
-        if let Some(is_gone) = gone.get_mut(at) {
-            *is_gone = true;
-        }
-        kept -= 1;
-    }
-    Ok(gone)
+    Ok(homes)
 }
 
-/// The place of each directory among those that are kept.
-fn places(alloc: Global, gone: &[bool]) -> Result<Vec<u32>, AllocError> {
+/// How many directories before each are kept.
+fn places(alloc: Global, gone: &[bool]) -> Result<Vec<u32>, AllocError>
+    requires { length gone.now ≤ 2 ^ 32 }
+    ensures size { IfOk result (λ places. length places.items ≡ length gone.now) }
+    ensures places { IfOk result (λ places. (i : ℕ) → i < length gone.now → slice_index places.items i ≡ kept_below (is_marked gone.now) i) }
+{
     let mut places = Vec::with_capacity(alloc, gone.len())?;
-    let mut kept = 0u32;
+    let mut kept = 0u64;
     for is_gone in gone {
-        places.push(kept)?;
+        places.push(kept as u32)?;
         if !*is_gone {
-            kept = kept.saturating_add(1);
+            kept += 1;
         }
     }
     Ok(places)
 }
 
-/// A directory whose parent goes by its new place.
-fn moved(mut directory: Directory, places: &[u32]) -> Directory
-    ensures { result ≡ record directory { parent = result.parent } }
+/// The new place of each directory's parent.
+fn new_parents(
+    alloc: Global,
+    directories: &[Directory],
+    gone: &[bool],
+) -> Result<Vec<u32>, AllocError>
+    requires first { AreParentsFirst directories.now }
+    requires few { length directories.now ≤ 2 ^ 32 }
+    requires size { length gone.now ≡ length directories.now }
+    ensures size { IfOk result (λ parents. length parents.items ≡ length directories.now) }
+    ensures parents { IfOk result (λ parents. (i : ℕ) → i < length directories.now → slice_index parents.items i ≡ kept_below (is_marked gone.now) (parent_at directories.now i)) }
 {
-    if let Some(place) = places.get(directory.parent as usize) {
-        directory.parent = *place;
+    let places = places(alloc, gone)?;
+    let mut parents = Vec::with_capacity(alloc, directories.len())?;
+    for (at, directory) in directories.iter().enumerate() {
+        parents.push(places[directory.parent as usize])?;
     }
-    directory
+    Ok(parents)
 }
 
-/// The directories that aren't gone, in their order.
-fn kept(
+/// Puts a directory to an earlier place or leaves it at its own, with a new parent, heat and inodes.
+fn put(directories: &mut [Directory], from: usize, to: usize, parent: u32, heat: u64, inodes: u64)
+    requires inside { from < length directories.old }
+    requires earlier { to ≤ from }
+    ensures size { length directories.new ≡ length directories.old }
+    ensures there { slice_get directories.new to ≡ option_map (with_amounts parent heat inodes) (slice_get directories.old from) }
+    ensures before { (i : ℕ) → i < to → slice_get directories.new i ≡ slice_get directories.old i }
+    ensures behind { (i : ℕ) → from < i → slice_get directories.new i ≡ slice_get directories.old i }
+{
+    directories.swap(to, from);
+    let directory = &mut directories[to];
+    directory.parent = parent;
+    directory.heat = heat;
+    directory.inodes = inodes;
+}
+
+/// Puts the directories that are kept behind one another, each with its new parent and what came to it. Gives how many they are.
+fn close_up(
+    directories: &mut [Directory],
+    gone: &[bool],
+    parents: &[u32],
+    heats: &[u64],
+    inodes: &[u64],
+) -> usize
+    requires gone { length gone.now ≡ length directories.old }
+    requires parents { length parents.now ≡ length directories.old }
+    requires heats { length heats.now ≡ length directories.old }
+    requires inodes { length inodes.now ≡ length directories.old }
+    ensures size { length directories.new ≡ length directories.old }
+    ensures count { result ≡ kept_below (is_marked gone.now) (length directories.old) }
+    ensures kept { (i : ℕ) → i < length directories.old → is_marked gone.now i ≡ false → slice_get directories.new (kept_below (is_marked gone.now) i) ≡ put_together directories.old parents.now heats.now inodes.now i }
+{
+    let mut kept = 0;
+    for at in 0..directories.len() {
+        if !gone[at] {
+            put(directories, at, kept, parents[at], heats[at], inodes[at]);
+            kept += 1;
+        }
+    }
+    kept
+}
+
+/// The directories that are kept, with what those had that are gone.
+fn folded(
     alloc: Global,
     mut directories: Vec<Directory>,
     gone: &[bool],
-) -> Result<Vec<Directory>, AllocError>
+) -> Result<Vec<Directory>, SnapshotError>
+    requires first { AreParentsFirst directories.items }
+    requires few { length directories.items ≤ 2 ^ 32 }
     requires size { length gone.now ≡ length directories.items }
-    requires empty { (i : ℕ) → slice_get gone.now i ≡ Some true → IsEmptied directories.items i }
-    ensures heat { IfOk result (λ kept. all_heat kept.items ≡ all_heat directories.items) }
-    ensures inodes { IfOk result (λ kept. all_inodes kept.items ≡ all_inodes directories.items) }
-    ensures fewer { IfOk result (λ kept. length kept.items ≤ length directories.items) }
+    requires root { is_marked gone.now 0 ≡ false }
+    ensures { IfOk result (λ left. (home : ℕ → ℕ) × HasLeft directories.items left.items (is_marked gone.now) home) }
 {
-    let places = places(alloc, gone)?;
-    let mut kept = Vec::new(alloc);
-    while let Some(directory) = directories.pop() {
-        if gone[directories.len()] {
-            continue;
-        }
-        kept.push(moved(directory, &places))?;
-    }
-    kept.reverse();
-    Ok(kept)
+    let before = directories.as_slice();
+    let homes = homes(alloc, before, gone)?;
+    let at_home = homes.as_slice();
+    let heats = heats_home(alloc, before, at_home)?;
+    let inodes = inodes_home(alloc, before, at_home)?;
+    let parents = new_parents(alloc, before, gone)?;
+    let kept = close_up(&mut directories, gone, &parents, &heats, &inodes);
+    directories.truncate(kept);
+    Ok(directories)
 }
 
-/// Folds the coldest leaves into their parents, again and again, until at most `limit` directories are left: heat and inodes
-/// go to the parent. Gives how many were folded.
+/// Folds the coldest directories, each with all below it, until at most `limit` are left: what they have, heat and inodes, goes
+/// to the nearest directory above them that is kept. Gives how many were folded.
 ///
 /// Directories with a pin, those that are spread, and those that are at another rank than their parent stay.
 pub fn fold(
     alloc: Global,
-    mut directories: Vec<Directory>,
+    directories: Vec<Directory>,
     limit: usize,
 ) -> Result<(Vec<Directory>, usize), SnapshotError>
+    ensures limit { IfOk result (λ found. length found.0.items ≤ limit) }
+    ensures folded { IfOk result (λ found. IsFolded directories.items found.0.items) }
+    ensures same { length directories.items ≤ limit → IsOkAnd result (λ found. found.0.items ≡ directories.items) }
     ensures heat { IfOk result (λ found. all_heat found.0.items ≡ all_heat directories.items) }
     ensures inodes { IfOk result (λ found. all_inodes found.0.items ≡ all_inodes directories.items) }
     ensures count { IfOk result (λ found. length found.0.items + found.1 ≡ length directories.items) }
@@ -230,11 +165,11 @@ pub fn fold(
     if count <= limit {
         return Ok((directories, 0));
     }
-    let gone = gone(alloc, directories.as_slice(), limit)?;
-    if !pass_up(directories.as_mut_slice(), gone.as_slice()) {
+    if count > 1 << 32 || !are_parents_first(&directories) {
         return Err(SnapshotError::TooMany);
     }
-    let kept = kept(alloc, directories, gone.as_slice())?;
-    let folded = count - kept.len();
-    Ok((kept, folded))
+    let gone = coldest(alloc, &directories, limit)?;
+    let left = folded(alloc, directories, &gone)?;
+    let folded = count - left.len();
+    Ok((left, folded))
 }

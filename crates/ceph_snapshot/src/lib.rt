@@ -2,6 +2,8 @@
 //! and what pins it.
 #![tactic(auto)]
 
+mod amounts;
+mod coldest;
 pub mod directory;
 pub mod folding;
 pub mod gathering;

@@ -1,0 +1,9 @@
+use Rattle.std.proofs.Common.{◌≡◌, ◌≤◌, ◌<◌, ℕ, length, slice_index}
+use Rattle.ceph_snapshot.specs.Holding.{parent_at}
+use Rattle.ceph_snapshot.proofs.coldest.heats_below.Given as goal
+
+abbrev pub invariant-loop-at : goal.invariant-loop-at
+invariant-loop-at l = record {
+  size : length l.heats.items ≡ length l.directories;
+  rise : (i : ℕ) → 0 < i → l.at ≤ i → i < length l.directories → slice_index l.heats.items i ≤ slice_index l.heats.items (parent_at l.directories i);
+}

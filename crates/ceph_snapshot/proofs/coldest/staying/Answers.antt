@@ -1,0 +1,34 @@
+use Rattle.std.proofs.Common.{◌≡◌, ◌<◌, ◌≤◌, ◌+◌, ◌-◌, ◌∙◌, ℕ, Bool, List, Option, Some, false, true, length, slice_get, get_or, set, ap, sym, refl, subst, arith}
+use Rattle.std.specs.Option.{option_map_or}
+use Rattle.std.proofs.lemmas.Grind.{common_steps}
+use Rattle.std.proofs.lemmas.Option.{slice_get-get_or}
+use Rattle.ceph_snapshot.specs.declared.directory.Directory.{Directory}
+use Rattle.ceph_snapshot.specs.Folding.{IsPlain, is_marked}
+use Rattle.ceph_snapshot.specs.Holding.{parent_at}
+use Rattle.ceph_snapshot.proofs.Keys.{marked_above, marked_plain, parent_le}
+use Rattle.ceph_snapshot.proofs.coldest.staying.Goals as goal
+
+pub loop-at-preserved-in-loop-at : goal.loop-at-preserved-in-loop-at
+loop-at-preserved-in-loop-at c =
+    let ds : List Directory = c.args.directories.now in
+    let stays : List Bool = c.loop-at.stays.items in
+    let at : ℕ = c.loop-at.at - 1 in
+    let inside : at < length ds = omega (arith, c.loop-at-test.true, c.loop-at.invariant.low) in
+    let read : slice_get ds at ≡ Some (get_or ds at c.index-directories-at.result) = slice_get-get_or ds at c.index-directories-at.result inside in
+    let above : ℕ = (get_or ds at c.index-directories-at.result).parent in
+    let parent : parent_at ds at ≡ above = ap (λ (o : Option Directory). option_map_or (λ (one : Directory). one.parent) o 0) read in
+    let up : parent_at ds at ≤ at = parent_le ds at c.requires inside in
+    let long : length (set stays at true) ≡ length stays = grind (arith, common_steps) in
+    let first : at < length stays = omega (arith, inside, c.loop-at.invariant.size) in
+    let second : above < length (set stays at true) = omega (arith, inside, c.loop-at.invariant.size, long, up, parent) in
+    let before : above ≤ at = omega (arith, up, parent) in
+    let is : c.mark.new.stays.items ≡ set (set stays at true) above true = c.mark.ensures in
+    let size : length c.mark.new.stays.items ≡ length stays = grind (arith, common_steps, is) in
+    record {
+      size = size ∙ c.loop-at.invariant.size;
+      low = omega (arith, inside);
+      plain = subst (λ (marks : List Bool). (i : ℕ) → at ≤ i → i < length ds → is_marked marks i ≡ false → IsPlain ds i) (sym is)
+          (marked_plain ds stays at above first second (λ i low. c.loop-at.invariant.plain i (omega (arith, low))));
+      above = subst (λ (marks : List Bool). (i : ℕ) → 0 < i → at ≤ i → i < length ds → is_marked marks i ≡ true → is_marked marks (parent_at ds i) ≡ true) (sym is)
+          (marked_above ds stays at above first second (sym parent) before (λ i some low. c.loop-at.invariant.above i some (omega (arith, low))));
+    }
