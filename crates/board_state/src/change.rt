@@ -99,6 +99,13 @@ impl Orders {
         })
     }
 
+    /// These orders take the place of those before.
+    pub fn set(&mut self, list: Vec<Order>)
+        ensures { self.new ≡ list.items }
+    {
+        *self.list = list;
+    }
+
     /// The orders.
     pub fn as_slice(&self) -> &[Order]
         ensures { result.now ≡ self.now }

@@ -64,11 +64,19 @@ impl<J: Naming, M: Publisher<J>> Board<J, M> {
                 Ok(Answer::Done)
             }
             Command::Step(event) => Ok(Answer::Reply(self.step_copy(alloc, event)?)),
-            Command::Balance => {
-                let orders = self.balance(alloc, solver)?;
-                Ok(Answer::Orders(Orders::new(orders)))
-            }
+            Command::Balance => Ok(Answer::Orders(self.balance_at(alloc, solver)?)),
         }
+    }
+
+    /// Balances, and answers the orders at a place of their own, for which memory is asked first.
+    fn balance_at<S: Solver>(&mut self, alloc: Global, solver: &S) -> Result<Orders, BoardError>
+        ensures { IsCarriedOut self.old Command.Balance (spelled Answer.Orders result) self.new }
+    {
+        let Ok(mut place) = Orders::new(alloc, Vec::new(alloc)) else {
+            return Err(or_memory(self.state.balance_refusal()));
+        };
+        place.set(self.balance(alloc, solver)?);
+        Ok(place)
     }
 
     /// An event of the cluster, of which a copy is made.
