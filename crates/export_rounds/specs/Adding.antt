@@ -1,0 +1,23 @@
+-- The events of a phase of exports.
+use Rattle.std.specs.Prelude.{◌≡◌, ◌≤◌, ◌++◌, ℕ, List, All}
+use Rattle.export_machine.specs.declared.event.Event.TheVariants.{Abort, Ask, Deliver, Froze, Notify, Start}
+use Rattle.board_state.specs.declared.change.Change.{Change}
+use Rattle.board_state.specs.declared.change.Change.TheVariants.{Step}
+use Rattle.mds_board.specs.declared.entry.Entry.{Entry}
+use Rattle.mds_board.specs.History.{World}
+
+-- An export is started, goes on, or is aborted. Those that were started before the phase, so many, aren't aborted by it.
+abbrev pub IsOfPhase : ℕ → Change → Type 0
+IsOfPhase before (Step (Start from to dirs)) = Unit {0}
+IsOfPhase before (Step (Deliver message)) = Unit {0}
+IsOfPhase before (Step (Froze x)) = Unit {0}
+IsOfPhase before (Step (Notify x)) = Unit {0}
+IsOfPhase before (Step (Ask x)) = Unit {0}
+IsOfPhase before (Step (Abort x)) = before ≤ x
+IsOfPhase before _ = ⊥
+
+-- The history goes on by such events alone.
+pub record GoesOnBy (before : ℕ) (old new : World) : Type 0 where
+  pub more : List Entry
+  pub history : new.history ≡ old.history ++ more
+  pub events : All (λ e. IsOfPhase before e.change) more
