@@ -24,7 +24,7 @@ head_has P x xs h = h zero x (omega arith)
 pub tail_have : {A : Type 0} (P : A → Type 0) (x : A) (xs : List A) → All P (x ∷ xs) → All P xs
 tail_have P x xs h = λ k d l. h (suc k) d (omega arith)
 
-one_has : {A : Type 0} (P : A → Type 0) (x : A) → P x → All P (x ∷ [])
+pub one_has : {A : Type 0} (P : A → Type 0) (x : A) → P x → All P (x ∷ [])
 one_has P x h zero d l = h
 one_has P x h (suc k) d l = absurd (omega arith)
 

@@ -1,3 +1,4 @@
+pub mod Adding
 pub mod Asking
 pub mod Going
 pub mod Ordering

@@ -1,4 +1,6 @@
+pub mod Adding
 pub mod Asked
 pub mod Further
+pub mod Looks
 pub mod Outcomes
 pub mod Pairs

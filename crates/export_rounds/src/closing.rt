@@ -6,6 +6,7 @@ ghost use Rattle.mds_types.specs.declared.order.Order.{Order as TheOrder};
 ghost use Rattle.export_rounds.specs.Asked.{AreAsked, AreSettled, IsAsked, StartsNone, is_begun, is_waiting};
 ghost use Rattle.export_rounds.specs.Outcomes.{AreOutcomes, IsOutcome, is_started, word};
 
+use crate::looks::is_before_log;
 use crate::outcome::Outcome;
 use crate::standing::Standing;
 use crate::stepping::try_step;
@@ -32,19 +33,6 @@ pub(crate) fn abort_rest<J: Naming, M: Publisher<J>>(
     }
 }
 
-fn is_before_log(cluster: &Cluster, export: u32) -> bool {
-    matches!(
-        cluster.states(export),
-        Some((
-            ExporterState::Discovering
-                | ExporterState::Freezing
-                | ExporterState::Preparing
-                | ExporterState::Exporting,
-            _
-        ))
-    )
-}
-
 /// Tells what became of orders, where there is room for it.
 pub(crate) fn tell(cluster: &Cluster, standings: &[Standing], outcomes: &mut Vec<Outcome>)
     requires settled { AreSettled standings.now }
@@ -58,8 +46,8 @@ pub(crate) fn tell(cluster: &Cluster, standings: &[Standing], outcomes: &mut Vec
     }
 }
 
-// What became of an order.
-fn outcome(cluster: &Cluster, standing: &Standing) -> Outcome
+/// What became of an order that doesn't wait.
+pub fn outcome(cluster: &Cluster, standing: &Standing) -> Outcome
     requires settled { is_waiting standing.now ≡ false }
     ensures told { (first now : World) (order : TheOrder) → now.state.cluster ≡ cluster.now.world → IsAsked first now order standing.now → IsOutcome first now order result }
     ensures counted { is_started result ≡ is_begun standing.now }

@@ -1,47 +1,74 @@
 //! What a rank has to look after in a phase.
 
-use export_machine::{Cluster, ExporterState, ImporterState};
-use mds_types::Rank;
+use crate::looks::{is_awaited, is_under_way};
+use export_machine::{Cluster, ImporterState};
+use mds_types::{Order, Rank};
 use std::alloc::{AllocError, Global};
 use std::ops::Range;
 
-/// What a rank has to look after in a phase. Messages and exports go by their numbers.
+/// What a rank has to look after in a phase. Orders, messages and exports go by their numbers. It says what a rank tries in
+/// its turn, and not what it may do.
 #[derive(Drop)]
-pub(crate) struct Desk {
+pub struct Desk {
     /// The rank.
-    pub(crate) rank: Rank,
+    pub rank: Rank,
+    /// The orders by which it gives away directories, and that it is to start, rising.
+    pub orders: Vec<usize>,
     /// Its imports that were started when the phase began.
-    pub(crate) imports: Vec<u32>,
+    pub imports: Vec<u32>,
     /// The messages to it that have come and that it hasn't taken, rising.
-    pub(crate) messages: Vec<u32>,
+    pub messages: Vec<u32>,
     /// Its exports that were neither done nor aborted at its last turn, rising.
-    pub(crate) exports: Vec<u32>,
+    pub exports: Vec<u32>,
 }
 
-/// A desk for each active rank, with what is open when the phase begins.
-pub(crate) fn set_up(
+impl Desk {
+    /// Whether there is nothing to look after.
+    pub fn is_empty(&self) -> bool {
+        self.orders.is_empty()
+            && self.imports.is_empty()
+            && self.messages.is_empty()
+            && self.exports.is_empty()
+    }
+}
+
+/// A desk for each active rank, with its orders and with what is open when the phase begins.
+pub fn set_up(
     alloc: Global,
     cluster: &Cluster,
     active: u8,
+    orders: &[Order],
 ) -> Result<Vec<Desk>, AllocError> {
     let mut desks = Vec::with_capacity(alloc, active as usize)?;
     for number in 0..active {
         if let Some(rank) = Rank::new(number) {
             desks.push(Desk {
                 rank,
+                orders: Vec::new(alloc),
                 imports: Vec::new(alloc),
                 messages: Vec::new(alloc),
                 exports: Vec::new(alloc),
             })?;
         }
     }
-    lay_out(cluster, &mut desks)?;
+    lay_orders(orders, &mut desks)?;
+    lay_exports(cluster, &mut desks)?;
     sort_out(cluster, &mut desks, 0..cluster.sent())?;
     Ok(desks)
 }
 
+// Lays orders on the desks of their exporters.
+fn lay_orders(orders: &[Order], desks: &mut Vec<Desk>) -> Result<(), AllocError> {
+    for (number, order) in orders.iter().enumerate() {
+        if let Some(desk) = desks.get_mut(order.from.number() as usize) {
+            desk.orders.push(number)?;
+        }
+    }
+    Ok(())
+}
+
 // Lays the exports that are open on the desks of their ranks.
-fn lay_out(cluster: &Cluster, desks: &mut Vec<Desk>) -> Result<(), AllocError> {
+fn lay_exports(cluster: &Cluster, desks: &mut Vec<Desk>) -> Result<(), AllocError> {
     for export in 0..u32::MAX {
         let (Some(order), Some((exporter, importer))) = (
             cluster.export(export),
@@ -64,7 +91,7 @@ fn lay_out(cluster: &Cluster, desks: &mut Vec<Desk>) -> Result<(), AllocError> {
 }
 
 /// Lays messages that came on the desks of the ranks that they are for, but for those that can't do anything any more.
-pub(crate) fn sort_out(
+pub fn sort_out(
     cluster: &Cluster,
     desks: &mut Vec<Desk>,
     messages: Range<u32>,
@@ -79,20 +106,4 @@ pub(crate) fn sort_out(
         }
     }
     Ok(())
-}
-
-/// Whether the exporter has steps to make.
-pub(crate) fn is_under_way(exporter: ExporterState) -> bool {
-    !matches!(exporter, ExporterState::Done | ExporterState::Aborted)
-}
-
-/// Whether messages about an export may still do something: its importer has neither imported nor dropped it.
-pub(crate) fn is_awaited(cluster: &Cluster, export: u32) -> bool {
-    match cluster.states(export) {
-        Some((_, importer)) => !matches!(
-            importer,
-            ImporterState::Imported | ImporterState::Dropped
-        ),
-        None => false,
-    }
 }

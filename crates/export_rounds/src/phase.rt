@@ -39,7 +39,7 @@ pub fn carry_out_orders<J: Naming, M: Publisher<J>>(
 {
     let mut outcomes = Vec::with_capacity(alloc, orders.len())?;
     let mut standings = waiting(alloc, orders)?;
-    let mut desks = set_up(alloc, board.cluster(), board.pins().active())?;
+    let mut desks = set_up(alloc, board.cluster(), board.pins().active(), orders)?;
     let sent = board.cluster().sent();
     first_round(board, alloc, &mut standings, &mut desks);
     later_rounds(board, alloc, &mut desks, sent);

@@ -1,14 +1,14 @@
 //! How an order stands.
 ghost use Rattle.std.specs.Prelude.{◌≡◌};
-ghost use Rattle.export_rounds.specs.Asked.{is_waiting};
+ghost use Rattle.export_rounds.specs.Asked as asked;
 
 use board_state::BoardError;
-use mds_types::{Order, Rank};
+use mds_types::Order;
 
 /// How an order stands in a phase.
 #[derive(Drop)]
-pub(crate) enum Standing {
-    /// Its exporter's turn hasn't come.
+pub enum Standing {
+    /// Its exporter hasn't taken it up.
     Waiting(Order),
     /// It is this export.
     Started(u32),
@@ -17,11 +17,10 @@ pub(crate) enum Standing {
 }
 
 impl Standing {
-    /// Whether it waits for the turn of this rank.
-    pub(crate) fn is_waiting_at(&self, rank: Rank) -> bool {
-        match self {
-            Standing::Waiting(order) => order.from == rank,
-            _ => false,
-        }
+    /// Whether its exporter hasn't taken it up.
+    pub fn is_waiting(&self) -> bool
+        ensures { result ≡ asked.is_waiting self.now }
+    {
+        matches!(self, Standing::Waiting(_))
     }
 }

@@ -1,7 +1,8 @@
 //! Orders are started.
-ghost use Rattle.std.specs.Prelude.{◌≡◌, ◌+◌, List, count_by, false, length, IfOk};
+ghost use Rattle.std.specs.Prelude.{◌≡◌, ◌+◌, ℕ, List, count_by, false, length, IfOk};
 ghost use Rattle.mds_board.specs.History.{World};
 ghost use Rattle.mds_types.specs.declared.order.Order.{Order as TheOrder};
+ghost use Rattle.export_rounds.specs.Adding.{GoesOnBy};
 ghost use Rattle.export_rounds.specs.Asked.{AreAsked, AreSettled, IsAsked, is_begun, is_waiting, ones};
 ghost use Rattle.export_rounds.specs.Further.{IsFurther};
 
@@ -17,7 +18,7 @@ use std::alloc::{AllocError, Global};
 use std::mem::replace;
 
 /// The orders, as ones that wait.
-pub(crate) fn waiting(alloc: Global, orders: &[Order]) -> Result<Vec<Standing>, AllocError>
+pub fn waiting(alloc: Global, orders: &[Order]) -> Result<Vec<Standing>, AllocError>
     ensures asked { IfOk result (λ standings. (w : World) → AreAsked w w orders.now standings.items) }
     ensures none { IfOk result (λ standings. count_by is_begun standings.items ≡ 0) }
 {
@@ -28,7 +29,7 @@ pub(crate) fn waiting(alloc: Global, orders: &[Order]) -> Result<Vec<Standing>, 
     Ok(standings)
 }
 
-/// Starts the orders of a rank that wait, and lays the exports on its desk.
+/// Starts the orders on a rank's desk that wait, and lays their exports there.
 pub(crate) fn start_at<J: Naming, M: Publisher<J>>(
     board: &mut Board<J, M>,
     alloc: Global,
@@ -39,13 +40,35 @@ pub(crate) fn start_at<J: Naming, M: Publisher<J>>(
     ensures asked { (first : World) (orders : List TheOrder) → IsFurther first board.old → AreAsked first board.old orders standings.old.items → AreAsked first board.new orders standings.new.items }
     ensures counted { length board.new.state.cluster.orders + count_by is_begun standings.old.items ≡ length board.old.state.cluster.orders + count_by is_begun standings.new.items }
 {
-    for standing in standings.iter_mut() {
-        if standing.is_waiting_at(desk.rank) {
-            if let Some(export) = settle(board, alloc, standing) {
-                let _ = desk.exports.push(export);
-            }
-        }
+    for number in desk.orders.iter() {
+        let started = settle_at(board, alloc, standings, *number);
+        lay(&mut desk.exports, started);
     }
+    desk.orders.clear();
+}
+
+// Lays an export on a desk, if there is one. One that finds no place is aborted at the end of the phase.
+fn lay(exports: &mut Vec<u32>, started: Option<u32>) {
+    if let Some(export) = started {
+        let _ = exports.push(export);
+    }
+}
+
+/// Starts the order of this number if it waits, and tells its export.
+#[tactic(auto, using(crate::proofs::Going::stays, crate::proofs::Adding::nothing_added))]
+pub fn settle_at<J: Naming, M: Publisher<J>>(
+    board: &mut Board<J, M>,
+    alloc: Global,
+    standings: &mut Vec<Standing>,
+    number: usize,
+) -> Option<u32>
+    ensures further { IsFurther board.old board.new }
+    ensures events { (before : ℕ) → GoesOnBy before board.old board.new }
+    ensures asked { (first : World) (orders : List TheOrder) → IsFurther first board.old → AreAsked first board.old orders standings.old.items → AreAsked first board.new orders standings.new.items }
+    ensures counted { length board.new.state.cluster.orders + count_by is_begun standings.old.items ≡ length board.old.state.cluster.orders + count_by is_begun standings.new.items }
+{
+    let standing = standings.get_mut(number)?;
+    settle(board, alloc, standing)
 }
 
 /// Starts the orders that still wait: those whose exporter is no active rank, so that each is refused.
@@ -65,12 +88,14 @@ pub(crate) fn settle_rest<J: Naming, M: Publisher<J>>(
 }
 
 // Starts an order if it waits, and tells its export.
+#[tactic(auto, using(crate::proofs::Adding::nothing_added))]
 fn settle<J: Naming, M: Publisher<J>>(
     board: &mut Board<J, M>,
     alloc: Global,
     standing: &mut Standing,
 ) -> Option<u32>
     ensures further { IsFurther board.old board.new }
+    ensures events { (before : ℕ) → GoesOnBy before board.old board.new }
     ensures asked { (first : World) (order : TheOrder) → IsFurther first board.old → IsAsked first board.old order standing.old → IsAsked first board.new order standing.new }
     ensures counted { length board.new.state.cluster.orders + ones (is_begun standing.old) ≡ length board.old.state.cluster.orders + ones (is_begun standing.new) }
     ensures settled { is_waiting standing.new ≡ false }

@@ -1,7 +1,8 @@
 //! Single steps on a board.
-ghost use Rattle.std.specs.Prelude.{◌≡◌, ◌++◌, ◌∷◌, [], length, true, IfOk, IfErr, OnErr};
+ghost use Rattle.std.specs.Prelude.{◌≡◌, ◌++◌, ◌∷◌, [], ℕ, length, true, IfOk, IfErr, OnErr};
 ghost use Rattle.board_state.specs.declared.change.Change.TheVariants.{Step};
 ghost use Rattle.board_state.specs.Steps.{IsDue, is_inner};
+ghost use Rattle.export_rounds.specs.Adding.{GoesOnBy};
 ghost use Rattle.export_rounds.specs.Asked.{StartsNone, is_later};
 ghost use Rattle.export_rounds.specs.Further.{IsFurther};
 
@@ -40,6 +41,7 @@ pub(crate) fn start<J: Naming, M: Publisher<J>>(
     order: Order,
 ) -> Result<u32, BoardError>
     ensures further { IsFurther board.old board.new }
+    ensures events { (before : ℕ) → GoesOnBy before board.old board.new }
     ensures started { IfOk result (λ x. (x ≡ length board.old.state.cluster.orders) × (board.new.state.cluster.orders ≡ board.old.state.cluster.orders ++ order ∷ [])) }
     ensures refused { IfErr result (λ e. IsDue board.old.state (Step (Event.Start order.from order.to order.dirs)) e) }
     ensures unchanged { OnErr result (board.new ≡ board.old) }

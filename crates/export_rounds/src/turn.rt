@@ -1,10 +1,11 @@
 //! The turn of a rank in a round.
 ghost use Rattle.export_rounds.specs.Asked.{StartsNone};
 
-use crate::desk::{Desk, is_awaited, is_under_way};
+use crate::desk::Desk;
+use crate::looks::{is_at_work, is_freezing, is_logged, is_wanted};
 use crate::stepping::{try_publish, try_step};
 use authority_map::Publisher;
-use export_machine::{Cluster, Event, ExporterState};
+use export_machine::Event;
 use mds_board::Board;
 use naming::Naming;
 use std::alloc::Global;
@@ -51,13 +52,6 @@ fn take_messages<J: Naming, M: Publisher<J>>(
     }
 }
 
-fn is_wanted(cluster: &Cluster, message: u32) -> bool {
-    match cluster.to(message) {
-        Some((export, _)) => is_awaited(cluster, export),
-        None => false,
-    }
-}
-
 // Freezes the exports that are in state freezing.
 fn freeze<J: Naming, M: Publisher<J>>(board: &mut Board<J, M>, alloc: Global, exports: &[u32])
     ensures { StartsNone board.old board.new }
@@ -84,19 +78,4 @@ fn notify<J: Naming, M: Publisher<J>>(
         }
     }
     notified
-}
-
-fn is_freezing(cluster: &Cluster, export: u32) -> bool {
-    matches!(cluster.states(export), Some((ExporterState::Freezing, _)))
-}
-
-fn is_logged(cluster: &Cluster, export: u32) -> bool {
-    matches!(cluster.states(export), Some((ExporterState::Logged, _)))
-}
-
-fn is_at_work(cluster: &Cluster, export: u32) -> bool {
-    match cluster.states(export) {
-        Some((exporter, _)) => is_under_way(exporter),
-        None => false,
-    }
 }

@@ -1,4 +1,3 @@
-pub mod Adding
 pub mod Carrying
 pub mod Counting
 pub mod GoingOn

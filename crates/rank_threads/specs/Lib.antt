@@ -1,6 +1,6 @@
-pub mod Adding
 pub mod Carrying
 pub mod Going
 pub mod Refused
 pub mod Serving
+pub mod Taking
 pub mod Totals

@@ -2,15 +2,14 @@
 ghost use Rattle.std.specs.Prelude.{◌≡◌, ◌≤◌, IfSome, count_by, length, true};
 ghost use Rattle.board_state.specs.declared.change.Change.TheVariants as Change;
 ghost use Rattle.board_state.specs.Steps.{is_inner};
-ghost use Rattle.export_rounds.specs.Asked.{is_later};
-ghost use Rattle.export_rounds.specs.Pairs.{AreEach};
-ghost use Rattle.rank_threads.specs.Adding.{IsOfPhase};
-ghost use Rattle.rank_threads.specs.Carrying.{IsAsked, IsUnderWay, is_begun};
+ghost use Rattle.export_rounds.specs.Adding.{IsOfPhase};
+ghost use Rattle.export_rounds.specs.Asked.{AreAsked, is_begun, is_later};
+ghost use Rattle.rank_threads.specs.Carrying.{IsUnderWay};
 
-use crate::settling::settle_at;
-use crate::standing::Standing;
 use authority_map::Publisher;
 use export_machine::{Cluster, Event};
+use export_rounds::Standing;
+use export_rounds::starting::settle_at;
 use mds_board::Board;
 use naming::Naming;
 use std::alloc::Global;
@@ -102,7 +101,7 @@ impl<J: Naming, M: Publisher<J>, K: ExportPhase> ExportCell<J, M, K> {
     /// Lays the board under the lock with which the phase begins, and the phase's orders, of which each waits.
     pub(crate) fn new(board: Board<J, M>, standings: Vec<Standing>) -> ExportCell<J, M, K>
         requires board { board ≡ K.before }
-        requires asked { AreEach (IsAsked board board) K.orders standings.items }
+        requires asked { AreAsked board board K.orders standings.items }
         requires none { count_by is_begun standings.items ≡ 0 }
     {
         ExportCell {

@@ -2,10 +2,10 @@
 ghost use Rattle.std.specs.Prelude.{◌≡◌, vec_capacity, vec_len};
 
 use crate::export_cell::{ExportCell, ExportPhase};
-use crate::export_desk::ExportDesk;
 use crate::export_turn::take_turn;
 use crate::work::Gate;
 use authority_map::Publisher;
+use export_rounds::Desk;
 use naming::Naming;
 use std::alloc::Global;
 use std::marker::{Send, Sync};
@@ -22,8 +22,8 @@ fn turn_at<J: Naming, M: Publisher<J>, K: ExportPhase, R: Wait, G: Gate>(
     gate: &G,
     no_thread: &AtomicBool,
     round: usize,
-    desk: ExportDesk,
-) -> ExportDesk {
+    desk: Desk,
+) -> Desk {
     let mut desk = desk;
     if no_thread.load(Ordering::SeqCst) {
         desk.orders.clear();
@@ -47,9 +47,9 @@ fn turn_beside<
     cell: &ExportCell<J, M, K>,
     gate: &G,
     round: usize,
-    desk: ExportDesk,
+    desk: Desk,
     rest: F,
-) -> (ExportDesk, T)
+) -> (Desk, T)
     requires rest { F.pre rest }
     ensures rest { F.post rest result.1 }
 {
@@ -57,7 +57,7 @@ fn turn_beside<
     thread::scope(
         thread::scope_env(),
         rt,
-        |scope| -> (ExportDesk, T)
+        |scope| -> (Desk, T)
             requires { F.pre rest }
             ensures { F.post rest result.1 }
         {
@@ -89,8 +89,8 @@ pub(crate) fn take_turns<
     cell: &ExportCell<J, M, K>,
     gate: &G,
     round: usize,
-    desks: Vec<ExportDesk>,
-) -> Vec<ExportDesk>
+    desks: Vec<Desk>,
+) -> Vec<Desk>
     ensures count { vec_len result ≡ vec_len desks }
     ensures room { vec_capacity result ≡ vec_capacity desks }
 {
@@ -108,7 +108,7 @@ pub(crate) fn take_turns<
             gate,
             round,
             desk,
-            || -> Vec<ExportDesk>
+            || -> Vec<Desk>
                 ensures count { vec_len result ≡ vec_len desks }
                 ensures room { vec_capacity result ≡ vec_capacity desks }
             { take_turns(rt, alloc, cell, gate, round, desks) },

@@ -1,10 +1,11 @@
 //! The turn of a rank in a round of exports. The lock is held for one event at a time.
 
 use crate::export_cell::{ExportCell, ExportPhase};
-use crate::export_desk::{ExportDesk, is_awaited, is_under_way};
 use crate::work::Gate;
 use authority_map::Publisher;
-use export_machine::{Cluster, Event, ExporterState};
+use export_machine::Event;
+use export_rounds::Desk;
+use export_rounds::looks::{is_at_work, is_freezing, is_logged, is_wanted};
 use naming::Naming;
 use std::alloc::Global;
 use std::sync::Wait;
@@ -17,7 +18,7 @@ pub(crate) fn take_turn<J: Naming, M: Publisher<J>, K: ExportPhase, R: Wait, G: 
     cell: &ExportCell<J, M, K>,
     gate: &G,
     round: usize,
-    desk: &mut ExportDesk,
+    desk: &mut Desk,
 ) {
     gate.before(desk.rank, round);
     start(rt, alloc, cell, desk);
@@ -37,7 +38,7 @@ fn start<J: Naming, M: Publisher<J>, K: ExportPhase, R: Wait>(
     rt: &R,
     alloc: Global,
     cell: &ExportCell<J, M, K>,
-    desk: &mut ExportDesk,
+    desk: &mut Desk,
 ) {
     for number in desk.orders.iter() {
         if let Some(export) = cell.lock(rt).start(alloc, *number) {
@@ -53,7 +54,7 @@ fn ask<J: Naming, M: Publisher<J>, K: ExportPhase, R: Wait>(
     rt: &R,
     alloc: Global,
     cell: &ExportCell<J, M, K>,
-    desk: &mut ExportDesk,
+    desk: &mut Desk,
 ) {
     for import in desk.imports.iter() {
         cell.lock(rt).step(alloc, Event::Ask(*import));
@@ -66,7 +67,7 @@ fn take_messages<J: Naming, M: Publisher<J>, K: ExportPhase, R: Wait>(
     rt: &R,
     alloc: Global,
     cell: &ExportCell<J, M, K>,
-    desk: &mut ExportDesk,
+    desk: &mut Desk,
 ) {
     for message in desk.messages.iter() {
         let mut board = cell.lock(rt);
@@ -107,26 +108,4 @@ fn notify<J: Naming, M: Publisher<J>, K: ExportPhase, R: Wait>(
         }
     }
     notified
-}
-
-fn is_wanted(cluster: &Cluster, message: u32) -> bool {
-    match cluster.to(message) {
-        Some((export, _)) => is_awaited(cluster, export),
-        None => false,
-    }
-}
-
-fn is_freezing(cluster: &Cluster, export: u32) -> bool {
-    matches!(cluster.states(export), Some((ExporterState::Freezing, _)))
-}
-
-fn is_logged(cluster: &Cluster, export: u32) -> bool {
-    matches!(cluster.states(export), Some((ExporterState::Logged, _)))
-}
-
-fn is_at_work(cluster: &Cluster, export: u32) -> bool {
-    match cluster.states(export) {
-        Some((exporter, _)) => is_under_way(exporter),
-        None => false,
-    }
 }

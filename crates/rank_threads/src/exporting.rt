@@ -1,20 +1,21 @@
 //! The orders of a board are carried out, by a thread a rank.
 ghost use Rattle.std.specs.Prelude.{◌≡◌, ◌≤◌, [], count_by, length, vec_capacity, IfOk, OnErr};
+ghost use Rattle.export_rounds.specs.Adding.{GoesOnBy};
+ghost use Rattle.export_rounds.specs.Asked.{AreAsked, is_begun};
 ghost use Rattle.export_rounds.specs.Further.{IsFurther};
-ghost use Rattle.export_rounds.specs.Pairs.{AreEach};
-ghost use Rattle.rank_threads.specs.Adding.{GoesOnBy};
-ghost use Rattle.rank_threads.specs.Carrying.{AreAll, AreTold, IsAsked, is_begun};
+ghost use Rattle.rank_threads.specs.Carrying.{AreAll, AreTold};
 
 use crate::export_cell::{ExportCell, ExportPhase};
-use crate::export_desk::{ExportDesk, lay_messages, set_up};
 use crate::export_threads::take_turns;
 use crate::order_outcome::OrderOutcome;
-use crate::settling::waiting;
-use crate::standing::Standing;
 use crate::telling::tell;
 use crate::work::Gate;
 use authority_map::Publisher;
-use export_machine::{Cluster, Event, ExporterState};
+use export_machine::Event;
+use export_rounds::desk::{set_up, sort_out};
+use export_rounds::looks::is_before_log;
+use export_rounds::starting::waiting;
+use export_rounds::{Desk, Standing};
 use mds_board::Board;
 use mds_types::Order;
 use naming::Naming;
@@ -30,7 +31,7 @@ const ROUNDS: usize = 8;
 struct Prepared {
     outcomes: Vec<OrderOutcome>,
     standings: Vec<Standing>,
-    desks: Vec<ExportDesk>,
+    desks: Vec<Desk>,
 }
 
 // Room for the outcomes, the orders as ones that wait, and what each rank has to look after.
@@ -39,7 +40,7 @@ fn prepare<J: Naming, M: Publisher<J>>(
     board: &Board<J, M>,
     orders: &[Order],
 ) -> Result<Prepared, AllocError>
-    ensures asked { IfOk result (λ p. AreEach (IsAsked board.now board.now) orders.now p.standings.items) }
+    ensures asked { IfOk result (λ p. AreAsked board.now board.now orders.now p.standings.items) }
     ensures none { IfOk result (λ p. count_by is_begun p.standings.items ≡ 0) }
     ensures room { IfOk result (λ p. (p.outcomes.items ≡ []) × (length orders.now ≤ vec_capacity p.outcomes)) }
 {
@@ -75,7 +76,7 @@ fn take_rounds<
     K: ExportPhase + Send + Sync,
     R: Threads + Wait + Sync,
     G: Gate + Sync,
->(rt: &R, alloc: Global, cell: &ExportCell<J, M, K>, gate: &G, desks: Vec<ExportDesk>) {
+>(rt: &R, alloc: Global, cell: &ExportCell<J, M, K>, gate: &G, desks: Vec<Desk>) {
     let mut desks = desks;
     let mut seen = cell.lock(rt).cluster().sent();
     for round in 0..ROUNDS {
@@ -83,7 +84,7 @@ fn take_rounds<
         let board = cell.lock(rt);
         let sent = board.cluster().sent();
         // a message that finds no place isn't delivered
-        let _ = lay_messages(board.cluster(), &mut desks, seen..sent);
+        let _ = sort_out(board.cluster(), &mut desks, seen..sent);
         seen = sent;
     }
 }
@@ -105,19 +106,6 @@ fn abort_rest<J: Naming, M: Publisher<J>, K: ExportPhase, R: Wait>(
     }
 }
 
-fn is_before_log(cluster: &Cluster, export: u32) -> bool {
-    matches!(
-        cluster.states(export),
-        Some((
-            ExporterState::Discovering
-                | ExporterState::Freezing
-                | ExporterState::Preparing
-                | ExporterState::Exporting,
-            _
-        ))
-    )
-}
-
 // Carries out the orders with which the phase K begins.
 fn carry_out_named<
     J: Naming + Send + Sync,
@@ -135,7 +123,7 @@ fn carry_out_named<
 ) -> (Board<J, M>, Vec<OrderOutcome>)
     requires board { board ≡ K.before }
     requires orders { orders.now ≡ K.orders }
-    requires asked { AreEach (IsAsked board board) orders.now prepared.standings.items }
+    requires asked { AreAsked board board orders.now prepared.standings.items }
     requires none { count_by is_begun prepared.standings.items ≡ 0 }
     requires room { (prepared.outcomes.items ≡ []) × (length orders.now ≤ vec_capacity prepared.outcomes) }
     ensures further { IsFurther board result.0 }

@@ -7,20 +7,18 @@
 pub mod board_cell;
 mod desk;
 mod export_cell;
-mod export_desk;
 mod export_threads;
 mod export_turn;
 pub mod exporting;
 pub mod order_outcome;
 pub mod phase;
 mod serving;
-mod settling;
-mod standing;
 mod telling;
 pub mod totals;
 pub mod work;
 
 pub use board_cell::{BoardCell, Phase, Phased};
+pub use export_rounds::Outcome;
 pub use exporting::export_phase;
 pub use order_outcome::OrderOutcome;
 pub use phase::{Ranks, serve_phase};

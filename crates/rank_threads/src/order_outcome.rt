@@ -1,18 +1,12 @@
 //! What became of an order.
 
-use board_state::BoardError;
+use export_rounds::Outcome;
 
-/// What became of an order in a phase of threads. Exports go by their numbers.
+/// What became of an order in a phase of threads.
 #[derive(Clone, Copy, Debug, PartialEq, Eq)]
 pub enum OrderOutcome {
-    /// The importer owns the directories.
-    Done(u32),
-    /// The directories stayed with the exporter.
-    Aborted(u32),
-    /// The export was started, and is neither done nor aborted.
-    Open(u32),
-    /// The export wasn't started, for this cause.
-    Refused(BoardError),
+    /// The exporter had a thread, or is no active rank, and this became of the order.
+    TakenUp(Outcome),
     /// The export wasn't started, as the system gave no thread for the exporter.
     NoThread,
 }

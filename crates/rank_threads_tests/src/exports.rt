@@ -1,38 +1,20 @@
 //! Orders of three ranks, and what they leave on the board.
 ghost use Rattle.std.specs.Prelude.{◌≡◌};
 
+use crate::boards::{done, orders, rank};
 use crate::gates::JitterGate;
 use authority_map::MapWriter;
 use board_state::{BoardError, BoardParts};
 use export_machine::{Event, StepError};
 use mds_board::Board;
-use mds_types::{Dir, Dirs, Order, Rank};
+use mds_types::{Dir, Rank};
 use naming::Naming;
-use rank_threads::{OrderOutcome, WorkError, export_phase};
-use std::alloc::{AllocError, Global};
+use rank_threads::{OrderOutcome, Outcome, WorkError, export_phase};
+use std::alloc::Global;
 use std::marker::{Brand, Send, Sync};
 use std::sync::Wait;
 use std::test::Fail;
 use std::thread::Threads;
-
-fn rank(number: u8) -> Rank {
-    Rank::new(number).unwrap_or(Rank::default())
-}
-
-// Orders of one directory each: from a rank, to a rank, the directory.
-fn orders(alloc: Global, rows: &[(u8, u8, u32)]) -> Result<Vec<Order>, AllocError> {
-    let mut orders = Vec::new(alloc);
-    for (from, to, dir) in rows {
-        let mut dirs = Vec::new(alloc);
-        dirs.push(Dir::new(*dir))?;
-        orders.push(Order {
-            from: rank(*from),
-            to: rank(*to),
-            dirs: Dirs::new(dirs),
-        })?;
-    }
-    Ok(orders)
-}
 
 // A board of three ranks with /a and /b.
 fn open<'r, J: Naming, R: Wait>(
@@ -112,21 +94,21 @@ fn carry_out<J: Naming + Send + Sync, R: Threads + Wait + Sync>(
 // done too. An export to a stopped rank is aborted.
 #[test]
 fn ranks_carry_out_orders(rt: HostRuntime) -> Result<(), Fail> {
-    for _ in 0..20u32 {
+    for _ in 0..100u32 {
         let book = heat_ledger::Opened::new(rt.alloc())?;
         let map = authority_map::Opened::new();
         let seen = carry_out::<Brand, _>(&rt, rt.alloc(), (book, map))?;
-        let there = [OrderOutcome::Done(0), OrderOutcome::Done(1)];
+        let there = [done(0), done(1)];
         assert_eq!(rt; seen.there.as_slice(), there.as_slice());
-        let back = [OrderOutcome::Done(2), OrderOutcome::Done(3)];
-        let crossed = [OrderOutcome::Done(3), OrderOutcome::Done(2)];
+        let back = [done(2), done(3)];
+        let crossed = [done(3), done(2)];
         assert!(rt;
             seen.back.as_slice() == back.as_slice() || seen.back.as_slice() == crossed.as_slice()
         );
         let late = [
-            OrderOutcome::Refused(BoardError::Step(StepError::NoRank)),
-            OrderOutcome::Done(4),
-            OrderOutcome::Aborted(5),
+            OrderOutcome::TakenUp(Outcome::Refused(BoardError::Step(StepError::NoRank))),
+            done(4),
+            OrderOutcome::TakenUp(Outcome::Aborted(5)),
         ];
         assert_eq!(rt; seen.late.as_slice(), late.as_slice());
         assert_eq!(rt; seen.authorities, (Some(rank(1)), Some(rank(0))));

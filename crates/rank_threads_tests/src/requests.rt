@@ -11,7 +11,7 @@ use mds_board::Board;
 use mds_types::{Dir, Rank};
 use naming::Naming;
 use rank_threads::{Gate, Work, WorkAnswer, WorkError, serve_phase};
-use std::alloc::Global;
+use std::alloc::{AllocError, Global};
 use std::marker::{Brand, Send, Sync};
 use std::sync::Wait;
 use std::test::Fail;
@@ -28,7 +28,7 @@ pub(crate) fn work(dir: u32, hits: u32) -> Work {
     }
 }
 
-fn served(ticket: u32, hits: u32) -> WorkAnswer {
+pub(crate) fn served(ticket: u32, hits: u32) -> WorkAnswer {
     WorkAnswer {
         ticket: Some(ticket),
         hits,
@@ -36,7 +36,7 @@ fn served(ticket: u32, hits: u32) -> WorkAnswer {
     }
 }
 
-fn refused(error: StepError) -> WorkAnswer {
+pub(crate) fn refused(error: StepError) -> WorkAnswer {
     WorkAnswer::refused(WorkError::Board(BoardError::Step(error)))
 }
 
@@ -45,7 +45,7 @@ pub(crate) fn scripts(
     alloc: Global,
     first: &[Work],
     second: &[Work],
-) -> Result<Vec<Vec<Work>>, Fail>
+) -> Result<Vec<Vec<Work>>, AllocError>
     ensures { IfOk result (λ all. vec_len all ≡ 2) }
 {
     let mut one = Vec::new(alloc);
@@ -137,7 +137,9 @@ fn serve<J: Naming + Send + Sync, R: Threads + Wait + Sync, G: Gate + Sync>(
     }
 }
 
-pub(crate) fn names(alloc: Global) -> Result<(heat_ledger::Opened, authority_map::Opened), Fail> {
+pub(crate) fn names(
+    alloc: Global,
+) -> Result<(heat_ledger::Opened, authority_map::Opened), AllocError> {
     Ok((
         heat_ledger::Opened::new(alloc)?,
         authority_map::Opened::new(),

@@ -6,9 +6,9 @@ use Rattle.export_rounds.specs.Asked.{AreAsked, is_begun}
 use Rattle.export_rounds.specs.Further.{IsFurther}
 use Rattle.export_rounds.proofs.starting.start_at.Given as goal
 
-abbrev pub invariant-loop-standing : goal.invariant-loop-standing
-invariant-loop-standing g l = record {
+abbrev pub invariant-loop-number : goal.invariant-loop-number
+invariant-loop-number g l = record {
   further : IsFurther l.fn.board l.board;
-  asked : (first : World) (orders : List Order) → IsFurther first l.fn.board → AreAsked first l.fn.board orders l.fn.standings.items → AreAsked first l.board orders l.standing-items;
-  counted : length l.board.state.cluster.orders + count_by is_begun l.fn.standings.items ≡ length l.fn.board.state.cluster.orders + count_by is_begun l.standing-items;
+  asked : (first : World) (orders : List Order) → IsFurther first l.fn.board → AreAsked first l.fn.board orders l.fn.standings.items → AreAsked first l.board orders l.standings.items;
+  counted : length l.board.state.cluster.orders + count_by is_begun l.fn.standings.items ≡ length l.fn.board.state.cluster.orders + count_by is_begun l.standings.items;
 }

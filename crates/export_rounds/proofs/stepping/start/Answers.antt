@@ -1,5 +1,7 @@
 use Rattle.std.proofs.Common.{◌∙◌, sym}
 use Rattle.export_rounds.proofs.Ordering.{start_orders, start_reply}
+use Rattle.export_machine.specs.declared.event.Event.TheVariants.{Start}
+use Rattle.export_rounds.proofs.Adding.{answer_added}
 use Rattle.export_rounds.proofs.stepping.start.Goals as goal
 
 pub unreachable-requires : goal.unreachable-requires
@@ -10,3 +12,6 @@ pub returns-clause-started : goal.returns-clause-started
 returns-clause-started g c =
     let is = sym c.in-Export.is ∙ start_reply c.args.board.now.state c.args.order.from c.args.order.to c.args.order.dirs c.in_ok-reply.reply c.in_ok-reply.ensures.2 in
     (cc, start_orders c.args.board.now c.step.new.self c.args.order c.in_ok-reply.ensures.3)
+
+pub returns-clause-events : goal.returns-clause-events
+returns-clause-events g c = λ before. answer_added before c.args.board.now (Start c.args.order.from c.args.order.to c.args.order.dirs) c.step.result c.step.new.self tt c.step.ensures

@@ -1,7 +1,7 @@
 use Rattle.std.proofs.Common.{length, List, ap}
 use Rattle.export_rounds.proofs.Asking.{each_long}
-use Rattle.rank_threads.specs.declared.standing.Standing.{Standing}
-use Rattle.rank_threads.specs.Carrying.{IsAsked}
+use Rattle.export_rounds.specs.Asked.{IsAsked}
+use Rattle.export_rounds.specs.declared.standing.Standing.{Standing}
 use Rattle.rank_threads.proofs.exporting.carry_out_named.Goals as goal
 
 pub tell-requires-clause-room : goal.tell-requires-clause-room

@@ -1,5 +1,5 @@
 use Rattle.export_rounds.proofs.Ordering.{publishes_none}
-use Rattle.rank_threads.proofs.Adding.{publish_added}
+use Rattle.export_rounds.proofs.Adding.{publish_added}
 use Rattle.rank_threads.proofs.Carrying.{goes_on}
 use Rattle.rank_threads.proofs.export_cell.Exporting.publish.Goals as goal
 

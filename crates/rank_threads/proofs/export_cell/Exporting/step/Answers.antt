@@ -1,5 +1,5 @@
 use Rattle.export_rounds.proofs.Ordering.{steps_none}
-use Rattle.rank_threads.proofs.Adding.{answer_added}
+use Rattle.export_rounds.proofs.Adding.{answer_added}
 use Rattle.rank_threads.proofs.Carrying.{goes_on}
 use Rattle.rank_threads.proofs.export_cell.Exporting.step.Goals as goal
 

@@ -9,11 +9,8 @@ use Rattle.board_state.specs.declared.change.Change.TheVariants.{Step}
 use Rattle.board_state.specs.Steps.{spelled}
 use Rattle.mds_board.specs.declared.entry.Entry.{Entry}
 use Rattle.mds_board.specs.History.{World, IsAnswer, entry_of}
-use Rattle.rank_threads.specs.Adding.{GoesOnBy, IsOfPhase}
-
-one_has : {A : Type 0} (P : A → Type 0) (x : A) → P x → All P (x ∷ [])
-one_has P x h zero d l = h
-one_has P x h (suc k) d l = absurd (omega arith)
+use Rattle.export_rounds.specs.Adding.{GoesOnBy, IsOfPhase}
+use Rattle.export_rounds.proofs.Going.{one_has}
 
 pub nothing_added : (before : ℕ) (w : World) → GoesOnBy before w w
 nothing_added before w = record { more = []; history = sym (append-nil w.history); events = All-nil (λ (e : Entry). IsOfPhase before e.change) }
