@@ -1,2 +1,3 @@
 pub mod Asked
+pub mod Choice
 pub mod Plans

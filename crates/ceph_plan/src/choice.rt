@@ -1,7 +1,8 @@
 //! How many parts: each number from that of the ranks to 64 is tried.
-ghost use Rattle.std.specs.Prelude.{◌≡◌, ◌<◌, ◌≤◌, ◌^◌, ℕ, All, length, true, false, IfOk, IsErrOf};
+ghost use Rattle.std.specs.Prelude.{◌≡◌, ◌<◌, ◌≤◌, ◌+◌, ◌/◌, ◌^◌, ◌↔◌, ℕ, All, length, true, false, IfOk, IsErrOf, IsTrue};
 ghost use Rattle.mds_types.specs.Problem.{IsForest};
 ghost use Rattle.mds_types.specs.RankSet.{has_rank};
+ghost use Rattle.ceph_plan.specs.Choice.{IsChosen, greatest_at, moved_at};
 ghost use Rattle.ceph_plan.specs.Plans.{IsPlan};
 
 use crate::plan::{Planned, Size, plan_parts};
@@ -28,18 +29,54 @@ struct Candidate {
     moved: u64,
 }
 
-/// The size that moves the fewest inodes, of those within 1 % of the coolest.
-fn chosen(candidates: &[Candidate]) -> Option<Size> {
-    let coolest = candidates.iter().map(|one| one.greatest).min()?;
-    let limit = coolest.saturating_add(coolest / 100);
-    let mut best: Option<Candidate> = None;
-    for one in candidates {
-        let is_better = best.is_none_or(|best| one.moved < best.moved);
-        if one.greatest <= limit && is_better {
-            best = Some(*one);
+/// The place of the coolest.
+fn coolest(candidates: &[Candidate]) -> usize
+    requires { 0 < length candidates.now }
+    ensures inside { result < length candidates.now }
+    ensures least { (k : ℕ) → k < length candidates.now → greatest_at candidates.now result ≤ greatest_at candidates.now k }
+{
+    let mut best = 0;
+    for at in 1..candidates.len() {
+        if candidates[at].greatest < candidates[best].greatest {
+            best = at;
         }
     }
-    best.map(|one| one.size)
+    best
+}
+
+/// The greatest load of a rank that is at most 1 % above that of a candidate.
+fn limit_of(candidates: &[Candidate], at: usize) -> u128
+    requires { at < length candidates.now }
+    ensures { result ≡ greatest_at candidates.now at + greatest_at candidates.now at / 100 }
+{
+    let greatest = u128::from(candidates[at].greatest);
+    greatest + greatest / 100
+}
+
+/// Whether a candidate is within the limit and moves fewer inodes than another.
+fn is_better(candidates: &[Candidate], at: usize, best: usize, limit: u128) -> bool
+    requires at { at < length candidates.now }
+    requires best { best < length candidates.now }
+    ensures { IsTrue result ↔ ((greatest_at candidates.now at ≤ limit) × (moved_at candidates.now at < moved_at candidates.now best)) }
+{
+    let is_cool = u128::from(candidates[at].greatest) <= limit;
+    is_cool && candidates[at].moved < candidates[best].moved
+}
+
+/// The place of the one that moves the fewest inodes, of those within 1 % of the coolest.
+fn chosen(candidates: &[Candidate]) -> usize
+    requires { 0 < length candidates.now }
+    ensures { IsChosen candidates.now result }
+{
+    let coolest = coolest(candidates);
+    let limit = limit_of(candidates, coolest);
+    let mut best = coolest;
+    for at in 0..candidates.len() {
+        if is_better(candidates, at, best, limit) {
+            best = at;
+        }
+    }
+    best
 }
 
 /// The heat of all rows.
@@ -95,11 +132,14 @@ fn best_size(
         })?;
         is_heavy |= plan.is_heavy;
     }
-    let most = Size {
-        parts: RANK_LIMIT,
-        cap: u64::MAX,
-    };
-    Ok(chosen(candidates.as_slice()).unwrap_or(most))
+    if candidates.is_empty() {
+        return Ok(Size {
+            parts: RANK_LIMIT,
+            cap: u64::MAX,
+        });
+    }
+    let candidates = candidates.as_slice();
+    Ok(candidates[chosen(candidates)].size)
 }
 
 /// Which rank of the set each row is to be at, in connected parts, several a rank.
