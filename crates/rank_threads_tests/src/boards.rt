@@ -90,7 +90,9 @@ pub(crate) fn open<'r, J: Naming, R: Wait>(
 fn keep(told: &mut Vec<WorkAnswer>, answers: Vec<Vec<WorkAnswer>>) {
     for list in answers {
         for answer in list {
-            let _ = told.push(answer);
+            if told.push(answer).is_err() {
+                return;
+            }
         }
     }
 }

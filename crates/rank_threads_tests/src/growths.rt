@@ -105,6 +105,10 @@ fn serve<J: Naming + Send + Sync, R: Threads + Wait + Sync>(
     })
 }
 
+fn served<R: Threads + Wait + Sync>(rt: &R, alloc: Global) -> Result<Served, AllocError> {
+    serve::<Brand, R>(rt, alloc, names_at_last(alloc)?)
+}
+
 // Whether the answer is that of a request that found no memory.
 fn is_memory(answer: &WorkAnswer) -> bool {
     *answer == WorkAnswer::refused(WorkError::Board(BoardError::Memory))
@@ -114,9 +118,9 @@ fn is_memory(answer: &WorkAnswer) -> bool {
 #[test]
 fn a_refused_growth_of_answers_changes_nothing(rt: HostRuntime) -> Result<(), Fail> {
     let alloc = rt.alloc();
-    let seen = match serve::<Brand, _>(&rt, alloc, names_at_last(alloc)?) {
+    let seen = match served(&rt, alloc) {
         Ok(seen) => seen,
-        Err(_) => serve::<Brand, _>(&rt, alloc, names(alloc)?)?,
+        Err(_) => served(&rt, alloc)?,
     };
     assert!(rt; seen.unchanged);
     assert!(rt; seen.running <= 1);
@@ -214,6 +218,10 @@ fn carry_out<J: Naming + Send + Sync, R: Threads + Wait + Sync>(
     })
 }
 
+fn carried_out<R: Threads + Wait + Sync>(rt: &R, alloc: Global) -> Result<Moved, AllocError> {
+    carry_out::<Brand, R>(rt, alloc, names_at_last(alloc)?)
+}
+
 // Whether an order's directory is where its outcome says, or where an open export may have it, and there a phase later.
 fn stands(outcome: &OrderOutcome, to: u8, first: Option<Rank>, later: Option<Rank>) -> bool {
     let OrderOutcome::TakenUp(outcome) = outcome else {
@@ -233,9 +241,9 @@ fn stands(outcome: &OrderOutcome, to: u8, first: Option<Rank>, later: Option<Ran
 #[test]
 fn a_refused_growth_of_outcomes_changes_nothing(rt: HostRuntime) -> Result<(), Fail> {
     let alloc = rt.alloc();
-    let seen = match carry_out::<Brand, _>(&rt, alloc, names_at_last(alloc)?) {
+    let seen = match carried_out(&rt, alloc) {
         Ok(seen) => seen,
-        Err(_) => carry_out::<Brand, _>(&rt, alloc, names(alloc)?)?,
+        Err(_) => carried_out(&rt, alloc)?,
     };
     let Moved {
         unchanged,

@@ -1,4 +1,5 @@
 //! Plans of a board.
+ghost use Rattle.std.specs.Prelude.{◌≡◌};
 
 use crate::board::failed;
 use crate::board::timing::each;
@@ -7,7 +8,8 @@ use authority_map::Publisher;
 use board_state::Solver;
 use heat_ledger::Share;
 use mds_board::Board;
-use mds_types::{Dir, Plan, Problem};
+use mds_types::limits::DIR_LIMIT;
+use mds_types::{Plan, Problem};
 use naming::Naming;
 use planner::solve;
 use std::alloc::{AllocError, Global};
@@ -56,7 +58,9 @@ pub fn time_balance<J: Naming, M: Publisher<J>, R: Threads + Sync + AllocGlobal 
     rt: &R,
     board: &mut Board<J, M>,
     share: &mut Share<J>,
-) -> io::Result<()> {
+) -> io::Result<()>
+    requires { J.limit ≡ DIR_LIMIT }
+{
     grow(rt.alloc(), board)?;
     heat(rt.alloc(), board, share)?;
     let Ok(problem) = board.open_problem(rt.alloc()) else {

@@ -1,4 +1,5 @@
 //! Directories and heats of a board that is timed.
+ghost use Rattle.std.specs.Prelude.{◌≡◌};
 
 use crate::board::failed;
 use authority_map::Publisher;
@@ -52,7 +53,9 @@ pub fn heat<J: Naming, M: Publisher<J>>(
     alloc: Global,
     board: &mut Board<J, M>,
     share: &mut Share<J>,
-) -> io::Result<()> {
+) -> io::Result<()>
+    requires { J.limit ≡ DIR_LIMIT }
+{
     let mut random = Random::new(7);
     for number in 0..DIR_LIMIT {
         let _counted = share.count(Dir::new(number), hits(&mut random));
