@@ -105,7 +105,7 @@ fn serve<J: Naming + Send + Sync, R: Threads + Wait + Sync>(
     })
 }
 
-fn served<R: Threads + Wait + Sync>(rt: &R, alloc: Global) -> Result<Served, AllocError> {
+fn serve_named<R: Threads + Wait + Sync>(rt: &R, alloc: Global) -> Result<Served, AllocError> {
     serve::<Brand, R>(rt, alloc, names_at_last(alloc)?)
 }
 
@@ -118,9 +118,9 @@ fn is_memory(answer: &WorkAnswer) -> bool {
 #[test]
 fn a_refused_growth_of_answers_changes_nothing(rt: HostRuntime) -> Result<(), Fail> {
     let alloc = rt.alloc();
-    let seen = match served(&rt, alloc) {
+    let seen = match serve_named(&rt, alloc) {
         Ok(seen) => seen,
-        Err(_) => served(&rt, alloc)?,
+        Err(_) => serve_named(&rt, alloc)?,
     };
     assert!(rt; seen.unchanged);
     assert!(rt; seen.running <= 1);
@@ -218,7 +218,7 @@ fn carry_out<J: Naming + Send + Sync, R: Threads + Wait + Sync>(
     })
 }
 
-fn carried_out<R: Threads + Wait + Sync>(rt: &R, alloc: Global) -> Result<Moved, AllocError> {
+fn carry_out_named<R: Threads + Wait + Sync>(rt: &R, alloc: Global) -> Result<Moved, AllocError> {
     carry_out::<Brand, R>(rt, alloc, names_at_last(alloc)?)
 }
 
@@ -241,9 +241,9 @@ fn stands(outcome: &OrderOutcome, to: u8, first: Option<Rank>, later: Option<Ran
 #[test]
 fn a_refused_growth_of_outcomes_changes_nothing(rt: HostRuntime) -> Result<(), Fail> {
     let alloc = rt.alloc();
-    let seen = match carried_out(&rt, alloc) {
+    let seen = match carry_out_named(&rt, alloc) {
         Ok(seen) => seen,
-        Err(_) => carried_out(&rt, alloc)?,
+        Err(_) => carry_out_named(&rt, alloc)?,
     };
     let Moved {
         unchanged,
