@@ -1,2 +1,3 @@
 pub mod Amounts
 pub mod OwnPins
+pub mod Standing

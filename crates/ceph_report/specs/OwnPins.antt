@@ -5,11 +5,7 @@ use Rattle.ceph_pins.specs.Rule.{first_of}
 use Rattle.ceph_plan.specs.declared.proposal.OwnPins.{OwnPins}
 use Rattle.ceph_plan.specs.Asked.{own_at}
 use Rattle.ceph_snapshot.specs.declared.directory.Directory.{Directory}
-use Rattle.ceph_snapshot.specs.Holding.{is_spread_at, now_at, pin_at}
-
--- the pin of an earlier plan
-abbrev pub earlier_at : List Directory → ℕ → Option ℕ
-earlier_at directories i = option_map_or (λ (d : Directory). d.earlier) (slice_get directories i) None
+use Rattle.ceph_snapshot.specs.Holding.{earlier_at, is_spread_at, now_at, pin_at}
 
 -- the pin that is to stay: somebody else's, or else where it lies, where it is spread. The root has none
 abbrev pub foreign_at : List Directory → ℕ → Option ℕ

@@ -206,6 +206,24 @@ fn push_box(
     text.push_str("</g>\n")
 }
 
+/// Adds how many directories a box stands for, where the words fit into it.
+fn push_more(
+    text: &mut String,
+    count: u64,
+    left: u64,
+    top: u64,
+    width: u64,
+) -> Result<(), AllocError> {
+    // "and ", " more" and five digits, as there are at most 65,536 directories
+    if width < CHARACTER.saturating_mul(14).saturating_add(600) {
+        return Ok(());
+    }
+    text.push_str("<text x=\"")?;
+    push_hundredths(text, left.saturating_add(300))?;
+    let line = top.saturating_add(13);
+    write!(text, "\" y=\"{line}\">and {count} more</text>")
+}
+
 /// Adds the box that the children of a directory have together that have none of their own, if that is wide enough.
 fn push_rest(text: &mut String, place: &Place, all: u64) -> Result<(), AllocError> {
     let Rest {
@@ -226,7 +244,10 @@ fn push_rest(text: &mut String, place: &Place, all: u64) -> Result<(), AllocErro
     push_hundredths(text, place.left.saturating_add(place.taken))?;
     write!(text, "\" y=\"{top}\" width=\"")?;
     push_hundredths(text, width)?;
-    writeln!(text, "\" height=\"{HEIGHT}\" fill=\"#ddd\"/></g>")
+    writeln!(text, "\" height=\"{HEIGHT}\" fill=\"#ddd\"/>")?;
+    let left = place.left.saturating_add(place.taken);
+    push_more(text, count, left, top, width)?;
+    text.push_str("</g>\n")
 }
 
 /// How many boxes are drawn above one another.

@@ -1,5 +1,8 @@
 //! The pins of this program, before and after changes.
-ghost use Rattle.std.specs.Prelude.{◌≡◌, ◌≤◌, length, IfOk};
+ghost use Rattle.std.specs.Prelude.{◌≡◌, ◌<◌, ℕ, length, IfOk};
+ghost use Rattle.mds_types.specs.Sums.{count_below};
+ghost use Rattle.ceph_report.specs.Standing.{is_changed, is_standing};
+ghost use Rattle.ceph_snapshot.specs.Folding.{is_marked};
 
 use ceph_pins::{Change, PinRow};
 use mds_types::Rank;
@@ -34,20 +37,35 @@ pub(crate) fn pins_after(
     Ok(pins)
 }
 
+/// Which of so many rows change.
+fn changed_rows(alloc: Global, changes: &[Change], count: usize) -> Result<Vec<bool>, AllocError>
+    ensures size { IfOk result (λ marks. length marks.items ≡ count) }
+    ensures marks { IfOk result (λ marks. (i : ℕ) → i < count → is_marked marks.items i ≡ is_changed changes.now i) }
+{
+    let mut marks = vec![in alloc; false; count]?;
+    for change in changes {
+        let row = change.row as usize;
+        if row < marks.len() {
+            marks[row] = true;
+        }
+    }
+    Ok(marks)
+}
+
 /// How many pins of an earlier plan stand as they are while the changes are made: rows that have one, but for those that change.
 pub fn standing_pins(
     alloc: Global,
     rows: &[PinRow],
     changes: &[Change],
 ) -> Result<usize, AllocError>
-    ensures { IfOk result (λ count. count ≤ length rows.now) }
+    ensures { IfOk result (λ count. count ≡ count_below (length rows.now) (is_standing rows.now changes.now)) }
 {
-    let mut pins = pins_before(alloc, rows)?;
-    for change in changes {
-        let row = change.row as usize;
-        if row < pins.len() {
-            pins[row] = None;
+    let changed = changed_rows(alloc, changes, rows.len())?;
+    let mut count = 0usize;
+    for (at, row) in rows.iter().enumerate() {
+        if row.earlier.is_some() && !changed[at] {
+            count += 1;
         }
     }
-    Ok(pins.iter().filter(|pin| pin.is_some()).count())
+    Ok(count)
 }
