@@ -4,6 +4,8 @@
 #[cfg(test)]
 mod boards;
 #[cfg(test)]
+mod full;
+#[cfg(test)]
 mod moves;
 #[cfg(test)]
 mod requests;
