@@ -6,4 +6,6 @@ mod boards;
 #[cfg(test)]
 mod moves;
 #[cfg(test)]
+mod refused;
+#[cfg(test)]
 mod requests;
