@@ -8,4 +8,6 @@ mod full;
 #[cfg(test)]
 mod moves;
 #[cfg(test)]
+mod refused;
+#[cfg(test)]
 mod requests;
