@@ -1,4 +1,0 @@
-use Rattle.bench.proofs.board.run.Given as goal
-
-abbrev pub ghosts-time_opened : goal.ghosts-time_opened
-ghosts-time_opened g a = record { ledger = a.book; limit = 65536; map = a.map }
