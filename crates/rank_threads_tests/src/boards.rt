@@ -1,8 +1,19 @@
-//! Ranks, orders and outcomes for tests.
+//! Boards of several ranks, and phases on them.
+ghost use Rattle.std.specs.Prelude.{◌≡◌, ◌≤◌};
 
+use crate::gates::JitterGate;
+use authority_map::{MapWriter, Publisher};
+use board_state::{BoardParts, Change};
+use export_machine::Event;
+use heat_ledger::Share;
+use mds_board::Board;
 use mds_types::{Dir, Dirs, Order, Rank};
-use rank_threads::{OrderOutcome, Outcome};
+use naming::Naming;
+use rank_threads::{OrderOutcome, Outcome, Ranks, Work, WorkAnswer, serve_phase};
 use std::alloc::{AllocError, Global};
+use std::marker::{Send, Sync};
+use std::sync::Wait;
+use std::thread::Threads;
 
 /// The rank of a number, and rank 0 where that is none.
 pub(crate) fn rank(number: u8) -> Rank {
@@ -27,4 +38,104 @@ pub(crate) fn orders(alloc: Global, rows: &[(u8, u8, u32)]) -> Result<Vec<Order>
 /// What became of an order whose export is done.
 pub(crate) fn done(export: u32) -> OrderOutcome {
     OrderOutcome::TakenUp(Outcome::Done(export))
+}
+
+fn make<J: Naming, M: Publisher<J>>(
+    alloc: Global,
+    board: &mut Board<J, M>,
+    dirs: u32,
+) -> Result<(), AllocError> {
+    for number in 0..dirs {
+        let name = format!(in alloc; "d{number}")?;
+        if board.make(alloc, Dir::ROOT, name.as_str(), 1).is_err() {
+            return Err(AllocError);
+        }
+    }
+    Ok(())
+}
+
+/// A board of so many ranks with directories from 1 on below the root, so many, and the share of each rank.
+pub(crate) fn open<'r, J: Naming, R: Wait>(
+    rt: &'r R,
+    alloc: Global,
+    names: (heat_ledger::Opened, authority_map::Opened),
+    ranks: u8,
+    dirs: u32,
+) -> Result<(Board<J, MapWriter<J, &'r R>>, Vec<Share<J>>), &'static str>
+    requires book { names.0 ≡ J.ledger }
+    requires map { names.1 ≡ J.map }
+    requires limit { J.limit ≡ 128 }
+    requires ranks { (1 ≤ ranks) × (ranks ≤ 64) }
+{
+    let (book, map) = names;
+    let Ok((writer, _readers)) = MapWriter::<J, &'r R>::open(rt, alloc, map, 128, 1) else {
+        return Err("no map");
+    };
+    match Board::new(alloc, BoardParts::new(book, writer), 128, ranks) {
+        Ok((mut board, shares)) => {
+            if make(alloc, &mut board, dirs).is_ok() {
+                return Ok((board, shares));
+            }
+            board.end();
+            Err("no directory")
+        }
+        Err(parts) => {
+            parts.end();
+            Err("no board")
+        }
+    }
+}
+
+// Adds the answers of all ranks, as far as there is room.
+fn keep(told: &mut Vec<WorkAnswer>, answers: &[Vec<WorkAnswer>]) {
+    for list in answers {
+        for answer in list {
+            let _kept = told.push(*answer);
+        }
+    }
+}
+
+/// Serves the requests of all ranks with jitter, and adds their answers. Where there is no memory or no deposit, it adds none.
+pub(crate) fn serve<J: Naming + Send + Sync, M: Publisher<J> + Send, R: Threads + Wait + Sync>(
+    rt: &R,
+    alloc: Global,
+    board: Board<J, M>,
+    scripts: &[Vec<Work>],
+    shares: Vec<Share<J>>,
+    told: &mut Vec<WorkAnswer>,
+) -> (Board<J, M>, Vec<Share<J>>) {
+    if scripts.len() > 64 || shares.len() != scripts.len() {
+        return (board, shares);
+    }
+    let (board, done) = serve_phase(rt, alloc, board, &JitterGate, scripts, shares);
+    match done {
+        Ok(
+            Ranks {
+                shares,
+                answers,
+                deposited,
+            },
+        ) => {
+            if deposited.is_ok() {
+                keep(told, &answers);
+            }
+            (board, shares)
+        }
+        Err(refused) => (board, refused.value),
+    }
+}
+
+/// How many more requests began than ended by an end of their own.
+pub(crate) fn running<J: Naming, M: Publisher<J>>(board: &Board<J, M>) -> u32 {
+    let mut running: u32 = 0;
+    for entry in board.history() {
+        if let Change::Step(step) = &entry.change {
+            match step.event() {
+                Event::Begin(_, _) => running = running.wrapping_add(1),
+                Event::End(_) => running = running.wrapping_sub(1),
+                _ => {}
+            }
+        }
+    }
+    running
 }

@@ -1,4 +1,4 @@
-//! Tests of the rank threads: requests of two ranks, and orders of three.
+//! Tests of the rank threads: requests of two ranks and of 64, and orders of three; where growths or threads are refused too.
 #![tactic(auto)]
 
 #[cfg(test)]
@@ -8,6 +8,14 @@ mod exports;
 #[cfg(test)]
 mod gates;
 #[cfg(test)]
+mod growths;
+#[cfg(test)]
+mod many;
+#[cfg(test)]
 mod requests;
+#[cfg(test)]
+mod rows;
+#[cfg(test)]
+mod threads;
 #[cfg(test)]
 mod whole;

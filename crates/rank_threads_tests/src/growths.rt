@@ -1,0 +1,259 @@
+//! Phases that find no memory at one of their growths.
+ghost use Rattle.std.specs.Prelude.{◌≡◌};
+
+use crate::boards::{open, orders, rank, running};
+use crate::requests::{names, refused, scripts, work};
+use authority_map::Publisher;
+use board_state::BoardError;
+use export_machine::StepError;
+use heat_ledger::Share;
+use mds_board::Board;
+use mds_types::{Dir, Order, Rank};
+use naming::Naming;
+use rank_threads::{
+    OpenGate, OrderOutcome, Outcome, Ranks, Work, WorkAnswer, WorkError, export_phase, serve_phase,
+};
+use std::alloc::{AllocError, Global};
+use std::marker::{Brand, Send, Sync};
+use std::sync::Wait;
+use std::test::Fail;
+use std::thread::Threads;
+
+// Whether shares are those of two ranks that have counted nothing on directory 1.
+fn are_fresh<J: Naming>(shares: &[Share<J>]) -> bool {
+    let dir = Dir::new(1);
+    let mut fresh = true;
+    for share in shares {
+        fresh &= share.hits(dir) == 0 && share.begun(dir) == 0 && share.pending(dir) == 0;
+    }
+    fresh && shares.len() == 2
+}
+
+// Serves the requests of two ranks, again where there was no memory for the answers, and says whether that changed nothing.
+fn serve_at_last<J: Naming + Send + Sync, M: Publisher<J> + Send, R: Threads + Wait + Sync>(
+    rt: &R,
+    alloc: Global,
+    board: Board<J, M>,
+    scripts: &[Vec<Work>],
+    shares: Vec<Share<J>>,
+) -> (Board<J, M>, Option<Ranks<J>>, bool) {
+    if scripts.len() != 2 || shares.len() != 2 {
+        return (board, None, false);
+    }
+    let entries = board.history().len();
+    let (board, done) = serve_phase(rt, alloc, board, &OpenGate, scripts, shares);
+    let shares = match done {
+        Ok(ranks) => return (board, Some(ranks), true),
+        Err(refused) => refused.value,
+    };
+    let unchanged = board.history().len() == entries && are_fresh(&shares);
+    if shares.len() != 2 {
+        return (board, None, false);
+    }
+    let (board, done) = serve_phase(rt, alloc, board, &OpenGate, scripts, shares);
+    (board, done.ok(), unchanged)
+}
+
+// What two ranks answered, and what they left.
+#[derive(Drop)]
+struct Served {
+    // Whether a phase that was refused left board and shares as they were.
+    unchanged: bool,
+    // Rank 0's and then rank 1's.
+    answers: Vec<Vec<WorkAnswer>>,
+    // Requests without their end.
+    running: u32,
+    // Hits on directory 1 that the shares count, those that wait for a deposit, and those that the board counts.
+    hits: u64,
+    pending: u64,
+    heat: u64,
+}
+
+fn serve<J: Naming + Send + Sync, R: Threads + Wait + Sync>(
+    rt: &R,
+    alloc: Global,
+    names: (heat_ledger::Opened, authority_map::Opened),
+) -> Result<Served, AllocError>
+    requires book { names.0 ≡ J.ledger }
+    requires map { names.1 ≡ J.map }
+    requires limit { J.limit ≡ 128 }
+{
+    let scripts = scripts(alloc, &[work(1, 3), work(1, 4)], &[work(7, 2)])?;
+    let Ok((board, shares)) = open::<J, R>(rt, alloc, names, 2, 1) else {
+        return Err(AllocError);
+    };
+    let (board, done, unchanged) = serve_at_last(rt, alloc, board, &scripts, shares);
+    let running = running(&board);
+    let heat = board.heat().heat(Dir::new(1));
+    board.end();
+    let Some(ranks) = done else {
+        return Err(AllocError);
+    };
+    let mut hits: u64 = 0;
+    let mut pending: u64 = 0;
+    for share in ranks.shares.iter() {
+        hits = hits.wrapping_add(share.hits(Dir::new(1)));
+        pending = pending.wrapping_add(share.pending(Dir::new(1)));
+    }
+    Ok(Served {
+        unchanged,
+        answers: ranks.answers,
+        running,
+        hits,
+        pending,
+        heat,
+    })
+}
+
+fn serve_named<R: Threads + Wait + Sync>(rt: &R, alloc: Global) -> Result<Served, AllocError> {
+    let given = names(alloc)?;
+    let seen = serve::<Brand, R>(rt, alloc, given)?;
+    Ok(seen)
+}
+
+// Whether the answer is that of a request that found no memory.
+fn is_memory(answer: &WorkAnswer) -> bool {
+    *answer == WorkAnswer::refused(WorkError::Board(BoardError::Memory))
+}
+
+// One growth at most is refused: a request finds no memory, an end does, or a deposit.
+#[test]
+fn a_refused_growth_of_answers_changes_nothing(rt: HostRuntime) -> Result<(), Fail> {
+    let seen = match serve_named(&rt, rt.alloc()) {
+        Ok(seen) => seen,
+        Err(_) => serve_named(&rt, rt.alloc())?,
+    };
+    assert!(rt; seen.unchanged);
+    assert!(rt; seen.running <= 1);
+    let mut hits: u64 = 0;
+    let mut refusals: u32 = 0;
+    for (answers, wanted) in seen.answers.iter().zip([[3, 4], [0, 0]]) {
+        for (answer, all) in answers.iter().zip(wanted) {
+            if is_memory(answer) {
+                refusals = refusals.wrapping_add(1);
+            } else if all > 0 {
+                assert_eq!(rt; (answer.hits, answer.refused), (all, None));
+                hits = hits.wrapping_add(u64::from(all));
+            } else {
+                assert_eq!(rt; *answer, refused(StepError::NoDir));
+            }
+        }
+    }
+    assert!(rt; refusals.wrapping_add(seen.running) <= 1);
+    assert_eq!(rt; seen.hits, hits);
+    assert_eq!(rt; seen.heat.wrapping_add(seen.pending), hits);
+    Ok(())
+}
+
+// What became of two orders, and what they left.
+#[derive(Drop)]
+struct Moved {
+    // Whether a phase that was refused left the board as it was.
+    unchanged: bool,
+    outcomes: Vec<OrderOutcome>,
+    // Who has directories 1 and 2 after it, and after one more phase.
+    authorities: (Option<Rank>, Option<Rank>),
+    later: (Option<Rank>, Option<Rank>),
+}
+
+fn authorities<J: Naming, M: Publisher<J>>(board: &Board<J, M>) -> (Option<Rank>, Option<Rank>) {
+    let cluster = board.cluster();
+    (
+        cluster.authority(Dir::new(1)),
+        cluster.authority(Dir::new(2)),
+    )
+}
+
+// Carries out orders, again where there was no memory for the outcomes, and says whether that changed nothing.
+fn carry_out_at_last<J: Naming + Send + Sync, M: Publisher<J> + Send, R: Threads + Wait + Sync>(
+    rt: &R,
+    alloc: Global,
+    board: Board<J, M>,
+    orders: &[Order],
+) -> (Board<J, M>, Option<Vec<OrderOutcome>>, bool) {
+    let entries = board.history().len();
+    let (board, done) = export_phase(rt, alloc, board, &OpenGate, orders);
+    if let Ok(outcomes) = done {
+        return (board, Some(outcomes), true);
+    }
+    let unchanged = board.history().len() == entries;
+    let (board, done) = export_phase(rt, alloc, board, &OpenGate, orders);
+    (board, done.ok(), unchanged)
+}
+
+fn carry_out<J: Naming + Send + Sync, R: Threads + Wait + Sync>(
+    rt: &R,
+    alloc: Global,
+    names: (heat_ledger::Opened, authority_map::Opened),
+) -> Result<Moved, AllocError>
+    requires book { names.0 ≡ J.ledger }
+    requires map { names.1 ≡ J.map }
+    requires limit { J.limit ≡ 128 }
+{
+    let orders = orders(alloc, &[(0, 1, 1), (0, 2, 2)])?;
+    let Ok((board, _shares)) = open::<J, R>(rt, alloc, names, 3, 2) else {
+        return Err(AllocError);
+    };
+    let (board, done, unchanged) = carry_out_at_last(rt, alloc, board, &orders);
+    let first = authorities(&board);
+    let (board, _none, _unchanged) = carry_out_at_last(rt, alloc, board, &[]);
+    let later = authorities(&board);
+    board.end();
+    let Some(outcomes) = done else {
+        return Err(AllocError);
+    };
+    Ok(Moved {
+        unchanged,
+        outcomes,
+        authorities: first,
+        later,
+    })
+}
+
+fn carry_out_named<R: Threads + Wait + Sync>(rt: &R, alloc: Global) -> Result<Moved, AllocError> {
+    let given = names(alloc)?;
+    let seen = carry_out::<Brand, R>(rt, alloc, given)?;
+    Ok(seen)
+}
+
+// Whether an order's directory is where its outcome says, or where an open export may have it, and there a phase later.
+fn stands(outcome: &OrderOutcome, to: u8, first: Option<Rank>, later: Option<Rank>) -> bool {
+    let OrderOutcome::TakenUp(outcome) = outcome else {
+        return false;
+    };
+    match outcome {
+        Outcome::Done(_) => first == Some(rank(to)) && later == first,
+        Outcome::Aborted(_) => first == Some(rank(0)) && later == first,
+        Outcome::Open(_) => later == Some(rank(to)),
+        Outcome::Refused(error) => {
+            *error == BoardError::Memory && first == Some(rank(0)) && later == first
+        }
+    }
+}
+
+// One growth at most is refused: an order, or a step of its export, finds no memory.
+#[test]
+fn a_refused_growth_of_outcomes_changes_nothing(rt: HostRuntime) -> Result<(), Fail> {
+    let seen = match carry_out_named(&rt, rt.alloc()) {
+        Ok(seen) => seen,
+        Err(_) => carry_out_named(&rt, rt.alloc())?,
+    };
+    let Moved {
+        unchanged,
+        outcomes,
+        authorities,
+        later,
+    } = seen;
+    let (first_one, first_two) = authorities;
+    let (later_one, later_two) = later;
+    assert!(rt; unchanged);
+    assert_eq!(rt; outcomes.len(), 2);
+    let stood = [(1, first_one, later_one), (2, first_two, later_two)];
+    for (outcome, (to, first, later)) in outcomes.iter().zip(stood) {
+        assert!(rt;
+            stands(outcome, to, first, later),
+            "{outcome:?} {first:?} {later:?}"
+        );
+    }
+    Ok(())
+}

@@ -1,0 +1,124 @@
+//! Phases for which the system may give no thread. `tools/refused_threads` runs them where it does not.
+ghost use Rattle.std.specs.Prelude.{◌≡◌};
+
+use crate::boards::{done, open, orders, rank, running, serve};
+use crate::requests::{names, refused, scripts, served, work};
+use export_machine::StepError;
+use mds_types::{Dir, Rank};
+use naming::Naming;
+use rank_threads::{OpenGate, OrderOutcome, WorkAnswer, export_phase};
+use std::alloc::Global;
+use std::marker::{Brand, Send, Sync};
+use std::sync::Wait;
+use std::test::Fail;
+use std::thread::Threads;
+
+// What two ranks answered to three requests, how many still run, and how hot directory 1 is.
+#[derive(Drop)]
+struct Served {
+    answers: Vec<WorkAnswer>,
+    running: u32,
+    heat: u64,
+}
+
+fn serve_three<J: Naming + Send + Sync, R: Threads + Wait + Sync>(
+    rt: &R,
+    alloc: Global,
+    names: (heat_ledger::Opened, authority_map::Opened),
+) -> Result<Served, Fail>
+    requires book { names.0 ≡ J.ledger }
+    requires map { names.1 ≡ J.map }
+    requires limit { J.limit ≡ 128 }
+{
+    let scripts = scripts(alloc, &[work(1, 3), work(1, 5)], &[work(7, 2)])?;
+    let mut answers = Vec::with_capacity(alloc, 3)?;
+    let (board, shares) = open::<J, R>(rt, alloc, names, 2, 1)?;
+    let (board, _shares) = serve(rt, alloc, board, &scripts, shares, &mut answers);
+    let running = running(&board);
+    let heat = board.heat().heat(Dir::new(1));
+    board.end();
+    Ok(Served {
+        answers,
+        running,
+        heat,
+    })
+}
+
+// A rank has a thread for all of its requests, or for none of them.
+#[test]
+fn a_rank_without_a_thread_is_told(rt: HostRuntime) -> Result<(), Fail> {
+    let given = names(rt.alloc())?;
+    let seen = serve_three::<Brand, _>(&rt, rt.alloc(), given)?;
+    let none = WorkAnswer::no_thread();
+    let all = seen.answers.as_slice();
+    assert_eq!(rt; all.len(), 3);
+    let first = all.get(..2).unwrap_or(&[]);
+    let is_served = first == [served(0, 3), served(1, 5)].as_slice();
+    assert!(rt; is_served || first == [none, none].as_slice());
+    assert!(rt; all.get(2) == Some(&none) || all.get(2) == Some(&refused(StepError::NoDir)));
+    assert_eq!(rt; seen.heat, if is_served { 8 } else { 0 });
+    assert_eq!(rt; seen.running, 0);
+    Ok(())
+}
+
+// What became of two orders of rank 0, who has directories 1 and 2 then, and whether an export was started.
+#[derive(Drop)]
+struct Moved {
+    outcomes: Vec<OrderOutcome>,
+    authorities: (Option<Rank>, Option<Rank>),
+    has_export: bool,
+}
+
+fn move_two<J: Naming + Send + Sync, R: Threads + Wait + Sync>(
+    rt: &R,
+    alloc: Global,
+    names: (heat_ledger::Opened, authority_map::Opened),
+) -> Result<Moved, Fail>
+    requires book { names.0 ≡ J.ledger }
+    requires map { names.1 ≡ J.map }
+    requires limit { J.limit ≡ 128 }
+{
+    let orders = orders(alloc, &[(0, 1, 1), (0, 2, 2)])?;
+    let (board, _shares) = open::<J, R>(rt, alloc, names, 3, 2)?;
+    let (board, done) = export_phase(rt, alloc, board, &OpenGate, &orders);
+    let authorities = (
+        board.cluster().authority(Dir::new(1)),
+        board.cluster().authority(Dir::new(2)),
+    );
+    let has_export = board.cluster().export(0).is_some();
+    board.end();
+    Ok(Moved {
+        outcomes: done?,
+        authorities,
+        has_export,
+    })
+}
+
+// An exporter has a thread for all of its orders, or for none of them. What importers have to do is done in any case.
+#[test]
+fn an_exporter_without_a_thread_is_told(rt: HostRuntime) -> Result<(), Fail> {
+    let given = names(rt.alloc())?;
+    let seen = move_two::<Brand, _>(&rt, rt.alloc(), given)?;
+    let done = [done(0), done(1)];
+    let none = [OrderOutcome::NoThread, OrderOutcome::NoThread];
+    if seen.outcomes.as_slice() == done.as_slice() {
+        assert_eq!(rt; seen.authorities, (Some(rank(1)), Some(rank(2))));
+    } else {
+        assert_eq!(rt; seen.outcomes.as_slice(), none.as_slice());
+        assert_eq!(rt; seen.authorities, (Some(rank(0)), Some(rank(0))));
+        assert!(rt; !seen.has_export);
+    }
+    Ok(())
+}
+
+// With ample memory each rank has a thread.
+#[test]
+fn ranks_and_exporters_have_threads(rt: HostRuntime) -> Result<(), Fail> {
+    let given = names(rt.alloc())?;
+    let served = serve_three::<Brand, _>(&rt, rt.alloc(), given)?;
+    assert!(rt; !served.answers.contains(&WorkAnswer::no_thread()));
+    let given = names(rt.alloc())?;
+    let moved = move_two::<Brand, _>(&rt, rt.alloc(), given)?;
+    assert!(rt; !moved.outcomes.contains(&OrderOutcome::NoThread));
+    Ok(())
+}
