@@ -3,7 +3,7 @@
 //! Without an argument it prints nothing. Else it prints a line: a name, how many calls were accepted, and nanoseconds of
 //! processor time a call, the least of several runs; then the same of what it stands on. `tick` is a tick of the board, and
 //! one of heats alone. `requests` is a request that begins and ends. `stop` is the stop of a rank at which a thousand requests
-//! run, by request. `balance` is a plan for 65,536 directories, and the planner alone on the same problem. `sets` and `ones`
+//! run, by request. `balance` is a plan for 65,536 directories, and the same problem opened and solved alone. `sets` and `ones`
 //! carry out orders of 65,536 directories: one order of all, and 32,768 orders of one. `rest` makes 2^20 events, so that their
 //! memory can be seen from outside.
 

@@ -9,7 +9,7 @@ use board_state::Solver;
 use heat_ledger::Share;
 use mds_board::Board;
 use mds_types::limits::DIR_LIMIT;
-use mds_types::{Plan, Problem};
+use mds_types::{Plan, Problem, RankSet};
 use naming::Naming;
 use planner::solve;
 use std::alloc::{AllocError, Global};
@@ -32,9 +32,16 @@ impl<'r, R: Threads> Solver for Planner<'r, R> {
     }
 }
 
-// The greatest heat of a plan by the planner alone.
-fn solved<R: Threads>(rt: &R, alloc: Global, problem: &Problem) -> io::Result<u64> {
-    let plan = solve(rt, alloc, problem)?;
+// The greatest heat of a plan that the planner makes of the board's problem, and that isn't adopted.
+fn solved<J: Naming, M: Publisher<J>, R: Threads>(
+    rt: &R,
+    alloc: Global,
+    board: &mut Board<J, M>,
+) -> io::Result<u64> {
+    let Ok(problem) = board.open_problem(alloc) else {
+        return Err(failed("no problem"));
+    };
+    let plan = solve(rt, alloc, &problem)?;
     Ok(plan.greatest)
 }
 
@@ -53,7 +60,7 @@ fn balanced<J: Naming, M: Publisher<J>, R: Threads>(
         .ok_or(failed("no plan in force"))
 }
 
-/// Times plans by the board, and by the planner alone. Both must be as good.
+/// Times plans by the board, and problems that are opened and solved alone. Both must be as good.
 pub fn time_balance<J: Naming, M: Publisher<J>, R: Threads + Sync + CpuClock + Print>(
     rt: &R,
     alloc: Global,
@@ -64,16 +71,16 @@ pub fn time_balance<J: Naming, M: Publisher<J>, R: Threads + Sync + CpuClock + P
 {
     grow(alloc, board)?;
     heat(alloc, board, share)?;
-    let Ok(problem) = board.open_problem(alloc) else {
-        return Err(failed("no problem"));
-    };
+    if board.set_mask(RankSet::from_bits(0xff)).is_err() {
+        return Err(failed("no mask"));
+    }
     let mut least = (u128::MAX, u128::MAX);
     let mut accepted: u64 = 0;
     for _ in 0..RUNS {
         let start = rt.thread_cpu_time()?;
         let greatest = balanced(rt, alloc, board)?;
         let middle = rt.thread_cpu_time()?;
-        let alone = solved(rt, alloc, &problem)?;
+        let alone = solved(rt, alloc, board)?;
         let end = rt.thread_cpu_time()?;
         least.0 = each(start, middle, 1).min(least.0);
         least.1 = each(middle, end, 1).min(least.1);
