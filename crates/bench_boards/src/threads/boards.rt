@@ -1,6 +1,7 @@
 //! Boards on which a phase is timed.
 ghost use Rattle.std.specs.Prelude.{◌≡◌, ◌≤◌};
 
+use crate::board::failed;
 use authority_map::{MapWriter, Publisher};
 use board_state::BoardParts;
 use export_machine::{Event, Reply};
@@ -27,14 +28,25 @@ fn rank(number: u8) -> Rank {
     Rank::new(number).unwrap_or(Rank::default())
 }
 
+// A directory of each rank below the root, and the others below these in turn: rank k has directory k + 1 and what is below it.
+fn parent_of(ranks: u8, dir: u32) -> Dir {
+    let ranks = u32::from(ranks).max(1);
+    if dir <= ranks {
+        return Dir::ROOT;
+    }
+    Dir::new((dir - 1) % ranks + 1)
+}
+
 fn make<J: Naming, M: Publisher<J>>(
     alloc: Global,
     board: &mut Board<J, M>,
+    ranks: u8,
     dirs: u32,
 ) -> Result<(), AllocError> {
     for number in 1..dirs {
         let name = format!(in alloc; "d{number}")?;
-        if board.make(alloc, Dir::ROOT, name.as_str(), 1).is_err() {
+        let parent = parent_of(ranks, number);
+        if board.make(alloc, parent, name.as_str(), 1).is_err() {
             return Err(AllocError);
         }
     }
@@ -60,7 +72,7 @@ fn open<'r, J: Naming, R: Wait>(
     };
     match Board::new(alloc, BoardParts::new(book, writer), DIRECTORIES, ranks) {
         Ok((mut board, shares)) => {
-            if make(alloc, &mut board, dirs).is_ok() {
+            if make(alloc, &mut board, ranks, dirs).is_ok() {
                 return Ok((board, shares));
             }
             board.end();
@@ -73,11 +85,11 @@ fn open<'r, J: Naming, R: Wait>(
     }
 }
 
-// The directories of a rank: its part of so many, by rising numbers, but for the root.
+// The directories of a rank, by rising numbers.
 fn dirs_of(alloc: Global, ranks: u8, number: u8, dirs: u32) -> Result<Dirs, AllocError> {
     let mut list = Vec::new(alloc);
     for dir in 1..dirs {
-        if dir % u32::from(ranks).max(1) == u32::from(number) {
+        if (dir - 1) % u32::from(ranks).max(1) == u32::from(number) {
             list.push(Dir::new(dir))?;
         }
     }
@@ -115,19 +127,29 @@ fn pass_on(alloc: Global, ranks: u8, dirs: u32) -> Result<Vec<Order>, AllocError
     Ok(orders)
 }
 
+// How many requests each rank has.
+fn requests_of(ranks: u8, hits: u32) -> u32 {
+    if hits == 0 {
+        return 0;
+    }
+    REQUESTS / u32::from(ranks).max(1)
+}
+
+// How many hits all requests have.
+fn asked(ranks: u8, hits: u32) -> u64 {
+    let each = u64::from(requests_of(ranks, hits)).saturating_mul(u64::from(hits));
+    each.saturating_mul(u64::from(ranks))
+}
+
 // The requests of each rank on its directory.
 fn scripts(alloc: Global, ranks: u8, hits: u32) -> Result<Vec<Vec<Work>>, AllocError> {
-    let each = if hits == 0 {
-        0
-    } else {
-        REQUESTS / u32::from(ranks).max(1)
-    };
+    let each = requests_of(ranks, hits);
     let mut scripts = Vec::new(alloc);
     for number in 0..ranks {
         let mut script = Vec::new(alloc);
         for _ in 0..each {
             script.push(Work {
-                dir: Dir::new(u32::from(number)),
+                dir: Dir::new(u32::from(number) + 1),
                 hits,
             })?;
         }
@@ -188,14 +210,18 @@ pub fn time_serve<J: Naming + Send + Sync, R: Threads + Wait + Clock + Sync>(
     requires limit { J.limit ≡ 65536 }
     requires ranks { (1 ≤ ranks) × (ranks ≤ 64) }
 {
-    let orders = deal(alloc, ranks, u32::from(ranks))?;
+    let orders = deal(alloc, ranks, u32::from(ranks) + 1)?;
     let scripts = scripts(alloc, ranks, hits)?;
-    let (mut board, shares) = open::<J, R>(rt, alloc, names, ranks, u32::from(ranks))?;
-    let _ = carry_out_orders(&mut board, alloc, &orders);
+    let (mut board, shares) = open::<J, R>(rt, alloc, names, ranks, u32::from(ranks) + 1)?;
+    let _outcomes = carry_out_orders(&mut board, alloc, &orders);
     let start = rt.monotonic();
     let board = serve(rt, alloc, board, &scripts, shares, by_threads);
     let end = rt.monotonic();
+    let is_served = counted(&board, ranks) == asked(ranks, hits);
     board.end();
+    if !is_served {
+        return Err(failed("a request wasn't served"));
+    }
     Ok(end?.saturating_sub(start?).as_nanos())
 }
 
@@ -211,8 +237,28 @@ fn export<J: Naming + Send + Sync, M: Publisher<J> + Send, R: Threads + Wait + S
         let (after, _outcomes) = export_phase(rt, alloc, board, &OpenGate, orders);
         return after;
     }
-    let _ = carry_out_orders(&mut board, alloc, orders);
+    let _outcomes = carry_out_orders(&mut board, alloc, orders);
     board
+}
+
+// Whether each order's first directory is where the order takes it.
+fn are_there<J: Naming, M: Publisher<J>>(board: &Board<J, M>, orders: &[Order]) -> bool {
+    let mut all = true;
+    for order in orders {
+        if let Some(dir) = order.dirs.as_slice().first() {
+            all &= board.cluster().authority(*dir) == Some(order.to);
+        }
+    }
+    all
+}
+
+// How many hits the board counts on the directories of the ranks.
+fn counted<J: Naming, M: Publisher<J>>(board: &Board<J, M>, ranks: u8) -> u64 {
+    let mut counted: u64 = 0;
+    for number in 0..ranks {
+        counted = counted.saturating_add(board.counted(Dir::new(u32::from(number) + 1)));
+    }
+    counted
 }
 
 /// The time of a phase of exports, in which each rank gives its directories to the next.
@@ -231,10 +277,14 @@ pub fn time_export<J: Naming + Send + Sync, R: Threads + Wait + Clock + Sync>(
     let first = deal(alloc, ranks, DIRECTORIES)?;
     let orders = pass_on(alloc, ranks, DIRECTORIES)?;
     let (mut board, _shares) = open::<J, R>(rt, alloc, names, ranks, DIRECTORIES)?;
-    let _ = carry_out_orders(&mut board, alloc, &first);
+    let _outcomes = carry_out_orders(&mut board, alloc, &first);
     let start = rt.monotonic();
     let board = export(rt, alloc, board, &orders, by_threads);
     let end = rt.monotonic();
+    let is_done = are_there(&board, &orders);
     board.end();
+    if !is_done {
+        return Err(failed("an order isn't done"));
+    }
     Ok(end?.saturating_sub(start?).as_nanos())
 }
