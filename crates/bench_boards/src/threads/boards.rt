@@ -28,13 +28,27 @@ fn rank(number: u8) -> Rank {
     Rank::new(number).unwrap_or(Rank::default())
 }
 
-// A directory of each rank below the root, and the others below these in turn: rank k has directory k + 1 and what is below it.
-fn parent_of(ranks: u8, dir: u32) -> Dir {
-    let ranks = u32::from(ranks).max(1);
-    if dir <= ranks {
-        return Dir::ROOT;
+// The rank that is to have a directory other than the root: neighbours have the same, and each rank as many, but the last.
+fn rank_of(ranks: u8, dirs: u32, dir: u32) -> u32 {
+    let each = dirs.saturating_sub(1) / u32::from(ranks).max(1);
+    let number = dir.saturating_sub(1) / each.max(1);
+    number.min(u32::from(ranks).saturating_sub(1))
+}
+
+// The first directory of a rank, which is below the root.
+fn first_of(ranks: u8, dirs: u32, number: u32) -> u32 {
+    let each = dirs.saturating_sub(1) / u32::from(ranks).max(1);
+    number.saturating_mul(each).saturating_add(1)
+}
+
+// The first directory of a rank is below the root, and its others below that.
+fn parent_of(ranks: u8, dirs: u32, dir: u32) -> Dir {
+    let first = first_of(ranks, dirs, rank_of(ranks, dirs, dir));
+    if dir <= first {
+        Dir::ROOT
+    } else {
+        Dir::new(first)
     }
-    Dir::new((dir - 1) % ranks + 1)
 }
 
 fn make<J: Naming, M: Publisher<J>>(
@@ -45,7 +59,7 @@ fn make<J: Naming, M: Publisher<J>>(
 ) -> Result<(), AllocError> {
     for number in 1..dirs {
         let name = format!(in alloc; "d{number}")?;
-        let parent = parent_of(ranks, number);
+        let parent = parent_of(ranks, dirs, number);
         if board.make(alloc, parent, name.as_str(), 1).is_err() {
             return Err(AllocError);
         }
@@ -89,7 +103,7 @@ fn open<'r, J: Naming, R: Wait>(
 fn dirs_of(alloc: Global, ranks: u8, number: u8, dirs: u32) -> Result<Dirs, AllocError> {
     let mut list = Vec::new(alloc);
     for dir in 1..dirs {
-        if (dir - 1) % u32::from(ranks).max(1) == u32::from(number) {
+        if rank_of(ranks, dirs, dir) == u32::from(number) {
             list.push(Dir::new(dir))?;
         }
     }
