@@ -1,5 +1,8 @@
 //! Plans, and writes what came of it.
-ghost use Rattle.std.specs.Prelude.{◌<◌, ◌≤◌, ◌-◌, ◌*◌, ◌↔◌, IsTrue};
+ghost use Rattle.std.specs.Prelude.{◌≡◌, ◌<◌, ◌≤◌, ◌-◌, ◌*◌, ◌↔◌, ◌&&◌, ℕ, IfOk, IsTrue, Some, length, nat_lt, slice_index};
+ghost use Rattle.mds_types.specs.Sums.{max_below};
+ghost use Rattle.mds_types.specs.RankSet.{has_rank};
+ghost use Rattle.mdbal_ceph.specs.Outcomes.{IsOutcome};
 
 use crate::collected::{Collected, read_collected};
 use crate::input::ranks_of;
@@ -8,7 +11,7 @@ use crate::settings::Settings;
 use anyhow::{Context, Error, bail};
 use ceph_plan::{Proposal, propose};
 use ceph_report::{
-    Facts, Sums, goals_of, greatest_now, make_json, make_own_list, make_picture, make_pins_script,
+    Facts, Move, Sums, goals_of, greatest_now, make_json, make_own_list, make_picture, make_pins_script,
     make_report, make_script, moves_of, own_pins, standing_pins, sums_of,
 };
 use ceph_snapshot::{Directory, Held, fold, held_heat, holds, rows_of};
@@ -51,8 +54,18 @@ fn is_worth_it(now: u64, planned: u64, percent: u8) -> bool
     gain > 0 && u128::from(gain) * 100 >= u128::from(now) * u128::from(percent)
 }
 
+/// Whether the plan is worth a proposal: the hottest rank gets cooler by at least so many percent.
+fn is_proposed(outcome: &Outcome, percent: u8) -> bool
+    ensures { let now = max_below (length outcome.now.sums.now.items) (slice_index outcome.now.sums.now.items) in let planned = outcome.now.proposal.plan.packing.greatest in IsTrue result ↔ ((planned < now) × (now * percent ≤ (now - planned) * 100)) }
+{
+    let greatest = outcome.proposal.plan.packing.greatest;
+    is_worth_it(greatest_now(&outcome.sums), greatest, percent)
+}
+
 /// The ranks that may have a part.
-fn usable(settings: &Settings, collected: &Collected) -> Result<RankSet, Error> {
+fn usable(settings: &Settings, collected: &Collected) -> Result<RankSet, Error>
+    ensures { (mask : ℕ) → settings.now.mask ≡ Some mask → IfOk result (λ ranks. (rank : ℕ) → has_rank ranks rank ≡ (nat_lt rank collected.now.size && has_rank mask rank)) }
+{
     let own = collected.cluster.mask.as_ref().map(|mask| mask.as_str());
     match ranks_of(settings.mask, own, collected.size) {
         Some(ranks) => Ok(ranks),
@@ -63,7 +76,12 @@ fn usable(settings: &Settings, collected: &Collected) -> Result<RankSet, Error> 
 }
 
 /// Plans what was collected.
-fn planned(alloc: Global, settings: &Settings, collected: Collected) -> Result<Outcome, Error> {
+fn planned(alloc: Global, settings: &Settings, collected: Collected) -> Result<Outcome, Error>
+    ensures outcome { IfOk result (IsOutcome collected.snapshot.directories.items collected.snapshot.spread.items settings.now.parts) }
+    ensures ranks { IfOk result (λ outcome. (mask : ℕ) → settings.now.mask ≡ Some mask → (rank : ℕ) → has_rank outcome.ranks rank ≡ (nat_lt rank collected.size && has_rank mask rank)) }
+    ensures size { IfOk result (λ outcome. outcome.size ≡ collected.size) }
+    ensures samples { IfOk result (λ outcome. outcome.samples ≡ collected.samples) }
+{
     let ranks = usable(settings, &collected)?;
     let (size, samples) = (collected.size, collected.samples);
     let spread = collected.snapshot.spread;
@@ -93,23 +111,39 @@ fn planned(alloc: Global, settings: &Settings, collected: Collected) -> Result<O
     })
 }
 
-/// The report, or the same as JSON.
-fn told(alloc: Global, outcome: &Outcome, is_json: bool) -> Result<String, Error> {
-    let (directories, holds) = (outcome.directories.as_slice(), outcome.holds.as_slice());
-    let (rows, changes) = (&outcome.proposal.rows, &outcome.proposal.changes);
-    let moves = moves_of(alloc, directories, holds, rows, changes)?;
-    let facts = Facts {
-        directories,
+/// What the report tells of an outcome.
+fn facts_of<'a>(outcome: &'a Outcome, moves: &'a [Move], standing: usize) -> Facts<'a>
+    ensures directories { result.directories.now ≡ outcome.now.directories.items }
+    ensures folded { result.folded ≡ outcome.now.folded }
+    ensures samples { result.samples ≡ outcome.now.samples }
+    ensures ranks { result.ranks ≡ outcome.now.ranks }
+    ensures plan { result.plan.now ≡ outcome.now.proposal.plan }
+    ensures sums { result.sums.now ≡ outcome.now.sums }
+    ensures pinned { result.pinned.now ≡ outcome.now.pinned.items }
+    ensures moves { result.moves.now ≡ moves.now }
+    ensures changes { result.changes ≡ length outcome.now.proposal.changes.items }
+    ensures standing { result.standing ≡ standing }
+{
+    Facts {
+        directories: &outcome.directories,
         folded: outcome.folded,
         samples: outcome.samples,
         ranks: outcome.ranks,
         plan: &outcome.proposal.plan,
         sums: &outcome.sums,
         pinned: &outcome.pinned,
-        moves: &moves,
-        changes: changes.len(),
-        standing: standing_pins(alloc, rows, changes)?,
-    };
+        moves,
+        changes: outcome.proposal.changes.len(),
+        standing,
+    }
+}
+
+/// The report, or the same as JSON.
+fn told(alloc: Global, outcome: &Outcome, is_json: bool) -> Result<String, Error> {
+    let (directories, holds) = (outcome.directories.as_slice(), outcome.holds.as_slice());
+    let (rows, changes) = (&outcome.proposal.rows, &outcome.proposal.changes);
+    let moves = moves_of(alloc, directories, holds, rows, changes)?;
+    let facts = facts_of(outcome, &moves, standing_pins(alloc, rows, changes)?);
     let text = if is_json {
         make_json(alloc, &facts, changes)?
     } else {
@@ -166,8 +200,7 @@ pub fn carry_out<R: Files + AllocGlobal + Clock + Eprint>(
     progress.tell(rt, "writing");
     let mut text = told(alloc, &outcome, settings.is_json)?;
     write_views(rt, settings, &outcome)?;
-    let greatest = outcome.proposal.plan.packing.greatest;
-    if is_worth_it(greatest_now(&outcome.sums), greatest, settings.least_gain) {
+    if is_proposed(&outcome, settings.least_gain) {
         if let Some(file) = settings.pins {
             write_pins(rt, file, settings.mount, &outcome)?;
         }
