@@ -1,12 +1,12 @@
 -- Which directories go: keys, and how many are at most one of them.
 use Rattle.std.proofs.Common.{◌≡◌, ◌≢◌, ◌∙◌, ℕ, zero, suc, ◌+◌, ◌-◌, ◌*◌, ◌^◌, ◌<◌, ◌≤◌, ◌&&◌, Bool, true, false, not, cond, slice_index, List, [], ◌∷◌, ◌++◌, add_assoc, add-zero, length, get_or, set, refl, ap, sym, subst, ⊎_elim, arith}
 use Rattle.std.specs.Cmp.{IsTotalOrder}
-use Rattle.std.proofs.lemmas.Cmp.{nat_cmp_total, on_total, then_total, upto}
+use Rattle.std.proofs.lemmas.Cmp.{nat_cmp_total, on_total, then_total}
 use Rattle.std.specs.List.{count_by, sum_by}
 use Rattle.std.specs.List.Sorted.{IsPermutation, IsSorted}
 use Rattle.std.proofs.Common.{Ordering, Equal, Greater, Less}
-use Rattle.std.specs.Ordering.{is_gt, is_le, is_lt, ordering_reverse}
-use Rattle.std.proofs.lemmas.Bool.{and_parts, cases_Bool, cases_eq, cases_lt, eq-eqb, le-ltb, lt-ltb}
+use Rattle.std.specs.Ordering.{is_le, is_lt, ordering_reverse}
+use Rattle.std.proofs.lemmas.Bool.{cases_Bool, cases_eq}
 use Rattle.std.proofs.lemmas.List.{get_or-set_other, get_or-set_same}
 use Rattle.std.proofs.lemmas.List.Sorted.{length_permutation, ranks_by, sorted_far, sum_by-IsPermutation}
 use Rattle.std.proofs.lemmas.List.Sums.{sum_by-cons}
@@ -40,16 +40,6 @@ count_push {X = X} p (a ∷ xs) x =
 
 key_total : IsTotalOrder key_cmp
 key_total = then_total (on_total (λ (key : Key). key.heat) nat_cmp_total) (on_total (λ (key : Key). key.behind) nat_cmp_total)
-
-le_not_gt : (o : Ordering) → is_le o ≡ true → is_gt o ≡ false
-le_not_gt Less is = refl
-le_not_gt Equal is = refl
-le_not_gt Greater is = cc
-
-not_gt_le : (o : Ordering) → is_gt o ≡ false → is_le o ≡ true
-not_gt_le Less is = refl
-not_gt_le Equal is = refl
-not_gt_le Greater is = cc
 
 not_lt_back : (o : Ordering) → is_lt o ≡ false → is_le (ordering_reverse o) ≡ true
 not_lt_back Less is = cc
@@ -90,19 +80,6 @@ count_both (suc n) p q same =
 apart : {X : Type 0} (b : Bool) → b ≡ true → b ≡ false → X
 apart b is_true is_false = cc
 
--- a directory that is no hotter than its parent, and stands behind it, has a key of at most the parent's
-key_rise : (heats : List ℕ) (i parent : ℕ) → slice_index heats i ≤ slice_index heats parent → parent < i → i < length heats → is_at_most (key_at heats i) (key_at heats parent) ≡ true
-key_rise heats i parent rise up inside =
-    let behind : length heats - 1 - i < length heats - 1 - parent = omega (arith, up, inside) in
-    ⊎_elim (λ (less : slice_index heats i < slice_index heats parent). rw (lt-ltb (slice_index heats i) (slice_index heats parent) less) refl)
-    (λ (no_less : slice_index heats parent ≤ slice_index heats i).
-    let same : slice_index heats i ≡ slice_index heats parent = omega (arith, rise, no_less) in
-    rw (le-ltb (slice_index heats i) (slice_index heats parent) no_less, eq-eqb (slice_index heats i) (slice_index heats parent) same, lt-ltb (length heats - 1 - i) (length heats - 1 - parent) behind) refl)
-    (cases_lt (slice_index heats i) (slice_index heats parent))
-
-at_most_trans : (a b c : Key) → is_at_most a b ≡ true → is_at_most b c ≡ true → is_at_most a c ≡ true
-at_most_trans a b c ab bc = not_gt_le (key_cmp a c) (upto key_total a b c (le_not_gt (key_cmp a b) ab) (le_not_gt (key_cmp b c) bc))
-
 -- one more directory that doesn't stay is counted where its key is at most the last
 pub goes_more : (heats : List ℕ) (stays : List Bool) (last : Key) (at : ℕ) (keys : List Key) → is_marked stays at ≡ false
     → count_by (λ key. is_at_most key last) keys ≡ count_below at (goes heats stays last)
@@ -121,16 +98,6 @@ stays_passed heats stays last at stay =
     let same : goes heats stays last at ≡ false = rw stay refl in
     count_below_more at (goes heats stays last)
     ∙ (ap (λ (b : Bool). count_below at (goes heats stays last) + cond b 1 0) same ∙ add-zero (count_below at (goes heats stays last)))
-
--- what goes takes all below it along
-pub goes_below : (heats : List ℕ) (stays : List Bool) (last : Key) (i parent : ℕ) → slice_index heats i ≤ slice_index heats parent → parent < i → i < length heats
-    → (is_marked stays i ≡ true → is_marked stays parent ≡ true) → goes heats stays last parent ≡ true → goes heats stays last i ≡ true
-goes_below heats stays last i parent rise up inside marked gone =
-    let parts = and_parts (not (is_marked stays parent)) (is_at_most (key_at heats parent) last) gone in
-    let cool : is_at_most (key_at heats i) last ≡ true = at_most_trans (key_at heats i) (key_at heats parent) last (key_rise heats i parent rise up inside) parts.1 in
-    ⊎_elim (λ (stay : is_marked stays i ≡ true). apart (not (is_marked stays parent)) parts.0 (ap not (marked stay)))
-    (λ (free : is_marked stays i ≡ false). rw (free, cool) refl)
-    (cases_Bool (is_marked stays i))
 
 -- marks stay when more are set
 still : (marks : List Bool) (k i : ℕ) → k < length marks → is_marked marks i ≡ true → is_marked (set marks k true) i ≡ true

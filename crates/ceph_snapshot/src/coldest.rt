@@ -115,12 +115,7 @@ fn last_key(mut keys: Vec<Key>, count: usize) -> Result<Option<Key>, AllocError>
 }
 
 /// Which directories go: those that don't stay, with a key of at most `last`.
-fn marks(
-    alloc: Global,
-    heats: &[u64],
-    stays: &[bool],
-    last: Key,
-) -> Result<Vec<bool>, AllocError>
+fn marks(alloc: Global, heats: &[u64], stays: &[bool], last: Key) -> Result<Vec<bool>, AllocError>
     requires { length stays.now ≡ length heats.now }
     ensures size { IfOk result (λ marks. length marks.items ≡ length heats.now) }
     ensures marks { IfOk result (λ marks. (i : ℕ) → i < length heats.now → is_marked marks.items i ≡ goes heats.now stays.now last i) }

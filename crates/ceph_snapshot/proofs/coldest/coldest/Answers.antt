@@ -16,7 +16,7 @@ returns-clause-left c =
     let gone : List Bool = c.in_ok-marks.field-0.items in
     let size : length heats ≡ n = c.in_ok-heats.ensures.size in
     let both : count_below n (λ i. not (is_marked gone i)) + count_below n (goes heats stays last) ≡ n =
-    count_both n (is_marked gone) (goes heats stays last) (λ i l. rw (c.deref-3.ensures.value, c.deref-4.ensures.value) at (c.in_ok-marks.ensures.marks i (?))) in
+    count_both n (is_marked gone) (goes heats stays last) (λ i l. rw (c.deref-3.ensures.value, c.deref-4.ensures.value) at (c.in_ok-marks.ensures.marks i (let within : i < length c.deref-3.result.now = omega (arith, l, size, ap length c.deref-3.ensures.value) in within))) in
     let counted : count_by (λ key. is_at_most key last) c.in_ok-keys.keys.items ≡ count_below (length heats) (goes heats stays last) =
     rw (c.deref.ensures.value, c.deref-2.ensures.value) at (c.in_ok-keys.ensures last) in
     let many : n - c.args.limit ≤ count_by (λ key. is_at_most key last) c.in_ok-keys.keys.items = rw c.in-Some.is at c.in_ok-last.ensures in

@@ -1,4 +1,4 @@
-use Rattle.std.proofs.Common.{◌≡◌, ◌∙◌, ◌+◌, ◌∷◌, ◌++◌, ℕ, List, [], Vec, Global, ap, subst, sym}
+use Rattle.std.proofs.Common.{◌≡◌, ◌∙◌, ◌+◌, ◌∷◌, ◌++◌, ℕ, Bool, List, [], Vec, Global, ap, sym}
 use Rattle.std.specs.List.{count_by}
 use Rattle.mds_types.specs.Sums.{count_below}
 use Rattle.ceph_snapshot.specs.declared.coldest.Key.{Key}
@@ -9,12 +9,18 @@ use Rattle.ceph_snapshot.proofs.coldest.keys.Goals.{then-not-stays-at+in_ok-push
 
 pub loop-at-preserved : goal.loop-at-preserved
 loop-at-preserved c = λ last.
+    let heats : List ℕ = c.args.heats.now in
+    let stays : List Bool = c.args.stays.now in
+    let at : ℕ = c.loop-at.at in
     elim c.if-not-stays-at.branch [
       | then-not-stays-at+in_ok-push w ↦
-          let t = w.if-not-stays-at in
-          let k = w.key_of in
-          ?
+          let more : c.if-not-stays-at.keys.items ≡ c.loop-at.keys.items ++ w.key_of.result ∷ [] =
+          ap (λ (keys : Vec Key Global). keys.items) w.keys-is ∙ w.in_ok-push.ensures.items in
+          let is : c.if-not-stays-at.keys.items ≡ c.loop-at.keys.items ++ key_at heats at ∷ [] =
+          more ∙ ap (λ (key : Key). c.loop-at.keys.items ++ key ∷ []) w.key_of.ensures in
+          ap (λ (keys : List Key). count_by (λ key. is_at_most key last) keys) is
+          ∙ goes_more heats stays last at c.loop-at.keys.items (w.if-not-stays-at.true) (c.loop-at.invariant last)
       | else-not-stays-at w ↦
-          let t = w.if-not-stays-at in
-          ?
+          ap (λ (keys : Vec Key Global). count_by (λ key. is_at_most key last) keys.items) w.keys-is
+          ∙ (c.loop-at.invariant last ∙ sym (stays_passed heats stays last at w.if-not-stays-at.false))
     ]

@@ -1,10 +1,8 @@
+use Rattle.std.proofs.Common.{◌≤◌, arith, length}
 use Rattle.ceph_snapshot.proofs.Keys.{enough}
 use Rattle.ceph_snapshot.proofs.coldest.last_key.Goals as goal
 
 pub returns : goal.returns
 returns c =
-    let x = c.index in
-    let y = c.sort in
-    let z = c.in_ok-sort in
-    let t = c.if-len-count in
-    ?
+    let inside : c.args.count ≤ length c.args.keys.items = omega arith in
+    enough c.args.keys.items c.sort.new.self.items c.args.count c.index.result.now c.requires inside c.in_ok-sort.ensures.permutation c.in_ok-sort.ensures.sorted c.index.ensures
