@@ -42,7 +42,7 @@ const MOVES_TOLD: usize = 40;
 
 /// The greatest heat of a rank now, in thousandths.
 pub fn greatest_now(sums: &Sums) -> u64
-    ensures { result ≡ max_below (length sums.now.now.items) (slice_index sums.now.now.items) }
+    ensures { result ≡ max_below (length sums.entry.now.now.items) (slice_index sums.entry.now.now.items) }
 {
     let mut greatest = 0;
     for heat in sums.now.as_slice() {

@@ -13,6 +13,7 @@ use Rattle.ceph_plan.specs.declared.proposal.Proposal.{Proposal}
 use Rattle.ceph_plan.specs.Proposals.{IsProposal}
 use Rattle.ceph_report.specs.Amounts.{AreAmounts, goal_at, heat_now, inodes_from, inodes_to}
 use Rattle.ceph_report.specs.OwnPins.{AreOwnPins}
+use Rattle.mdbal_ceph.specs.declared.outcome.Decision.{Decision}
 use Rattle.mdbal_ceph.specs.declared.outcome.Outcome.{Outcome}
 
 -- the heat that is held at each rank: that of what is spread, and of all that pins hold there, as far as 64 bits count
@@ -30,17 +31,21 @@ pub record IsPlanned (directories : List Directory) (holds : List Held) (pinned 
   pub own_pins : AreOwnPins directories (length directories) own
   pub proposed : IsProposal ranks pinned rows parts own proposal
 
--- what was collected of directories, with this heat by rank of what is spread, and what came of it
+-- what is decided for directories, with this heat by rank of what is spread
+pub record IsDecision (directories : List Directory) (spread : List ℕ) (ranks : ℕ) (parts : Parts) (decision : Decision) : Type 0 where
+  pub size : length decision.holds.items ≡ length directories
+  pub held : (i : ℕ) → i < length directories → IsHeld directories i (held_at decision.holds.items i)
+  pub pinned : IsHeldHeat directories decision.holds.items spread decision.pinned.items
+  pub planned : IsPlanned directories decision.holds.items decision.pinned.items ranks parts decision.proposal
+  pub goals : (i : ℕ) → i < length directories → slice_index decision.goals.items i ≡ goal_at decision.holds.items decision.proposal.rows.items i
+  pub now : AreAmounts decision.sums.now.items (λ r. slice_index spread r + heat_now directories r (length directories))
+  pub into : AreAmounts decision.sums.into.items (λ r. inodes_to directories decision.holds.items decision.goals.items r (length directories))
+  pub out : AreAmounts decision.sums.out.items (λ r. inodes_from directories decision.holds.items decision.goals.items r (length directories))
+
+-- what was collected of directories, with this heat by rank of what is spread, and what came of it: at most as many directories
+-- as the planner takes, with all their heat and inodes, and what is decided for these
 pub record IsOutcome (collected : List Directory) (spread : List ℕ) (parts : Parts) (outcome : Outcome) : Type 0 where
   pub few : length outcome.directories.items ≤ DIR_LIMIT
   pub folded : IsFolded collected outcome.directories.items
   pub count : length outcome.directories.items + outcome.folded ≡ length collected
-  pub holds_size : length outcome.holds.items ≡ length outcome.directories.items
-  pub held : (i : ℕ) → i < length outcome.directories.items → IsHeld outcome.directories.items i (held_at outcome.holds.items i)
-  pub pinned : IsHeldHeat outcome.directories.items outcome.holds.items spread outcome.pinned.items
-  pub planned : IsPlanned outcome.directories.items outcome.holds.items outcome.pinned.items outcome.ranks parts outcome.proposal
-  pub goals : (i : ℕ) → i < length outcome.directories.items
-      → slice_index outcome.goals.items i ≡ goal_at outcome.holds.items outcome.proposal.rows.items i
-  pub now : AreAmounts outcome.sums.now.items (λ r. slice_index spread r + heat_now outcome.directories.items r (length outcome.directories.items))
-  pub into : AreAmounts outcome.sums.into.items (λ r. inodes_to outcome.directories.items outcome.holds.items outcome.goals.items r (length outcome.directories.items))
-  pub out : AreAmounts outcome.sums.out.items (λ r. inodes_from outcome.directories.items outcome.holds.items outcome.goals.items r (length outcome.directories.items))
+  pub decided : IsDecision outcome.directories.items spread outcome.ranks parts outcome.decision
