@@ -1,6 +1,5 @@
 use Rattle.std.proofs.Common.{◌≡◌, ◌<◌, ◌+◌, ◌∙◌, ℕ, List, length, min, slice_index, subst, sym, ap, arith}
 use Rattle.mds_types.specs.declared.problem.ProblemRow.{ProblemRow}
-use Rattle.ceph_pins.specs.declared.row.PinRow.{PinRow}
 use Rattle.ceph_snapshot.specs.declared.directory.Directory.{Directory}
 use Rattle.ceph_snapshot.specs.declared.held.Held.{Held}
 use Rattle.ceph_snapshot.specs.Holding.{held_below, most_heat}
@@ -26,6 +25,11 @@ returns c =
     let plan : IsPlan c.args.ranks pinned rows c.in_ok-proposal.proposal.plan =
     subst (λ (heats : List ℕ). IsPlan c.args.ranks heats rows c.in_ok-proposal.proposal.plan) c.deref-2.ensures.value
     (subst (λ (others : List ProblemRow). IsPlan c.args.ranks c.deref-2.result.now others c.in_ok-proposal.proposal.plan) c.deref.ensures.value c.in_ok-proposal.ensures.plan) in
+    let targets : ArePinRows rows c.in_ok-proposal.proposal.plan.part.items c.in_ok-proposal.proposal.plan.packing.rank.items own (length rows) c.in_ok-proposal.proposal.rows.items =
+    subst (λ (pins : List OwnPins). ArePinRows rows c.in_ok-proposal.proposal.plan.part.items c.in_ok-proposal.proposal.plan.packing.rank.items pins (length rows) c.in_ok-proposal.proposal.rows.items)
+    c.deref-3.ensures.value
+    (subst (λ (others : List ProblemRow). ArePinRows others c.in_ok-proposal.proposal.plan.part.items c.in_ok-proposal.proposal.plan.packing.rank.items c.deref-3.result.now (length others) c.in_ok-proposal.proposal.rows.items)
+    c.deref.ensures.value c.in_ok-proposal.ensures.targets) in
     record {
       size = c.in_ok-holds.ensures.size;
       held = c.in_ok-holds.ensures.held (parents_first directories holds rows rows_of plan.forest);
@@ -45,18 +49,18 @@ returns c =
               subst (λ (heats : List ℕ). IsAsked c.args.ranks heats rows c.args.settings.now.parts c.in_ok-proposal.proposal.plan) c.deref-2.ensures.value
               (subst (λ (others : List ProblemRow). IsAsked c.args.ranks c.deref-2.result.now others c.args.settings.now.parts c.in_ok-proposal.proposal.plan)
               c.deref.ensures.value c.in_ok-proposal.ensures.asked);
-          targets =
-              subst (λ (pins : List OwnPins). ArePinRows rows c.in_ok-proposal.proposal.plan.part.items c.in_ok-proposal.proposal.plan.packing.rank.items pins (length rows) c.in_ok-proposal.proposal.rows.items)
-              c.deref-3.ensures.value
-              (subst (λ (others : List ProblemRow). ArePinRows others c.in_ok-proposal.proposal.plan.part.items c.in_ok-proposal.proposal.plan.packing.rank.items c.deref-3.result.now (length others) c.in_ok-proposal.proposal.rows.items)
-              c.deref.ensures.value c.in_ok-proposal.ensures.targets);
+          targets = targets;
           realized = c.in_ok-proposal.ensures.realized;
           once = c.in_ok-proposal.ensures.once;
           needed = c.in_ok-proposal.ensures.needed;
         };
       };
-      goals = ?;
+      goals = λ i l. rw (held_is, c.deref-4.ensures.value) at (c.in_ok-goals.ensures.goals i (let inside : i < length c.deref-4.result.now = omega (arith, l, ap length c.deref-4.ensures.value, targets.size, rows_of.size) in inside));
       now = c.in_ok-sums.ensures.now;
-      into = ?;
-      out = ?;
+      into =
+          subst (λ (others : List Held). AreAmounts c.in_ok-sums.sums.into.items (λ r. inodes_to directories others c.in_ok-goals.goals.items r n)) held_is
+          (subst (λ (ranks : List ℕ). AreAmounts c.in_ok-sums.sums.into.items (λ r. inodes_to directories c.as_slice-held.result.now ranks r n)) c.deref-5.ensures.value c.in_ok-sums.ensures.into);
+      out =
+          subst (λ (others : List Held). AreAmounts c.in_ok-sums.sums.out.items (λ r. inodes_from directories others c.in_ok-goals.goals.items r n)) held_is
+          (subst (λ (ranks : List ℕ). AreAmounts c.in_ok-sums.sums.out.items (λ r. inodes_from directories c.as_slice-held.result.now ranks r n)) c.deref-5.ensures.value c.in_ok-sums.ensures.out);
     }
