@@ -27,5 +27,6 @@ first_counted set parts is =
     and-true : (b : Bool) → (b && true) ≡ b
     and-true true = refl
     and-true false = refl
+
     all_there : (r : ℕ) → r < 64 → (nat_lt r parts && has_rank (2 ^ 64 - 1) r) ≡ nat_lt r parts
     all_there r l = rw (has_all r l) (and-true (nat_lt r parts))
