@@ -1,5 +1,6 @@
 //! Which rank each part goes to: the hottest part first, where most of it is or on the least loaded rank.
-ghost use Rattle.std.specs.Prelude.{◌≡◌, ◌<◌, ◌≤◌, ◌*◌, ℕ, length, slice_index, true, IfOk};
+ghost use Rattle.std.specs.Prelude.{◌≡◌, ◌<◌, ◌≤◌, ◌-◌, ◌*◌, ◌^◌, ℕ, length, min, slice_index, true, IfOk};
+ghost use Rattle.mds_types.specs.Division.{part_heat};
 ghost use Rattle.mds_types.specs.RankSet.{has_rank};
 
 use crate::bound::{has_number, most};
@@ -15,7 +16,8 @@ pub fn part_heats(
 ) -> Result<Vec<u64>, AllocError>
     requires size { length part.now ≡ length rows.now }
     requires below { (i : ℕ) → i < length rows.now → slice_index part.now i < count }
-    ensures { IfOk result (λ heats. length heats.items ≡ count) }
+    ensures size { IfOk result (λ heats. length heats.items ≡ count) }
+    ensures heats { IfOk result (λ heats. (p : ℕ) → p < count → slice_index heats.items p ≡ min (2 ^ 64 - 1) (part_heat rows.now (slice_index part.now) p)) }
 {
     let mut heats = vec![in alloc; 0u64; count as usize]?;
     for (i, row) in rows.iter().enumerate() {
@@ -62,7 +64,8 @@ fn best_rank(loads: &[u64], here: &[u64], ranks: RankSet) -> Rank
     requires loads { length loads.now ≡ 64 }
     requires here { length here.now ≡ 64 }
     requires zero { has_rank ranks 0 ≡ true }
-    ensures { has_rank ranks result ≡ true }
+    ensures usable { has_rank ranks result ≡ true }
+    ensures least { (r : ℕ) → has_rank ranks r ≡ true → slice_index loads.now result ≤ slice_index loads.now r }
 {
     let mut best = Rank::default();
     for number in 1..64u8 {
@@ -81,6 +84,7 @@ fn best_rank(loads: &[u64], here: &[u64], ranks: RankSet) -> Rank
 /// The rank that has most of the part's inodes; rank 0 where none has more.
 fn rank_of_most(here: &[u64]) -> Rank
     requires { length here.now ≡ 64 }
+    ensures { (r : ℕ) → r < 64 → slice_index here.now r ≤ slice_index here.now result }
 {
     let mut most = Rank::default();
     for number in 1..64u8 {

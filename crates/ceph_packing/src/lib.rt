@@ -6,5 +6,5 @@ mod choice;
 mod loads;
 pub mod packing;
 
-pub use bound::lower_bound;
+pub use bound::{lower_bound, total_heat};
 pub use packing::{Packing, are_parts, are_pinned, pack};

@@ -1,1 +1,3 @@
-pub mod SameParents
+pub mod CappedRows
+pub mod RankCounts
+pub mod Weighed

@@ -1,3 +1,4 @@
 pub mod Asked
 pub mod Choice
 pub mod Plans
+pub mod Proposals

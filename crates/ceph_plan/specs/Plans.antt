@@ -1,8 +1,8 @@
 -- Plans: rows divided into connected parts, and the parts on ranks.
-use Rattle.std.specs.Prelude.{◌≡◌, ◌==◌, ◌<◌, ℕ, List, length, slice_index, if◌then◌else◌}
+use Rattle.std.specs.Prelude.{◌≡◌, ◌==◌, ◌<◌, ◌≤◌, ◌-◌, ◌^◌, ◌↔◌, ℕ, IsTrue, List, length, map, min, slice_index, if◌then◌else◌}
 use Rattle.mds_types.specs.declared.problem.ProblemRow.{ProblemRow}
-use Rattle.mds_types.specs.Division.{IsDivision}
-use Rattle.mds_types.specs.Problem.{IsForest, inodes_at, now_at, parent_at}
+use Rattle.mds_types.specs.Division.{IsDivision, IsLeast, IsWithin}
+use Rattle.mds_types.specs.Problem.{IsForest, heat_at, inodes_at, now_at}
 use Rattle.mds_types.specs.Sums.{sum_below}
 use Rattle.ceph_packing.specs.Packing.{IsAsGreatAsThree, IsLowerBound, IsPacking, packed_rank}
 use Rattle.ceph_plan.specs.declared.plan.Planned.{Planned}
@@ -22,7 +22,23 @@ pub record IsPlan (ranks : ℕ) (pinned : List ℕ) (rows : List ProblemRow) (pl
   pub three : IsAsGreatAsThree ranks pinned rows plan.packing.bound
   pub moved : plan.moved ≡ moved_inodes rows plan.part.items plan.packing.rank.items (length rows)
 
--- the first n rows have the parents of these rows, and there are no more
-pub record HaveSameParents (rows found : List ProblemRow) (n : ℕ) : Type 0 where
-  pub size : length found ≡ n
-  pub parents : (i : ℕ) → i < n → parent_at found i ≡ parent_at rows i
+-- the rows, where none counts as hotter than the cap
+abbrev pub capped_row : ℕ → ProblemRow → ProblemRow
+capped_row cap row = record row { heat = min row.heat cap }
+
+abbrev pub capped_rows : ℕ → List ProblemRow → List ProblemRow
+capped_rows cap rows = map (capped_row cap) rows
+
+-- no row is as hot as this
+abbrev pub no_cap : ℕ
+no_cap = 2 ^ 64 - 1
+
+-- a plan of at most so many parts, and at most 64: its hottest part is as cool as that of any such division, where no row
+-- counts as hotter than the cap. It is heavy where one row alone is as hot, so that more parts change nothing
+pub record IsPlanOf (ranks : ℕ) (pinned : List ℕ) (rows : List ProblemRow) (parts cap : ℕ) (plan : Planned) : Type 0 where
+  pub is : IsPlan ranks pinned rows plan
+  pub few : plan.count ≤ min parts 64
+  pub greatest : ℕ
+  pub within : IsWithin (capped_rows cap rows) plan.count (slice_index plan.part.items) greatest
+  pub least : IsLeast (capped_rows cap rows) (min parts 64) greatest
+  pub heavy : IsTrue plan.is_heavy ↔ ((i : ℕ) × (i < length (capped_rows cap rows)) × (greatest ≤ heat_at (capped_rows cap rows) i))

@@ -2,12 +2,12 @@
 ghost use Rattle.std.specs.Prelude.{◌≡◌, ◌<◌, ◌≤◌, ◌+◌, ◌/◌, ◌^◌, ◌↔◌, ℕ, All, length, true, false, IfOk, IsErrOf, IsTrue};
 ghost use Rattle.mds_types.specs.Problem.{IsForest};
 ghost use Rattle.mds_types.specs.RankSet.{has_rank};
-ghost use Rattle.ceph_plan.specs.Choice.{IsChosen, greatest_at, moved_at};
+ghost use Rattle.ceph_plan.specs.Choice.{AreWeighed, IsAsked, IsBest, IsChosen, greatest_at, moved_at, size_of};
 ghost use Rattle.ceph_plan.specs.Plans.{IsPlan};
 
 use crate::plan::{Planned, Size, plan_parts};
 use crate::plan_error::PlanError;
-use ceph_packing::are_pinned;
+use ceph_packing::{are_pinned, total_heat};
 use mds_types::limits::RANK_LIMIT;
 use mds_types::{Problem, ProblemRow, Rank, RankSet};
 use std::alloc::Global;
@@ -21,125 +21,125 @@ pub enum Parts {
     AtMost(u8),
 }
 
-/// What a size comes to.
-#[derive(Clone, Copy, Debug)]
-struct Candidate {
-    size: Size,
-    greatest: u64,
-    moved: u64,
-}
-
 /// The place of the coolest.
-fn coolest(candidates: &[Candidate]) -> usize
-    requires { 0 < length candidates.now }
-    ensures inside { result < length candidates.now }
-    ensures least { (k : ℕ) → k < length candidates.now → greatest_at candidates.now result ≤ greatest_at candidates.now k }
+fn coolest(plans: &[Planned]) -> usize
+    requires { 0 < length plans.now }
+    ensures inside { result < length plans.now }
+    ensures least { (k : ℕ) → k < length plans.now → greatest_at plans.now result ≤ greatest_at plans.now k }
 {
     let mut best = 0;
-    for at in 1..candidates.len() {
-        if candidates[at].greatest < candidates[best].greatest {
+    for at in 1..plans.len() {
+        if plans[at].packing.greatest < plans[best].packing.greatest {
             best = at;
         }
     }
     best
 }
 
-/// The greatest load of a rank that is at most 1 % above that of a candidate.
-fn limit_of(candidates: &[Candidate], at: usize) -> u128
-    requires { at < length candidates.now }
-    ensures { result ≡ greatest_at candidates.now at + greatest_at candidates.now at / 100 }
+/// The greatest load of a rank that is at most 1 % above that of a plan.
+fn limit_of(plans: &[Planned], at: usize) -> u128
+    requires { at < length plans.now }
+    ensures { result ≡ greatest_at plans.now at + greatest_at plans.now at / 100 }
 {
-    let greatest = u128::from(candidates[at].greatest);
+    let greatest = u128::from(plans[at].packing.greatest);
     greatest + greatest / 100
 }
 
-/// Whether a candidate is within the limit and moves fewer inodes than another.
-fn is_better(candidates: &[Candidate], at: usize, best: usize, limit: u128) -> bool
-    requires at { at < length candidates.now }
-    requires best { best < length candidates.now }
-    ensures { IsTrue result ↔ ((greatest_at candidates.now at ≤ limit) × (moved_at candidates.now at < moved_at candidates.now best)) }
+/// Whether a plan is within the limit and moves fewer inodes than another.
+fn is_better(plans: &[Planned], at: usize, best: usize, limit: u128) -> bool
+    requires at { at < length plans.now }
+    requires best { best < length plans.now }
+    ensures { IsTrue result ↔ ((greatest_at plans.now at ≤ limit) × (moved_at plans.now at < moved_at plans.now best)) }
 {
-    let is_cool = u128::from(candidates[at].greatest) <= limit;
-    is_cool && candidates[at].moved < candidates[best].moved
+    let is_cool = u128::from(plans[at].packing.greatest) <= limit;
+    is_cool && plans[at].moved < plans[best].moved
 }
 
 /// The place of the one that moves the fewest inodes, of those within 1 % of the coolest.
-fn chosen(candidates: &[Candidate]) -> usize
-    requires { 0 < length candidates.now }
-    ensures { IsChosen candidates.now result }
+fn chosen(plans: &[Planned]) -> usize
+    requires { 0 < length plans.now }
+    ensures { IsChosen plans.now result }
 {
-    let coolest = coolest(candidates);
-    let limit = limit_of(candidates, coolest);
+    let coolest = coolest(plans);
+    let limit = limit_of(plans, coolest);
     let mut best = coolest;
-    for at in 0..candidates.len() {
-        if is_better(candidates, at, best, limit) {
+    for at in 0..plans.len() {
+        if is_better(plans, at, best, limit) {
             best = at;
         }
     }
     best
 }
 
-/// The heat of all rows.
-fn heat_of(rows: &[ProblemRow]) -> u64 {
-    let mut heat = 0u64;
-    for row in rows {
-        heat = heat.saturating_add(row.heat);
-    }
-    heat
-}
-
-/// A fair share of the heat among so many parts, at least 1.
-fn fair_share(heat: u64, parts: u8) -> u64 {
-    heat.checked_div(u64::from(parts)).unwrap_or(heat).max(1)
-}
-
-/// The size of the plan to take.
+/// How finely rows of this heat are divided for so many parts, if they are, where there are so many ranks.
 ///
-/// Results don't fall steadily with the number of parts, so each is tried. From the number on where one row alone is the hottest
-/// part, rows are capped at a fair share, and only each number that is a multiple of that of the ranks is tried.
-fn best_size(
+/// Once one row alone was the hottest part, more parts change nothing: rows are then capped at a fair share, and only each number
+/// that is a multiple of that of the ranks is tried.
+fn size_for(parts: u8, ranks: u8, heat: u64, is_heavy: bool) -> Option<Size>
+    requires ranks { 0 < ranks }
+    requires parts { 0 < parts }
+    ensures { result ≡ size_of heat ranks parts is_heavy }
+{
+    if !is_heavy {
+        return Some(Size {
+            parts,
+            cap: u64::MAX,
+        });
+    }
+    if parts % ranks > 0 {
+        return None;
+    }
+    let cap = (heat / u64::from(parts)).max(1);
+    Some(Size { parts, cap })
+}
+
+/// A plan of each number of parts from that of the ranks to 64, as results don't fall steadily with the number.
+fn weighed(
     alloc: Global,
     rows: &[ProblemRow],
     pinned: &[u64],
     ranks: RankSet,
     keep: u8,
-) -> Result<Size, PlanError>
+) -> Result<Vec<Planned>, PlanError>
     requires forest { IsForest rows.now }
     requires some { 0 < length rows.now }
     requires size { length pinned.now ≡ 64 }
     requires small { All (λ n. n ≤ 2 ^ 57) pinned.now }
     requires zero { has_rank ranks 0 ≡ true }
+    ensures weighed { IfOk result (λ plans. AreWeighed ranks pinned.now rows.now plans.items 65) }
+    ensures some { IfOk result (λ plans. 0 < length plans.items) }
 {
-    let heat = heat_of(rows);
-    let mut candidates = Vec::new(alloc);
+    let (heat, count) = (total_heat(rows), ranks.len());
+    let mut plans = Vec::new(alloc);
     let mut is_heavy = false;
-    for parts in ranks.len()..RANK_LIMIT + 1 {
-        if is_heavy && parts.checked_rem(ranks.len()) != Some(0) {
-            continue;
+    for parts in count..RANK_LIMIT + 1 {
+        if let Some(size) = size_for(parts, count, heat, is_heavy) {
+            let plan = plan_parts(alloc, rows, size, pinned, ranks, keep)?;
+            is_heavy |= plan.is_heavy;
+            plans.push(plan)?;
         }
-        let cap = if is_heavy {
-            fair_share(heat, parts)
-        } else {
-            u64::MAX
-        };
-        let size = Size { parts, cap };
-        let plan = plan_parts(alloc, rows, size, pinned, ranks, keep)?;
-        let (greatest, moved) = (plan.packing.greatest, plan.moved);
-        candidates.push(Candidate {
-            size,
-            greatest,
-            moved,
-        })?;
-        is_heavy |= plan.is_heavy;
     }
-    if candidates.is_empty() {
-        return Ok(Size {
-            parts: RANK_LIMIT,
-            cap: u64::MAX,
-        });
-    }
-    let candidates = candidates.as_slice();
-    Ok(candidates[chosen(candidates)].size)
+    Ok(plans)
+}
+
+/// Of a plan of each number of parts the coolest, or one within 1 % of it that moves less.
+fn best_plan(
+    alloc: Global,
+    rows: &[ProblemRow],
+    pinned: &[u64],
+    ranks: RankSet,
+    keep: u8,
+) -> Result<Planned, PlanError>
+    requires forest { IsForest rows.now }
+    requires some { 0 < length rows.now }
+    requires size { length pinned.now ≡ 64 }
+    requires small { All (λ n. n ≤ 2 ^ 57) pinned.now }
+    requires zero { has_rank ranks 0 ≡ true }
+    ensures { IfOk result (IsBest ranks pinned.now rows.now) }
+{
+    let mut plans = weighed(alloc, rows, pinned, ranks, keep)?;
+    let at = chosen(&plans);
+    Ok(plans.swap_remove(at))
 }
 
 /// Which rank of the set each row is to be at, in connected parts, several a rank.
@@ -155,6 +155,8 @@ pub fn choose_plan(
     keep: u8,
 ) -> Result<Planned, PlanError>
     ensures plan { IfOk result (IsPlan ranks pinned.now rows.now) }
+    // it is the one that is chosen of all numbers of parts, or of the number that is asked for
+    ensures asked { IfOk result (IsAsked ranks pinned.now rows.now parts) }
     ensures zero { has_rank ranks 0 ≡ false → IsErrOf result PlanError.NoRankZero }
 {
     if !ranks.has(Rank::default()) {
@@ -171,12 +173,11 @@ pub fn choose_plan(
         Err((error, _)) => return Err(PlanError::Problem(error)),
     };
     let rows = problem.rows();
-    let size = match parts {
-        Parts::Auto => best_size(alloc, rows, pinned, ranks, keep)?,
-        Parts::AtMost(parts) => Size {
-            parts,
-            cap: u64::MAX,
-        },
-    };
-    plan_parts(alloc, rows, size, pinned, ranks, keep)
+    match parts {
+        Parts::Auto => best_plan(alloc, rows, pinned, ranks, keep),
+        Parts::AtMost(parts) => {
+            let cap = u64::MAX;
+            plan_parts(alloc, rows, Size { parts, cap }, pinned, ranks, keep)
+        }
+    }
 }

@@ -1,12 +1,12 @@
 //! A plan of one number of parts.
-ghost use Rattle.std.specs.Prelude.{◌≡◌, ◌<◌, ◌≤◌, ◌^◌, ℕ, All, length, slice_index, true, IfOk};
-ghost use Rattle.mds_types.specs.Problem.{IsForest};
-ghost use Rattle.mds_types.specs.RankSet.{has_rank};
-ghost use Rattle.ceph_plan.specs.Plans.{HaveSameParents, IsPlan, moved_inodes};
+ghost use Rattle.std.specs.Prelude.{◌≡◌, ◌<◌, ◌≤◌, ◌^◌, ◌↔◌, ℕ, All, IsTrue, length, min, slice_index, true, IfOk};
+ghost use Rattle.mds_types.specs.Problem.{IsForest, heat_at};
+ghost use Rattle.mds_types.specs.RankSet.{has_rank, rank_count};
+ghost use Rattle.ceph_plan.specs.Plans.{IsPlanOf, capped_rows, moved_inodes};
 
 use crate::plan_error::PlanError;
 use ceph_packing::{Packing, pack};
-use mds_types::{CutProof, Problem, ProblemRow, Rank, RankSet};
+use mds_types::{Problem, ProblemRow, Rank, RankSet};
 use minmax_search::{Found, search};
 use std::alloc::{AllocError, Global};
 
@@ -52,7 +52,7 @@ fn moved(rows: &[ProblemRow], part: &[u32], rank: &[Rank]) -> u64
 
 /// The rows, none hotter than `cap`.
 fn capped(alloc: Global, rows: &[ProblemRow], cap: u64) -> Result<Vec<ProblemRow>, AllocError>
-    ensures { IfOk result (λ found. HaveSameParents rows.now found.items (length rows.now)) }
+    ensures { IfOk result (λ found. found.items ≡ capped_rows cap rows.now) }
 {
     let mut found = Vec::with_capacity(alloc, rows.len())?;
     for row in rows {
@@ -64,6 +64,25 @@ fn capped(alloc: Global, rows: &[ProblemRow], cap: u64) -> Result<Vec<ProblemRow
         })?;
     }
     Ok(found)
+}
+
+/// So many ranks, at most 64.
+fn first_ranks(count: u8) -> RankSet
+    ensures { rank_count result ≡ min count 64 }
+{
+    RankSet::from_bits(u64::MAX).among(count)
+}
+
+/// Whether some row is at least as hot as this by itself.
+fn has_row_of(rows: &[ProblemRow], heat: u64) -> bool
+    ensures { IsTrue result ↔ ((i : ℕ) × (i < length rows.now) × (heat ≤ heat_at rows.now i)) }
+{
+    for row in rows {
+        if row.heat >= heat {
+            return true;
+        }
+    }
+    false
 }
 
 /// Divides the rows into at most so many parts with the least greatest heat, where no row counts as hotter than `cap`, and packs
@@ -87,21 +106,21 @@ pub fn plan_parts(
     requires size { length pinned.now ≡ 64 }
     requires small { All (λ n. n ≤ 2 ^ 57) pinned.now }
     requires zero { has_rank ranks 0 ≡ true }
-    ensures { IfOk result (IsPlan ranks pinned.now rows.now) }
+    ensures { IfOk result (IsPlanOf ranks pinned.now rows.now size.parts size.cap) }
 {
-    let divided = RankSet::from_bits(u64::MAX).among(size.parts);
+    let divided = first_ranks(size.parts);
     let problem = match Problem::new(capped(alloc, rows, size.cap)?, divided) {
         Ok(problem) => problem,
         Err((error, _)) => return Err(PlanError::Problem(error)),
     };
-    let most = problem.ranks().len();
     let Found {
         cut,
-        greatest: _,
-        proof,
+        greatest,
+        proof: _,
         passes: _,
     } = search(&problem, alloc)?;
-    prove!(cut.count <= u32::from(most) && cut.part.len() == rows.len());
+    prove!(cut.count <= 64 && cut.part.len() == rows.len());
+    let is_heavy = has_row_of(problem.rows(), greatest);
     let packing = pack(alloc, rows, &cut.part, cut.count, pinned, ranks, keep)?;
     let moved = moved(rows, &cut.part, &packing.rank);
     Ok(Planned {
@@ -109,6 +128,6 @@ pub fn plan_parts(
         count: cut.count,
         packing,
         moved,
-        is_heavy: !matches!(proof, CutProof::Table(_)),
+        is_heavy,
     })
 }

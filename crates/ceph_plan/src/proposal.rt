@@ -4,6 +4,7 @@ ghost use Rattle.mds_types.specs.RankSet.{has_rank};
 ghost use Rattle.ceph_pins.specs.Rule.{IsRealized};
 ghost use Rattle.ceph_pins.specs.Changes.{AreNeeded, applied, before_pin};
 ghost use Rattle.ceph_plan.specs.Asked.{ArePinRows, MovesOnce};
+ghost use Rattle.ceph_plan.specs.Choice.{IsAsked};
 ghost use Rattle.ceph_plan.specs.Plans.{IsPlan};
 
 use crate::choice::{Parts, choose_plan};
@@ -73,6 +74,8 @@ pub fn propose(
 ) -> Result<Proposal, PlanError>
     requires own { length own.now ≡ length rows.now }
     ensures plan { IfOk result (λ found. IsPlan ranks pinned.now rows.now found.plan) }
+    // the plan is the one that is chosen of all numbers of parts, or of the number that is asked for
+    ensures asked { IfOk result (λ found. IsAsked ranks pinned.now rows.now parts found.plan) }
     // what is asked of the pins is what was planned
     ensures targets { IfOk result (λ found. ArePinRows rows.now found.plan.part.items found.plan.packing.rank.items own.now (length rows.now) found.rows.items) }
     // once all changes are made, each row that no foreign pin holds is there

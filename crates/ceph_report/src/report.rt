@@ -1,5 +1,6 @@
 //! The report, for people.
-ghost use Rattle.std.specs.Prelude.{◌≡◌, ◌<◌, ◌↔◌, slice_index, IsTrue};
+ghost use Rattle.std.specs.Prelude.{◌≡◌, ◌<◌, ◌↔◌, length, slice_index, IsTrue};
+ghost use Rattle.mds_types.specs.Sums.{max_below};
 ghost use Rattle.mds_types.specs.declared.limits.TheConstants.{HEAT_LIMIT};
 
 use crate::moves::{Move, Sums};
@@ -40,8 +41,14 @@ pub struct Facts<'a> {
 const MOVES_TOLD: usize = 40;
 
 /// The greatest heat of a rank now, in thousandths.
-pub fn greatest_now(sums: &Sums) -> u64 {
-    sums.now.iter().copied().max().unwrap_or(0)
+pub fn greatest_now(sums: &Sums) -> u64
+    ensures { result ≡ max_below (length sums.entry.now.now.items) (slice_index sums.entry.now.now.items) }
+{
+    let mut greatest = 0;
+    for heat in sums.now.as_slice() {
+        greatest = (*heat).max(greatest);
+    }
+    greatest
 }
 
 /// The number at a place, 0 where there is none.

@@ -1,44 +1,71 @@
 -- Which directories go: keys, and how many are at most one of them.
-use Rattle.std.proofs.Common.{◌≡◌, ◌≢◌, ◌∙◌, ℕ, zero, suc, ◌+◌, ◌-◌, ◌*◌, ◌^◌, ◌<◌, ◌≤◌, Bool, true, false, not, cond, leb, List, [], ◌∷◌, length, get_or, set, refl, ap, sym, subst, ⊎_elim, arith}
-use Rattle.std.specs.List.{sum_by}
-use Rattle.std.specs.List.Sorted.{IsNonDecreasingBy, IsPermutation}
-use Rattle.std.proofs.lemmas.Bool.{cases_Bool, cases_eq, false≢true, le-leb}
+use Rattle.std.proofs.Common.{◌≡◌, ◌≢◌, ◌∙◌, ℕ, zero, suc, ◌+◌, ◌-◌, ◌*◌, ◌^◌, ◌<◌, ◌≤◌, ◌&&◌, Bool, true, false, not, cond, slice_index, List, [], ◌∷◌, ◌++◌, add_assoc, add-zero, length, get_or, set, refl, ap, sym, subst, ⊎_elim, arith}
+use Rattle.std.specs.Cmp.{IsTotalOrder}
+use Rattle.std.proofs.lemmas.Cmp.{nat_cmp_total, on_total, then_total}
+use Rattle.std.specs.List.{count_by, sum_by}
+use Rattle.std.specs.List.Sorted.{IsPermutation, IsSorted}
+use Rattle.std.proofs.Common.{Ordering, Equal, Greater, Less}
+use Rattle.std.specs.Ordering.{is_le, is_lt, ordering_reverse}
+use Rattle.std.proofs.lemmas.Bool.{cases_Bool, cases_eq}
 use Rattle.std.proofs.lemmas.List.{get_or-set_other, get_or-set_same}
-use Rattle.std.proofs.lemmas.List.Sorted.{length_permutation, sum_by-IsPermutation}
+use Rattle.std.proofs.lemmas.List.Sorted.{length_permutation, ranks_by, sorted_far, sum_by-IsPermutation}
 use Rattle.std.proofs.lemmas.List.Sums.{sum_by-cons}
 use Rattle.mds_types.specs.Sums.{count_below, sum_below}
+use Rattle.mds_types.proofs.RankSetLemmas.{count_below_more}
 use Rattle.mds_types.proofs.SumsLemmas.{sum_below-fewer, sum_below-le}
+use Rattle.ceph_snapshot.specs.declared.coldest.Key.{Key}
 use Rattle.ceph_snapshot.specs.declared.directory.Directory.{Directory}
 use Rattle.ceph_snapshot.specs.Folding.{IsPlain, is_marked}
 use Rattle.ceph_snapshot.specs.Holding.{AreParentsFirst, parent_at}
+use Rattle.ceph_snapshot.specs.Keys.{goes, is_at_most, key_at, key_cmp}
 
 pub sum_front : (n : ℕ) (f : ℕ → ℕ) → sum_below (suc n) f ≡ f 0 + sum_below n (λ i. f (suc i))
 sum_front zero f = omega arith
 sum_front (suc n) f = omega (arith, sum_front n f)
 
-sum_numbers : (f : ℕ → ℕ) (xs : List ℕ) → sum_by f xs ≡ sum_below (length xs) (λ i. f (get_or xs i 0))
-sum_numbers f [] = refl
-sum_numbers f (x ∷ xs) = sum_by-cons f x xs ∙ (ap (λ (k : ℕ). f x + k) (sum_numbers f xs) ∙ sym (sum_front (length xs) (λ i. f (get_or (x ∷ xs) i 0))))
+sum_keys : {X : Type 0} (f : X → ℕ) (d : X) (xs : List X) → sum_by f xs ≡ sum_below (length xs) (λ i. f (get_or xs i d))
+sum_keys f d [] = refl
+sum_keys f d (x ∷ xs) = sum_by-cons f x xs ∙ (ap (λ (k : ℕ). f x + k) (sum_keys f d xs) ∙ sym (sum_front (length xs) (λ i. f (get_or (x ∷ xs) i d))))
 
 ones : (n : ℕ) → n ≤ sum_below n (λ i. 1)
 ones zero = omega arith
 ones (suc n) = omega (arith, ones n)
 
--- so many numbers are at most the last of so many in order
-pub enough : (keys copy sorted : List ℕ) (count last : ℕ) → 0 < count → count ≤ length keys → copy ≡ keys → IsPermutation copy sorted → IsNonDecreasingBy (λ x. x) sorted
-    → last ≡ get_or sorted (count - 1) 0 → count ≤ count_below (length keys) (λ i. leb (get_or keys i 0) last)
-enough keys copy sorted count last some inside same copy_moved up is =
-    let moved : IsPermutation keys sorted = subst (λ (xs : List ℕ). IsPermutation xs sorted) same copy_moved in
-    let f : ℕ → ℕ = λ x. cond (leb x last) 1 0 in
+pub count_push : {X : Type 0} (p : X → Bool) (xs : List X) (x : X) → count_by p (xs ++ x ∷ []) ≡ count_by p xs + cond (p x) 1 0
+count_push p [] x = omega arith
+count_push {X = X} p (a ∷ xs) x =
+    let f : X → ℕ = λ y. cond (p y) 1 0 in
+    sum_by-cons f a (xs ++ x ∷ []) ∙ (ap (λ (n : ℕ). f a + n) (count_push p xs x)
+    ∙ (sym (add_assoc (f a) (sum_by f xs) (f x)) ∙ ap (λ (n : ℕ). n + f x) (sym (sum_by-cons f a xs))))
+
+key_total : IsTotalOrder key_cmp
+key_total = then_total (on_total (λ (key : Key). key.heat) nat_cmp_total) (on_total (λ (key : Key). key.behind) nat_cmp_total)
+
+not_lt_back : (o : Ordering) → is_lt o ≡ false → is_le (ordering_reverse o) ≡ true
+not_lt_back Less is = cc
+not_lt_back Equal is = refl
+not_lt_back Greater is = refl
+
+-- one that isn't after another is at most that
+at_most : (a b : Key) → is_lt (key_cmp b a) ≡ false → is_at_most a b ≡ true
+at_most a b is = ap is_le (key_total.antisymm a b) ∙ not_lt_back (key_cmp b a) is
+
+-- so many keys are at most the last of so many in order
+pub enough : (keys sorted : List Key) (count : ℕ) (last : Key) → 0 < count → count ≤ length keys → IsPermutation keys sorted → IsSorted key_cmp sorted
+    → last ≡ get_or sorted (count - 1) last → count ≤ count_by (λ key. is_at_most key last) keys
+enough keys sorted count last some inside moved up is =
+    let f : Key → ℕ = λ key. cond (is_at_most key last) 1 0 in
     let long : length sorted ≡ length keys = length_permutation keys sorted moved in
     let within : count ≤ length sorted = omega (arith, inside, long) in
-    let first : sum_below count (λ i. 1) ≤ sum_below count (λ i. f (get_or sorted i 0)) = sum_below-le count (λ i. 1) (λ i. f (get_or sorted i 0)) (λ i l.
-    let low : get_or sorted i 0 ≤ get_or sorted (count - 1) 0 = up i (count - 1) 0 (omega (arith, l)) (omega (arith, some, within)) in
-    let yes : leb (get_or sorted i 0) last ≡ true = le-leb (get_or sorted i 0) last (omega (arith, low, is)) in
+    let first : sum_below count (λ i. 1) ≤ sum_below count (λ i. f (get_or sorted i last)) = sum_below-le count (λ i. 1) (λ i. f (get_or sorted i last)) (λ i l.
+    let behind : is_lt (key_cmp (get_or sorted (count - 1) last) (get_or sorted i last)) ≡ false =
+    sorted_far (λ a b. is_lt (key_cmp a b)) (ranks_by key_total (λ (key : Key). key)) sorted up i (count - 1) last (omega (arith, l)) (omega (arith, some, within)) in
+    let yes : is_at_most (get_or sorted i last) last ≡ true =
+    ap (is_at_most (get_or sorted i last)) is ∙ at_most (get_or sorted i last) (get_or sorted (count - 1) last) behind in
     rw yes (omega arith)) in
-    let more : sum_below count (λ i. f (get_or sorted i 0)) ≤ sum_below (length sorted) (λ i. f (get_or sorted i 0)) = sum_below-fewer count (length sorted) (λ i. f (get_or sorted i 0)) within in
-    let whole : sum_below (length sorted) (λ i. f (get_or sorted i 0)) ≡ count_below (length keys) (λ i. leb (get_or keys i 0) last) =
-    sym (sum_numbers f sorted) ∙ (sum_by-IsPermutation f keys sorted moved ∙ sum_numbers f keys) in
+    let more : sum_below count (λ i. f (get_or sorted i last)) ≤ sum_below (length sorted) (λ i. f (get_or sorted i last)) = sum_below-fewer count (length sorted) (λ i. f (get_or sorted i last)) within in
+    let whole : sum_below (length sorted) (λ i. f (get_or sorted i last)) ≡ count_by (λ key. is_at_most key last) keys =
+    sym (sum_keys f last sorted) ∙ sum_by-IsPermutation f keys sorted moved in
     omega (arith, ones count, first, more, whole)
 
 -- what doesn't pass and what does are all
@@ -53,14 +80,24 @@ count_both (suc n) p q same =
 apart : {X : Type 0} (b : Bool) → b ≡ true → b ≡ false → X
 apart b is_true is_false = cc
 
--- a key is no greater than the parent's
-pub key_rise : (stays above : Bool) (h parent_h i parent : ℕ) → (stays ≡ true → above ≡ true) → h ≤ parent_h → parent < i → i < 2 ^ 32
-    → cond stays (2 ^ 96) (h * 2 ^ 32 + (2 ^ 32 - 1 - i)) ≤ 2 ^ 96
-    → cond stays (2 ^ 96) (h * 2 ^ 32 + (2 ^ 32 - 1 - i)) ≤ cond above (2 ^ 96) (parent_h * 2 ^ 32 + (2 ^ 32 - 1 - parent))
-key_rise true true h parent_h i parent up rise less few small = small
-key_rise true false h parent_h i parent up rise less few small = apart false (up refl) refl
-key_rise false true h parent_h i parent up rise less few small = small
-key_rise false false h parent_h i parent up rise less few small = omega (arith, rise, less, few)
+-- one more directory that doesn't stay is counted where its key is at most the last
+pub goes_more : (heats : List ℕ) (stays : List Bool) (last : Key) (at : ℕ) (keys : List Key) → is_marked stays at ≡ false
+    → count_by (λ key. is_at_most key last) keys ≡ count_below at (goes heats stays last)
+    → count_by (λ key. is_at_most key last) (keys ++ key_at heats at ∷ []) ≡ count_below (at + 1) (goes heats stays last)
+goes_more heats stays last at keys free before =
+    let same : goes heats stays last at ≡ is_at_most (key_at heats at) last = rw free refl in
+    count_push (λ key. is_at_most key last) keys (key_at heats at)
+    ∙ (ap (λ (n : ℕ). n + cond (is_at_most (key_at heats at) last) 1 0) before
+    ∙ (ap (λ (b : Bool). count_below at (goes heats stays last) + cond b 1 0) (sym same)
+    ∙ sym (count_below_more at (goes heats stays last))))
+
+-- one that stays isn't
+pub stays_passed : (heats : List ℕ) (stays : List Bool) (last : Key) (at : ℕ) → is_marked stays at ≡ true
+    → count_below (at + 1) (goes heats stays last) ≡ count_below at (goes heats stays last)
+stays_passed heats stays last at stay =
+    let same : goes heats stays last at ≡ false = rw stay refl in
+    count_below_more at (goes heats stays last)
+    ∙ (ap (λ (b : Bool). count_below at (goes heats stays last) + cond b 1 0) same ∙ add-zero (count_below at (goes heats stays last)))
 
 -- marks stay when more are set
 still : (marks : List Bool) (k i : ℕ) → k < length marks → is_marked marks i ≡ true → is_marked (set marks k true) i ≡ true

@@ -1,3 +1,4 @@
 pub mod Folding
 pub mod Holding
+pub mod Keys
 pub mod Rows

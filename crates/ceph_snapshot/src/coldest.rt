@@ -2,18 +2,25 @@
 //!
 //! A directory goes by the heat at and below it, so it never goes before what is below it; of two that are as cold the last goes
 //! first. One that isn't plain stays, and so does all that is above it.
-ghost use Rattle.std.specs.Prelude.{◌≡◌, ◌+◌, ◌-◌, ◌*◌, ◌<◌, ◌≤◌, ◌^◌, ◌↔◌, ℕ, IsTrue, true, false, length, nat_le, slice_index, slice_set, IfOk, if◌then◌else◌};
+ghost use Rattle.std.specs.Prelude.{◌≡◌, ◌<◌, ◌≤◌, ◌↔◌, ℕ, IsTrue, true, false, count_by, length, slice_index, slice_set, IfOk, IfSome};
 ghost use Rattle.mds_types.specs.Sums.{count_below};
 ghost use Rattle.ceph_snapshot.specs.Folding.{AreGone, IsPlain, is_marked, kept_below};
 ghost use Rattle.ceph_snapshot.specs.Holding.{AreParentsFirst, parent_at};
+ghost use Rattle.ceph_snapshot.specs.Keys.{goes, is_at_most, key_at};
 
 use crate::amounts::own_heats;
 use crate::directory::Directory;
 use crate::gathering::SnapshotError;
 use std::alloc::{AllocError, Global};
 
-/// The key of a directory that stays. That of any other is below it.
-const STAYS: u128 = 1 << 96;
+/// What a directory goes by. Those with the least go first: the coldest, and of two that are as cold the last.
+#[derive(Clone, Copy, Debug, PartialEq, Eq, PartialOrd, Ord)]
+struct Key {
+    /// The heat at and below it, in thousandths.
+    heat: u64,
+    /// How many directories stand behind it.
+    behind: usize,
+}
 
 /// Whether a directory may be folded.
 fn is_plain(directories: &[Directory], at: usize) -> bool
@@ -70,65 +77,52 @@ fn heats_below(alloc: Global, directories: &[Directory]) -> Result<Vec<u64>, All
     Ok(heats)
 }
 
-/// The number that a directory goes by: those with the least go first.
-fn key(heat: u64, at: usize, stays: bool) -> u128
-    requires { at < 2 ^ 32 }
-    ensures key { result ≡ if stays then 2 ^ 96 else heat * 2 ^ 32 + (2 ^ 32 - 1 - at) }
-    ensures most { result ≤ 2 ^ 96 }
+/// What the directory at a place goes by. `heats[i]` is the heat at and below directory i.
+fn key_of(heats: &[u64], at: usize) -> Key
+    requires { at < length heats.now }
+    ensures { result ≡ key_at heats.now at }
 {
-    if stays {
-        STAYS
-    } else {
-        u128::from(heat) * (1 << 32) + ((1 << 32) - 1 - at as u128)
+    Key {
+        heat: heats[at],
+        behind: heats.len() - 1 - at,
     }
 }
 
-/// The number that each directory goes by: no less above it.
-fn keys(alloc: Global, directories: &[Directory]) -> Result<Vec<u128>, AllocError>
-    requires first { AreParentsFirst directories.now }
-    requires few { length directories.now ≤ 2 ^ 32 }
-    ensures size { IfOk result (λ keys. length keys.items ≡ length directories.now) }
-    ensures plain { IfOk result (λ keys. (i : ℕ) → i < length directories.now → slice_index keys.items i < 2 ^ 96 → IsPlain directories.now i) }
-    ensures rise { IfOk result (λ keys. (i : ℕ) → 0 < i → i < length directories.now → slice_index keys.items i ≤ slice_index keys.items (parent_at directories.now i)) }
+/// What those directories go by that don't stay.
+fn keys(alloc: Global, heats: &[u64], stays: &[bool]) -> Result<Vec<Key>, AllocError>
+    requires { length stays.now ≡ length heats.now }
+    ensures { IfOk result (λ keys. (last : Key) → count_by (λ key. is_at_most key last) keys.items ≡ count_below (length heats.now) (goes heats.now stays.now last)) }
 {
-    let stays = staying(alloc, directories)?;
-    let heats = heats_below(alloc, directories)?;
-    let mut keys = Vec::with_capacity(alloc, directories.len())?;
-    for at in 0..directories.len() {
-        keys.push(key(heats[at], at, stays[at]))?;
+    let mut keys = Vec::new(alloc);
+    for at in 0..heats.len() {
+        if !stays[at] {
+            keys.push(key_of(heats, at))?;
+        }
     }
     Ok(keys)
 }
 
-/// The number at the place that is `count` from the beginning.
-fn number_of(numbers: &[u128], count: usize) -> u128
-    requires some { 0 < count }
-    requires inside { count ≤ length numbers.now }
-    ensures { result ≡ slice_index numbers.now (count - 1) }
+/// The key of the last that goes where so many go, if there are so many.
+fn last_key(mut keys: Vec<Key>, count: usize) -> Result<Option<Key>, AllocError>
+    requires { 0 < count }
+    ensures { IfOk result (λ found. IfSome found (λ last. count ≤ count_by (λ key. is_at_most key last) keys.items)) }
 {
-    numbers[count - 1]
+    if keys.len() < count {
+        return Ok(None);
+    }
+    keys.sort()?;
+    Ok(Some(keys[count - 1]))
 }
 
-/// The key of the last that goes where so many go.
-fn last_key(alloc: Global, keys: &[u128], count: usize) -> Result<u128, AllocError>
-    requires some { 0 < count }
-    requires inside { count ≤ length keys.now }
-    ensures { IfOk result (λ last. count ≤ count_below (length keys.now) (λ i. nat_le (slice_index keys.now i) last)) }
+/// Which directories go: those that don't stay, with a key of at most `last`.
+fn marks(alloc: Global, heats: &[u64], stays: &[bool], last: Key) -> Result<Vec<bool>, AllocError>
+    requires { length stays.now ≡ length heats.now }
+    ensures size { IfOk result (λ marks. length marks.items ≡ length heats.now) }
+    ensures marks { IfOk result (λ marks. (i : ℕ) → i < length heats.now → is_marked marks.items i ≡ goes heats.now stays.now last i) }
 {
-    let mut sorted = keys.to_vec(alloc)?;
-    sorted.sort()?;
-    let last = number_of(&sorted, count);
-    Ok(last)
-}
-
-/// Which of the keys are at most `last`.
-fn marks(alloc: Global, keys: &[u128], last: u128) -> Result<Vec<bool>, AllocError>
-    ensures size { IfOk result (λ marks. length marks.items ≡ length keys.now) }
-    ensures marks { IfOk result (λ marks. (i : ℕ) → i < length keys.now → is_marked marks.items i ≡ nat_le (slice_index keys.now i) last) }
-{
-    let mut marks = Vec::with_capacity(alloc, keys.len())?;
-    for key in keys {
-        marks.push(*key <= last)?;
+    let mut marks = Vec::with_capacity(alloc, heats.len())?;
+    for at in 0..heats.len() {
+        marks.push(!stays[at] && key_of(heats, at) <= last)?;
     }
     Ok(marks)
 }
@@ -140,16 +134,16 @@ pub fn coldest(
     limit: usize,
 ) -> Result<Vec<bool>, SnapshotError>
     requires first { AreParentsFirst directories.now }
-    requires few { length directories.now ≤ 2 ^ 32 }
     requires more { limit < length directories.now }
     ensures size { IfOk result (λ gone. length gone.items ≡ length directories.now) }
     ensures gone { IfOk result (λ gone. AreGone directories.now (is_marked gone.items)) }
     ensures left { IfOk result (λ gone. kept_below (is_marked gone.items) (length directories.now) ≤ limit) }
 {
-    let keys = keys(alloc, directories)?;
-    let last = last_key(alloc, &keys, directories.len() - limit)?;
-    if last >= STAYS {
+    let stays = staying(alloc, directories)?;
+    let heats = heats_below(alloc, directories)?;
+    let keys = keys(alloc, &heats, &stays)?;
+    let Some(last) = last_key(keys, directories.len() - limit)? else {
         return Err(SnapshotError::TooMany);
-    }
-    Ok(marks(alloc, &keys, last)?)
+    };
+    Ok(marks(alloc, &heats, &stays, last)?)
 }

@@ -16,7 +16,8 @@ pub enum SnapshotError {
     /// The allocator refused a growth.
     #[error("no memory")]
     Memory,
-    /// There are more directories, or more heat or inodes at one, than can be counted or planned.
+    /// More directories have to stay than are to be left, there are more than 32 bits can number, or what comes together at one,
+    /// heat or inodes, is more than 64 bits can count.
     #[error("too many directories")]
     TooMany,
 }

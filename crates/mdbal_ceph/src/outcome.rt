@@ -1,5 +1,8 @@
 //! Plans, and writes what came of it.
-ghost use Rattle.std.specs.Prelude.{◌<◌, ◌≤◌, ◌-◌, ◌*◌, ◌↔◌, IsTrue};
+ghost use Rattle.std.specs.Prelude.{◌≡◌, ◌<◌, ◌≤◌, ◌-◌, ◌*◌, ◌↔◌, ◌&&◌, ℕ, IfOk, IsTrue, Some, length, nat_lt, slice_index};
+ghost use Rattle.mds_types.specs.Sums.{max_below};
+ghost use Rattle.mds_types.specs.RankSet.{has_rank};
+ghost use Rattle.mdbal_ceph.specs.Outcomes.{IsDecision, IsOutcome};
 
 use crate::collected::{Collected, read_collected};
 use crate::input::ranks_of;
@@ -8,8 +11,8 @@ use crate::settings::Settings;
 use anyhow::{Context, Error, bail};
 use ceph_plan::{Proposal, propose};
 use ceph_report::{
-    Facts, Sums, goals_of, greatest_now, make_json, make_own_list, make_picture, make_pins_script,
-    make_report, make_script, moves_of, own_pins, standing_pins, sums_of,
+    Facts, Move, Sums, goals_of, greatest_now, make_json, make_own_list, make_picture,
+    make_pins_script, make_report, make_script, moves_of, own_pins, standing_pins, sums_of,
 };
 use ceph_snapshot::{Directory, Held, fold, held_heat, holds, rows_of};
 use mds_types::limits::{DIR_LIMIT, RANK_LIMIT};
@@ -17,6 +20,21 @@ use mds_types::{Rank, RankSet};
 use std::alloc::Global;
 use std::fs;
 use std::rt::{Clock, Files};
+
+/// What was decided for directories.
+#[derive(Drop)]
+struct Decision {
+    /// What holds each directory.
+    holds: Vec<Held>,
+    /// The heat that is held at each rank, in thousandths.
+    pinned: Vec<u64>,
+    /// The plan, and the changes of pins.
+    proposal: Proposal,
+    /// The rank that each directory is to be at.
+    goals: Vec<Rank>,
+    /// What each rank has now, and what comes and goes.
+    sums: Sums,
+}
 
 /// What was planned, and of what.
 #[derive(Drop)]
@@ -31,16 +49,8 @@ struct Outcome {
     directories: Vec<Directory>,
     /// How many directories were folded into their parents before.
     folded: usize,
-    /// What holds each directory.
-    holds: Vec<Held>,
-    /// The heat that is held at each rank, in thousandths.
-    pinned: Vec<u64>,
-    /// The plan, and the changes of pins.
-    proposal: Proposal,
-    /// The rank that each directory is to be at.
-    goals: Vec<Rank>,
-    /// What each rank has now, and what comes and goes.
-    sums: Sums,
+    /// What was decided for them.
+    decision: Decision,
 }
 
 /// Whether the hottest rank gets cooler by at least so many percent.
@@ -51,8 +61,18 @@ fn is_worth_it(now: u64, planned: u64, percent: u8) -> bool
     gain > 0 && u128::from(gain) * 100 >= u128::from(now) * u128::from(percent)
 }
 
+/// Whether the plan is worth a proposal: the hottest rank gets cooler by at least so many percent.
+fn is_proposed(outcome: &Outcome, percent: u8) -> bool
+    ensures { let now = max_below (length outcome.now.decision.sums.now.items) (slice_index outcome.now.decision.sums.now.items) in let planned = outcome.now.decision.proposal.plan.packing.greatest in IsTrue result ↔ ((planned < now) × (now * percent ≤ (now - planned) * 100)) }
+{
+    let greatest = outcome.decision.proposal.plan.packing.greatest;
+    is_worth_it(greatest_now(&outcome.decision.sums), greatest, percent)
+}
+
 /// The ranks that may have a part.
-fn usable(settings: &Settings, collected: &Collected) -> Result<RankSet, Error> {
+fn usable(settings: &Settings, collected: &Collected) -> Result<RankSet, Error>
+    ensures { (mask : ℕ) → settings.now.mask ≡ Some mask → IfOk result (λ ranks. (rank : ℕ) → has_rank ranks rank ≡ (nat_lt rank collected.now.size && has_rank mask rank)) }
+{
     let own = collected.cluster.mask.as_ref().map(|mask| mask.as_str());
     match ranks_of(settings.mask, own, collected.size) {
         Some(ranks) => Ok(ranks),
@@ -62,29 +82,27 @@ fn usable(settings: &Settings, collected: &Collected) -> Result<RankSet, Error> 
     }
 }
 
-/// Plans what was collected.
-fn planned(alloc: Global, settings: &Settings, collected: Collected) -> Result<Outcome, Error> {
-    let ranks = usable(settings, &collected)?;
-    let (size, samples) = (collected.size, collected.samples);
-    let spread = collected.snapshot.spread;
-    let (directories, folded) = fold(alloc, collected.snapshot.directories, DIR_LIMIT as usize)?;
-    if spread.len() != usize::from(RANK_LIMIT) {
-        bail!("there aren't 64 ranks");
-    }
-    let holds = holds(alloc, &directories)?;
-    let pinned = held_heat(alloc, &directories, &holds, &spread)?;
-    let rows = rows_of(alloc, &directories, &holds)?;
-    let own = own_pins(alloc, &directories)?;
+/// Plans directories for these ranks, where `spread[r]` is the heat at rank r of what is spread.
+fn decided(
+    alloc: Global,
+    settings: &Settings,
+    ranks: RankSet,
+    directories: &[Directory],
+    spread: &[u64],
+) -> Result<Decision, Error>
+    requires { length spread.now ≡ 64 }
+    ensures { IfOk result (IsDecision directories.now spread.now ranks settings.now.parts) }
+{
+    let holds = holds(alloc, directories)?;
+    let held = holds.as_slice();
+    let pinned = held_heat(alloc, directories, held, spread)?;
+    let rows = rows_of(alloc, directories, held)?;
+    let own = own_pins(alloc, directories)?;
     let (parts, keep) = (settings.parts, settings.keep);
     let proposal = propose(alloc, &rows, parts, &pinned, ranks, keep, &own)?;
-    let goals = goals_of(alloc, &holds, &proposal.rows)?;
-    let sums = sums_of(alloc, &directories, &holds, &goals, &spread)?;
-    Ok(Outcome {
-        size,
-        ranks,
-        samples,
-        directories,
-        folded,
+    let goals = goals_of(alloc, held, &proposal.rows)?;
+    let sums = sums_of(alloc, directories, held, &goals, spread)?;
+    Ok(Decision {
         holds,
         pinned,
         proposal,
@@ -93,23 +111,70 @@ fn planned(alloc: Global, settings: &Settings, collected: Collected) -> Result<O
     })
 }
 
-/// The report, or the same as JSON.
-fn told(alloc: Global, outcome: &Outcome, is_json: bool) -> Result<String, Error> {
-    let (directories, holds) = (outcome.directories.as_slice(), outcome.holds.as_slice());
-    let (rows, changes) = (&outcome.proposal.rows, &outcome.proposal.changes);
-    let moves = moves_of(alloc, directories, holds, rows, changes)?;
-    let facts = Facts {
+/// Plans what was collected.
+fn planned(alloc: Global, settings: &Settings, collected: Collected) -> Result<Outcome, Error>
+    ensures outcome { IfOk result (IsOutcome collected.snapshot.directories.items collected.snapshot.spread.items settings.now.parts) }
+    ensures ranks { IfOk result (λ outcome. (mask : ℕ) → settings.now.mask ≡ Some mask → (rank : ℕ) → has_rank outcome.ranks rank ≡ (nat_lt rank collected.size && has_rank mask rank)) }
+    ensures size { IfOk result (λ outcome. outcome.size ≡ collected.size) }
+    ensures samples { IfOk result (λ outcome. outcome.samples ≡ collected.samples) }
+{
+    let ranks = usable(settings, &collected)?;
+    let (size, samples) = (collected.size, collected.samples);
+    let spread = collected.snapshot.spread;
+    let (directories, folded) = fold(alloc, collected.snapshot.directories, DIR_LIMIT as usize)?;
+    if spread.len() != usize::from(RANK_LIMIT) {
+        bail!("there aren't 64 ranks");
+    }
+    let decision = decided(alloc, settings, ranks, &directories, &spread)?;
+    Ok(Outcome {
+        size,
+        ranks,
+        samples,
         directories,
+        folded,
+        decision,
+    })
+}
+
+/// What the report tells of an outcome.
+fn facts_of<'a>(outcome: &'a Outcome, moves: &'a [Move], standing: usize) -> Facts<'a>
+    ensures directories { result.directories.now ≡ outcome.now.directories.items }
+    ensures folded { result.folded ≡ outcome.now.folded }
+    ensures samples { result.samples ≡ outcome.now.samples }
+    ensures ranks { result.ranks ≡ outcome.now.ranks }
+    ensures plan { result.plan.now ≡ outcome.now.decision.proposal.plan }
+    ensures sums { result.sums.now ≡ outcome.now.decision.sums }
+    ensures pinned { result.pinned.now ≡ outcome.now.decision.pinned.items }
+    ensures moves { result.moves.now ≡ moves.now }
+    ensures changes { result.changes ≡ length outcome.now.decision.proposal.changes.items }
+    ensures standing { result.standing ≡ standing }
+{
+    Facts {
+        directories: &outcome.directories,
         folded: outcome.folded,
         samples: outcome.samples,
         ranks: outcome.ranks,
-        plan: &outcome.proposal.plan,
-        sums: &outcome.sums,
-        pinned: &outcome.pinned,
-        moves: &moves,
-        changes: changes.len(),
-        standing: standing_pins(alloc, rows, changes)?,
-    };
+        plan: &outcome.decision.proposal.plan,
+        sums: &outcome.decision.sums,
+        pinned: &outcome.decision.pinned,
+        moves,
+        changes: outcome.decision.proposal.changes.len(),
+        standing,
+    }
+}
+
+/// The report, or the same as JSON.
+fn told(alloc: Global, outcome: &Outcome, is_json: bool) -> Result<String, Error> {
+    let (directories, holds) = (
+        outcome.directories.as_slice(),
+        outcome.decision.holds.as_slice(),
+    );
+    let (rows, changes) = (
+        &outcome.decision.proposal.rows,
+        &outcome.decision.proposal.changes,
+    );
+    let moves = moves_of(alloc, directories, holds, rows, changes)?;
+    let facts = facts_of(outcome, &moves, standing_pins(alloc, rows, changes)?);
     let text = if is_json {
         make_json(alloc, &facts, changes)?
     } else {
@@ -126,11 +191,16 @@ fn write_pins<R: Files + AllocGlobal>(
     outcome: &Outcome,
 ) -> Result<(), Error> {
     let directories = outcome.directories.as_slice();
-    let changes = outcome.proposal.changes.as_slice();
+    let changes = outcome.decision.proposal.changes.as_slice();
     let script = make_pins_script(rt.alloc(), directories, changes, mount.as_bytes())?;
     fs::write(rt, file, script).context(format_args!("{file}"))?;
     let own = format!(in rt.alloc(); "{file}.own")?;
-    let list = make_own_list(rt.alloc(), directories, &outcome.proposal.rows, changes)?;
+    let list = make_own_list(
+        rt.alloc(),
+        directories,
+        &outcome.decision.proposal.rows,
+        changes,
+    )?;
     fs::write(rt, own.as_str(), list).context(format_args!("{own}"))?;
     Ok(())
 }
@@ -141,9 +211,12 @@ fn write_views<R: Files + AllocGlobal>(
     settings: &Settings,
     outcome: &Outcome,
 ) -> Result<(), Error> {
-    let (directories, holds) = (outcome.directories.as_slice(), outcome.holds.as_slice());
+    let (directories, holds) = (
+        outcome.directories.as_slice(),
+        outcome.decision.holds.as_slice(),
+    );
     if let Some(file) = settings.svg {
-        let picture = make_picture(rt.alloc(), directories, &outcome.goals)?;
+        let picture = make_picture(rt.alloc(), directories, &outcome.decision.goals)?;
         fs::write(rt, file, picture).context(format_args!("{file}"))?;
     }
     if let Some(file) = settings.script {
@@ -166,8 +239,7 @@ pub fn carry_out<R: Files + AllocGlobal + Clock + Eprint>(
     progress.tell(rt, "writing");
     let mut text = told(alloc, &outcome, settings.is_json)?;
     write_views(rt, settings, &outcome)?;
-    let greatest = outcome.proposal.plan.packing.greatest;
-    if is_worth_it(greatest_now(&outcome.sums), greatest, settings.least_gain) {
+    if is_proposed(&outcome, settings.least_gain) {
         if let Some(file) = settings.pins {
             write_pins(rt, file, settings.mount, &outcome)?;
         }

@@ -4,6 +4,6 @@ use Rattle.ceph_plan.proofs.choice.coolest.Given as goal
 
 abbrev pub invariant-loop-at : goal.invariant-loop-at
 invariant-loop-at l = record {
-  inside : l.best < length l.candidates;
-  least : (k : ℕ) → k < l.at → greatest_at l.candidates l.best ≤ greatest_at l.candidates k;
+  inside : l.best < length l.plans;
+  least : (k : ℕ) → k < l.at → greatest_at l.plans l.best ≤ greatest_at l.plans k;
 }

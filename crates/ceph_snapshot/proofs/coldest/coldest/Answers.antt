@@ -1,17 +1,24 @@
-use Rattle.std.proofs.Common.{◌≡◌, ◌+◌, ◌<◌, ◌≤◌, ◌-◌, ℕ, arith, leb, length, not, slice_index, ap, sym, ◌∙◌}
+use Rattle.std.proofs.Common.{◌≡◌, ◌+◌, ◌<◌, ◌≤◌, ◌-◌, ◌∙◌, ℕ, List, Bool, arith, length, not, slice_index, ap, sym}
+use Rattle.std.specs.List.{count_by}
 use Rattle.mds_types.specs.Sums.{count_below}
+use Rattle.ceph_snapshot.specs.declared.coldest.Key.{Key}
 use Rattle.ceph_snapshot.specs.Folding.{is_marked, kept_below}
+use Rattle.ceph_snapshot.specs.Keys.{goes, is_at_most}
 use Rattle.ceph_snapshot.proofs.Keys.{count_both}
 use Rattle.ceph_snapshot.proofs.coldest.coldest.Goals as goal
 
 pub returns-clause-left : goal.returns-clause-left
 returns-clause-left c =
     let n : ℕ = length c.args.directories.now in
-    let keys = c.in_ok-keys.keys.items in
-    let size : length keys ≡ n = c.in_ok-keys.ensures.size in
-    let q = λ (i : ℕ). leb (slice_index keys i) c.in_ok-last.last in
-    let gone = c.in_ok-marks.field-0.items in
-    let both : count_below n (λ i. not (is_marked gone i)) + count_below n q ≡ n =
-    count_both n (is_marked gone) q (λ i l. rw c.deref-2.ensures.value at (c.in_ok-marks.ensures.marks i (let within : i < length c.deref-2.result.now = omega (arith, l, size, ap length c.deref-2.ensures.value) in within))) in
-    let many : n - c.args.limit ≤ count_below n q = rw (c.deref.ensures.value, size) at c.in_ok-last.ensures in
-    omega (arith, both, many, c.requires.more)
+    let heats : List ℕ = c.in_ok-heats.heats.items in
+    let stays : List Bool = c.in_ok-stays.stays.items in
+    let last : Key = c.in-Some.last in
+    let gone : List Bool = c.in_ok-marks.field-0.items in
+    let size : length heats ≡ n = c.in_ok-heats.ensures.size in
+    let both : count_below n (λ i. not (is_marked gone i)) + count_below n (goes heats stays last) ≡ n =
+    count_both n (is_marked gone) (goes heats stays last) (λ i l. rw (c.deref-3.ensures.value, c.deref-4.ensures.value) at (c.in_ok-marks.ensures.marks i (let within : i < length c.deref-3.result.now = omega (arith, l, size, ap length c.deref-3.ensures.value) in within))) in
+    let counted : count_by (λ key. is_at_most key last) c.in_ok-keys.keys.items ≡ count_below (length heats) (goes heats stays last) =
+    rw (c.deref.ensures.value, c.deref-2.ensures.value) at (c.in_ok-keys.ensures last) in
+    let many : n - c.args.limit ≤ count_by (λ key. is_at_most key last) c.in_ok-keys.keys.items = rw c.in-Some.is at c.in_ok-last.ensures in
+    let some : n - c.args.limit ≤ count_below n (goes heats stays last) = omega (arith, many, counted, ap (λ (m : ℕ). count_below m (goes heats stays last)) size) in
+    omega (arith, both, some, c.requires.more)

@@ -1,18 +1,26 @@
-use Rattle.std.proofs.Common.{◌≡◌, ◌+◌, ◌*◌, ◌-◌, ◌^◌, ◌<◌, ◌≤◌, ℕ, arith, cond, length, slice_index}
-use Rattle.ceph_snapshot.specs.Folding.{is_marked}
-use Rattle.ceph_snapshot.specs.Holding.{parent_at}
-use Rattle.ceph_snapshot.proofs.Keys.{key_rise}
+use Rattle.std.proofs.Common.{◌≡◌, ◌∙◌, ◌+◌, ◌∷◌, ◌++◌, ℕ, Bool, List, [], Vec, Global, ap, sym}
+use Rattle.std.specs.List.{count_by}
+use Rattle.mds_types.specs.Sums.{count_below}
+use Rattle.ceph_snapshot.specs.declared.coldest.Key.{Key}
+use Rattle.ceph_snapshot.specs.Keys.{goes, is_at_most, key_at}
+use Rattle.ceph_snapshot.proofs.Keys.{goes_more, stays_passed}
 use Rattle.ceph_snapshot.proofs.coldest.keys.Goals as goal
+use Rattle.ceph_snapshot.proofs.coldest.keys.Goals.{then-not-stays-at+in_ok-push, else-not-stays-at}
 
-pub returns-clause-rise : goal.returns-clause-rise
-returns-clause-rise c = λ i some l.
-    let keys = c.loop-at.keys.items in
-    let p : ℕ = parent_at c.args.directories.now i in
-    let up : p < i = c.requires.first.above i some l in
-    let all : c.loop-at.at ≡ length c.args.directories.now = omega arith in
-    let here : slice_index keys i ≡ cond (is_marked c.in_ok-stays.stays.items i) (2 ^ 96) (slice_index c.in_ok-heats.heats.items i * 2 ^ 32 + (2 ^ 32 - 1 - i)) = c.loop-at.invariant.keys i (omega (arith, l, all)) in
-    let above : slice_index keys p ≡ cond (is_marked c.in_ok-stays.stays.items p) (2 ^ 96) (slice_index c.in_ok-heats.heats.items p * 2 ^ 32 + (2 ^ 32 - 1 - p)) = c.loop-at.invariant.keys p (omega (arith, up, l, all)) in
-    let small : slice_index keys i ≤ 2 ^ 96 = c.loop-at.invariant.small i (omega (arith, l, all)) in
-    let rise = key_rise (is_marked c.in_ok-stays.stays.items i) (is_marked c.in_ok-stays.stays.items p) (slice_index c.in_ok-heats.heats.items i) (slice_index c.in_ok-heats.heats.items p) i p
-    (c.in_ok-stays.ensures.above i some l) (c.in_ok-heats.ensures.rise i some l) up (omega (arith, l, c.requires.few)) (rw here at small) in
-    omega (arith, rise, here, above)
+pub loop-at-preserved : goal.loop-at-preserved
+loop-at-preserved c = λ last.
+    let heats : List ℕ = c.args.heats.now in
+    let stays : List Bool = c.args.stays.now in
+    let at : ℕ = c.loop-at.at in
+    elim c.if-not-stays-at.branch [
+      | then-not-stays-at+in_ok-push w ↦
+          let more : c.if-not-stays-at.keys.items ≡ c.loop-at.keys.items ++ w.key_of.result ∷ [] =
+          ap (λ (keys : Vec Key Global). keys.items) w.keys-is ∙ w.in_ok-push.ensures.items in
+          let is : c.if-not-stays-at.keys.items ≡ c.loop-at.keys.items ++ key_at heats at ∷ [] =
+          more ∙ ap (λ (key : Key). c.loop-at.keys.items ++ key ∷ []) w.key_of.ensures in
+          ap (λ (keys : List Key). count_by (λ key. is_at_most key last) keys) is
+          ∙ goes_more heats stays last at c.loop-at.keys.items (w.if-not-stays-at.true) (c.loop-at.invariant last)
+      | else-not-stays-at w ↦
+          ap (λ (keys : Vec Key Global). count_by (λ key. is_at_most key last) keys.items) w.keys-is
+          ∙ (c.loop-at.invariant last ∙ sym (stays_passed heats stays last at w.if-not-stays-at.false))
+    ]

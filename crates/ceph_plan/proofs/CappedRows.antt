@@ -1,10 +1,21 @@
--- A division of rows is one of any rows with the same parents.
-use Rattle.std.proofs.Common.{◌≡◌, ◌∙◌, ◌<◌, ℕ, List, [], ◌∷◌, length, sym, subst, inl, inr, ⊎_elim}
+-- A division of rows that are capped is one of the rows.
+use Rattle.std.proofs.Common.{◌≡◌, ◌∙◌, ◌<◌, ℕ, zero, suc, List, [], ◌∷◌, length, refl, sym, subst, inl, inr, ⊎_elim}
 use Rattle.mds_types.specs.declared.problem.ProblemRow.{ProblemRow}
 use Rattle.mds_types.specs.Connected.{IsChain}
 use Rattle.mds_types.specs.Division.{InPart, IsDivision, IsEdge}
 use Rattle.mds_types.specs.Problem.{parent_at}
-use Rattle.ceph_plan.specs.Plans.{HaveSameParents}
+use Rattle.std.proofs.lemmas.List.{length-map}
+use Rattle.ceph_plan.specs.Plans.{capped_row, capped_rows}
+
+-- the first n rows have the parents of these rows, and there are no more
+record HaveSameParents (rows found : List ProblemRow) (n : ℕ) : Type 0 where
+  size : length found ≡ n
+  parents : (i : ℕ) → i < n → parent_at found i ≡ parent_at rows i
+
+parent-capped : (cap : ℕ) (rows : List ProblemRow) (i : ℕ) → parent_at (capped_rows cap rows) i ≡ parent_at rows i
+parent-capped cap [] i = refl
+parent-capped cap (row ∷ rows) zero = refl
+parent-capped cap (row ∷ rows) (suc i) = parent-capped cap rows i
 
 member-same : (rows found : List ProblemRow) (label : ℕ → ℕ) (part i : ℕ) → length found ≡ length rows → InPart found label part i → InPart rows label part i
 member-same rows found label part i size member = (subst (λ (n : ℕ). i < n) size member.0, member.1)
@@ -24,7 +35,7 @@ chain-same rows found label part same from (next ∷ chain) to lt is =
     let member : InPart rows label part next = member-same rows found label part next same.size is.1 in
     (edge-same rows found from next same lt member.0 is.0, member, chain-same rows found label part same next chain to member.0 is.2)
 
-pub division-same : (rows found : List ProblemRow) (k : ℕ) (label : ℕ → ℕ) → HaveSameParents rows found (length rows) → IsDivision found k label
+division-same : (rows found : List ProblemRow) (k : ℕ) (label : ℕ → ℕ) → HaveSameParents rows found (length rows) → IsDivision found k label
     → IsDivision rows k label
 division-same rows found k label same division = record {
   below = λ i lt. division.below i (subst (λ (n : ℕ). i < n) (sym same.size) lt);
@@ -34,3 +45,9 @@ division-same rows found k label same division = record {
       let got = division.connected part i j back_i back_j in
       (got.0, chain-same rows found label part same i got.0 j member_i.0 got.1);
 }
+
+pub division-capped : (cap : ℕ) (rows : List ProblemRow) (k : ℕ) (label : ℕ → ℕ) → IsDivision (capped_rows cap rows) k label → IsDivision rows k label
+division-capped cap rows k label division =
+    let same : HaveSameParents rows (capped_rows cap rows) (length rows) =
+    record { size = length-map rows (capped_row cap); parents = λ i l. parent-capped cap rows i } in
+    division-same rows (capped_rows cap rows) k label same division

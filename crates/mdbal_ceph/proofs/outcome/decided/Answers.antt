@@ -1,0 +1,66 @@
+use Rattle.std.proofs.Common.{◌≡◌, ◌<◌, ◌+◌, ◌∙◌, ℕ, List, length, min, slice_index, subst, sym, ap, arith}
+use Rattle.mds_types.specs.declared.problem.ProblemRow.{ProblemRow}
+use Rattle.ceph_snapshot.specs.declared.directory.Directory.{Directory}
+use Rattle.ceph_snapshot.specs.declared.held.Held.{Held}
+use Rattle.ceph_snapshot.specs.Holding.{held_below, most_heat}
+use Rattle.ceph_snapshot.specs.Rows.{AreRowsOf}
+use Rattle.ceph_plan.specs.declared.proposal.OwnPins.{OwnPins}
+use Rattle.ceph_plan.specs.Asked.{ArePinRows}
+use Rattle.ceph_plan.specs.Choice.{IsAsked}
+use Rattle.ceph_plan.specs.Plans.{IsPlan}
+use Rattle.ceph_report.specs.Amounts.{AreAmounts, goal_at, inodes_from, inodes_to}
+use Rattle.mdbal_ceph.proofs.Parents.{parents_first}
+use Rattle.mdbal_ceph.proofs.outcome.decided.Goals as goal
+
+pub returns : goal.returns
+returns c =
+    let directories : List Directory = c.args.directories.now in
+    let n : ℕ = length directories in
+    let holds : List Held = c.in_ok-holds.holds.items in
+    let rows : List ProblemRow = c.in_ok-rows.rows.items in
+    let pinned : List ℕ = c.in_ok-pinned.pinned.items in
+    let own : List OwnPins = c.in_ok-own.own.items in
+    let held_is : c.as_slice-held.result.now ≡ holds = c.as_slice-held.ensures.value in
+    let rows_of : AreRowsOf directories holds n rows = subst (λ (others : List Held). AreRowsOf directories others n rows) held_is c.in_ok-rows.ensures in
+    let plan : IsPlan c.args.ranks pinned rows c.in_ok-proposal.proposal.plan =
+    subst (λ (heats : List ℕ). IsPlan c.args.ranks heats rows c.in_ok-proposal.proposal.plan) c.deref-2.ensures.value
+    (subst (λ (others : List ProblemRow). IsPlan c.args.ranks c.deref-2.result.now others c.in_ok-proposal.proposal.plan) c.deref.ensures.value c.in_ok-proposal.ensures.plan) in
+    let targets : ArePinRows rows c.in_ok-proposal.proposal.plan.part.items c.in_ok-proposal.proposal.plan.packing.rank.items own (length rows) c.in_ok-proposal.proposal.rows.items =
+    subst (λ (pins : List OwnPins). ArePinRows rows c.in_ok-proposal.proposal.plan.part.items c.in_ok-proposal.proposal.plan.packing.rank.items pins (length rows) c.in_ok-proposal.proposal.rows.items)
+    c.deref-3.ensures.value
+    (subst (λ (others : List ProblemRow). ArePinRows others c.in_ok-proposal.proposal.plan.part.items c.in_ok-proposal.proposal.plan.packing.rank.items c.deref-3.result.now (length others) c.in_ok-proposal.proposal.rows.items)
+    c.deref.ensures.value c.in_ok-proposal.ensures.targets) in
+    record {
+      size = c.in_ok-holds.ensures.size;
+      held = c.in_ok-holds.ensures.held (parents_first directories holds rows rows_of plan.forest);
+      pinned = record {
+        size = c.in_ok-pinned.ensures.size;
+        at = subst (λ (others : List Held). (r : ℕ) → r < 64 → slice_index pinned r ≡ min most_heat (slice_index c.args.spread.now r + held_below directories others r n))
+            held_is c.in_ok-pinned.ensures.heats;
+      };
+      planned = record {
+        rows = rows;
+        own = own;
+        rows_of = rows_of;
+        own_pins = c.in_ok-own.ensures;
+        proposed = record {
+          plan = plan;
+          asked =
+              subst (λ (heats : List ℕ). IsAsked c.args.ranks heats rows c.args.settings.now.parts c.in_ok-proposal.proposal.plan) c.deref-2.ensures.value
+              (subst (λ (others : List ProblemRow). IsAsked c.args.ranks c.deref-2.result.now others c.args.settings.now.parts c.in_ok-proposal.proposal.plan)
+              c.deref.ensures.value c.in_ok-proposal.ensures.asked);
+          targets = targets;
+          realized = c.in_ok-proposal.ensures.realized;
+          once = c.in_ok-proposal.ensures.once;
+          needed = c.in_ok-proposal.ensures.needed;
+        };
+      };
+      goals = λ i l. rw (held_is, c.deref-4.ensures.value) at (c.in_ok-goals.ensures.goals i (let inside : i < length c.deref-4.result.now = omega (arith, l, ap length c.deref-4.ensures.value, targets.size, rows_of.size) in inside));
+      now = c.in_ok-sums.ensures.now;
+      into =
+          subst (λ (others : List Held). AreAmounts c.in_ok-sums.sums.into.items (λ r. inodes_to directories others c.in_ok-goals.goals.items r n)) held_is
+          (subst (λ (ranks : List ℕ). AreAmounts c.in_ok-sums.sums.into.items (λ r. inodes_to directories c.as_slice-held.result.now ranks r n)) c.deref-5.ensures.value c.in_ok-sums.ensures.into);
+      out =
+          subst (λ (others : List Held). AreAmounts c.in_ok-sums.sums.out.items (λ r. inodes_from directories others c.in_ok-goals.goals.items r n)) held_is
+          (subst (λ (ranks : List ℕ). AreAmounts c.in_ok-sums.sums.out.items (λ r. inodes_from directories c.as_slice-held.result.now ranks r n)) c.deref-5.ensures.value c.in_ok-sums.ensures.out);
+    }

@@ -1,0 +1,51 @@
+-- What the report's numbers are of.
+use Rattle.std.specs.Prelude.{◌≡◌, ◌<◌, ◌≤◌, ◌+◌, ℕ, List, length, min, slice_index}
+use Rattle.mds_types.specs.declared.limits.TheConstants.{DIR_LIMIT}
+use Rattle.mds_types.specs.declared.problem.ProblemRow.{ProblemRow}
+use Rattle.ceph_snapshot.specs.declared.directory.Directory.{Directory}
+use Rattle.ceph_snapshot.specs.declared.held.Held.{Held}
+use Rattle.ceph_snapshot.specs.Folding.{IsFolded}
+use Rattle.ceph_snapshot.specs.Holding.{IsHeld, held_at, held_below, most_heat}
+use Rattle.ceph_snapshot.specs.Rows.{AreRowsOf}
+use Rattle.ceph_plan.specs.declared.choice.Parts.{Parts}
+use Rattle.ceph_plan.specs.declared.proposal.OwnPins.{OwnPins}
+use Rattle.ceph_plan.specs.declared.proposal.Proposal.{Proposal}
+use Rattle.ceph_plan.specs.Proposals.{IsProposal}
+use Rattle.ceph_report.specs.Amounts.{AreAmounts, goal_at, heat_now, inodes_from, inodes_to}
+use Rattle.ceph_report.specs.OwnPins.{AreOwnPins}
+use Rattle.mdbal_ceph.specs.declared.outcome.Decision.{Decision}
+use Rattle.mdbal_ceph.specs.declared.outcome.Outcome.{Outcome}
+
+-- the heat that is held at each rank: that of what is spread, and of all that pins hold there, as far as 64 bits count
+pub record IsHeldHeat (directories : List Directory) (holds : List Held) (spread pinned : List ℕ) : Type 0 where
+  pub size : length pinned ≡ 64
+  pub at : (r : ℕ) → r < 64
+      → slice_index pinned r ≡ min most_heat (slice_index spread r + held_below directories holds r (length directories))
+
+-- what is planned: the rows are the directories, each with its heat where nothing holds it and with none where something does;
+-- the plan is the one that is chosen of all that are weighed of these rows, with the held heat at its ranks
+pub record IsPlanned (directories : List Directory) (holds : List Held) (pinned : List ℕ) (ranks : ℕ) (parts : Parts) (proposal : Proposal) : Type 0 where
+  pub rows : List ProblemRow
+  pub own : List OwnPins
+  pub rows_of : AreRowsOf directories holds (length directories) rows
+  pub own_pins : AreOwnPins directories (length directories) own
+  pub proposed : IsProposal ranks pinned rows parts own proposal
+
+-- what is decided for directories, with this heat by rank of what is spread
+pub record IsDecision (directories : List Directory) (spread : List ℕ) (ranks : ℕ) (parts : Parts) (decision : Decision) : Type 0 where
+  pub size : length decision.holds.items ≡ length directories
+  pub held : (i : ℕ) → i < length directories → IsHeld directories i (held_at decision.holds.items i)
+  pub pinned : IsHeldHeat directories decision.holds.items spread decision.pinned.items
+  pub planned : IsPlanned directories decision.holds.items decision.pinned.items ranks parts decision.proposal
+  pub goals : (i : ℕ) → i < length directories → slice_index decision.goals.items i ≡ goal_at decision.holds.items decision.proposal.rows.items i
+  pub now : AreAmounts decision.sums.now.items (λ r. slice_index spread r + heat_now directories r (length directories))
+  pub into : AreAmounts decision.sums.into.items (λ r. inodes_to directories decision.holds.items decision.goals.items r (length directories))
+  pub out : AreAmounts decision.sums.out.items (λ r. inodes_from directories decision.holds.items decision.goals.items r (length directories))
+
+-- what was collected of directories, with this heat by rank of what is spread, and what came of it: at most as many directories
+-- as the planner takes, with all their heat and inodes, and what is decided for these
+pub record IsOutcome (collected : List Directory) (spread : List ℕ) (parts : Parts) (outcome : Outcome) : Type 0 where
+  pub few : length outcome.directories.items ≤ DIR_LIMIT
+  pub folded : IsFolded collected outcome.directories.items
+  pub count : length outcome.directories.items + outcome.folded ≡ length collected
+  pub decided : IsDecision outcome.directories.items spread outcome.ranks parts outcome.decision
