@@ -14,4 +14,6 @@ mod quoting;
 #[cfg(test)]
 mod random_pins;
 #[cfg(test)]
+mod refused;
+#[cfg(test)]
 mod snapshots;

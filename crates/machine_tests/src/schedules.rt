@@ -1,6 +1,7 @@
 //! Whole exports, aborts, and messages that come late or twice.
 
-use crate::steps::{Do, cluster, event, played, rank, run_rows, to_the_log};
+use crate::starts::run_prepared;
+use crate::steps::{Do, Row, cluster, event, played, rank, run_rows, to_the_log};
 use export_machine::{Cluster, ExporterState, ImporterState, JournalEntry, Reply, StepError};
 use mds_types::{Dir, Rank};
 use std::alloc::{AllocError, Global};
@@ -254,18 +255,50 @@ fn roots_follow_the_log_entry(rt: HostRuntime) -> Result<(), Fail> {
     Ok(())
 }
 
-/// What a small cluster has after an export and some more, growths refused or not.
-#[test]
-fn a_refused_growth_changes_nothing(rt: HostRuntime) -> Result<(), Fail> {
-    let mut cluster = played(&rt, rt.alloc(), &to_the_log())?;
-    let rows = [
+/// Directory 1 has moved to rank 1. Here each further kind of event is accepted.
+fn further() -> [Row; 21] {
+    [
         (Do::Notify(0), Ok(Reply::Sent(6))),
         (Do::Deliver(6), Ok(Reply::Changed)),
         (Do::Make(1), Ok(Reply::Dir(Dir::new(2)))),
         (Do::Begin(1, 2), Ok(Reply::Ticket(0))),
-    ];
-    run_rows(&rt, rt.alloc(), &mut cluster, &rows)?;
+        (Do::End(0), Ok(Reply::Changed)),
+        (Do::Remove(2), Ok(Reply::Changed)),
+        (Do::Start(1, 0, &[1]), Ok(Reply::Export(1, 7))),
+        (Do::Deliver(7), Ok(Reply::Sent(8))),
+        (Do::Deliver(8), Ok(Reply::Changed)),
+        (Do::Froze(1), Ok(Reply::Sent(9))),
+        (Do::Deliver(9), Ok(Reply::Sent(10))),
+        (Do::Deliver(10), Ok(Reply::Sent(11))),
+        (Do::Deliver(11), Ok(Reply::Sent(12))),
+        (Do::Stop(1), Ok(Reply::Changed)),
+        (Do::Ask(1), Ok(Reply::Sent(13))),
+        (Do::Restart(1), Ok(Reply::Changed)),
+        (Do::Deliver(13), Ok(Reply::Sent(14))),
+        (Do::Deliver(14), Ok(Reply::Changed)),
+        (Do::Make(1), Ok(Reply::Dir(Dir::new(3)))),
+        (Do::Start(1, 0, &[1, 3]), Ok(Reply::Export(2, 15))),
+        (Do::Abort(2), Ok(Reply::Sent(16))),
+    ]
+}
+
+/// What a small cluster has after each kind of event, growths refused or not.
+#[test]
+fn a_refused_growth_changes_nothing(rt: HostRuntime) -> Result<(), Fail> {
+    let mut cluster = played(&rt, rt.alloc(), &to_the_log())?;
+    run_rows(&rt, rt.alloc(), &mut cluster, &further())?;
     assert_eq!(rt; roots(rt.alloc(), &cluster)?.len(), 2);
-    assert_eq!(rt; cluster.authority(Dir::new(2)), Some(rank(1)));
+    assert_eq!(rt; cluster.authority(Dir::new(3)), Some(rank(1)));
+    assert_eq!(rt; cluster.sent(), 17);
+    Ok(())
+}
+
+/// The same events, each prepared first.
+#[test]
+fn a_refused_growth_leaves_what_is_prepared(rt: HostRuntime) -> Result<(), Fail> {
+    let mut cluster = cluster(rt.alloc())?;
+    run_prepared(&rt, rt.alloc(), &mut cluster, &to_the_log())?;
+    run_prepared(&rt, rt.alloc(), &mut cluster, &further())?;
+    assert_eq!(rt; cluster.authority(Dir::new(3)), Some(rank(1)));
     Ok(())
 }

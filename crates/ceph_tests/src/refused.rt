@@ -1,0 +1,139 @@
+//! From dumps to pins while single growths of memory are refused (`rt try --test --fail-alloc N`).
+
+use ceph_dumps::{DumpError, read_listing, read_loads, read_subtrees};
+use ceph_plan::{OwnPins, Parts, PlanError, Proposal, propose};
+use ceph_snapshot::{
+    Directory, Gathering, Snapshot, SnapshotError, fold, held_heat, holds, rows_of,
+};
+use mds_types::{Rank, RankSet};
+use std::alloc::{AllocError, AllocFailed, Global};
+use std::test::Fail;
+
+/// Why there was no answer.
+#[derive(Clone, Copy, Debug, PartialEq, Eq)]
+enum Refused {
+    /// A growth was refused.
+    Memory,
+    /// Anything else, which no dump here gives a cause for.
+    Wrong,
+}
+
+impl From<AllocError> for Refused {
+    fn from(_: AllocError) -> Refused {
+        Refused::Memory
+    }
+}
+
+impl<T: Drop> From<AllocFailed<T>> for Refused {
+    fn from(_: AllocFailed<T>) -> Refused {
+        Refused::Memory
+    }
+}
+
+impl From<DumpError> for Refused {
+    fn from(error: DumpError) -> Refused {
+        match error {
+            DumpError::Memory => Refused::Memory,
+            _ => Refused::Wrong,
+        }
+    }
+}
+
+impl From<SnapshotError> for Refused {
+    fn from(error: SnapshotError) -> Refused {
+        match error {
+            SnapshotError::Memory => Refused::Memory,
+            SnapshotError::TooMany => Refused::Wrong,
+        }
+    }
+}
+
+impl From<PlanError> for Refused {
+    fn from(error: PlanError) -> Refused {
+        match error {
+            PlanError::Memory => Refused::Memory,
+            _ => Refused::Wrong,
+        }
+    }
+}
+
+/// Five directories with heat below the root.
+const LOADS: &[u8] =
+    b"{\"dirfrags\":[{\"path\":\"/a\",\"pop_me\":{\"Decay Counters\":[{\"value\":6}]}},\
+{\"path\":\"/b\",\"pop_me\":{\"Decay Counters\":[{\"value\":5}]}},\
+{\"path\":\"/c\",\"pop_me\":{\"Decay Counters\":[{\"value\":4}]}},\
+{\"path\":\"/d/x\",\"pop_me\":{\"Decay Counters\":[{\"value\":1}]}},\
+{\"path\":\"/d\",\"pop_me\":{\"Decay Counters\":[{\"value\":3}]}}]}";
+
+/// The root at rank 0.
+const SUBTREES: &[u8] =
+    b"[{\"is_auth\":true,\"auth_first\":0,\"auth_second\":-2,\"export_pin\":-1,\"dir\":{\"path\":\"\"}}]";
+
+/// The entries of one directory.
+const LISTING: &[u8] = b"# file: c\nceph.dir.entries=\"7\"\n";
+
+/// The directories, as the dumps tell them.
+fn gathered(alloc: Global) -> Result<Snapshot, Refused> {
+    let mut all = Gathering::new(alloc)?;
+    let roots = read_subtrees(alloc, SUBTREES)?;
+    all.add_subtrees(Rank::default(), roots.as_slice())?;
+    let loads = read_loads(alloc, LOADS)?;
+    all.add_loads(Rank::default(), loads.as_slice())?;
+    let listing = read_listing(alloc, LISTING)?;
+    all.add_listing(listing.as_slice())?;
+    Ok(all.snapshot(1, 3)?)
+}
+
+/// A plan of these directories for three ranks, where nothing is pinned yet.
+fn proposed(alloc: Global, directories: &[Directory], spread: &[u64]) -> Result<Proposal, Refused> {
+    let holds = holds(alloc, directories)?;
+    if spread.len() != 64 {
+        return Err(Refused::Wrong);
+    }
+    let pinned = held_heat(alloc, directories, &holds, spread)?;
+    let rows = rows_of(alloc, directories, &holds)?;
+    let none = OwnPins {
+        foreign: None,
+        earlier: None,
+    };
+    let own = vec![in alloc; none; rows.len()]?;
+    let ranks = RankSet::from_bits(7);
+    if own.len() != rows.len() {
+        return Err(Refused::Wrong);
+    }
+    Ok(propose(alloc, &rows, Parts::Auto, &pinned, ranks, 0, &own)?)
+}
+
+/// How many directories are left of six, the greatest load, the bound, the inodes that move, and the changes of pins.
+fn answer(alloc: Global) -> Result<(usize, u64, u64, u64, usize), Refused> {
+    let snapshot = gathered(alloc)?;
+    let (directories, folded) = fold(alloc, snapshot.directories, 5)?;
+    if folded != 1 {
+        return Err(Refused::Wrong);
+    }
+    let found = proposed(alloc, directories.as_slice(), snapshot.spread.as_slice())?;
+    let packing = &found.plan.packing;
+    Ok((
+        directories.len(),
+        packing.greatest,
+        packing.bound,
+        found.plan.moved,
+        found.changes.len(),
+    ))
+}
+
+// With `rt try --test --fail-alloc N`, the N-th growth is refused: one turn at most lacks memory, and each other answers as ever.
+#[test]
+fn a_refused_growth_is_told(rt: HostRuntime) -> Result<(), Fail> {
+    let mut refused = 0u32;
+    for _ in 0..3 {
+        match answer(rt.alloc()) {
+            // /a and /b go, at an inode each; /c, and /d with what is folded into it, stay
+            Ok(found) => assert_eq!(rt; found, (5, 8000, 6334, 2, 4)),
+            Err(Refused::Memory) => refused = refused.saturating_add(1),
+            Err(Refused::Wrong) => assert!(rt; false, "refused for another cause"),
+        }
+    }
+    assert!(rt; refused <= 1);
+    Ok(())
+}
