@@ -193,7 +193,7 @@ fn a_list_of_commands_answers_as_single_calls(rt: HostRuntime) -> Result<(), Fai
     }
     let refused = listed.iter().filter(|answer| answer.is_err()).count();
     assert_eq!(rt; refused, 6);
-    assert_eq!(rt; after_list, after_calls);
+    assert!(rt; after_list == after_calls);
     assert_eq!(rt; after_list.history, 8);
     Ok(())
 }
@@ -225,7 +225,26 @@ fn both<J: Naming>(alloc: Global, mut shares: Vec<Share<J>>) -> Result<Vec<Share
     Ok(with_share(one, second)?)
 }
 
-/// The ledger closes over both shares, once. What needs no share goes on, and the reads stay.
+/// The ledger doesn't close without shares.
+fn miss_both<J: Naming, M: Publisher<J>>(
+    alloc: Global,
+    board: &mut Board<J, M>,
+) -> Result<(), Fail> {
+    let Err((Missing(2), _none)) = board.close(Vec::new(alloc)) else {
+        return Err("closed without its shares".into());
+    };
+    Ok(())
+}
+
+/// What needs no share goes on.
+fn go_on<J: Naming, M: Publisher<J>>(rt: &impl Abort, alloc: Global, board: &mut Board<J, M>) {
+    let before = board.history().len();
+    assert_eq!(rt; board.tick(), Ok(()));
+    assert_eq!(rt; board.make(alloc, Dir::new(1), "b", 1), Ok(Dir::new(2)));
+    assert_eq!(rt; board.history().len().checked_sub(before), Some(2));
+}
+
+/// The ledger closes over both shares, once, and the reads stay.
 fn close<J: Naming, M: Publisher<J>>(
     rt: &impl Abort,
     alloc: Global,
@@ -235,19 +254,13 @@ fn close<J: Naming, M: Publisher<J>>(
     requires { All IsClean shares.items }
 {
     let a = Dir::new(1);
-    let history = board.history().len();
-    let Err((Missing(2), _none)) = board.close(Vec::new(alloc)) else {
-        return Err("closed without its shares".into());
-    };
+    let before = board.history().len();
+    miss_both(alloc, board)?;
     assert!(rt; board.close(shares).is_ok());
-    let Err((Missing(2), _none)) = board.close(Vec::new(alloc)) else {
-        return Err("closed twice".into());
-    };
-    assert_eq!(rt; board.history().len(), history);
+    miss_both(alloc, board)?;
+    assert_eq!(rt; board.history().len(), before);
     assert_eq!(rt; (board.counted(a), board.begun(a)), (3, 1));
-    assert_eq!(rt; board.tick(), Ok(()));
-    assert_eq!(rt; board.make(alloc, a, "b", 1), Ok(Dir::new(2)));
-    assert_eq!(rt; board.history().len(), history + 2);
+    go_on(rt, alloc, board);
     Ok(())
 }
 

@@ -8,7 +8,7 @@ use mds_types::{Dir, Rank, RankSet};
 use naming::Naming;
 
 /// What is said of a directory.
-#[derive(Clone, Copy, Debug, PartialEq, Eq)]
+#[derive(Clone, Copy, PartialEq, Eq)]
 pub(crate) struct DirSaid {
     pin: Option<Rank>,
     heat: u64,
@@ -22,7 +22,7 @@ pub(crate) struct DirSaid {
 }
 
 /// What a board of two ranks says of itself and of its first four directories.
-#[derive(Clone, Copy, Debug, PartialEq, Eq)]
+#[derive(Clone, Copy, PartialEq, Eq)]
 pub(crate) struct Reading {
     rows: [Option<DirSaid>; 4],
     pub(crate) history: usize,

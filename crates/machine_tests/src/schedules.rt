@@ -5,6 +5,7 @@ use crate::steps::{Do, Row, cluster, event, played, rank, run_rows, to_the_log};
 use export_machine::{Cluster, ExporterState, ImporterState, JournalEntry, Reply, StepError};
 use mds_types::{Dir, Rank};
 use std::alloc::{AllocError, Global};
+use std::process::Abort;
 use std::test::Fail;
 
 #[test]
@@ -118,41 +119,89 @@ fn cancel_overtakes_discover(rt: HostRuntime) -> Result<(), Fail> {
     run_rows(&rt, rt.alloc(), &mut cluster, &rows)
 }
 
-#[test]
-fn aborts_before_the_log_entry_only(rt: HostRuntime) -> Result<(), Fail> {
-    // (rows of the schedule done, the abort's answer, the cancel's message)
-    let table = [
-        (2, Ok(Reply::Sent(1)), Some(1)),
-        (4, Ok(Reply::Sent(2)), Some(2)),
-        (5, Ok(Reply::Sent(3)), Some(3)),
-        (6, Ok(Reply::Sent(4)), Some(4)),
-        (7, Ok(Reply::Sent(5)), Some(5)),
-        (8, Ok(Reply::Sent(6)), Some(6)),
-        (9, Err(StepError::Late(ExporterState::Logged)), None),
-        (11, Err(StepError::Late(ExporterState::Done)), None),
-    ];
-    let log = to_the_log();
-    let ends = [
+/// The steps that end an export after its log entry.
+fn ends() -> [Row; 2] {
+    [
         (Do::Notify(0), Ok(Reply::Sent(6))),
         (Do::Deliver(6), Ok(Reply::Changed)),
+    ]
+}
+
+/// A cluster in which an export is aborted after so many of its steps, with this answer.
+fn aborted(
+    rt: &impl Abort,
+    alloc: Global,
+    done: usize,
+    answer: Result<Reply, StepError>,
+) -> Result<Cluster, Fail> {
+    let mut cluster = cluster(alloc)?;
+    for row in to_the_log().iter().chain(ends().iter()).take(done) {
+        run_rows(rt, alloc, &mut cluster, &[*row])?;
+    }
+    run_rows(rt, alloc, &mut cluster, &[(Do::Abort(0), answer)])?;
+    Ok(cluster)
+}
+
+/// The cancel of that export comes.
+fn cancelled(
+    rt: &impl Abort,
+    alloc: Global,
+    cluster: &mut Cluster,
+    message: u32,
+) -> Result<(), Fail> {
+    let row = (Do::Deliver(message), Ok(Reply::Changed));
+    run_rows(rt, alloc, cluster, &[row])?;
+    assert!(rt; cluster.serves(rank(0), Dir::new(1)));
+    Ok(())
+}
+
+#[test]
+fn aborts_before_the_log_entry_only(rt: HostRuntime) -> Result<(), Fail> {
+    // (steps of the export that are done, the abort's answer, the cancel's message, the importer's entries at last)
+    let table = [
+        (2, Ok(Reply::Sent(1)), Some(1), 0),
+        (4, Ok(Reply::Sent(2)), Some(2), 0),
+        (5, Ok(Reply::Sent(3)), Some(3), 0),
+        (6, Ok(Reply::Sent(4)), Some(4), 0),
+        (7, Ok(Reply::Sent(5)), Some(5), 0),
+        (8, Ok(Reply::Sent(6)), Some(6), 2),
+        (9, Err(StepError::Late(ExporterState::Logged)), None, 1),
+        (11, Err(StepError::Late(ExporterState::Done)), None, 2),
     ];
-    for (done, answer, cancel) in table {
-        let mut cluster = played(&rt, rt.alloc(), &log[..done.min(9)])?;
-        run_rows(&rt, rt.alloc(), &mut cluster, &ends[..done.max(9) - 9])?;
-        run_rows(&rt, rt.alloc(), &mut cluster, &[(Do::Abort(0), answer)])?;
-        let Some(message) = cancel else {
-            assert_eq!(rt; cluster.authority(Dir::new(1)), Some(rank(1)));
-            continue;
-        };
-        run_rows(
-            &rt,
-            rt.alloc(),
-            &mut cluster,
-            &[(Do::Deliver(message), Ok(Reply::Changed))],
-        )?;
-        assert!(rt; cluster.serves(rank(0), Dir::new(1)));
-        let dropped = done == 8;
-        assert_eq!(rt; cluster.journal(rank(1)).len(), if dropped { 2 } else { 0 });
+    for (done, answer, cancel, entries) in table {
+        let mut cluster = aborted(&rt, rt.alloc(), done, answer)?;
+        match cancel {
+            Some(message) => cancelled(&rt, rt.alloc(), &mut cluster, message)?,
+            None => assert_eq!(rt; cluster.authority(Dir::new(1)), Some(rank(1))),
+        }
+        assert_eq!(rt; cluster.journal(rank(1)).len(), entries, "{done}");
+    }
+    Ok(())
+}
+
+/// A message that was delivered is ignored.
+fn repeat(
+    rt: &impl Abort,
+    alloc: Global,
+    cluster: &mut Cluster,
+    message: u32,
+) -> Result<(), Fail> {
+    let row = (Do::Deliver(message), Ok(Reply::Ignored));
+    run_rows(rt, alloc, cluster, &[row])
+}
+
+/// Runs these rows, and delivers each message twice.
+fn run_twice(
+    rt: &impl Abort,
+    alloc: Global,
+    cluster: &mut Cluster,
+    rows: &[Row],
+) -> Result<(), Fail> {
+    for row in rows {
+        run_rows(rt, alloc, cluster, &[*row])?;
+        if let Do::Deliver(message) = row.0 {
+            repeat(rt, alloc, cluster, message)?;
+        }
     }
     Ok(())
 }
@@ -160,32 +209,10 @@ fn aborts_before_the_log_entry_only(rt: HostRuntime) -> Result<(), Fail> {
 #[test]
 fn twice_delivered_messages_change_nothing(rt: HostRuntime) -> Result<(), Fail> {
     let mut cluster = cluster(rt.alloc())?;
-    let all = to_the_log();
-    let rows = all.as_slice();
-    for at in 0..rows.len() {
-        run_rows(&rt, rt.alloc(), &mut cluster, &rows[at..at + 1])?;
-        if let Do::Deliver(message) = rows[at].0 {
-            run_rows(
-                &rt,
-                rt.alloc(),
-                &mut cluster,
-                &[(Do::Deliver(message), Ok(Reply::Ignored))],
-            )?;
-        }
-    }
-    let rows = [
-        (Do::Notify(0), Ok(Reply::Sent(6))),
-        (Do::Deliver(6), Ok(Reply::Changed)),
-        (Do::Deliver(6), Ok(Reply::Ignored)),
-    ];
-    run_rows(&rt, rt.alloc(), &mut cluster, &rows)?;
+    run_twice(&rt, rt.alloc(), &mut cluster, &to_the_log())?;
+    run_twice(&rt, rt.alloc(), &mut cluster, &ends())?;
     for message in 0..7 {
-        run_rows(
-            &rt,
-            rt.alloc(),
-            &mut cluster,
-            &[(Do::Deliver(message), Ok(Reply::Ignored))],
-        )?;
+        repeat(&rt, rt.alloc(), &mut cluster, message)?;
     }
     assert_eq!(rt; cluster.authority(Dir::new(1)), Some(rank(1)));
     assert_eq!(rt; cluster.journal(rank(0)).len(), 4);

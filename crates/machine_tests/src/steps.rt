@@ -75,7 +75,7 @@ pub(crate) type Row = (Do, Result<Reply, StepError>);
 type OfDir = (Option<Rank>, Option<Rank>, bool, bool);
 
 /// What a cluster of two ranks says of itself, of its first four directories and its first three exports.
-#[derive(Clone, Copy, Debug, PartialEq, Eq)]
+#[derive(Clone, Copy, PartialEq, Eq)]
 pub(crate) struct Reading {
     sent: u32,
     journals: (usize, usize),

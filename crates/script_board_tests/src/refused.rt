@@ -17,7 +17,7 @@ use std::test::Fail;
 use std::thread::Threads;
 
 /// What a board says of itself and of its first three directories.
-#[derive(Clone, Copy, Debug, PartialEq, Eq)]
+#[derive(Clone, Copy, PartialEq, Eq)]
 struct Reading {
     history: usize,
     numbers: u32,
@@ -106,7 +106,7 @@ fn commands<J: Naming, M: Publisher<J>>(
         let first = command(alloc, board, *next);
         if first.is_err() {
             assert_eq!(rt; first, Err(Fault::Memory), "{next:?}");
-            assert_eq!(rt; read(board), before, "{next:?}");
+            assert!(rt; read(board) == before, "{next:?}");
             assert_eq!(rt; command(alloc, board, *next), Ok(()), "{next:?}");
         }
     }
@@ -123,7 +123,7 @@ fn planned<J: Naming, M: Publisher<J>>(
     let first = board.plan(threads, alloc);
     if first.is_err() {
         assert_eq!(rt; first, Err(Fault::Memory));
-        assert_eq!(rt; read(board), before);
+        assert!(rt; read(board) == before);
         assert_eq!(rt; board.plan(threads, alloc), Ok(()));
     }
 }
@@ -138,7 +138,7 @@ fn moved<J: Naming, M: Publisher<J>>(
     match board.carry_out_moves(alloc) {
         Ok(moves) => Ok(moves),
         Err(AllocError) => {
-            assert_eq!(rt; read(board), before);
+            assert!(rt; read(board) == before);
             board.carry_out_moves(alloc)
         }
     }
@@ -154,7 +154,7 @@ fn gone<J: Naming, M: Publisher<J>>(
     match board.go(alloc) {
         Ok(refused) => Ok(refused),
         Err(AllocError) => {
-            assert_eq!(rt; read(board), before);
+            assert!(rt; read(board) == before);
             board.go(alloc)
         }
     }
@@ -208,7 +208,7 @@ fn costs<J: Naming, M: Publisher<J>>(
     let first = board.cost(alloc, &["/", "/b"]);
     if first.is_err() {
         assert_eq!(rt; first.err(), Some(Fault::Memory));
-        assert_eq!(rt; read(board), before);
+        assert!(rt; read(board) == before);
     }
     let Ok(parts) = board.cost(alloc, &["/", "/b"]) else {
         return Err("no parts".into());
