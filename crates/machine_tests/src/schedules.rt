@@ -134,10 +134,9 @@ fn aborted(
     done: usize,
     answer: Result<Reply, StepError>,
 ) -> Result<Cluster, Fail> {
-    let mut cluster = cluster(alloc)?;
-    for row in to_the_log().iter().chain(ends().iter()).take(done) {
-        run_rows(rt, alloc, &mut cluster, &[*row])?;
-    }
+    let (log, ends) = (to_the_log(), ends());
+    let mut cluster = played(rt, alloc, &log[..done.min(9)])?;
+    run_rows(rt, alloc, &mut cluster, &ends[..done.max(9).min(11) - 9])?;
     run_rows(rt, alloc, &mut cluster, &[(Do::Abort(0), answer)])?;
     Ok(cluster)
 }
@@ -197,10 +196,10 @@ fn run_twice(
     cluster: &mut Cluster,
     rows: &[Row],
 ) -> Result<(), Fail> {
-    for row in rows {
-        run_rows(rt, alloc, cluster, &[*row])?;
-        if let Do::Deliver(message) = row.0 {
-            repeat(rt, alloc, cluster, message)?;
+    for (step, want) in rows {
+        run_rows(rt, alloc, cluster, &[(*step, *want)])?;
+        if let Do::Deliver(message) = step {
+            repeat(rt, alloc, cluster, *message)?;
         }
     }
     Ok(())
