@@ -179,12 +179,7 @@ fn aborts_before_the_log_entry_only(rt: HostRuntime) -> Result<(), Fail> {
 }
 
 /// A message that was delivered is ignored.
-fn repeat(
-    rt: &impl Abort,
-    alloc: Global,
-    cluster: &mut Cluster,
-    message: u32,
-) -> Result<(), Fail> {
+fn repeat(rt: &impl Abort, alloc: Global, cluster: &mut Cluster, message: u32) -> Result<(), Fail> {
     let row = (Do::Deliver(message), Ok(Reply::Ignored));
     run_rows(rt, alloc, cluster, &[row])
 }
