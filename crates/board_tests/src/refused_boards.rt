@@ -1,4 +1,4 @@
-//! A board that is opened, and a plan that is read back, while a growth is refused.
+//! A board that is opened or divided, and a plan that is read back, while a growth is refused.
 //!
 //! With `rt try --test --fail-alloc N`, the N-th growth is refused.
 
@@ -8,6 +8,7 @@ use arrayvec::ArrayVec;
 use board_problem::{OpenError, Opened, PlanPart, open, parts};
 use dir_pins::Pins;
 use dirtree::{Tree, TreeError};
+use division_cost::Part;
 use heat_decay::Heat;
 use mds_types::{CutProof, Dir, DualProof, Plan, ProblemRow, Rank, RankSet};
 use std::alloc::{AllocError, Global};
@@ -195,5 +196,46 @@ fn a_refused_growth_changes_nothing(rt: HostRuntime) -> Result<(), Fail> {
         }
     };
     assert!(rt; are_the_parts(&found));
+    Ok(())
+}
+
+/// The parts below three tops in the end. Where they were refused memory, the board is as one that was never divided.
+fn divided_at_last(
+    rt: &impl Abort,
+    alloc: Global,
+    board: &Board,
+    is_top: &[bool],
+) -> Result<Vec<Part>, Fail>
+    requires tree { board.now.tree.limit ≡ 16 }
+    requires pins { length board.now.pins.own ≡ 16 }
+    requires heat { board.now.heat.limit ≡ 16 }
+{
+    let (tree, pins, heat) = (&board.tree, &board.pins, &board.heat);
+    assert!(rt; is_top.len() == tree.numbers() as usize);
+    assert!(rt; is_top.first() == Some(&true));
+    match division_cost::parts(alloc, tree, pins, heat, is_top) {
+        Ok(found) => Ok(found),
+        Err(AllocError) => {
+            assert!(rt; is_same(board, &new_board(alloc)?));
+            Ok(division_cost::parts(alloc, tree, pins, heat, is_top)?)
+        }
+    }
+}
+
+#[test]
+fn a_refused_growth_divides_nothing(rt: HostRuntime) -> Result<(), Fail> {
+    let alloc = rt.alloc();
+    let board = board_at_last(alloc)?;
+    let is_top = [true, false, true, false, true, false, false, false, false];
+    let found = divided_at_last(&rt, alloc, &board, &is_top)?;
+    // (top, heat, inodes)
+    let table = [(0, 3, 11), (2, 9, 70), (4, 14, 120)];
+    assert_eq!(rt; found.len(), table.len());
+    for (part, (top, heat, inodes)) in found.iter().zip(&table) {
+        assert_eq!(rt;
+            (part.top, part.heat, part.inodes),
+            (Dir::new(*top), *heat, *inodes)
+        );
+    }
     Ok(())
 }

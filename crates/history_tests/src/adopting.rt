@@ -8,18 +8,18 @@ use board_state::{Answer, BoardError};
 use export_machine::{Event, Reply};
 use heat_ledger::Share;
 use mds_board::Board;
-use mds_types::{CutProof, Dir, DualProof, Order, Plan, RankSet};
+use mds_types::{CutProof, Dir, DualProof, Order, Plan, Rank, RankSet};
 use naming::Naming;
-use std::alloc::Global;
+use std::alloc::{AllocError, Global};
 use std::marker::Brand;
 use std::process::Abort;
 use std::sync::Wait;
 use std::test::Fail;
 
 // Root and /a, which has 5 hits and 10 inodes, go to rank 1 together. It says that the greatest heat is this.
-fn plan(alloc: Global, greatest: u64) -> Result<Plan, Fail> {
+pub(crate) fn plan(alloc: Global, greatest: u64) -> Result<Plan, AllocError> {
     let mut ranks = ArrayVec::new();
-    let _full = ranks.try_push(rank(1)?);
+    let _full = ranks.try_push(Rank::new(1).unwrap_or_default());
     Ok(Plan {
         part: vec![in alloc; 0, 0]?,
         rank: ranks,

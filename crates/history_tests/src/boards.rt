@@ -1,7 +1,7 @@
 //! Boards to test.
 ghost use Rattle.std.specs.Prelude.{◌≡◌, ◌≤◌};
 
-use authority_map::{MapReader, MapWriter};
+use authority_map::{MapReader, MapWriter, Publisher};
 use board_state::BoardParts;
 use heat_ledger::Share;
 use mds_board::Board;
@@ -32,6 +32,47 @@ pub(crate) fn open<J: Naming, R: Wait + Drop>(
         return Err("no map".into());
     };
     match Board::new(alloc, BoardParts::new(book, writer), limit, ranks) {
+        Ok((board, shares)) => Ok((board, shares, readers)),
+        Err(parts) => {
+            parts.end();
+            Err("no board".into())
+        }
+    }
+}
+
+/// Such a board of two ranks with room for eight directories, opened again where memory was refused.
+pub(crate) fn open_at_last<J: Naming, R: Wait + Drop + Copy>(
+    rt: R,
+    alloc: Global,
+    book: heat_ledger::Opened,
+    map: authority_map::Opened,
+) -> Result<Made<J, R>, Fail>
+    requires book { book ≡ J.ledger }
+    requires map { map ≡ J.map }
+    requires limit { J.limit ≡ 8 }
+{
+    let map = match MapWriter::<J, R>::open(rt, alloc, map, 8, 1) {
+        Ok((writer, readers)) => return made_at_last(alloc, BoardParts::new(book, writer), readers),
+        Err((_error, map)) => map,
+    };
+    match MapWriter::<J, R>::open(rt, alloc, map, 8, 1) {
+        Ok((writer, readers)) => made_at_last(alloc, BoardParts::new(book, writer), readers),
+        Err((_error, _map)) => Err("no map".into()),
+    }
+}
+
+fn made_at_last<J: Naming, M: Publisher<J>>(
+    alloc: Global,
+    parts: BoardParts<J, M>,
+    readers: Vec<MapReader<J>>,
+) -> Result<(Board<J, M>, Vec<Share<J>>, Vec<MapReader<J>>), Fail>
+    requires limit { J.limit ≡ 8 }
+{
+    let parts = match Board::new(alloc, parts, 8, 2) {
+        Ok((board, shares)) => return Ok((board, shares, readers)),
+        Err(parts) => parts,
+    };
+    match Board::new(alloc, parts, 8, 2) {
         Ok((board, shares)) => Ok((board, shares, readers)),
         Err(parts) => {
             parts.end();

@@ -12,6 +12,10 @@ mod changes;
 #[cfg(test)]
 mod choices;
 #[cfg(test)]
+mod full;
+#[cfg(test)]
+mod lists;
+#[cfg(test)]
 mod plain;
 #[cfg(test)]
 mod plain_cluster;
@@ -21,3 +25,7 @@ mod plain_plans;
 mod plain_solver;
 #[cfg(test)]
 mod random_changes;
+#[cfg(test)]
+mod refused;
+#[cfg(test)]
+mod said;

@@ -5,16 +5,17 @@ ghost use Rattle.board_state.specs.Steps.{is_inner};
 use crate::agreeing::{agree, agree_at_rest};
 use crate::boards::open;
 use crate::choices::Random;
+use crate::lists::Idle;
 use crate::plain::{LIMIT, NAMES, Plain, RANKS, counted};
 use crate::plain_solver::solve;
 use authority_map::{MapReader, Publisher};
-use board_state::{BoardError, Change, Solver};
+use board_state::{BoardError, Change};
 use export_machine::{Event, ExporterState, ImporterState};
 use heat_ledger::Share;
 use mds_board::{Board, Entry};
-use mds_types::{Dir, Dirs, Order, Plan, Problem, RankSet};
+use mds_types::{Dir, Dirs, Order, Plan, RankSet};
 use naming::Naming;
-use std::alloc::{AllocError, Global};
+use std::alloc::Global;
 use std::marker::Brand;
 use std::process::Abort;
 use std::sync::Wait;
@@ -27,15 +28,6 @@ const CHANGES: u32 = 2_000;
 const MOST: usize = 12;
 
 const PINS: [i32; 7] = [-2, -1, -1, 0, 1, 3, 4];
-
-/// Who never has memory for a plan.
-struct Idle;
-
-impl Solver for Idle {
-    fn solve(&self, _alloc: Global, _problem: &Problem) -> Result<Plan, AllocError> {
-        Err(AllocError)
-    }
-}
 
 fn make<J: Naming, M: Publisher<J>>(
     rt: &impl Abort,

@@ -1,9 +1,11 @@
 //! Whole exports, aborts, and messages that come late or twice.
 
-use crate::steps::{Do, cluster, event, played, rank, run_rows, to_the_log};
+use crate::starts::run_prepared;
+use crate::steps::{Do, Row, cluster, event, played, rank, run_rows, to_the_log};
 use export_machine::{Cluster, ExporterState, ImporterState, JournalEntry, Reply, StepError};
 use mds_types::{Dir, Rank};
 use std::alloc::{AllocError, Global};
+use std::process::Abort;
 use std::test::Fail;
 
 #[test]
@@ -117,41 +119,83 @@ fn cancel_overtakes_discover(rt: HostRuntime) -> Result<(), Fail> {
     run_rows(&rt, rt.alloc(), &mut cluster, &rows)
 }
 
-#[test]
-fn aborts_before_the_log_entry_only(rt: HostRuntime) -> Result<(), Fail> {
-    // (rows of the schedule done, the abort's answer, the cancel's message)
-    let table = [
-        (2, Ok(Reply::Sent(1)), Some(1)),
-        (4, Ok(Reply::Sent(2)), Some(2)),
-        (5, Ok(Reply::Sent(3)), Some(3)),
-        (6, Ok(Reply::Sent(4)), Some(4)),
-        (7, Ok(Reply::Sent(5)), Some(5)),
-        (8, Ok(Reply::Sent(6)), Some(6)),
-        (9, Err(StepError::Late(ExporterState::Logged)), None),
-        (11, Err(StepError::Late(ExporterState::Done)), None),
-    ];
-    let log = to_the_log();
-    let ends = [
+/// The steps that end an export after its log entry.
+fn ends() -> [Row; 2] {
+    [
         (Do::Notify(0), Ok(Reply::Sent(6))),
         (Do::Deliver(6), Ok(Reply::Changed)),
+    ]
+}
+
+/// A cluster in which an export is aborted after so many of its steps, with this answer.
+fn aborted(
+    rt: &impl Abort,
+    alloc: Global,
+    done: usize,
+    answer: Result<Reply, StepError>,
+) -> Result<Cluster, Fail> {
+    let (log, ends) = (to_the_log(), ends());
+    let mut cluster = played(rt, alloc, &log[..done.min(9)])?;
+    run_rows(rt, alloc, &mut cluster, &ends[..done.max(9).min(11) - 9])?;
+    run_rows(rt, alloc, &mut cluster, &[(Do::Abort(0), answer)])?;
+    Ok(cluster)
+}
+
+/// The cancel of that export comes.
+fn cancelled(
+    rt: &impl Abort,
+    alloc: Global,
+    cluster: &mut Cluster,
+    message: u32,
+) -> Result<(), Fail> {
+    let row = (Do::Deliver(message), Ok(Reply::Changed));
+    run_rows(rt, alloc, cluster, &[row])?;
+    assert!(rt; cluster.serves(rank(0), Dir::new(1)));
+    Ok(())
+}
+
+#[test]
+fn aborts_before_the_log_entry_only(rt: HostRuntime) -> Result<(), Fail> {
+    // (steps of the export that are done, the abort's answer, the cancel's message, the importer's entries at last)
+    let table = [
+        (2, Ok(Reply::Sent(1)), Some(1), 0),
+        (4, Ok(Reply::Sent(2)), Some(2), 0),
+        (5, Ok(Reply::Sent(3)), Some(3), 0),
+        (6, Ok(Reply::Sent(4)), Some(4), 0),
+        (7, Ok(Reply::Sent(5)), Some(5), 0),
+        (8, Ok(Reply::Sent(6)), Some(6), 2),
+        (9, Err(StepError::Late(ExporterState::Logged)), None, 1),
+        (11, Err(StepError::Late(ExporterState::Done)), None, 2),
     ];
-    for (done, answer, cancel) in table {
-        let mut cluster = played(&rt, rt.alloc(), &log[..done.min(9)])?;
-        run_rows(&rt, rt.alloc(), &mut cluster, &ends[..done.max(9) - 9])?;
-        run_rows(&rt, rt.alloc(), &mut cluster, &[(Do::Abort(0), answer)])?;
-        let Some(message) = cancel else {
-            assert_eq!(rt; cluster.authority(Dir::new(1)), Some(rank(1)));
-            continue;
-        };
-        run_rows(
-            &rt,
-            rt.alloc(),
-            &mut cluster,
-            &[(Do::Deliver(message), Ok(Reply::Changed))],
-        )?;
-        assert!(rt; cluster.serves(rank(0), Dir::new(1)));
-        let dropped = done == 8;
-        assert_eq!(rt; cluster.journal(rank(1)).len(), if dropped { 2 } else { 0 });
+    for (done, answer, cancel, entries) in table {
+        let mut cluster = aborted(&rt, rt.alloc(), done, answer)?;
+        match cancel {
+            Some(message) => cancelled(&rt, rt.alloc(), &mut cluster, message)?,
+            None => assert_eq!(rt; cluster.authority(Dir::new(1)), Some(rank(1))),
+        }
+        assert_eq!(rt; cluster.journal(rank(1)).len(), entries, "{done}");
+    }
+    Ok(())
+}
+
+/// A message that was delivered is ignored.
+fn repeat(rt: &impl Abort, alloc: Global, cluster: &mut Cluster, message: u32) -> Result<(), Fail> {
+    let row = (Do::Deliver(message), Ok(Reply::Ignored));
+    run_rows(rt, alloc, cluster, &[row])
+}
+
+/// Runs these rows, and delivers each message twice.
+fn run_twice(
+    rt: &impl Abort,
+    alloc: Global,
+    cluster: &mut Cluster,
+    rows: &[Row],
+) -> Result<(), Fail> {
+    for (step, want) in rows {
+        run_rows(rt, alloc, cluster, &[(*step, *want)])?;
+        if let Do::Deliver(message) = step {
+            repeat(rt, alloc, cluster, *message)?;
+        }
     }
     Ok(())
 }
@@ -159,32 +203,10 @@ fn aborts_before_the_log_entry_only(rt: HostRuntime) -> Result<(), Fail> {
 #[test]
 fn twice_delivered_messages_change_nothing(rt: HostRuntime) -> Result<(), Fail> {
     let mut cluster = cluster(rt.alloc())?;
-    let all = to_the_log();
-    let rows = all.as_slice();
-    for at in 0..rows.len() {
-        run_rows(&rt, rt.alloc(), &mut cluster, &rows[at..at + 1])?;
-        if let Do::Deliver(message) = rows[at].0 {
-            run_rows(
-                &rt,
-                rt.alloc(),
-                &mut cluster,
-                &[(Do::Deliver(message), Ok(Reply::Ignored))],
-            )?;
-        }
-    }
-    let rows = [
-        (Do::Notify(0), Ok(Reply::Sent(6))),
-        (Do::Deliver(6), Ok(Reply::Changed)),
-        (Do::Deliver(6), Ok(Reply::Ignored)),
-    ];
-    run_rows(&rt, rt.alloc(), &mut cluster, &rows)?;
+    run_twice(&rt, rt.alloc(), &mut cluster, &to_the_log())?;
+    run_twice(&rt, rt.alloc(), &mut cluster, &ends())?;
     for message in 0..7 {
-        run_rows(
-            &rt,
-            rt.alloc(),
-            &mut cluster,
-            &[(Do::Deliver(message), Ok(Reply::Ignored))],
-        )?;
+        repeat(&rt, rt.alloc(), &mut cluster, message)?;
     }
     assert_eq!(rt; cluster.authority(Dir::new(1)), Some(rank(1)));
     assert_eq!(rt; cluster.journal(rank(0)).len(), 4);
@@ -254,18 +276,50 @@ fn roots_follow_the_log_entry(rt: HostRuntime) -> Result<(), Fail> {
     Ok(())
 }
 
-/// What a small cluster has after an export and some more, growths refused or not.
-#[test]
-fn a_refused_growth_changes_nothing(rt: HostRuntime) -> Result<(), Fail> {
-    let mut cluster = played(&rt, rt.alloc(), &to_the_log())?;
-    let rows = [
+/// Directory 1 has moved to rank 1. Here each further kind of event is accepted.
+fn further() -> [Row; 21] {
+    [
         (Do::Notify(0), Ok(Reply::Sent(6))),
         (Do::Deliver(6), Ok(Reply::Changed)),
         (Do::Make(1), Ok(Reply::Dir(Dir::new(2)))),
         (Do::Begin(1, 2), Ok(Reply::Ticket(0))),
-    ];
-    run_rows(&rt, rt.alloc(), &mut cluster, &rows)?;
+        (Do::End(0), Ok(Reply::Changed)),
+        (Do::Remove(2), Ok(Reply::Changed)),
+        (Do::Start(1, 0, &[1]), Ok(Reply::Export(1, 7))),
+        (Do::Deliver(7), Ok(Reply::Sent(8))),
+        (Do::Deliver(8), Ok(Reply::Changed)),
+        (Do::Froze(1), Ok(Reply::Sent(9))),
+        (Do::Deliver(9), Ok(Reply::Sent(10))),
+        (Do::Deliver(10), Ok(Reply::Sent(11))),
+        (Do::Deliver(11), Ok(Reply::Sent(12))),
+        (Do::Stop(1), Ok(Reply::Changed)),
+        (Do::Ask(1), Ok(Reply::Sent(13))),
+        (Do::Restart(1), Ok(Reply::Changed)),
+        (Do::Deliver(13), Ok(Reply::Sent(14))),
+        (Do::Deliver(14), Ok(Reply::Changed)),
+        (Do::Make(1), Ok(Reply::Dir(Dir::new(3)))),
+        (Do::Start(1, 0, &[1, 3]), Ok(Reply::Export(2, 15))),
+        (Do::Abort(2), Ok(Reply::Sent(16))),
+    ]
+}
+
+/// What a small cluster has after each kind of event, growths refused or not.
+#[test]
+fn a_refused_growth_changes_nothing(rt: HostRuntime) -> Result<(), Fail> {
+    let mut cluster = played(&rt, rt.alloc(), &to_the_log())?;
+    run_rows(&rt, rt.alloc(), &mut cluster, &further())?;
     assert_eq!(rt; roots(rt.alloc(), &cluster)?.len(), 2);
-    assert_eq!(rt; cluster.authority(Dir::new(2)), Some(rank(1)));
+    assert_eq!(rt; cluster.authority(Dir::new(3)), Some(rank(1)));
+    assert_eq!(rt; cluster.sent(), 17);
+    Ok(())
+}
+
+/// The same events, each prepared first.
+#[test]
+fn a_refused_growth_leaves_what_is_prepared(rt: HostRuntime) -> Result<(), Fail> {
+    let mut cluster = cluster(rt.alloc())?;
+    run_prepared(&rt, rt.alloc(), &mut cluster, &to_the_log())?;
+    run_prepared(&rt, rt.alloc(), &mut cluster, &further())?;
+    assert_eq!(rt; cluster.authority(Dir::new(3)), Some(rank(1)));
     Ok(())
 }

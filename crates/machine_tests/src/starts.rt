@@ -1,6 +1,6 @@
 //! Which lists of directories can be exported, and events that are prepared.
 
-use crate::steps::{Do, answer, cluster, event, rank, to_the_log};
+use crate::steps::{Do, Row, answer, cluster, event, rank, to_the_log, written};
 use export_machine::{Cluster, Event, ExporterState, Reply, StepError};
 use mds_types::Dir;
 use std::alloc::Global;
@@ -60,11 +60,12 @@ fn can_apply_names_the_refusal_of_a_start(rt: HostRuntime) -> Result<(), Fail> {
     Ok(())
 }
 
-/// An event that is prepared, and then happens.
+/// An event that is prepared, and then happens. Where a growth is refused nothing has changed, and it is prepared again.
 fn happened(cluster: &mut Cluster, event: Event) -> Result<Reply, StepError> {
+    let before = written(cluster);
     match cluster.prepare(&event) {
         Ok(()) => Ok(cluster.happen(event)),
-        Err(StepError::Memory) => {
+        Err(StepError::Memory) if written(cluster) == before => {
             cluster.prepare(&event)?;
             Ok(cluster.happen(event))
         }
@@ -72,13 +73,24 @@ fn happened(cluster: &mut Cluster, event: Event) -> Result<Reply, StepError> {
     }
 }
 
+/// Runs a schedule in which each event is prepared first.
+pub(crate) fn run_prepared(
+    rt: &impl Abort,
+    alloc: Global,
+    cluster: &mut Cluster,
+    rows: &[Row],
+) -> Result<(), Fail> {
+    for (step, want) in rows {
+        let next = event(alloc, *step)?;
+        assert_eq!(rt; happened(cluster, next), *want, "{step:?}");
+    }
+    Ok(())
+}
+
 #[test]
 fn prepared_events_happen(rt: HostRuntime) -> Result<(), Fail> {
     let mut cluster = cluster(rt.alloc())?;
-    for (step, want) in to_the_log() {
-        let next = event(rt.alloc(), step)?;
-        assert_eq!(rt; happened(&mut cluster, next), want, "{step:?}");
-    }
+    run_prepared(&rt, rt.alloc(), &mut cluster, &to_the_log())?;
     let refused = event(rt.alloc(), Do::Abort(0))?;
     let late = Err(StepError::Late(ExporterState::Logged));
     assert_eq!(rt; happened(&mut cluster, refused), late);

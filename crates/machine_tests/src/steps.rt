@@ -3,7 +3,7 @@
 //! What asks for memory is asked again where a growth was refused, and must have changed nothing by then. So the tests
 //! hold with any one growth refused.
 
-use export_machine::{Cluster, Event, Reply, StepError};
+use export_machine::{Cluster, Event, ExporterState, ImporterState, Reply, StepError};
 use mds_types::{Dir, Dirs, Rank};
 use std::alloc::{AllocError, Global};
 use std::process::Abort;
@@ -71,13 +71,43 @@ pub(crate) fn event(alloc: Global, step: Do) -> Result<Event, AllocError> {
 /// A step, and its answer.
 pub(crate) type Row = (Do, Result<Reply, StepError>);
 
-/// How much a cluster has written.
-fn written(cluster: &Cluster) -> (u32, usize, usize) {
+/// What a cluster says of a directory: its authority, the rank that the map names, and whether ranks 0 and 1 serve it.
+type OfDir = (Option<Rank>, Option<Rank>, bool, bool);
+
+/// What a cluster of two ranks says of itself, of its first four directories and its first three exports.
+#[derive(Clone, Copy, PartialEq, Eq)]
+pub(crate) struct Reading {
+    sent: u32,
+    journals: (usize, usize),
+    dirs: [OfDir; 4],
+    exports: [Option<(ExporterState, ImporterState)>; 3],
+}
+
+fn of_dir(cluster: &Cluster, number: u32) -> OfDir {
+    let dir = Dir::new(number);
     (
-        cluster.sent(),
-        cluster.journal(rank(0)).len(),
-        cluster.journal(rank(1)).len(),
+        cluster.authority(dir),
+        cluster.named(dir),
+        cluster.serves(rank(0), dir),
+        cluster.serves(rank(1), dir),
     )
+}
+
+pub(crate) fn written(cluster: &Cluster) -> Reading {
+    Reading {
+        sent: cluster.sent(),
+        journals: (
+            cluster.journal(rank(0)).len(),
+            cluster.journal(rank(1)).len(),
+        ),
+        dirs: [
+            of_dir(cluster, 0),
+            of_dir(cluster, 1),
+            of_dir(cluster, 2),
+            of_dir(cluster, 3),
+        ],
+        exports: [cluster.states(0), cluster.states(1), cluster.states(2)],
+    }
 }
 
 /// The answer to a step, which is taken again where memory was wanting.

@@ -8,4 +8,6 @@ mod many;
 #[cfg(test)]
 mod moves;
 #[cfg(test)]
+mod refused;
+#[cfg(test)]
 mod steps;

@@ -1,7 +1,7 @@
 //! Script's boards of two ranks with room for eight directories.
 ghost use Rattle.std.specs.Prelude.{◌≡◌};
 
-use authority_map::{MapWriter, Publisher};
+use authority_map::{MapReader, MapWriter, Publisher};
 use board_state::BoardParts;
 use mds_types::Rank;
 use naming::Naming;
@@ -41,4 +41,49 @@ pub(crate) fn open<J: Naming, R: Wait + Drop>(
 /// The rank of a number.
 pub(crate) fn rank(number: u8) -> Result<Rank, Fail> {
     Ok(Rank::new(number).ok_or("no rank")?)
+}
+
+/// Such a board, opened again where memory was refused.
+pub(crate) fn open_at_last<J: Naming, R: Wait + Drop + Copy>(
+    rt: R,
+    alloc: Global,
+    book: heat_ledger::Opened,
+    map: authority_map::Opened,
+) -> Result<ScriptBoard<J, MapWriter<J, R>>, Fail>
+    requires book { book ≡ J.ledger }
+    requires map { map ≡ J.map }
+    requires limit { J.limit ≡ 8 }
+{
+    let map = match MapWriter::<J, R>::open(rt, alloc, map, 8, 1) {
+        Ok((writer, readers)) => return made_at_last(alloc, BoardParts::new(book, writer), readers),
+        Err((_error, map)) => map,
+    };
+    match MapWriter::<J, R>::open(rt, alloc, map, 8, 1) {
+        Ok((writer, readers)) => made_at_last(alloc, BoardParts::new(book, writer), readers),
+        Err((_error, _map)) => Err("no map".into()),
+    }
+}
+
+fn made_at_last<J: Naming, M: Publisher<J>>(
+    alloc: Global,
+    parts: BoardParts<J, M>,
+    mut readers: Vec<MapReader<J>>,
+) -> Result<ScriptBoard<J, M>, Fail>
+    requires limit { J.limit ≡ 8 }
+{
+    let Some(reader) = readers.pop() else {
+        parts.end();
+        return Err("no reader".into());
+    };
+    let parts = match ScriptBoard::new(alloc, Parts::new(parts, reader), 8, 2) {
+        Ok(board) => return Ok(board),
+        Err(parts) => parts,
+    };
+    match ScriptBoard::new(alloc, parts, 8, 2) {
+        Ok(board) => Ok(board),
+        Err(parts) => {
+            parts.end();
+            Err("no board".into())
+        }
+    }
 }

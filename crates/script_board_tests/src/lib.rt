@@ -4,6 +4,10 @@
 #[cfg(test)]
 mod boards;
 #[cfg(test)]
+mod full;
+#[cfg(test)]
 mod moves;
+#[cfg(test)]
+mod refused;
 #[cfg(test)]
 mod requests;

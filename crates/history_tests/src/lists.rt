@@ -1,0 +1,309 @@
+//! Lists of commands beside single calls, and boards whose ledger is closed.
+ghost use Rattle.std.specs.Prelude.{◌≡◌, All, IfOk, true};
+ghost use Rattle.board_state.specs.Steps.{is_inner};
+ghost use Rattle.heat_ledger.specs.Ledger.{IsClean};
+ghost use Rattle.mds_board.specs.Commands.{is_fit};
+
+use crate::boards::open;
+use crate::said::{Reading, said};
+use authority_map::{MapReader, Publisher};
+use board_state::{Answer, BoardError, Name, Solver};
+use export_machine::Event;
+use heat_ledger::{Missing, Share};
+use mds_board::{Board, Command};
+use mds_types::{Dir, Plan, Problem, Rank, RankSet};
+use naming::Naming;
+use std::alloc::{AllocError, Global};
+use std::marker::Brand;
+use std::process::Abort;
+use std::sync::Wait;
+use std::test::Fail;
+
+/// Who never has memory for a plan.
+pub(crate) struct Idle;
+
+impl Solver for Idle {
+    fn solve(&self, _alloc: Global, _problem: &Problem) -> Result<Plan, AllocError> {
+        Err(AllocError)
+    }
+}
+
+type Given = Result<Answer, BoardError>;
+
+fn with(commands: Vec<Command>, command: Command) -> Result<Vec<Command>, AllocError>
+    requires all { All (λ c. is_fit c ≡ true) commands.items }
+    requires fit { is_fit command ≡ true }
+    ensures { IfOk result (λ commands. All (λ c. is_fit c ≡ true) commands.items) }
+{
+    let mut commands = commands;
+    commands.push(command)?;
+    Ok(commands)
+}
+
+fn make(alloc: Global, parent: u32, name: &str) -> Result<Command, AllocError>
+    ensures { IfOk result (λ command. is_fit command ≡ true) }
+{
+    Ok(Command::Make(Dir::new(parent), Name::new(alloc, name)?, 10))
+}
+
+fn rank() -> Rank {
+    Rank::new(1).unwrap_or_default()
+}
+
+/// Commands of the tree and the settings, accepted and refused.
+fn settings(alloc: Global) -> Result<Vec<Command>, AllocError>
+    ensures { IfOk result (λ commands. All (λ c. is_fit c ≡ true) commands.items) }
+{
+    let list = with(Vec::new(alloc), make(alloc, 0, "a")?)?;
+    let list = with(list, make(alloc, 0, "a")?)?;
+    let list = with(list, make(alloc, 1, "b")?)?;
+    let list = with(list, Command::Pin(Dir::new(1), 1))?;
+    let list = with(list, Command::Pin(Dir::new(1), 2))?;
+    let list = with(list, Command::Balance)?;
+    let list = with(list, Command::Mask(RankSet::from_bits(3)))?;
+    with(list, Command::Tick)
+}
+
+/// These, and then events of the cluster, a plan without memory, and two removals.
+fn commands(alloc: Global) -> Result<Vec<Command>, AllocError>
+    ensures { IfOk result (λ commands. All (λ c. is_fit c ≡ true) commands.items) }
+{
+    let list = settings(alloc)?;
+    let list = with(list, Command::Step(Event::Stop(rank())))?;
+    let list = with(list, Command::Step(Event::Stop(rank())))?;
+    let list = with(list, Command::Step(Event::Restart(rank())))?;
+    let list = with(list, Command::Balance)?;
+    let list = with(list, Command::Remove(Dir::new(1)))?;
+    with(list, Command::Remove(Dir::new(2)))
+}
+
+/// The same asked for by a call of its own.
+fn asked<J: Naming, M: Publisher<J>>(
+    alloc: Global,
+    board: &mut Board<J, M>,
+    command: &Command,
+) -> Given
+    requires { is_fit command.now ≡ true }
+{
+    match command {
+        Command::Make(parent, name, inodes) => board
+            .make(alloc, *parent, name.as_str(), *inodes)
+            .map(|dir| Answer::Dir(dir)),
+        Command::Remove(dir) => board.remove(*dir).map(|()| Answer::Done),
+        Command::Pin(dir, pin) => board.set_pin(*dir, *pin).map(|()| Answer::Done),
+        Command::Mask(mask) => board.set_mask(*mask).map(|()| Answer::Done),
+        Command::Tick => board.tick().map(|()| Answer::Done),
+        Command::Step(event) => step(alloc, board, event),
+        Command::Balance => match board.balance(alloc, &Idle) {
+            Ok(_orders) => Ok(Answer::Done),
+            Err(error) => Err(error),
+        },
+    }
+}
+
+fn step<J: Naming, M: Publisher<J>>(alloc: Global, board: &mut Board<J, M>, event: &Event) -> Given
+    requires { is_inner event.now ≡ true }
+{
+    match event.copied(alloc) {
+        Ok(copy) => board.step(alloc, copy).map(|reply| Answer::Reply(reply)),
+        Err(AllocError) => Err(BoardError::Memory),
+    }
+}
+
+fn is_same(one: &Given, other: &Given) -> bool {
+    match (one, other) {
+        (Err(one), Err(other)) => one == other,
+        (Ok(Answer::Dir(one)), Ok(Answer::Dir(other))) => one == other,
+        (Ok(Answer::Reply(one)), Ok(Answer::Reply(other))) => one == other,
+        (Ok(Answer::Done), Ok(Answer::Done)) => true,
+        _ => false,
+    }
+}
+
+/// The answers to the list, and what the board says then.
+fn run<J: Naming, M: Publisher<J>>(
+    alloc: Global,
+    board: &mut Board<J, M>,
+    share: &Share<J>,
+    reader: &mut MapReader<J>,
+) -> Result<(Vec<Given>, Reading), Fail> {
+    let list = commands(alloc)?;
+    let answers = board.run(alloc, &Idle, &list)?;
+    Ok((answers, said(board, share, reader)))
+}
+
+/// The same by single calls.
+fn ask_each<J: Naming, M: Publisher<J>>(
+    alloc: Global,
+    board: &mut Board<J, M>,
+    share: &Share<J>,
+    reader: &mut MapReader<J>,
+) -> Result<(Vec<Given>, Reading), Fail> {
+    let list = commands(alloc)?;
+    let mut answers = Vec::new(alloc);
+    for command in &list {
+        answers.push(asked(alloc, board, command))?;
+    }
+    Ok((answers, said(board, share, reader)))
+}
+
+fn answers<J: Naming, R: Wait + Drop>(
+    waits: R,
+    alloc: Global,
+    book: heat_ledger::Opened,
+    map: authority_map::Opened,
+    is_list: bool,
+) -> Result<(Vec<Given>, Reading), Fail>
+    requires book { book ≡ J.ledger }
+    requires map { map ≡ J.map }
+    requires limit { J.limit ≡ 8 }
+{
+    let (mut board, shares, mut readers) = open::<J, R>(waits, alloc, book, map, 8, 2)?;
+    let given = match (shares.first(), readers.first_mut()) {
+        (Some(share), Some(reader)) => {
+            if is_list {
+                run(alloc, &mut board, share, reader)
+            } else {
+                ask_each(alloc, &mut board, share, reader)
+            }
+        }
+        _ => Err("no share or no reader".into()),
+    };
+    board.end();
+    given
+}
+
+fn answered<R: Wait + Drop>(
+    waits: R,
+    alloc: Global,
+    is_list: bool,
+) -> Result<(Vec<Given>, Reading), Fail> {
+    let book = heat_ledger::Opened::new(alloc)?;
+    let map = authority_map::Opened::new();
+    answers::<Brand, R>(waits, alloc, book, map, is_list)
+}
+
+#[test]
+fn a_list_of_commands_answers_as_single_calls(rt: HostRuntime) -> Result<(), Fail> {
+    let (listed, after_list) = answered(&rt, rt.alloc(), true)?;
+    let (single, after_calls) = answered(&rt, rt.alloc(), false)?;
+    assert_eq!(rt; (listed.len(), single.len()), (14, 14));
+    for (at, (one, other)) in listed.iter().zip(single.iter()).enumerate() {
+        assert!(rt; is_same(one, other), "command {at}");
+    }
+    let refused = listed.iter().filter(|answer| answer.is_err()).count();
+    assert_eq!(rt; refused, 6);
+    assert!(rt; after_list == after_calls);
+    assert_eq!(rt; after_list.history, 8);
+    Ok(())
+}
+
+fn with_share<J: Naming>(
+    shares: Vec<Share<J>>,
+    share: Share<J>,
+) -> Result<Vec<Share<J>>, AllocError>
+    requires shares { All IsClean shares.items }
+    requires share { IsClean share }
+    ensures { IfOk result (λ v. All IsClean v.items) }
+{
+    let mut shares = shares;
+    shares.push(share)?;
+    Ok(shares)
+}
+
+/// The two shares of a board, if nothing is pending in them.
+fn both<J: Naming>(alloc: Global, mut shares: Vec<Share<J>>) -> Result<Vec<Share<J>>, Fail>
+    ensures { IfOk result (λ v. All IsClean v.items) }
+{
+    let (Some(second), Some(first)) = (shares.pop(), shares.pop()) else {
+        return Err("not two shares".into());
+    };
+    if !first.is_clean() || !second.is_clean() {
+        return Err("hits that are pending".into());
+    }
+    let one = with_share(Vec::new(alloc), first)?;
+    Ok(with_share(one, second)?)
+}
+
+/// The ledger doesn't close without shares.
+fn miss_both<J: Naming, M: Publisher<J>>(
+    alloc: Global,
+    board: &mut Board<J, M>,
+) -> Result<(), Fail> {
+    let Err((Missing(2), _none)) = board.close(Vec::new(alloc)) else {
+        return Err("closed without its shares".into());
+    };
+    Ok(())
+}
+
+/// What needs no share goes on.
+fn go_on<J: Naming, M: Publisher<J>>(rt: &impl Abort, alloc: Global, board: &mut Board<J, M>) {
+    let before = board.history().len();
+    assert_eq!(rt; board.tick(), Ok(()));
+    assert_eq!(rt; board.make(alloc, Dir::new(1), "b", 1), Ok(Dir::new(2)));
+    assert_eq!(rt; board.history().len().checked_sub(before), Some(2));
+}
+
+/// The ledger closes over both shares, once, and the reads stay.
+fn close<J: Naming, M: Publisher<J>>(
+    rt: &impl Abort,
+    alloc: Global,
+    board: &mut Board<J, M>,
+    shares: Vec<Share<J>>,
+) -> Result<(), Fail>
+    requires { All IsClean shares.items }
+{
+    let a = Dir::new(1);
+    let before = board.history().len();
+    miss_both(alloc, board)?;
+    assert!(rt; board.close(shares).is_ok());
+    miss_both(alloc, board)?;
+    assert_eq!(rt; board.history().len(), before);
+    assert_eq!(rt; (board.counted(a), board.begun(a)), (3, 1));
+    go_on(rt, alloc, board);
+    Ok(())
+}
+
+/// Three hits on /a and a request there, by the first share.
+fn use_it<J: Naming, M: Publisher<J>>(
+    rt: &impl Abort,
+    alloc: Global,
+    board: &mut Board<J, M>,
+    share: &mut Share<J>,
+) {
+    let a = Dir::new(1);
+    assert_eq!(rt; board.make(alloc, Dir::ROOT, "a", 10), Ok(a));
+    assert_eq!(rt; share.count(a, 3), 3);
+    assert!(rt; board.begin(share, Rank::default(), a).is_ok());
+    assert_eq!(rt; board.deposit(alloc, share), Ok(()));
+}
+
+fn closed<J: Naming, R: Wait + Drop>(
+    rt: &impl Abort,
+    waits: R,
+    alloc: Global,
+    book: heat_ledger::Opened,
+    map: authority_map::Opened,
+) -> Result<(), Fail>
+    requires book { book ≡ J.ledger }
+    requires map { map ≡ J.map }
+    requires limit { J.limit ≡ 8 }
+{
+    let (mut board, mut shares, _readers) = open::<J, R>(waits, alloc, book, map, 8, 2)?;
+    if let Some(share) = shares.first_mut() {
+        use_it(rt, alloc, &mut board, share);
+    }
+    let done = match both(alloc, shares) {
+        Ok(shares) => close(rt, alloc, &mut board, shares),
+        Err(fail) => Err(fail),
+    };
+    board.end();
+    done
+}
+
+#[test]
+fn a_closed_board_counts_no_more(rt: HostRuntime) -> Result<(), Fail> {
+    let book = heat_ledger::Opened::new(rt.alloc())?;
+    let map = authority_map::Opened::new();
+    closed::<Brand, _>(&rt, &rt, rt.alloc(), book, map)
+}

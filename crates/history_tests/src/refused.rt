@@ -1,0 +1,302 @@
+//! Changes of a board while a growth is refused.
+//!
+//! With `rt try --test --fail-alloc N`, the N-th growth is refused.
+ghost use Rattle.std.specs.Prelude.{◌≡◌, IfOk, true};
+ghost use Rattle.board_state.specs.Steps.{is_inner};
+
+use crate::adopting::plan;
+use crate::boards::open_at_last;
+use crate::said::said;
+use authority_map::{MapReader, Publisher};
+use board_state::BoardError;
+use export_machine::Event;
+use heat_ledger::Share;
+use mds_board::Board;
+use mds_types::{Dir, Dirs, Plan, Rank, RankSet};
+use naming::Naming;
+use std::alloc::{AllocError, Global};
+use std::marker::Brand;
+use std::process::Abort;
+use std::sync::Wait;
+use std::test::Fail;
+
+/// What is done to a board, by the numbers of directories, ranks, exports and messages.
+#[derive(Clone, Copy, Debug)]
+enum Do {
+    Make(u32, &'static str),
+    Remove(u32),
+    Pin(u32, i32),
+    Mask(u64),
+    Tick,
+    Hit(u32),
+    Deposit,
+    Begin(u8, u32),
+    Open,
+    Adopt,
+    Publish,
+    Step(Step),
+}
+
+/// An event of the cluster.
+#[derive(Clone, Copy, Debug)]
+enum Step {
+    End(u32),
+    Start(u8, u8, &'static [u32]),
+    Deliver(u32),
+    Froze(u32),
+    Notify(u32),
+    Abort(u32),
+    Stop(u8),
+    Restart(u8),
+    Ask(u32),
+}
+
+/// A list in which each change is accepted: the root and /a move to rank 1 by a plan, one export is aborted, and one is asked
+/// about.
+const CHANGES: [Do; 50] = [
+    Do::Make(0, "a"),
+    Do::Hit(1),
+    Do::Hit(1),
+    Do::Hit(1),
+    Do::Hit(1),
+    Do::Hit(1),
+    Do::Deposit,
+    Do::Mask(2),
+    Do::Publish,
+    Do::Open,
+    Do::Adopt,
+    Do::Step(Step::Start(0, 1, &[0, 1])),
+    Do::Step(Step::Deliver(0)),
+    Do::Step(Step::Deliver(1)),
+    Do::Step(Step::Froze(0)),
+    Do::Step(Step::Deliver(2)),
+    Do::Step(Step::Deliver(3)),
+    Do::Step(Step::Deliver(4)),
+    Do::Step(Step::Deliver(5)),
+    Do::Publish,
+    Do::Step(Step::Notify(0)),
+    Do::Publish,
+    Do::Step(Step::Deliver(6)),
+    Do::Tick,
+    Do::Make(1, "b"),
+    Do::Pin(2, 1),
+    Do::Begin(1, 2),
+    Do::Step(Step::End(0)),
+    Do::Remove(2),
+    Do::Step(Step::Start(1, 0, &[1])),
+    Do::Step(Step::Deliver(7)),
+    Do::Step(Step::Deliver(8)),
+    Do::Step(Step::Froze(1)),
+    Do::Step(Step::Deliver(9)),
+    Do::Step(Step::Deliver(10)),
+    Do::Step(Step::Deliver(11)),
+    Do::Step(Step::Stop(1)),
+    Do::Step(Step::Ask(1)),
+    Do::Step(Step::Restart(1)),
+    Do::Step(Step::Deliver(13)),
+    Do::Step(Step::Deliver(14)),
+    Do::Step(Step::Start(1, 0, &[0])),
+    Do::Step(Step::Abort(2)),
+    Do::Open,
+    Do::Hit(1),
+    Do::Begin(1, 1),
+    Do::Tick,
+    Do::Make(1, "c"),
+    Do::Deposit,
+    Do::Publish,
+];
+
+fn rank(number: u8) -> Rank {
+    Rank::new(number).unwrap_or_default()
+}
+
+fn listed(alloc: Global, numbers: &[u32]) -> Result<Dirs, AllocError> {
+    let mut dirs = Vec::new(alloc);
+    for number in numbers {
+        dirs.push(Dir::new(*number))?;
+    }
+    Ok(Dirs::new(dirs))
+}
+
+fn dirs_at_last(alloc: Global, numbers: &[u32]) -> Result<Dirs, AllocError> {
+    match listed(alloc, numbers) {
+        Ok(dirs) => Ok(dirs),
+        Err(_) => listed(alloc, numbers),
+    }
+}
+
+fn plan_at_last(alloc: Global) -> Result<Plan, AllocError> {
+    match plan(alloc, 5) {
+        Ok(plan) => Ok(plan),
+        Err(_) => plan(alloc, 5),
+    }
+}
+
+fn event(alloc: Global, step: Step) -> Result<Event, AllocError>
+    ensures inner { IfOk result (λ event. is_inner event ≡ true) }
+{
+    Ok(match step {
+        Step::End(ticket) => Event::End(ticket),
+        Step::Start(from, to, numbers) => {
+            Event::Start(rank(from), rank(to), dirs_at_last(alloc, numbers)?)
+        }
+        Step::Deliver(message) => Event::Deliver(message),
+        Step::Froze(export) => Event::Froze(export),
+        Step::Notify(export) => Event::Notify(export),
+        Step::Abort(export) => Event::Abort(export),
+        Step::Stop(at) => Event::Stop(rank(at)),
+        Step::Restart(at) => Event::Restart(rank(at)),
+        Step::Ask(export) => Event::Ask(export),
+    })
+}
+
+/// Makes one of the changes of the tree and the settings.
+fn set<J: Naming, M: Publisher<J>>(
+    alloc: Global,
+    board: &mut Board<J, M>,
+    change: Do,
+) -> Result<(), BoardError> {
+    match change {
+        Do::Make(parent, name) => board.make(alloc, Dir::new(parent), name, 10).map(|_| ()),
+        Do::Remove(dir) => board.remove(Dir::new(dir)),
+        Do::Pin(dir, pin) => board.set_pin(Dir::new(dir), pin),
+        Do::Mask(bits) => board.set_mask(RankSet::from_bits(bits)),
+        Do::Tick => board.tick(),
+        _ => Ok(()),
+    }
+}
+
+/// Counts, or begins a request.
+fn count<J: Naming, M: Publisher<J>>(
+    alloc: Global,
+    board: &mut Board<J, M>,
+    share: &mut Share<J>,
+    change: Do,
+) -> Result<(), BoardError> {
+    match change {
+        Do::Hit(dir) => {
+            let _hit = share.hit(Dir::new(dir));
+            Ok(())
+        }
+        Do::Deposit => board.deposit(alloc, share),
+        Do::Begin(at, dir) => board.begin(share, rank(at), Dir::new(dir)).map(|_| ()),
+        _ => Ok(()),
+    }
+}
+
+/// Opens a problem, adopts the plan, publishes, or makes an event of the cluster.
+fn go_on<J: Naming, M: Publisher<J>>(
+    alloc: Global,
+    board: &mut Board<J, M>,
+    change: Do,
+) -> Result<Result<(), BoardError>, Fail> {
+    match change {
+        Do::Open => Ok(board.open_problem(alloc).map(|_| ())),
+        Do::Adopt => Ok(board.adopt(alloc, plan_at_last(alloc)?).map(|_| ())),
+        Do::Publish => Ok(if board.publish() {
+            Ok(())
+        } else {
+            Err(BoardError::Memory)
+        }),
+        Do::Step(step) => Ok(board.step(alloc, event(alloc, step)?).map(|_| ())),
+        _ => Ok(Ok(())),
+    }
+}
+
+fn change_once<J: Naming, M: Publisher<J>>(
+    alloc: Global,
+    board: &mut Board<J, M>,
+    share: &mut Share<J>,
+    change: Do,
+) -> Result<Result<(), BoardError>, Fail> {
+    match change {
+        Do::Hit(_) | Do::Deposit | Do::Begin(_, _) => Ok(count(alloc, board, share, change)),
+        Do::Open | Do::Adopt | Do::Publish | Do::Step(_) => go_on(alloc, board, change),
+        _ => Ok(set(alloc, board, change)),
+    }
+}
+
+/// Makes a change. Where a growth is refused nothing has changed, and the next call makes it. It says whether one was.
+fn change_at_last<J: Naming, M: Publisher<J>>(
+    rt: &impl Abort,
+    alloc: Global,
+    board: &mut Board<J, M>,
+    share: &mut Share<J>,
+    reader: &mut MapReader<J>,
+    change: Do,
+) -> Result<bool, Fail> {
+    let before = said(board, share, reader);
+    let first = change_once(alloc, board, share, change)?;
+    if first.is_ok() {
+        return Ok(false);
+    }
+    assert_eq!(rt; first, Err(BoardError::Memory), "{change:?}");
+    assert!(rt; said(board, share, reader) == before, "{change:?}");
+    let again = change_once(alloc, board, share, change)?;
+    assert_eq!(rt; again, Ok(()), "{change:?}");
+    Ok(true)
+}
+
+/// Makes all changes, of which one at most is refused.
+fn change_all<J: Naming, M: Publisher<J>>(
+    rt: &impl Abort,
+    alloc: Global,
+    board: &mut Board<J, M>,
+    share: &mut Share<J>,
+    reader: &mut MapReader<J>,
+) -> Result<(), Fail> {
+    let mut refused = false;
+    for change in CHANGES {
+        if change_at_last(rt, alloc, board, share, reader, change)? {
+            assert!(rt; !refused, "{change:?}");
+            refused = true;
+        }
+    }
+    Ok(())
+}
+
+/// The board is as without a refused growth.
+fn look_back<J: Naming, M: Publisher<J>>(rt: &impl Abort, board: &Board<J, M>) {
+    let a = Dir::new(1);
+    assert_eq!(rt; board.history().len(), 40);
+    assert_eq!(rt; board.tree().numbers(), 4);
+    assert_eq!(rt; (board.counted(a), board.begun(a)), (6, 1));
+    assert_eq!(rt; board.cluster().authority(a), Some(rank(1)));
+    assert_eq!(rt; board.cluster().sent(), 17);
+    assert_eq!(rt; board.plan_in_force().map(|plan| plan.greatest), Some(5));
+}
+
+fn changed<J: Naming, R: Wait + Drop + Copy>(
+    rt: &impl Abort,
+    waits: R,
+    alloc: Global,
+    book: heat_ledger::Opened,
+    map: authority_map::Opened,
+) -> Result<(), Fail>
+    requires book { book ≡ J.ledger }
+    requires map { map ≡ J.map }
+    requires limit { J.limit ≡ 8 }
+{
+    let (mut board, mut shares, mut readers) = open_at_last::<J, R>(waits, alloc, book, map)?;
+    let done = match (shares.first_mut(), readers.first_mut()) {
+        (Some(share), Some(reader)) => change_all(rt, alloc, &mut board, share, reader),
+        _ => Err("no share or no reader".into()),
+    };
+    look_back(rt, &board);
+    board.end();
+    done
+}
+
+fn book_at_last(alloc: Global) -> Result<heat_ledger::Opened, AllocError> {
+    match heat_ledger::Opened::new(alloc) {
+        Ok(book) => Ok(book),
+        Err(_) => heat_ledger::Opened::new(alloc),
+    }
+}
+
+#[test]
+fn a_refused_growth_changes_nothing(rt: HostRuntime) -> Result<(), Fail> {
+    let book = book_at_last(rt.alloc())?;
+    let map = authority_map::Opened::new();
+    changed::<Brand, _>(&rt, &rt, rt.alloc(), book, map)
+}

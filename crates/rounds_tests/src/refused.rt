@@ -1,0 +1,166 @@
+//! Phases of exports while a growth is refused.
+//!
+//! With `rt try --test --fail-alloc N`, the N-th growth is refused.
+ghost use Rattle.std.specs.Prelude.{◌≡◌};
+
+use crate::boards::open_at_last;
+use crate::steps::{rank, stand};
+use authority_map::Publisher;
+use board_state::BoardError;
+use export_machine::{ExporterState, ImporterState};
+use export_rounds::{Outcome, carry_out_orders};
+use mds_board::Board;
+use mds_types::{Dir, Dirs, Order, Rank};
+use naming::Naming;
+use std::alloc::{AllocError, Global};
+use std::marker::Brand;
+use std::process::Abort;
+use std::sync::Wait;
+use std::test::Fail;
+
+/// What a board says that a phase changes.
+#[derive(Clone, Copy, PartialEq, Eq)]
+struct Reading {
+    history: usize,
+    sent: u32,
+    authorities: [Option<Rank>; 3],
+    exports: [Option<(ExporterState, ImporterState)>; 3],
+}
+
+fn read<J: Naming, M: Publisher<J>>(board: &Board<J, M>) -> Reading {
+    let cluster = board.cluster();
+    Reading {
+        history: board.history().len(),
+        sent: cluster.sent(),
+        authorities: [
+            cluster.authority(Dir::ROOT),
+            cluster.authority(Dir::new(1)),
+            cluster.authority(Dir::new(2)),
+        ],
+        exports: [cluster.states(0), cluster.states(1), cluster.states(2)],
+    }
+}
+
+/// An order that gives a directory of rank 0 to rank 1.
+fn order(alloc: Global, dir: u32) -> Result<Order, AllocError> {
+    Ok(Order {
+        from: rank(0),
+        to: rank(1),
+        dirs: Dirs::new(vec![in alloc; Dir::new(dir)]?),
+    })
+}
+
+fn orders(alloc: Global) -> Result<Vec<Order>, AllocError> {
+    let mut orders = Vec::new(alloc);
+    orders.push(order(alloc, 1)?)?;
+    orders.push(order(alloc, 2)?)?;
+    Ok(orders)
+}
+
+fn orders_at_last(alloc: Global) -> Result<Vec<Order>, AllocError> {
+    match orders(alloc) {
+        Ok(orders) => Ok(orders),
+        Err(_) => orders(alloc),
+    }
+}
+
+/// Makes a directory below the root. Where a growth is refused nothing has changed, and the next call makes it.
+fn made_at_last<J: Naming, M: Publisher<J>>(
+    rt: &impl Abort,
+    alloc: Global,
+    board: &mut Board<J, M>,
+    name: &str,
+) {
+    let before = read(board);
+    let first = board.make(alloc, Dir::ROOT, name, 1);
+    if first.is_err() {
+        assert_eq!(rt; first, Err(BoardError::Memory), "{name}");
+        assert!(rt; read(board) == before, "{name}");
+        assert!(rt; board.make(alloc, Dir::ROOT, name, 1).is_ok(), "{name}");
+    }
+}
+
+/// Whether the outcome is what became of the order for a directory: where a growth was refused, it may be any but a named
+/// refusal.
+fn is_told<J: Naming, M: Publisher<J>>(board: &Board<J, M>, dir: u32, outcome: Outcome) -> bool {
+    let authority = board.cluster().authority(Dir::new(dir));
+    match outcome {
+        Outcome::Done(export) => {
+            let imported = Some((ExporterState::Done, ImporterState::Imported));
+            authority == Some(rank(1)) && board.cluster().states(export) == imported
+        }
+        Outcome::Aborted(export) => {
+            let exporter = board.cluster().states(export).map(|both| both.0);
+            authority == Some(rank(0)) && exporter == Some(ExporterState::Aborted)
+        }
+        Outcome::Open(export) => board.cluster().states(export).is_some(),
+        Outcome::Refused(error) => authority == Some(rank(0)) && error == BoardError::Memory,
+    }
+}
+
+/// Carries out the orders. A phase that is refused memory has changed nothing.
+fn first_phase<J: Naming, M: Publisher<J>>(
+    rt: &impl Abort,
+    alloc: Global,
+    board: &mut Board<J, M>,
+    orders: &[Order],
+) {
+    let before = read(board);
+    match carry_out_orders(board, alloc, orders) {
+        Err(AllocError) => assert!(rt; read(board) == before),
+        Ok(outcomes) => {
+            assert_eq!(rt; outcomes.len(), 2);
+            for (dir, outcome) in (1..3).zip(outcomes.iter()) {
+                assert!(rt; is_told(board, dir, *outcome), "{dir}: {outcome:?}");
+            }
+        }
+    }
+}
+
+/// What the first phase has left undone further phases do.
+fn phases<J: Naming, M: Publisher<J>>(
+    rt: &impl Abort,
+    alloc: Global,
+    board: &mut Board<J, M>,
+) -> Result<(), Fail> {
+    made_at_last(rt, alloc, board, "a");
+    made_at_last(rt, alloc, board, "b");
+    let orders = orders_at_last(alloc)?;
+    first_phase(rt, alloc, board, &orders);
+    for _ in 0..2 {
+        let _outcomes = carry_out_orders(board, alloc, &orders).ok();
+    }
+    stand(rt, board, &[(0, 0), (1, 1), (2, 1)]);
+    Ok(())
+}
+
+fn on_board<J: Naming, R: Wait + Drop + Copy>(
+    rt: &impl Abort,
+    waits: R,
+    alloc: Global,
+    book: heat_ledger::Opened,
+    map: authority_map::Opened,
+) -> Result<(), Fail>
+    requires book { book ≡ J.ledger }
+    requires map { map ≡ J.map }
+    requires limit { J.limit ≡ 8 }
+{
+    let mut board = open_at_last::<J, R>(waits, alloc, book, map)?;
+    let done = phases(rt, alloc, &mut board);
+    board.end();
+    done
+}
+
+fn book_at_last(alloc: Global) -> Result<heat_ledger::Opened, AllocError> {
+    match heat_ledger::Opened::new(alloc) {
+        Ok(book) => Ok(book),
+        Err(_) => heat_ledger::Opened::new(alloc),
+    }
+}
+
+#[test]
+fn a_refused_growth_is_made_up_for(rt: HostRuntime) -> Result<(), Fail> {
+    let book = book_at_last(rt.alloc())?;
+    let map = authority_map::Opened::new();
+    on_board::<Brand, _>(&rt, &rt, rt.alloc(), book, map)
+}

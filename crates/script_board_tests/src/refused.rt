@@ -1,0 +1,275 @@
+//! Commands while a growth is refused.
+//!
+//! With `rt try --test --fail-alloc N`, the N-th growth is refused.
+ghost use Rattle.std.specs.Prelude.{◌≡◌};
+
+use crate::boards::{open_at_last, rank};
+use authority_map::Publisher;
+use export_rounds::Outcome;
+use mds_types::{Dir, Order, Rank, RankSet};
+use naming::Naming;
+use script_board::{Fault, ScriptBoard};
+use std::alloc::{AllocError, Global};
+use std::marker::Brand;
+use std::process::Abort;
+use std::sync::Wait;
+use std::test::Fail;
+use std::thread::Threads;
+
+/// What a board says of itself and of its first three directories.
+#[derive(Clone, Copy, PartialEq, Eq)]
+struct Reading {
+    history: usize,
+    numbers: u32,
+    usable: RankSet,
+    dirs: [(u64, Option<Rank>, Option<Rank>); 3],
+}
+
+// The hits on a directory, its authority, and the rank that the map names.
+fn read_dir<J: Naming, M: Publisher<J>>(
+    board: &mut ScriptBoard<J, M>,
+    dir: Dir,
+) -> (u64, Option<Rank>, Option<Rank>) {
+    let named = board.rank_of(dir);
+    (
+        board.hits_of(dir),
+        board.board().cluster().authority(dir),
+        named,
+    )
+}
+
+fn read<J: Naming, M: Publisher<J>>(board: &mut ScriptBoard<J, M>) -> Reading {
+    let dirs = [
+        read_dir(board, Dir::ROOT),
+        read_dir(board, Dir::new(1)),
+        read_dir(board, Dir::new(2)),
+    ];
+    Reading {
+        history: board.board().history().len(),
+        numbers: board.numbers(),
+        usable: board.usable(),
+        dirs,
+    }
+}
+
+/// A command that gives nothing but its acceptance.
+#[derive(Clone, Copy, Debug)]
+enum Do {
+    Make(&'static str),
+    Remove(&'static str),
+    Pin(&'static str, i32),
+    Mask(&'static str),
+    Load(&'static str, u32),
+    Tick,
+    Stop(u8),
+    Restart(u8),
+    Publish,
+}
+
+fn number(number: u8) -> Rank {
+    Rank::new(number).unwrap_or_default()
+}
+
+fn command<J: Naming, M: Publisher<J>>(
+    alloc: Global,
+    board: &mut ScriptBoard<J, M>,
+    command: Do,
+) -> Result<(), Fault> {
+    match command {
+        Do::Make(path) => board.make_dir(alloc, path, 1),
+        Do::Remove(path) => board.remove_dir(path),
+        Do::Pin(path, pin) => board.set_pin(path, pin),
+        Do::Mask(text) => board.set_mask(text),
+        Do::Load(path, hits) => board.load(path, hits),
+        Do::Tick => board.tick(),
+        Do::Stop(at) => board.stop(alloc, number(at)),
+        Do::Restart(at) => board.restart(alloc, number(at)),
+        Do::Publish => {
+            if board.publish() {
+                Ok(())
+            } else {
+                Err(Fault::Memory)
+            }
+        }
+    }
+}
+
+/// Carries out commands. Where a growth is refused nothing has changed, and the next call is accepted.
+fn commands<J: Naming, M: Publisher<J>>(
+    rt: &impl Abort,
+    alloc: Global,
+    board: &mut ScriptBoard<J, M>,
+    all: &[Do],
+) {
+    for next in all {
+        let before = read(board);
+        let first = command(alloc, board, *next);
+        if first.is_err() {
+            assert_eq!(rt; first, Err(Fault::Memory), "{next:?}");
+            assert!(rt; read(board) == before, "{next:?}");
+            assert_eq!(rt; command(alloc, board, *next), Ok(()), "{next:?}");
+        }
+    }
+}
+
+/// Plans. Where a growth is refused nothing has changed, and the next call plans.
+fn planned<J: Naming, M: Publisher<J>>(
+    rt: &impl Abort,
+    threads: &impl Threads,
+    alloc: Global,
+    board: &mut ScriptBoard<J, M>,
+) {
+    let before = read(board);
+    let first = board.plan(threads, alloc);
+    if first.is_err() {
+        assert_eq!(rt; first, Err(Fault::Memory));
+        assert!(rt; read(board) == before);
+        assert_eq!(rt; board.plan(threads, alloc), Ok(()));
+    }
+}
+
+/// Moves. Where memory is refused before the first order, nothing has changed, and the next call moves.
+fn moved<J: Naming, M: Publisher<J>>(
+    rt: &impl Abort,
+    alloc: Global,
+    board: &mut ScriptBoard<J, M>,
+) -> Result<(Vec<Order>, Vec<Outcome>), AllocError> {
+    let before = read(board);
+    match board.carry_out_moves(alloc) {
+        Ok(moves) => Ok(moves),
+        Err(AllocError) => {
+            assert!(rt; read(board) == before);
+            board.carry_out_moves(alloc)
+        }
+    }
+}
+
+/// Serves what waits. Where memory is refused for the answers, nothing has changed, and the next call serves.
+fn gone<J: Naming, M: Publisher<J>>(
+    rt: &impl Abort,
+    alloc: Global,
+    board: &mut ScriptBoard<J, M>,
+) -> Result<Vec<Fault>, AllocError> {
+    let before = read(board);
+    match board.go(alloc) {
+        Ok(refused) => Ok(refused),
+        Err(AllocError) => {
+            assert!(rt; read(board) == before);
+            board.go(alloc)
+        }
+    }
+}
+
+/// A request is refused for want of memory at most, and then counts no hit. Hits that found no memory stay for the next call.
+fn served<J: Naming, M: Publisher<J>>(
+    rt: &impl Abort,
+    alloc: Global,
+    board: &mut ScriptBoard<J, M>,
+) -> Result<(), Fail> {
+    commands(rt, alloc, board, &[Do::Publish, Do::Load("/b", 5)]);
+    let refused = gone(rt, alloc, board)?;
+    if !refused.is_empty() {
+        assert!(rt; refused.iter().all(|fault| *fault == Fault::Memory));
+        assert_eq!(rt; (refused.len(), board.hits_of(Dir::new(2))), (1, 0));
+        assert_eq!(rt; board.load("/b", 5), Ok(()));
+    }
+    let again = gone(rt, alloc, board)?;
+    assert!(rt; again.is_empty());
+    assert_eq!(rt; board.hits_of(Dir::new(2)), 5);
+    Ok(())
+}
+
+/// The root and /b go to rank 1 by a plan, and /a by its pin, by the second phase at last.
+fn moved_away<J: Naming, M: Publisher<J>>(
+    rt: &impl Abort,
+    threads: &impl Threads,
+    alloc: Global,
+    board: &mut ScriptBoard<J, M>,
+) -> Result<(), Fail> {
+    for _ in 0..3 {
+        planned(rt, threads, alloc, board);
+        let (orders, outcomes) = moved(rt, alloc, board)?;
+        assert_eq!(rt; orders.len(), outcomes.len());
+    }
+    for dir in 0..3 {
+        let authority = board.board().cluster().authority(Dir::new(dir));
+        assert_eq!(rt; authority, Some(rank(1)?), "{dir}");
+    }
+    Ok(())
+}
+
+/// The parts below chosen tops, which take memory and change nothing.
+fn costs<J: Naming, M: Publisher<J>>(
+    rt: &impl Abort,
+    alloc: Global,
+    board: &mut ScriptBoard<J, M>,
+) -> Result<(), Fail> {
+    let before = read(board);
+    let first = board.cost(alloc, &["/", "/b"]);
+    if first.is_err() {
+        assert_eq!(rt; first.err(), Some(Fault::Memory));
+        assert!(rt; read(board) == before);
+    }
+    let Ok(parts) = board.cost(alloc, &["/", "/b"]) else {
+        return Err("no parts".into());
+    };
+    assert_eq!(rt; parts.len(), 2);
+    Ok(())
+}
+
+fn all<J: Naming, M: Publisher<J>>(
+    rt: &impl Abort,
+    threads: &impl Threads,
+    alloc: Global,
+    board: &mut ScriptBoard<J, M>,
+) -> Result<(), Fail> {
+    let first = [
+        Do::Make("/a"),
+        Do::Make("/b"),
+        Do::Make("/a/c"),
+        Do::Remove("/a/c"),
+        Do::Pin("/a", 1),
+        Do::Mask("0x2"),
+        Do::Stop(1),
+        Do::Restart(1),
+    ];
+    commands(rt, alloc, board, &first);
+    moved_away(rt, threads, alloc, board)?;
+    served(rt, alloc, board)?;
+    costs(rt, alloc, board)?;
+    commands(rt, alloc, board, &[Do::Tick, Do::Publish]);
+    assert_eq!(rt; board.rank_of(Dir::new(2)), Some(rank(1)?));
+    Ok(())
+}
+
+fn on_board<J: Naming, R: Wait + Drop + Copy>(
+    rt: &impl Abort,
+    threads: &impl Threads,
+    waits: R,
+    alloc: Global,
+    book: heat_ledger::Opened,
+    map: authority_map::Opened,
+) -> Result<(), Fail>
+    requires book { book ≡ J.ledger }
+    requires map { map ≡ J.map }
+    requires limit { J.limit ≡ 8 }
+{
+    let mut board = open_at_last::<J, R>(waits, alloc, book, map)?;
+    let done = all(rt, threads, alloc, &mut board);
+    board.end();
+    done
+}
+
+fn book_at_last(alloc: Global) -> Result<heat_ledger::Opened, AllocError> {
+    match heat_ledger::Opened::new(alloc) {
+        Ok(book) => Ok(book),
+        Err(_) => heat_ledger::Opened::new(alloc),
+    }
+}
+
+#[test]
+fn a_refused_growth_changes_nothing(rt: HostRuntime) -> Result<(), Fail> {
+    let book = book_at_last(rt.alloc())?;
+    let map = authority_map::Opened::new();
+    on_board::<Brand, _>(&rt, &rt, &rt, rt.alloc(), book, map)
+}
