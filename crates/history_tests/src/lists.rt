@@ -270,7 +270,9 @@ fn use_it<J: Naming, M: Publisher<J>>(
     alloc: Global,
     board: &mut Board<J, M>,
     share: &mut Share<J>,
-) {
+)
+    requires limit { J.limit ≡ 8 }
+{
     let a = Dir::new(1);
     assert_eq!(rt; board.make(alloc, Dir::ROOT, "a", 10), Ok(a));
     assert_eq!(rt; share.count(a, 3), 3);
