@@ -20,8 +20,6 @@ mod publisher;
 mod queue;
 mod runs;
 mod table;
-#[cfg(test)]
-mod tests;
 
 pub use found::Found;
 pub use history::Opened;

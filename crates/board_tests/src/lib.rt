@@ -8,6 +8,8 @@ mod divisions;
 #[cfg(test)]
 mod heats;
 #[cfg(test)]
+mod paths;
+#[cfg(test)]
 mod pins;
 #[cfg(test)]
 mod problems;

@@ -7,3 +7,4 @@ pub mod Paths
 pub mod Sound
 pub mod TreeFacts
 pub mod Walks
+pub mod WaysDown

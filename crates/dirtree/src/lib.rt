@@ -5,9 +5,11 @@ pub mod laws;
 pub mod name;
 mod node;
 pub mod path;
+pub mod path_guesses;
 pub mod tree;
 pub mod tree_error;
 
 pub use name::is_name;
+pub use path_guesses::PathGuesses;
 pub use tree::{Tree, TreeRow};
 pub use tree_error::TreeError;

@@ -1,6 +1,6 @@
 //! Paths of directories, and where they lead.
-ghost use Rattle.std.specs.Prelude.{◌≡◌, ◌<◌, ◌==◌, ◌∷◌, [], ℕ, List, Err, IfOk, IsOkUnless, OnOk, map, string_bytes, true, false};
-ghost use Rattle.std.specs.List.{slice_split};
+ghost use Rattle.std.specs.Prelude.{◌≡◌, ◌≢◌, ◌↔◌, ◌<◌, ◌==◌, ◌++◌, ◌∷◌, [], ℕ, List, Ok, Err, IfOk, IsOkUnless, IsTrue, MatchOption, OnOk, map, reverse, string_bytes, true, false};
+ghost use Rattle.std.specs.List.{flat_map, slice_split};
 ghost use Rattle.dirtree.specs.Path.{find, names_up, path_of, walk};
 ghost use Rattle.dirtree.specs.Tree.{is_there};
 
@@ -56,6 +56,43 @@ impl Tree {
         }
     }
 
+    /// Whether a path names this directory, as `find` would answer. Names are compared from the directory up to the
+    /// root, and none is looked up.
+    pub fn leads_to(&self, path: &str, dir: Dir) -> bool
+        ensures leads { IsTrue result ↔ (find self.now.entries path.now ≡ Ok dir) }
+        ensures below { IsTrue result → dir < self.now.limit }
+        ensures there { IsTrue result → is_there self.now.entries dir ≡ true }
+    {
+        let _ = self.numbers();
+        if !self.contains(dir) {
+            return false;
+        }
+        if dir == Dir::ROOT {
+            return path == "/";
+        }
+        self.is_way_down(path.as_bytes(), dir)
+    }
+
+    // Whether these are the names down to a directory, each behind a slash.
+    fn is_way_down(&self, path: &[u8], dir: Dir) -> bool
+        requires { is_there self.now.entries dir ≡ true }
+        ensures { IsTrue result ↔ (path.now ≡ flat_map (λ name. 47 ∷ name) (reverse (names_up self.now.entries dir))) }
+    {
+        let mut rest = path;
+        let mut at = dir;
+        while at != Dir::ROOT {
+            let Some(node) = self.node(at) else {
+                unreachable!()
+            };
+            let Some(above) = before_name(rest, node.name.as_bytes()) else {
+                return false;
+            };
+            rest = above;
+            at = Dir::new(node.parent);
+        }
+        rest.is_empty()
+    }
+
     /// The path of a directory, which `find` leads back to it.
     pub fn path(&self, alloc: Global, dir: Dir) -> Result<String, TreeError>
         ensures path { IfOk result (λ path. string_bytes path ≡ path_of self.now.entries dir) }
@@ -92,5 +129,16 @@ impl Tree {
             at = Dir::new(node.parent);
         }
         Ok(names)
+    }
+}
+
+// What stands before a slash and this name at the end of a path.
+fn before_name<'a>(path: &'a [u8], name: &[u8]) -> Option<&'a [u8]>
+    ensures { MatchOption result ((front : List ℕ) → path.now ≢ front ++ 47 ∷ name.now)
+        (λ front. path.now ≡ front.now ++ 47 ∷ name.now) }
+{
+    match path.strip_suffix(name) {
+        Some(above) => above.strip_suffix(b"/"),
+        None => None,
     }
 }

@@ -17,8 +17,6 @@ mod opening;
 mod row;
 mod share;
 mod tally;
-#[cfg(test)]
-mod tests;
 
 pub use book::Book;
 pub use hit_error::HitError;

@@ -12,6 +12,7 @@ use script_session::run;
 use std::alloc::Global;
 use std::convert::AsStr;
 use std::io::{Read, Write};
+use std::marker::Sync;
 use std::sync::Wait;
 use std::thread::Threads;
 
@@ -19,7 +20,7 @@ use std::thread::Threads;
 ///
 /// It is 0 where every line was accepted, 1 where one was not, 2 where the command line is refused or there is no memory
 /// to begin with, and 3 where a device failed. The help and the version end with 0.
-pub fn start<T: Threads + Wait, S: AsStr, R: Read, W: Write, E: Write>(
+pub fn start<T: Threads + Wait + Sync, S: AsStr, R: Read, W: Write, E: Write>(
     rt: &T,
     alloc: Global,
     words: &[S],
@@ -37,7 +38,7 @@ pub fn start<T: Threads + Wait, S: AsStr, R: Read, W: Write, E: Write>(
 }
 
 // Carries out a script with these settings.
-fn carry_out<T: Threads + Wait, R: Read, W: Write, E: Write>(
+fn carry_out<T: Threads + Wait + Sync, R: Read, W: Write, E: Write>(
     rt: &T,
     alloc: Global,
     settings: Settings,

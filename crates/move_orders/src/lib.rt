@@ -5,7 +5,5 @@ mod found;
 mod largest_sets;
 pub mod laws;
 mod moves;
-#[cfg(test)]
-mod tests;
 
 pub use largest_sets::orders;

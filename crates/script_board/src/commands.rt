@@ -22,7 +22,7 @@ impl<J: Naming, M: Publisher<J>> ScriptBoard<J, M> {
         ensures below { IfOk result (λ dir. dir < self.now.world.state.directories.limit) }
         ensures there { IfOk result (λ dir. is_there self.now.world.state.directories.entries dir ≡ true) }
     {
-        match self.board.tree().find(path) {
+        match self.guesses.find(self.board.tree(), path) {
             Ok(dir) => Ok(dir),
             Err(e) => Err(Fault::from(e)),
         }
@@ -38,7 +38,7 @@ impl<J: Naming, M: Publisher<J>> ScriptBoard<J, M> {
             return Err(Fault::from(TreeError::BadName));
         };
         let parent = self.parent(above)?;
-        self.make_child(alloc, parent, name, inodes)
+        self.make_child(alloc, path, parent, name, inodes)
     }
 
     fn parent(&self, above: &str) -> Result<Dir, Fault>
@@ -50,9 +50,11 @@ impl<J: Naming, M: Publisher<J>> ScriptBoard<J, M> {
         self.find(above)
     }
 
+    // Makes the child of this name, and tells the guesses its path.
     fn make_child(
         &mut self,
         alloc: Global,
+        path: &str,
         parent: Dir,
         name: &str,
         inodes: u32,
@@ -61,8 +63,9 @@ impl<J: Naming, M: Publisher<J>> ScriptBoard<J, M> {
         ensures fault { IfErr result (IsDue (replanned self.old (Change.Make parent name.now inodes))) }
         ensures unchanged { OnErr result (self.new ≡ self.old) }
     {
-        self.board.make(alloc, parent, name, inodes)?;
+        let dir = self.board.make(alloc, parent, name, inodes)?;
         self.kept.clear();
+        self.guesses.tell(path, dir);
         Ok(())
     }
 

@@ -4,27 +4,61 @@ ghost use Rattle.script_board.specs.Move.{IsMoved, move_orders};
 
 use crate::script_board::ScriptBoard;
 use authority_map::Publisher;
-use export_rounds::{Outcome, carry_out_orders};
 use mds_types::Order;
 use naming::Naming;
+use rank_threads::{OpenGate, OrderOutcome, export_phase};
 use std::alloc::{AllocError, Global};
+use std::marker::{Send, Sync};
+use std::sync::Wait;
+use std::thread::Threads;
+
+impl<J: Naming + Send + Sync, M: Publisher<J> + Send> ScriptBoard<J, M> {
+    /// Carries out the orders of pins, and then those of the last plan, which are forgotten, by a thread for each rank
+    /// that has something to do. It answers the orders, each with its outcome. Where memory is refused before the first
+    /// of them is started, nothing has changed.
+    pub fn carry_out_moves<R: Threads + Wait + Sync>(
+        self,
+        rt: &R,
+        alloc: Global,
+    ) -> (
+        ScriptBoard<J, M>,
+        Result<(Vec<Order>, Vec<OrderOutcome>), AllocError>,
+    )
+        ensures done { IfOk result.1 (λ r. IsMoved self r.0.items r.1.items result.0) }
+        ensures unchanged { OnErr result.1 (result.0 ≡ self) }
+    {
+        let orders = match self.all_orders(alloc) {
+            Ok(orders) => orders,
+            Err(error) => return (self, Err(error)),
+        };
+        let ScriptBoard {
+            board,
+            shares,
+            reader,
+            loads,
+            mut kept,
+            guesses,
+        } = self;
+        let (board, told) = export_phase(rt, alloc, board, &OpenGate, &orders);
+        if told.is_ok() {
+            kept.clear();
+        }
+        let after = ScriptBoard {
+            board,
+            shares,
+            reader,
+            loads,
+            kept,
+            guesses,
+        };
+        match told {
+            Ok(outcomes) => (after, Ok((orders, outcomes))),
+            Err(error) => (after, Err(error)),
+        }
+    }
+}
 
 impl<J: Naming, M: Publisher<J>> ScriptBoard<J, M> {
-    /// Carries out the orders of pins, and then those of the last plan, which are forgotten. It answers the orders, each
-    /// with its outcome. Where memory is refused before the first of them is started, nothing has changed.
-    pub fn carry_out_moves(
-        &mut self,
-        alloc: Global,
-    ) -> Result<(Vec<Order>, Vec<Outcome>), AllocError>
-        ensures done { IfOk result (λ r. IsMoved self.old r.0.items r.1.items self.new) }
-        ensures unchanged { OnErr result (self.new ≡ self.old) }
-    {
-        let orders = self.all_orders(alloc)?;
-        let outcomes = carry_out_orders(&mut self.board, alloc, &orders)?;
-        self.kept.clear();
-        Ok((orders, outcomes))
-    }
-
     // The orders of pins, and then those of the last plan.
     fn all_orders(&self, alloc: Global) -> Result<Vec<Order>, AllocError>
         ensures { IfOk result (λ orders. orders.items ≡ move_orders self.now) }

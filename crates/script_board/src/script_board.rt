@@ -5,6 +5,7 @@ ghost use Rattle.script_board.specs.Board.{empty_board, publish};
 use crate::load::Load;
 use crate::parts::Parts;
 use authority_map::{MapReader, Publisher};
+use dirtree::PathGuesses;
 use heat_ledger::Share;
 use mds_board::Board;
 use mds_types::Order;
@@ -15,13 +16,14 @@ use std::marker::Model;
 /// What a script has made once `ranks` was accepted. `J` names the board.
 ///
 /// Share k of the ledger counts the hits of the requests that rank k serves. It can't be dropped, only ended, as the board
-/// has the map's writer.
+/// has the map's writer. The guesses hold where the paths of made directories led, which no clause speaks of.
 pub struct ScriptBoard<J: Naming, M: Publisher<J>> {
     pub(crate) board: Board<J, M>,
     pub(crate) shares: Vec<Share<J>>,
     pub(crate) reader: MapReader<J>,
     pub(crate) loads: Vec<Load>,
     pub(crate) kept: Vec<Order>,
+    pub(crate) guesses: PathGuesses,
 }
 
 impl<J: Naming, M: Publisher<J>> Model for ScriptBoard<J, M> {
@@ -59,6 +61,7 @@ impl<J: Naming, M: Publisher<J>> ScriptBoard<J, M> {
                 reader,
                 loads: Vec::new(alloc),
                 kept: Vec::new(alloc),
+                guesses: PathGuesses::new(alloc),
             }),
         }
     }
@@ -78,6 +81,7 @@ impl<J: Naming, M: Publisher<J>> ScriptBoard<J, M> {
             reader: _reader,
             loads: _loads,
             kept: _kept,
+            guesses: _guesses,
         } = self;
         board.end();
     }

@@ -1,75 +1,79 @@
 //! Pins and plans move directories.
 ghost use Rattle.std.specs.Prelude.{◌≡◌};
 
-use crate::boards::{open, rank};
+use crate::boards::open;
 use authority_map::Publisher;
 use board_state::BoardError;
 use export_rounds::Outcome;
 use mds_types::Dir;
 use naming::Naming;
+use rank_threads::OrderOutcome;
 use script_board::{Fault, ScriptBoard};
 use std::alloc::Global;
-use std::marker::Brand;
+use std::marker::{Brand, Send, Sync};
 use std::process::Abort;
 use std::sync::Wait;
 use std::test::Fail;
 use std::thread::Threads;
 
-// Two hot directories below the root, of which a pin brings one to rank 1.
-fn pinned<J: Naming, M: Publisher<J>>(
+fn is_done(outcome: &OrderOutcome) -> bool {
+    match outcome {
+        OrderOutcome::TakenUp(Outcome::Done(_)) => true,
+        _ => false,
+    }
+}
+
+// What waits is carried out: so many orders, and each is done.
+fn moved<J: Naming + Send + Sync, M: Publisher<J> + Send, R: Threads + Wait + Sync>(
     rt: &impl Abort,
+    threads: &R,
     alloc: Global,
-    board: &mut ScriptBoard<J, M>,
-) -> Result<(), Fail> {
-    let one = rank(1)?;
+    board: ScriptBoard<J, M>,
+    count: usize,
+) -> ScriptBoard<J, M> {
+    let (board, told) = board.carry_out_moves(threads, alloc);
+    let Ok((orders, outcomes)) = told else {
+        assert!(rt; false, "no memory");
+        return board;
+    };
+    assert_eq!(rt; (orders.len(), outcomes.len()), (count, count));
+    for outcome in &outcomes {
+        assert!(rt; is_done(outcome));
+    }
+    board
+}
+
+// Two hot directories below the root, of which a pin is to bring one to rank 1.
+fn pin<J: Naming, M: Publisher<J>>(rt: &impl Abort, alloc: Global, board: &mut ScriptBoard<J, M>) {
     assert_eq!(rt; board.make_dir(alloc, "/a", 1), Ok(()));
     assert_eq!(rt; board.make_dir(alloc, "/b", 1), Ok(()));
     assert_eq!(rt; board.set_pin("/a", 1), Ok(()));
-    let (orders, outcomes) = board.carry_out_moves(alloc)?;
-    assert_eq!(rt; orders.len(), 1);
-    assert_eq!(rt; outcomes.len(), 1);
-    assert_eq!(rt; outcomes[0], Outcome::Done(0));
-    assert!(rt; board.publish());
-    assert_eq!(rt; board.rank_of(Dir::new(1)), Some(one));
-    Ok(())
 }
 
-// A plan needs a mask, and its orders are carried out once.
-fn planned<J: Naming, M: Publisher<J>>(
+// The map has the pinned directory at rank 1. A plan needs a mask.
+fn plan<J: Naming, M: Publisher<J>>(
     rt: &impl Abort,
     threads: &impl Threads,
     alloc: Global,
     board: &mut ScriptBoard<J, M>,
-) -> Result<(), Fail> {
+) {
+    assert!(rt; board.publish());
+    assert_eq!(rt;
+        board.rank_of(Dir::new(1)).map(|rank| rank.number()),
+        Some(1)
+    );
     assert_eq!(rt;
         board.plan(threads, alloc),
         Err(Fault::Refused(BoardError::BalancerOff))
     );
     assert_eq!(rt; board.set_mask("0x2"), Ok(()));
     assert_eq!(rt; board.plan(threads, alloc), Ok(()));
-    let (orders, outcomes) = board.carry_out_moves(alloc)?;
-    assert_eq!(rt; orders.len(), 1);
-    assert_eq!(rt; outcomes.len(), 1);
-    assert_eq!(rt; outcomes[0], Outcome::Done(1));
-    let (none, _) = board.carry_out_moves(alloc)?;
-    assert!(rt; none.is_empty());
-    Ok(())
 }
 
-fn pinned_then_planned<J: Naming, M: Publisher<J>>(
+// The orders of a plan are carried out once.
+fn on_board<J: Naming + Send + Sync, R: Threads + Wait + Sync>(
     rt: &impl Abort,
-    threads: &impl Threads,
-    alloc: Global,
-    board: &mut ScriptBoard<J, M>,
-) -> Result<(), Fail> {
-    pinned(rt, alloc, board)?;
-    planned(rt, threads, alloc, board)
-}
-
-fn on_board<J: Naming, R: Wait + Drop>(
-    rt: &impl Abort,
-    threads: &impl Threads,
-    waits: R,
+    threads: &R,
     alloc: Global,
     book: heat_ledger::Opened,
     map: authority_map::Opened,
@@ -78,15 +82,19 @@ fn on_board<J: Naming, R: Wait + Drop>(
     requires map { map ≡ J.map }
     requires limit { J.limit ≡ 8 }
 {
-    let mut board = open::<J, R>(waits, alloc, book, map)?;
-    let done = pinned_then_planned(rt, threads, alloc, &mut board);
+    let mut board = open::<J, &R>(threads, alloc, book, map)?;
+    pin(rt, alloc, &mut board);
+    let mut board = moved(rt, threads, alloc, board, 1);
+    plan(rt, threads, alloc, &mut board);
+    let board = moved(rt, threads, alloc, board, 1);
+    let board = moved(rt, threads, alloc, board, 0);
     board.end();
-    done
+    Ok(())
 }
 
 #[test]
 fn pins_and_plans_move_directories(rt: HostRuntime) -> Result<(), Fail> {
     let book = heat_ledger::Opened::new(rt.alloc())?;
     let map = authority_map::Opened::new();
-    on_board::<Brand, _>(&rt, &rt, &rt, rt.alloc(), book, map)
+    on_board::<Brand, _>(&rt, &rt, rt.alloc(), book, map)
 }

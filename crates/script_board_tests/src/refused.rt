@@ -5,12 +5,11 @@ ghost use Rattle.std.specs.Prelude.{◌≡◌};
 
 use crate::boards::{open_at_last, rank};
 use authority_map::Publisher;
-use export_rounds::Outcome;
-use mds_types::{Dir, Order, Rank, RankSet};
+use mds_types::{Dir, Rank, RankSet};
 use naming::Naming;
 use script_board::{Fault, ScriptBoard};
 use std::alloc::{AllocError, Global};
-use std::marker::Brand;
+use std::marker::{Brand, Send, Sync};
 use std::process::Abort;
 use std::sync::Wait;
 use std::test::Fail;
@@ -129,19 +128,22 @@ fn planned<J: Naming, M: Publisher<J>>(
 }
 
 /// Moves. Where memory is refused before the first order, nothing has changed, and the next call moves.
-fn moved<J: Naming, M: Publisher<J>>(
+fn moved<J: Naming + Send + Sync, M: Publisher<J> + Send, R: Threads + Wait + Sync>(
     rt: &impl Abort,
+    threads: &R,
     alloc: Global,
-    board: &mut ScriptBoard<J, M>,
-) -> Result<(Vec<Order>, Vec<Outcome>), AllocError> {
-    let before = read(board);
-    match board.carry_out_moves(alloc) {
-        Ok(moves) => Ok(moves),
-        Err(AllocError) => {
-            assert!(rt; read(board) == before);
-            board.carry_out_moves(alloc)
-        }
+    board: ScriptBoard<J, M>,
+) -> ScriptBoard<J, M> {
+    let mut board = board;
+    let before = read(&mut board);
+    let (mut board, first) = board.carry_out_moves(threads, alloc);
+    if first.is_ok() {
+        return board;
     }
+    assert!(rt; read(&mut board) == before);
+    let (board, second) = board.carry_out_moves(threads, alloc);
+    assert!(rt; second.is_ok());
+    board
 }
 
 /// Serves what waits. Where memory is refused for the answers, nothing has changed, and the next call serves.
@@ -180,22 +182,22 @@ fn served<J: Naming, M: Publisher<J>>(
 }
 
 /// The root and /b go to rank 1 by a plan, and /a by its pin, by the second phase at last.
-fn moved_away<J: Naming, M: Publisher<J>>(
+fn moved_away<J: Naming + Send + Sync, M: Publisher<J> + Send, R: Threads + Wait + Sync>(
     rt: &impl Abort,
-    threads: &impl Threads,
+    threads: &R,
     alloc: Global,
-    board: &mut ScriptBoard<J, M>,
-) -> Result<(), Fail> {
+    board: ScriptBoard<J, M>,
+) -> ScriptBoard<J, M> {
+    let mut board = board;
     for _ in 0..3 {
-        planned(rt, threads, alloc, board);
-        let (orders, outcomes) = moved(rt, alloc, board)?;
-        assert_eq!(rt; orders.len(), outcomes.len());
+        planned(rt, threads, alloc, &mut board);
+        board = moved(rt, threads, alloc, board);
     }
     for dir in 0..3 {
         let authority = board.board().cluster().authority(Dir::new(dir));
-        assert_eq!(rt; authority, Some(rank(1)?), "{dir}");
+        assert_eq!(rt; authority, Some(number(1)), "{dir}");
     }
-    Ok(())
+    board
 }
 
 /// The parts below chosen tops, which take memory and change nothing.
@@ -217,12 +219,12 @@ fn costs<J: Naming, M: Publisher<J>>(
     Ok(())
 }
 
-fn all<J: Naming, M: Publisher<J>>(
+/// Two directories, of which a pin is to bring one to rank 1, and a rank that was stopped.
+fn begin<J: Naming, M: Publisher<J>>(
     rt: &impl Abort,
-    threads: &impl Threads,
     alloc: Global,
     board: &mut ScriptBoard<J, M>,
-) -> Result<(), Fail> {
+) {
     let first = [
         Do::Make("/a"),
         Do::Make("/b"),
@@ -234,7 +236,14 @@ fn all<J: Naming, M: Publisher<J>>(
         Do::Restart(1),
     ];
     commands(rt, alloc, board, &first);
-    moved_away(rt, threads, alloc, board)?;
+}
+
+/// What is asked for where the directories are now.
+fn go_on<J: Naming, M: Publisher<J>>(
+    rt: &impl Abort,
+    alloc: Global,
+    board: &mut ScriptBoard<J, M>,
+) -> Result<(), Fail> {
     served(rt, alloc, board)?;
     costs(rt, alloc, board)?;
     commands(rt, alloc, board, &[Do::Tick, Do::Publish]);
@@ -242,10 +251,9 @@ fn all<J: Naming, M: Publisher<J>>(
     Ok(())
 }
 
-fn on_board<J: Naming, R: Wait + Drop + Copy>(
+fn on_board<J: Naming + Send + Sync, R: Threads + Wait + Sync>(
     rt: &impl Abort,
-    threads: &impl Threads,
-    waits: R,
+    threads: &R,
     alloc: Global,
     book: heat_ledger::Opened,
     map: authority_map::Opened,
@@ -254,8 +262,10 @@ fn on_board<J: Naming, R: Wait + Drop + Copy>(
     requires map { map ≡ J.map }
     requires limit { J.limit ≡ 8 }
 {
-    let mut board = open_at_last::<J, R>(waits, alloc, book, map)?;
-    let done = all(rt, threads, alloc, &mut board);
+    let mut board = open_at_last::<J, &R>(threads, alloc, book, map)?;
+    begin(rt, alloc, &mut board);
+    let mut board = moved_away(rt, threads, alloc, board);
+    let done = go_on(rt, alloc, &mut board);
     board.end();
     done
 }
@@ -271,5 +281,5 @@ fn book_at_last(alloc: Global) -> Result<heat_ledger::Opened, AllocError> {
 fn a_refused_growth_changes_nothing(rt: HostRuntime) -> Result<(), Fail> {
     let book = book_at_last(rt.alloc())?;
     let map = authority_map::Opened::new();
-    on_board::<Brand, _>(&rt, &rt, &rt, rt.alloc(), book, map)
+    on_board::<Brand, _>(&rt, &rt, rt.alloc(), book, map)
 }

@@ -18,10 +18,16 @@ fn is_plain(byte: u8) -> bool
 }
 
 /// Whether a line holds no byte beside those that are seen in print and those that part fields.
+///
+/// It doesn't end at the first other byte, so that many bytes can be looked at in one step.
 pub fn is_plain_line(line: &[u8]) -> bool
     ensures { result ≡ list_all is_plain line.now }
 {
-    line.iter().all(|byte| is_plain(*byte))
+    let mut plain = true;
+    for byte in line {
+        plain = plain & is_plain(*byte);
+    }
+    plain
 }
 
 fn is_field(part: &[u8]) -> bool

@@ -1,11 +1,13 @@
 //! Reads a script to its end, and has each line answered.
 ghost use Rattle.std.specs.Prelude.{◌≡◌, ℕ, ◌+◌, ◌^◌, ◌++◌, List, IfOk, IfSome, IsErrOf, true, false, not, ◌&&◌};
 ghost use Rattle.script_engine.specs.Lines.{lines_of};
+ghost use Rattle.script_engine.specs.Telling.{AlwaysTells};
 ghost use Rattle.script_engine.specs.Runs.{AcceptsUpTo, AnswersAll, AnswersSome, AnswersWhole, Gives, IsEnded};
 
 use crate::input::{Input, READ_LIMIT};
 use crate::interpreter::Interpreter;
 use crate::progress::Progress;
+use crate::writes::WriteFailed;
 use std::alloc::Global;
 use std::io::{Read, Write};
 use thiserror::Error;
@@ -26,18 +28,27 @@ pub enum RunError {
 
 /// Reads a script to its end, and has each of its lines answered. Says whether each was accepted.
 ///
+/// `answer` is called with the state, the line's number, the line and the writer, and says whether the line was
+/// accepted. It may also find no room for the line's fields, and answers as for one that has no room.
 /// At most 2^40 reads are made. Where they came to no end, the next counts as one that failed, and all bytes that came
 /// were carried out. A strict run ends after the first line that isn't accepted. What was read behind that line is lost.
 /// An answer that is an `Err` of the reader or the writer ends the run, an interrupted call too.
 /// A line that finds no room in memory is answered `line L: refused 0 Memory`, and the run goes on.
-pub fn run_script<I: Interpreter, R: Read, W: Write>(
+pub fn run_script<
+    I: Interpreter,
+    R: Read,
+    W: Write,
+    F: Fn(&mut I, u64, &[u8], &mut W) -> Result<bool, WriteFailed>,
+>(
     alloc: Global,
+    answer: &F,
     interpreter: &mut I,
     input: &mut Input<R>,
     writer: &mut W,
     strict: bool,
 ) -> Result<bool, RunError>
-    requires ready { I.ready }
+    requires may { F.IsAlwaysCallable answer.now }
+    requires tells { AlwaysTells I.answers W.contents (F.post answer.now) }
     requires unread { input.old.reads ≡ 0 }
     ensures done { IfOk result (λ accepted. IfSome (R.remaining input.old.reader) (λ all.
         AnswersAll I.answers strict interpreter.old (lines_of all) interpreter.new accepted (W.contents writer.old) (W.contents writer.new))) }
@@ -69,13 +80,13 @@ pub fn run_script<I: Interpreter, R: Read, W: Write>(
             return Err(RunError::Read);
         };
         if count == 0 {
-            let Ok(accepted) = progress.finish(alloc, interpreter, writer) else {
+            let Ok(accepted) = progress.finish(answer, interpreter, writer) else {
                 return Err(RunError::Write);
             };
             return Ok(accepted);
         }
         let piece = &buffer[..count];
-        let Ok(()) = progress.take_piece(alloc, interpreter, writer, strict, piece) else {
+        let Ok(()) = progress.take_piece(answer, interpreter, writer, strict, piece) else {
             return Err(RunError::Write);
         };
         if strict && !progress.accepted {

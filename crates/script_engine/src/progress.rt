@@ -4,13 +4,13 @@ ghost use Rattle.std.specs.Io.KnownBytes.{Appends};
 ghost use Rattle.script_engine.specs.Known.{AppendsFront};
 ghost use Rattle.script_engine.specs.Answers.{Answer, Takes};
 ghost use Rattle.script_engine.specs.Lines.{IsLine};
+ghost use Rattle.script_engine.specs.Telling.{AlwaysTells};
 ghost use Rattle.script_engine.specs.Progress.{Holds, Stands, Broken, Ends, Cut};
 
 use crate::interpreter::Interpreter;
 use crate::writes::{WriteFailed, write_refusal};
 use mds_types::Refusal;
 use memchr::memchr;
-use std::alloc::Global;
 use std::io::Write;
 
 /// What stands between two bytes: the line that has begun, its number, and whether all lines before it were accepted.
@@ -40,13 +40,13 @@ impl Progress {
     }
 
     /// Has the line answered that the buffer has.
-    fn answer_held<I: Interpreter, W: Write>(
-        &self,
-        alloc: Global,
-        interpreter: &mut I,
-        writer: &mut W,
-    ) -> Result<bool, WriteFailed>
-        requires { I.ready }
+    fn answer_held<
+        I: Interpreter,
+        W: Write,
+        F: Fn(&mut I, u64, &[u8], &mut W) -> Result<bool, WriteFailed>,
+    >(&self, answer: &F, interpreter: &mut I, writer: &mut W) -> Result<bool, WriteFailed>
+        requires may { F.IsAlwaysCallable answer.now }
+        requires tells { AlwaysTells I.answers W.contents (F.post answer.now) }
         ensures ok { IfOk result (λ accepted. (line : List ℕ) → (self.now.has_room ≡ true → self.now.line.items ≡ line)
             → (a : Answer) × Takes I.answers interpreter.old self.now.number line a interpreter.new
             × (accepted ≡ a.accepted) × Appends (W.contents writer.old) (W.contents writer.new) a.text) }
@@ -55,7 +55,7 @@ impl Progress {
             × AppendsFront (W.contents writer.old) (W.contents writer.new) a.text) }
     {
         if self.has_room {
-            interpreter.answer(alloc, self.number, &self.line, writer)
+            answer(interpreter, self.number, &self.line, writer)
         } else {
             write_refusal(writer, self.number, Refusal::Memory)?;
             Ok(false)
@@ -63,14 +63,19 @@ impl Progress {
     }
 
     /// Has the line answered that ends with these bytes. One that has just begun is handed on as it is.
-    fn answer_line<I: Interpreter, W: Write>(
+    fn answer_line<
+        I: Interpreter,
+        W: Write,
+        F: Fn(&mut I, u64, &[u8], &mut W) -> Result<bool, WriteFailed>,
+    >(
         &mut self,
-        alloc: Global,
+        answer: &F,
         interpreter: &mut I,
         writer: &mut W,
         part: &[u8],
     ) -> Result<bool, WriteFailed>
-        requires { I.ready }
+        requires may { F.IsAlwaysCallable answer.now }
+        requires tells { AlwaysTells I.answers W.contents (F.post answer.now) }
         ensures ok { IfOk result (λ accepted. (line : List ℕ) → (self.old.has_room ≡ true → self.old.line.items ++ part.now ≡ line)
             → (a : Answer) × Takes I.answers interpreter.old self.old.number line a interpreter.new
             × (accepted ≡ a.accepted) × Appends (W.contents writer.old) (W.contents writer.new) a.text) }
@@ -81,22 +86,27 @@ impl Progress {
         ensures accepted { self.new.accepted ≡ self.old.accepted }
     {
         if self.has_room && self.line.is_empty() {
-            return interpreter.answer(alloc, self.number, part, writer);
+            return answer(interpreter, self.number, part, writer);
         }
         self.hold(part);
-        let accepted = self.answer_held(alloc, interpreter, writer)?;
+        let accepted = self.answer_held(answer, interpreter, writer)?;
         Ok(accepted)
     }
 
     /// Ends the line with these bytes, and begins the next.
-    fn end_line<I: Interpreter, W: Write>(
+    fn end_line<
+        I: Interpreter,
+        W: Write,
+        F: Fn(&mut I, u64, &[u8], &mut W) -> Result<bool, WriteFailed>,
+    >(
         &mut self,
-        alloc: Global,
+        answer: &F,
         interpreter: &mut I,
         writer: &mut W,
         part: &[u8],
     ) -> Result<(), WriteFailed>
-        requires ready { I.ready }
+        requires may { F.IsAlwaysCallable answer.now }
+        requires tells { AlwaysTells I.answers W.contents (F.post answer.now) }
         requires number { self.old.number + 1 < 2 ^ 64 }
         ensures ok { OnOk result ((line : List ℕ) → (self.old.has_room ≡ true → self.old.line.items ++ part.now ≡ line)
             → (a : Answer) × Takes I.answers interpreter.old self.old.number line a interpreter.new
@@ -109,7 +119,7 @@ impl Progress {
             → (a : Answer) × Takes I.answers interpreter.old self.old.number line a interpreter.new
             × AppendsFront (W.contents writer.old) (W.contents writer.new) a.text) }
     {
-        let accepted = self.answer_line(alloc, interpreter, writer, part)?;
+        let accepted = self.answer_line(answer, interpreter, writer, part)?;
         self.accepted = self.accepted && accepted;
         self.number += 1;
         self.line.clear();
@@ -118,15 +128,20 @@ impl Progress {
     }
 
     /// Takes a line's last bytes and the newline behind them. After the end of a strict run that changes nothing.
-    fn take_line<I: Interpreter, W: Write>(
+    fn take_line<
+        I: Interpreter,
+        W: Write,
+        F: Fn(&mut I, u64, &[u8], &mut W) -> Result<bool, WriteFailed>,
+    >(
         &mut self,
-        alloc: Global,
+        answer: &F,
         interpreter: &mut I,
         writer: &mut W,
         strict: bool,
         part: &[u8],
     ) -> Result<(), WriteFailed>
-        requires ready { I.ready }
+        requires may { F.IsAlwaysCallable answer.now }
+        requires tells { AlwaysTells I.answers W.contents (F.post answer.now) }
         requires number { self.old.number + 1 < 2 ^ 64 }
         requires line { IsLine part.now }
         ensures ok { OnOk result ((start : I) (bytes text : List ℕ) → Stands I.answers strict start bytes text interpreter.old self.old
@@ -140,20 +155,25 @@ impl Progress {
         if strict && !self.accepted {
             return Ok(());
         }
-        self.end_line(alloc, interpreter, writer, part)?;
+        self.end_line(answer, interpreter, writer, part)?;
         Ok(())
     }
 
     /// Takes the next piece of the script.
-    pub(crate) fn take_piece<I: Interpreter, W: Write>(
+    pub(crate) fn take_piece<
+        I: Interpreter,
+        W: Write,
+        F: Fn(&mut I, u64, &[u8], &mut W) -> Result<bool, WriteFailed>,
+    >(
         &mut self,
-        alloc: Global,
+        answer: &F,
         interpreter: &mut I,
         writer: &mut W,
         strict: bool,
         piece: &[u8],
     ) -> Result<(), WriteFailed>
-        requires ready { I.ready }
+        requires may { F.IsAlwaysCallable answer.now }
+        requires tells { AlwaysTells I.answers W.contents (F.post answer.now) }
         requires number { self.old.number + length piece.now < 2 ^ 64 }
         ensures ok { OnOk result ((start : I) (bytes text : List ℕ) → Stands I.answers strict start bytes text interpreter.old self.old
             → (more : List ℕ) × Stands I.answers strict start (bytes ++ piece.now) (text ++ more) interpreter.new self.new
@@ -165,7 +185,7 @@ impl Progress {
     {
         let mut rest = piece;
         while let Some(end) = memchr(b'\n', rest) {
-            self.take_line(alloc, interpreter, writer, strict, &rest[..end])?;
+            self.take_line(answer, interpreter, writer, strict, &rest[..end])?;
             rest = &rest[end + 1..];
         }
         self.hold(rest);
@@ -185,13 +205,13 @@ impl Progress {
     }
 
     /// At the end of the input, has a last line answered that no newline ends.
-    pub(crate) fn finish<I: Interpreter, W: Write>(
-        &mut self,
-        alloc: Global,
-        interpreter: &mut I,
-        writer: &mut W,
-    ) -> Result<bool, WriteFailed>
-        requires ready { I.ready }
+    pub(crate) fn finish<
+        I: Interpreter,
+        W: Write,
+        F: Fn(&mut I, u64, &[u8], &mut W) -> Result<bool, WriteFailed>,
+    >(&mut self, answer: &F, interpreter: &mut I, writer: &mut W) -> Result<bool, WriteFailed>
+        requires may { F.IsAlwaysCallable answer.now }
+        requires tells { AlwaysTells I.answers W.contents (F.post answer.now) }
         requires number { self.old.number + 1 < 2 ^ 64 }
         ensures ok { IfOk result (λ accepted. (strict : Bool) (start : I) (bytes text : List ℕ) → (strict && not self.old.accepted) ≡ false
             → Stands I.answers strict start bytes text interpreter.old self.old
@@ -205,7 +225,7 @@ impl Progress {
         if !self.has_begun() {
             return Ok(self.accepted);
         }
-        self.end_line(alloc, interpreter, writer, b"")?;
+        self.end_line(answer, interpreter, writer, b"")?;
         Ok(self.accepted)
     }
 }

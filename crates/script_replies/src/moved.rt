@@ -1,12 +1,13 @@
 //! The lines of `move`.
 ghost use Rattle.std.specs.Prelude.{◌≡◌, IfOk, string_bytes};
-ghost use Rattle.script_replies.specs.Move.{all_inodes, export_line, export_text, move_line, top_of, top_path, way_text, word};
+ghost use Rattle.script_replies.specs.Move.{all_inodes, export_line, export_text, move_line, order_word, top_of, top_path, way_text, word};
 
 use authority_map::Publisher;
 use dirtree::Tree;
 use export_rounds::Outcome;
-use mds_types::{Dir, Order, Rank};
+use mds_types::{Dir, Order, Rank, Refusal};
 use naming::Naming;
+use rank_threads::OrderOutcome;
 use script_board::ScriptBoard;
 use std::alloc::{AllocError, Global};
 
@@ -24,6 +25,15 @@ fn word(alloc: Global, outcome: Outcome) -> Result<String, AllocError>
         Outcome::Aborted(_) => String::from_str(alloc, "aborted"),
         Outcome::Open(_) => String::from_str(alloc, "open"),
         Outcome::Refused(error) => format!(in alloc; "refused {error}"),
+    }
+}
+
+fn order_word(alloc: Global, outcome: OrderOutcome) -> Result<String, AllocError>
+    ensures { IfOk result (λ text. string_bytes text ≡ order_word outcome) }
+{
+    match outcome {
+        OrderOutcome::TakenUp(outcome) => word(alloc, outcome),
+        OrderOutcome::NoThread => format!(in alloc; "refused {}", Refusal::NoThread),
     }
 }
 
@@ -70,7 +80,7 @@ pub(crate) fn export_line<J: Naming, M: Publisher<J>>(
     alloc: Global,
     board: &ScriptBoard<J, M>,
     order: &Order,
-    outcome: Outcome,
+    outcome: OrderOutcome,
 ) -> Result<String, AllocError>
     ensures { IfOk result (λ line. string_bytes line ≡ export_line board.now (order.now, outcome)) }
 {
@@ -78,7 +88,7 @@ pub(crate) fn export_line<J: Naming, M: Publisher<J>>(
     let way = way_text(alloc, path.as_str(), order.from, order.to)?;
     let dirs = order.dirs.as_slice();
     let inodes = all_inodes(board.board().tree(), dirs);
-    let word = word(alloc, outcome)?;
+    let word = order_word(alloc, outcome)?;
     export_text(alloc, way.as_str(), dirs.len(), inodes, word.as_str())
 }
 

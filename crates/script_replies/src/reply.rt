@@ -5,8 +5,8 @@ ghost use Rattle.script_replies.specs.Reply.{IsPrintable, reply_lines};
 
 use board_problem::PlanPart;
 use division_cost::Part;
-use export_rounds::Outcome;
 use mds_types::{Dir, Order};
+use rank_threads::OrderOutcome;
 
 /// What a command prints, from which its lines are made one by one as they are written.
 #[derive(Drop)]
@@ -18,7 +18,7 @@ pub enum Reply {
     /// The plan in force, by its parts.
     Plan(Vec<PlanPart>),
     /// Orders, each with what became of it.
-    Move(Vec<Order>, Vec<Outcome>),
+    Move(Vec<Order>, Vec<OrderOutcome>),
     /// A report on these directories.
     Stat(Vec<Dir>),
 }

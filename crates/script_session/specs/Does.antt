@@ -1,9 +1,9 @@
 -- What a command does to a board, and why a board refuses it.
-use Rattle.std.specs.Prelude.{◌≡◌, Bool, true, List, [], ◌⊎◌, Option, Some, None, Result, Ok, Err}
+use Rattle.std.specs.Prelude.{◌≡◌, Bool, true, false, List, [], ◌⊎◌, Option, Some, None, Result, Ok, Err}
 use Rattle.division_cost.specs.declared.division.Part.{Part}
-use Rattle.export_rounds.specs.declared.outcome.Outcome.{Outcome}
 use Rattle.mds_types.specs.declared.order.Order.{Order}
 use Rattle.mds_types.specs.declared.plan.Plan.{Plan}
+use Rattle.rank_threads.specs.declared.order_outcome.OrderOutcome.{OrderOutcome}
 use Rattle.script_commands.specs.Commands as line
 use Rattle.script_commands.specs.Commands.{Command}
 use Rattle.script_board.specs.declared.fault.Fault.{Fault}
@@ -41,6 +41,11 @@ cause b (line.Stop rank) = failure (stop b rank)
 cause b (line.Restart rank) = failure (restart b rank)
 cause b line.Stat = None
 
+-- the command `move`
+abbrev pub is_move : Command → Bool
+is_move line.Move = true
+is_move _ = false
+
 -- the fault is the one that stands, or want of memory where none does
 abbrev pub IsCaused : Option Fault → Fault → Type 0
 IsCaused stands fault = (stands ≡ Some fault) ⊎ ((fault ≡ Memory) × (stands ≡ None))
@@ -65,7 +70,7 @@ Does b (line.Cost paths) p ample new =
 Does b line.Plan p ample new =
     (plan : Plan) × IsPlanned b plan new × (p ≡ only_lines (plan_lines new (parts_in_force new))) × (ample ≡ true)
 Does b line.Move p ample new =
-    (orders : List Order) × (outcomes : List Outcome) × IsMoved b orders outcomes new × (p ≡ only_lines (move_lines new orders outcomes)) × (ample ≡ true)
+    (orders : List Order) × (outcomes : List OrderOutcome) × IsMoved b orders outcomes new × (p ≡ only_lines (move_lines new orders outcomes)) × (ample ≡ true)
 Does b (line.Stop rank) p ample new = IsQuiet (stop b rank) p ample new
 Does b (line.Restart rank) p ample new = IsQuiet (restart b rank) p ample new
 Does b line.Stat p ample new = (p ≡ only_lines (stat_lines b)) × (ample ≡ true) × (new ≡ b)

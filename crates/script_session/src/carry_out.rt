@@ -1,7 +1,7 @@
 //! What each command does to a board.
-ghost use Rattle.std.specs.Prelude.{◌≡◌, Bool, IfErr, IfOk, OnErr};
+ghost use Rattle.std.specs.Prelude.{◌≡◌, Bool, IfErr, IfOk, OnErr, false};
 ghost use Rattle.script_commands.specs.View.{view};
-ghost use Rattle.script_session.specs.Does.{Does, IsCaused, cause};
+ghost use Rattle.script_session.specs.Does.{Does, IsCaused, cause, is_move};
 ghost use Rattle.script_session.specs.Done.{IsShowable, shown};
 
 use crate::done::Done;
@@ -11,15 +11,43 @@ use script_board::{Fault, ScriptBoard};
 use script_commands::Command;
 use script_replies::Reply;
 use std::alloc::Global;
+use std::marker::{Send, Sync};
+use std::sync::Wait;
 use std::thread::Threads;
 
-/// Carries out a command, and answers what it prints.
-pub fn carry_out<J: Naming, M: Publisher<J>, R: Threads>(
+/// Carries out a command, and answers the board and what is printed of it.
+pub fn carry_out<J: Naming + Send + Sync, M: Publisher<J> + Send, R: Threads + Wait + Sync>(
+    board: ScriptBoard<J, M>,
+    rt: &R,
+    alloc: Global,
+    command: Command<'_>,
+) -> (ScriptBoard<J, M>, Result<Done, Fault>)
+    ensures done { IfOk result.1 (λ done. (ample : Bool) × Does board (view command.entry) (shown result.0 done) ample result.0) }
+    ensures showable { IfOk result.1 (IsShowable result.0) }
+    ensures fault { IfErr result.1 (IsCaused (cause board (view command.entry))) }
+    ensures unchanged { OnErr result.1 (result.0 ≡ board) }
+{
+    if let Command::Move = command {
+        let (board, moved) = board.carry_out_moves(rt, alloc);
+        match moved {
+            Ok((orders, outcomes)) => (board, Ok(Done::Lines(Reply::Move(orders, outcomes)))),
+            Err(error) => (board, Err(Fault::from(error))),
+        }
+    } else {
+        let mut board = board;
+        let done = change(&mut board, rt, alloc, command);
+        (board, done)
+    }
+}
+
+// Carries out a command other than `move`.
+fn change<J: Naming, M: Publisher<J>, R: Threads>(
     board: &mut ScriptBoard<J, M>,
     rt: &R,
     alloc: Global,
     command: Command<'_>,
 ) -> Result<Done, Fault>
+    requires { is_move (view command) ≡ false }
     ensures done { IfOk result (λ done. (ample : Bool) × Does board.old (view command.entry) (shown board.new done) ample board.new) }
     ensures showable { IfOk result (IsShowable board.new) }
     ensures fault { IfErr result (IsCaused (cause board.old (view command.entry))) }
@@ -40,14 +68,11 @@ pub fn carry_out<J: Naming, M: Publisher<J>, R: Threads>(
             board.plan(rt, alloc)?;
             return Ok(Done::Planned);
         }
-        Command::Move => {
-            let (orders, outcomes) = board.carry_out_moves(alloc)?;
-            return Ok(Done::Lines(Reply::Move(orders, outcomes)));
-        }
         Command::Cost(paths) => {
             return Ok(Done::Lines(Reply::Cost(board.cost(alloc, &paths)?)));
         }
         Command::Stat => return Ok(Done::Lines(Reply::Stat(board.directories(alloc)?))),
+        Command::Move => unreachable!(),
     }
     Ok(Done::Lines(Reply::Nothing))
 }

@@ -2,6 +2,8 @@
 ghost use Rattle.std.specs.Prelude.{◌≡◌, ℕ, ◌≤◌, ◌++◌, List, IfOk, IfSome, IsErrOf, true, false, not, ◌&&◌};
 ghost use Rattle.script_engine.specs.Lines.{lines_of};
 ghost use Rattle.script_engine.specs.Runs.{Gives, IsEnded};
+ghost use Rattle.script_engine.specs.Telling.{Tells};
+ghost use Rattle.script_session.specs.Session.{answers};
 ghost use Rattle.script_session.specs.Script.{AcceptedUpTo, AllAnswered, SomeAnswered, WholeAnswered};
 
 use crate::session::Session;
@@ -9,10 +11,10 @@ use authority_map::MapWriter;
 use board_state::BoardParts;
 use naming::Naming;
 use script_board::Parts;
-use script_engine::{Input, RunError, run_script};
+use script_engine::{Input, RunError, WriteFailed, run_script};
 use std::alloc::Global;
 use std::io::{Read, Write};
-use std::marker::Brand;
+use std::marker::{Brand, Send, Sync};
 use std::sync::Wait;
 use std::thread::Threads;
 
@@ -20,7 +22,7 @@ use std::thread::Threads;
 ///
 /// A strict run ends with the first line that isn't accepted. A device that fails ends the run. The parts of a board are
 /// opened first; where there is no memory for them, nothing is read.
-pub fn run<T: Threads + Wait, R: Read, W: Write>(
+pub fn run<T: Threads + Wait + Sync, R: Read, W: Write>(
     rt: &T,
     alloc: Global,
     input: &mut Input<R>,
@@ -57,7 +59,7 @@ pub fn run<T: Threads + Wait, R: Read, W: Write>(
 }
 
 // The same for a board whose name was picked.
-fn run_named<J: Naming, T: Threads + Wait, R: Read, W: Write>(
+fn run_named<J: Naming + Send + Sync, T: Threads + Wait + Sync, R: Read, W: Write>(
     rt: &T,
     alloc: Global,
     book: heat_ledger::Opened,
@@ -95,7 +97,15 @@ fn run_named<J: Naming, T: Threads + Wait, R: Read, W: Write>(
         return Err(RunError::Memory);
     };
     let mut session = Session::<J, MapWriter<J, &T>, T>::new(rt, limit, parts);
-    let done = run_script(alloc, &mut session, input, writer, strict);
+    let answer = |session: &mut Session<
+        '_,
+        J,
+        MapWriter<J, &T>,
+        T,
+    >, number: u64, line: &[u8], writer: &mut W| -> Result<bool, WriteFailed>
+        ensures { Tells answers W.contents session.old number line.now writer.old result session.new writer.new }
+    { session.answer(alloc, number, line, writer) };
+    let done = run_script(alloc, &answer, &mut session, input, writer, strict);
     session.promises();
     session.end();
     done

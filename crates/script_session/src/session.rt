@@ -10,7 +10,8 @@ ghost use Rattle.script_engine.specs.Known.{AppendsFront};
 ghost use Rattle.std.specs.Io.KnownBytes.{Appends};
 ghost use Rattle.script_session.specs.Script.{IsKeptAt};
 ghost use Rattle.script_session.specs.Printed.{only_lines};
-ghost use Rattle.script_session.specs.Session.{DoesAt, IsCausedOrNoRoom, IsDone, IsTold, asked_cause, beginning, cause_at, published};
+ghost use Rattle.script_engine.specs.Telling.{Tells};
+ghost use Rattle.script_session.specs.Session.{DoesAt, IsCausedOrNoRoom, IsDone, IsTold, answers, asked_cause, beginning, cause_at, published};
 
 use crate::carry_out::carry_out;
 use crate::done::Done;
@@ -23,8 +24,9 @@ use script_engine::{Interpreter, WriteFailed};
 use script_replies::{Reply, Unprinted, parts_in_force, print_reply};
 use std::alloc::{AllocError, Global};
 use std::io::Write;
-use std::marker::Model;
+use std::marker::{Model, Send, Sync};
 use std::mem;
+use std::sync::Wait;
 use std::thread::Threads;
 
 /// What a script has made so far: nothing, or a board once `ranks` was accepted. `J` names the board.
@@ -127,48 +129,6 @@ impl<'r, J: Naming, M: Publisher<J>, R: Threads> Session<'r, J, M, R> {
         }
     }
 
-    // Carries out a command. Before `ranks` was accepted no other is.
-    fn carry_out(&mut self, alloc: Global, command: Command<'_>) -> Result<Done, Fault>
-        ensures done { IfOk result (λ done. (ample : Bool) × IsDone self.old (words.Asks (view command.entry)) (shown_at self.new.board done) ample self.new) }
-        ensures showable { IfOk result (IsShowableAt self.new.board) }
-        ensures fault { IfErr result (IsCaused (cause_at self.old.board (view command.entry))) }
-        ensures unchanged { OnErr result (self.new ≡ self.old) }
-    {
-        if let Some(board) = &mut self.board {
-            return carry_out(board, self.rt, alloc, command);
-        }
-        match command {
-            Command::Ranks(active) => self.begin(alloc, active),
-            _ => Err(Fault::NoRanks),
-        }
-    }
-
-    // Carries out what a line asks for, and answers what it prints.
-    fn carry_asked(&mut self, alloc: Global, what: Asked<'_>) -> Result<Done, Fault>
-        ensures done { IfOk result (λ done. (ample : Bool) × IsDone self.old (asked_view what.entry) (shown_at self.new.board done) ample self.new) }
-        ensures showable { IfOk result (IsShowableAt self.new.board) }
-        ensures fault { IfErr result (IsCaused (asked_cause self.old (asked_view what.entry))) }
-        ensures unchanged { OnErr result (self.new ≡ self.old) }
-    {
-        match what {
-            Asked::Nothing => Ok(Done::Lines(Reply::Nothing)),
-            Asked::Syntax => Err(Fault::Syntax),
-            Asked::Asks(command) => self.carry_out(alloc, command),
-        }
-    }
-
-    // Reads a line, carries out what it asks for, and answers what it prints. Where the line's fields find no room, it is
-    // refused whatever it says.
-    fn take_line(&mut self, alloc: Global, line: &[u8]) -> Result<Done, Fault>
-        ensures done { IfOk result (λ done. (ample : Bool) × IsDone self.old (asked line.now) (shown_at self.new.board done) ample self.new) }
-        ensures showable { IfOk result (IsShowableAt self.new.board) }
-        ensures fault { IfErr result (IsCausedOrNoRoom (asked_cause self.old (asked line.now))) }
-        ensures unchanged { OnErr result (self.new ≡ self.old) }
-    {
-        let what = read_line(alloc, line)?;
-        self.carry_asked(alloc, what)
-    }
-
     // Publishes the map, if there is a board and memory suffices.
     fn publish(&mut self)
         ensures { (self.new ≡ published self.old) ⊎ (self.new ≡ self.old) }
@@ -227,6 +187,77 @@ impl<'r, J: Naming, M: Publisher<J>, R: Threads> Session<'r, J, M, R> {
     }
 }
 
+impl<'r, J: Naming + Send + Sync, M: Publisher<J> + Send, R: Threads + Wait + Sync> Session<
+    'r,
+    J,
+    M,
+    R,
+> {
+    // Carries out a command. Before `ranks` was accepted no other is.
+    fn carry_out(&mut self, alloc: Global, command: Command<'_>) -> Result<Done, Fault>
+        ensures done { IfOk result (λ done. (ample : Bool) × IsDone self.old (words.Asks (view command.entry)) (shown_at self.new.board done) ample self.new) }
+        ensures showable { IfOk result (IsShowableAt self.new.board) }
+        ensures fault { IfErr result (IsCaused (cause_at self.old.board (view command.entry))) }
+        ensures unchanged { OnErr result (self.new ≡ self.old) }
+    {
+        if let Some(board) = self.board.take() {
+            let (board, done) = carry_out(board, self.rt, alloc, command);
+            fill(&mut self.board, board);
+            return done;
+        }
+        match command {
+            Command::Ranks(active) => self.begin(alloc, active),
+            _ => Err(Fault::NoRanks),
+        }
+    }
+
+    // Carries out what a line asks for, and answers what it prints.
+    fn carry_asked(&mut self, alloc: Global, what: Asked<'_>) -> Result<Done, Fault>
+        ensures done { IfOk result (λ done. (ample : Bool) × IsDone self.old (asked_view what.entry) (shown_at self.new.board done) ample self.new) }
+        ensures showable { IfOk result (IsShowableAt self.new.board) }
+        ensures fault { IfErr result (IsCaused (asked_cause self.old (asked_view what.entry))) }
+        ensures unchanged { OnErr result (self.new ≡ self.old) }
+    {
+        match what {
+            Asked::Nothing => Ok(Done::Lines(Reply::Nothing)),
+            Asked::Syntax => Err(Fault::Syntax),
+            Asked::Asks(command) => self.carry_out(alloc, command),
+        }
+    }
+
+    // Reads a line, carries out what it asks for, and answers what it prints. Where the line's fields find no room, it
+    // is refused whatever it says.
+    fn take_line(&mut self, alloc: Global, line: &[u8]) -> Result<Done, Fault>
+        ensures done { IfOk result (λ done. (ample : Bool) × IsDone self.old (asked line.now) (shown_at self.new.board done) ample self.new) }
+        ensures showable { IfOk result (IsShowableAt self.new.board) }
+        ensures fault { IfErr result (IsCausedOrNoRoom (asked_cause self.old (asked line.now))) }
+        ensures unchanged { OnErr result (self.new ≡ self.old) }
+    {
+        let what = read_line(alloc, line)?;
+        self.carry_asked(alloc, what)
+    }
+
+    /// Answers a line: carries out what it asks for, writes what that prints, and publishes the map if the line is
+    /// accepted. It says whether it is.
+    pub fn answer<W: Write>(
+        &mut self,
+        alloc: Global,
+        number: u64,
+        line: &[u8],
+        writer: &mut W,
+    ) -> Result<bool, WriteFailed>
+        ensures { Tells answers W.contents self.old number line.now writer.old result self.new writer.new }
+    {
+        match self.take_line(alloc, line) {
+            Ok(done) => self.settle(alloc, number, &done, writer),
+            Err(fault) => {
+                write_fault(writer, number, fault)?;
+                Ok(false)
+            }
+        }
+    }
+}
+
 // Writes the lines of what was done to a board.
 fn print<J: Naming, M: Publisher<J>, W: Write>(
     board: &mut ScriptBoard<J, M>,
@@ -254,22 +285,4 @@ impl<'r, J: Naming, M: Publisher<J>, R: Threads> Interpreter for Session<'r, J, 
     ghost use Rattle.script_session.specs.Session.{answers};
 
     ghost answers = { answers };
-
-    ghost ready = { Unit {0} };
-
-    fn answer<W: Write>(
-        &mut self,
-        alloc: Global,
-        number: u64,
-        line: &[u8],
-        writer: &mut W,
-    ) -> Result<bool, WriteFailed> {
-        match self.take_line(alloc, line) {
-            Ok(done) => self.settle(alloc, number, &done, writer),
-            Err(fault) => {
-                write_fault(writer, number, fault)?;
-                Ok(false)
-            }
-        }
-    }
 }

@@ -1,4 +1,7 @@
 //! Lines of a script over devices that give and take a few bytes at a time, and that fail.
+ghost use Rattle.std.specs.Prelude.{◌≡◌};
+ghost use Rattle.script_engine.specs.Telling.{Tells};
+
 use crate::devices::{ENOUGH, Sink, Source, sink_of, source_of};
 use script_engine::{
     Input, Interpreter, RunError, WriteFailed, run_script, write_fault, write_whole,
@@ -15,16 +18,18 @@ struct Echo;
 
 impl Interpreter for Echo {
     ghost answers = { λ _ _ _ _ _. Unit {0} };
+}
 
-    ghost ready = { Unit {0} };
-
+impl Echo {
     fn answer<W: Write>(
         &mut self,
-        _alloc: Global,
         number: u64,
         line: &[u8],
         writer: &mut W,
-    ) -> Result<bool, WriteFailed> {
+    ) -> Result<bool, WriteFailed>
+        ensures { Tells (λ _ _ _ _ _. Unit {0}) W.contents self.old number line.now writer.old
+            result self.new writer.new }
+    {
         if line.first() == Some(&b'!') {
             write_fault(writer, number, "bad")?;
             return Ok(false);
@@ -35,6 +40,25 @@ impl Interpreter for Echo {
     }
 }
 
+// Has each line repeated.
+fn repeat<R: Read, W: Write>(
+    alloc: Global,
+    input: &mut Input<R>,
+    writer: &mut W,
+    strict: bool,
+) -> Result<bool, RunError>
+    requires { input.old.reads ≡ 0 }
+{
+    let answer = |echo: &mut Echo, number: u64, line: &[u8], writer: &mut W| -> Result<
+        bool,
+        WriteFailed,
+    >
+        ensures { Tells (λ _ _ _ _ _. Unit {0}) W.contents echo.old number line.now writer.old
+            result echo.new writer.new }
+    { echo.answer(number, line, writer) };
+    run_script(alloc, &answer, &mut Echo, input, writer, strict)
+}
+
 // What a run answers.
 fn repeated(
     alloc: Global,
@@ -43,7 +67,7 @@ fn repeated(
     strict: bool,
 ) -> Result<bool, RunError> {
     let mut input = Input::new(source);
-    run_script(alloc, &mut Echo, &mut input, sink, strict)
+    repeat(alloc, &mut input, sink, strict)
 }
 
 #[test]
@@ -193,7 +217,7 @@ fn written_before_reads(alloc: Global, script: &[u8]) -> Vec<usize> {
         written: &written,
         noted: Vec::new(alloc),
     });
-    let _result = run_script(alloc, &mut Echo, &mut input, &mut counter, false);
+    let _result = repeat(alloc, &mut input, &mut counter, false);
     input.into_inner().noted
 }
 

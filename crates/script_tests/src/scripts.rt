@@ -5,12 +5,13 @@ use crate::devices::{ENOUGH, Sink, Source, sink_of, source_of};
 use script_engine::{Input, RunError};
 use script_session::run;
 use std::alloc::Global;
+use std::marker::Sync;
 use std::sync::Wait;
 use std::test::Fail;
 use std::thread::Threads;
 
 // What a run answers, and how many reads it left to its source.
-fn carried_out<T: Threads + Wait>(
+fn carried_out<T: Threads + Wait + Sync>(
     rt: &T,
     alloc: Global,
     source: Source<'_>,
@@ -27,7 +28,7 @@ fn carried_out<T: Threads + Wait>(
 }
 
 // Whether a run over the whole script ends so, and writes this text.
-fn answers_so<T: Threads + Wait>(
+fn answers_so<T: Threads + Wait + Sync>(
     rt: &T,
     alloc: Global,
     script: &str,
@@ -211,7 +212,7 @@ fn a_strict_run_ends_at_the_first_fault(rt: HostRuntime) -> Result<(), Fail> {
 }
 
 // The answers to whole lines stand written before the next read is asked for, of which each fails here in turn.
-fn stops_at_read<T: Threads + Wait>(rt: &T, alloc: Global, reads: usize) -> bool {
+fn stops_at_read<T: Threads + Wait + Sync>(rt: &T, alloc: Global, reads: usize) -> bool {
     let mut source = source_of(TWO_PARTS.as_bytes(), 7);
     source.reads = reads;
     let mut sink = sink_of(alloc, ENOUGH);
@@ -228,7 +229,7 @@ fn each_failed_read_ends_a_run(rt: HostRuntime) -> Result<(), Fail> {
     Ok(())
 }
 
-fn stops_at_write<T: Threads + Wait>(rt: &T, alloc: Global, writes: usize) -> bool {
+fn stops_at_write<T: Threads + Wait + Sync>(rt: &T, alloc: Global, writes: usize) -> bool {
     let mut sink = sink_of(alloc, 1);
     sink.writes = writes;
     let source = source_of(TWO_PARTS.as_bytes(), ENOUGH);

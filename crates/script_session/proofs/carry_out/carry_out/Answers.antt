@@ -1,15 +1,14 @@
 use Rattle.std.proofs.Common.{refl, sym, true}
 use Rattle.export_rounds.proofs.Asking.{each_long}
-use Rattle.script_board.specs.Serve.{is_ample}
+use Rattle.script_board.specs.Move.{IsMoved}
 use Rattle.script_session.proofs.carry_out.carry_out.Goals as goal
 
-pub returns-in-Go-clause-done : goal.returns-in-Go-clause-done
-returns-in-Go-clause-done g c =
-    let gone = c.in_ok-go-in-Go.ensures.done in
-    rw c.in-Go.is (is_ample c.in_ok-go-in-Go.field-0.items, (gone, refl, refl))
+pub returns-in-Ok-clause-done : goal.returns-in-Ok-clause-done
+returns-in-Ok-clause-done g c =
+    let moved : IsMoved c.args.board c.in-Ok.orders.items c.in-Ok.outcomes.items c.carry_out_moves-board.result.0 = rw c.in-Ok.is at c.carry_out_moves-board.ensures.done in
+    rw c.in-Move.is (true, (c.in-Ok.orders.items, c.in-Ok.outcomes.items, moved, refl, refl))
 
-pub returns-in-Plan-clause-done : goal.returns-in-Plan-clause-done
-returns-in-Plan-clause-done g c = let made = c.in_ok-plan-in-Plan.ensures.done in rw c.in-Plan.is (true, (made.0, made.1, refl, refl))
-
-pub returns-in-Move-clause-showable : goal.returns-in-Move-clause-showable
-returns-in-Move-clause-showable g c = sym (each_long _ _ _ c.in_ok-orders-in-Move.ensures.done.outcomes)
+pub returns-in-Ok-clause-showable : goal.returns-in-Ok-clause-showable
+returns-in-Ok-clause-showable g c =
+    let moved : IsMoved c.args.board c.in-Ok.orders.items c.in-Ok.outcomes.items c.carry_out_moves-board.result.0 = rw c.in-Ok.is at c.carry_out_moves-board.ensures.done in
+    sym (each_long _ _ _ moved.outcomes)

@@ -1,5 +1,0 @@
-use Rattle.naming.specs.Names.{no_table}
-use Rattle.authority_map.proofs.tests.answers_never_go_back.Given as goal
-
-abbrev pub ghosts-raise_and_watch : goal.ghosts-raise_and_watch
-ghosts-raise_and_watch g a = record { ledger = no_table; limit = 4; map = a.opened }

@@ -1,0 +1,142 @@
+//! Guesses of where paths lead, for whoever looks up the same paths time and again.
+//!
+//! A guess is an answer only where the names up to the root are those of the path. So what is told here changes how
+//! long a look-up takes, and never its answer: `find` answers as `Tree::find` does.
+ghost use Rattle.std.specs.Prelude.{◌≡◌, ◌<◌, ◌^◌, IfOk, IfSome, Ok, true};
+ghost use Rattle.dirtree.specs.Path.{find};
+ghost use Rattle.dirtree.specs.Tree.{is_there};
+
+use crate::tree::Tree;
+use crate::tree_error::TreeError;
+use mds_types::Dir;
+use std::alloc::Global;
+
+// How many guesses are kept, and how many of them stand at the places of one path.
+const PLACES: usize = 1 << 17;
+
+const PLACES_OF_A_PATH: usize = 4;
+
+// The directory to which some path led, by its number, and a few bits of that path's mix. The root needs no guess, so 0
+// stands for a free place.
+#[derive(Clone, Copy, Drop)]
+struct Guess {
+    mark: u16,
+    dir: u16,
+}
+
+/// Where paths led when it was told.
+#[derive(Drop)]
+pub struct PathGuesses {
+    guesses: Vec<Guess>,
+}
+
+impl PathGuesses {
+    /// No guess. Memory is asked for once; where it is refused, no guess will be kept.
+    pub fn new(alloc: Global) -> PathGuesses {
+        let free = Guess { mark: 0, dir: 0 };
+        match vec![in alloc; free; PLACES] {
+            Ok(guesses) => PathGuesses { guesses },
+            Err(_) => PathGuesses {
+                guesses: Vec::new(alloc),
+            },
+        }
+    }
+
+    /// Keeps the guess that a path leads to this directory, in the place of another guess where there is no room.
+    pub fn tell(&mut self, path: &str, dir: Dir) {
+        let Ok(dir) = u16::try_from(dir.number()) else {
+            return;
+        };
+        let mixed = mix(path.as_bytes());
+        let at = self.free_place(first_place(mixed));
+        if let Some(guess) = self.guesses.get_mut(at) {
+            *guess = Guess {
+                mark: mark_of(mixed),
+                dir,
+            };
+        }
+    }
+
+    // The first free place of a path, or its first place if none is free.
+    fn free_place(&self, first: usize) -> usize
+        requires { first < 2 ^ 17 }
+    {
+        for at in first..first + PLACES_OF_A_PATH {
+            if let Some(guess) = self.guesses.get(at)
+                && guess.dir == 0
+            {
+                return at;
+            }
+        }
+        first
+    }
+
+    /// The directory that a path names in this tree, as the tree's `find` answers.
+    pub fn find(&self, tree: &Tree, path: &str) -> Result<Dir, TreeError>
+        ensures dir { result ≡ find tree.now.entries path.now }
+        ensures below { IfOk result (λ dir. dir < tree.now.limit) }
+        ensures there { IfOk result (λ dir. is_there tree.now.entries dir ≡ true) }
+    {
+        match self.guessed(tree, path) {
+            Some(dir) => Ok(dir),
+            None => tree.find(path),
+        }
+    }
+
+    // The first guess for a path that leads there.
+    fn guessed(&self, tree: &Tree, path: &str) -> Option<Dir>
+        ensures dir { IfSome result (λ dir. find tree.now.entries path.now ≡ Ok dir) }
+        ensures below { IfSome result (λ dir. dir < tree.now.limit) }
+        ensures there { IfSome result (λ dir. is_there tree.now.entries dir ≡ true) }
+    {
+        let mixed = mix(path.as_bytes());
+        let mark = mark_of(mixed);
+        let first = first_place(mixed);
+        for at in first..first + PLACES_OF_A_PATH {
+            let Some(guess) = self.guesses.get(at) else {
+                return None;
+            };
+            let dir = Dir::new(u32::from(guess.dir));
+            if guess.mark == mark && tree.leads_to(path, dir) {
+                return Some(dir);
+            }
+        }
+        None
+    }
+}
+
+// The place of the first guess for paths of this mix.
+fn first_place(mixed: u64) -> usize
+    ensures { result < 2 ^ 17 }
+{
+    (mixed >> 49) as usize * PLACES_OF_A_PATH
+}
+
+fn mark_of(mixed: u64) -> u16 {
+    ((mixed >> 32) % 0x1_0000) as u16
+}
+
+// A number that differs for most texts that differ.
+fn mix(text: &[u8]) -> u64 {
+    let mut mixed = 0u64;
+    let mut rest = text;
+    while let Some((word, more)) = rest.split_first_chunk::<8>() {
+        mixed = mix_word(mixed, u64::from_le_bytes(*word));
+        rest = more;
+    }
+    mix_bytes(mixed, rest)
+}
+
+// The bytes at a text's end that fill no word.
+fn mix_bytes(before: u64, bytes: &[u8]) -> u64 {
+    let mut mixed = before;
+    for byte in bytes {
+        mixed = mix_word(mixed, u64::from(*byte));
+    }
+    mixed
+}
+
+// The factor is an odd number with about as many ones as zeros.
+fn mix_word(mixed: u64, word: u64) -> u64 {
+    (mixed.rotate_left(5) ^ word).wrapping_mul(0x9e37_79b9_7f4a_7c15)
+}

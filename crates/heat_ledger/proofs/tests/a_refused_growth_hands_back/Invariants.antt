@@ -1,5 +1,0 @@
-use Rattle.naming.specs.Names.{no_log}
-use Rattle.heat_ledger.proofs.tests.a_refused_growth_hands_back.Given as goal
-
-abbrev pub ghosts-count_surely : goal.ghosts-count_surely
-ghosts-count_surely g a = record { ledger = a.opened; limit = 4; map = no_log }

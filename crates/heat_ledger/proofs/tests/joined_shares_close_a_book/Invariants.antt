@@ -1,5 +1,0 @@
-use Rattle.naming.specs.Names.{no_log}
-use Rattle.heat_ledger.proofs.tests.joined_shares_close_a_book.Given as goal
-
-abbrev pub ghosts-close_joined : goal.ghosts-close_joined
-ghosts-close_joined g a = record { ledger = a.opened; limit = 4; map = no_log }

@@ -1,0 +1,102 @@
+//! A map of which growths are refused: with `rt try --test --fail-alloc N`, the N-th of each test.
+ghost use Rattle.std.specs.Prelude.{◌≡◌, ◌<◌};
+
+use crate::maps::{give, look, rank, show};
+use authority_map::{Found, MapError, MapReader, MapWriter, Opened, Publisher};
+use mds_types::{Dir, Rank};
+use naming::Naming;
+use std::alloc::Global;
+use std::marker::Brand;
+use std::sync::Wait;
+
+// An operation that is refused memory has changed nothing, and is made again. It says whether the
+// reader then finds what it found.
+fn give_at_last<J: Naming, M: Publisher<J>>(
+    alloc: Global,
+    writer: &mut M,
+    reader: &mut MapReader<J>,
+    dir: Dir,
+    rank: Rank,
+) -> Result<bool, MapError>
+    requires { dir < J.limit }
+{
+    let before = look(reader, dir);
+    if give::<J, M>(alloc, writer, dir, rank).is_err() {
+        give::<J, M>(alloc, writer, dir, rank)?;
+    }
+    Ok(look(reader, dir) == before)
+}
+
+// A publish that is refused memory has changed nothing, and is made again. It says whether the
+// reader found this until then.
+fn show_at_last<J: Naming, M: Publisher<J>>(
+    writer: &mut M,
+    reader: &mut MapReader<J>,
+    dir: Dir,
+    before: Found,
+) -> Result<bool, MapError> {
+    if show::<J, M>(writer).is_ok() {
+        return Ok(true);
+    }
+    let still = look(reader, dir) == before;
+    show::<J, M>(writer)?;
+    Ok(still)
+}
+
+// Twenty operations on the four directories. It says whether each was found when it was published, and
+// not before.
+fn give_many<J: Naming, M: Publisher<J>>(
+    alloc: Global,
+    writer: &mut M,
+    reader: &mut MapReader<J>,
+) -> Result<bool, MapError>
+    requires { J.limit ≡ 4 }
+{
+    let mut kept = true;
+    for step in 0..20u32 {
+        let (dir, rank) = (Dir::new(step % 4), rank(step as u8));
+        let before = look(reader, dir);
+        kept = give_at_last::<J, M>(alloc, writer, reader, dir, rank)? && kept;
+        kept = show_at_last::<J, M>(writer, reader, dir, before)? && kept;
+        kept = look(reader, dir) == Found::Rank(rank) && kept;
+    }
+    Ok(kept)
+}
+
+fn go_on<J: Naming, R: Wait + Drop>(
+    alloc: Global,
+    mut writer: MapWriter<J, R>,
+    mut readers: Vec<MapReader<J>>,
+) -> bool
+    requires { J.limit ≡ 4 }
+{
+    let kept = match readers.pop() {
+        Some(mut reader) => {
+            give_many::<J, MapWriter<J, R>>(alloc, &mut writer, &mut reader).unwrap_or(false)
+        }
+        None => false,
+    };
+    writer.end();
+    kept && readers.len() == 1
+}
+
+// Opens a map, and opens it again where memory was refused. It says whether all went as it should.
+fn open_at_last<J: Naming, R: Wait>(rt: &R, alloc: Global, opened: Opened) -> bool
+    requires name { opened ≡ J.map }
+    requires limit { J.limit ≡ 4 }
+{
+    let opened = match MapWriter::<J, &R>::open(rt, alloc, opened, 4, 2) {
+        Ok((writer, readers)) => return go_on(alloc, writer, readers),
+        Err((MapError::Memory, opened)) => opened,
+        Err((MapError::NoReader, _opened)) => return false,
+    };
+    match MapWriter::<J, &R>::open(rt, alloc, opened, 4, 2) {
+        Ok((writer, readers)) => go_on(alloc, writer, readers),
+        Err((_error, _opened)) => false,
+    }
+}
+
+#[test]
+fn a_refused_growth_changes_no_map(rt: HostRuntime) {
+    assert!(rt; open_at_last::<Brand, HostRuntime>(&rt, rt.alloc(), Opened::new()));
+}

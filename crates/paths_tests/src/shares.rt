@@ -1,0 +1,271 @@
+//! Worked sequences of hits and deposits, whose numbers were counted by hand.
+ghost use Rattle.std.specs.Prelude.{◌≡◌, ◌<◌, ◌≤◌, All, IfOk};
+ghost use Rattle.heat_ledger.specs.Ledger.{IsClean, weight_of};
+
+use heat_ledger::{Book, HitError, Missing, Opened, Share};
+use mds_types::Dir;
+use naming::Naming;
+use std::alloc::{AllocError, AllocFailed, Global};
+use std::marker::Brand;
+use std::process::Abort;
+use std::test::Fail;
+use std::thread;
+use std::thread::Threads;
+
+fn worked<J: Naming>(mut share: Share<J>, dir: Dir, times: u32) -> Share<J> {
+    for _hit in 0..times {
+        if share.hit(dir).is_err() {
+            return share;
+        }
+    }
+    share
+}
+
+// A share that was moved to another thread, hit there and handed back.
+fn hit_there<J: Naming + Send + Sync + 'static, R: Threads + Sync>(
+    rt: &R,
+    share: Share<J>,
+    dir: Dir,
+    times: u32,
+) -> Result<Share<J>, AllocError> {
+    let there = thread::spawn(rt, move || worked(share, dir, times))?;
+    Ok(there.join(rt))
+}
+
+// The shares with one more.
+fn with<J: Naming>(shares: Vec<Share<J>>, share: Share<J>) -> Result<Vec<Share<J>>, AllocError>
+    requires shares { All IsClean shares.items }
+    requires share { IsClean share }
+    ensures { IfOk result (λ v. All IsClean v.items) }
+{
+    let mut shares = shares;
+    shares.push(share)?;
+    Ok(shares)
+}
+
+// A book of some shares on four directories, opened again where memory was refused.
+fn open<J: Naming>(
+    alloc: Global,
+    opened: Opened,
+    shares: u8,
+) -> Result<(Book<J>, Vec<Share<J>>), AllocError>
+    requires name { opened ≡ J.ledger }
+    requires limit { J.limit ≡ 4 }
+    requires shares { (1 ≤ shares) × (shares ≤ 64) }
+    ensures { IfOk result (λ r. weight_of r.1.items ≡ r.0.shares) }
+{
+    let opened = match Book::<J>::open(alloc, opened, 4, shares) {
+        Ok((book, shares)) => return Ok((book, shares)),
+        Err(AllocFailed { value }) => value,
+    };
+    let (book, shares) = Book::<J>::open(alloc, opened, 4, shares)?;
+    Ok((book, shares))
+}
+
+// The last of the shares.
+fn taken<J: Naming>(rt: &impl Abort, shares: &mut Vec<Share<J>>) -> Share<J> {
+    shares.pop().expect(rt, "a share")
+}
+
+// A request on a directory that has none yet. It says whether it had none.
+fn begun_first<J: Naming>(book: &mut Book<J>, share: &mut Share<J>, dir: Dir) -> bool
+    requires { dir < J.limit }
+{
+    let is_first = book.begun(dir) == 0;
+    if is_first {
+        book.begin(share, dir);
+    }
+    is_first
+}
+
+fn deposit<J: Naming>(book: &mut Book<J>, share: &mut Share<J>) {
+    book.deposit(share);
+}
+
+// Of a directory: hits, pending hits and begun requests of the share, deposited hits and begun requests.
+fn said<J: Naming>(book: &Book<J>, share: &Share<J>, dir: Dir) -> [u64; 5] {
+    [
+        share.hits(dir),
+        share.pending(dir),
+        share.begun(dir),
+        book.counted(dir),
+        book.begun(dir),
+    ]
+}
+
+// The book isn't closed without the third share, then with it, then no more.
+fn close_thrice<J: Naming>(
+    alloc: Global,
+    book: &mut Book<J>,
+    two: Vec<Share<J>>,
+    third: Share<J>,
+) -> Result<bool, AllocError>
+    requires two { All IsClean two.items }
+    requires third { IsClean third }
+{
+    let Err((Missing(1), back)) = book.close(two) else {
+        return Ok(false);
+    };
+    let three = with(back, third)?;
+    let closed = three.len() == 3 && book.close(three).is_ok();
+    let Err((Missing(3), none)) = book.close(Vec::new(alloc)) else {
+        return Ok(false);
+    };
+    Ok(closed && none.is_empty())
+}
+
+// Closes the book over three shares so, where nothing is pending.
+fn close_clean<J: Naming>(
+    alloc: Global,
+    book: &mut Book<J>,
+    first: Share<J>,
+    second: Share<J>,
+    third: Share<J>,
+) -> Result<bool, AllocError> {
+    if !first.is_clean() || !second.is_clean() || !third.is_clean() {
+        return Ok(false);
+    }
+    let two = with(with(Vec::new(alloc), first)?, second)?;
+    close_thrice(alloc, book, two, third)
+}
+
+// Closes the book over a share, where nothing is pending.
+fn close_over<J: Naming>(
+    alloc: Global,
+    book: &mut Book<J>,
+    share: Share<J>,
+) -> Result<bool, AllocError> {
+    if !share.is_clean() {
+        return Ok(false);
+    }
+    let all = with(Vec::new(alloc), share)?;
+    Ok(book.close(all).is_ok())
+}
+
+// Five hits on 1 in another thread and two here, all deposited; the third share is held back.
+fn count_seven<J: Naming + Send + Sync + 'static, R: Threads + Abort + Sync>(
+    rt: &R,
+    alloc: Global,
+    opened: Opened,
+) -> Result<(), AllocError>
+    requires name { opened ≡ J.ledger }
+    requires limit { J.limit ≡ 4 }
+{
+    let dir = Dir::new(1);
+    let (mut book, mut shares) = open::<J>(alloc, opened, 3)?;
+    let third = taken(rt, &mut shares);
+    let mut second = worked(taken(rt, &mut shares), dir, 2);
+    let mut first = hit_there(rt, taken(rt, &mut shares), dir, 5)?;
+    assert!(rt; !first.is_clean());
+    deposit(&mut book, &mut first);
+    deposit(&mut book, &mut second);
+    assert!(rt; close_clean(alloc, &mut book, first, second, third)?);
+    assert_eq!(rt; book.counted(dir), 7);
+    Ok(())
+}
+
+// A share with three hits and a request joins one with two hits.
+fn joined<J: Naming>(
+    book: &mut Book<J>,
+    mut share: Share<J>,
+    mut other: Share<J>,
+) -> (Share<J>, bool)
+    requires { J.limit ≡ 4 }
+{
+    let is_first = begun_first(book, &mut other, Dir::new(1));
+    share.join(other);
+    (share, is_first)
+}
+
+// Two shares that are joined, deposited and closed together.
+fn close_joined<J: Naming, R: Abort>(
+    rt: &R,
+    alloc: Global,
+    opened: Opened,
+) -> Result<(), AllocError>
+    requires name { opened ≡ J.ledger }
+    requires limit { J.limit ≡ 4 }
+{
+    let dir = Dir::new(1);
+    let (mut book, mut shares) = open::<J>(alloc, opened, 2)?;
+    let other = worked(taken(rt, &mut shares), dir, 3);
+    let share = worked(taken(rt, &mut shares), dir, 2);
+    let (mut share, is_first) = joined(&mut book, share, other);
+    assert_eq!(rt; (is_first, share.weight(), share.limit()), (true, 2, 4));
+    assert_eq!(rt; said(&book, &share, dir), [5, 5, 1, 0, 1]);
+    deposit(&mut book, &mut share);
+    assert_eq!(rt; said(&book, &share, dir), [5, 0, 1, 5, 1]);
+    assert_eq!(rt; share.hit(Dir::new(4)), Err(HitError::NoDir));
+    assert!(rt; close_over(alloc, &mut book, share)?);
+    assert_eq!(rt; (book.counted(dir), book.begun(dir)), (5, 1));
+    Ok(())
+}
+
+#[test]
+fn a_share_moves_through_a_thread(rt: HostRuntime) -> Result<(), Fail> {
+    let alloc: Global = rt.alloc();
+    count_seven::<Brand, HostRuntime>(&rt, alloc, Opened::new(alloc)?)?;
+    Ok(())
+}
+
+#[test]
+fn joined_shares_close_a_book(rt: HostRuntime) -> Result<(), Fail> {
+    let alloc: Global = rt.alloc();
+    close_joined::<Brand, HostRuntime>(&rt, alloc, Opened::new(alloc)?)?;
+    Ok(())
+}
+
+// An audit changes nothing, and the calls after `open` take no memory.
+fn count_surely<J: Naming, R: Abort>(
+    rt: &R,
+    alloc: Global,
+    opened: Opened,
+) -> Result<(), AllocError>
+    requires name { opened ≡ J.ledger }
+    requires limit { J.limit ≡ 4 }
+{
+    let (first, last, past) = (Dir::new(0), Dir::new(3), Dir::new(4));
+    let (mut book, mut shares) = open::<J>(alloc, opened, 2)?;
+    book.audit(&mut shares);
+    let mut share = worked(worked(taken(rt, &mut shares), last, 3), first, 1);
+    assert_eq!(rt; said(&book, &share, first), [1, 1, 0, 0, 0]);
+    assert_eq!(rt; said(&book, &share, last), [3, 3, 0, 0, 0]);
+    assert!(rt; begun_first(&mut book, &mut share, last));
+    assert_eq!(rt; said(&book, &share, last), [3, 3, 1, 0, 1]);
+    deposit(&mut book, &mut share);
+    assert_eq!(rt; said(&book, &share, first), [1, 0, 0, 1, 0]);
+    assert_eq!(rt; said(&book, &share, last), [3, 0, 1, 3, 1]);
+    assert_eq!(rt; said(&book, &share, past), [0, 0, 0, 0, 0]);
+    assert_eq!(rt; (book.limit(), share.weight()), (4, 1));
+    assert_eq!(rt; share.count(last, 1_000_000), 1_000_000);
+    assert_eq!(rt; said(&book, &share, last), [1_000_003, 1_000_000, 1, 3, 1]);
+    Ok(())
+}
+
+// With `rt try --test --fail-alloc N`, the N-th growth is refused.
+#[test]
+fn a_refused_growth_hands_back(rt: HostRuntime) -> Result<(), Fail> {
+    let alloc: Global = rt.alloc();
+    let opened = match Opened::new(alloc) {
+        Ok(opened) => opened,
+        Err(_) => Opened::new(alloc)?,
+    };
+    count_surely::<Brand, HostRuntime>(&rt, alloc, opened)?;
+    Ok(())
+}
+
+#[test]
+fn refusals_of_shares_are_printed(rt: HostRuntime) -> Result<(), Fail> {
+    let table = [
+        (format!(in rt.alloc(); "{}", HitError::NoDir)?, "6 NoDir"),
+        (
+            format!(in rt.alloc(); "{}", HitError::ShareFull)?,
+            "13 ShareFull",
+        ),
+        (format!(in rt.alloc(); "{}", Missing(2))?, "14 Missing 2"),
+    ];
+    for (text, wanted) in &table {
+        assert_eq!(rt; text.as_str(), *wanted);
+    }
+    Ok(())
+}
