@@ -4,6 +4,7 @@ use script_engine::Input;
 use std::alloc::Global;
 use std::io;
 use std::io::Read;
+use std::marker::Sync;
 use std::sync::Wait;
 use std::test::Fail;
 use std::thread::Threads;
@@ -19,7 +20,7 @@ impl Read for Broken {
 }
 
 // The exit status, what is written, and what is said on standard error.
-fn ended<T: Threads + Wait, R: Read + Drop>(
+fn ended<T: Threads + Wait + Sync, R: Read + Drop>(
     rt: &T,
     alloc: Global,
     words: &[&str],
