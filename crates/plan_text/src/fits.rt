@@ -1,0 +1,73 @@
+//! What the types of a certificate's values say of its numbers.
+ghost use Rattle.std.specs.Prelude.{◌<◌, ◌^◌, All};
+ghost use Rattle.plan_text.specs.Writable.{FitsCut, FitsList, FitsPlan, FitsProblem, IsWritable};
+
+use crate::certificate::Certificate;
+use crate::line::Line;
+use mds_types::{CutProof, Plan, Problem};
+
+/// Each value of a list is within its type.
+fn all_fit<T: Line>(items: &[T])
+    ensures { FitsList T.fits items.now }
+{
+    number_fits(items.len() as u64);
+    for item in items {
+        item.known();
+    }
+}
+
+fn number_fits(number: u64)
+    ensures { number < 2 ^ 64 }
+{
+    let _value = number;
+}
+
+fn cut_fits(cut: &CutProof)
+    ensures { FitsCut cut.now }
+{
+    match cut {
+        CutProof::Zero => {}
+        CutProof::Heavy(row) => {
+            let _value = *row;
+        }
+        CutProof::Table(table) => all_fit(table.rows()),
+    }
+}
+
+/// The numbers of a problem are within their types.
+pub(crate) fn problem_fits(problem: &Problem)
+    ensures { FitsProblem problem.now }
+{
+    all_fit(problem.rows());
+    let _ranks = problem.ranks();
+}
+
+/// The numbers of a plan are within their types.
+pub(crate) fn plan_fits(plan: &Plan)
+    ensures { FitsPlan plan.now }
+{
+    all_fit(plan.part.as_slice());
+    all_fit(plan.rank.as_slice());
+    all_fit(plan.dual.part_price.as_slice());
+    all_fit(plan.dual.rank_price.as_slice());
+    cut_fits(&plan.cut);
+    number_fits(plan.greatest);
+    number_fits(plan.moved);
+}
+
+/// The numbers of a certificate are within their types.
+fn fits(certificate: &Certificate)
+    ensures { IsWritable certificate.now }
+{
+    problem_fits(&certificate.problem);
+    plan_fits(&certificate.plan);
+}
+
+/// The numbers of certificates are within their types.
+pub(crate) fn all_writable(certificates: &[Certificate])
+    ensures { All IsWritable certificates.now }
+{
+    for certificate in certificates {
+        fits(certificate);
+    }
+}

@@ -1,0 +1,50 @@
+//! Certificates as text: a problem, a plan for it and the plan's proofs, for who wants to check plans
+//! elsewhere or later.
+//!
+//! A certificate is lines of fields, with one blank between fields. Numbers are decimal, without leading
+//! zeros; the mask is hexadecimal. A list has its length in front. Certificates stand one after another in a
+//! file.
+//!
+//! ```text
+//! certificate 1
+//! mask 0x3                 the ranks that may have a part
+//! rows 2
+//! row 0 4 1 0              the row of the parent, heat, inodes, the rank that has it now
+//! row 0 5 20 0
+//! parts 2
+//! part 0                   the part of each row
+//! part 1
+//! ranks 2
+//! rank 1                   the rank of each part
+//! rank 0
+//! greatest 5
+//! moved 1
+//! cut heavy 1              or `cut zero`; or `cut table`, `cells N` and lines `cell CUTS REST PRICE 0` (1: cut)
+//! part_prices 2
+//! price 1
+//! price 1
+//! rank_prices 2
+//! price -1
+//! price 0
+//! end
+//! ```
+//!
+//! (What stands behind the fields here is not part of it.) `write` writes just this text, and bytes that
+//! `read` accepts are just the text of what it gives, and of nothing else. That `read` accepts each text that
+//! `write` writes is tested only.
+#![tactic(auto)]
+
+pub mod certificate;
+mod fields;
+mod fits;
+pub mod laws;
+mod line;
+mod parser;
+pub mod read_error;
+pub mod reader;
+pub mod writer;
+
+pub use certificate::Certificate;
+pub use read_error::{Expected, ReadError};
+pub use reader::read;
+pub use writer::{certificate_text, write};

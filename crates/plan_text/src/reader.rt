@@ -1,0 +1,111 @@
+//! Reading certificates.
+ghost use Rattle.std.specs.Prelude.{◌≡◌, ◌<◌, All, IfOk, List, length, string_bytes};
+ghost use Rattle.plan_text.specs.Text.{texts};
+ghost use Rattle.plan_text.specs.Writable.{IsWritable};
+ghost use Rattle.plan_text.specs.declared.certificate.Certificate.{Certificate};
+
+use crate::certificate::Certificate;
+use crate::fields::fields;
+use crate::fits::all_writable;
+use crate::laws::texts_differ;
+use crate::parser::{Fault, certificate};
+use crate::read_error::{Expected, ReadError};
+use crate::writer::write;
+use std::alloc::{AllocError, Global};
+
+/// The line, counted from 1, of the field behind so many.
+fn line_of_field(text: &[u8], before: usize) -> u64 {
+    let mut line: u64 = 1;
+    let mut left = before;
+    for byte in text {
+        if left == 0 {
+            break;
+        }
+        if *byte == b'\n' {
+            line = line.saturating_add(1);
+        }
+        if *byte == b'\n' || *byte == b' ' {
+            left -= 1;
+        }
+    }
+    line
+}
+
+/// The first line, counted from 1, in which two texts differ.
+fn first_other_line(text: &[u8], other: &[u8]) -> u64 {
+    let mut line: u64 = 1;
+    for (byte, same) in text.iter().zip(other) {
+        if byte != same {
+            break;
+        }
+        if *byte == b'\n' {
+            line = line.saturating_add(1);
+        }
+    }
+    line
+}
+
+/// Whether nothing is left but what stands behind the last newline, which is nothing.
+fn is_over(fields: &[&[u8]]) -> bool {
+    match fields {
+        [last] => last.is_empty(),
+        _ => false,
+    }
+}
+
+/// The certificates that fields write, as far as a parser goes that doesn't mind what parts the fields.
+fn parsed<'a, 'b>(alloc: Global, fields: &'b [&'a [u8]]) -> Result<Vec<Certificate>, Fault>
+    ensures some { IfOk result (λ found. 0 < length found.items) }
+{
+    let (first, mut rest) = certificate(alloc, fields)?;
+    let mut found = Vec::new(alloc);
+    found.push(first)?;
+    for _ in 0..fields.len() {
+        if is_over(rest) {
+            return Ok(found);
+        }
+        let (next, more) = certificate(alloc, rest)?;
+        found.push(next)?;
+        rest = more;
+    }
+    Err(Fault::Expected(rest.len(), Expected::First))
+}
+
+/// The texts of certificates, one after another.
+fn texts(alloc: Global, certificates: &[Certificate]) -> Result<String, AllocError>
+    ensures { IfOk result (λ made. string_bytes made ≡ texts certificates.now) }
+{
+    let mut out = String::new(alloc);
+    for certificate in certificates {
+        write(alloc, &mut out, &certificate.problem, &certificate.plan)?;
+    }
+    Ok(out)
+}
+
+/// Reads certificates, one after another, of which there is at least one.
+pub fn read(alloc: Global, text: &[u8]) -> Result<Vec<Certificate>, ReadError>
+    ensures same { IfOk result (λ found. text.now ≡ texts found.items) }
+    ensures some { IfOk result (λ found. 0 < length found.items) }
+    ensures writable { IfOk result (λ found. All IsWritable found.items) }
+    ensures only { (cs : List Certificate) → All IsWritable cs → text.now ≡ texts cs →
+        IfOk result (λ found. found.items ≡ cs) }
+{
+    let fields = fields(alloc, text)?;
+    let found = match parsed(alloc, fields.as_slice()) {
+        Ok(found) => found,
+        Err(Fault::Memory) => return Err(ReadError::Memory),
+        Err(Fault::Expected(left, expected)) => {
+            let line = line_of_field(text, fields.len().saturating_sub(left));
+            return Err(ReadError::Line(line, expected));
+        }
+    };
+    let written = texts(alloc, found.as_slice())?;
+    if written.as_bytes() == text {
+        all_writable(found.as_slice());
+        texts_differ();
+        Ok(found)
+    } else {
+        let line = first_other_line(text, written.as_bytes());
+        Err(ReadError::Line(line, Expected::Plain))
+    }
+}
