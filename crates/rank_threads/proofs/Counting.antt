@@ -1,14 +1,14 @@
 -- What answers count in a share, one after another.
 use Rattle.std.proofs.Common.{◌≡◌, ◌≢◌, ℕ, zero, suc, ◌+◌, ◌<◌, ◌==◌, Bool, true, false, List, [], ◌∷◌, ◌++◌, length, set, Some, None, refl, sym, ap, ◌∙◌, arith}
 use Rattle.std.proofs.lemmas.Bool.Decides.{nat_tests}
-use Rattle.std.specs.List.{AllZip}
 use Rattle.std.specs.Prelude.{if◌then◌else◌}
 use Rattle.heat_ledger.specs.Ledger.{ShareData}
 use Rattle.heat_ledger.specs.Rows.{at, raised, with_row}
 use Rattle.heat_ledger.proofs.RowLemmas.{at_set_same, at_set_other}
 use Rattle.rank_threads.specs.declared.work.Work.{Work}
 use Rattle.rank_threads.specs.declared.work.WorkAnswer.{WorkAnswer}
-use Rattle.rank_threads.specs.Serving.{Fits, IsServed, Counted, after_hits, hits_on, begun_on, if_on}
+use Rattle.rank_threads.proofs.Returning.{all_short_stay, zip_length, zip_more}
+use Rattle.rank_threads.specs.Serving.{Fits, IsServed, IsShort, Counted, after_hits, hits_on, begun_on, if_on}
 
 set_none : (xs : List ℕ) (d : ℕ) → set xs d (at xs d + 0) ≡ xs
 set_none [] d = refl
@@ -77,21 +77,10 @@ begun_on_more d [] (b ∷ answers) w a same = absurd (cc)
 begun_on_more d (v ∷ works) [] w a same = absurd (cc)
 begun_on_more d (v ∷ works) (b ∷ answers) w a same = let rest : length works ≡ length answers = omega arith in let e = begun_on_more d works answers w a rest in omega arith
 
-fits_more : (works : List Work) (answers : List WorkAnswer) (w : Work) (a : WorkAnswer) → AllZip Fits works answers → Fits w a → AllZip Fits (works ++ w ∷ []) (answers ++ a ∷ [])
-fits_more [] [] w a all fits = (fits, tt)
-fits_more [] (b ∷ answers) w a all fits = absurd all
-fits_more (v ∷ works) [] w a all fits = absurd all
-fits_more (v ∷ works) (b ∷ answers) w a all fits = (all.0, fits_more works answers w a all.1 fits)
-
-fits_length : (works : List Work) (answers : List WorkAnswer) → AllZip Fits works answers → length works ≡ length answers
-fits_length [] [] all = refl
-fits_length [] (b ∷ answers) all = absurd all
-fits_length (v ∷ works) [] all = absurd all
-fits_length (v ∷ works) (b ∷ answers) all = ap (λ n. suc n) (fits_length works answers all.1)
-
 pub served_none : (limit : ℕ) (s : ShareData) → IsServed limit s [] [] s
 served_none limit s = record {
   fits = tt;
+  short = tt;
   counted = record {
     weight = refl;
     hits = λ d inside. omega arith;
@@ -102,10 +91,12 @@ served_none limit s = record {
 
 -- one request more
 pub served_more : (limit : ℕ) (old mid new : ShareData) (works : List Work) (answers : List WorkAnswer) (w : Work) (a : WorkAnswer)
-    → IsServed limit old works answers mid → Fits w a → Counted limit mid (w ∷ []) (a ∷ []) new → IsServed limit old (works ++ w ∷ []) (answers ++ a ∷ []) new
-served_more limit old mid new works answers w a h fits one =
-    let same = fits_length works answers h.fits in record {
-      fits = fits_more works answers w a h.fits fits;
+    → IsServed limit old works answers mid → Fits w a → IsShort limit new w.dir a.refused → Counted limit mid (w ∷ []) (a ∷ []) new → IsServed limit old (works ++ w ∷ []) (answers ++ a ∷ []) new
+served_more limit old mid new works answers w a h fits short one =
+    let same = zip_length Fits works answers h.fits in record {
+      fits = zip_more Fits works answers w a h.fits fits;
+      short = zip_more (λ v b. IsShort limit new v.dir b.refused) works answers w a
+          (all_short_stay limit mid new works answers (λ d inside. (let q = one.hits d inside in omega arith)) h.short) short;
       counted = record {
         weight = one.weight ∙ h.counted.weight;
         hits = λ d inside. (let p = h.counted.hits d inside in let q = one.hits d inside in let e = hits_on_more d works answers w a same in omega arith);

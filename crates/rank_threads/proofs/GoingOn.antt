@@ -8,7 +8,7 @@ use Rattle.board_state.specs.State.{State, refusal, happens, next}
 use Rattle.board_state.specs.Steps.{IsAllowed}
 use Rattle.mds_board.specs.declared.entry.Entry.{Entry}
 use Rattle.mds_board.specs.History.{World, IsReplay, IsAnswer, entry_of, recorded}
-use Rattle.rank_threads.specs.Going.{WentOn, added, is_of_phase}
+use Rattle.rank_threads.specs.Going.{WentOn, added, is_of_requests}
 
 drop_all : (es : List Entry) → drop (length es) es ≡ []
 drop_all [] = refl
@@ -22,7 +22,7 @@ take_all (e ∷ es) = ap (λ (l : List Entry). e ∷ l) (take_all es)
 pub went_nowhere : (w : World) → WentOn w w
 went_nowhere w = record {
   kept = take_all w.history;
-  alone = rw (drop_all w.history) (All-nil (λ e. is_of_phase e.change ≡ true));
+  alone = rw (drop_all w.history) (All-nil (λ e. is_of_requests e.change ≡ true));
   replay = rw (drop_all w.history) refl;
   same_book = (refl, refl);
   same_map = refl;
@@ -47,20 +47,20 @@ replay_longer old [] new c same allowed best =
     (subst (λ s. refusal s c ≡ None) same allowed, subst (λ s. IsAllowed s c) same best, ap (λ s. (happens s c).reply) same, ap (λ s. next s c) same)
 replay_longer old (e ∷ es) new c h allowed best = (h.0, h.1, h.2, replay_longer (next old e.change) es new c h.3 allowed best)
 
-went_further : (before old : World) (c : Change) → WentOn before old → is_of_phase c ≡ true → refusal old.state c ≡ None → IsAllowed old.state c
+went_further : (before old : World) (c : Change) → WentOn before old → is_of_requests c ≡ true → refusal old.state c ≡ None → IsAllowed old.state c
     → WentOn before (recorded old c)
 went_further before old c h is allowed best =
     let more : List Entry = entry_of old.state c ∷ [] in
     let beyond = drop_longer before.history old.history more h.kept in record {
       kept = take_longer before.history old.history more h.kept;
-      alone = rw beyond (All-push (λ e. is_of_phase e.change ≡ true) (added before old) (entry_of old.state c) h.alone is);
+      alone = rw beyond (All-push (λ e. is_of_requests e.change ≡ true) (added before old) (entry_of old.state c) h.alone is);
       replay = rw beyond (replay_longer before.state (added before old) old.state c h.replay allowed best);
       same_book = h.same_book;
       same_map = h.same_map;
     }
 
 -- an answered step or deposit
-pub goes_on : (before old : World) (c : Change) (reply : Result Answer BoardError) (new : World) → WentOn before old → is_of_phase c ≡ true
+pub goes_on : (before old : World) (c : Change) (reply : Result Answer BoardError) (new : World) → WentOn before old → is_of_requests c ≡ true
     → IsAnswer old c reply new → WentOn before new
 goes_on before old c (Ok reply) new h is a = subst (λ (w : World). WentOn before w) (sym a.3) (went_further before old c h is a.0 a.1)
 goes_on before old c (Err error) new h is a = subst (λ (w : World). WentOn before w) (sym a.1) h

@@ -1,5 +1,6 @@
 pub mod Carrying
 pub mod Counting
+pub mod Ended
 pub mod GoingOn
 pub mod Returning
 pub mod Summing

@@ -1,18 +1,40 @@
 -- Shares come back in rank order.
-use Rattle.std.proofs.Common.{◌≡◌, ℕ, suc, ◌≤◌, List, [], ◌∷◌, ◌++◌, length, map, Vec, Global, vec_capacity, refl, sym, ap, ◌∙◌, subst, inl, inr}
+use Rattle.std.proofs.Common.{◌≡◌, ℕ, suc, ◌+◌, ◌<◌, ◌≤◌, Option, Some, None, List, [], ◌∷◌, ◌++◌, length, map, Vec, Global, vec_capacity, refl, sym, ap, arith, ◌∙◌, subst, inl, inr}
 use Rattle.std.specs.List.{All, AllZip}
-use Rattle.std.proofs.lemmas.List.{map-append}
+use Rattle.std.proofs.lemmas.List.{length-map, map-append}
 use Rattle.std.proofs.lemmas.List.Elements.{All-push}
+use Rattle.heat_ledger.specs.declared.hit_error.HitError.TheVariants as hit
 use Rattle.heat_ledger.specs.Ledger.{ShareData, IsClean}
 use Rattle.heat_ledger.specs.Rows.{at}
+use Rattle.mds_board.specs.History.{World}
 use Rattle.rank_threads.specs.declared.work.Work.{Work}
 use Rattle.rank_threads.specs.declared.work.WorkAnswer.{WorkAnswer}
-use Rattle.rank_threads.specs.Serving.{IsServed, IsDeposited, IsReturned, AreReturned}
+use Rattle.rank_threads.specs.declared.work.WorkError.{WorkError}
+use Rattle.rank_threads.specs.declared.work.WorkError.TheVariants as error
+use Rattle.rank_threads.specs.Answered.{AreAnswered, IsRankAnswered}
+use Rattle.rank_threads.specs.Serving.{AreReturned, AreShort, IsDeposited, IsReturned, IsServed, IsShort}
+
+-- a share that counts no less is as full
+pub short_stays : (limit : ℕ) (mid new : ShareData) (dir : ℕ) (e : Option WorkError) → ((d : ℕ) → d < limit → at mid.hits d ≤ at new.hits d)
+    → IsShort limit mid dir e → IsShort limit new dir e
+short_stays limit mid new dir None more h = tt
+short_stays limit mid new dir (Some (error.Board e)) more h = tt
+short_stays limit mid new dir (Some error.NoThread) more h = tt
+short_stays limit mid new dir (Some (error.Share hit.NoDir)) more h = h
+short_stays limit mid new dir (Some (error.Share hit.ShareFull)) more h = let grows = more dir h.0 in let full = h.1 in (h.0, omega (arith, grows, full))
+
+pub all_short_stay : (limit : ℕ) (mid new : ShareData) (works : List Work) (answers : List WorkAnswer) → ((d : ℕ) → d < limit → at mid.hits d ≤ at new.hits d)
+    → AreShort limit mid works answers → AreShort limit new works answers
+all_short_stay limit mid new [] [] more h = tt
+all_short_stay limit mid new [] (a ∷ answers) more h = absurd h
+all_short_stay limit mid new (w ∷ works) [] more h = absurd h
+all_short_stay limit mid new (w ∷ works) (a ∷ answers) more h = (short_stays limit mid new w.dir a.refused more h.0, all_short_stay limit mid new works answers more h.1)
 
 pub returned : (limit : ℕ) (old mid new : ShareData) (works : List Work) (answers : List WorkAnswer) → IsServed limit old works answers mid → IsDeposited mid new
     → IsReturned limit old works answers new
 returned limit old mid new works answers h d = record {
   fits = h.fits;
+  short = all_short_stay limit mid new works answers (λ k inside. (let same : at new.hits k ≡ at mid.hits k = ap (λ (row : List ℕ). at row k) d.0.0 in omega arith)) h.short;
   weight = d.0.2 ∙ h.counted.weight;
   hits = λ k inside. ap (λ (row : List ℕ). at row k) d.0.0 ∙ h.counted.hits k inside;
   begun = λ k inside. ap (λ (row : List ℕ). at row k) d.0.1 ∙ h.counted.begun k inside;
@@ -78,3 +100,27 @@ module _ {A B : Type 0} (R : A → B → Type 0) where
   zip_length [] (w ∷ ys) all = absurd all
   zip_length (v ∷ xs) [] all = absurd all
   zip_length (v ∷ xs) (w ∷ ys) all = ap (λ n. suc n) (zip_length xs ys all.1)
+
+-- the answers of one rank more
+answered_last : (before : World) (first : ℕ) (scripts : List (List Work)) (answers : List (List WorkAnswer)) (works : List Work) (given : List WorkAnswer)
+    → AreAnswered before first scripts answers → IsRankAnswered before (first + length scripts) works given
+    → AreAnswered before first (scripts ++ works ∷ []) (answers ++ given ∷ [])
+answered_last before first [] [] works given all last =
+    let same : first + 0 ≡ first = omega arith in (subst (λ (r : ℕ). IsRankAnswered before r works given) same last, tt)
+answered_last before first [] (a ∷ answers) works given all last = absurd all
+answered_last before first (w ∷ scripts) [] works given all last = absurd all
+answered_last before first (w ∷ scripts) (a ∷ answers) works given all last =
+    let same : first + suc (length scripts) ≡ first + 1 + length scripts = omega arith in
+    (all.0, answered_last before (first + 1) scripts answers works given all.1 (subst (λ (r : ℕ). IsRankAnswered before r works given) same last))
+
+pub answered_all : (first : World) (scripts before : List (Vec Work Global)) (script : Vec Work Global) (some all : List (Vec WorkAnswer Global)) (given : Vec WorkAnswer Global) (rank : ℕ)
+    → scripts ≡ before ++ script ∷ [] → all ≡ some ++ given ∷ [] → rank ≡ length before
+    → AreAnswered first 0 (map (λ (s : Vec Work Global). s.items) before) (map (λ (a : Vec WorkAnswer Global). a.items) some)
+    → IsRankAnswered first rank script.items given.items
+    → AreAnswered first 0 (map (λ (s : Vec Work Global). s.items) scripts) (map (λ (a : Vec WorkAnswer Global). a.items) all)
+answered_all first scripts before script some all given rank ew ea er rest last =
+    let items : List (List Work) = map (λ (s : Vec Work Global). s.items) before in
+    let size : length items ≡ length before = length-map before (λ (s : Vec Work Global). s.items) in
+    let at_last : 0 + length items ≡ rank = omega (arith, size, er) in
+    rw (ew, ea, map-append (λ (s : Vec Work Global). s.items) before (script ∷ []), map-append (λ (a : Vec WorkAnswer Global). a.items) some (given ∷ []))
+    (answered_last first 0 items (map (λ (a : Vec WorkAnswer Global). a.items) some) script.items given.items rest (subst (λ (r : ℕ). IsRankAnswered first r script.items given.items) (sym at_last) last))

@@ -1,3 +1,4 @@
+pub mod Answered
 pub mod Carrying
 pub mod Going
 pub mod Refused

@@ -1,6 +1,7 @@
 -- How requests are answered, and what they count in the share of their rank.
-use Rattle.std.specs.Prelude.{◌≡◌, ◌⊎◌, ℕ, ◌+◌, ◌<◌, ◌==◌, if◌then◌else◌, List, [], ◌∷◌, Option, Some, None}
+use Rattle.std.specs.Prelude.{◌≡◌, ◌⊎◌, ℕ, ◌+◌, ◌^◌, ◌<◌, ◌≤◌, ◌==◌, if◌then◌else◌, List, [], ◌∷◌, Option, Some, None}
 use Rattle.std.specs.List.{AllZip}
+use Rattle.heat_ledger.specs.declared.hit_error.HitError.TheVariants.{NoDir, ShareFull}
 use Rattle.heat_ledger.specs.Ledger.{ShareData, IsClean}
 use Rattle.heat_ledger.specs.Rows.{at, with_row}
 use Rattle.rank_threads.specs.declared.work.Work.{Work}
@@ -8,7 +9,8 @@ use Rattle.rank_threads.specs.declared.work.WorkAnswer.{WorkAnswer}
 use Rattle.rank_threads.specs.declared.work.WorkError.{WorkError}
 use Rattle.rank_threads.specs.declared.work.WorkError.TheVariants.{Board, Share, NoThread}
 
--- A request that began has all its hits, or fewer and the refusal of a hit. One that didn't has none, and another refusal.
+-- A request that began has all its hits, or fewer and the refusal of a hit. One that didn't has none, and another
+-- refusal.
 abbrev pub IsOutcome : ℕ → ℕ → Option ℕ → Option WorkError → Type 0
 IsOutcome wanted hits (Some ticket) None = hits ≡ wanted
 IsOutcome wanted hits (Some ticket) (Some (Share e)) = hits < wanted
@@ -59,19 +61,33 @@ pub record Counted (limit : ℕ) (old : ShareData) (works : List Work) (answers 
   pub pending : (d : ℕ) → d < limit → at new.pending d ≡ at old.pending d + hits_on d works answers
   pub begun : (d : ℕ) → d < limit → at new.begun d ≡ at old.begun d + begun_on d works answers
 
+-- A hit is refused beyond the limit of directories, and where the share has counted 2^56 hits on its directory.
+abbrev pub IsShort : ℕ → ShareData → ℕ → Option WorkError → Type 0
+IsShort limit share dir (Some (Share NoDir)) = limit ≤ dir
+IsShort limit share dir (Some (Share ShareFull)) = (dir < limit) × (2 ^ 56 ≤ at share.hits dir)
+IsShort limit share dir (Some (Board e)) = Unit {0}
+IsShort limit share dir (Some NoThread) = Unit {0}
+IsShort limit share dir None = Unit {0}
+
+-- Where a request has fewer hits than it asked for, there was no room for more.
+abbrev pub AreShort : ℕ → ShareData → List Work → List WorkAnswer → Type 0
+AreShort limit share works answers = AllZip (λ w a. IsShort limit share w.dir a.refused) works answers
+
 -- Each request has an answer, in order, and the share counts what these name.
 pub record IsServed (limit : ℕ) (old : ShareData) (works : List Work) (answers : List WorkAnswer) (new : ShareData) : Type 0 where
   pub fits : AllZip Fits works answers
+  pub short : AreShort limit new works answers
   pub counted : Counted limit old works answers new
 
 -- The share was cleared of its pending hits by a deposit, or is as it was.
 abbrev pub IsDeposited : ShareData → ShareData → Type 0
 IsDeposited old new = ((new.hits ≡ old.hits) × (new.begun ≡ old.begun) × (new.weight ≡ old.weight)) × (IsClean new ⊎ (new ≡ old))
 
--- What a phase makes of a rank's share: each request has an answer, in order; on each directory below the limit hits and
--- begun requests rise by what these name; and the hits are deposited, or pending.
+-- What a phase makes of a rank's share: each request has an answer, in order; on each directory below the limit hits
+-- and begun requests rise by what these name; and the hits are deposited, or pending.
 pub record IsReturned (limit : ℕ) (old : ShareData) (works : List Work) (answers : List WorkAnswer) (new : ShareData) : Type 0 where
   pub fits : AllZip Fits works answers
+  pub short : AreShort limit new works answers
   pub weight : new.weight ≡ old.weight
   pub hits : (d : ℕ) → d < limit → at new.hits d ≡ at old.hits d + hits_on d works answers
   pub begun : (d : ℕ) → d < limit → at new.begun d ≡ at old.begun d + begun_on d works answers

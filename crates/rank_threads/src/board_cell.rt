@@ -1,13 +1,15 @@
 //! The board under its lock.
-ghost use Rattle.std.specs.Prelude.{◌≡◌, OnErr, OnOk, replicate, true};
+ghost use Rattle.std.specs.Prelude.{◌≡◌, ◌↔◌, IfErr, IfOk, IsTrue, OnErr, OnOk, Some, replicate};
 ghost use Rattle.heat_ledger.specs.Rows.{counted_rows, raised};
-ghost use Rattle.board_state.specs.Steps.{is_inner, spelled};
+ghost use Rattle.board_state.specs.Steps.{spelled};
+ghost use Rattle.export_machine.specs.Step.{refusal};
 ghost use Rattle.mds_board.specs.History.{IsAnswer};
+ghost use Rattle.rank_threads.specs.Answered.{IsBegun, IsMet};
 ghost use Rattle.rank_threads.specs.Going.{WentOn};
 
 use authority_map::Publisher;
 use board_state::{Answer, BoardError, Change};
-use export_machine::{Event, Reply};
+use export_machine::{Event, Reply, StepError};
 use heat_ledger::Share;
 use mds_board::Board;
 use mds_types::{Dir, Rank};
@@ -29,8 +31,8 @@ impl Phase for Brand {
     ghost before = { no_board };
 }
 
-/// What lies under the lock: a board that has gone on from the one with which the phase `K` began. Its methods are all that
-/// a thread can do to it.
+/// What lies under the lock: a board that has gone on from the one with which the phase `K` began. Its methods are
+/// all that a thread can do to it.
 pub struct Phased<J: Naming, M: Publisher<J>, K: Phase> {
     board: Board<J, M>,
     of: PhantomData<K>,
@@ -52,6 +54,8 @@ impl<J: Naming, M: Publisher<J>, K: Phase> Phased<J, M, K> {
     #[tactic(auto, unfolding(board_state::specs::State::happens, export_machine::specs::Step::happens))]
     pub fn begin(&mut self, share: &mut Share<J>, rank: Rank, dir: Dir) -> Result<u32, BoardError>
         ensures answer { IsAnswer self.old (Change.Step (Event.Begin rank dir)) (spelled (λ ticket. Answer.Reply (Reply.Ticket ticket)) result) self.new }
+        ensures begun { IfOk result (λ ticket. IsBegun K.before rank dir ticket) }
+        ensures refused { IfErr result (λ error. IsMet K.before (Change.Step (Event.Begin rank dir)) error) }
         ensures share { OnOk result (share.new ≡ record share.old { begun = raised share.old.begun dir }) }
         ensures unchanged { OnErr result (share.new ≡ share.old) }
     {
@@ -62,21 +66,40 @@ impl<J: Naming, M: Publisher<J>, K: Phase> Phased<J, M, K> {
         }
     }
 
-    /// An event of the cluster that neither makes nor removes a directory nor begins a request.
-    pub fn step(&mut self, alloc: Global, event: Event) -> Result<Reply, BoardError>
-        requires inner { is_inner event ≡ true }
-        ensures { IsAnswer self.old (Change.Step event) (spelled Answer.Reply result) self.new }
+    /// A request ends: its ticket is given back.
+    pub fn end(&mut self, alloc: Global, ticket: u32) -> Result<Reply, BoardError>
+        ensures answer { IsAnswer self.old (Change.Step (Event.End ticket)) (spelled Answer.Reply result) self.new }
+        ensures refused { IfErr result (λ error. IsMet K.before (Change.Step (Event.End ticket)) error) }
     {
-        self.board.step(alloc, event)
+        self.board.step(alloc, Event::End(ticket))
+    }
+
+    /// Whether no request with this ticket runs any more, as far as the cluster says: at its limit of events it
+    /// doesn't.
+    pub fn has_ended(&self, ticket: u32) -> bool
+        ensures { IsTrue result ↔ (refusal self.now.state.cluster (Event.End ticket) ≡ Some StepError.NoTicket) }
+    {
+        let refused = self.board.cluster().can_apply(&Event::End(ticket));
+        matches!(refused, Err(StepError::NoTicket))
     }
 
     /// Counts the hits that a share has pending.
     pub fn deposit(&mut self, alloc: Global, share: &mut Share<J>) -> Result<(), BoardError>
         ensures answer { IsAnswer self.old (Change.Deposit (counted_rows share.old.pending)) (spelled (λ _. Answer.Done) result) self.new }
+        ensures refused { IfErr result (λ error. IsMet K.before (Change.Deposit (counted_rows share.old.pending)) error) }
         ensures share { OnOk result (share.new ≡ record share.old { pending = replicate J.limit 0 }) }
         ensures unchanged { OnErr result (share.new ≡ share.old) }
     {
         self.board.deposit(alloc, share)
+    }
+
+    /// The board.
+    pub fn into_board(self) -> Board<J, M>
+        ensures same { result ≡ self }
+        ensures went { WentOn K.before result }
+    {
+        let Phased { board, of: _of } = self;
+        board
     }
 }
 
@@ -103,12 +126,16 @@ impl<J: Naming, M: Publisher<J>, K: Phase> BoardCell<J, M, K> {
         self.board.lock(rt)
     }
 
+    /// Takes what lies under the lock from there.
+    pub fn into_phased(self) -> Phased<J, M, K> {
+        let BoardCell { board } = self;
+        board.into_inner()
+    }
+
     /// Takes the board from under the lock.
     pub fn into_board(self) -> Board<J, M>
         ensures { WentOn K.before result }
     {
-        let BoardCell { board } = self;
-        let Phased { board, of: _of } = board.into_inner();
-        board
+        self.into_phased().into_board()
     }
 }

@@ -1,6 +1,6 @@
 //! A thread for the requests of one rank.
 ghost use Rattle.std.specs.Prelude.{◌≡◌, ◌≤◌, [], length, vec_capacity};
-ghost use Rattle.rank_threads.specs.Serving.{IsServed};
+ghost use Rattle.rank_threads.specs.Answered.{IsRankServed};
 
 use crate::board_cell::{BoardCell, Phase};
 use crate::serving::serve_script;
@@ -10,7 +10,7 @@ use heat_ledger::Share;
 use mds_types::Rank;
 use naming::Naming;
 use std::alloc::Global;
-use std::marker::{Send, Sync};
+use std::marker::{PhantomData, Send, Sync};
 use std::snapshot::Snapshot;
 use std::sync::Wait;
 use std::sync::atomic::{AtomicBool, Ordering};
@@ -24,14 +24,19 @@ pub(crate) struct Desk<J: Naming> {
     pub(crate) answers: Vec<WorkAnswer>,
 }
 
-// What a thread makes of a desk: the share that it had, and its script.
+// What a thread makes of a desk: the share that it had, and the rank and its script, in the phase `K`.
 #[derive(Drop)]
-struct Served<J: Naming>(Snapshot<Share<J>>, Snapshot<Vec<Work>>);
+struct Served<J: Naming, K: Phase> {
+    share: Snapshot<Share<J>>,
+    script: Snapshot<Vec<Work>>,
+    rank: Rank,
+    of: PhantomData<K>,
+}
 
-impl<J: Naming> Promise<Desk<J>> for Served<J> {
-    ghost use Rattle.rank_threads.specs.Serving.{IsServed};
+impl<J: Naming, K: Phase> Promise<Desk<J>> for Served<J, K> {
+    ghost use Rattle.rank_threads.specs.Answered.{IsRankServed};
 
-    ghost kept_by = { λ p desk. IsServed J.limit p.0.value p.1.value.items desk.answers.items desk.share };
+    ghost kept_by = { λ p desk. IsRankServed J.limit K.before p.rank p.share.value p.script.value.items desk.answers.items desk.share };
 }
 
 // Serves the requests of a rank, or refuses them where it has no thread.
@@ -47,7 +52,7 @@ fn serve_desk<J: Naming, M: Publisher<J>, K: Phase, R: Wait, G: Gate>(
 ) -> Desk<J>
     requires empty { desk.answers.items ≡ [] }
     requires room { length script.now.items ≤ vec_capacity desk.answers }
-    ensures { IsServed J.limit desk.share script.now.items result.answers.items result.share }
+    ensures { IsRankServed J.limit K.before rank desk.share script.now.items result.answers.items result.share }
 {
     let Desk {
         mut share,
@@ -68,8 +73,8 @@ fn serve_desk<J: Naming, M: Publisher<J>, K: Phase, R: Wait, G: Gate>(
     Desk { share, answers }
 }
 
-/// Serves the requests of a rank by a thread of its own, while this one does the rest. Where there is no thread they are
-/// refused.
+/// Serves the requests of a rank by a thread of its own, while this one does the rest. Where there is no thread they
+/// are refused, and where there are no requests none is made.
 pub(crate) fn serve_beside<
     J: Naming + Send + Sync,
     M: Publisher<J> + Send,
@@ -91,19 +96,26 @@ pub(crate) fn serve_beside<
     requires rest { F.pre rest }
     requires empty { desk.answers.items ≡ [] }
     requires room { length script.now.items ≤ vec_capacity desk.answers }
-    ensures served { IsServed J.limit desk.share script.now.items result.0.answers.items result.0.share }
+    ensures served { IsRankServed J.limit K.before rank desk.share script.now.items result.0.answers.items result.0.share }
     ensures rest { F.post rest result.1 }
 {
+    if script.is_empty() {
+        return (desk, rest());
+    }
     let no_thread = AtomicBool::new(false);
-    let was = Snapshot::of(&desk.share);
     thread::scope(
         thread::scope_env(),
         rt,
         |scope| -> (Desk<J>, T)
             requires { F.pre rest × (desk.answers.items ≡ []) × (length script.now.items ≤ vec_capacity desk.answers) }
-            ensures { IsServed J.limit desk.share script.entry.now.items result.0.answers.items result.0.share × F.post rest result.1 }
+            ensures { IsRankServed J.limit K.before rank desk.share script.entry.now.items result.0.answers.items result.0.share × F.post rest result.1 }
         {
-            let promise = Served(Snapshot::of(&desk.share), Snapshot::of(script));
+            let promise = Served::<J, K> {
+                share: Snapshot::of(&desk.share),
+                script: Snapshot::of(script),
+                rank,
+                of: PhantomData,
+            };
             match scope.spawn_with(promise, || {
                 serve_desk(rt, alloc, cell, gate, &no_thread, rank, script, desk)
             }) {

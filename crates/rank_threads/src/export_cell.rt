@@ -16,7 +16,8 @@ use std::alloc::Global;
 use std::marker::{Brand, Model, PhantomData};
 use std::sync::{Mutex, MutexGuard, Wait};
 
-/// Names the board with which a phase of exports begins, and its orders. It exists in proofs alone, and a phase picks it.
+/// Names the board with which a phase of exports begins, and its orders. It exists in proofs alone, and a phase picks
+/// it.
 pub(crate) trait ExportPhase {
     ghost use Rattle.std.specs.Prelude.{List};
     ghost use Rattle.mds_board.specs.History.{World};
@@ -36,8 +37,8 @@ impl ExportPhase for Brand {
     ghost orders = { [] };
 }
 
-/// What lies under the lock: a board that has gone on by exports alone from the one with which the phase `K` began, and how
-/// the phase's orders stand on it. Its methods are all that a thread can do to it.
+/// What lies under the lock: a board that has gone on by exports alone from the one with which the phase `K` began,
+/// and how the phase's orders stand on it. Its methods are all that a thread can do to it.
 pub(crate) struct Exporting<J: Naming, M: Publisher<J>, K: ExportPhase> {
     board: Board<J, M>,
     standings: Vec<Standing>,

@@ -10,8 +10,8 @@ use naming::Naming;
 use std::alloc::Global;
 use std::sync::Wait;
 
-/// A rank starts its orders and asks about its imports, once; takes the messages that have come, goes on with its exports,
-/// and publishes the map if it changed that.
+/// A rank starts its orders and asks about its imports, once; takes the messages that have come, goes on with its
+/// exports, and publishes the map if it changed that.
 pub(crate) fn take_turn<J: Naming, M: Publisher<J>, K: ExportPhase, R: Wait, G: Gate>(
     rt: &R,
     alloc: Global,

@@ -146,13 +146,15 @@ fn carry_out_named<
     (board, outcomes)
 }
 
-/// Carries out orders in eight rounds, by a thread for each rank that has something to do, and tells what became of each.
+/// Carries out orders in eight rounds, by a thread for each rank that has something to do, and tells what became of
+/// each.
 ///
-/// In a round each rank takes the messages that had come when the round began, in rising order, freezes its exports in state
-/// freezing, notifies of its logged ones and publishes the map if it did. In the first round it starts its orders and asks
-/// about its imports that were left started before that. An event that is refused is passed over. What isn't logged after the
-/// last round is aborted, but for exports of earlier phases. The orders of a rank for which there is no thread in the first
-/// round aren't started; what else it has to look after goes on by the calling thread.
+/// In a round each rank takes the messages that had come when the round began, in rising order, freezes its exports
+/// in state freezing, notifies of its logged ones and publishes the map if it did. In the first round it starts its
+/// orders and asks about its imports that were left started before that. An event that is refused is passed over.
+/// What isn't logged after the last round is aborted, but for exports of earlier phases. The orders of a rank for
+/// which there is no thread in the first round aren't started; what else it has to look after goes on by the calling
+/// thread.
 ///
 /// All memory for the answer is asked for before the first event.
 pub fn export_phase<

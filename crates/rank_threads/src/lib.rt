@@ -1,11 +1,12 @@
 //! Requests of the ranks and exports between them, each rank's by a thread of its own, over one board under a lock.
 //!
-//! What a thread finds under the lock is a board, and it is the board with which the phase began, with steps of the cluster
-//! and deposits alone on top of its history, or with exports alone: the lock's type says so.
+//! What a thread finds under the lock is a board, and it is the board with which the phase began, with requests that
+//! begin or end and deposits alone on top of its history, or with exports alone: the lock's type says so.
 #![tactic(auto)]
 
 pub mod board_cell;
 mod desk;
+mod ending;
 mod export_cell;
 mod export_threads;
 mod export_turn;

@@ -1,30 +1,37 @@
 //! The requests of one rank are served in order.
-ghost use Rattle.std.specs.Prelude.{◌≡◌, ◌<◌, ◌≤◌, [], ◌∷◌, All, IsNone, IsSome, Some, false, length, vec_capacity};
+ghost use Rattle.std.specs.Prelude.{◌≡◌, ◌<◌, ◌≤◌, [], ◌∷◌, IsNone, IsSome, Some, false, length, true, vec_capacity};
 ghost use Rattle.std.specs.Option.{option_map};
-ghost use Rattle.rank_threads.specs.Serving.{Counted, Fits, IsServed, after_hits, no_thread};
+ghost use Rattle.rank_threads.specs.Answered.{IsAnswered, IsRankAnswered};
+ghost use Rattle.rank_threads.specs.Serving.{Counted, Fits, IsServed, IsShort, after_hits, no_thread};
 
 use crate::board_cell::{BoardCell, Phase};
 use crate::work::{Gate, Work, WorkAnswer, WorkError};
 use authority_map::Publisher;
-use export_machine::Event;
 use heat_ledger::{HitError, Share};
 use mds_types::{Dir, Rank};
 use naming::Naming;
 use std::alloc::Global;
 use std::sync::Wait;
 
-// Counts hits on a directory up to the first that is refused, and says how many there were.
+// Counts the hits on a directory for which there is room, and says how many these are and why not all.
 fn count<J: Naming>(share: &mut Share<J>, dir: Dir, hits: u32) -> (u32, Option<HitError>)
     ensures all { IsNone result.1 → result.0 ≡ hits }
     ensures fewer { IsSome result.1 → result.0 < hits }
+    ensures short { IsShort J.limit share.new dir (option_map WorkError.Share result.1) }
     ensures share { share.new ≡ after_hits share.old dir result.0 }
 {
-    for counted in 0..hits {
-        if let Err(error) = share.hit(dir) {
-            return (counted, Some(error));
-        }
+    if hits == 0 {
+        return (0, None);
     }
-    (hits, None)
+    if dir.number() as usize >= share.limit() {
+        return (0, Some(HitError::NoDir));
+    }
+    let counted = share.count(dir, hits);
+    if counted < hits {
+        (counted, Some(HitError::ShareFull))
+    } else {
+        (counted, None)
+    }
 }
 
 // Serves a request. The lock is held for each event alone.
@@ -40,6 +47,8 @@ fn serve_one<J: Naming, M: Publisher<J>, K: Phase, R: Wait, G: Gate>(
 ) -> WorkAnswer
     ensures fits { Fits work result }
     ensures counted { Counted J.limit share.old (work ∷ []) (result ∷ []) share.new }
+    ensures short { IsShort J.limit share.new work.dir result.refused }
+    ensures answered { IsAnswered K.before rank work result }
 {
     let _rows = share.limit();
     let begun = cell.lock(rt).begin(share, rank, work.dir);
@@ -47,8 +56,8 @@ fn serve_one<J: Naming, M: Publisher<J>, K: Phase, R: Wait, G: Gate>(
     let answer = match begun {
         Ok(ticket) => {
             let (hits, refused) = count(share, work.dir, work.hits);
-            // the rank may have stopped, which ended the request
-            let _end = cell.lock(rt).step(alloc, Event::End(ticket));
+            // where this is refused, it is tried once more when all threads have joined
+            let _end = cell.lock(rt).end(alloc, ticket);
             counted(ticket, hits, refused)
         }
         Err(error) => WorkAnswer::refused(WorkError::Board(error)),
@@ -88,6 +97,8 @@ fn answer_to<J: Naming, M: Publisher<J>, K: Phase, R: Wait, G: Gate>(
 ) -> WorkAnswer
     ensures fits { Fits work result }
     ensures counted { Counted J.limit share.old (work ∷ []) (result ∷ []) share.new }
+    ensures short { IsShort J.limit share.new work.dir result.refused }
+    ensures answered { has_thread ≡ true → IsAnswered K.before rank work result }
     ensures refused { has_thread ≡ false → result ≡ no_thread }
 {
     if has_thread {
@@ -112,7 +123,7 @@ pub(crate) fn serve_script<J: Naming, M: Publisher<J>, K: Phase, R: Wait, G: Gat
     requires empty { answers.old.items ≡ [] }
     requires room { length script.now ≤ vec_capacity answers.old }
     ensures served { IsServed J.limit share.old script.now answers.new.items share.new }
-    ensures refused { has_thread ≡ false → All (λ a. a ≡ no_thread) answers.new.items }
+    ensures answered { IsRankAnswered K.before rank script.now answers.new.items }
 {
     for (number, work) in script.iter().enumerate() {
         let answer = answer_to(

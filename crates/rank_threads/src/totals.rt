@@ -3,6 +3,7 @@ ghost use Rattle.std.specs.Prelude.{◌≡◌, ◌≤◌, ◌<◌, ◌+◌, ℕ,
 ghost use Rattle.std.specs.List.{All};
 ghost use Rattle.heat_ledger.specs.Ledger.{IsClean, begun_of, hits_of, pending_of, weight_of};
 ghost use Rattle.heat_ledger.specs.Rows.{at};
+ghost use Rattle.rank_threads.specs.Answered.{AreAnswered, IsDepositTold, IsEndTold};
 ghost use Rattle.rank_threads.specs.Going.{WentOn};
 ghost use Rattle.rank_threads.specs.Serving.{AreReturned, begun_on, hits_on};
 ghost use Rattle.rank_threads.specs.Totals.{over_ranks};
@@ -20,8 +21,8 @@ use std::thread::Threads;
 
 /// Serves the requests of each rank as `serve_phase` does, for whoever has all shares of the board's ledger.
 ///
-/// On each directory below the limit the board's requests rise by the answers with a ticket, and its hits, with those that
-/// are pending, by the hits that the answers name.
+/// On each directory below the limit the board's requests rise by the answers with a ticket, and its hits, with those
+/// that are pending, by the hits that the answers name.
 pub fn serve_with_totals<
     J: Naming + Send + Sync,
     M: Publisher<J> + Send,
@@ -46,6 +47,9 @@ pub fn serve_with_totals<
         ≡ at board.state.begun d + over_ranks (begun_on d) (map (λ s. s.items) scripts.now) (map (λ a. a.items) ranks.answers.items)) }
     ensures hits { IfOk result.1 (λ ranks. (d : ℕ) → d < J.limit → at result.0.state.counted d + pending_of ranks.shares.items d
         ≡ (at board.state.counted d + pending_of shares.items d) + over_ranks (hits_on d) (map (λ s. s.items) scripts.now) (map (λ a. a.items) ranks.answers.items)) }
+    ensures answered { IfOk result.1 (λ ranks. AreAnswered board 0 (map (λ s. s.items) scripts.now) (map (λ a. a.items) ranks.answers.items)) }
+    ensures told { IfOk result.1 (λ ranks. IsDepositTold board ranks.deposited) }
+    ensures ended { IfOk result.1 (λ ranks. IsEndTold board result.0 (map (λ a. a.items) ranks.answers.items) ranks.ended) }
     ensures memory { IfErr result.1 (λ e. e.value.items ≡ shares.items) }
     ensures unchanged { OnErr result.1 (result.0 ≡ board) }
 {
@@ -74,12 +78,14 @@ fn audited<J: Naming, M: Publisher<J>>(
     ensures shares { result.1.shares.items ≡ ranks.shares.items }
     ensures answers { result.1.answers.items ≡ ranks.answers.items }
     ensures deposited { result.1.deposited ≡ ranks.deposited }
+    ensures ended { result.1.ended ≡ ranks.ended }
 {
     let mut board = board;
     let Ranks {
         mut shares,
         answers,
         deposited,
+        ended,
     } = ranks;
     board.audit(&mut shares);
     (
@@ -88,6 +94,7 @@ fn audited<J: Naming, M: Publisher<J>>(
             shares,
             answers,
             deposited,
+            ended,
         },
     )
 }

@@ -95,7 +95,8 @@ fn keep(told: &mut Vec<WorkAnswer>, answers: &[Vec<WorkAnswer>]) {
     }
 }
 
-/// Serves the requests of all ranks with jitter, and adds their answers. Where there is no memory or no deposit, it adds none.
+/// Serves the requests of all ranks with jitter, and adds their answers. Where there is no memory, no deposit or no end, it adds
+/// none.
 pub(crate) fn serve<J: Naming + Send + Sync, M: Publisher<J> + Send, R: Threads + Wait + Sync>(
     rt: &R,
     alloc: Global,
@@ -114,9 +115,10 @@ pub(crate) fn serve<J: Naming + Send + Sync, M: Publisher<J> + Send, R: Threads 
                 shares,
                 answers,
                 deposited,
+                ended,
             },
         ) => {
-            if deposited.is_ok() {
+            if deposited.is_ok() && ended.is_ok() {
                 keep(told, &answers);
             }
             (board, shares)

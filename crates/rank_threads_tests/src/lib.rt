@@ -1,10 +1,13 @@
-//! Tests of the rank threads: requests of two ranks and of 64, and orders of three; where growths or threads are refused too.
+//! Tests of the rank threads: requests of two ranks and of 64, and orders of three; where growths or threads are refused, or the history is
+//! full, too.
 #![tactic(auto)]
 
 #[cfg(test)]
 mod boards;
 #[cfg(test)]
 mod exports;
+#[cfg(test)]
+mod full;
 #[cfg(test)]
 mod gates;
 #[cfg(test)]

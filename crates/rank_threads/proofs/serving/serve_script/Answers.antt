@@ -3,13 +3,16 @@ use Rattle.std.proofs.lemmas.List.{take_more}
 use Rattle.std.proofs.lemmas.List.Elements.{All-nil, All-push}
 use Rattle.rank_threads.specs.declared.work.WorkAnswer.{WorkAnswer}
 use Rattle.rank_threads.specs.Serving.{no_thread}
+use Rattle.rank_threads.specs.Answered.{IsAnswered}
 use Rattle.rank_threads.proofs.Counting.{served_none, served_more}
+use Rattle.rank_threads.proofs.Returning.{zip_more}
 use Rattle.rank_threads.proofs.serving.serve_script.Goals as goal
 
 pub loop-number-init : goal.loop-number-init
 loop-number-init g c = record {
   served = rw c.requires.empty (served_none g.J.Naming.limit c.args.share.now);
   as_many = rw c.requires.empty refl;
+  answered = λ has. rw c.requires.empty tt;
   refused = λ none. rw c.requires.empty (All-nil (λ (a : WorkAnswer). a ≡ no_thread));
   room = refl;
 }
@@ -27,8 +30,10 @@ loop-number-preserved g c =
     let cap = c.push_reserved.ensures.capacity in
     let number = c.loop-number.number in record {
       served = rw (pushed, take_more c.args.script.now number work c.loop-number-test.true, sym c.index-script-number.is)
-          (served_more g.J.Naming.limit c.args.share.now c.loop-number.share c.answer_to-answer.new.share (take number c.args.script.now) c.loop-number.answers.items work a i.served c.answer_to-answer.ensures.fits c.answer_to-answer.ensures.counted);
+          (served_more g.J.Naming.limit c.args.share.now c.loop-number.share c.answer_to-answer.new.share (take number c.args.script.now) c.loop-number.answers.items work a i.served c.answer_to-answer.ensures.fits c.answer_to-answer.ensures.short c.answer_to-answer.ensures.counted);
       as_many = omega arith;
+      answered = λ has. rw (pushed, take_more c.args.script.now number work c.loop-number-test.true, sym c.index-script-number.is)
+          (zip_more (IsAnswered g.K.Phase.before c.args.rank) (take number c.args.script.now) c.loop-number.answers.items work a (i.answered has) (c.answer_to-answer.ensures.answered has));
       refused = λ none. rw pushed (All-push (λ (b : WorkAnswer). b ≡ no_thread) c.loop-number.answers.items a (i.refused none) (c.answer_to-answer.ensures.refused none));
       room = omega arith;
     }

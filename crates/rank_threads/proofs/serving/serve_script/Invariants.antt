@@ -1,5 +1,6 @@
-use Rattle.std.proofs.Common.{◌≡◌, false, length, take, vec_capacity}
-use Rattle.std.specs.List.{All}
+use Rattle.std.proofs.Common.{◌≡◌, false, length, take, true, vec_capacity}
+use Rattle.std.specs.List.{All, AllZip}
+use Rattle.rank_threads.specs.Answered.{IsAnswered}
 use Rattle.rank_threads.specs.Serving.{IsServed, no_thread}
 use Rattle.rank_threads.proofs.serving.serve_script.Given as goal
 
@@ -7,6 +8,7 @@ abbrev pub invariant-loop-number : goal.invariant-loop-number
 invariant-loop-number g l = record {
   served : IsServed g.J.Naming.limit l.initial.share (take l.number l.script) l.answers.items l.share;
   as_many : length l.answers.items ≡ l.number;
+  answered : l.has_thread ≡ true → AllZip (IsAnswered g.K.Phase.before l.rank) (take l.number l.script) l.answers.items;
   refused : l.has_thread ≡ false → All (λ a. a ≡ no_thread) l.answers.items;
   room : vec_capacity l.answers ≡ vec_capacity l.initial.answers;
 }

@@ -35,3 +35,9 @@ returns-in-Ok-clause-hits g c =
     let returned = rw c.in-Ok.is at c.serve_phase-board.ensures.returned in
     rw (c.audited-board.ensures.answers, c.audited-board.ensures.shares, ← same.0, ← same.1)
     (hits_after g.J.Naming.limit c.audit.new.self c.audited-board.result.0 c.audit.new.shares.items _ _ c.in-Ok.ranks.shares.items returned c.audit.ensures.hits c.audited-board.ensures.hits)
+
+pub returns-in-Ok-clause-ended : goal.returns-in-Ok-clause-ended
+returns-in-Ok-clause-ended g c =
+    let same = c.audit.ensures.same in
+    let told = rw c.in-Ok.is at c.serve_phase-board.ensures.ended in
+    rw (c.audited-board.ensures.ended, c.audited-board.ensures.answers, c.audited-board.ensures.board, ← same.0) told

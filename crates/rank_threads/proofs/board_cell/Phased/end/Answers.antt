@@ -1,10 +1,11 @@
 use Rattle.std.proofs.Common.{refl}
+use Rattle.export_machine.specs.declared.event.Event.{Event}
 use Rattle.board_state.specs.declared.change.Answer.TheVariants as answer
 use Rattle.board_state.specs.declared.change.Change.TheVariants as change
 use Rattle.board_state.specs.Steps.{spelled}
 use Rattle.rank_threads.proofs.GoingOn.{goes_on}
-use Rattle.rank_threads.proofs.board_cell.Phased.step.Goals as goal
+use Rattle.rank_threads.proofs.board_cell.Phased.end.Goals as goal
 
 pub invariant_of-self : goal.invariant_of-self
 invariant_of-self g c =
-    goes_on g.K.Phase.before c.self.inside.board (change.Step c.args.event) (spelled answer.Reply c.step.result) c.step.new.self c.self.invariant refl c.step.ensures
+    goes_on g.K.Phase.before c.self.inside.board (change.Step (Event.End c.args.ticket)) (spelled answer.Reply c.step.result) c.step.new.self c.self.invariant refl c.step.ensures

@@ -1,0 +1,98 @@
+//! A phase that fills the history, and one that has no requests.
+ghost use Rattle.std.specs.Prelude.{◌≡◌, length};
+
+use crate::requests::{names, open, scripts, served, work};
+use authority_map::Publisher;
+use board_state::BoardError;
+use mds_board::Board;
+use naming::Naming;
+use rank_threads::{OpenGate, Ranks, Work, WorkAnswer, serve_phase};
+use std::alloc::Global;
+use std::marker::{Brand, Send, Sync};
+use std::sync::Wait;
+use std::test::Fail;
+use std::thread::Threads;
+
+// What a phase leaves, with how many shares and how many entries of the history.
+#[derive(Drop)]
+struct Left {
+    answers: Vec<Vec<WorkAnswer>>,
+    deposited: Result<(), BoardError>,
+    ended: Result<(), BoardError>,
+    shares: usize,
+    entries: usize,
+}
+
+fn tick_often<J: Naming, M: Publisher<J>>(board: &mut Board<J, M>, ticks: u32) {
+    for _ in 0..ticks {
+        let _ticked = board.tick();
+    }
+}
+
+// A phase of two ranks, after /a and so many ticks.
+fn serve<J: Naming + Send + Sync, R: Threads + Wait + Sync>(
+    rt: &R,
+    alloc: Global,
+    names: (heat_ledger::Opened, authority_map::Opened),
+    scripts: &[Vec<Work>],
+    ticks: u32,
+) -> Result<Left, Fail>
+    requires book { names.0 ≡ J.ledger }
+    requires map { names.1 ≡ J.map }
+    requires limit { J.limit ≡ 8 }
+    requires two { length scripts.now ≡ 2 }
+{
+    let (book, map) = names;
+    let (mut board, shares) = open::<J, R>(rt, alloc, book, map)?;
+    tick_often(&mut board, ticks);
+    let (board, done) = serve_phase(rt, alloc, board, &OpenGate, scripts, shares);
+    let entries = board.history().len();
+    board.end();
+    let Ok(ranks) = done else {
+        return Err("no memory".into());
+    };
+    let Ranks {
+        shares,
+        answers,
+        deposited,
+        ended,
+    } = ranks;
+    Ok(Left {
+        answers,
+        deposited,
+        ended,
+        shares: shares.len(),
+        entries,
+    })
+}
+
+// The request's begin is the last event that has room: its end is refused, and each deposit.
+#[test]
+fn an_end_without_room_is_told(rt: HostRuntime) -> Result<(), Fail> {
+    let all = scripts(rt.alloc(), &[work(1, 3)], &[])?;
+    let given = names(rt.alloc())?;
+    let left = serve::<Brand, _>(&rt, rt.alloc(), given, &all, 1_048_574)?;
+    let first = left.answers.get(0).ok_or("no answers")?;
+    assert_eq!(rt; first.as_slice(), [served(0, 3)].as_slice());
+    assert_eq!(rt; left.ended, Err(BoardError::HistoryFull));
+    assert_eq!(rt; left.deposited, Err(BoardError::HistoryFull));
+    assert_eq!(rt; left.entries, 1_048_576);
+    Ok(())
+}
+
+// With no request the shares come back, and the history has their deposits alone.
+#[test]
+fn ranks_without_requests_keep_their_shares(rt: HostRuntime) -> Result<(), Fail> {
+    let all = scripts(rt.alloc(), &[], &[])?;
+    let given = names(rt.alloc())?;
+    let left = serve::<Brand, _>(&rt, rt.alloc(), given, &all, 0)?;
+    assert_eq!(rt; left.shares, 2);
+    assert_eq!(rt; left.answers.len(), 2);
+    for answers in left.answers.iter() {
+        assert!(rt; answers.is_empty());
+    }
+    assert_eq!(rt; left.deposited, Ok(()));
+    assert_eq!(rt; left.ended, Ok(()));
+    assert_eq!(rt; left.entries, 3);
+    Ok(())
+}
