@@ -1,4 +1,4 @@
 pub mod BoardLemmas
 pub mod CostLemmas
-pub mod ServeLemmas
+pub mod DealingLemmas
 pub mod SlashLemmas

@@ -1,6 +1,6 @@
 -- What a script has made: the board, the shares of its ledger, the requests that wait, and the orders that were kept.
-use Rattle.std.specs.Prelude.{ℕ, ◌<◌, List, [], length, replicate, true, All}
-use Rattle.heat_ledger.specs.Ledger.{ShareData}
+use Rattle.std.specs.Prelude.{◌≡◌, ℕ, ◌<◌, ◌≤◌, List, [], length, replicate, true}
+use Rattle.heat_ledger.specs.Ledger.{ShareData, weight_of}
 use Rattle.heat_ledger.specs.Opening.{fresh_share}
 use Rattle.mds_types.specs.declared.order.Order.{Order}
 use Rattle.board_state.specs.State.{start}
@@ -27,7 +27,8 @@ empty_board limit active = record {
 abbrev pub publish : BoardData → BoardData
 publish b = record b { world = record b.world { published = b.world.state.map } }
 
--- The requests are on directories below the limit, and rank 0 has a share.
-pub record IsBoard (limit : ℕ) (b : BoardData) : Type 0 where
-  pub loads_inside : All (λ load. load.dir < limit) b.loads
+-- Rank 0 has a share, 64 ranks have one at most, and these are all shares of the board's ledger.
+pub record IsBoard (b : BoardData) : Type 0 where
   pub some_shares : 0 < length b.shares
+  pub few_shares : length b.shares ≤ 64
+  pub whole : weight_of b.shares ≡ b.world.shares

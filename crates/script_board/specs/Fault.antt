@@ -1,11 +1,16 @@
 -- Why a line is faulty.
 use Rattle.std.specs.Prelude.{◌≡◌, ◌⊎◌, Bool, true, false, Option, Some, None, Result, Ok, Err, IsOk}
 use Rattle.dirtree.specs.declared.tree_error.TreeError.{TreeError}
+use Rattle.dirtree.specs.declared.tree_error.TreeError.TheVariants as tree
+use Rattle.heat_ledger.specs.declared.hit_error.HitError.TheVariants as hit
+use Rattle.rank_threads.specs.declared.work.WorkError.{WorkError}
+use Rattle.rank_threads.specs.declared.work.WorkError.TheVariants as work
 use Rattle.board_state.specs.declared.board_error.BoardError.{BoardError}
 use Rattle.board_state.specs.declared.board_error.BoardError.TheVariants as board
 use Rattle.board_state.specs.Refused.{tree_refused}
 use Rattle.script_board.specs.declared.fault.Fault.{Fault}
 use Rattle.script_board.specs.declared.fault.Fault.TheVariants.{Memory, Refused}
+use Rattle.script_board.specs.declared.fault.Fault.TheVariants as fault
 
 -- want of memory is one fault, wherever it comes from
 abbrev pub board_fault : BoardError → Fault
@@ -21,6 +26,13 @@ board_fault board.HistoryFull = Refused board.HistoryFull
 
 abbrev pub tree_fault : TreeError → Fault
 tree_fault e = board_fault (tree_refused e)
+
+-- why a request wasn't served, or not whole
+abbrev pub work_fault : WorkError → Fault
+work_fault (work.Board e) = board_fault e
+work_fault (work.Share hit.NoDir) = tree_fault tree.NoDir
+work_fault (work.Share hit.ShareFull) = fault.ShareFull
+work_fault work.NoThread = fault.NoThread
 
 -- what is done, unless a cause stands
 abbrev pub unless : {A : Type 0} → Option BoardError → A → Result A Fault

@@ -16,8 +16,9 @@ planned b plan = record b {
   kept = plan_orders b.world.state (dirs_of b.world.state) plan;
 }
 
--- No division of the unpinned directories into as many parts as ranks are usable has a smaller greatest heat, and no placing
--- of the parts on usable ranks moves fewer inodes; the plan's proofs hold; and it is the one that was adopted.
+-- No division of the unpinned directories into as many parts as ranks are usable has a smaller greatest heat, and no
+-- placing of the parts on usable ranks moves fewer inodes; the plan's proofs hold; and it is the one that was
+-- adopted.
 pub record IsPlanned (old : BoardData) (plan : Plan) (new : BoardData) : Type 0 where
   pub best : IsBest (problem_of old.world.state) plan
   pub certified : IsCertified (problem_of old.world.state) plan

@@ -1,221 +1,116 @@
--- What `go` does: the waiting requests begin, are counted and end, and each share deposits its hits.
+-- What `go` does: the waiting requests are served by a thread a rank, and each share deposits its hits.
 use Rattle.std.specs.List.{list_any}
-use Rattle.std.specs.Option.{option_or}
-use Rattle.std.specs.Prelude.{◌≡◌, ◌⊎◌, ℕ, ◌-◌, ◌^◌, ◌==◌, nat_lt, min, if◌then◌else◌, Bool, true, false, not, List, [], ◌∷◌, ◌++◌, filter, fold, length, replicate, slice_index_or, slice_set, Option, Some, None}
+use Rattle.std.specs.Option.{option_map}
+use Rattle.std.specs.Prelude.{◌≡◌, ℕ, ◌<◌, ◌+◌, ◌==◌, nat_lt, if◌then◌else◌, Bool, not, List, [], ◌∷◌, ◌++◌, All, filter, length, map, slice_get, slice_index_or, Option, Some, None, Result, Ok, Err, IsOk}
 use Rattle.authority_map.specs.Operations.{rank_after}
 use Rattle.dirtree.specs.Tree as tree
-use Rattle.export_machine.specs.declared.event.Event.TheVariants.{Begin, End}
-use Rattle.export_machine.specs.declared.event.Reply.{Reply}
-use Rattle.export_machine.specs.declared.event.Reply.TheVariants.{Ticket}
-use Rattle.export_machine.specs.Step as machine
-use Rattle.heat_ledger.specs.Ledger.{ShareData}
-use Rattle.heat_ledger.specs.Opening.{fresh_share}
-use Rattle.heat_ledger.specs.Rows.{at, counted_rows, raised, raised_by}
+use Rattle.heat_ledger.specs.Ledger.{IsClean, ShareData, pending_of}
+use Rattle.heat_ledger.specs.Rows.{at}
 use Rattle.board_state.specs.declared.board_error.BoardError.{BoardError}
-use Rattle.board_state.specs.declared.change.Change.{Change}
-use Rattle.board_state.specs.declared.change.Change.TheVariants.{Deposit, Step}
-use Rattle.board_state.specs.State.{refusal}
-use Rattle.mds_board.specs.History.{World, recorded}
+use Rattle.mds_board.specs.History.{World}
+use Rattle.rank_threads.specs.declared.work.Work.{Work}
+use Rattle.rank_threads.specs.declared.work.WorkAnswer.{WorkAnswer}
+use Rattle.rank_threads.specs.Answered.{AreAnswered, IsDepositTold, IsEndTold}
+use Rattle.rank_threads.specs.Going.{WentOn}
+use Rattle.rank_threads.specs.Serving.{AreReturned, begun_on, hits_on}
+use Rattle.rank_threads.specs.Totals.{over_ranks}
+use Rattle.script_board.specs.declared.dealing.Seat.{Seat}
 use Rattle.script_board.specs.declared.fault.Fault.{Fault}
-use Rattle.script_board.specs.declared.fault.Fault.TheVariants.{Memory, ShareFull}
 use Rattle.script_board.specs.declared.load.Load.{Load}
 use Rattle.script_board.specs.Board.{BoardData}
-use Rattle.script_board.specs.Fault.{board_fault, is_memory}
-
--- the board and its shares between two requests or deposits, and the refusals so far
-pub record Serving : Type 0 where
-  pub world : World
-  pub shares : List ShareData
-  pub refused : List Fault
+use Rattle.script_board.specs.Fault.{board_fault, is_memory, work_fault}
 
 -- A request waits until it is served or its directory is removed.
 abbrev pub waiting : BoardData → List Load
 waiting b = filter (λ l. tree.is_there b.world.state.directories.entries l.dir) b.loads
 
--- the rank that the map names for a directory, and rank 0 where it names none
-abbrev pub named_or_0 : Option ℕ → ℕ
-named_or_0 None = 0
-named_or_0 (Some rank) = rank
+abbrev pub or_0 : Option ℕ → ℕ
+or_0 None = 0
+or_0 (Some rank) = rank
 
-abbrev pub asked_rank : World → ℕ → ℕ
-asked_rank w d = named_or_0 (rank_after w.published d)
+-- the rank that is asked: the one that the map names, or rank 0 where it names none of so many
+abbrev pub asked_rank : World → ℕ → ℕ → ℕ
+asked_rank w ranks d = if nat_lt (or_0 (rank_after w.published d)) ranks then or_0 (rank_after w.published d) else 0
 
-abbrev pub share_at : List ShareData → ℕ → ShareData
-share_at shares place = slice_index_or shares place (fresh_share 0)
+abbrev pub work_of : Load → Work
+work_of l = record { dir = l.dir; hits = l.hits }
 
--- where a rank's share stands; a request at a rank that has none is refused
-abbrev pub place_of : List ShareData → ℕ → ℕ
-place_of shares rank = if nat_lt rank (length shares) then rank else 0
+-- the requests that are asked of a rank, in their order
+abbrev pub works_at : World → ℕ → ℕ → List Load → List Work
+works_at w ranks rank loads = map work_of (filter (λ l. asked_rank w ranks l.dir == rank) loads)
 
--- a change is made, or a cause refuses it; and what refused it
-abbrev pub tried_unless : Option BoardError → World → Change → World × Option Fault
-tried_unless None w c = (recorded w c, None)
-tried_unless (Some e) w c = (w, Some (board_fault e))
+abbrev pub script_at : List (List Work) → ℕ → List Work
+script_at scripts rank = slice_index_or scripts rank []
 
-abbrev pub tried : World → Change → World × Option Fault
-tried w c = tried_unless (refusal w.state c) w c
+-- where the answer to a request is found, behind these requests: at its rank, after the earlier ones that are asked
+-- of it
+abbrev pub place : World → ℕ → List Load → Load → Seat
+place w ranks earlier l = record {
+  rank = asked_rank w ranks l.dir;
+  number = length (works_at w ranks (asked_rank w ranks l.dir) earlier);
+}
 
--- how many hits of a request find room, where a share takes 2^56 of a directory
-abbrev pub fitting : ShareData → Load → ℕ
-fitting share l = min l.hits (2 ^ 56 - at share.hits l.dir)
+abbrev pub places_after : World → ℕ → List Load → List Load → List Seat
+places_after w ranks earlier [] = []
+places_after w ranks earlier (l ∷ loads) = place w ranks earlier l ∷ places_after w ranks (earlier ++ l ∷ []) loads
 
--- a share that counted hits on a directory
-abbrev pub hit_by : ShareData → ℕ → ℕ → ShareData
-hit_by share d hits = record share { hits = raised_by share.hits d hits; pending = raised_by share.pending d hits }
+-- where the answers to these requests are found
+abbrev pub places : World → ℕ → List Load → List Seat
+places w ranks loads = places_after w ranks [] loads
 
--- the share that began a request and counted its hits
-abbrev pub counted_in : ShareData → Load → ShareData
-counted_in share l = hit_by (record share { begun = raised share.begun l.dir }) l.dir (fitting share l)
+-- Each rank has the requests that are asked of it, in their order.
+pub record IsDealt (w : World) (ranks : ℕ) (loads : List Load) (scripts : List (List Work)) (seats : List Seat) : Type 0 where
+  pub as_many : length scripts ≡ ranks
+  pub each : (rank : ℕ) → rank < ranks → script_at scripts rank ≡ works_at w ranks rank loads
+  pub found : seats ≡ places w ranks loads
 
-abbrev pub unless_all : Bool → Option Fault
-unless_all true = None
-unless_all false = Some ShareFull
+abbrev pub refusal_of : Option WorkAnswer → Option Fault
+refusal_of None = None
+refusal_of (Some answer) = option_map work_fault answer.refused
 
--- the refusal that a request or a deposit met, if it met one
+-- what refused the request whose answer is found there, if anything did
+abbrev pub refusal_at : List (List WorkAnswer) → Seat → Option Fault
+refusal_at answers seat = refusal_of (slice_get (slice_index_or answers seat.rank []) seat.number)
+
+-- the refusal that a request met, if it met one
 abbrev pub met : Option Fault → List Fault
 met None = []
 met (Some fault) = fault ∷ []
 
-abbrev pub end_of : ℕ → Change
-end_of ticket = Step (End ticket)
+-- the refusals that requests met
+abbrev pub refusals : List (List WorkAnswer) → List Seat → List Fault
+refusals answers [] = []
+refusals answers (seat ∷ seats) = met (refusal_at answers seat) ++ refusals answers seats
 
--- the request's ticket is given back, or that is refused
-abbrev pub ended : World → Reply → World × Option Fault
-ended w (Ticket ticket) = tried w (end_of ticket)
-ended w _ = (w, None)
+abbrev pub unless_done : Result Unit BoardError → List Fault
+unless_done (Ok done) = []
+unless_done (Err error) = board_fault error ∷ []
 
-abbrev pub begin_of : ℕ → Load → Change
-begin_of rank l = Step (Begin rank l.dir)
+-- The waiting requests were served and the shares deposited, by a thread a rank. Each request has an answer, which is
+-- what the board said when it was asked; the shares count what the answers name; and these refusals were met: those
+-- of requests in the order of their loads, the first of an end, and the first of a deposit.
+pub record IsServed (old : BoardData) (refused : List Fault) (new : BoardData) : Type 0 where
+  pub scripts : List (List Work)
+  pub seats : List Seat
+  pub answers : List (List WorkAnswer)
+  pub ended : Result Unit BoardError
+  pub deposited : Result Unit BoardError
+  pub dealt : IsDealt old.world (length old.shares) (waiting old) scripts seats
+  pub answered : AreAnswered old.world 0 scripts answers
+  pub end_told : IsEndTold old.world new.world answers ended
+  pub deposit_told : IsDepositTold old.world deposited
+  pub went : WentOn old.world new.world
+  pub returned : AreReturned old.world.state.directories.limit old.shares scripts answers new.shares
+  pub clean : IsOk deposited → All (λ s. IsClean s) new.shares
+  pub begun : (d : ℕ) → d < old.world.state.directories.limit → at new.world.state.begun d
+      ≡ at old.world.state.begun d + over_ranks (begun_on d) scripts answers
+  pub counted : (d : ℕ) → d < old.world.state.directories.limit → at new.world.state.counted d + pending_of new.shares d
+      ≡ (at old.world.state.counted d + pending_of old.shares d) + over_ranks (hits_on d) scripts answers
+  pub told : refused ≡ refusals answers seats ++ unless_done ended ++ unless_done deposited
 
-abbrev pub reply_to : World → ℕ → Load → Reply
-reply_to w rank l = (machine.happens w.state.cluster (Begin rank l.dir)).reply
-
--- the board and the share after a request or a deposit, and what refused it
-pub record Asked : Type 0 where
-  pub world : World
-  pub share : ShareData
-  pub fault : Option Fault
-
--- A request that began is counted and ends. A refusal of its end is told, and else that of a hit, if either met one.
-abbrev pub begun : World × Option Fault → ShareData → Load → Asked
-begun end share l = record {
-  world = end.0;
-  share = counted_in share l;
-  fault = option_or end.1 (unless_all (fitting share l == l.hits));
-}
-
-abbrev pub asked_unless : Option BoardError → World → ShareData → ℕ → Load → Asked
-asked_unless None w share rank l = begun (ended (recorded w (begin_of rank l)) (reply_to w rank l)) share l
-asked_unless (Some e) w share rank l = record { world = w; share = share; fault = Some (board_fault e) }
-
--- a request is asked of a rank: it begins, is counted and ends, or is refused
-abbrev pub asked : World → ShareData → ℕ → Load → Asked
-asked w share rank l = asked_unless (refusal w.state (begin_of rank l)) w share rank l
-
-abbrev pub with_answer : Serving → ℕ → Asked → Serving
-with_answer s place a = record { world = a.world; shares = slice_set s.shares place a.share; refused = s.refused ++ met a.fault }
-
--- a request is asked of the rank that the map names
-abbrev pub serve : Serving → Load → Serving
-serve s l =
-    with_answer s (place_of s.shares (asked_rank s.world l.dir))
-    (asked s.world (share_at s.shares (place_of s.shares (asked_rank s.world l.dir))) (asked_rank s.world l.dir) l)
-
--- the waiting requests are served, in their order
-abbrev pub served : BoardData → Serving
-served b = fold serve (record { world = b.world; shares = b.shares; refused = [] }) (waiting b)
-
-abbrev pub deposit_of : ShareData → Change
-deposit_of share = Deposit (counted_rows share.pending)
-
-abbrev pub deposited : Option BoardError → World → ShareData → Asked
-deposited None w share = record {
-  world = recorded w (deposit_of share);
-  share = record share { pending = replicate (length share.pending) 0 };
-  fault = None;
-}
-deposited (Some e) w share = record { world = w; share = share; fault = Some (board_fault e) }
-
--- a share's pending hits are deposited, or stay where the board refuses that
-abbrev pub deposit : World → ShareData → Asked
-deposit w share = deposited (refusal w.state (deposit_of share)) w share
-
--- one share's deposit, and then those of the others
-abbrev pub with_deposit : Asked → Serving → Serving
-with_deposit a others = record {
-  world = others.world;
-  shares = a.share ∷ others.shares;
-  refused = met a.fault ++ others.refused;
-}
-
--- the shares deposit in the order of their ranks
-abbrev pub deposit_all : World → List ShareData → Serving
-deposit_all w [] = record { world = w; shares = []; refused = [] }
-deposit_all w (share ∷ more) = with_deposit (deposit w share) (deposit_all (deposit w share).world more)
-
--- the deposits, when the requests were served
-abbrev pub deposits : BoardData → Serving
-deposits b = deposit_all (served b).world (served b).shares
-
-abbrev pub go : BoardData → BoardData
-go b = record b { world = (deposits b).world; shares = (deposits b).shares; loads = [] }
-
--- the refusals that requests met, in their order, and then those that deposits met
-abbrev pub go_refused : BoardData → List Fault
-go_refused b = (served b).refused ++ (deposits b).refused
-
--- The same, where memory may be refused. Each step that a cause refuses is as above. Another is as above too, or memory was
--- refused: then that is told, and the step has changed nothing.
-
-abbrev pub IsTriedUnless : Option BoardError → World → Change → Option Fault → World → Type 0
-IsTriedUnless None w c told new = ((told ≡ None) × (new ≡ recorded w c)) ⊎ ((told ≡ Some Memory) × (new ≡ w))
-IsTriedUnless (Some e) w c told new = (told ≡ Some (board_fault e)) × (new ≡ w)
-
-abbrev pub IsEnded : World → Reply → Option Fault → World → Type 0
-IsEnded w (Ticket ticket) told new = IsTriedUnless (refusal w.state (end_of ticket)) w (end_of ticket) told new
-IsEnded w _ told new = (told ≡ None) × (new ≡ w)
-
--- for want of memory a request or a deposit left all as it was
-abbrev pub forgone : World → ShareData → Asked
-forgone w share = record { world = w; share = share; fault = Some Memory }
-
-abbrev pub IsAskedUnless : Option BoardError → World → ShareData → ℕ → Load → Asked → Type 0
-IsAskedUnless None w share rank l a =
-    ((told : Option Fault) × IsEnded (recorded w (begin_of rank l)) (reply_to w rank l) told a.world
-    × (a.share ≡ counted_in share l) × (a.fault ≡ option_or told (unless_all (fitting share l == l.hits))))
-    ⊎ (a ≡ forgone w share)
-IsAskedUnless (Some e) w share rank l a = a ≡ asked_unless (Some e) w share rank l
-
-abbrev pub IsAsked : World → ShareData → ℕ → Load → Asked → Type 0
-IsAsked w share rank l a = IsAskedUnless (refusal w.state (begin_of rank l)) w share rank l a
-
-abbrev pub IsServed : Serving → Load → Serving → Type 0
-IsServed s l new =
-    (a : Asked) × IsAsked s.world (share_at s.shares (place_of s.shares (asked_rank s.world l.dir))) (asked_rank s.world l.dir) l a
-    × (new ≡ with_answer s (place_of s.shares (asked_rank s.world l.dir)) a)
-
-abbrev pub AreServed : Serving → List Load → Serving → Type 0
-AreServed s [] new = new ≡ s
-AreServed s (l ∷ more) new = (mid : Serving) × IsServed s l mid × AreServed mid more new
-
-abbrev pub IsDepositedUnless : Option BoardError → World → ShareData → Asked → Type 0
-IsDepositedUnless None w share a = (a ≡ deposited None w share) ⊎ (a ≡ forgone w share)
-IsDepositedUnless (Some e) w share a = a ≡ deposited (Some e) w share
-
-abbrev pub IsDeposited : World → ShareData → Asked → Type 0
-IsDeposited w share a = IsDepositedUnless (refusal w.state (deposit_of share)) w share a
-
-abbrev pub AreDeposited : World → List ShareData → Serving → Type 0
-AreDeposited w [] new = new ≡ record { world = w; shares = []; refused = [] }
-AreDeposited w (share ∷ more) new =
-    (a : Asked) × (others : Serving) × IsDeposited w share a × AreDeposited a.world more others × (new ≡ with_deposit a others)
-
--- The waiting requests were served and the shares deposited; these refusals were met.
+-- The waiting requests were served, and none waits any more.
 abbrev pub IsGone : BoardData → List Fault → BoardData → Type 0
-IsGone old refused new =
-    (s : Serving) × (d : Serving) × AreServed (record { world = old.world; shares = old.shares; refused = [] }) (waiting old) s
-    × AreDeposited s.world s.shares d × (refused ≡ s.refused ++ d.refused)
-    × (new ≡ record old { world = d.world; shares = d.shares; loads = [] })
+IsGone old refused new = IsServed old refused new × (new.loads ≡ []) × (new.kept ≡ old.kept)
 
 -- Memory sufficed for all that `go` did, unless a refusal says otherwise.
 abbrev pub is_ample : List Fault → Bool

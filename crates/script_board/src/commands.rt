@@ -114,7 +114,6 @@ impl<J: Naming, M: Publisher<J>> ScriptBoard<J, M> {
         ensures unchanged { OnErr result (self.new ≡ self.old) }
     {
         let dir = self.find(path)?;
-        let _limit = self.board.limit();
         self.loads.push(Load { dir, hits })?;
         Ok(())
     }

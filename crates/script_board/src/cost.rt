@@ -54,8 +54,8 @@ impl<J: Naming, M: Publisher<J>> ScriptBoard<J, M> {
         Ok(())
     }
 
-    // For each number, whether it is a top. Memory is asked for first, and where it is refused, the paths are looked at all
-    // the same.
+    // For each number, whether it is a top. Memory is asked for first, and where it is refused, the paths are looked
+    // at all the same.
     fn tops(&self, alloc: Global, paths: &[&str]) -> Result<Vec<bool>, Fault>
         ensures size { IfOk result (λ is_top. length is_top.items ≡ length self.now.world.state.directories.entries) }
         ensures some { IfOk result (λ is_top. 1 ≤ length is_top.items) }

@@ -1,10 +1,12 @@
 //! Why a line is faulty.
 ghost use Rattle.std.specs.Prelude.{◌≡◌};
 ghost use Rattle.script_board.specs.declared.fault.Fault.TheVariants.{Memory};
-ghost use Rattle.script_board.specs.Fault.{board_fault, tree_fault};
+ghost use Rattle.script_board.specs.Fault.{board_fault, tree_fault, work_fault};
 
 use board_state::BoardError;
 use dirtree::TreeError;
+use heat_ledger::HitError;
+use rank_threads::WorkError;
 use std::alloc::{AllocError, AllocFailed};
 
 /// Why a line is faulty. It left everything as it was.
@@ -24,6 +26,8 @@ pub enum Fault {
     Refused(BoardError),
     /// The share of the rank that serves has counted 2^56 hits on the directory.
     ShareFull,
+    /// The system gave no thread for the rank.
+    NoThread,
     /// A pin holds a directory that is named as a top.
     Pinned,
 }
@@ -60,5 +64,18 @@ impl From<TreeError> for Fault {
 
     fn from(error: TreeError) -> Fault {
         Fault::from(BoardError::from(error))
+    }
+}
+
+impl From<WorkError> for Fault {
+    ghost from_gives = { λ error e. e ≡ work_fault error };
+
+    fn from(error: WorkError) -> Fault {
+        match error {
+            WorkError::Board(error) => Fault::from(error),
+            WorkError::Share(HitError::NoDir) => Fault::from(TreeError::NoDir),
+            WorkError::Share(HitError::ShareFull) => Fault::ShareFull,
+            WorkError::NoThread => Fault::NoThread,
+        }
     }
 }

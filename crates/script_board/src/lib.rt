@@ -1,9 +1,10 @@
-//! What a script has made: a board with the shares of its ledger, the requests that wait, and the orders of the last plan;
-//! and what each command of a script does to it.
+//! What a script has made: a board with the shares of its ledger, the requests that wait, and the orders of the last
+//! plan; and what each command of a script does to it.
 #![tactic(auto)]
 
 mod commands;
 mod cost;
+mod dealing;
 pub mod fault;
 pub mod load;
 mod moving;

@@ -5,8 +5,8 @@ use authority_map::{MapReader, Publisher};
 use board_state::BoardParts;
 use naming::Naming;
 
-/// What was opened for a script's board before it is made: the board's ledger and map, and a reader of the map. Since the
-/// writer of a map can't be dropped, neither can this.
+/// What was opened for a script's board before it is made: the board's ledger and map, and a reader of the map. Since
+/// the writer of a map can't be dropped, neither can this.
 pub struct Parts<J: Naming, M: Publisher<J>> {
     pub(crate) board: BoardParts<J, M>,
     pub(crate) reader: MapReader<J>,

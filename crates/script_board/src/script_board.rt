@@ -15,8 +15,8 @@ use std::marker::Model;
 
 /// What a script has made once `ranks` was accepted. `J` names the board.
 ///
-/// Share k of the ledger counts the hits of the requests that rank k serves. It can't be dropped, only ended, as the board
-/// has the map's writer. The guesses hold where the paths of made directories led, which no clause speaks of.
+/// Share k of the ledger counts the hits of the requests that rank k serves. It can't be dropped, only ended, as the
+/// board has the map's writer. The guesses hold where the paths of made directories led, which no clause speaks of.
 pub struct ScriptBoard<J: Naming, M: Publisher<J>> {
     pub(crate) board: Board<J, M>,
     pub(crate) shares: Vec<Share<J>>,
@@ -33,12 +33,12 @@ impl<J: Naming, M: Publisher<J>> Model for ScriptBoard<J, M> {
 
     ghost view = { λ b. record { world = b.board; shares = b.shares.items; loads = b.loads.items; kept = b.kept.items } };
 
-    ghost invariant = { λ b. IsBoard J.limit (record { world = b.board; shares = b.shares.items; loads = b.loads.items; kept = b.kept.items }) };
+    ghost invariant = { λ b. IsBoard (record { world = b.board; shares = b.shares.items; loads = b.loads.items; kept = b.kept.items }) };
 }
 
 impl<J: Naming, M: Publisher<J>> ScriptBoard<J, M> {
-    /// The root alone at rank 0 of so many active ranks, and room for the directory numbers below `limit`. Where memory is
-    /// refused, the parts are handed back.
+    /// The root alone at rank 0 of so many active ranks, and room for the directory numbers below `limit`. Where
+    /// memory is refused, the parts are handed back.
     pub fn new(
         alloc: Global,
         parts: Parts<J, M>,

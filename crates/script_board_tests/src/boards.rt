@@ -5,10 +5,12 @@ use authority_map::{MapReader, MapWriter, Publisher};
 use board_state::BoardParts;
 use mds_types::Rank;
 use naming::Naming;
-use script_board::{Parts, ScriptBoard};
+use script_board::{Fault, Parts, ScriptBoard};
 use std::alloc::Global;
+use std::marker::{Send, Sync};
 use std::sync::Wait;
 use std::test::Fail;
+use std::thread::Threads;
 
 /// A board with the root alone.
 pub(crate) fn open<J: Naming, R: Wait + Drop>(
@@ -39,8 +41,18 @@ pub(crate) fn open<J: Naming, R: Wait + Drop>(
 }
 
 /// The rank of a number.
-pub(crate) fn rank(number: u8) -> Result<Rank, Fail> {
-    Ok(Rank::new(number).ok_or("no rank")?)
+pub(crate) fn number(number: u8) -> Rank {
+    Rank::new(number).unwrap_or_default()
+}
+
+/// Serves what waits, and hands on the board with the refusals that were met.
+pub(crate) fn gone<J: Naming + Send + Sync, M: Publisher<J> + Send, R: Threads + Wait + Sync>(
+    rt: &R,
+    alloc: Global,
+    board: ScriptBoard<J, M>,
+) -> (ScriptBoard<J, M>, Vec<Fault>) {
+    let (board, refused) = board.go(rt, alloc);
+    (board, refused.unwrap_or(Vec::new(alloc)))
 }
 
 /// Such a board, opened again where memory was refused.

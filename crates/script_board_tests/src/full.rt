@@ -1,16 +1,17 @@
 //! Where the history has no room, `go` tells each refusal that it meets.
 ghost use Rattle.std.specs.Prelude.{◌≡◌};
 
-use crate::boards::open;
+use crate::boards::{gone, open};
 use authority_map::Publisher;
 use board_state::BoardError;
 use naming::Naming;
 use script_board::{Fault, ScriptBoard};
 use std::alloc::Global;
-use std::marker::Brand;
+use std::marker::{Brand, Send, Sync};
 use std::process::Abort;
 use std::sync::Wait;
 use std::test::Fail;
+use std::thread::Threads;
 
 fn tick_often<J: Naming, M: Publisher<J>>(board: &mut ScriptBoard<J, M>, ticks: u32) {
     for _ in 0..ticks {
@@ -18,22 +19,25 @@ fn tick_often<J: Naming, M: Publisher<J>>(board: &mut ScriptBoard<J, M>, ticks: 
     }
 }
 
-// The request's begin is the last event that has room: its end and the deposits of both shares are refused, and told.
-fn served_last<J: Naming, M: Publisher<J>>(
-    rt: &impl Abort,
+// The request's begin is the last event that has room: its end and the deposits are refused, and told.
+fn served_last<J: Naming + Send + Sync, M: Publisher<J> + Send, R: Abort + Threads + Wait + Sync>(
+    rt: &R,
     alloc: Global,
-    board: &mut ScriptBoard<J, M>,
-) -> Result<(), Fail> {
-    tick_often(board, 1_048_575);
+    board: ScriptBoard<J, M>,
+) -> ScriptBoard<J, M> {
+    let mut board = board;
+    tick_often(&mut board, 1_048_575);
     assert_eq!(rt; board.load("/", 3), Ok(()));
-    let full = Fault::Refused(BoardError::HistoryFull);
-    assert_eq!(rt; board.go(alloc)?.as_slice(), [full, full, full].as_slice());
-    Ok(())
+    let (board, refused) = gone(rt, alloc, board);
+    assert_eq!(rt; refused.len(), 2);
+    for fault in &refused {
+        assert_eq!(rt; *fault, Fault::Refused(BoardError::HistoryFull));
+    }
+    board
 }
 
-fn on_board<J: Naming, R: Wait + Drop>(
-    rt: &impl Abort,
-    waits: R,
+fn on_board<J: Naming + Send + Sync, R: Abort + Threads + Wait + Sync>(
+    rt: &R,
     alloc: Global,
     book: heat_ledger::Opened,
     map: authority_map::Opened,
@@ -42,15 +46,15 @@ fn on_board<J: Naming, R: Wait + Drop>(
     requires map { map ≡ J.map }
     requires limit { J.limit ≡ 8 }
 {
-    let mut board = open::<J, R>(waits, alloc, book, map)?;
-    let done = served_last(rt, alloc, &mut board);
+    let board = open::<J, &R>(rt, alloc, book, map)?;
+    let board = served_last(rt, alloc, board);
     board.end();
-    done
+    Ok(())
 }
 
 #[test]
 fn refused_ends_and_deposits_are_told(rt: HostRuntime) -> Result<(), Fail> {
     let book = heat_ledger::Opened::new(rt.alloc())?;
     let map = authority_map::Opened::new();
-    on_board::<Brand, _>(&rt, &rt, rt.alloc(), book, map)
+    on_board::<Brand, _>(&rt, rt.alloc(), book, map)
 }

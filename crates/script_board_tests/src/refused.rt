@@ -3,7 +3,7 @@
 //! With `rt try --test --fail-alloc N`, the N-th growth is refused.
 ghost use Rattle.std.specs.Prelude.{◌≡◌};
 
-use crate::boards::{open_at_last, rank};
+use crate::boards::{number, open_at_last};
 use authority_map::Publisher;
 use mds_types::{Dir, Rank, RankSet};
 use naming::Naming;
@@ -63,10 +63,6 @@ enum Do {
     Stop(u8),
     Restart(u8),
     Publish,
-}
-
-fn number(number: u8) -> Rank {
-    Rank::new(number).unwrap_or_default()
 }
 
 fn command<J: Naming, M: Publisher<J>>(
@@ -146,39 +142,43 @@ fn moved<J: Naming + Send + Sync, M: Publisher<J> + Send, R: Threads + Wait + Sy
     board
 }
 
-/// Serves what waits. Where memory is refused for the answers, nothing has changed, and the next call serves.
-fn gone<J: Naming, M: Publisher<J>>(
+/// Serves what waits. Where memory is refused before the first request, nothing has changed, and the next call serves.
+fn gone<J: Naming + Send + Sync, M: Publisher<J> + Send, R: Threads + Wait + Sync>(
     rt: &impl Abort,
+    threads: &R,
     alloc: Global,
-    board: &mut ScriptBoard<J, M>,
-) -> Result<Vec<Fault>, AllocError> {
-    let before = read(board);
-    match board.go(alloc) {
-        Ok(refused) => Ok(refused),
-        Err(AllocError) => {
-            assert!(rt; read(board) == before);
-            board.go(alloc)
-        }
+    board: ScriptBoard<J, M>,
+) -> (ScriptBoard<J, M>, Result<Vec<Fault>, AllocError>) {
+    let mut board = board;
+    let before = read(&mut board);
+    let (mut board, first) = board.go(threads, alloc);
+    if first.is_ok() {
+        return (board, first);
     }
+    assert!(rt; read(&mut board) == before);
+    board.go(threads, alloc)
 }
 
 /// A request is refused for want of memory at most, and then counts no hit. Hits that found no memory stay for the next call.
-fn served<J: Naming, M: Publisher<J>>(
+fn served<J: Naming + Send + Sync, M: Publisher<J> + Send, R: Threads + Wait + Sync>(
     rt: &impl Abort,
+    threads: &R,
     alloc: Global,
-    board: &mut ScriptBoard<J, M>,
-) -> Result<(), Fail> {
-    commands(rt, alloc, board, &[Do::Publish, Do::Load("/b", 5)]);
-    let refused = gone(rt, alloc, board)?;
+    board: ScriptBoard<J, M>,
+) -> ScriptBoard<J, M> {
+    let mut board = board;
+    commands(rt, alloc, &mut board, &[Do::Publish, Do::Load("/b", 5)]);
+    let (mut board, refused) = gone(rt, threads, alloc, board);
+    let refused = refused.unwrap_or(Vec::new(alloc));
     if !refused.is_empty() {
         assert!(rt; refused.iter().all(|fault| *fault == Fault::Memory));
         assert_eq!(rt; (refused.len(), board.hits_of(Dir::new(2))), (1, 0));
         assert_eq!(rt; board.load("/b", 5), Ok(()));
     }
-    let again = gone(rt, alloc, board)?;
-    assert!(rt; again.is_empty());
+    let (board, again) = gone(rt, threads, alloc, board);
+    assert!(rt; again.is_ok_and(|refused| refused.is_empty()));
     assert_eq!(rt; board.hits_of(Dir::new(2)), 5);
-    Ok(())
+    board
 }
 
 /// The root and /b go to rank 1 by a plan, and /a by its pin, by the second phase at last.
@@ -244,10 +244,9 @@ fn go_on<J: Naming, M: Publisher<J>>(
     alloc: Global,
     board: &mut ScriptBoard<J, M>,
 ) -> Result<(), Fail> {
-    served(rt, alloc, board)?;
     costs(rt, alloc, board)?;
     commands(rt, alloc, board, &[Do::Tick, Do::Publish]);
-    assert_eq!(rt; board.rank_of(Dir::new(2)), Some(rank(1)?));
+    assert_eq!(rt; board.rank_of(Dir::new(2)), Some(number(1)));
     Ok(())
 }
 
@@ -264,7 +263,8 @@ fn on_board<J: Naming + Send + Sync, R: Threads + Wait + Sync>(
 {
     let mut board = open_at_last::<J, &R>(threads, alloc, book, map)?;
     begin(rt, alloc, &mut board);
-    let mut board = moved_away(rt, threads, alloc, board);
+    let board = moved_away(rt, threads, alloc, board);
+    let mut board = served(rt, threads, alloc, board);
     let done = go_on(rt, alloc, &mut board);
     board.end();
     done

@@ -1,7 +1,7 @@
 //! Requests are served at the rank that the map names.
 ghost use Rattle.std.specs.Prelude.{◌≡◌};
 
-use crate::boards::{open, rank};
+use crate::boards::{gone, number, open};
 use authority_map::Publisher;
 use board_state::BoardError;
 use dirtree::TreeError;
@@ -10,66 +10,55 @@ use mds_types::Dir;
 use naming::Naming;
 use script_board::{Fault, ScriptBoard};
 use std::alloc::Global;
-use std::marker::Brand;
+use std::marker::{Brand, Send, Sync};
 use std::process::Abort;
 use std::sync::Wait;
 use std::test::Fail;
+use std::thread::Threads;
 
 // Hits are counted once and heat their directory; a directory that isn't there takes none.
-fn served<J: Naming, M: Publisher<J>>(
-    rt: &impl Abort,
+fn served<J: Naming + Send + Sync, M: Publisher<J> + Send, R: Abort + Threads + Wait + Sync>(
+    rt: &R,
     alloc: Global,
-    board: &mut ScriptBoard<J, M>,
-) -> Result<(), Fail> {
-    let gone = Fault::Refused(BoardError::Tree(TreeError::NoDir));
+    board: ScriptBoard<J, M>,
+) -> ScriptBoard<J, M> {
+    let mut board = board;
+    let absent = Fault::Refused(BoardError::Tree(TreeError::NoDir));
     assert_eq!(rt; board.make_dir(alloc, "/a", 1), Ok(()));
     assert!(rt; board.publish());
     assert_eq!(rt; board.load("/a", 5), Ok(()));
-    assert_eq!(rt; board.load("/b", 5), Err(gone));
-    let refused = board.go(alloc)?;
+    assert_eq!(rt; board.load("/b", 5), Err(absent));
+    let (board, refused) = gone(rt, alloc, board);
     assert!(rt; refused.is_empty());
     assert_eq!(rt; board.hits_of(Dir::new(1)), 5);
-    let again = board.go(alloc)?;
+    let (board, again) = gone(rt, alloc, board);
     assert!(rt; again.is_empty());
     assert_eq!(rt; board.hits_of(Dir::new(1)), 5);
-    Ok(())
+    board
 }
 
 // A stopped rank refuses its requests, whose hits aren't counted, and serves again after its restart.
-fn stopped<J: Naming, M: Publisher<J>>(
-    rt: &impl Abort,
+fn stopped<J: Naming + Send + Sync, M: Publisher<J> + Send, R: Abort + Threads + Wait + Sync>(
+    rt: &R,
     alloc: Global,
-    board: &mut ScriptBoard<J, M>,
-) -> Result<(), Fail> {
-    let zero = rank(0)?;
-    assert_eq!(rt; board.stop(alloc, zero), Ok(()));
+    board: ScriptBoard<J, M>,
+) -> ScriptBoard<J, M> {
+    let mut board = board;
+    assert_eq!(rt; board.stop(alloc, number(0)), Ok(()));
     assert_eq!(rt; board.load("/a", 2), Ok(()));
-    let refused = board.go(alloc)?;
-    assert_eq!(rt; refused.len(), 1);
-    assert_eq!(rt;
-        refused[0],
-        Fault::Refused(BoardError::Step(StepError::Stopped(zero)))
-    );
-    assert_eq!(rt; board.restart(alloc, zero), Ok(()));
+    let (mut board, refused) = gone(rt, alloc, board);
+    let stopped = Fault::Refused(BoardError::Step(StepError::Stopped(number(0))));
+    assert_eq!(rt; refused.as_slice(), [stopped].as_slice());
+    assert_eq!(rt; board.restart(alloc, number(0)), Ok(()));
     assert_eq!(rt; board.load("/a", 2), Ok(()));
-    let none = board.go(alloc)?;
+    let (board, none) = gone(rt, alloc, board);
     assert!(rt; none.is_empty());
     assert_eq!(rt; board.hits_of(Dir::new(1)), 7);
-    Ok(())
+    board
 }
 
-fn served_then_stopped<J: Naming, M: Publisher<J>>(
-    rt: &impl Abort,
-    alloc: Global,
-    board: &mut ScriptBoard<J, M>,
-) -> Result<(), Fail> {
-    served(rt, alloc, board)?;
-    stopped(rt, alloc, board)
-}
-
-fn on_board<J: Naming, R: Wait + Drop>(
-    rt: &impl Abort,
-    waits: R,
+fn on_board<J: Naming + Send + Sync, R: Abort + Threads + Wait + Sync>(
+    rt: &R,
     alloc: Global,
     book: heat_ledger::Opened,
     map: authority_map::Opened,
@@ -78,15 +67,16 @@ fn on_board<J: Naming, R: Wait + Drop>(
     requires map { map ≡ J.map }
     requires limit { J.limit ≡ 8 }
 {
-    let mut board = open::<J, R>(waits, alloc, book, map)?;
-    let done = served_then_stopped(rt, alloc, &mut board);
+    let board = open::<J, &R>(rt, alloc, book, map)?;
+    let board = served(rt, alloc, board);
+    let board = stopped(rt, alloc, board);
     board.end();
-    done
+    Ok(())
 }
 
 #[test]
 fn requests_are_counted_where_they_are_served(rt: HostRuntime) -> Result<(), Fail> {
     let book = heat_ledger::Opened::new(rt.alloc())?;
     let map = authority_map::Opened::new();
-    on_board::<Brand, _>(&rt, &rt, rt.alloc(), book, map)
+    on_board::<Brand, _>(&rt, rt.alloc(), book, map)
 }

@@ -1,13 +1,11 @@
 -- Each line leaves a longer history, or the same.
-use Rattle.std.proofs.Common.{◌≡◌, ◌==◌, ℕ, Bool, true, false, cond, List, [], ◌∷◌, ◌++◌, length, refl, sym, ap, subst, ◌∙◌, append_assoc, append-nil, inl, inr, Option, Some, None, Result, Ok, Err}
+use Rattle.std.proofs.Common.{◌≡◌, ◌==◌, ℕ, Bool, true, false, cond, List, [], ◌∷◌, ◌++◌, length, take, drop, refl, sym, ap, subst, ◌∙◌, append_assoc, append-nil, inl, inr, Option, Some, None, Result, Ok, Err}
+use Rattle.std.proofs.lemmas.List.{take-append-drop}
 use Rattle.std.specs.Prelude.{option_map}
 use Rattle.board_state.specs.declared.board_error.BoardError.{BoardError}
 use Rattle.board_state.specs.declared.change.Change.{Change}
 use Rattle.board_state.specs.declared.change.Change.TheVariants as change
 use Rattle.board_state.specs.State.{refusal}
-use Rattle.export_machine.specs.declared.event.Reply.{Reply}
-use Rattle.export_machine.specs.declared.event.Reply.TheVariants as reply
-use Rattle.heat_ledger.specs.Ledger.{ShareData}
 use Rattle.mds_board.specs.declared.entry.Entry.{Entry}
 use Rattle.mds_board.specs.History.{World, entry_of, recorded}
 use Rattle.mds_types.specs.Mask.{mask_bits}
@@ -16,12 +14,11 @@ use Rattle.script_commands.specs.Commands as line
 use Rattle.script_commands.specs.Commands.{Asked, Command, asked}
 use Rattle.script_engine.specs.Answers.{Answer}
 use Rattle.script_board.specs.declared.fault.Fault.{Fault}
-use Rattle.script_board.specs.declared.load.Load.{Load}
 use Rattle.script_board.specs.Board.{BoardData, publish}
 use Rattle.script_board.specs.Commands.{◌>>=◌, changed, find, last_slash, make_below, masked, parent_path, replanned}
 use Rattle.script_board.specs.Fault.{unless}
 use Rattle.script_board.specs.Plan.{planned}
-use Rattle.script_board.specs.Serve.{AreDeposited, AreServed, Asked as AskedOf, IsAskedUnless, IsDepositedUnless, IsEnded, IsGone, IsServed, IsTriedUnless, Serving, asked_rank, begin_of, deposit_of, end_of, place_of, reply_to, share_at, waiting}
+use Rattle.script_board.specs.Serve.{IsGone}
 use Rattle.script_session.specs.Does.{Does}
 use Rattle.script_session.specs.History.{GoesOn, IsBeginning}
 use Rattle.script_session.specs.Printed.{Printed}
@@ -69,59 +66,11 @@ module _ (b new : BoardData) where
   from_same : (x : BoardData) → Longer b x → fine x ≡ Ok new → Longer b new
   from_same x longer is = let same : x ≡ new = cc in subst (λ (y : BoardData). Longer b y) same longer
 
-same_world : (w new end : World) → new ≡ end → IsBeginning w.history end.history → IsBeginning w.history new.history
-same_world w new end is longer = subst (λ (x : World). IsBeginning w.history x.history) (sym is) longer
-
--- a world that stays has its history
-stays_long : (w new : World) → new ≡ w → IsBeginning w.history new.history
-stays_long w new is = same_world w new w is (itself w.history)
-
-tried_longer : (r : Option BoardError) (w : World) (c : Change) (told : Option Fault) (new : World) → IsTriedUnless r w c told new → IsBeginning w.history new.history
-tried_longer None w c told new (inl h) = same_world w new (recorded w c) h.1 (one_more w c)
-tried_longer None w c told new (inr h) = stays_long w new h.1
-tried_longer (Some e) w c told new h = stays_long w new h.1
-
-ended_longer : (w : World) (begun : Reply) (told : Option Fault) (new : World) → IsEnded w begun told new → IsBeginning w.history new.history
-ended_longer w (reply.Dir dir) told new h = stays_long w new h.1
-ended_longer w (reply.Ticket ticket) told new h = tried_longer (refusal w.state (end_of ticket)) w (end_of ticket) told new h
-ended_longer w (reply.Export export message) told new h = stays_long w new h.1
-ended_longer w (reply.Sent message) told new h = stays_long w new h.1
-ended_longer w reply.Changed told new h = stays_long w new h.1
-ended_longer w reply.Ignored told new h = stays_long w new h.1
-
-asked_longer : (r : Option BoardError) (w : World) (share : ShareData) (rank : ℕ) (l : Load) (a : AskedOf) → IsAskedUnless r w share rank l a → IsBeginning w.history a.world.history
-asked_longer None w share rank l a (inl (told, ends, counted, fault)) =
-    further w.history (recorded w (begin_of rank l)).history a.world.history (one_more w (begin_of rank l)) (ended_longer (recorded w (begin_of rank l)) (reply_to w rank l) told a.world ends)
-asked_longer None w share rank l a (inr h) = stays_long w a.world (ap (λ (x : AskedOf). x.world) h)
-asked_longer (Some e) w share rank l a h = stays_long w a.world (ap (λ (x : AskedOf). x.world) h)
-
-served_longer : (s : Serving) (l : Load) (new : Serving) → IsServed s l new → IsBeginning s.world.history new.world.history
-served_longer s l new h =
-    let rank : ℕ = asked_rank s.world l.dir in
-    same_world s.world new.world h.0.world (ap (λ (x : Serving). x.world) h.2)
-    (asked_longer (refusal s.world.state (begin_of rank l)) s.world (share_at s.shares (place_of s.shares rank)) rank l h.0 h.1)
-
-all_served_longer : (s : Serving) (loads : List Load) (new : Serving) → AreServed s loads new → IsBeginning s.world.history new.world.history
-all_served_longer s [] new h = stays_long s.world new.world (ap (λ (x : Serving). x.world) h)
-all_served_longer s (l ∷ loads) new h = further s.world.history h.0.world.history new.world.history (served_longer s l h.0 h.1) (all_served_longer h.0 loads new h.2)
-
-deposited_longer : (r : Option BoardError) (w : World) (share : ShareData) (a : AskedOf) → IsDepositedUnless r w share a → IsBeginning w.history a.world.history
-deposited_longer None w share a (inl h) = same_world w a.world (recorded w (deposit_of share)) (ap (λ (x : AskedOf). x.world) h) (one_more w (deposit_of share))
-deposited_longer None w share a (inr h) = stays_long w a.world (ap (λ (x : AskedOf). x.world) h)
-deposited_longer (Some e) w share a h = stays_long w a.world (ap (λ (x : AskedOf). x.world) h)
-
-all_deposited_longer : (w : World) (shares : List ShareData) (new : Serving) → AreDeposited w shares new → IsBeginning w.history new.world.history
-all_deposited_longer w [] new h = stays_long w new.world (ap (λ (x : Serving). x.world) h)
-all_deposited_longer w (share ∷ shares) new h =
-    further w.history h.0.world.history new.world.history (deposited_longer (refusal w.state (deposit_of share)) w share h.0 h.2)
-    (same_world h.0.world new.world h.1.world (ap (λ (x : Serving). x.world) h.4) (all_deposited_longer h.0.world shares h.1 h.3))
-
 gone_longer : (b : BoardData) (refused : List Fault) (new : BoardData) → IsGone b refused new → Longer b new
-gone_longer b refused new (s, d, serves, deposit_ends, told, is) =
-    subst (λ (x : BoardData). Longer b x) (sym is)
-    (further b.world.history s.world.history d.world.history
-    (all_served_longer (record { world = b.world; shares = b.shares; refused = [] }) (waiting b) s serves)
-    (all_deposited_longer s.world s.shares d deposit_ends))
+gone_longer b refused new h =
+    let before : List Entry = b.world.history in
+    let now : List Entry = new.world.history in
+    (drop (length before) now, sym (take-append-drop (length before) now) ∙ ap (λ (es : List Entry). es ++ drop (length before) now) h.0.went.kept)
 
 planned_longer : (b : BoardData) (plan : Plan) (new : BoardData) → new ≡ planned b plan → Longer b new
 planned_longer b plan new is =

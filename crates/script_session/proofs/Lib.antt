@@ -3,6 +3,5 @@ pub mod OutcomeLemmas
 pub mod ReportLemmas
 pub mod ScriptLemmas
 pub mod SeenLemmas
-pub mod ServedLemmas
 pub mod SessionLemmas
 pub mod VisibleLemmas

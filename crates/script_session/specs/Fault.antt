@@ -5,7 +5,7 @@ use Rattle.mds_types.specs.declared.refusal.Refusal.TheVariants as refusal
 use Rattle.mds_types.specs.Refusal as refusal_words
 use Rattle.board_state.specs.Refused.{refusal_of}
 use Rattle.script_board.specs.declared.fault.Fault.{Fault}
-use Rattle.script_board.specs.declared.fault.Fault.TheVariants.{Syntax, NoRanks, RanksAgain, Memory, Mask, Refused, ShareFull, Pinned}
+use Rattle.script_board.specs.declared.fault.Fault.TheVariants.{Syntax, NoRanks, RanksAgain, Memory, Mask, Refused, ShareFull, NoThread, Pinned}
 
 -- a numbered refusal, with its value where there is one
 abbrev pub refused : Refusal → List ℕ
@@ -19,4 +19,5 @@ words Memory = refused refusal.Memory
 words Mask = refused refusal.BadMask
 words (Refused error) = refused (refusal_of error)
 words ShareFull = refused refusal.ShareFull
+words NoThread = refused refusal.NoThread
 words Pinned = refused refusal.Pinned

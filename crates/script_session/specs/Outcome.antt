@@ -9,7 +9,6 @@ use Rattle.script_board.specs.declared.fault.Fault.TheVariants.{Syntax, NoRanks,
 use Rattle.script_board.specs.Board.{BoardData, empty_board}
 use Rattle.script_board.specs.Commands.{load, make_dir, remove_dir, restart, set_mask, set_pin, stop, tick}
 use Rattle.script_board.specs.Cost.{cost}
-use Rattle.script_board.specs.Serve.{go, go_refused}
 use Rattle.script_replies.specs.Cost.{cost_lines}
 use Rattle.script_replies.specs.Stat.{stat_lines}
 use Rattle.script_session.specs.Printed.{Printed, only_lines}
@@ -27,7 +26,7 @@ abbrev pub costed : BoardData → Result (List Part) Fault → Outcome
 costed b (Ok parts) = Ok (only_lines (cost_lines b parts), b)
 costed b (Err e) = Err e
 
--- A board doesn't determine what `plan` and `move` do; nothing is said of them here.
+-- A board doesn't determine what `go`, `plan` and `move` do; nothing is said of them here.
 abbrev pub outcome : BoardData → Command → Outcome
 outcome b (line.Ranks n) = Err RanksAgain
 outcome b (line.Mask text) = silent (set_mask b text)
@@ -35,7 +34,7 @@ outcome b (line.MakeDir path inodes) = silent (make_dir b path inodes)
 outcome b (line.RemoveDir path) = silent (remove_dir b path)
 outcome b (line.Pin path value) = silent (set_pin b path value)
 outcome b (line.Load path hits) = silent (load b path hits)
-outcome b line.Go = Ok (record { lines = []; refused = go_refused b }, go b)
+outcome b line.Go = Err Memory
 outcome b line.Tick = silent (tick b)
 outcome b (line.Cost paths) = costed b (cost b paths)
 outcome b line.Plan = Err Memory
@@ -72,6 +71,7 @@ answer_to s number bytes = told s number (line_outcome s (asked bytes))
 
 -- whether a board determines what is asked for
 abbrev pub is_determined : Asked → Bool
+is_determined (line.Asks line.Go) = false
 is_determined (line.Asks line.Plan) = false
 is_determined (line.Asks line.Move) = false
 is_determined _ = true

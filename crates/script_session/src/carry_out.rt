@@ -1,7 +1,7 @@
 //! What each command does to a board.
 ghost use Rattle.std.specs.Prelude.{◌≡◌, Bool, IfErr, IfOk, OnErr, false};
 ghost use Rattle.script_commands.specs.View.{view};
-ghost use Rattle.script_session.specs.Does.{Does, IsCaused, cause, is_move};
+ghost use Rattle.script_session.specs.Does.{Does, IsCaused, cause, is_by_threads};
 ghost use Rattle.script_session.specs.Done.{IsShowable, shown};
 
 use crate::done::Done;
@@ -27,27 +27,37 @@ pub fn carry_out<J: Naming + Send + Sync, M: Publisher<J> + Send, R: Threads + W
     ensures fault { IfErr result.1 (IsCaused (cause board (view command.entry))) }
     ensures unchanged { OnErr result.1 (result.0 ≡ board) }
 {
-    if let Command::Move = command {
-        let (board, moved) = board.carry_out_moves(rt, alloc);
-        match moved {
-            Ok((orders, outcomes)) => (board, Ok(Done::Lines(Reply::Move(orders, outcomes)))),
-            Err(error) => (board, Err(Fault::from(error))),
+    match command {
+        Command::Go => {
+            let (board, refused) = board.go(rt, alloc);
+            match refused {
+                Ok(refused) => (board, Ok(Done::Served(refused))),
+                Err(error) => (board, Err(Fault::from(error))),
+            }
         }
-    } else {
-        let mut board = board;
-        let done = change(&mut board, rt, alloc, command);
-        (board, done)
+        Command::Move => {
+            let (board, moved) = board.carry_out_moves(rt, alloc);
+            match moved {
+                Ok((orders, outcomes)) => (board, Ok(Done::Lines(Reply::Move(orders, outcomes)))),
+                Err(memory) => (board, Err(Fault::from(memory))),
+            }
+        }
+        command => {
+            let mut board = board;
+            let done = change(&mut board, rt, alloc, command);
+            (board, done)
+        }
     }
 }
 
-// Carries out a command other than `move`.
+// Carries out a command that takes no threads of the ranks.
 fn change<J: Naming, M: Publisher<J>, R: Threads>(
     board: &mut ScriptBoard<J, M>,
     rt: &R,
     alloc: Global,
     command: Command<'_>,
 ) -> Result<Done, Fault>
-    requires { is_move (view command) ≡ false }
+    requires { is_by_threads (view command) ≡ false }
     ensures done { IfOk result (λ done. (ample : Bool) × Does board.old (view command.entry) (shown board.new done) ample board.new) }
     ensures showable { IfOk result (IsShowable board.new) }
     ensures fault { IfErr result (IsCaused (cause board.old (view command.entry))) }
@@ -63,7 +73,6 @@ fn change<J: Naming, M: Publisher<J>, R: Threads>(
         Command::Tick => board.tick()?,
         Command::Stop(rank) => board.stop(alloc, rank)?,
         Command::Restart(rank) => board.restart(alloc, rank)?,
-        Command::Go => return Ok(Done::Served(board.go(alloc)?)),
         Command::Plan => {
             board.plan(rt, alloc)?;
             return Ok(Done::Planned);
@@ -72,7 +81,7 @@ fn change<J: Naming, M: Publisher<J>, R: Threads>(
             return Ok(Done::Lines(Reply::Cost(board.cost(alloc, &paths)?)));
         }
         Command::Stat => return Ok(Done::Lines(Reply::Stat(board.directories(alloc)?))),
-        Command::Move => unreachable!(),
+        Command::Go | Command::Move => unreachable!(),
     }
     Ok(Done::Lines(Reply::Nothing))
 }

@@ -8,22 +8,22 @@ ghost use Rattle.script_session.specs.Outcome.{answer_to, is_sure};
 ghost use Rattle.script_session.specs.Session.{SessionData, answers, beginning};
 ghost use Rattle.script_session.specs.Visible.{IsSeenAs, NoneSaysMemory, TellsNoMemory, is_visible};
 
-/// Where memory suffices for a line that asks for no plan and no move, its answer and what it leads to are a function of the
+/// Where memory suffices for a line other than `go`, `plan` and `move`, its answer and what it leads to are a function of the
 /// session, the line's number and the line.
 pub fn determined()
     ensures { IsDetermined is_sure answers answer_to }
 {}
 
-/// What a run of a script without `plan` and `move` writes is a function of its bytes, the limit and `strict`, where memory sufficed
-/// for each line.
+/// What a run of a script without `go`, `plan` and `move` writes is a function of its bytes, the limit and `strict`, where memory
+/// sufficed for each line.
 pub fn output_is_determined()
     ensures { (limit : ℕ) (strict : Bool) (bytes : List ℕ) (replies : List Answer) (last : SessionData)
         → list_all is_sure (lines_of bytes) ≡ true → Run answers strict (beginning limit) 1 (lines_of bytes) replies last
         → all_ample replies ≡ true → text_of replies ≡ text_of (played answer_to strict (beginning limit) 1 (lines_of bytes)).0 }
 {}
 
-/// Want of memory is seen in a line's answer, in that to `go` too: where no line of it says `refused 0 Memory`, the answer to a
-/// line that asks for no plan and no move is a function of the session, the line's number and the line, and so is the session
+/// Want of memory is seen in a line's answer: where no line of it says `refused 0 Memory`, the answer to a line other than
+/// `go`, `plan` and `move` is a function of the session, the line's number and the line, and so is the session
 /// after it, but that its map may not have been published.
 pub fn line_is_visible()
     ensures { (old new : SessionData) (number : ℕ) (line : List ℕ) (a : Answer) → is_sure line ≡ true → answers old number line a new

@@ -24,6 +24,7 @@ pub fn write_fault<W: Write>(writer: &mut W, number: u64, fault: Fault) -> Resul
         Fault::Mask => write_refusal(writer, number, Refusal::BadMask),
         Fault::Refused(error) => write_refusal(writer, number, Refusal::from(error)),
         Fault::ShareFull => write_refusal(writer, number, Refusal::ShareFull),
+        Fault::NoThread => write_refusal(writer, number, Refusal::NoThread),
         Fault::Pinned => write_refusal(writer, number, Refusal::Pinned),
     }
 }

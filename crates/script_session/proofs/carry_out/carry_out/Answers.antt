@@ -1,14 +1,20 @@
 use Rattle.std.proofs.Common.{refl, sym, true}
 use Rattle.export_rounds.proofs.Asking.{each_long}
 use Rattle.script_board.specs.Move.{IsMoved}
+use Rattle.script_board.specs.Serve.{IsGone, is_ample}
 use Rattle.script_session.proofs.carry_out.carry_out.Goals as goal
 
 pub returns-in-Ok-clause-done : goal.returns-in-Ok-clause-done
 returns-in-Ok-clause-done g c =
-    let moved : IsMoved c.args.board c.in-Ok.orders.items c.in-Ok.outcomes.items c.carry_out_moves-board.result.0 = rw c.in-Ok.is at c.carry_out_moves-board.ensures.done in
-    rw c.in-Move.is (true, (c.in-Ok.orders.items, c.in-Ok.outcomes.items, moved, refl, refl))
+    let gone : IsGone c.args.board c.in-Ok.refused.items c.go-board.result.0 = rw c.in-Ok.is at c.go-board.ensures.done in
+    rw c.in-Go.is (is_ample c.in-Ok.refused.items, (gone, refl, refl))
 
-pub returns-in-Ok-clause-showable : goal.returns-in-Ok-clause-showable
-returns-in-Ok-clause-showable g c =
-    let moved : IsMoved c.args.board c.in-Ok.orders.items c.in-Ok.outcomes.items c.carry_out_moves-board.result.0 = rw c.in-Ok.is at c.carry_out_moves-board.ensures.done in
+pub returns-in-Ok-moved-clause-done : goal.returns-in-Ok-moved-clause-done
+returns-in-Ok-moved-clause-done g c =
+    let moved : IsMoved c.args.board c.in-Ok-moved.orders.items c.in-Ok-moved.outcomes.items c.carry_out_moves-board.result.0 = rw c.in-Ok-moved.is at c.carry_out_moves-board.ensures.done in
+    rw c.in-Move.is (true, (c.in-Ok-moved.orders.items, c.in-Ok-moved.outcomes.items, moved, refl, refl))
+
+pub returns-in-Ok-moved-clause-showable : goal.returns-in-Ok-moved-clause-showable
+returns-in-Ok-moved-clause-showable g c =
+    let moved : IsMoved c.args.board c.in-Ok-moved.orders.items c.in-Ok-moved.outcomes.items c.carry_out_moves-board.result.0 = rw c.in-Ok-moved.is at c.carry_out_moves-board.ensures.done in
     sym (each_long _ _ _ moved.outcomes)

@@ -1,27 +1,62 @@
-use Rattle.std.proofs.Common.{◌≡◌, ◌∙◌, ◌++◌, List, [], ap, drop, length, refl, subst, sym, take}
-use Rattle.std.specs.Prelude.{filter}
-use Rattle.dirtree.specs.Tree.{is_there}
-use Rattle.heat_ledger.specs.Ledger.{ShareData}
+use Rattle.std.proofs.Common.{◌≡◌, ◌<◌, ◌≤◌, ℕ, List, Vec, Global, [], ◌++◌, length, map, refl, sym, subst, ap, arith, ◌∙◌}
+use Rattle.heat_ledger.specs.Ledger.{ShareData, weight_of}
+use Rattle.mds_board.specs.History.{World}
+use Rattle.rank_threads.specs.declared.work.Work.{Work}
+use Rattle.rank_threads.specs.declared.work.WorkAnswer.{WorkAnswer}
+use Rattle.rank_threads.specs.Serving.{AreReturned}
+use Rattle.script_board.specs.declared.dealing.Seat.{Seat}
 use Rattle.script_board.specs.Board.{BoardData}
-use Rattle.script_board.specs.Serve.{AreDeposited, AreServed, IsGone, Serving}
-use Rattle.script_board.proofs.ServeLemmas.{written_whole}
+use Rattle.script_board.specs.Serve.{IsDealt, IsGone, waiting}
+use Rattle.script_board.proofs.DealingLemmas.{returned_length}
 use Rattle.script_board.proofs.script_board.ScriptBoard.go.Goals as goal
+
+pub invariant_of-after : goal.invariant_of-after
+invariant_of-after g c =
+    let inv = c.before-2.invariant in
+    let same : c.in-Err-done.failed.value.items ≡ c.before-2.inside.shares.items = rw c.in-Err-done.is at c.serve_with_totals-board.ensures.memory in
+    let board : c.serve_with_totals-board.result.0 ≡ c.before-2.inside.board = rw c.in-Err-done.is at c.serve_with_totals-board.ensures.unchanged in
+    rw (same, board) record { some_shares = inv.some_shares; few_shares = inv.few_shares; whole = inv.whole }
+
+pub invariant_of-after-2 : goal.invariant_of-after-2
+invariant_of-after-2 g c =
+    let inv = c.before-2.invariant in
+    let some = inv.some_shares in
+    let few = inv.few_shares in
+    let size = returned_length g.J.Naming.limit _ _ _ _ (rw c.in-Ok-done.is at c.serve_with_totals-board.ensures.returned) in
+    rw c.told-shares.ensures.shares record {
+      some_shares = omega (arith, size, some);
+      few_shares = omega (arith, size, few);
+      whole = rw c.in-Ok-done.is at c.serve_with_totals-board.ensures.whole;
+    }
 
 pub returns-clause-done : goal.returns-clause-done
 returns-clause-done g c =
-    let was : BoardData = record { world = c.self.inside.board; shares = c.self.inside.shares.items; loads = c.self.inside.loads.items; kept = c.self.inside.kept.items } in
-    let deposited = c.deposit_all.ensures.deposited in
-    let s : Serving = record { world = c.serve_all.new.board; shares = c.serve_all.new.shares; refused = c.serve_all.new.refused.items } in
-    let d : Serving = record { world = c.deposit_all.new.board; shares = c.deposit_all.new.shares; refused = deposited.0 } in
-    let first : AreServed (record { world = was.world; shares = was.shares; refused = [] }) (filter (λ l. is_there was.world.state.directories.entries l.dir) was.loads) s = rw (← c.deref_mut.ensures.value, ← c.deref.ensures.value) c.serve_all.ensures.served in
-    let size = c.self.inside.shares.ok.0 in
-    let count : length c.serve_all.new.shares ≡ length c.self.inside.shares.items = c.serve_all.ensures.count ∙ ap length c.deref_mut.ensures.value in
-    let second : AreDeposited s.world s.shares d =
-    subst (λ (l : List ShareData). AreDeposited s.world l d) (c.deref_mut-2.ensures.value ∙ written_whole c.self.inside.shares.len c.serve_all.new.shares c.self.inside.shares.items count (sym size)) deposited.1 in
-    let items : List ShareData = c.deposit_all.new.shares in
-    let mid : List ShareData = take c.self.inside.shares.len (c.serve_all.new.shares ++ drop (length c.serve_all.new.shares) c.self.inside.shares.items) in
-    let one : mid ≡ c.serve_all.new.shares = written_whole c.self.inside.shares.len c.serve_all.new.shares c.self.inside.shares.items count (sym size) in
-    let two : take c.self.inside.shares.len (items ++ drop (length items) mid) ≡ items =
-    written_whole c.self.inside.shares.len items mid (c.deposit_all.ensures.count ∙ ap length c.deref_mut-2.ensures.value) (ap length one ∙ (count ∙ sym size)) in
-    subst (λ (b : BoardData). IsGone b c.deposit_all.new.refused.items (record { world = c.deposit_all.new.board; shares = take c.self.inside.shares.len (items ++ drop (length items) mid); loads = c.clear.new.self.items; kept = c.self.inside.kept.items })) c.self.view_is
-    (s, d, first, second, deposited.2, rw (c.clear.ensures.items, two) refl)
+    let old : BoardData = record { world = c.before-2.inside.board; shares = c.before-2.inside.shares.items; loads = c.before-2.inside.loads.items; kept = c.before-2.inside.kept.items } in
+    let as_before : old ≡ c.args.self = c.before-2.view_is ∙ c.in-Ok.ensures.same in
+    let new : List ShareData → BoardData = λ shares. record { world = c.serve_with_totals-board.result.0; shares = shares; loads = c.clear.new.self.items; kept = c.before-2.inside.kept.items } in
+    let limit : g.J.Naming.limit ≡ old.world.state.directories.limit = sym c.limit-limit.ensures.named ∙ c.limit-limit.ensures.limit in
+    let seats : List Seat = c.in-Ok.prepared.0.seats.items in
+    let answers : List (List WorkAnswer) = map (λ (a : Vec WorkAnswer Global). a.items) c.in-Ok-done.ranks.answers.items in
+    subst (λ (shares : List ShareData). IsGone c.args.self c.told-shares.result.1.items (new shares)) (sym c.told-shares.ensures.shares)
+    (subst (λ (b : BoardData). IsGone b c.told-shares.result.1.items (new c.in-Ok-done.ranks.shares.items)) as_before (
+      record {
+        scripts = map (λ (s : Vec Work Global). s.items) c.deref.result.now;
+        seats = seats;
+        answers = answers;
+        ended = c.in-Ok-done.ranks.ended;
+        deposited = c.in-Ok-done.ranks.deposited;
+        dealt = subst (λ (l : List (Vec Work Global)). IsDealt old.world (length old.shares) (waiting old) (map (λ (s : Vec Work Global). s.items) l) seats) (sym c.deref.ensures.value)
+            (subst (λ (b : BoardData). IsDealt b.world (length b.shares) (waiting b) (map (λ (s : Vec Work Global). s.items) c.in-Ok.prepared.0.scripts.items) seats) (sym as_before) c.in-Ok.ensures.dealt);
+        answered = rw c.in-Ok-done.is at c.serve_with_totals-board.ensures.answered;
+        end_told = rw c.in-Ok-done.is at c.serve_with_totals-board.ensures.ended;
+        deposit_told = rw c.in-Ok-done.is at c.serve_with_totals-board.ensures.told;
+        went = c.serve_with_totals-board.ensures.board;
+        returned = subst (λ (n : ℕ). AreReturned n old.shares (map (λ (s : Vec Work Global). s.items) c.deref.result.now) answers c.in-Ok-done.ranks.shares.items) limit (rw c.in-Ok-done.is at c.serve_with_totals-board.ensures.returned);
+        clean = rw c.in-Ok-done.is at c.serve_with_totals-board.ensures.clean;
+        begun = λ d inside. (let all = rw c.in-Ok-done.is at c.serve_with_totals-board.ensures.begun in all d (subst (λ (n : ℕ). d < n) (sym limit) inside));
+        counted = λ d inside. (let all = rw c.in-Ok-done.is at c.serve_with_totals-board.ensures.hits in all d (subst (λ (n : ℕ). d < n) (sym limit) inside));
+        told = c.told-shares.ensures.told;
+      },
+      c.clear.ensures.items,
+      refl,
+    ))
