@@ -77,6 +77,6 @@ abbrev pub IsEndMet : World → Result Unit BoardError → Type 0
 IsEndMet before (Ok done) = Unit {0}
 IsEndMet before (Err error) = (ticket : ℕ) × IsMet before (Step (End ticket)) error × (error ≢ board_error.Step NoTicket)
 
--- No request that began runs any more, or the end of one was refused.
+-- No request whose ticket an answer names runs any more, or the end of one was refused.
 abbrev pub IsEndTold : World → World → List (List WorkAnswer) → Result Unit BoardError → Type 0
 IsEndTold before now answers ended = IsEndMet before ended × (IsOk ended → All (λ of_rank. All (HasEnded now) of_rank) answers)
