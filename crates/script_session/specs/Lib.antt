@@ -4,6 +4,7 @@ pub mod Fault
 pub mod History
 pub mod Outcome
 pub mod Printed
+pub mod Proofs
 pub mod Script
 pub mod Session
 pub mod Visible

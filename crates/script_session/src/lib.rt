@@ -9,5 +9,5 @@ pub mod script;
 pub mod session;
 
 pub use done::Done;
-pub use script::run;
+pub use script::{Ended, run};
 pub use session::Session;

@@ -1,13 +1,16 @@
 //! A whole script from a reader, with its answers to a writer.
-ghost use Rattle.std.specs.Prelude.{◌≡◌, ℕ, ◌≤◌, ◌++◌, List, IfOk, IfSome, IsErrOf, true, false, not, ◌&&◌};
+ghost use Rattle.std.specs.Option.{option_and_then};
+ghost use Rattle.std.specs.Prelude.{◌≡◌, ℕ, ◌≤◌, ◌++◌, List, Err, Ok, tt, IfOk, IfSome, IsErrOf, true, false, not, ◌&&◌};
 ghost use Rattle.script_engine.specs.Lines.{lines_of};
 ghost use Rattle.script_engine.specs.Runs.{Gives, IsEnded};
 ghost use Rattle.script_engine.specs.Telling.{Tells};
-ghost use Rattle.script_session.specs.Session.{answers};
-ghost use Rattle.script_session.specs.Script.{AcceptedUpTo, AllAnswered, SomeAnswered, WholeAnswered};
+ghost use Rattle.script_session.specs.Session.{SessionData, answers};
+ghost use Rattle.script_session.specs.Proofs.{IsProved, LeadsTo};
+ghost use Rattle.script_session.specs.Script.{AcceptedUpTo, AllAnswered, IsKeptAt, SomeAnswered, WholeAnswered};
 
 use crate::session::Session;
 use authority_map::MapWriter;
+use board_certificates::Unwritten;
 use board_state::BoardParts;
 use naming::Naming;
 use script_board::Parts;
@@ -18,83 +21,115 @@ use std::marker::{Brand, Send, Sync};
 use std::sync::Wait;
 use std::thread::Threads;
 
+/// How a run ended.
+#[derive(Clone, Copy)]
+pub struct Ended {
+    /// Whether each line was accepted, or why the run ended before its script did.
+    pub answered: Result<bool, RunError>,
+    /// Whether the certificates of all adopted plans were written.
+    pub proved: Result<(), Unwritten>,
+}
+
+impl Ended {
+    // There was no memory to begin with.
+    fn without_memory() -> Ended
+        ensures { result ≡ record { answered = Err RunError.Memory; proved = Ok tt } }
+    {
+        Ended {
+            answered: Err(RunError::Memory),
+            proved: Ok(()),
+        }
+    }
+}
+
 /// Carries out a script, and says whether each of its lines was accepted. A tree has numbers below `limit`.
 ///
 /// A strict run ends with the first line that isn't accepted. A device that fails ends the run. The parts of a board are
-/// opened first; where there is no memory for them, nothing is read.
-pub fn run<T: Threads + Wait + Sync, R: Read, W: Write>(
+/// opened first; where there is no memory for them, nothing is read. However a run ends, the certificates of the plans
+/// that the board has adopted are then written to `proofs`, where one is given.
+pub fn run<T: Threads + Wait + Sync, R: Read, W: Write, P: Write>(
     rt: &T,
     alloc: Global,
     input: &mut Input<R>,
     writer: &mut W,
+    proofs: &mut Option<P>,
     limit: u32,
     strict: bool,
-) -> Result<bool, RunError>
+) -> Ended
     requires some { 1 ≤ limit }
     requires few { limit ≤ 65536 }
     requires unread { input.old.reads ≡ 0 }
-    ensures done { IfOk result (λ accepted. IfSome (R.remaining input.old.reader) (λ all.
+    ensures done { IfOk result.answered (λ accepted. IfSome (R.remaining input.old.reader) (λ all.
         AllAnswered limit strict (lines_of all) accepted (W.contents writer.old) (W.contents writer.new))) }
     // The same for the bytes that came, of any reader.
-    ensures given { IfOk result (λ accepted. (bytes : List ℕ) × Gives R.remaining input.old input.new bytes
+    ensures given { IfOk result.answered (λ accepted. (bytes : List ℕ) × Gives R.remaining input.old input.new bytes
         × ((strict && not accepted) ≡ false → IsEnded R.remaining input.new)
         × AllAnswered limit strict (lines_of bytes) accepted (W.contents writer.old) (W.contents writer.new)) }
     // A strict run reads nothing behind the read in which its last line ends.
-    ensures stops { IfOk result (λ accepted. (strict && not accepted) ≡ true → (front : List ℕ) × (last : List ℕ)
+    ensures stops { IfOk result.answered (λ accepted. (strict && not accepted) ≡ true → (front : List ℕ) × (last : List ℕ)
         × Gives R.remaining input.old input.new (front ++ last) × AcceptedUpTo limit strict front last) }
     // Where a read fails, the lines that were whole were answered.
-    ensures read { IsErrOf result RunError.Read → (bytes : List ℕ) × Gives R.remaining input.old input.new bytes
+    ensures read { IsErrOf result.answered RunError.Read → (bytes : List ℕ) × Gives R.remaining input.old input.new bytes
         × WholeAnswered limit strict bytes (W.contents writer.old) (W.contents writer.new) }
     // Where a write fails, a beginning of what is due for the lines so far was written.
-    ensures write { IsErrOf result RunError.Write → (bytes : List ℕ) × Gives R.remaining input.old input.new bytes
+    ensures write { IsErrOf result.answered RunError.Write → (bytes : List ℕ) × Gives R.remaining input.old input.new bytes
         × SomeAnswered limit strict bytes (W.contents writer.old) (W.contents writer.new) }
     // Where there is no memory to begin with, no device was touched.
-    ensures memory { IsErrOf result RunError.Memory → (input.new ≡ input.old) × (writer.new ≡ writer.old) }
+    ensures memory { IsErrOf result.answered RunError.Memory → (input.new ≡ input.old) × (writer.new ≡ writer.old) × (proofs.new ≡ proofs.old) }
+    // However it ends, the certificates of the plans that the board has adopted by then were written.
+    ensures proofs { (last : SessionData) × IsKeptAt last.board
+        × IsProved result.proved (option_and_then P.contents proofs.old) (option_and_then P.contents proofs.new) last.board
+        × IfOk result.answered (LeadsTo R.remaining limit strict input.old input.new (W.contents writer.old) (W.contents writer.new) last) }
 {
     let Ok(book) = heat_ledger::Opened::new(alloc) else {
-        return Err(RunError::Memory);
+        return Ended::without_memory();
     };
     let map = authority_map::Opened::new();
-    run_named::<Brand, T, R, W>(rt, alloc, book, map, input, writer, limit, strict)
+    run_named::<Brand, T, R, W, P>(rt, alloc, book, map, input, writer, proofs, limit, strict)
 }
 
 // The same for a board whose name was picked.
-fn run_named<J: Naming + Send + Sync, T: Threads + Wait + Sync, R: Read, W: Write>(
+fn run_named<J: Naming + Send + Sync, T: Threads + Wait + Sync, R: Read, W: Write, P: Write>(
     rt: &T,
     alloc: Global,
     book: heat_ledger::Opened,
     map: authority_map::Opened,
     input: &mut Input<R>,
     writer: &mut W,
+    proofs: &mut Option<P>,
     limit: u32,
     strict: bool,
-) -> Result<bool, RunError>
+) -> Ended
     requires book { book ≡ J.ledger }
     requires map { map ≡ J.map }
     requires limit { limit ≡ J.limit }
     requires some { 1 ≤ limit }
     requires few { limit ≤ 65536 }
     requires unread { input.old.reads ≡ 0 }
-    ensures done { IfOk result (λ accepted. IfSome (R.remaining input.old.reader) (λ all.
+    ensures done { IfOk result.answered (λ accepted. IfSome (R.remaining input.old.reader) (λ all.
         AllAnswered limit strict (lines_of all) accepted (W.contents writer.old) (W.contents writer.new))) }
     // The same for the bytes that came, of any reader.
-    ensures given { IfOk result (λ accepted. (bytes : List ℕ) × Gives R.remaining input.old input.new bytes
+    ensures given { IfOk result.answered (λ accepted. (bytes : List ℕ) × Gives R.remaining input.old input.new bytes
         × ((strict && not accepted) ≡ false → IsEnded R.remaining input.new)
         × AllAnswered limit strict (lines_of bytes) accepted (W.contents writer.old) (W.contents writer.new)) }
     // A strict run reads nothing behind the read in which its last line ends.
-    ensures stops { IfOk result (λ accepted. (strict && not accepted) ≡ true → (front : List ℕ) × (last : List ℕ)
+    ensures stops { IfOk result.answered (λ accepted. (strict && not accepted) ≡ true → (front : List ℕ) × (last : List ℕ)
         × Gives R.remaining input.old input.new (front ++ last) × AcceptedUpTo limit strict front last) }
     // Where a read fails, the lines that were whole were answered.
-    ensures read { IsErrOf result RunError.Read → (bytes : List ℕ) × Gives R.remaining input.old input.new bytes
+    ensures read { IsErrOf result.answered RunError.Read → (bytes : List ℕ) × Gives R.remaining input.old input.new bytes
         × WholeAnswered limit strict bytes (W.contents writer.old) (W.contents writer.new) }
     // Where a write fails, a beginning of what is due for the lines so far was written.
-    ensures write { IsErrOf result RunError.Write → (bytes : List ℕ) × Gives R.remaining input.old input.new bytes
+    ensures write { IsErrOf result.answered RunError.Write → (bytes : List ℕ) × Gives R.remaining input.old input.new bytes
         × SomeAnswered limit strict bytes (W.contents writer.old) (W.contents writer.new) }
     // Where there is no memory to begin with, no device was touched.
-    ensures memory { IsErrOf result RunError.Memory → (input.new ≡ input.old) × (writer.new ≡ writer.old) }
+    ensures memory { IsErrOf result.answered RunError.Memory → (input.new ≡ input.old) × (writer.new ≡ writer.old) × (proofs.new ≡ proofs.old) }
+    // However it ends, the certificates of the plans that the board has adopted by then were written.
+    ensures proofs { (last : SessionData) × IsKeptAt last.board
+        × IsProved result.proved (option_and_then P.contents proofs.old) (option_and_then P.contents proofs.new) last.board
+        × IfOk result.answered (LeadsTo R.remaining limit strict input.old input.new (W.contents writer.old) (W.contents writer.new) last) }
 {
     let Some(parts) = open_parts(rt, alloc, book, map, limit) else {
-        return Err(RunError::Memory);
+        return Ended::without_memory();
     };
     let mut session = Session::<J, MapWriter<J, &T>, T>::new(rt, limit, parts);
     let answer = |session: &mut Session<
@@ -105,10 +140,11 @@ fn run_named<J: Naming + Send + Sync, T: Threads + Wait + Sync, R: Read, W: Writ
     >, number: u64, line: &[u8], writer: &mut W| -> Result<bool, WriteFailed>
         ensures { Tells answers W.contents session.old number line.now writer.old result session.new writer.new }
     { session.answer(alloc, number, line, writer) };
-    let done = run_script(alloc, &answer, &mut session, input, writer, strict);
+    let answered = run_script(alloc, &answer, &mut session, input, writer, strict);
     session.promises();
+    let proved = session.prove(alloc, proofs);
     session.end();
-    done
+    Ended { answered, proved }
 }
 
 // The parts of a board, if there is memory for them.

@@ -8,7 +8,9 @@ ghost use Rattle.script_session.specs.Done.{IsShowable, IsShowableAt, shown, sho
 ghost use Rattle.script_replies.specs.Printed.{joined};
 ghost use Rattle.script_engine.specs.Known.{AppendsFront};
 ghost use Rattle.std.specs.Io.KnownBytes.{Appends};
+ghost use Rattle.script_session.specs.Proofs.{IsProved};
 ghost use Rattle.script_session.specs.Script.{IsKeptAt};
+ghost use Rattle.std.specs.Option.{option_and_then};
 ghost use Rattle.script_session.specs.Printed.{only_lines};
 ghost use Rattle.script_engine.specs.Telling.{Tells};
 ghost use Rattle.script_session.specs.Session.{DoesAt, IsCausedOrNoRoom, IsDone, IsTold, answers, asked_cause, beginning, cause_at, published};
@@ -17,6 +19,7 @@ use crate::carry_out::carry_out;
 use crate::done::Done;
 use crate::report::{write_fault, write_refused};
 use authority_map::Publisher;
+use board_certificates::{Unwritten, write_certificates};
 use naming::Naming;
 use script_board::{Fault, Parts, ScriptBoard};
 use script_commands::{Asked, Command, RankCount, read_line};
@@ -104,6 +107,19 @@ impl<'r, J: Naming, M: Publisher<J>, R: Threads> Session<'r, J, M, R> {
         if let Some(board) = &self.board {
             board.board().promises();
         }
+    }
+
+    /// Writes the certificates of the plans that the board has adopted, where there is a writer for them.
+    pub fn prove<P: Write>(&self, alloc: Global, proofs: &mut Option<P>) -> Result<(), Unwritten>
+        ensures { IsProved result (option_and_then P.contents proofs.old) (option_and_then P.contents proofs.new) self.now.board }
+    {
+        let Some(board) = &self.board else {
+            return Ok(());
+        };
+        let Some(writer) = proofs else {
+            return Ok(());
+        };
+        write_certificates(alloc, board.board().history(), writer)
     }
 
     // Makes the board. Where memory is refused, its parts are kept.

@@ -1,0 +1,2 @@
+pub mod BestLemmas
+pub mod WriteLemmas

@@ -1,0 +1,69 @@
+//! Writing the certificates of a history.
+ghost use Rattle.std.specs.Option.{option_map};
+ghost use Rattle.std.specs.Prelude.{◌≡◌, None, OnErr, OnOk};
+ghost use Rattle.std.specs.Io.KnownBytes.{Appends};
+ghost use Rattle.board_certificates.specs.Certificates.{adopted, certificates};
+ghost use Rattle.plan_text.specs.Text.{text, texts};
+ghost use Rattle.script_engine.specs.Known.{AppendsFront};
+
+use crate::opened::opened;
+use crate::unwritten::Unwritten;
+use board_state::Change;
+use mds_board::Entry;
+use mds_types::{Plan, Problem};
+use plan_text::certificate_text;
+use script_engine::write_whole;
+use std::alloc::Global;
+use std::io::Write;
+
+/// Writes a certificate.
+fn write_one<W: Write>(
+    alloc: Global,
+    problem: &Problem,
+    plan: &Plan,
+    writer: &mut W,
+) -> Result<(), Unwritten>
+    ensures written { OnOk result (Appends (W.contents writer.old) (W.contents writer.new) (text problem.now plan.now)) }
+    ensures begun { OnErr result (AppendsFront (W.contents writer.old) (W.contents writer.new) (text problem.now plan.now)) }
+{
+    let made = certificate_text(alloc, problem, plan)?;
+    write_whole(writer, made.as_bytes())?;
+    Ok(())
+}
+
+/// Writes the certificate of the plan that a change adopts, if it adopts one, for the problem that was opened last.
+fn write_adopted<W: Write>(
+    alloc: Global,
+    last: Option<&Problem>,
+    change: &Change,
+    writer: &mut W,
+) -> Result<(), Unwritten>
+    ensures written { OnOk result (Appends (W.contents writer.old) (W.contents writer.new) (texts (adopted (option_map (λ problem. problem.now) last.entry) change.now))) }
+    ensures begun { OnErr result (AppendsFront (W.contents writer.old) (W.contents writer.new) (texts (adopted (option_map (λ problem. problem.now) last.entry) change.now))) }
+{
+    let Change::Adopt(plan) = change else {
+        return Ok(());
+    };
+    let Some(problem) = last else {
+        return Ok(());
+    };
+    write_one(alloc, problem, plan.plan(), writer)
+}
+
+/// Writes the certificates of all plans that a history adopts, in the order of their adoption: each has the problem that
+/// was opened last before it, the plan and the plan's proofs. Where a write fails, a beginning of them was written.
+pub fn write_certificates<W: Write>(
+    alloc: Global,
+    history: &[Entry],
+    writer: &mut W,
+) -> Result<(), Unwritten>
+    ensures written { OnOk result (Appends (W.contents writer.old) (W.contents writer.new) (texts (certificates None history.now))) }
+    ensures begun { OnErr result (AppendsFront (W.contents writer.old) (W.contents writer.new) (texts (certificates None history.now))) }
+{
+    let mut last: Option<&Problem> = None;
+    for entry in history {
+        write_adopted(alloc, last, &entry.change, writer)?;
+        last = opened(last, &entry.reply);
+    }
+    Ok(())
+}
