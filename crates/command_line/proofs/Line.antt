@@ -32,7 +32,7 @@ use Rattle.command_line.specs.declared.options_error.OptionsError.{OptionsError}
 use Rattle.command_line.specs.declared.options_error.OptionsError.TheVariants.{Help, Memory, Refused, Version}
 use Rattle.clap.proofs.CallerReads.{signed_reads}
 use Rattle.clap.proofs.OnLiterals.{clap_on_literals}
-use Rattle.command_line.specs.CommandLine.{limit_rule, mdbal, number_of, strict_rule}
+use Rattle.command_line.specs.CommandLine.{limit_rule, mdbal, number_of, proofs_rule, strict_rule}
 use Rattle.command_line.proofs.Passed.{IsOwn, text_passed}
 
 pub is_plain_line : is_simple_and_free mdbal ≡ true
@@ -53,61 +53,68 @@ none_of (x ∷ xs) h =
     let zero : length (x ∷ xs) ≡ 0 = grind (arith, nat_tests) in
     absurd (omega arith)
 
--- two things of which a list is made
-record HasTwo {X Y : Type 0} (f : X → Y) (r s : Y) (xs : List X) : Type 0 where
+-- three things of which a list is made
+record HasThree {X Y : Type 0} (f : X → Y) (r s t : Y) (xs : List X) : Type 0 where
   first : X
   second : X
-  are : xs ≡ first ∷ second ∷ []
+  third : X
+  are : xs ≡ first ∷ second ∷ third ∷ []
   first_is : f first ≡ r
   second_is : f second ≡ s
+  third_is : f third ≡ t
 
-two_of : (X Y : Type 0) (f : X → Y) (r s : Y) (xs : List X) → map f xs ≡ r ∷ s ∷ [] → HasTwo f r s xs
-two_of X Y f r s [] h = cc
-two_of X Y f r s (a ∷ []) h = cc
-two_of X Y f r s (a ∷ b ∷ []) h = record {
+three_of : (X Y : Type 0) (f : X → Y) (r s t : Y) (xs : List X) → map f xs ≡ r ∷ s ∷ t ∷ [] → HasThree f r s t xs
+three_of X Y f r s t [] h = cc
+three_of X Y f r s t (a ∷ []) h = cc
+three_of X Y f r s t (a ∷ b ∷ []) h = cc
+three_of X Y f r s t (a ∷ b ∷ d ∷ []) h = record {
   first = a;
   second = b;
+  third = d;
   are = refl;
   first_is = ap (λ (ys : List Y). slice_index_or ys 0 r) h;
   second_is = ap (λ (ys : List Y). slice_index_or ys 1 r) h;
+  third_is = ap (λ (ys : List Y). slice_index_or ys 2 r) h;
 }
-two_of X Y f r s (a ∷ b ∷ x ∷ xs) h = cc
+three_of X Y f r s t (a ∷ b ∷ d ∷ x ∷ xs) h = cc
 
--- the two arguments
+-- the three arguments
 abbrev IsLine : List Arg → Type 0
-IsLine = HasTwo rule_of limit_rule strict_rule
+IsLine = HasThree rule_of limit_rule strict_rule proofs_rule
 
-line_of : (xs : List Arg) → map rule_of xs ≡ limit_rule ∷ strict_rule ∷ [] → IsLine xs
-line_of = two_of Arg Rule rule_of limit_rule strict_rule
+line_of : (xs : List Arg) → map rule_of xs ≡ limit_rule ∷ strict_rule ∷ proofs_rule ∷ [] → IsLine xs
+line_of = three_of Arg Rule rule_of limit_rule strict_rule proofs_rule
 
 no_groups_of : (a : Arg) (r : Rule) → rule_of a ≡ r → r.is_simple ≡ true → a.groups.items ≡ []
 no_groups_of a r h simple =
     let all = ap (λ (x : Rule). x.is_simple) h ∙ simple in
     none_of a.groups.items (both_true _ _ (both_true _ _ (both_true _ _ all).1).1).0
 
-named_differently : bytes_eq (codes "strict") (codes "limit") ≡ false
-named_differently = refl
-
-named_otherwise : bytes_eq (codes "limit") (codes "strict") ≡ false
-named_otherwise = refl
-
-limit_alone : (a b : Arg) → a.id.now ≡ codes "limit" → b.id.now ≡ codes "strict" → (j : ℕ) (e : Arg) → j < 2
-    → bytes_eq (slice_index_or (a ∷ b ∷ []) j e).id.now a.id.now ≡ true → j ≡ 0
-limit_alone a b is_a is_b zero e lt h = refl
-limit_alone a b is_a is_b (suc zero) e lt h =
-    let same : bytes_eq (codes "strict") (codes "limit") ≡ true = rw (is_a, is_b) at h in
-    let bad : true ≡ false = sym same ∙ named_differently in
-    cc
-limit_alone a b is_a is_b (suc (suc j)) e lt h = absurd (omega arith)
-
-strict_alone : (a b : Arg) → a.id.now ≡ codes "limit" → b.id.now ≡ codes "strict" → (j : ℕ) (e : Arg) → j < 2
-    → bytes_eq (slice_index_or (a ∷ b ∷ []) j e).id.now b.id.now ≡ true → j ≡ 1
-strict_alone a b is_a is_b zero e lt h =
-    let same : bytes_eq (codes "limit") (codes "strict") ≡ true = rw (is_a, is_b) at h in
-    let bad : true ≡ false = sym same ∙ named_otherwise in
-    cc
-strict_alone a b is_a is_b (suc zero) e lt h = refl
-strict_alone a b is_a is_b (suc (suc j)) e lt h = absurd (omega arith)
+-- a name stands at one of the three places alone
+alone : (a b d : Arg) → a.id.now ≡ codes "limit" → b.id.now ≡ codes "strict" → d.id.now ≡ codes "proofs" → (j : ℕ) (e : Arg) → j < 3
+    → (bytes_eq (slice_index_or (a ∷ b ∷ d ∷ []) j e).id.now (codes "limit") ≡ true → j ≡ 0)
+    × (bytes_eq (slice_index_or (a ∷ b ∷ d ∷ []) j e).id.now (codes "strict") ≡ true → j ≡ 1)
+alone a b d is_a is_b is_d zero e lt = (
+  λ h. refl,
+  λ h.
+      let bad : false ≡ true = subst (λ (t : Text). bytes_eq t (codes "strict") ≡ true) is_a h in
+      cc,
+)
+alone a b d is_a is_b is_d (suc zero) e lt = (
+  λ h.
+      let bad : false ≡ true = subst (λ (t : Text). bytes_eq t (codes "limit") ≡ true) is_b h in
+      cc,
+  λ h. refl,
+)
+alone a b d is_a is_b is_d (suc (suc zero)) e lt = (
+  λ h.
+      let bad : false ≡ true = subst (λ (t : Text). bytes_eq t (codes "limit") ≡ true) is_d h in
+      cc,
+  λ h.
+      let bad : false ≡ true = subst (λ (t : Text). bytes_eq t (codes "strict") ≡ true) is_d h in
+      cc,
+)
+alone a b d is_a is_b is_d (suc (suc (suc j))) e lt = absurd (omega arith)
 
 -- a name that begins with another letter is neither empty nor that of the flag for help or the version
 first_letter : (t u : Text) → t ≡ u → slice_index_or t 0 0 ≡ slice_index_or u 0 0
@@ -117,10 +124,11 @@ limit_own : (c : Command) (l : IsLine (args_of c)) → IsOwn c 0 l.first
 limit_own c l =
     let id : l.first.id.now ≡ codes "limit" = ap (λ (r : Rule). r.id) l.first_is in
     let other : l.second.id.now ≡ codes "strict" = ap (λ (r : Rule). r.id) l.second_is in
+    let file : l.third.id.now ≡ codes "proofs" = ap (λ (r : Rule). r.id) l.third_is in
     record {
       below = rw l.are (omega arith);
       is = rw l.are refl;
-      alone = λ j e lt h. limit_alone l.first l.second id other j e (rw l.are at lt) (rw l.are at h);
+      alone = λ j e lt h. (alone l.first l.second l.third id other file j e (rw l.are at lt)).0 (subst (λ (t : Text). bytes_eq (slice_index_or (l.first ∷ l.second ∷ l.third ∷ []) j e).id.now t ≡ true) id (rw l.are at h));
       named = λ h.
           let bad : 108 ≡ 0 = first_letter (codes "limit") [] (sym id ∙ h) in
           absurd (omega arith);
@@ -138,10 +146,11 @@ strict_own : (c : Command) (l : IsLine (args_of c)) → IsOwn c 1 l.second
 strict_own c l =
     let other : l.first.id.now ≡ codes "limit" = ap (λ (r : Rule). r.id) l.first_is in
     let id : l.second.id.now ≡ codes "strict" = ap (λ (r : Rule). r.id) l.second_is in
+    let file : l.third.id.now ≡ codes "proofs" = ap (λ (r : Rule). r.id) l.third_is in
     record {
       below = rw l.are (omega arith);
       is = rw l.are refl;
-      alone = λ j e lt h. strict_alone l.first l.second other id j e (rw l.are at lt) (rw l.are at h);
+      alone = λ j e lt h. (alone l.first l.second l.third other id file j e (rw l.are at lt)).1 (subst (λ (t : Text). bytes_eq (slice_index_or (l.first ∷ l.second ∷ l.third ∷ []) j e).id.now t ≡ true) id (rw l.are at h));
       named = λ h.
           let bad : 115 ≡ 0 = first_letter (codes "strict") [] (sym id ∙ h) in
           absurd (omega arith);
@@ -165,6 +174,9 @@ record IsLoose (c : Command) : Type 0 where
   unnamed : NamesNoGroup c
   groups : groups_of c ≡ []
 
+abbrev Unnamed : Arg → Type 0
+Unnamed a = a.groups.items ≡ []
+
 loose : (c : Command) → app_of c ≡ mdbal → (l : IsLine (args_of c)) → IsLoose c
 loose c is l =
     let plain = ap (λ (x : App). x.top.is_plain) is in
@@ -172,8 +184,9 @@ loose c is l =
     let third = both_true _ _ (both_true _ _ first.1).1 in
     record {
       globals = not_true _ third.0;
-      unnamed = rw l.are (All-cons (λ (a : Arg). a.groups.items ≡ []) l.first (l.second ∷ []) (no_groups_of l.first limit_rule l.first_is refl)
-          (All-cons (λ (a : Arg). a.groups.items ≡ []) l.second [] (no_groups_of l.second strict_rule l.second_is refl) (All-nil (λ (a : Arg). a.groups.items ≡ []))));
+      unnamed = rw l.are (All-cons Unnamed l.first (l.second ∷ l.third ∷ []) (no_groups_of l.first limit_rule l.first_is refl)
+          (All-cons Unnamed l.second (l.third ∷ []) (no_groups_of l.second strict_rule l.second_is refl)
+          (All-cons Unnamed l.third [] (no_groups_of l.third proofs_rule l.third_is refl) (All-nil Unnamed))));
       groups = none_of (groups_of c) first.0;
     }
 

@@ -1,9 +1,9 @@
 -- The command line of `mdbal`, as a command of `clap`, and what its words name.
-use Rattle.std.specs.Prelude.{ℕ, Bool, List, Some, pos, codes, option_map, unwrap_or, true, false}
+use Rattle.std.specs.Prelude.{ℕ, Bool, List, Some, pos, codes, Option, option_map, unwrap_or, true, false}
 use Rattle.std.specs.Option.{option_map_or}
 use Rattle.std.specs.Str.{bytes_eq}
 use Rattle.std.specs.Str.Parse.{digits_value, without_leading_plus}
-use Rattle.clap.specs.Words.{App, Rule, Text, matches_of, new_app, new_rule, one_of, with_rule}
+use Rattle.clap.specs.Words.{App, Rule, Text, first_of, matches_of, new_app, new_rule, one_of, with_rule}
 use Rattle.clap.specs.declared.builder.action.ArgAction.TheVariants.{SetTrue}
 use Rattle.clap.specs.declared.builder.value_parser.ValueParser.TheVariants as parser
 use Rattle.mds_types.specs.declared.limits.TheConstants.{DIR_LIMIT}
@@ -24,13 +24,20 @@ strict_rule = record (new_rule (codes "strict")) {
   parser = Some parser.Bool;
 }
 
+-- `--proofs FILE`
+abbrev pub proofs_rule : Rule
+proofs_rule = record (new_rule (codes "proofs")) {
+  long = Some (codes "proofs");
+  value_names = 1;
+}
+
 -- the program, which has a version
 abbrev pub versioned : App
 versioned = let app = new_app (codes "mdbal") in record app { top = record app.top { has_version = true } }
 
--- `mdbal [--limit N] [--strict]`, which has a version
+-- `mdbal [--limit N] [--strict] [--proofs FILE]`, which has a version
 abbrev pub mdbal : App
-mdbal = with_rule (with_rule versioned limit_rule) strict_rule
+mdbal = with_rule (with_rule (with_rule versioned limit_rule) strict_rule) proofs_rule
 
 -- the number of a text of decimal digits
 abbrev pub number_of : Text → ℕ
@@ -43,3 +50,7 @@ limit_of words = unwrap_or (option_map number_of (one_of (codes "limit") (matche
 -- the words have `--strict`
 abbrev pub is_strict : List Text → Bool
 is_strict words = option_map_or (λ text. bytes_eq text (codes "true")) (one_of (codes "strict") (matches_of mdbal words)) false
+
+-- the file that `--proofs` names
+abbrev pub proofs_of : List Text → Option Text
+proofs_of words = first_of (codes "proofs") (matches_of mdbal words)

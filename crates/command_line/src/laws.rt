@@ -1,8 +1,8 @@
 //! What `clap`'s function makes of some lines that are written out.
-ghost use Rattle.std.specs.Prelude.{◌≡◌, ◌∷◌, [], codes, false, true};
+ghost use Rattle.std.specs.Prelude.{◌≡◌, ◌∷◌, None, Some, [], codes, false, true};
 ghost use Rattle.clap.specs.Words.{fault_of};
 ghost use Rattle.clap.specs.declared.error.kind.ErrorKind.TheVariants.{DisplayHelp, DisplayVersion, ValueValidation};
-ghost use Rattle.command_line.specs.CommandLine.{is_strict, limit_of, mdbal};
+ghost use Rattle.command_line.specs.CommandLine.{is_strict, limit_of, mdbal, proofs_of};
 
 use mds_types::limits::DIR_LIMIT;
 
@@ -18,6 +18,13 @@ pub fn both_options()
     ensures accepted { fault_of mdbal (codes "mdbal" ∷ codes "--limit" ∷ codes "2" ∷ codes "--strict" ∷ []) ≡ [] }
     ensures limit { limit_of (codes "mdbal" ∷ codes "--limit" ∷ codes "2" ∷ codes "--strict" ∷ []) ≡ 2 }
     ensures strict { is_strict (codes "mdbal" ∷ codes "--limit" ∷ codes "2" ∷ codes "--strict" ∷ []) ≡ true }
+{}
+
+/// A line names the file for certificates, or none.
+pub fn proofs_file()
+    ensures accepted { fault_of mdbal (codes "mdbal" ∷ codes "--proofs" ∷ codes "plans" ∷ []) ≡ [] }
+    ensures named { proofs_of (codes "mdbal" ∷ codes "--proofs" ∷ codes "plans" ∷ []) ≡ Some (codes "plans") }
+    ensures none { proofs_of (codes "mdbal" ∷ []) ≡ None }
 {}
 
 /// Limits are 1 to 65536.

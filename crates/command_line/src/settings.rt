@@ -1,7 +1,7 @@
 //! The settings that the words of a command line give.
-ghost use Rattle.std.specs.Prelude.{◌≡◌, false, ◌≤◌, [], IfErr, IfOk, map};
+ghost use Rattle.std.specs.Prelude.{◌≡◌, false, ◌≤◌, [], IfErr, IfOk, map, option_map};
 ghost use Rattle.clap.specs.Words.{app_of, fault_of, rule_of};
-ghost use Rattle.command_line.specs.CommandLine.{is_strict, limit_of, limit_rule, mdbal, strict_rule};
+ghost use Rattle.command_line.specs.CommandLine.{is_strict, limit_of, limit_rule, mdbal, proofs_of, proofs_rule, strict_rule};
 ghost use Rattle.command_line.specs.Outcome.{Explains};
 
 use crate::options_error::OptionsError;
@@ -15,28 +15,32 @@ const VERSION: &str = "0.1.0";
 
 /// What the program is started with.
 #[derive(Clone, Copy, Debug, PartialEq, Eq)]
-pub struct Settings {
+pub struct Settings<'a> {
     /// How many directory numbers the tree may give, 1 to 65536.
     pub limit: u32,
     /// Whether the run ends with the first faulty line.
     pub strict: bool,
+    /// The file that the certificates of the adopted plans are written to, if one is named.
+    pub proofs: Option<&'a str>,
 }
 
 /// Reads the words of a command line, of which the first is the program's name.
 ///
 /// `--limit N` takes 1 to 65536, which is also the limit where the words name none. `--strict` and
-/// `--limit` may each stand once.
-pub fn options<'a, S: AsStr>(alloc: Global, words: &'a [S]) -> Result<Settings, OptionsError>
+/// `--limit` may each stand once, and so may `--proofs FILE`.
+pub fn options<'a, S: AsStr>(alloc: Global, words: &'a [S]) -> Result<Settings<'a>, OptionsError>
     ensures accepted { IfOk result (λ _. fault_of mdbal (map S.text words.now) ≡ []) }
     ensures limit { IfOk result (λ s. s.limit ≡ limit_of (map S.text words.now)) }
     ensures within { IfOk result (λ s. (1 ≤ s.limit) × (s.limit ≤ DIR_LIMIT)) }
     ensures strict { IfOk result (λ s. s.strict ≡ is_strict (map S.text words.now)) }
+    ensures proofs { IfOk result (λ s. option_map (λ file. file.now) s.proofs ≡ proofs_of (map S.text words.now)) }
     ensures refused { IfErr result (Explains (fault_of mdbal (map S.text words.now))) }
 {
     let matches = command(alloc)?.try_get_matches_from(words)?;
     Ok(Settings {
         limit: matches.get_one::<u32>("limit").unwrap_or(DIR_LIMIT),
         strict: matches.get_flag("strict"),
+        proofs: matches.get_str("proofs"),
     })
 }
 
@@ -62,6 +66,16 @@ fn strict_flag<'a>(alloc: Global) -> Arg<'a>
         .help("End the run with the first faulty line")
 }
 
+fn proofs_option<'a>(alloc: Global) -> Arg<'a>
+    ensures rule { rule_of result ≡ proofs_rule }
+    ensures local { result.global ≡ false }
+{
+    Arg::new(alloc, "proofs")
+        .long("proofs")
+        .value_name("FILE")
+        .help("File to write the certificates of the adopted plans to; mdbal_check checks them")
+}
+
 // The program's command, as `clap` knows it.
 fn command<'a>(alloc: Global) -> Result<Command<'a>, AllocError>
     ensures { IfOk result (λ c. app_of c ≡ mdbal) }
@@ -72,5 +86,6 @@ fn command<'a>(alloc: Global) -> Result<Command<'a>, AllocError>
             "Carries out the script on standard input, and writes its answers to standard output",
         )
         .arg(limit_option(alloc))?
-        .arg(strict_flag(alloc))
+        .arg(strict_flag(alloc))?
+        .arg(proofs_option(alloc))
 }

@@ -6,9 +6,9 @@ use Rattle.std.specs.Str.{bytes_eq}
 use Rattle.std.specs.Str.Parse.{ExplainsUnsignedError, HasUnsignedDigitsIfOk, ParsesUnsigned}
 use Rattle.clap.specs.Kinds.{HasKind}
 use Rattle.clap.specs.Matches.{found_of, one_text}
-use Rattle.clap.specs.Words.{App, app_of, fault_of, is_simple_and_free, matches_of, one_of, rows_of}
+use Rattle.clap.specs.Words.{App, app_of, fault_of, first_of, is_simple_and_free, matches_of, one_of, rows_of}
 use Rattle.clap.specs.Simple.{is_simple}
-use Rattle.clap.proofs.WalkLemmas.{one_text-rows}
+use Rattle.clap.proofs.WalkLemmas.{first_value-rows, one_text-rows}
 use Rattle.command_line.specs.CommandLine.{mdbal, number_of}
 use Rattle.command_line.proofs.Line.{explained, is_plain_line, is_simple_line, limit_given, limit_text, strict_given, strict_text}
 use Rattle.command_line.proofs.settings.options.Goals as goal
@@ -47,6 +47,14 @@ returns-clause-strict g c =
     strict_given (one_text (found_of m) (codes "strict")) c.get_flag.result
     (λ t h. strict_text c.in_ok-command.field-0 m is c.in_ok-matches.ensures.parsed t h) c.get_flag.ensures.none c.get_flag.ensures.value c.get_flag.ensures.other
     ∙ ap (λ o. option_map_or (λ t. bytes_eq t (codes "true")) o false) text
+
+pub returns-clause-proofs : goal.returns-clause-proofs
+returns-clause-proofs g c =
+    let is : app_of c.in_ok-command.field-0 ≡ mdbal = c.in_ok-command.ensures in
+    let m = c.in_ok-matches.matches in
+    let rows : rows_of (found_of m) ≡ matches_of mdbal (map g.S.AsStr.text c.args.words.now) =
+    (c.in_ok-matches.ensures.matches (ap is_simple is ∙ is_simple_line)).0 ∙ ap (λ a. matches_of a (map g.S.AsStr.text c.args.words.now)) is in
+    c.get_str.ensures ∙ first_value-rows (found_of m) (codes "proofs") ∙ ap (first_of (codes "proofs")) rows
 
 pub returns-in_err-matches-clause-refused : goal.returns-in_err-matches-clause-refused
 returns-in_err-matches-clause-refused g c =
