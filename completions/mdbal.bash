@@ -1,10 +1,11 @@
-# Completions of mdbal and mdbal_ceph for bash: source this file, or put it into the folder of bash-completion.
+# Completions of mdbal, mdbal_ceph and mdbal_check for bash: source this file, or put it into the folder of bash-completion.
 _mdbal() {
     local cur=${COMP_WORDS[COMP_CWORD]} prev=${COMP_WORDS[COMP_CWORD-1]}
     case $prev in
         --limit) return ;;
+        --proofs) COMPREPLY=($(compgen -f -- "$cur")); return ;;
     esac
-    COMPREPLY=($(compgen -W '--limit --strict --help --version' -- "$cur"))
+    COMPREPLY=($(compgen -W '--limit --strict --proofs --help --version' -- "$cur"))
 }
 _mdbal_ceph() {
     local cur=${COMP_WORDS[COMP_CWORD]} prev=${COMP_WORDS[COMP_CWORD-1]}
@@ -19,5 +20,13 @@ _mdbal_ceph() {
         *) COMPREPLY=($(compgen -d -- "$cur")) ;;
     esac
 }
+_mdbal_check() {
+    local cur=${COMP_WORDS[COMP_CWORD]}
+    case $cur in
+        -*) COMPREPLY=($(compgen -W '--help --version' -- "$cur")) ;;
+        *) COMPREPLY=($(compgen -f -- "$cur")) ;;
+    esac
+}
 complete -F _mdbal mdbal
+complete -F _mdbal_check mdbal_check
 complete -F _mdbal_ceph mdbal_ceph

@@ -1,7 +1,7 @@
 -- The plans of a history's certificates are best.
 use Rattle.std.proofs.Common.{◌≡◌, Bool, true, false, ℕ, List, [], ◌∷◌, ◌++◌, All, Option, Some, None, refl, sym, subst}
 use Rattle.std.proofs.lemmas.List.Elements.{All-append, All-cons, All-nil}
-use Rattle.board_certificates.specs.Certificates.{adopted, certificates, opened}
+use Rattle.board_certificates.specs.Certificates.{certified_by, certificates, opened}
 use Rattle.board_state.specs.declared.change.Answer.{Answer}
 use Rattle.board_state.specs.declared.change.Change.{Change}
 use Rattle.board_state.specs.declared.change.Change.TheVariants.{Make, Remove, Mask, Deposit, Tick, Step, Open, Adopt}
@@ -43,7 +43,7 @@ agrees_next s last (Step e) h = marked_if_agrees _ s.opened s.events last h
 agrees_next s last Open h = refl
 agrees_next s last (Adopt plan) h = tt
 
-best_now : (o : Option Opened) (last : Option ProblemData) (plan : Plan) → Agrees o last → IsBestForOpen o plan → All HasBest (adopted last (Adopt plan))
+best_now : (o : Option Opened) (last : Option ProblemData) (plan : Plan) → Agrees o last → IsBestForOpen o plan → All HasBest (certified_by last (Adopt plan))
 best_now None last plan h best = absurd best
 best_now (Some o) None plan h best = absurd (cc)
 best_now (Some o) (Some problem) plan h best = All-cons HasBest (record { problem = problem; plan = plan }) [] (subst (λ (q : Option ProblemData). on q) (sym h) best) (All-nil HasBest)
@@ -52,7 +52,7 @@ best_now (Some o) (Some problem) plan h best = All-cons HasBest (record { proble
     on None = ⊥
     on (Some q) = IsBest q plan
 
-best_adopted : (s : State) (last : Option ProblemData) (c : Change) → Agrees s.opened last → IsAllowed s c → All HasBest (adopted last c)
+best_adopted : (s : State) (last : Option ProblemData) (c : Change) → Agrees s.opened last → IsAllowed s c → All HasBest (certified_by last c)
 best_adopted s None (Adopt plan) h best = best_now s.opened None plan h best
 best_adopted s (Some problem) (Adopt plan) h best = best_now s.opened (Some problem) plan h best
 best_adopted s None c h best = All-nil HasBest
@@ -68,6 +68,6 @@ best_adopted s (Some problem) Open h best = All-nil HasBest
 pub all_best : (s : State) (last : Option ProblemData) (history : List Entry) (t : State) → Agrees s.opened last → IsReplay s history t → All HasBest (certificates last history)
 all_best s last [] t h r = All-nil HasBest
 all_best s last (e ∷ es) t h r =
-    All-append HasBest (adopted last e.change) _ (best_adopted s last e.change h r.1)
+    All-append HasBest (certified_by last e.change) _ (best_adopted s last e.change h r.1)
     (all_best (next s e.change) (opened last e.reply) es t
     (subst (λ (reply : Answer). Agrees (next s e.change).opened (opened last reply)) (sym r.2) (agrees_next s last e.change h)) r.3)

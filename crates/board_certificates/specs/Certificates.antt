@@ -14,11 +14,11 @@ opened last (Problem problem) = Some problem
 opened last _ = last
 
 -- the certificate of the plan that a change adopts, for the problem that was opened last
-abbrev pub adopted : Option ProblemData → Change → List Certificate
-adopted (Some problem) (Adopt plan) = record { problem = problem; plan = plan } ∷ []
-adopted _ _ = []
+abbrev pub certified_by : Option ProblemData → Change → List Certificate
+certified_by (Some problem) (Adopt plan) = record { problem = problem; plan = plan } ∷ []
+certified_by _ _ = []
 
--- The certificates of the plans that some entries adopt, in order, each with the problem that was opened last before it.
+-- The certificates of the plans that some entries adopt, in order, each for the problem that was opened last before.
 abbrev pub certificates : Option ProblemData → List Entry → List Certificate
 certificates last [] = []
-certificates last (e ∷ es) = adopted last e.change ++ certificates (opened last e.reply) es
+certificates last (e ∷ es) = certified_by last e.change ++ certificates (opened last e.reply) es

@@ -2,7 +2,7 @@
 ghost use Rattle.std.specs.Option.{option_map};
 ghost use Rattle.std.specs.Prelude.{◌≡◌, None, OnErr, OnOk};
 ghost use Rattle.std.specs.Io.KnownBytes.{Appends};
-ghost use Rattle.board_certificates.specs.Certificates.{adopted, certificates};
+ghost use Rattle.board_certificates.specs.Certificates.{certified_by, certificates};
 ghost use Rattle.plan_text.specs.Text.{text, texts};
 ghost use Rattle.script_engine.specs.Known.{AppendsFront};
 
@@ -23,8 +23,10 @@ fn write_one<W: Write>(
     plan: &Plan,
     writer: &mut W,
 ) -> Result<(), Unwritten>
-    ensures written { OnOk result (Appends (W.contents writer.old) (W.contents writer.new) (text problem.now plan.now)) }
-    ensures begun { OnErr result (AppendsFront (W.contents writer.old) (W.contents writer.new) (text problem.now plan.now)) }
+    ensures written { OnOk result (Appends
+        (W.contents writer.old) (W.contents writer.new) (text problem.now plan.now)) }
+    ensures begun { OnErr result (AppendsFront
+        (W.contents writer.old) (W.contents writer.new) (text problem.now plan.now)) }
 {
     let made = certificate_text(alloc, problem, plan)?;
     write_whole(writer, made.as_bytes())?;
@@ -38,8 +40,12 @@ fn write_adopted<W: Write>(
     change: &Change,
     writer: &mut W,
 ) -> Result<(), Unwritten>
-    ensures written { OnOk result (Appends (W.contents writer.old) (W.contents writer.new) (texts (adopted (option_map (λ problem. problem.now) last.entry) change.now))) }
-    ensures begun { OnErr result (AppendsFront (W.contents writer.old) (W.contents writer.new) (texts (adopted (option_map (λ problem. problem.now) last.entry) change.now))) }
+    ensures written { OnOk result (Appends
+        (W.contents writer.old) (W.contents writer.new) (texts (certified_by (option_map
+        (λ problem. problem.now) last.entry) change.now))) }
+    ensures begun { OnErr result (AppendsFront
+        (W.contents writer.old) (W.contents writer.new) (texts (certified_by (option_map
+        (λ problem. problem.now) last.entry) change.now))) }
 {
     let Change::Adopt(plan) = change else {
         return Ok(());
@@ -50,15 +56,17 @@ fn write_adopted<W: Write>(
     write_one(alloc, problem, plan.plan(), writer)
 }
 
-/// Writes the certificates of all plans that a history adopts, in the order of their adoption: each has the problem that
-/// was opened last before it, the plan and the plan's proofs. Where a write fails, a beginning of them was written.
+/// Writes the certificates of all plans that a history adopts, in the order of their adoption. Each has the problem that
+/// was opened last before, the plan and the plan's proofs. Where a write fails, a beginning of them was written.
 pub fn write_certificates<W: Write>(
     alloc: Global,
     history: &[Entry],
     writer: &mut W,
 ) -> Result<(), Unwritten>
-    ensures written { OnOk result (Appends (W.contents writer.old) (W.contents writer.new) (texts (certificates None history.now))) }
-    ensures begun { OnErr result (AppendsFront (W.contents writer.old) (W.contents writer.new) (texts (certificates None history.now))) }
+    ensures written { OnOk result (Appends
+        (W.contents writer.old) (W.contents writer.new) (texts (certificates None history.now))) }
+    ensures begun { OnErr result (AppendsFront
+        (W.contents writer.old) (W.contents writer.new) (texts (certificates None history.now))) }
 {
     let mut last: Option<&Problem> = None;
     for entry in history {

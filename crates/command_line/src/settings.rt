@@ -1,7 +1,8 @@
 //! The settings that the words of a command line give.
 ghost use Rattle.std.specs.Prelude.{◌≡◌, false, ◌≤◌, [], IfErr, IfOk, map, option_map};
 ghost use Rattle.clap.specs.Words.{app_of, fault_of, rule_of};
-ghost use Rattle.command_line.specs.CommandLine.{is_strict, limit_of, limit_rule, mdbal, proofs_of, proofs_rule, strict_rule};
+ghost use Rattle.command_line.specs.CommandLine.{is_strict, limit_of, limit_rule, mdbal};
+ghost use Rattle.command_line.specs.CommandLine.{proofs_of, proofs_rule, strict_rule};
 ghost use Rattle.command_line.specs.Outcome.{Explains};
 
 use crate::options_error::OptionsError;

@@ -1,4 +1,4 @@
--- How a run ended before its script did.
+-- How a run ended before its script did, and what its certificates prove.
 use Rattle.std.proofs.Common.{◌≡◌, ℕ, Bool, List, Option, Result, Err, inl, inr}
 use Rattle.script_engine.specs.Devices.{Reading}
 use Rattle.script_engine.specs.Runs.{Gives}
@@ -13,6 +13,6 @@ pub broken_off : {R : Type 0} (remaining : R → Option (List ℕ)) (limit : ℕ
     → (r ≡ Err Write → (bytes : List ℕ) × Gives remaining old new bytes × SomeAnswered limit strict bytes before after)
     → (r ≡ Err Memory → (new ≡ old) × (after ≡ before))
     → IsRun remaining limit strict old new before after status
-broken_off remaining limit strict old new before after Memory r status is says read write memory = let same = memory is in inr (inr (inr (says, same.0, same.1)))
-broken_off remaining limit strict old new before after Read r status is says read write memory = let whole = read is in inr (inr (inl (says, (whole.0, whole.1, inl whole.2))))
-broken_off remaining limit strict old new before after Write r status is says read write memory = let some = write is in inr (inr (inl (says, (some.0, some.1, inr some.2))))
+broken_off remaining limit strict old new before after Memory r status is says read write memory = let same = memory is in inr (inr (inr (inl says, same.0, same.1)))
+broken_off remaining limit strict old new before after Read r status is says read write memory = let whole = read is in inr (inr (inl (says, inr (whole.0, whole.1, inl whole.2))))
+broken_off remaining limit strict old new before after Write r status is says read write memory = let some = write is in inr (inr (inl (says, inr (some.0, some.1, inr some.2))))

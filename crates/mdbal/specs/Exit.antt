@@ -1,8 +1,12 @@
 -- What the program has done when it ends with an exit status.
-use Rattle.std.specs.Prelude.{◌≡◌, ℕ, Bool, true, false, not, ◌&&◌, List, [], ◌∷◌, ◌++◌, ◌⊎◌, codes, Option}
+use Rattle.std.specs.Prelude.{◌≡◌, ℕ, Bool, true, false, not, ◌&&◌, List, [], ◌∷◌, ◌++◌, ◌⊎◌, All, codes, Option}
 use Rattle.clap.specs.Words.{IsAmong, Text, fault_of}
 use Rattle.clap.specs.declared.error.kind.ErrorKind.TheVariants.{DisplayHelp, DisplayVersion}
 use Rattle.command_line.specs.CommandLine.{is_strict, limit_of, mdbal}
+use Rattle.mds_types.specs.Certificate.{IsBest}
+use Rattle.plan_text.specs.Text.{texts}
+use Rattle.plan_text.specs.declared.certificate.Certificate.{Certificate}
+use Rattle.std.specs.Io.KnownBytes.{Appends}
 use Rattle.script_engine.specs.Devices.{Reading}
 use Rattle.script_engine.specs.Lines.{lines_of}
 use Rattle.script_engine.specs.Runs.{Gives, IsEnded}
@@ -33,10 +37,20 @@ module _ {R : Type 0} (remaining : R → Option (List ℕ)) (limit : ℕ) (stric
   IsBrokenOff =
       (bytes : List ℕ) × Gives remaining old new bytes × (WholeAnswered limit strict bytes before after ⊎ SomeAnswered limit strict bytes before after)
 
-  -- what a run has done, by the status
+  -- The script was carried out, but its certificates were not all written; or it was broken off.
+  abbrev pub IsFailed : Type 0
+  IsFailed = ((accepted : Bool) × IsCarriedOut accepted) ⊎ IsBrokenOff
+
+  -- what a run has done, by the status: nothing without memory to begin with, or without the file for its certificates
   abbrev pub IsRun : ℕ → Type 0
   IsRun status =
-      ((status ≡ 0) × IsCarriedOut true) ⊎ ((status ≡ 1) × IsCarriedOut false) ⊎ ((status ≡ 3) × IsBrokenOff) ⊎ ((status ≡ 2) × (new ≡ old) × (after ≡ before))
+      ((status ≡ 0) × IsCarriedOut true) ⊎ ((status ≡ 1) × IsCarriedOut false) ⊎ ((status ≡ 3) × IsFailed)
+      ⊎ (((status ≡ 2) ⊎ (status ≡ 3)) × (new ≡ old) × (after ≡ before))
+
+-- Certificates were written, of which each plan is best for its problem.
+abbrev pub AreProved : Option (List ℕ) → Option (List ℕ) → Type 0
+AreProved before after =
+    (cs : List Certificate) × All (λ c. IsBest c.problem c.plan) cs × Appends before after (texts cs)
 
 -- The words of the command line are accepted, and the script is carried out with the limit and the flag that they name; or
 -- nothing is read, as they ask for the help or the version, or are refused.

@@ -4,13 +4,17 @@ ghost use Rattle.clap.specs.Words.{IsAmong, fault_of};
 ghost use Rattle.command_line.specs.CommandLine.{mdbal};
 ghost use Rattle.command_line.specs.Outcome.{status_of as options_status};
 ghost use Rattle.script_engine.specs.Known.{AppendsFront};
-ghost use Rattle.mdbal.specs.Exit.{IsExit, IsRun, message, status_of};
+ghost use Rattle.mdbal.specs.Exit.{AreProved, IsExit, IsRun, message, status_of};
+ghost use Rattle.std.specs.Option.{option_and_then};
 
 use command_line::{OptionsError, Settings, options};
 use script_engine::{Input, RunError, write_whole};
+use script_session::laws::certificates_are_best;
 use script_session::run;
 use std::alloc::Global;
 use std::convert::AsStr;
+use std::fs::{File, Files};
+use std::io;
 use std::io::{Read, Write};
 use std::marker::Sync;
 use std::sync::Wait;
@@ -19,8 +23,9 @@ use std::thread::Threads;
 /// Carries out a script as the words of a command line ask, of which the first is the program's name. Gives the exit status.
 ///
 /// It is 0 where every line was accepted, 1 where one was not, 2 where the command line is refused or there is no memory
-/// to begin with, and 3 where a device failed. The help and the version end with 0.
-pub fn start<T: Threads + Wait + Sync, S: AsStr, R: Read, W: Write, E: Write>(
+/// to begin with, and 3 where a device failed, or the certificates of the adopted plans that `--proofs FILE` asks for
+/// could not all be written. The help and the version end with 0.
+pub fn start<T: Threads + Wait + Files + Sync, S: AsStr, R: Read, W: Write, E: Write>(
     rt: &T,
     alloc: Global,
     words: &[S],
@@ -37,11 +42,11 @@ pub fn start<T: Threads + Wait + Sync, S: AsStr, R: Read, W: Write, E: Write>(
     }
 }
 
-// Carries out a script with these settings.
-fn carry_out<T: Threads + Wait + Sync, R: Read, W: Write, E: Write>(
+// Carries out a script with these settings. Where a file for certificates is asked for, it is made first.
+fn carry_out<T: Threads + Wait + Files + Sync, R: Read, W: Write, E: Write>(
     rt: &T,
     alloc: Global,
-    settings: Settings,
+    settings: Settings<'_>,
     input: &mut Input<R>,
     writer: &mut W,
     errors: &mut E,
@@ -51,10 +56,57 @@ fn carry_out<T: Threads + Wait + Sync, R: Read, W: Write, E: Write>(
     requires unread { input.old.reads ≡ 0 }
     ensures { IsRun R.remaining settings.limit settings.strict input.old input.new (W.contents writer.old) (W.contents writer.new) result }
 {
-    match run(rt, alloc, input, writer, settings.limit, settings.strict) {
+    let mut proofs: Option<T::File> = match open_proofs(rt, settings.proofs) {
+        Ok(proofs) => proofs,
+        Err(error) => {
+            let _ = writeln!(errors, "mdbal: --proofs: {error}");
+            return 3;
+        }
+    };
+    let (limit, strict) = (settings.limit, settings.strict);
+    prove(rt, alloc, limit, strict, input, writer, &mut proofs, errors)
+}
+
+// The file for certificates, if one is asked for, without what it held.
+fn open_proofs<T: Files>(rt: &T, file: Option<&str>) -> io::Result<Option<T::File>> {
+    match file {
+        Some(path) => Ok(Some(File::create(rt, path)?)),
+        None => Ok(None),
+    }
+}
+
+// Carries out a script, and writes the certificates of the plans that it adopts to `proofs`, if there is such a file.
+fn prove<T: Threads + Wait + Sync, R: Read, W: Write, P: Write, E: Write>(
+    rt: &T,
+    alloc: Global,
+    limit: u32,
+    strict: bool,
+    input: &mut Input<R>,
+    writer: &mut W,
+    proofs: &mut Option<P>,
+    errors: &mut E,
+) -> u8
+    requires some { 1 ≤ limit }
+    requires few { limit ≤ 65536 }
+    requires unread { input.old.reads ≡ 0 }
+    ensures run { IsRun R.remaining limit strict input.old input.new
+        (W.contents writer.old) (W.contents writer.new) result }
+    ensures proofs { result ≤ 1 → AreProved
+        (option_and_then P.contents proofs.old) (option_and_then P.contents proofs.new) }
+{
+    let ended = run(rt, alloc, input, writer, proofs, limit, strict);
+    let status = match ended.answered {
         Ok(true) => 0,
         Ok(false) => 1,
-        Err(failure) => fail(failure, errors),
+        Err(failure) => return fail(failure, errors),
+    };
+    certificates_are_best();
+    match ended.proved {
+        Ok(()) => status,
+        Err(why) => {
+            let _ = writeln!(errors, "mdbal: --proofs: {why}");
+            3
+        }
     }
 }
 

@@ -1,5 +1,6 @@
 pub mod HistoryLemmas
 pub mod OutcomeLemmas
+pub mod ProofsLemmas
 pub mod ReportLemmas
 pub mod ScriptLemmas
 pub mod SeenLemmas

@@ -18,11 +18,16 @@ certificates_at None = []
 certificates_at (Some b) = certificates None b.world.history
 
 -- They were written, or a beginning of them.
-abbrev pub IsProved : {A : Type 0} → Result A Unwritten → Option (List ℕ) → Option (List ℕ) → Option BoardData → Type 0
+abbrev pub IsProved :
+    {A : Type 0} → Result A Unwritten → Option (List ℕ) → Option (List ℕ) → Option BoardData → Type 0
 IsProved told before after board =
-    OnOk told (Appends before after (texts (certificates_at board))) × OnErr told (AppendsFront before after (texts (certificates_at board)))
+    OnOk told (Appends before after (texts (certificates_at board)))
+    × OnErr told (AppendsFront before after (texts (certificates_at board)))
 
 -- The lines that came lead to this session, and all answers to them were written.
-abbrev pub LeadsTo : {R : Type 0} → (R → Option (List ℕ)) → ℕ → Bool → Reading R → Reading R → Option (List ℕ) → Option (List ℕ) → SessionData → Bool → Type 0
+abbrev pub LeadsTo :
+    {R : Type 0} → (R → Option (List ℕ)) → ℕ → Bool → Reading R → Reading R → Option (List ℕ) → Option (List ℕ)
+    → SessionData → Bool → Type 0
 LeadsTo remaining limit strict old new before after last accepted =
-    (bytes : List ℕ) × Gives remaining old new bytes × AnswersAll answers strict (beginning limit) (lines_of bytes) last accepted before after
+    (bytes : List ℕ) × Gives remaining old new bytes
+    × AnswersAll answers strict (beginning limit) (lines_of bytes) last accepted before after

@@ -1,12 +1,18 @@
 //! Laws of sessions, each the contract of a function that does nothing.
-ghost use Rattle.std.specs.Prelude.{◌≡◌, ℕ, Bool, List, true};
+ghost use Rattle.std.specs.Prelude.{◌≡◌, ℕ, All, Bool, List, Option, true};
 ghost use Rattle.std.specs.List.{list_all};
+ghost use Rattle.mds_types.specs.Certificate.{IsBest};
+ghost use Rattle.script_board.specs.Board.{BoardData};
 ghost use Rattle.script_engine.specs.Answers.{Answer, IsDetermined, Run, all_ample, played, text_of};
 ghost use Rattle.script_engine.specs.Lines.{lines_of};
 ghost use Rattle.script_session.specs.History.{GoesOn};
 ghost use Rattle.script_session.specs.Outcome.{answer_to, is_sure};
+ghost use Rattle.script_session.specs.Proofs.{certificates_at};
+ghost use Rattle.script_session.specs.Script.{IsKeptAt};
 ghost use Rattle.script_session.specs.Session.{SessionData, answers, beginning};
 ghost use Rattle.script_session.specs.Visible.{IsSeenAs, NoneSaysMemory, TellsNoMemory, is_visible};
+
+use board_certificates::laws::all_best;
 
 /// Where memory suffices for a line other than `go`, `plan` and `move`, its answer and what it leads to are a function of the
 /// session, the line's number and the line.
@@ -43,3 +49,10 @@ pub fn output_is_visible()
 pub fn histories_grow()
     ensures { (old new : SessionData) (number : ℕ) (line : List ℕ) (a : Answer) → answers old number line a new → GoesOn old.board new.board }
 {}
+
+/// The plan of each certificate of a session's board is best for the certificate's problem.
+pub fn certificates_are_best()
+    ensures { (board : Option BoardData) → IsKeptAt board → All (λ c. IsBest c.problem c.plan) (certificates_at board) }
+{
+    all_best();
+}

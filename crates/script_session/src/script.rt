@@ -1,6 +1,6 @@
 //! A whole script from a reader, with its answers to a writer.
 ghost use Rattle.std.specs.Option.{option_and_then};
-ghost use Rattle.std.specs.Prelude.{◌≡◌, ℕ, ◌≤◌, ◌++◌, List, Err, Ok, tt, IfOk, IfSome, IsErrOf, true, false, not, ◌&&◌};
+ghost use Rattle.std.specs.Prelude.{◌≡◌, ℕ, ◌≤◌, ◌++◌, List, Err, Ok, IfOk, IfSome, IsErrOf, true, false, not, ◌&&◌};
 ghost use Rattle.script_engine.specs.Lines.{lines_of};
 ghost use Rattle.script_engine.specs.Runs.{Gives, IsEnded};
 ghost use Rattle.script_engine.specs.Telling.{Tells};
@@ -66,20 +66,26 @@ pub fn run<T: Threads + Wait + Sync, R: Read, W: Write, P: Write>(
         × ((strict && not accepted) ≡ false → IsEnded R.remaining input.new)
         × AllAnswered limit strict (lines_of bytes) accepted (W.contents writer.old) (W.contents writer.new)) }
     // A strict run reads nothing behind the read in which its last line ends.
-    ensures stops { IfOk result.answered (λ accepted. (strict && not accepted) ≡ true → (front : List ℕ) × (last : List ℕ)
+    ensures stops { IfOk result.answered (λ accepted. (strict && not accepted) ≡ true → (front : List ℕ)
+        × (last : List ℕ)
         × Gives R.remaining input.old input.new (front ++ last) × AcceptedUpTo limit strict front last) }
     // Where a read fails, the lines that were whole were answered.
-    ensures read { IsErrOf result.answered RunError.Read → (bytes : List ℕ) × Gives R.remaining input.old input.new bytes
+    ensures read { IsErrOf result.answered RunError.Read → (bytes : List ℕ)
+        × Gives R.remaining input.old input.new bytes
         × WholeAnswered limit strict bytes (W.contents writer.old) (W.contents writer.new) }
     // Where a write fails, a beginning of what is due for the lines so far was written.
-    ensures write { IsErrOf result.answered RunError.Write → (bytes : List ℕ) × Gives R.remaining input.old input.new bytes
+    ensures write { IsErrOf result.answered RunError.Write → (bytes : List ℕ)
+        × Gives R.remaining input.old input.new bytes
         × SomeAnswered limit strict bytes (W.contents writer.old) (W.contents writer.new) }
     // Where there is no memory to begin with, no device was touched.
-    ensures memory { IsErrOf result.answered RunError.Memory → (input.new ≡ input.old) × (writer.new ≡ writer.old) × (proofs.new ≡ proofs.old) }
+    ensures memory { IsErrOf result.answered RunError.Memory → (input.new ≡ input.old) × (writer.new ≡ writer.old)
+        × (proofs.new ≡ proofs.old) }
     // However it ends, the certificates of the plans that the board has adopted by then were written.
     ensures proofs { (last : SessionData) × IsKeptAt last.board
-        × IsProved result.proved (option_and_then P.contents proofs.old) (option_and_then P.contents proofs.new) last.board
-        × IfOk result.answered (LeadsTo R.remaining limit strict input.old input.new (W.contents writer.old) (W.contents writer.new) last) }
+        × IsProved result.proved
+        (option_and_then P.contents proofs.old) (option_and_then P.contents proofs.new) last.board
+        × IfOk result.answered (LeadsTo R.remaining limit strict input.old input.new
+        (W.contents writer.old) (W.contents writer.new) last) }
 {
     let Ok(book) = heat_ledger::Opened::new(alloc) else {
         return Ended::without_memory();
@@ -113,20 +119,26 @@ fn run_named<J: Naming + Send + Sync, T: Threads + Wait + Sync, R: Read, W: Writ
         × ((strict && not accepted) ≡ false → IsEnded R.remaining input.new)
         × AllAnswered limit strict (lines_of bytes) accepted (W.contents writer.old) (W.contents writer.new)) }
     // A strict run reads nothing behind the read in which its last line ends.
-    ensures stops { IfOk result.answered (λ accepted. (strict && not accepted) ≡ true → (front : List ℕ) × (last : List ℕ)
+    ensures stops { IfOk result.answered (λ accepted. (strict && not accepted) ≡ true → (front : List ℕ)
+        × (last : List ℕ)
         × Gives R.remaining input.old input.new (front ++ last) × AcceptedUpTo limit strict front last) }
     // Where a read fails, the lines that were whole were answered.
-    ensures read { IsErrOf result.answered RunError.Read → (bytes : List ℕ) × Gives R.remaining input.old input.new bytes
+    ensures read { IsErrOf result.answered RunError.Read → (bytes : List ℕ)
+        × Gives R.remaining input.old input.new bytes
         × WholeAnswered limit strict bytes (W.contents writer.old) (W.contents writer.new) }
     // Where a write fails, a beginning of what is due for the lines so far was written.
-    ensures write { IsErrOf result.answered RunError.Write → (bytes : List ℕ) × Gives R.remaining input.old input.new bytes
+    ensures write { IsErrOf result.answered RunError.Write → (bytes : List ℕ)
+        × Gives R.remaining input.old input.new bytes
         × SomeAnswered limit strict bytes (W.contents writer.old) (W.contents writer.new) }
     // Where there is no memory to begin with, no device was touched.
-    ensures memory { IsErrOf result.answered RunError.Memory → (input.new ≡ input.old) × (writer.new ≡ writer.old) × (proofs.new ≡ proofs.old) }
+    ensures memory { IsErrOf result.answered RunError.Memory → (input.new ≡ input.old) × (writer.new ≡ writer.old)
+        × (proofs.new ≡ proofs.old) }
     // However it ends, the certificates of the plans that the board has adopted by then were written.
     ensures proofs { (last : SessionData) × IsKeptAt last.board
-        × IsProved result.proved (option_and_then P.contents proofs.old) (option_and_then P.contents proofs.new) last.board
-        × IfOk result.answered (LeadsTo R.remaining limit strict input.old input.new (W.contents writer.old) (W.contents writer.new) last) }
+        × IsProved result.proved
+        (option_and_then P.contents proofs.old) (option_and_then P.contents proofs.new) last.board
+        × IfOk result.answered (LeadsTo R.remaining limit strict input.old input.new
+        (W.contents writer.old) (W.contents writer.new) last) }
 {
     let Some(parts) = open_parts(rt, alloc, book, map, limit) else {
         return Ended::without_memory();

@@ -111,7 +111,8 @@ impl<'r, J: Naming, M: Publisher<J>, R: Threads> Session<'r, J, M, R> {
 
     /// Writes the certificates of the plans that the board has adopted, where there is a writer for them.
     pub fn prove<P: Write>(&self, alloc: Global, proofs: &mut Option<P>) -> Result<(), Unwritten>
-        ensures { IsProved result (option_and_then P.contents proofs.old) (option_and_then P.contents proofs.new) self.now.board }
+        ensures { IsProved result
+            (option_and_then P.contents proofs.old) (option_and_then P.contents proofs.new) self.now.board }
     {
         let Some(board) = &self.board else {
             return Ok(());

@@ -23,8 +23,9 @@ fn carried_out<T: Threads + Wait + Sync>(
     requires few { limit ≤ 65536 }
 {
     let mut input = Input::new(source);
-    let result = run(rt, alloc, &mut input, sink, limit, strict);
-    (result, input.into_inner().reads)
+    let mut proofs: Option<Sink> = None;
+    let ended = run(rt, alloc, &mut input, sink, &mut proofs, limit, strict);
+    (ended.answered, input.into_inner().reads)
 }
 
 // Whether a run over the whole script ends so, and writes this text.

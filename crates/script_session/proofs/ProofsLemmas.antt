@@ -1,0 +1,24 @@
+-- The certificates of a session's board, or of none.
+use Rattle.std.proofs.Common.{◌≡◌, ℕ, All, Bool, List, Option, None, Some, Ok, Err, IfOk}
+use Rattle.std.proofs.KnownBytes.{Appends-nil}
+use Rattle.std.proofs.lemmas.List.Elements.{All-nil}
+use Rattle.board_certificates.specs.Certificates.{certificates}
+use Rattle.mds_board.specs.History.{World}
+use Rattle.mds_board.specs.Promises.{IsKept}
+use Rattle.plan_text.specs.declared.certificate.Certificate.{Certificate}
+use Rattle.script_board.specs.Board.{BoardData}
+use Rattle.script_engine.specs.declared.driver.RunError.TheVariants.{Memory}
+use Rattle.script_session.specs.Proofs.{IsProved, certificates_at}
+use Rattle.script_session.specs.Script.{IsKeptAt}
+use Rattle.script_session.specs.Session.{SessionData, beginning}
+use Rattle.script_session.specs.declared.script.Ended.{Ended}
+
+-- there are none where a run found no memory to begin with
+pub none_proved : (ended : Ended) (before : Option (List ℕ)) (Leads : SessionData → Bool → Type 0) → ended ≡ record { answered = Err Memory; proved = Ok tt }
+    → (last : SessionData) × IsKeptAt last.board × IsProved ended.proved before before last.board × IfOk ended.answered (Leads last)
+none_proved ended before Leads is = rw is (beginning 1, tt, (Appends-nil before, tt), tt)
+
+-- what holds of the certificates of every board
+pub at_board : (P : Certificate → Type 0) → ((w : World) → IsKept w → All P (certificates None w.history)) → (board : Option BoardData) → IsKeptAt board → All P (certificates_at board)
+at_board P all None kept = All-nil P
+at_board P all (Some b) kept = all b.world kept

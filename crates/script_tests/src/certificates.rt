@@ -1,0 +1,77 @@
+//! The certificates of the plans that a script adopts.
+use crate::devices::{ENOUGH, Sink, sink_of, source_of};
+use board_certificates::Unwritten;
+use plan_checker::check;
+use plan_text::read;
+use script_engine::Input;
+use script_session::run;
+use std::alloc::Global;
+use std::marker::Sync;
+use std::sync::Wait;
+use std::test::Fail;
+use std::thread::Threads;
+
+/// Three plans are adopted, one for the same problem again and one after more hits. The fourth `plan` is refused.
+const THREE_PLANS: &str =
+    "ranks 2\nmask 0x3\ndir /a 10\nload /a 4\ngo\nplan\nplan\nload /a 90\ngo\nplan\nmask 0x0\nplan\n";
+
+/// Whether all certificates of a script's plans were written to a device that takes `step` bytes at a write and fails
+/// after so many writes, and what it has.
+fn written<T: Threads + Wait + Sync>(
+    rt: &T,
+    alloc: Global,
+    script: &str,
+    step: usize,
+    writes: usize,
+) -> (Result<(), Unwritten>, Vec<u8>) {
+    let mut input = Input::new(source_of(script.as_bytes(), 4096));
+    let mut sink = sink_of(alloc, 4096);
+    let bytes = Vec::new(alloc);
+    let mut proofs = Some(Sink {
+        bytes,
+        step,
+        writes,
+    });
+    let ended = run(rt, alloc, &mut input, &mut sink, &mut proofs, 64, false);
+    match proofs {
+        Some(sink) => (ended.proved, sink.bytes),
+        None => unreachable!(),
+    }
+}
+
+#[test]
+fn certificates_hold(rt: HostRuntime) -> Result<(), Fail> {
+    let (told, bytes) = written(&rt, rt.alloc(), THREE_PLANS, 4096, ENOUGH);
+    assert!(rt; told == Ok(()));
+    let Ok(certificates) = read(rt.alloc(), bytes.as_slice()) else {
+        panic!(rt; "they are certificates")
+    };
+    assert_eq!(rt; certificates.len(), 3);
+    for (certificate, greatest) in certificates.iter().zip([4, 4, 94]) {
+        let (problem, plan) = (&certificate.problem, &certificate.plan);
+        assert!(rt; check(rt.alloc(), problem, plan) == Ok(true));
+        assert_eq!(rt; plan.greatest, greatest);
+    }
+    Ok(())
+}
+
+#[test]
+fn no_plan_has_no_certificate(rt: HostRuntime) -> Result<(), Fail> {
+    for script in ["", "ranks 1\ndir /a 1\nplan\n"] {
+        let (told, bytes) = written(&rt, rt.alloc(), script, 4096, ENOUGH);
+        assert!(rt; told == Ok(()));
+        assert!(rt; bytes.is_empty());
+    }
+    Ok(())
+}
+
+#[test]
+fn a_failed_write_leaves_a_beginning(rt: HostRuntime) -> Result<(), Fail> {
+    let (_told, whole) = written(&rt, rt.alloc(), THREE_PLANS, 4096, ENOUGH);
+    for writes in 0..40 {
+        let (told, bytes) = written(&rt, rt.alloc(), THREE_PLANS, 7, writes);
+        assert!(rt; told == Err(Unwritten::Write));
+        assert!(rt; bytes.as_slice() == &whole[..7 * writes]);
+    }
+    Ok(())
+}
