@@ -54,7 +54,7 @@ fn carry_out<T: Threads + Wait + Files + Sync, R: Read, W: Write, E: Write>(
     requires some { 1 ≤ settings.limit }
     requires few { settings.limit ≤ 65536 }
     requires unread { input.old.reads ≡ 0 }
-    ensures { IsRun R.remaining settings.limit settings.strict input.old input.new (W.contents writer.old) (W.contents writer.new) result }
+    ensures { IsRun R.remaining settings.entry.limit settings.entry.strict input.old input.new (W.contents writer.old) (W.contents writer.new) result }
 {
     let mut proofs: Option<T::File> = match open_proofs(rt, settings.proofs) {
         Ok(proofs) => proofs,
@@ -95,19 +95,16 @@ fn prove<T: Threads + Wait + Sync, R: Read, W: Write, P: Write, E: Write>(
         (option_and_then P.contents proofs.old) (option_and_then P.contents proofs.new) }
 {
     let ended = run(rt, alloc, input, writer, proofs, limit, strict);
-    let status = match ended.answered {
-        Ok(true) => 0,
-        Ok(false) => 1,
+    let accepted = match ended.answered {
+        Ok(accepted) => accepted,
         Err(failure) => return fail(failure, errors),
     };
-    certificates_are_best();
-    match ended.proved {
-        Ok(()) => status,
-        Err(why) => {
-            let _ = writeln!(errors, "mdbal: --proofs: {why}");
-            3
-        }
+    if let Err(why) = ended.proved {
+        let _ = writeln!(errors, "mdbal: --proofs: {why}");
+        return 3;
     }
+    certificates_are_best();
+    if accepted { 0 } else { 1 }
 }
 
 // Says why a run ended before its script did, and gives the status for that.
