@@ -3,20 +3,32 @@
 use command_line::{OptionsError, Settings, options};
 use std::test::Fail;
 
-// (words after the program's name, limit, strict)
+// (words after the program's name, limit, strict, file for certificates)
 #[test]
 fn reads_settings(rt: HostRuntime) -> Result<(), Fail> {
-    let table: [(&[&str], u32, bool); 6] = [
-        (&["mdbal"], 65536, false),
-        (&["mdbal", "--strict"], 65536, true),
-        (&["mdbal", "--limit", "1"], 1, false),
-        (&["mdbal", "--limit=65536"], 65536, false),
-        (&["mdbal", "--limit", "2", "--strict"], 2, true),
-        (&["mdbal", "--strict", "--limit", "2"], 2, true),
+    let table: [(&[&str], u32, bool, Option<&str>); 8] = [
+        (&["mdbal"], 65536, false, None),
+        (&["mdbal", "--strict"], 65536, true, None),
+        (&["mdbal", "--limit", "1"], 1, false, None),
+        (&["mdbal", "--limit=65536"], 65536, false, None),
+        (&["mdbal", "--limit", "2", "--strict"], 2, true, None),
+        (&["mdbal", "--strict", "--limit", "2"], 2, true, None),
+        (&["mdbal", "--proofs", "plans"], 65536, false, Some("plans")),
+        (
+            &["mdbal", "--strict", "--proofs=a b"],
+            65536,
+            true,
+            Some("a b"),
+        ),
     ];
-    for (words, limit, strict) in table {
+    for (words, limit, strict, proofs) in table {
+        let wanted = Settings {
+            limit,
+            strict,
+            proofs,
+        };
         match options(rt.alloc(), words) {
-            Ok(settings) => assert_eq!(rt; settings, Settings { limit, strict }, "{words:?}"),
+            Ok(settings) => assert_eq!(rt; settings, wanted, "{words:?}"),
             Err(error) => return Err(Fail::from(error)),
         }
     }
@@ -25,7 +37,7 @@ fn reads_settings(rt: HostRuntime) -> Result<(), Fail> {
 
 #[test]
 fn refuses_other_lines(rt: HostRuntime) -> Result<(), Fail> {
-    let table: [&[&str]; 10] = [
+    let table: [&[&str]; 12] = [
         &["mdbal", "--limit", "0"],
         &["mdbal", "--limit", "65537"],
         &["mdbal", "--limit", "4294967297"],
@@ -36,6 +48,8 @@ fn refuses_other_lines(rt: HostRuntime) -> Result<(), Fail> {
         &["mdbal", "--strict", "--strict"],
         &["mdbal", "--strict=yes"],
         &["mdbal", "script"],
+        &["mdbal", "--proofs"],
+        &["mdbal", "--proofs", "a", "--proofs", "b"],
     ];
     for words in table {
         match options(rt.alloc(), words) {
@@ -105,6 +119,7 @@ fn a_refused_growth_is_told(rt: HostRuntime) -> Result<(), Fail> {
     let wanted = Settings {
         limit: 2,
         strict: true,
+        proofs: None,
     };
     let mut without_memory: [bool; 4] = [false; 4];
     for turn in &mut without_memory {

@@ -2,6 +2,7 @@
 use super::start;
 use script_engine::Input;
 use std::alloc::Global;
+use std::fs::Files;
 use std::io;
 use std::io::Read;
 use std::marker::Sync;
@@ -20,7 +21,7 @@ impl Read for Broken {
 }
 
 // The exit status, what is written, and what is said on standard error.
-fn ended<T: Threads + Wait + Sync, R: Read + Drop>(
+fn ended<T: Threads + Wait + Files + Sync, R: Read + Drop>(
     rt: &T,
     alloc: Global,
     words: &[&str],
@@ -36,7 +37,7 @@ fn ended<T: Threads + Wait + Sync, R: Read + Drop>(
 fn ends_with_its_status(rt: HostRuntime) -> Result<(), Fail> {
     let faulty = "ranks 0\nranks 1\ndir /a 1\nplan\n";
     // (words, script, status, what is written)
-    let table: [(&[&str], &str, u8, &str); 6] = [
+    let table: [(&[&str], &str, u8, &str); 7] = [
         (&["mdbal"], "ranks 1\ndir /a 1\n", 0, ""),
         (
             &["mdbal"],
@@ -53,6 +54,7 @@ fn ends_with_its_status(rt: HostRuntime) -> Result<(), Fail> {
         ),
         (&["mdbal", "--version"], faulty, 0, "mdbal 0.1.0\n"),
         (&["mdbal", "script"], faulty, 2, ""),
+        (&["mdbal", "--proofs", ""], faulty, 3, ""),
     ];
     for (words, script, wanted, text) in table {
         let (status, writer, errors) = ended(&rt, rt.alloc(), words, script.as_bytes());
