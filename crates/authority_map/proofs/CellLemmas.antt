@@ -1,9 +1,9 @@
 -- The runs' cells follow the operations.
-use Rattle.std.proofs.Common.{◌≡◌, ℕ, zero, suc, ◌+◌, ◌-◌, ◌<◌, ◌≤◌, ◌≢◌, Bool, true, false, ◌==◌, if◌then◌else◌, List, [], ◌∷◌, ◌++◌, length, get_or, refl, sym, ap, ◌∙◌, arith, Option, Some, None, All}
+use Rattle.std.proofs.Common.{◌≡◌, ℕ, zero, suc, ◌+◌, ◌-◌, ◌<◌, ◌≤◌, ◌≢◌, Bool, true, false, ◌==◌, if◌then◌else◌, List, [], ◌∷◌, ◌++◌, get_or, refl, sym, ap, ◌∙◌, arith, Option, Some, None, All}
 use Rattle.std.proofs.lemmas.List.Sums.{fold-append}
 use Rattle.std.proofs.lemmas.Bool.Decides.{nat_tests}
 use Rattle.authority_map.specs.Operations.{Operation, SetTo, Clear, names, entry_after, rank_after}
-use Rattle.authority_map.specs.Runs.{IsIn, AreRuns, HasCells}
+use Rattle.authority_map.specs.Runs.{AreRuns, HasCells}
 use Rattle.authority_map.specs.Cells.{AreCells, cell_of}
 use Rattle.authority_map.proofs.RunLemmas.{same_cells}
 

@@ -1,11 +1,10 @@
 -- A run is cut in two, or two that are alike are united.
-use Rattle.std.proofs.Common.{◌≡◌, ◌≢◌, ◌⊎◌, ℕ, zero, suc, ◌+◌, ◌-◌, ◌<◌, ◌≤◌, true, false, List, [], ◌∷◌, length, get_or, insert, remove, refl, sym, ap, ◌∙◌, arith, subst, inl, inr}
-use Rattle.std.proofs.lemmas.List.Edits.{length-insert, get_or-insert_below, get_or-insert_at, get_or-insert_above, length-remove, get_or-remove_below, get_or-remove_above}
-use Rattle.std.proofs.lemmas.List.{get_or_past}
+use Rattle.std.proofs.Common.{◌≡◌, ◌≢◌, ◌⊎◌, ℕ, ◌+◌, ◌-◌, ◌*◌, ◌/◌, ◌<◌, ◌≤◌, true, false, List, length, get_or, insert, sym, ap, ◌∙◌, arith, subst, inl, inr}
+use Rattle.std.proofs.lemmas.List.Edits.{length-insert, get_or-insert_below, get_or-insert_at, get_or-insert_above}
 use Rattle.std.proofs.lemmas.Bool.Decides.{leb_tells}
 use native.Mathlib.Decide.{ℕ_discrete}
 use lib.Dec.{leb}
-use Rattle.authority_map.specs.Runs.{IsIn, AreRuns, StartsAt, HasCells}
+use Rattle.authority_map.specs.Runs.{IsIn, IsIndex, IsOneMore, AreRuns, StartsAt, HasCells}
 use Rattle.authority_map.proofs.RunLemmas.{one_run, rises_to}
 
 -- a place is before another, at it or after it
@@ -140,3 +139,55 @@ module _ (limit : ℕ) (starts cells : List ℕ) (run dir : ℕ) (runs : AreRuns
       apart j h a b (After k le) o =
           let other = (λ (s : get_or starts (k + 1) 0 ≡ this). a (start_after (k + 1) (omega arith) ∙ s)) in
           λ same. has.apart k (omega (arith, longer)) other other (sym (cell_after k le) ∙ same ∙ cell_after (k + 1) (omega arith))
+
+  abbrev Order : ℕ → ℕ → Type 0
+  Order i j = ((leb i j ≡ true) × (i ≤ j)) ⊎ ((leb i j ≡ false) × (j < i))
+
+  -- a directory before the cut stays in its run
+  stays : (k d : ℕ) → IsIn starts k d → d < dir → Dec (k ≡ run) → Order k run → IsIn more k d
+  stays k d p less (yes e) o = record {
+    there = omega (arith, longer, p.there);
+    from = omega (arith, start_before k (omega (arith, e)), p.from);
+    until = λ h. omega (arith, less, ap (λ (j : ℕ). get_or more (j + 1) 0) e, start_here);
+  }
+  stays k d p less (no n) (inl le) = record {
+    there = omega (arith, longer, p.there);
+    from = omega (arith, start_before k (omega (arith, le.1)), p.from);
+    until = λ h. omega (arith, p.until (omega (arith, le.1, n, inside.there)), start_before (k + 1) (omega (arith, le.1, n)));
+  }
+  stays k d p less (no n) (inr past) = absurd (omega (arith, past_cut (ℕ_discrete (run + 1) k)))
+    where
+      past_cut : Dec (run + 1 ≡ k) → dir < d
+      past_cut (yes e) = omega (arith, inside.until (omega (arith, p.there, past.1)), ap (λ (j : ℕ). get_or starts j 0) e, p.from)
+      past_cut (no m) = omega (arith, inside.until (omega (arith, p.there, past.1)), rises_to starts runs.order (run + 1) k (omega (arith, past.1, m)) p.there, p.from)
+
+  -- a later one is in the run that follows
+  moves : (k d : ℕ) → IsIn starts k d → dir ≤ d → Dec (k ≡ run) → Order run k → IsIn more (k + 1) d
+  moves k d p le (yes e) o =
+      let here : get_or more (k + 1) 0 ≡ dir = ap (λ (j : ℕ). get_or more (j + 1) 0) e ∙ start_here in
+      record {
+        there = omega (arith, longer, p.there);
+        from = omega (arith, here, le);
+        until = λ h. omega (arith, p.until (omega (arith, longer)), start_after (k + 1) (omega (arith, e)));
+      }
+  moves k d p le (no n) (inl later_run) = record {
+    there = omega (arith, longer, p.there);
+    from = omega (arith, start_after k (omega (arith, later_run.1, n)), p.from);
+    until = λ h. omega (arith, p.until (omega (arith, longer)), start_after (k + 1) (omega (arith, later_run.1)));
+  }
+  moves k d p le (no n) (inr past) = absurd (omega (arith, before_cut (ℕ_discrete (k + 1) run)))
+    where
+      before_cut : Dec (k + 1 ≡ run) → d < dir
+      before_cut (yes e) = omega (arith, p.until (omega (arith, inside.there, past.1)), ap (λ (j : ℕ). get_or starts j 0) e, later)
+      before_cut (no m) = omega (arith, p.until (omega (arith, inside.there, past.1)), rises_to starts runs.order (k + 1) run (omega (arith, past.1, m)) inside.there, later)
+
+  pub index_cut : (index new : List ℕ) (first : ℕ) → first ≡ (dir + 255) / 256 → IsIndex limit starts index → IsOneMore first index new → IsIndex limit more new
+  index_cut index new first at was change = record { sized = change.sized ∙ was.sized; each = λ b h. each b (omega (arith, h, change.sized)) (leb_tells first b) }
+    where
+      each : (b : ℕ) → b < length index → Order first b → IsIn more (get_or new b 0) (256 * b)
+      each b h (inl le) =
+          let old = get_or index b 0 in
+          subst (λ (j : ℕ). IsIn more j (256 * b)) (sym (change.after b le.1 h)) (moves old (256 * b) (was.each b h) (omega (arith, le.1, at)) (ℕ_discrete old run) (leb_tells run old))
+      each b h (inr less) =
+          let old = get_or index b 0 in
+          subst (λ (j : ℕ). IsIn more j (256 * b)) (sym (change.before b less.1)) (stays old (256 * b) (was.each b h) (omega (arith, less.1, at)) (ℕ_discrete old run) (leb_tells old run))

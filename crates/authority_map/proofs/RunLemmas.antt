@@ -1,11 +1,10 @@
 -- Runs of neighbours: where a directory is, and what a run more or less leaves.
-use Rattle.std.proofs.Common.{◌≡◌, ◌≢◌, ◌⊎◌, ℕ, zero, suc, ◌+◌, ◌-◌, ◌<◌, ◌≤◌, ◌==◌, Bool, true, false, if◌then◌else◌, List, [], ◌∷◌, length, get_or, set, insert, remove, refl, sym, ap, ◌∙◌, arith, subst, inl, inr}
-use Rattle.std.proofs.lemmas.List.Edits.{length-insert, get_or-insert_below, get_or-insert_at, get_or-insert_above, length-remove, get_or-remove_below, get_or-remove_above}
-use Rattle.std.proofs.lemmas.List.{length-set, get_or-set_same, get_or-set_other}
+use Rattle.std.proofs.Common.{◌≡◌, ◌≢◌, ◌⊎◌, ℕ, zero, suc, ◌+◌, ◌-◌, ◌*◌, ◌/◌, ◌<◌, ◌≤◌, ◌==◌, Bool, true, false, if◌then◌else◌, List, length, get_or, set, sym, ap, ◌∙◌, arith, subst, inl, inr}
+use Rattle.std.proofs.lemmas.List.{length-set, get_or-set_same, get_or-set_other, get_or_past}
 use Rattle.std.proofs.lemmas.Bool.Decides.{nat_tests, leb_tells}
 use native.Mathlib.Decide.{ℕ_discrete}
 use lib.Dec.{leb}
-use Rattle.authority_map.specs.Runs.{IsIn, AreStarts, AreRuns, StartsAt, HasCells}
+use Rattle.authority_map.specs.Runs.{IsIn, IsAmong, IsIndex, AreStarts, AreRuns, StartsAt, HasCells}
 
 -- a later run starts later
 rises : (starts : List ℕ) → AreStarts starts → (i k : ℕ) → i + k + 1 < length starts → get_or starts i 0 < get_or starts (i + k + 1) 0
@@ -122,3 +121,75 @@ none_alike limit starts cells run dir runs inside differ cell this has = record 
         let same : k + 1 ≡ run = one_run limit starts cells runs (k + 1) run dir there inside in
         let before : run - 1 ≡ k = omega (arith, same) in
         λ alike. differ (ap (λ (k : ℕ). get_or starts k 0) (sym same) ∙ e) (omega (arith, same)) (ap (λ (k : ℕ). get_or cells k 0) before ∙ alike ∙ ap (λ (k : ℕ). get_or cells k 0) same)
+
+-- half of the runs are left, those from the middle on where the middle one is reached
+pub halved : (starts : List ℕ) (run count dir half step : ℕ) → AreStarts starts → IsAmong starts run count dir → 1 < count → half ≡ count / 2
+    → (get_or starts (run + half) 0 ≤ dir → step ≡ 1) → (dir < get_or starts (run + half) 0 → step ≡ 0) → IsAmong starts (run + half * step) (count - half) dir
+halved starts run count dir half step order was more is reached past = go (leb_tells (get_or starts (run + half) 0) dir) (ℕ_discrete (count - half) half)
+  where
+    go : ((leb (get_or starts (run + half) 0) dir ≡ true) × (get_or starts (run + half) 0 ≤ dir)) ⊎ ((leb (get_or starts (run + half) 0) dir ≡ false) × (dir < get_or starts (run + half) 0)) → Dec (count - half ≡ half)
+        → IsAmong starts (run + half * step) (count - half) dir
+    go (inl le) o =
+        let all : half * step ≡ half = omega (arith, ap (λ (n : ℕ). half * n) (reached le.1)) in
+        let here : run + half * step ≡ run + half = omega (arith, all) in
+        let end : run + half * step + (count - half) ≡ run + count = omega (arith, all, is) in
+        record {
+          some = omega (arith, is, more);
+          within = omega (arith, end, was.within);
+          from = omega (arith, le.1, ap (λ (k : ℕ). get_or starts k 0) here);
+          until = λ h. omega (arith, was.until (omega (arith, end)), ap (λ (k : ℕ). get_or starts k 0) end);
+        }
+    go (inr less) (yes even) =
+        let none : half * step ≡ 0 = omega (arith, ap (λ (n : ℕ). half * n) (past less.1)) in
+        let here : run + half * step ≡ run = omega (arith, none) in
+        let end : run + half * step + (count - half) ≡ run + half = omega (arith, none, even) in
+        record {
+          some = omega (arith, is, more);
+          within = omega (arith, end, was.within, is, more);
+          from = omega (arith, was.from, ap (λ (k : ℕ). get_or starts k 0) here);
+          until = λ h. omega (arith, less.1, ap (λ (k : ℕ). get_or starts k 0) end);
+        }
+    go (inr less) (no odd) =
+        let none : half * step ≡ 0 = omega (arith, ap (λ (n : ℕ). half * n) (past less.1)) in
+        let here : run + half * step ≡ run = omega (arith, none) in
+        let end : run + half * step + (count - half) ≡ run + half + 1 = omega (arith, none, odd, is) in
+        record {
+          some = omega (arith, is, more);
+          within = omega (arith, end, was.within, is, more);
+          from = omega (arith, was.from, ap (λ (k : ℕ). get_or starts k 0) here);
+          until = λ h. omega (arith, less.1, order.rising (run + half) (omega (arith, end)), ap (λ (k : ℕ). get_or starts k 0) end);
+        }
+
+-- a directory further on is in no run before
+pub not_sooner : (starts : List ℕ) → AreStarts starts → (i j dir next : ℕ) → IsIn starts i dir → IsIn starts j next → dir ≤ next → i ≤ j
+not_sooner starts order i j dir next p q le = step (leb_tells i j) (ℕ_discrete (j + 1) i)
+  where
+    step : ((leb i j ≡ true) × (i ≤ j)) ⊎ ((leb i j ≡ false) × (j < i)) → Dec (j + 1 ≡ i) → i ≤ j
+    step (inl before) o = before.1
+    step (inr less) (yes e) = absurd (omega (arith, q.until (omega (arith, p.there, less.1)), ap (λ (k : ℕ). get_or starts k 0) e, p.from))
+    step (inr less) (no n) = absurd (omega (arith, q.until (omega (arith, p.there, less.1)), rises_to starts order (j + 1) i (omega (arith, less.1, n)) p.there, p.from))
+
+-- a directory's run is among those from the one of its block's first directory to the one of the next block's
+pub among_blocks : (limit : ℕ) (starts index : List ℕ) (dir first last : ℕ) → AreStarts starts → IsIndex limit starts index → dir < limit → first ≡ get_or index (dir / 256) 0 → last ≡ get_or index (dir / 256 + 1) 0
+    → (first ≤ last) × IsAmong starts first (last - first + 1) dir
+among_blocks limit starts index dir first last order was inside from to =
+    let p : IsIn starts first (256 * (dir / 256)) = subst (λ (k : ℕ). IsIn starts k (256 * (dir / 256))) (sym from) (was.each (dir / 256) (omega (arith, was.sized))) in
+    let q : IsIn starts last (256 * (dir / 256 + 1)) = subst (λ (k : ℕ). IsIn starts k (256 * (dir / 256 + 1))) (sym to) (was.each (dir / 256 + 1) (omega (arith, was.sized))) in
+    let le : first ≤ last = not_sooner starts order first last (256 * (dir / 256)) (256 * (dir / 256 + 1)) p q (omega arith) in
+    let end : first + (last - first + 1) ≡ last + 1 = omega (arith, le) in (
+      le,
+      record {
+        some = omega arith;
+        within = omega (arith, end, q.there);
+        from = omega (arith, p.from);
+        until = λ h. omega (arith, q.until (omega (arith, end)), ap (λ (k : ℕ). get_or starts k 0) end);
+      },
+    )
+
+-- what an index tells is below the limit, and 0 past it
+pub index_small : (limit : ℕ) (starts cells index : List ℕ) → AreRuns limit starts cells → IsIndex limit starts index → (block : ℕ) → get_or index block 0 < limit
+index_small limit starts cells index runs was block = step (leb_tells (length index) block)
+  where
+    step : ((leb (length index) block ≡ true) × (length index ≤ block)) ⊎ ((leb (length index) block ≡ false) × (block < length index)) → get_or index block 0 < limit
+    step (inl le) = omega (arith, get_or_past index block 0 le.1, few_runs limit starts cells runs, runs.order.some)
+    step (inr less) = let held = was.each block less.1 in omega (arith, held.there, few_runs limit starts cells runs)

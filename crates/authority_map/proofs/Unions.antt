@@ -1,11 +1,11 @@
 -- A run is put to the one before it, which has the same cell.
-use Rattle.std.proofs.Common.{◌≡◌, ◌≢◌, ◌⊎◌, ℕ, zero, suc, ◌+◌, ◌-◌, ◌<◌, ◌≤◌, true, false, List, length, get_or, remove, refl, sym, ap, ◌∙◌, arith, subst, inl, inr}
+use Rattle.std.proofs.Common.{◌≡◌, ◌≢◌, ◌⊎◌, ℕ, ◌+◌, ◌-◌, ◌*◌, ◌/◌, ◌<◌, ◌≤◌, true, false, List, length, get_or, remove, sym, ap, ◌∙◌, arith, subst, inl, inr}
 use Rattle.std.proofs.lemmas.List.Edits.{length-remove, get_or-remove_below, get_or-remove_above}
 use Rattle.std.proofs.lemmas.Bool.Decides.{leb_tells}
 use native.Mathlib.Decide.{ℕ_discrete}
 use lib.Dec.{leb}
-use Rattle.authority_map.specs.Runs.{IsIn, AreRuns, HasCells}
-use Rattle.authority_map.proofs.RunLemmas.{one_run, rises_to}
+use Rattle.authority_map.specs.Runs.{IsIn, IsIndex, IsOneMore, AreRuns, HasCells}
+use Rattle.authority_map.proofs.RunLemmas.{rises_to}
 
 module _ (limit : ℕ) (starts cells : List ℕ) (run : ℕ) (runs : AreRuns limit starts cells) (some : 1 ≤ run) (there : run < length starts) (alike : get_or cells (run - 1) 0 ≡ get_or cells run 0) where
   abbrev fewer : List ℕ
@@ -119,3 +119,63 @@ module _ (limit : ℕ) (starts cells : List ℕ) (run : ℕ) (runs : AreRuns lim
           let before : k + 1 < run = omega (arith, less.1, n) in
           let sooner : get_or starts (k + 1) 0 < get_or starts run 0 = rises_to starts runs.order (k + 1) run before there in
           λ same. has.apart k (omega (arith, there, before)) (λ s. a (start_before (k + 1) before ∙ s)) (λ s. absurd (omega (arith, sooner, s))) (sym (cell_before k less.1) ∙ same ∙ cell_before (k + 1) before)
+
+  -- a directory before the run that goes stays in its run
+  stays : (k d : ℕ) → IsIn starts k d → d < get_or starts run 0 → Dec (k + 1 ≡ run) → Order k → IsIn fewer k d
+  stays k d p less (yes e) o = record {
+    there = omega (arith, shorter, there, e);
+    from = omega (arith, start_before k (omega (arith, e)), p.from);
+    until = λ h. omega (arith, less, at_after k e, runs.order.rising run (omega (arith, shorter, e)));
+  }
+  stays k d p less (no n) (inr before) = record {
+    there = omega (arith, shorter, there, before.1);
+    from = omega (arith, start_before k before.1, p.from);
+    until = λ h. omega (arith, p.until (omega (arith, there, before.1)), start_before (k + 1) (omega (arith, before.1, n)));
+  }
+  stays k d p less (no n) (inl le) = absurd (omega (arith, less, not_past (ℕ_discrete run k)))
+    where
+      not_past : Dec (run ≡ k) → get_or starts run 0 ≤ d
+      not_past (yes e) = omega (arith, p.from, ap (λ (j : ℕ). get_or starts j 0) e)
+      not_past (no m) = omega (arith, p.from, rises_to starts runs.order run k (omega (arith, le.1, m)) p.there)
+
+  -- another is in no run before it
+  pub not_before : (k d : ℕ) → IsIn starts k d → get_or starts run 0 ≤ d → run ≤ k
+  not_before k d p from = step (leb_tells run k)
+    where
+      sooner : k < run → Dec (k + 1 ≡ run) → d < get_or starts run 0
+      sooner less (yes e) = omega (arith, p.until (omega (arith, there, less)), ap (λ (j : ℕ). get_or starts j 0) e)
+      sooner less (no n) = omega (arith, p.until (omega (arith, there, less)), rises_to starts runs.order (k + 1) run (omega (arith, less, n)) there)
+
+      step : Order k → run ≤ k
+      step (inl le) = le.1
+      step (inr less) = absurd (omega (arith, from, sooner less.1 (ℕ_discrete (k + 1) run)))
+
+  -- and is in the run before its own from now on
+  moves : (k d : ℕ) → IsIn starts (k + 1) d → get_or starts run 0 ≤ d → Dec (k + 1 ≡ run) → IsIn fewer k d
+  moves k d p from (yes e) = record {
+    there = omega (arith, shorter, there, e);
+    from = omega (arith, start_before k (omega (arith, e)), before_here k e, from);
+    until = λ h. omega (arith, p.until (omega (arith, shorter)), at_after k e, ap (λ (j : ℕ). get_or starts (j + 1) 0) e);
+  }
+  moves k d p from (no n) =
+      let le : run ≤ k = omega (arith, not_before (k + 1) d p from, n) in
+      record {
+        there = omega (arith, shorter, p.there);
+        from = omega (arith, start_after k le, p.from);
+        until = λ h. omega (arith, p.until (omega (arith, shorter)), start_after (k + 1) (omega (arith, le)));
+      }
+
+  -- the run of a block that starts at the run that goes or after it isn't the first
+  pub index_some : (index : List ℕ) (first : ℕ) → first ≡ (get_or starts run 0 + 255) / 256 → IsIndex limit starts index → (b : ℕ) → first ≤ b → b < length index → 1 ≤ get_or index b 0
+  index_some index first at was b le h = let past = not_before (get_or index b 0) (256 * b) (was.each b h) (omega (arith, le, at)) in omega (arith, past, some)
+
+  pub index_united : (index new : List ℕ) (first : ℕ) → first ≡ (get_or starts run 0 + 255) / 256 → IsIndex limit starts index → IsOneMore first new index → IsIndex limit fewer new
+  index_united index new first at was change = record { sized = sym change.sized ∙ was.sized; each = λ b h. each b h (leb_tells first b) }
+    where
+      each : (b : ℕ) → b < length new → ((leb first b ≡ true) × (first ≤ b)) ⊎ ((leb first b ≡ false) × (b < first)) → IsIn fewer (get_or new b 0) (256 * b)
+      each b h (inl le) =
+          let here : IsIn starts (get_or new b 0 + 1) (256 * b) = subst (λ (j : ℕ). IsIn starts j (256 * b)) (change.after b le.1 h) (was.each b (omega (arith, h, change.sized))) in
+          moves (get_or new b 0) (256 * b) here (omega (arith, le.1, at)) (ℕ_discrete (get_or new b 0 + 1) run)
+      each b h (inr less) =
+          let old = get_or index b 0 in
+          subst (λ (j : ℕ). IsIn fewer j (256 * b)) (change.before b less.1) (stays old (256 * b) (was.each b (omega (arith, h, change.sized))) (omega (arith, less.1, at)) (ℕ_discrete (old + 1) run) (leb_tells run old))

@@ -2,39 +2,103 @@
 //!
 //! `starts[run]` is the first directory of a run and `cells[run]` the cell of all that are in it. A
 //! run goes on until the next one starts, the last one until the limit. A directory's run is found
-//! by halving. To write a directory's cell, its run is split so that it stands alone, and then it is
-//! joined with neighbours that have the same cell. There are never more runs than directories.
-ghost use Rattle.std.specs.Prelude.{◌≡◌, ◌≢◌, ℕ, ◌+◌, ◌-◌, ◌==◌, ◌<◌, ◌≤◌, All, length, slice_index, if◌then◌else◌, vec_capacity};
+//! by halving, among those between the first runs of its block and of the next one, which an index
+//! tells. To write a directory's cell, its run is split so that it stands alone, and then it is joined
+//! with neighbours that have the same cell. There are never more runs than directories.
+ghost use Rattle.std.specs.Prelude.{◌≡◌, ◌≢◌, ℕ, ◌+◌, ◌-◌, ◌^◌, ◌==◌, ◌<◌, ◌≤◌, All, length, slice_index, if◌then◌else◌, vec_capacity};
 ghost use Rattle.authority_map.specs.Operations.{names};
-ghost use Rattle.authority_map.specs.Runs.{IsIn, AreStarts, AreRuns, StartsAt, HasCells};
+ghost use Rattle.authority_map.specs.Runs.{IsIn, IsAmong, IsIndex, IsOneMore, AreStarts, AreRuns, StartsAt, HasCells};
 
 use mds_types::Dir;
+
+/// How many directories a block has.
+pub(crate) const BLOCK: usize = 256;
+
+// 1 where this start isn't past the directory, and else 0. It takes no branch, which would be guessed
+// wrong every other time.
+#[inline(always)]
+fn is_reached(start: u32, dir: u32) -> usize
+    ensures reached { start ≤ dir → result ≡ 1 }
+    ensures past { dir < start → result ≡ 0 }
+{
+    ((0x1_0000_0000 + dir as u64 - start as u64) / 0x1_0000_0000) as usize
+}
+
+// The run that a directory is in, by halving so many runs from one on.
+#[inline(always)]
+fn halve(starts: &[u32], first: usize, runs: usize, dir: u32) -> usize
+    requires order { AreStarts starts.now }
+    requires among { IsAmong starts.now first runs dir }
+    ensures { IsIn starts.now result dir }
+{
+    let mut run = first;
+    let mut count = runs;
+    while count > 1 {
+        let half = count / 2;
+        run += half * is_reached(starts[run + half], dir);
+        count -= half;
+    }
+    run
+}
 
 /// The run that a directory is in.
 pub(crate) fn run_of(starts: &[u32], dir: u32) -> usize
     requires { AreStarts starts.now }
     ensures { IsIn starts.now result dir }
 {
-    let mut run = 0;
-    let mut count = starts.len();
-    while count > 1 {
-        let half = count / 2;
-        if starts[run + half] <= dir {
-            run += half;
-        }
-        count -= half;
+    halve(starts, 0, starts.len(), dir)
+}
+
+/// The same by an index of the blocks' first runs.
+pub(crate) fn indexed_run_of(starts: &[u32], index: &[u32], limit: u32, dir: u32) -> usize
+    requires order { AreStarts starts.now }
+    requires index { IsIndex limit starts.now index.now }
+    requires inside { dir < limit }
+    ensures { IsIn starts.now result dir }
+{
+    let block = dir as usize / BLOCK;
+    let first = index[block] as usize;
+    let last = index[block + 1] as usize;
+    halve(starts, first, last - first + 1, dir)
+}
+
+// From this block on there is one run more before each.
+fn index_one_more(index: &mut Vec<u32>, first: usize)
+    requires { (block : ℕ) → slice_index index.old.items block + 1 < 2 ^ 32 }
+    ensures { IsOneMore first index.old.items index.new.items }
+{
+    for block in first..index.len() {
+        index[block] += 1;
     }
-    run
+}
+
+// From this block on there is one run fewer before each.
+fn index_one_fewer(index: &mut Vec<u32>, first: usize)
+    requires { (block : ℕ) → first ≤ block → block < length index.old.items → 1 ≤ slice_index index.old.items block }
+    ensures { IsOneMore first index.new.items index.old.items }
+{
+    for block in first..index.len() {
+        index[block] -= 1;
+    }
 }
 
 // A run more, which starts inside this one and has its cell.
-fn cut(starts: &mut Vec<u32>, cells: &mut Vec<u8>, limit: u32, run: usize, dir: u32)
+fn cut(
+    starts: &mut Vec<u32>,
+    cells: &mut Vec<u8>,
+    index: &mut Vec<u32>,
+    limit: u32,
+    run: usize,
+    dir: u32,
+)
     requires runs { AreRuns limit starts.old.items cells.old.items }
+    requires index { IsIndex limit starts.old.items index.old.items }
     requires room { (limit ≤ vec_capacity starts.old) × (limit ≤ vec_capacity cells.old) }
     requires inside { IsIn starts.old.items run dir }
     requires later { slice_index starts.old.items run < dir }
     requires below { dir < limit }
     ensures runs { AreRuns limit starts.new.items cells.new.items }
+    ensures index { IsIndex limit starts.new.items index.new.items }
     ensures room { (limit ≤ vec_capacity starts.new) × (limit ≤ vec_capacity cells.new) }
     ensures starts { StartsAt starts.new.items dir }
     ensures others { (other : ℕ) → StartsAt starts.old.items other → StartsAt starts.new.items other }
@@ -47,13 +111,16 @@ fn cut(starts: &mut Vec<u32>, cells: &mut Vec<u8>, limit: u32, run: usize, dir: 
     let Ok(()) = cells.insert(run + 1, cell) else {
         unreachable!();
     };
+    index_one_more(index, (dir as usize + BLOCK - 1) / BLOCK);
 }
 
 // Sees to it that a run starts at this directory.
-fn split(starts: &mut Vec<u32>, cells: &mut Vec<u8>, limit: u32, dir: u32)
+fn split(starts: &mut Vec<u32>, cells: &mut Vec<u8>, index: &mut Vec<u32>, limit: u32, dir: u32)
     requires runs { AreRuns limit starts.old.items cells.old.items }
+    requires index { IsIndex limit starts.old.items index.old.items }
     requires room { (limit ≤ vec_capacity starts.old) × (limit ≤ vec_capacity cells.old) }
     ensures runs { AreRuns limit starts.new.items cells.new.items }
+    ensures index { IsIndex limit starts.new.items index.new.items }
     ensures room { (limit ≤ vec_capacity starts.new) × (limit ≤ vec_capacity cells.new) }
     ensures starts { dir < limit → StartsAt starts.new.items dir }
     ensures others { (other : ℕ) → StartsAt starts.old.items other → StartsAt starts.new.items other }
@@ -64,45 +131,59 @@ fn split(starts: &mut Vec<u32>, cells: &mut Vec<u8>, limit: u32, dir: u32)
     }
     let run = run_of(starts, dir);
     if starts[run] < dir {
-        cut(starts, cells, limit, run, dir);
+        cut(starts, cells, index, limit, run, dir);
     }
 }
 
 // Puts a run to the one before it, which has the same cell.
-fn unite(starts: &mut Vec<u32>, cells: &mut Vec<u8>, limit: u32, run: usize)
+fn unite(starts: &mut Vec<u32>, cells: &mut Vec<u8>, index: &mut Vec<u32>, limit: u32, run: usize)
     requires runs { AreRuns limit starts.old.items cells.old.items }
+    requires index { IsIndex limit starts.old.items index.old.items }
     requires some { 1 ≤ run }
     requires there { run < length starts.old.items }
     requires alike { slice_index cells.old.items (run - 1) ≡ slice_index cells.old.items run }
     ensures runs { AreRuns limit starts.new.items cells.new.items }
+    ensures index { IsIndex limit starts.new.items index.new.items }
     ensures room { (vec_capacity starts.new ≡ vec_capacity starts.old) × (vec_capacity cells.new ≡ vec_capacity cells.old) }
     ensures cells { (cell : ℕ → ℕ) (this : ℕ) → HasCells limit starts.old.items cells.old.items cell this (slice_index starts.old.items run) → HasCells limit starts.new.items cells.new.items cell this this }
 {
-    let _start = starts.remove(run);
+    let start = starts.remove(run);
     let _cell = cells.remove(run);
+    index_one_fewer(index, (start as usize + BLOCK - 1) / BLOCK);
 }
 
 // Puts the run that starts at this directory to the one before it, if that has the same cell.
-fn join(starts: &mut Vec<u32>, cells: &mut Vec<u8>, limit: u32, dir: u32)
+fn join(starts: &mut Vec<u32>, cells: &mut Vec<u8>, index: &mut Vec<u32>, limit: u32, dir: u32)
     requires runs { AreRuns limit starts.old.items cells.old.items }
+    requires index { IsIndex limit starts.old.items index.old.items }
     requires room { (limit ≤ vec_capacity starts.old) × (limit ≤ vec_capacity cells.old) }
     ensures runs { AreRuns limit starts.new.items cells.new.items }
+    ensures index { IsIndex limit starts.new.items index.new.items }
     ensures room { (limit ≤ vec_capacity starts.new) × (limit ≤ vec_capacity cells.new) }
     ensures cells { (cell : ℕ → ℕ) (this : ℕ) → HasCells limit starts.old.items cells.old.items cell this dir → HasCells limit starts.new.items cells.new.items cell this this }
 {
     let run = run_of(starts, dir);
     if starts[run] == dir && run > 0 && cells[run - 1] == cells[run] {
-        unite(starts, cells, limit, run);
+        unite(starts, cells, index, limit, run);
     }
 }
 
 /// Writes a directory's cell.
-pub(crate) fn write(starts: &mut Vec<u32>, cells: &mut Vec<u8>, limit: u32, dir: u32, cell: u8)
+pub(crate) fn write(
+    starts: &mut Vec<u32>,
+    cells: &mut Vec<u8>,
+    index: &mut Vec<u32>,
+    limit: u32,
+    dir: u32,
+    cell: u8,
+)
     requires runs { AreRuns limit starts.old.items cells.old.items }
+    requires index { IsIndex limit starts.old.items index.old.items }
     requires room { (limit ≤ vec_capacity starts.old) × (limit ≤ vec_capacity cells.old) }
     requires inside { dir < limit }
     requires small { cell ≤ 64 }
     ensures runs { AreRuns limit starts.new.items cells.new.items }
+    ensures index { IsIndex limit starts.new.items index.new.items }
     ensures room { (limit ≤ vec_capacity starts.new) × (limit ≤ vec_capacity cells.new) }
     ensures cells { (old : ℕ → ℕ) → HasCells limit starts.old.items cells.old.items old 0 0 → HasCells limit starts.new.items cells.new.items (λ d. if d == dir then cell else old d) 0 0 }
 {
@@ -110,31 +191,34 @@ pub(crate) fn write(starts: &mut Vec<u32>, cells: &mut Vec<u8>, limit: u32, dir:
     if cells[run] == cell {
         return;
     }
-    split(starts, cells, limit, dir);
-    split(starts, cells, limit, dir + 1);
+    split(starts, cells, index, limit, dir);
+    split(starts, cells, index, limit, dir + 1);
     let alone = run_of(starts, dir);
     cells[alone] = cell;
-    join(starts, cells, limit, dir + 1);
-    join(starts, cells, limit, dir);
+    join(starts, cells, index, limit, dir + 1);
+    join(starts, cells, index, limit, dir);
 }
 
 /// Writes the cell of each of these directories.
 pub(crate) fn write_all(
     starts: &mut Vec<u32>,
     cells: &mut Vec<u8>,
+    index: &mut Vec<u32>,
     limit: u32,
     dirs: &[Dir],
     cell: u8,
 )
     requires runs { AreRuns limit starts.old.items cells.old.items }
+    requires index { IsIndex limit starts.old.items index.old.items }
     requires room { (limit ≤ vec_capacity starts.old) × (limit ≤ vec_capacity cells.old) }
     requires inside { All (λ dir. dir < limit) dirs.now }
     requires small { cell ≤ 64 }
     ensures runs { AreRuns limit starts.new.items cells.new.items }
+    ensures index { IsIndex limit starts.new.items index.new.items }
     ensures room { (limit ≤ vec_capacity starts.new) × (limit ≤ vec_capacity cells.new) }
     ensures cells { (old : ℕ → ℕ) → HasCells limit starts.old.items cells.old.items old 0 0 → HasCells limit starts.new.items cells.new.items (λ d. if names dirs.now d then cell else old d) 0 0 }
 {
     for dir in dirs {
-        write(starts, cells, limit, dir.number(), cell);
+        write(starts, cells, index, limit, dir.number(), cell);
     }
 }

@@ -2,11 +2,12 @@
 ghost use Rattle.std.specs.Prelude.{◌≡◌, ◌<◌, ◌≤◌, [], ◌∷◌, ◌++◌, All, IsTrue, ◌↔◌, IfOk, vec_capacity};
 ghost use Rattle.authority_map.specs.Operations.{rank_after};
 ghost use Rattle.authority_map.specs.Cells.{AreCells};
+ghost use Rattle.authority_map.specs.Runs.{IsIndex};
 
 use crate::change::{Change, What};
 use crate::history::Known;
 use crate::queue::Entry;
-use crate::runs::{run_of, write, write_all};
+use crate::runs::{BLOCK, indexed_run_of, write, write_all};
 use left_right::Absorb;
 use mds_types::{Dir, Rank};
 use naming::Naming;
@@ -19,8 +20,11 @@ pub struct Table<J: Naming> {
     starts: Vec<u32>,
     // What its directories have: 0 for no rank, or the rank and one.
     cells: Vec<u8>,
+    // The run of each block's first directory.
+    index: Vec<u32>,
     pub known: Known<J>,
     ghost kept: { AreCells limit starts.items cells.items known },
+    ghost indexed: { IsIndex limit starts.items index.items },
     ghost room: { (limit ≤ vec_capacity starts) × (limit ≤ vec_capacity cells) },
     ghost sized: { limit ≡ J.limit },
 }
@@ -41,12 +45,14 @@ impl<J: Naming> Table<J> {
     {
         let mut starts = Vec::with_capacity(alloc, limit as usize)?;
         let mut cells = Vec::with_capacity(alloc, limit as usize)?;
+        let index = vec![in alloc; 0u32; limit as usize / BLOCK + 2]?;
         starts.push_reserved(0);
         cells.push_reserved(0);
         Ok(Table {
             limit,
             starts,
             cells,
+            index,
             known,
         })
     }
@@ -57,7 +63,7 @@ impl<J: Naming> Table<J> {
         if dir.number() >= self.limit {
             return None;
         }
-        let cell = self.cells[run_of(&self.starts, dir.number())];
+        let cell = self.cells[indexed_run_of(&self.starts, &self.index, self.limit, dir.number())];
         if cell == 0 { None } else { Rank::new(cell - 1) }
     }
 }
@@ -82,6 +88,7 @@ impl<J: Naming> Absorb<Entry<J>> for Table<J> {
                 write_all(
                     &mut self.starts,
                     &mut self.cells,
+                    &mut self.index,
                     self.limit,
                     dirs.as_slice(),
                     rank.number() + 1,
@@ -96,6 +103,7 @@ impl<J: Naming> Absorb<Entry<J>> for Table<J> {
                 write(
                     &mut self.starts,
                     &mut self.cells,
+                    &mut self.index,
                     self.limit,
                     dir.number(),
                     0,

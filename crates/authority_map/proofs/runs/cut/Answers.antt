@@ -1,9 +1,9 @@
-use Rattle.std.proofs.Common.{◌≡◌, ◌+◌, ◌<◌, ◌≤◌, List, ℕ, insert, length, get_or, sym, ap, ◌∙◌, arith, rules, subst}
+use Rattle.std.proofs.Common.{◌≡◌, ◌+◌, ◌-◌, ◌/◌, ◌<◌, ◌≤◌, List, ℕ, insert, length, get_or, sym, ap, ◌∙◌, arith, subst}
 use Rattle.std.proofs.lemmas.List.{get_or_read}
 use Rattle.std.proofs.lemmas.List.Edits.{length-insert}
-use Rattle.authority_map.specs.Runs.{IsIn, AreRuns, StartsAt, HasCells}
-use Rattle.authority_map.proofs.RunLemmas.{few_runs}
-use Rattle.authority_map.proofs.Cuts.{runs_cut, starts_cut, others_cut, cells_cut}
+use Rattle.authority_map.specs.Runs.{IsIn, IsIndex, AreRuns, StartsAt}
+use Rattle.authority_map.proofs.RunLemmas.{few_runs, index_small}
+use Rattle.authority_map.proofs.Cuts.{runs_cut, starts_cut, others_cut, cells_cut, index_cut}
 use Rattle.authority_map.proofs.runs.cut.Goals as goal
 
 -- there is room for one run more
@@ -55,3 +55,16 @@ returns-clause-cells c cell this has =
     let new : insert starts (c.args.run + 1) c.args.dir ≡ c.insert.new.self.items = sym c.in-Ok.ensures.items in
     let more : insert cells (c.args.run + 1) (get_or cells c.args.run 0) ≡ c.insert-2.new.self.items = ap (insert cells (c.args.run + 1)) (sym read) ∙ sym c.in-Ok-insert.ensures.items in
     rw (← new, ← more) (cells_cut c.args.limit starts cells c.args.run c.args.dir c.requires.runs c.requires.inside c.requires.later c.requires.below cell this has)
+
+pub index_one_more-requires : goal.index_one_more-requires
+index_one_more-requires c block =
+    let small = index_small c.args.limit c.args.starts.now.items c.args.cells.now.items c.args.index.now.items c.requires.runs c.requires.index block in
+    omega (arith, small, c.ranges.limit)
+
+pub returns-clause-index : goal.returns-clause-index
+returns-clause-index c =
+    let starts = c.args.starts.now.items in
+    let cells = c.args.cells.now.items in
+    let new : insert starts (c.args.run + 1) c.args.dir ≡ c.insert.new.self.items = sym c.in-Ok.ensures.items in
+    subst (λ (l : List ℕ). IsIndex c.args.limit l c.index_one_more.new.index.items) new
+    (index_cut c.args.limit starts cells c.args.run c.args.dir c.requires.runs c.requires.inside c.requires.later c.requires.below c.args.index.now.items c.index_one_more.new.index.items ((c.args.dir + 256 - 1) / 256) (omega arith) c.requires.index c.index_one_more.ensures)

@@ -1,4 +1,4 @@
-use Rattle.std.proofs.Common.{◌≡◌, ◌+◌, ◌==◌, ℕ, if◌then◌else◌, set, arith}
+use Rattle.std.proofs.Common.{◌+◌, ◌==◌, if◌then◌else◌}
 use Rattle.authority_map.specs.Runs.{IsIn, StartsAt, HasCells}
 use Rattle.authority_map.proofs.RunLemmas.{but_first, first_but, cells_written}
 use Rattle.authority_map.proofs.runs.write.Goals as goal

@@ -1,8 +1,8 @@
-use Rattle.std.proofs.Common.{◌≡◌, ◌+◌, ◌<◌, ◌==◌, ◌||◌, ℕ, Bool, true, false, List, [], ◌∷◌, drop, length, get_or, if◌then◌else◌, refl, sym, ap, ◌∙◌, arith, rules, subst}
+use Rattle.std.proofs.Common.{◌≡◌, ◌+◌, ◌<◌, ◌==◌, ◌||◌, ℕ, Bool, true, false, List, [], ◌∷◌, drop, length, get_or, if◌then◌else◌, refl, sym, ap, ◌∙◌, arith, subst}
 use Rattle.std.proofs.lemmas.List.{drop_more, drop_all, get_or_read}
 use Rattle.std.proofs.lemmas.Bool.Decides.{nat_tests}
 use Rattle.authority_map.specs.Operations.{names}
-use Rattle.authority_map.specs.Runs.{AreRuns, HasCells}
+use Rattle.authority_map.specs.Runs.{HasCells}
 use Rattle.authority_map.proofs.RunLemmas.{same_cells}
 use Rattle.authority_map.proofs.runs.write_all.Invariants.{IsWritten}
 use Rattle.authority_map.proofs.runs.write_all.Goals as goal
@@ -37,6 +37,7 @@ loop-dir-preserved c =
       c.write.ensures.room.1,
       λ old has. next_written c.args.limit c.loop-dir.starts.items c.loop-dir.cells.items c.write.new.starts.items c.write.new.cells.items dirs (drop (i + 1) dirs) c.number.result c.args.cell old
           (subst (λ (l : List ℕ). IsWritten c.args.limit c.loop-dir.starts.items c.loop-dir.cells.items dirs l c.args.cell old) cut (c.loop-dir.invariant.3 old has)) c.write.ensures.cells,
+      c.write.ensures.index,
     )
 
 pub returns-clause-cells : goal.returns-clause-cells

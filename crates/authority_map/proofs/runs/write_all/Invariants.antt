@@ -1,6 +1,6 @@
 use Rattle.std.proofs.Common.{◌≡◌, ◌≤◌, ℕ, List, drop, if◌then◌else◌, vec_capacity}
 use Rattle.authority_map.specs.Operations.{names}
-use Rattle.authority_map.specs.Runs.{AreRuns, HasCells}
+use Rattle.authority_map.specs.Runs.{AreRuns, IsIndex, HasCells}
 use Rattle.authority_map.proofs.runs.write_all.Given as goal
 
 -- the cells have some directories to be written still
@@ -15,3 +15,4 @@ invariant-loop-dir l =
     × (l.limit ≤ vec_capacity l.starts)
     × (l.limit ≤ vec_capacity l.cells)
     × ((old : ℕ → ℕ) → HasCells l.limit l.fn.starts.items l.fn.cells.items old 0 0 → IsWritten l.limit l.starts.items l.cells.items l.dirs (drop l.dir-index l.dirs) l.cell old)
+    × IsIndex l.limit l.starts.items l.index.items

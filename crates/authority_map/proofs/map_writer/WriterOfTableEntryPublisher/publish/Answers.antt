@@ -1,4 +1,4 @@
-use Rattle.std.proofs.Common.{◌≡◌, [], ◌++◌, refl, rules}
+use Rattle.std.proofs.Common.{◌≡◌, [], refl, rules}
 use Rattle.left_right.specs.Handles.{published, pending}
 use Rattle.authority_map.proofs.WriterLemmas.{all_shown}
 use Rattle.authority_map.proofs.map_writer.WriterOfTableEntryPublisher.publish.Goals as goal

@@ -1,6 +1,4 @@
-use Rattle.std.proofs.Common.{◌≡◌, ◌∷◌, [], List, ℕ, sym, rules, subst}
-use Rattle.authority_map.specs.Operations.{Operation}
-use Rattle.authority_map.specs.Cells.{AreCells}
+use Rattle.std.proofs.Common.{◌≡◌, ◌∷◌, [], rules}
 use Rattle.authority_map.proofs.CellLemmas.{cells_none}
 use Rattle.authority_map.proofs.table.Table.new.Goals as goal
 

@@ -1,4 +1,4 @@
-use Rattle.std.proofs.Common.{ℕ, Option, Some, None, IsSome, IfSome, ◌≡◌, ◌∙◌, ◌<◌, ◌-◌, ◌≤◌, arith, get_or, ap, sym}
+use Rattle.std.proofs.Common.{ℕ, Option, Some, None, IsSome, IfSome, ◌≡◌, ◌∙◌, ◌<◌, ◌-◌, arith, get_or, ap}
 use Rattle.std.proofs.lemmas.List.{get_or_read}
 use Rattle.authority_map.specs.Operations.{rank_after}
 use Rattle.authority_map.specs.Runs.{IsIn}
@@ -13,8 +13,8 @@ made (Some r) n some is = ap (λ (k : ℕ). Some k) is
 pub returns-then-cell-eq0 : goal.returns-then-cell-eq0
 returns-then-cell-eq0 g c =
     let t = c.args.self.now in
-    let run = c.run_of.result in
-    let inside : IsIn t.starts.items run c.args.dir = rw (c.deref.ensures.value, c.number-2.ensures) at c.run_of.ensures in
+    let run = c.indexed_run_of.result in
+    let inside : IsIn t.starts.items run c.args.dir = rw (c.deref.ensures.value, c.number-2.ensures) at c.indexed_run_of.ensures in
     let read : c.index-cell.result.now ≡ get_or t.cells.items run 0 = get_or_read t.cells.items run c.index-cell.result.now (omega (arith, inside.there, t.kept.shape.sized)) c.index-cell.ensures 0 in
     let cell : c.index-cell.result.now ≡ cell_of (rank_after t.known c.args.dir) = read ∙ t.kept.held.each run c.args.dir (omega (arith, c.if-number-self.false, c.number.ensures)) inside in
     rank_none c.index-cell.result.now (rank_after t.known c.args.dir) cell c.if-cell-eq0.true
@@ -22,8 +22,8 @@ returns-then-cell-eq0 g c =
 pub returns-else-cell-eq0 : goal.returns-else-cell-eq0
 returns-else-cell-eq0 g c =
     let t = c.args.self.now in
-    let run = c.run_of.result in
-    let inside : IsIn t.starts.items run c.args.dir = rw (c.deref.ensures.value, c.number-2.ensures) at c.run_of.ensures in
+    let run = c.indexed_run_of.result in
+    let inside : IsIn t.starts.items run c.args.dir = rw (c.deref.ensures.value, c.number-2.ensures) at c.indexed_run_of.ensures in
     let read : c.index-cell.result.now ≡ get_or t.cells.items run 0 = get_or_read t.cells.items run c.index-cell.result.now (omega (arith, inside.there, t.kept.shape.sized)) c.index-cell.ensures 0 in
     let cell : c.index-cell.result.now ≡ cell_of (rank_after t.known c.args.dir) = read ∙ t.kept.held.each run c.args.dir (omega (arith, c.if-number-self.false, c.number.ensures)) inside in
     let less : c.index-cell.result.now - 1 < 64 = omega (arith, read, t.kept.shape.small run) in

@@ -1,4 +1,4 @@
-use Rattle.std.proofs.Common.{◌≡◌, ◌∙◌, ◌+◌, ◌<◌, ◌==◌, ◌++◌, ◌∷◌, [], List, ℕ, All, if◌then◌else◌, arith, ap, rules}
+use Rattle.std.proofs.Common.{◌≡◌, ◌∙◌, ◌+◌, ◌<◌, ◌==◌, ◌++◌, ◌∷◌, [], List, All, if◌then◌else◌, arith, ap, rules}
 use Rattle.authority_map.specs.Operations.{Operation, names, rank_after}
 use Rattle.authority_map.specs.Runs.{HasCells}
 use Rattle.authority_map.specs.Cells.{cell_of}
