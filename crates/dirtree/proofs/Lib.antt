@@ -1,5 +1,10 @@
+pub mod Chains
 pub mod Changes
 pub mod Children
+pub mod Counts
+pub mod Indexed
+pub mod Lookups
+pub mod Made
 pub mod Names
 pub mod Nodes
 pub mod PathRoundTrip

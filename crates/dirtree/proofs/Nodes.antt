@@ -8,7 +8,8 @@ use Rattle.std.specs.Option.{option_map, option_map_or}
 use Rattle.std.specs.Prelude.{is_some, nat_eq}
 use Rattle.std.specs.Str.{bytes_eq}
 use Rattle.dirtree.specs.Tree.{Entry, IsTree, entry_at, is_there, parent_of, name_of, is_named_child, child_from, child_of}
-use Rattle.dirtree.specs.Keeps.{IsIndexed, Key, key, key_of, key_at}
+use Rattle.dirtree.proofs.Indexed.{IsIndexed}
+use Rattle.dirtree.specs.Keeps.{Key, key, key_of, key_at}
 
 -- an entry is a child of that name exactly if its key says so
 named_entry : (e : Entry) (p : ℕ) (name : List ℕ) → is_named_child p name (Some e) ≡ true → (e.parent ≡ p) × (e.name ≡ name)
