@@ -7,6 +7,7 @@ ghost use Rattle.script_engine.specs.Known.{AppendsFront};
 ghost use Rattle.mdbal.specs.Exit.{AreProved, IsExit, IsRun, message, status_of};
 ghost use Rattle.std.specs.Option.{option_and_then};
 
+use crate::hints::LineHints;
 use command_line::{OptionsError, Settings, options};
 use script_engine::{Input, RunError, write_whole};
 use script_session::laws::certificates_are_best;
@@ -24,7 +25,8 @@ use std::thread::Threads;
 ///
 /// It is 0 where every line was accepted, 1 where one was not, 2 where the command line is refused or there is no memory
 /// to begin with, and 3 where a device failed, or the certificates of the adopted plans that `--proofs FILE` asks for
-/// could not all be written. The help and the version end with 0.
+/// could not all be written. The help and the version end with 0. Of a line that spells no command a line on standard error
+/// says why, unless the words have `--quiet`.
 pub fn start<T: Threads + Wait + Files + Sync, S: AsStr, R: Read, W: Write, E: Write>(
     rt: &T,
     alloc: Global,
@@ -64,7 +66,18 @@ fn carry_out<T: Threads + Wait + Files + Sync, R: Read, W: Write, E: Write>(
         }
     };
     let (limit, strict) = (settings.limit, settings.strict);
-    prove(rt, alloc, limit, strict, input, writer, &mut proofs, errors)
+    let quiet = settings.quiet;
+    prove(
+        rt,
+        alloc,
+        limit,
+        strict,
+        quiet,
+        input,
+        writer,
+        &mut proofs,
+        errors,
+    )
 }
 
 // The file for certificates, if one is asked for, without what it held.
@@ -81,6 +94,7 @@ fn prove<T: Threads + Wait + Sync, R: Read, W: Write, P: Write, E: Write>(
     alloc: Global,
     limit: u32,
     strict: bool,
+    quiet: bool,
     input: &mut Input<R>,
     writer: &mut W,
     proofs: &mut Option<P>,
@@ -94,7 +108,14 @@ fn prove<T: Threads + Wait + Sync, R: Read, W: Write, P: Write, E: Write>(
     ensures proofs { result ≤ 1 → AreProved
         (option_and_then P.contents proofs.old) (option_and_then P.contents proofs.new) }
 {
-    let ended = run(rt, alloc, input, writer, proofs, limit, strict);
+    let mut hints = LineHints { errors, quiet };
+    let ended = run(
+        rt, alloc, input, writer, proofs, &mut hints, limit, strict,
+    );
+    let LineHints {
+        errors,
+        quiet: _quiet,
+    } = hints;
     let accepted = match ended.answered {
         Ok(accepted) => accepted,
         Err(failure) => return fail(failure, errors),

@@ -8,6 +8,7 @@ ghost use Rattle.script_session.specs.Session.{SessionData, answers};
 ghost use Rattle.script_session.specs.Proofs.{IsProved, LeadsTo};
 ghost use Rattle.script_session.specs.Script.{AcceptedUpTo, AllAnswered, IsKeptAt, SomeAnswered, WholeAnswered};
 
+use crate::hints::{Hinted, Hints};
 use crate::session::Session;
 use authority_map::MapWriter;
 use board_certificates::Unwritten;
@@ -47,12 +48,15 @@ impl Ended {
 /// A strict run ends with the first line that isn't accepted. A device that fails ends the run. The parts of a board are
 /// opened first; where there is no memory for them, nothing is read. However a run ends, the certificates of the plans
 /// that the board has adopted are then written to `proofs`, where one is given.
-pub fn run<T: Threads + Wait + Sync, R: Read, W: Write, P: Write>(
+///
+/// `hints` is told of each line that is answered `syntax`, and why; it changes nothing else.
+pub fn run<T: Threads + Wait + Sync, R: Read, W: Write, P: Write, H: Hints>(
     rt: &T,
     alloc: Global,
     input: &mut Input<R>,
     writer: &mut W,
     proofs: &mut Option<P>,
+    hints: &mut H,
     limit: u32,
     strict: bool,
 ) -> Ended
@@ -91,11 +95,20 @@ pub fn run<T: Threads + Wait + Sync, R: Read, W: Write, P: Write>(
         return Ended::without_memory();
     };
     let map = authority_map::Opened::new();
-    run_named::<Brand, T, R, W, P>(rt, alloc, book, map, input, writer, proofs, limit, strict)
+    run_named::<Brand, T, R, W, P, H>(
+        rt, alloc, book, map, input, writer, proofs, hints, limit, strict,
+    )
 }
 
 // The same for a board whose name was picked.
-fn run_named<J: Naming + Send + Sync, T: Threads + Wait + Sync, R: Read, W: Write, P: Write>(
+fn run_named<
+    J: Naming + Send + Sync,
+    T: Threads + Wait + Sync,
+    R: Read,
+    W: Write,
+    P: Write,
+    H: Hints,
+>(
     rt: &T,
     alloc: Global,
     book: heat_ledger::Opened,
@@ -103,6 +116,7 @@ fn run_named<J: Naming + Send + Sync, T: Threads + Wait + Sync, R: Read, W: Writ
     input: &mut Input<R>,
     writer: &mut W,
     proofs: &mut Option<P>,
+    hints: &mut H,
     limit: u32,
     strict: bool,
 ) -> Ended
@@ -143,16 +157,20 @@ fn run_named<J: Naming + Send + Sync, T: Threads + Wait + Sync, R: Read, W: Writ
     let Some(parts) = open_parts(rt, alloc, book, map, limit) else {
         return Ended::without_memory();
     };
-    let mut session = Session::<J, MapWriter<J, &T>, T>::new(rt, limit, parts);
-    let answer = |session: &mut Session<
+    let session = Session::<J, MapWriter<J, &T>, T>::new(rt, limit, parts);
+    let mut hinted = Hinted { session, hints };
+    let answer = |hinted: &mut Hinted<
         '_,
-        J,
-        MapWriter<J, &T>,
-        T,
+        Session<'_, J, MapWriter<J, &T>, T>,
+        H,
     >, number: u64, line: &[u8], writer: &mut W| -> Result<bool, WriteFailed>
-        ensures { Tells answers W.contents session.old number line.now writer.old result session.new writer.new }
-    { session.answer(alloc, number, line, writer) };
-    let answered = run_script(alloc, &answer, &mut session, input, writer, strict);
+        ensures { Tells answers W.contents hinted.old number line.now writer.old result hinted.new writer.new }
+    { hinted.answer(alloc, number, line, writer) };
+    let answered = run_script(alloc, &answer, &mut hinted, input, writer, strict);
+    let Hinted {
+        session,
+        hints: _hints,
+    } = hinted;
     session.promises();
     let proved = session.prove(alloc, proofs);
     session.end();

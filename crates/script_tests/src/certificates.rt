@@ -4,7 +4,7 @@ use board_certificates::Unwritten;
 use plan_checker::check;
 use plan_text::read;
 use script_engine::Input;
-use script_session::run;
+use script_session::{Silence, run};
 use std::alloc::Global;
 use std::marker::Sync;
 use std::sync::Wait;
@@ -32,7 +32,16 @@ fn written<T: Threads + Wait + Sync>(
         step,
         writes,
     });
-    let ended = run(rt, alloc, &mut input, &mut sink, &mut proofs, 64, false);
+    let ended = run(
+        rt,
+        alloc,
+        &mut input,
+        &mut sink,
+        &mut proofs,
+        &mut Silence,
+        64,
+        false,
+    );
     match proofs {
         Some(sink) => (ended.proved, sink.bytes),
         None => (ended.proved, Vec::new(alloc)),
