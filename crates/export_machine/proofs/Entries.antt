@@ -13,7 +13,8 @@ use Rattle.export_machine.specs.declared.importer.ImporterState.TheVariants.{Unk
 use Rattle.export_machine.specs.declared.message.Message.TheVariants.{Discover, DiscoverAck, Prep, PrepAck, ExportAck, Finish, Cancel, Query}
 use Rattle.export_machine.specs.Cluster.{World}
 use Rattle.export_machine.specs.Authority.{is_inside, from_of, to_of, exporter_of, importer_of, journal_of, named_of, authority, is_stopped}
-use Rattle.export_machine.specs.Step.{step, refusal, happens, journals, journaled_by, exporter_to, names_importer, receiver, comes, delivered, ignored, changed, restarts, Move, move, moved, acts, about, exporter_moves, importer_moves, notes, replies}
+use Rattle.export_machine.specs.declared.moves.Move.{Move}
+use Rattle.export_machine.specs.Step.{step, refusal, happens, journals, journaled_by, exporter_to, names_importer, receiver, comes, delivered, ignored, changed, restarts, move, moved, acts, about, exporter_moves, importer_moves, notes, replies}
 use Rattle.export_machine.specs.declared.event.Event.{Event}
 use Rattle.export_machine.specs.declared.event.Event.TheVariants.{Deliver, Notify, Restart}
 use Rattle.export_machine.specs.View.{IsReached}
@@ -23,7 +24,7 @@ use Rattle.export_machine.proofs.Lookups.{itself}
 use Rattle.export_machine.proofs.Frame.{delivered_frame, happens_fixed}
 use Rattle.export_machine.proofs.Events.{set_none}
 use Rattle.export_machine.proofs.Found.{orders_by}
-use Rattle.export_machine.proofs.Accepted.{as_rank, exporter_rank, importer_rank, numbers_by, notify_order, notify_state, made_has, gone_has}
+use Rattle.export_machine.proofs.Accepted.{as_rank, exporter_rank, receiver_rank, numbers_by, notify_order, notify_state, made_has, gone_has}
 use Rattle.export_machine.proofs.Rows.{notify_there}
 
 -- the entries that messages make: none makes, removes or names a directory
@@ -120,18 +121,7 @@ made_journals w (Some a) e ps ns = refl
 
 module _ (w : World) (reached : IsReached w) where
   receiver_near : (k : ℕ) (m : Message) → slice_get w.sent k ≡ Some m → receiver w m < length w.journals
-  receiver_near k m h = go m (orders_by w reached (about m) (length w.orders) (λ safe. safe.tables.known k m h))
-    where
-      go : (n : Message) → about n < length w.orders → receiver w n < length w.journals
-      go (Discover x) l = importer_rank w reached x l
-      go (DiscoverAck x) l = exporter_rank w reached x l
-      go (Prep x) l = importer_rank w reached x l
-      go (PrepAck x) l = exporter_rank w reached x l
-      go (Message.Export x) l = importer_rank w reached x l
-      go (ExportAck x) l = exporter_rank w reached x l
-      go (Finish x) l = importer_rank w reached x l
-      go (Cancel x) l = importer_rank w reached x l
-      go (Query x) l = exporter_rank w reached x l
+  receiver_near k m h = receiver_rank w reached m (orders_by w reached (about m) (length w.orders) (λ safe. safe.tables.known k m h))
 
   happens_grows : (r : ℕ) (e : Event) → refusal w e ≡ None → Grows w r (happens w e).world (accepted_entry w e)
   unfolding happens

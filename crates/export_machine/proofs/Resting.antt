@@ -15,7 +15,8 @@ use Rattle.export_machine.specs.declared.message.Message.TheVariants.{Discover, 
 use Rattle.export_machine.specs.Cluster.{World}
 use Rattle.mds_types.specs.declared.order.Order.{Order}
 use Rattle.export_machine.specs.Authority.{order_in, no_order, from_of, to_of, exporter_of, importer_of, journal_of, has, has_entry, authority, is_stopped}
-use Rattle.export_machine.specs.Step.{step, answered, refusal, causes, happens, counted, receiver, run, start, journaled_by, importer_to, changed, ignored, stops, restarts, comes, delivered, exporter_by_journal, importer_by_journal, authority_stopped, Move, move, acts, about}
+use Rattle.export_machine.specs.declared.moves.Move.{Move}
+use Rattle.export_machine.specs.Step.{step, answered, refusal, causes, happens, counted, receiver, run, start, journaled_by, importer_to, changed, ignored, stops, restarts, comes, delivered, exporter_by_journal, importer_by_journal, authority_stopped, move, acts, about}
 use Rattle.export_machine.specs.declared.event.Event.{Event}
 use Rattle.export_machine.specs.Kept.{exporter_at_stop, importer_at_stop}
 use Rattle.export_machine.specs.declared.event.Event.TheVariants.{Begin, End, Start, Deliver, Froze, Notify, Abort, Stop, Restart, Ask}

@@ -5,6 +5,7 @@ use Rattle.export_machine.specs.declared.exporter.ExporterState.{ExporterState}
 use Rattle.export_machine.specs.declared.importer.ImporterState.{ImporterState}
 use Rattle.export_machine.specs.declared.journal.JournalEntry.{JournalEntry}
 use Rattle.export_machine.specs.declared.message.Message.{Message}
+use Rattle.export_machine.specs.declared.moves.Move.{Move}
 use Rattle.export_machine.specs.declared.event.Request.{Request}
 use Rattle.export_machine.specs.declared.event.Event.{Event}
 use Rattle.export_machine.specs.declared.event.Event.TheVariants.{Begin, End, Start, Deliver, Froze, Notify, Abort, Stop, Restart, Ask}
@@ -232,14 +233,6 @@ receiver w (ExportAck x) = from_of w x
 receiver w (Finish x) = to_of w x
 receiver w (Cancel x) = to_of w x
 receiver w (Query x) = from_of w x
-
--- what a message makes the rank do that it comes to: the export's next state there, if it changes, the entry that the
--- rank journals, and the message that it sends
-pub record Move : Type 0 where
-  pub exporter : Option ExporterState
-  pub importer : Option ImporterState
-  pub entry : Option JournalEntry
-  pub sends : Option Message
 
 abbrev pub exporting : ExporterState → Option JournalEntry → Option Message → Option Move
 exporting state e m = Some (record { exporter = Some state; importer = None; entry = e; sends = m })
