@@ -5,9 +5,11 @@ use Rattle.std.proofs.lemmas.Bool.{cases_lt, cases_eq, leb-false, not-false}
 use Rattle.std.proofs.lemmas.List.{get_or_default, get_or_past}
 use Rattle.export_machine.specs.declared.exporter.ExporterState.TheVariants.{Freezing, Logged}
 use Rattle.export_machine.specs.declared.event.Request.{Request}
+use Rattle.export_machine.specs.declared.message.Message.{Message}
+use Rattle.export_machine.specs.declared.message.Message.TheVariants.{Discover, DiscoverAck, Prep, PrepAck, ExportAck, Finish, Cancel, Query}
 use Rattle.export_machine.specs.Cluster.{World}
 use Rattle.export_machine.specs.Authority.{order_in, no_order, from_of, to_of, exporter_of, authority, is_present, frozen_by, request_of, open_export}
-use Rattle.export_machine.specs.Step.{refusal, causes, is_before_log, is_freezing, is_logged, is_running, not_yet, running_on}
+use Rattle.export_machine.specs.Step.{refusal, causes, about, receiver, is_before_log, is_freezing, is_logged, is_running, not_yet, running_on}
 use Rattle.export_machine.specs.declared.event.Event.{Event}
 use Rattle.export_machine.specs.declared.event.Event.TheVariants.{Begin, End, Deliver, Froze, Notify, Abort}
 use Rattle.export_machine.specs.View.{IsReached}
@@ -25,6 +27,9 @@ numbers_by w r a b f = elim (cases_eq a b) [ inl e ↦ e | inr n ↦ absurd (by_
 pub room_left : (w : World) (e : Event) → refusal w e ≡ None → w.events < 1048576
 unfolding refusal
 room_left w e h = leb-false 1048576 w.events (not_refused _ _ (or_else_none _ _ h).0)
+
+pub order_here : (orders : List Order) (x : ℕ) (o : Order) → x < length orders → o ≡ get_or orders x o → order_in orders x ≡ o
+order_here orders x o h e = get_or_default orders x no_order o h ∙ sym e
 
 pub dirs_here : (orders : List Order) (x : ℕ) (o : Order) → x < length orders → o ≡ get_or orders x o → (order_in orders x).dirs ≡ o.dirs
 dirs_here orders x o h e = ap (λ r. r.dirs) (get_or_default orders x no_order o h) ∙ ap (λ (p : Order). p.dirs) (sym e)
@@ -50,6 +55,17 @@ module _ (w : World) (reached : IsReached w) where
 
   pub importer_rank : (x : ℕ) → x < length w.orders → to_of w x < length w.journals
   importer_rank x h = orders_by w reached (to_of w x) (length w.journals) (λ safe. (safe.ranked x h).1)
+
+  pub receiver_rank : (m : Message) → about m < length w.orders → receiver w m < length w.journals
+  receiver_rank (Discover x) h = importer_rank x h
+  receiver_rank (DiscoverAck x) h = exporter_rank x h
+  receiver_rank (Prep x) h = importer_rank x h
+  receiver_rank (PrepAck x) h = exporter_rank x h
+  receiver_rank (Message.Export x) h = importer_rank x h
+  receiver_rank (ExportAck x) h = exporter_rank x h
+  receiver_rank (Finish x) h = importer_rank x h
+  receiver_rank (Cancel x) h = importer_rank x h
+  receiver_rank (Query x) h = exporter_rank x h
 
 module _ (w : World) (x : ℕ) where
   pub froze_order : refusal w (Froze x) ≡ None → x < length w.orders

@@ -15,7 +15,8 @@ use Rattle.export_machine.specs.declared.records.Records.{Records}
 use Rattle.export_machine.specs.Cluster.{World}
 use Rattle.mds_types.specs.declared.order.Order.{Order}
 use Rattle.export_machine.specs.Authority.{no_order, order_in, exporter_of, importer_of, is_stopped, authority, open_export}
-use Rattle.export_machine.specs.Step.{Outcome, refusal, happens, step, counted, comes, delivered, ignored, receiver, repeats, journaled_by, restarts, changed, Move, move, moved, acts, about, exporter_moves, importer_moves, notes, replies}
+use Rattle.export_machine.specs.declared.moves.Move.{Move}
+use Rattle.export_machine.specs.Step.{Outcome, refusal, happens, step, counted, comes, delivered, ignored, receiver, repeats, journaled_by, restarts, changed, move, moved, acts, about, exporter_moves, importer_moves, notes, replies}
 use Rattle.export_machine.specs.declared.event.Event.{Event}
 use Rattle.export_machine.specs.declared.event.Event.TheVariants.{Begin, End, Start, Deliver, Froze, Notify, Abort, Stop, Restart, Ask}
 use Rattle.export_machine.specs.View.{IsReached, IsAnswer}
@@ -46,10 +47,7 @@ moved_sends w x r v = ends (notes (importer_moves (exporter_moves w x v.exporter
   where
     states : (e : Option ExporterState) (i : Option ImporterState) →
         ((importer_moves (exporter_moves w x e) x i).sent ≡ w.sent) × ((importer_moves (exporter_moves w x e) x i).events ≡ w.events)
-    states None None = (refl, refl)
-    states None (Some i) = (refl, refl)
-    states (Some e) None = (refl, refl)
-    states (Some e) (Some i) = (refl, refl)
+    states e i = (grind arith, grind arith)
 
     noted : (u : World) (o : Option JournalEntry) → u.sent ≡ w.sent → u.events ≡ w.events → ((notes u r o).sent ≡ w.sent) × ((notes u r o).events ≡ w.events)
     noted u None s e = (s, e)

@@ -6,7 +6,7 @@ use Rattle.export_machine.specs.declared.journal.JournalEntry.{JournalEntry}
 use Rattle.export_machine.specs.declared.message.Message.{Message}
 use Rattle.export_machine.specs.Cluster.{World}
 use Rattle.export_machine.specs.declared.exporter.ExporterState.TheVariants.{Discovering, Freezing, Preparing, Exporting, Done, Aborted}
-use Rattle.export_machine.specs.declared.importer.ImporterState.TheVariants.{Unknown, Discovered, Prepared, Started, Imported, Dropped}
+use Rattle.export_machine.specs.declared.importer.ImporterState.TheVariants.{Unknown, Discovered, Prepared, Started, Dropped}
 use Rattle.export_machine.specs.declared.message.Message.TheVariants.{Discover, DiscoverAck, Prep, PrepAck, ExportAck, Finish, Cancel, Query}
 use Rattle.export_machine.specs.Authority.{to_of, exporter_of, importer_of, has, is_stopped}
 use Rattle.export_machine.specs.Step.{exporter_to, importer_to, journals, is_started, Outcome, ignored, comes, receiver, delivered}
@@ -23,12 +23,7 @@ prepared_pair : (e : ExporterState) → together e Discovered ≡ true → toget
 prepared_pair e h = grind arith
 
 pub ack_started : (i : ImporterState) (b : Bool) → together Exporting i ≡ true → (is_started i || is_imported i || b) ≡ true → (b ≡ true → i ≡ Dropped) → i ≡ Started
-ack_started Unknown b h k l = cc (l k)
-ack_started Discovered b h k l = cc (l k)
-ack_started Prepared b h k l = cc (l k)
-ack_started Started b h k l = refl
-ack_started Imported b h k l = cc
-ack_started Dropped b h k l = cc
+ack_started i b h k l = grind arith
 
 module _ (w : World) (safe : Safe w) (k x : ℕ) where
   near_importer : x < length w.orders → x < length w.importers

@@ -8,12 +8,11 @@ use Rattle.export_machine.specs.declared.importer.ImporterState.{ImporterState}
 use Rattle.export_machine.specs.declared.journal.JournalEntry.{JournalEntry}
 use Rattle.export_machine.specs.declared.message.Message.{Message}
 use Rattle.export_machine.specs.declared.step_error.StepError.{StepError}
-use Rattle.export_machine.specs.declared.exporter.ExporterState.TheVariants.{Discovering, Preparing, Exporting, Logged, Done, Aborted}
-use Rattle.export_machine.specs.declared.importer.ImporterState.TheVariants.{Unknown, Discovered, Prepared, Started}
-use Rattle.export_machine.specs.declared.message.Message.TheVariants.{Discover, DiscoverAck, Prep, PrepAck, ExportAck, Finish, Cancel, Query}
+use Rattle.export_machine.specs.declared.exporter.ExporterState.TheVariants.{Logged, Done}
 use Rattle.export_machine.specs.Cluster.{World}
 use Rattle.export_machine.specs.Authority.{is_inside, from_of, to_of, exporter_of, importer_of, journal_of, named_of, authority, is_stopped}
-use Rattle.export_machine.specs.Step.{step, refusal, happens, journals, journaled_by, exporter_to, names_importer, receiver, comes, delivered, ignored, changed, restarts, Move, move, moved, acts, about, exporter_moves, importer_moves, notes, replies}
+use Rattle.export_machine.specs.declared.moves.Move.{Move}
+use Rattle.export_machine.specs.Step.{step, refusal, happens, journals, journaled_by, exporter_to, names_importer, receiver, comes, delivered, ignored, changed, restarts, move, moved, acts, about, exporter_moves, importer_moves, notes, replies}
 use Rattle.export_machine.specs.declared.event.Event.{Event}
 use Rattle.export_machine.specs.declared.event.Event.TheVariants.{Deliver, Notify, Restart}
 use Rattle.export_machine.specs.View.{IsReached}
@@ -23,7 +22,7 @@ use Rattle.export_machine.proofs.Lookups.{itself}
 use Rattle.export_machine.proofs.Frame.{delivered_frame, happens_fixed}
 use Rattle.export_machine.proofs.Events.{set_none}
 use Rattle.export_machine.proofs.Found.{orders_by}
-use Rattle.export_machine.proofs.Accepted.{as_rank, exporter_rank, importer_rank, numbers_by, notify_order, notify_state, made_has, gone_has}
+use Rattle.export_machine.proofs.Accepted.{as_rank, exporter_rank, receiver_rank, numbers_by, notify_order, notify_state, made_has, gone_has}
 use Rattle.export_machine.proofs.Rows.{notify_there}
 
 -- the entries that messages make: none makes, removes or names a directory
@@ -39,20 +38,7 @@ is_quiet None = true
 is_quiet (Some e) = is_plain e.entry
 
 pub quiet_move : (r : ℕ) (m : Message) (e : ExporterState) (i : ImporterState) → is_quiet (move_entry r (move m e i)) ≡ true
-quiet_move r (Discover x) e Unknown = refl
-quiet_move r (DiscoverAck x) Discovering i = refl
-quiet_move r (Prep x) e Discovered = refl
-quiet_move r (PrepAck x) Preparing i = refl
-quiet_move r (Message.Export x) e Prepared = refl
-quiet_move r (ExportAck x) Exporting i = refl
-quiet_move r (Finish x) e Started = refl
-quiet_move r (Cancel x) e Unknown = refl
-quiet_move r (Cancel x) e Discovered = refl
-quiet_move r (Cancel x) e Prepared = refl
-quiet_move r (Cancel x) e Started = refl
-quiet_move r (Query x) Done i = refl
-quiet_move r (Query x) Aborted i = refl
-quiet_move r _ _ _ = refl
+quiet_move r m e i = grind arith
 
 apart : (m n : ℕ) → m ≢ n → eqb m n ≡ false
 apart m n h = grind arith
@@ -77,10 +63,7 @@ module _ (w : World) (r : ℕ) where
       (noting (importer_moves (exporter_moves w x v.exporter) x v.importer) v.entry (states v.exporter v.importer))
     where
       states : (e : Option ExporterState) (i : Option ImporterState) → (importer_moves (exporter_moves w x e) x i).journals ≡ w.journals
-      states None None = refl
-      states None (Some i) = refl
-      states (Some e) None = refl
-      states (Some e) (Some i) = refl
+      states e i = grind arith
 
       noting : (u : World) (o : Option JournalEntry) → u.journals ≡ w.journals → Grows (notes u a o) (noted a o)
       noting u None j = ap (λ (js : List (List JournalEntry)). get_or js r []) j
@@ -118,20 +101,29 @@ made_journals : (w : World) (o : Option ℕ) (e : JournalEntry) (ps ns : List (O
 made_journals w None e ps ns = refl
 made_journals w (Some a) e ps ns = refl
 
+-- a message names no directory
+module _ (w : World) where
+  pub delivered_named : (d : ℕ) (o : Option Message) → named_of w d ≡ named_by w d (delivered_entry w o)
+  delivered_named d None = refl
+  delivered_named d (Some m) = either (is_stopped w (receiver w m)) (row m)
+    where
+      either : (b : Bool) → named_of w d ≡ named_by w d (comes_entry w m) → named_of w d ≡ named_by w d (cond b None (comes_entry w m))
+      either true h = refl
+      either false h = h
+
+      plain : (k : ℕ) (e : JournalEntry) → is_plain e ≡ true → named_of w d ≡ named_by w d (Some (record { rank = k; entry = e }))
+      plain k e h = grind arith
+
+      by_entry : (o : Option Entry) → is_quiet o ≡ true → named_of w d ≡ named_by w d o
+      by_entry None h = refl
+      by_entry (Some e) h = plain e.rank e.entry h
+
+      row : (n : Message) → named_of w d ≡ named_by w d (comes_entry w n)
+      row n = by_entry (comes_entry w n) (quiet_move (receiver w n) n (exporter_of w (about n)) (importer_of w (about n)))
+
 module _ (w : World) (reached : IsReached w) where
   receiver_near : (k : ℕ) (m : Message) → slice_get w.sent k ≡ Some m → receiver w m < length w.journals
-  receiver_near k m h = go m (orders_by w reached (about m) (length w.orders) (λ safe. safe.tables.known k m h))
-    where
-      go : (n : Message) → about n < length w.orders → receiver w n < length w.journals
-      go (Discover x) l = importer_rank w reached x l
-      go (DiscoverAck x) l = exporter_rank w reached x l
-      go (Prep x) l = importer_rank w reached x l
-      go (PrepAck x) l = exporter_rank w reached x l
-      go (Message.Export x) l = importer_rank w reached x l
-      go (ExportAck x) l = exporter_rank w reached x l
-      go (Finish x) l = importer_rank w reached x l
-      go (Cancel x) l = importer_rank w reached x l
-      go (Query x) l = exporter_rank w reached x l
+  receiver_near k m h = receiver_rank w reached m (orders_by w reached (about m) (length w.orders) (λ safe. safe.tables.known k m h))
 
   happens_grows : (r : ℕ) (e : Event) → refusal w e ≡ None → Grows w r (happens w e).world (accepted_entry w e)
   unfolding happens
@@ -172,30 +164,6 @@ module _ (w : World) (reached : IsReached w) where
       outside false e l = refl
       outside true e l = (let near : d < length w.named = notify_there w reached x s d e in absurd (omega arith))
 
-  delivered_named : (d : ℕ) (o : Option Message) → named_of w d ≡ named_by w d (delivered_entry w o)
-  delivered_named d None = refl
-  delivered_named d (Some m) = either (is_stopped w (receiver w m)) (row m)
-    where
-      either : (b : Bool) → named_of w d ≡ named_by w d (comes_entry w m) → named_of w d ≡ named_by w d (cond b None (comes_entry w m))
-      either true h = refl
-      either false h = h
-
-      plain : (k : ℕ) (e : JournalEntry) → is_plain e ≡ true → named_of w d ≡ named_by w d (Some (record { rank = k; entry = e }))
-      plain k (JournalEntry.Started x) h = refl
-      plain k (JournalEntry.Exported x) h = refl
-      plain k (JournalEntry.Imported x) h = refl
-      plain k (JournalEntry.Dropped x) h = refl
-      plain k (JournalEntry.Made x) h = absurd (cc)
-      plain k (JournalEntry.Gone x) h = absurd (cc)
-      plain k (JournalEntry.Notified x) h = absurd (cc)
-
-      by_entry : (o : Option Entry) → is_quiet o ≡ true → named_of w d ≡ named_by w d o
-      by_entry None h = refl
-      by_entry (Some e) h = plain e.rank e.entry h
-
-      row : (n : Message) → named_of w d ≡ named_by w d (comes_entry w n)
-      row n = by_entry (comes_entry w n) (quiet_move (receiver w n) n (exporter_of w (about n)) (importer_of w (about n)))
-
   by_named : (o : Option ℕ) (e : JournalEntry) (ps ns : List (Option ℕ)) (d : ℕ) → named_of (record (journaled_by w o e) { parents = ps; named = ns }) d ≡ get_or ns d None
   by_named None e ps ns d = refl
   by_named (Some a) e ps ns d = refl
@@ -213,7 +181,7 @@ module _ (w : World) (reached : IsReached w) where
       made_named p d (authority w p) (λ a i. numbers_by w reached (length w.parents) (length w.named) (λ safe. safe.numbered))
       (some_rank (authority w p) ((made_has w p h).0, (made_has w p h).1))
   happens_named d (Event.Gone c) h = gone_named c d (authority w c) (some_rank (authority w c) (gone_has w c h))
-  happens_named d (Deliver k) h = ap (λ (ns : List (Option ℕ)). get_or ns d None) (delivered_frame w (slice_get w.sent k)).named ∙ delivered_named d (slice_get w.sent k)
+  happens_named d (Deliver k) h = ap (λ (ns : List (Option ℕ)). get_or ns d None) (delivered_frame w (slice_get w.sent k)).named ∙ delivered_named w d (slice_get w.sent k)
   happens_named d (Notify x) h = notified_named x d (notify_state w x h)
   happens_named d (Restart k) h = restart_named k d (is_stopped w k)
   happens_named d _ h = refl

@@ -8,7 +8,7 @@ use Rattle.export_machine.specs.Cluster.{World}
 use Rattle.export_machine.specs.Authority.{is_inside, from_of, to_of, exporter_of, importer_of, named_of, owns, IsAuthority, authority, any_below, first_below, is_holding, is_open, open_export, is_held_in, is_taking_over, serves, frozen_by}
 use Rattle.export_machine.specs.View.{IsReached}
 use Rattle.export_machine.proofs.Owning.{Phase, is_moving, is_over, place}
-use Rattle.export_machine.proofs.Owning.Phase.{Early, Held, Moving, Told, Over}
+use Rattle.export_machine.proofs.Owning.Phase.{Told, Over}
 use Rattle.export_machine.proofs.Safe.{Safe, phase_by, phase_of}
 use Rattle.export_machine.proofs.Lookups.{itself, any_some, any_here, first_none, first_some, inside_near, authority_is, open_over, taking_over, takes_over, no_open, one_authority, moving_open}
 use Rattle.export_machine.proofs.Authorities.{authority_found, found_or_not}
@@ -69,13 +69,7 @@ first_same (suc n) f g h = rw (first_same n f g (λ k l. h k (omega arith)), h n
 -- phases
 
 holding_phase : (e : ExporterState) (i : ImporterState) → is_holding e ≡ true → (is_over (phase_by e i) ≡ false) × (is_moving (phase_by e i) ≡ false)
-holding_phase Discovering i h = absurd (cc)
-holding_phase Freezing i h = (refl, refl)
-holding_phase Preparing i h = (refl, refl)
-holding_phase Exporting i h = (refl, refl)
-holding_phase Logged i h = absurd (cc)
-holding_phase Done i h = absurd (cc)
-holding_phase Aborted i h = absurd (cc)
+holding_phase e i h = (grind arith, grind arith)
 
 held_or_moving : (e : ExporterState) (i : ImporterState) → is_over (phase_by e i) ≡ false → e ≢ Discovering → (is_holding e ≡ true) ⊎ (is_moving (phase_by e i) ≡ true)
 held_or_moving Discovering i h n = absurd (n refl)
@@ -99,11 +93,7 @@ held_or_moving Done i h n = inr (told (phase_by Done i) (not_early i) h)
 held_or_moving Aborted i h n = absurd (cc)
 
 pub place_early : (p : Phase) (from to : ℕ) → is_moving p ≡ false → place from to p ≡ from
-place_early Early from to h = refl
-place_early Held from to h = refl
-place_early Moving from to h = refl
-place_early Told from to h = absurd (cc)
-place_early Over from to h = refl
+place_early p from to h = grind arith
 
 module _ (w : World) (safe : Safe w) where
   pub open_is : (d x : ℕ) → open_export w d ≡ Some x → (is_inside w x d ≡ true) × (is_over (phase_of w x) ≡ false)

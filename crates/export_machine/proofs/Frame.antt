@@ -10,7 +10,8 @@ use Rattle.export_machine.specs.declared.importer.ImporterState.{ImporterState}
 use Rattle.export_machine.specs.declared.message.Message.{Message}
 use Rattle.export_machine.specs.Cluster.{World}
 use Rattle.export_machine.specs.Authority.{exporter_of, importer_of, is_stopped, authority}
-use Rattle.export_machine.specs.Step.{Outcome, Move, move, about, exporter_moves, importer_moves, notes, replies, moved, acts, comes, receiver, delivered, ignored}
+use Rattle.export_machine.specs.declared.moves.Move.{Move}
+use Rattle.export_machine.specs.Step.{Outcome, move, about, exporter_moves, importer_moves, notes, replies, moved, acts, comes, receiver, delivered, ignored}
 
 -- a message that comes while the export is in this state at its exporter, or at its importer
 

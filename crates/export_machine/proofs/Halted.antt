@@ -104,45 +104,18 @@ unfolding causes
 stop_rank w rank h = leb-false w.ranks rank (not_refused _ _ (not_refused_causes w (Stop rank) h).0)
 
 pub before_stops : (s : ExporterState) → is_before_log s ≡ true → exporter_at_stop s ≡ Aborted
-before_stops Discovering h = refl
-before_stops Freezing h = refl
-before_stops Preparing h = refl
-before_stops Exporting h = refl
-before_stops Logged h = absurd (cc)
-before_stops Done h = absurd (cc)
-before_stops Aborted h = refl
+before_stops s h = grind arith
 
 pub others_stay : (s : ExporterState) → is_before_log s ≡ false → exporter_at_stop s ≡ s
-others_stay Discovering h = absurd (cc)
-others_stay Freezing h = absurd (cc)
-others_stay Preparing h = absurd (cc)
-others_stay Exporting h = absurd (cc)
-others_stay Logged h = refl
-others_stay Done h = refl
-others_stay Aborted h = refl
+others_stay s h = grind arith
 
 -- Stops go through the exports that are listed.
 
 exporter_twice : (s : ExporterState) → exporter_at_stop (exporter_at_stop s) ≡ exporter_at_stop s
-exporter_twice Discovering = refl
-exporter_twice Freezing = refl
-exporter_twice Preparing = refl
-exporter_twice Exporting = refl
-exporter_twice Logged = refl
-exporter_twice Done = refl
-exporter_twice Aborted = refl
+exporter_twice s = grind arith
 
 importer_twice : (d : Bool) (s : ImporterState) → importer_at_stop d (importer_at_stop d s) ≡ importer_at_stop d s
-importer_twice true Unknown = refl
-importer_twice false Unknown = refl
-importer_twice true Discovered = refl
-importer_twice false Discovered = refl
-importer_twice true Prepared = refl
-importer_twice false Prepared = refl
-importer_twice d Started = refl
-importer_twice d Imported = refl
-importer_twice true Dropped = refl
-importer_twice false Dropped = refl
+importer_twice d s = grind arith
 
 pub halted_twice : (b : Bool) (s : ExporterState) → cond b (exporter_at_stop (cond b (exporter_at_stop s) s)) (cond b (exporter_at_stop s) s) ≡ cond b (exporter_at_stop s) s
 halted_twice true s = exporter_twice s
@@ -161,14 +134,7 @@ not_halted true s h = others_stay s h
 not_halted false s h = refl
 
 not_left : (b d : Bool) (s : ImporterState) → (d ≡ true → s ≡ Dropped) → (b && is_passing s && not d) ≡ false → cond b (importer_at_stop d s) s ≡ s
-not_left false d s f h = refl
-not_left true true s f h = rw (f refl) refl
-not_left true false Unknown f h = refl
-not_left true false Started f h = refl
-not_left true false Imported f h = refl
-not_left true false Dropped f h = absurd (cc)
-not_left true false Discovered f h = absurd (cc)
-not_left true false Prepared f h = absurd (cc)
+not_left b d s f h = grind arith
 
 module _ (ranks : ℕ) (os : List Order) (es : List ExporterState) (is : List ImporterState) (js : List (List JournalEntry)) (ls : List (List ℕ)) (ns : List Bool) (l : AreListed ranks os es is js ls ns) (rank : ℕ) where
   pub unlisted_exporter : (x : ℕ) → is_among (get_or ls rank []) x ≡ false →
@@ -217,13 +183,7 @@ left_listed w i rank is = record { exports = is.listed.exports; imports = λ x h
     differ e = cc
 
     before : (d : Bool) (s : ImporterState) → is_passing (importer_at_stop d s) ≡ true → is_passing s ≡ true
-    before d Started h = absurd (cc)
-    before d Imported h = absurd (cc)
-    before true Unknown h = absurd (cc)
-    before false Unknown h = absurd (cc)
-    before d Discovered h = refl
-    before d Prepared h = refl
-    before d Dropped h = refl
+    before d s h = grind arith
 
     was : (x : ℕ) → is_passing (get_or (forgets rank w).importers x Unknown) ≡ true → is_passing (importer_of w x) ≡ true
     was x h = elim (cases_lt x (length w.importers)) [

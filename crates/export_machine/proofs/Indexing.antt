@@ -8,7 +8,7 @@ use Rattle.export_machine.specs.declared.importer.ImporterState.{ImporterState}
 use Rattle.export_machine.specs.declared.journal.JournalEntry.{JournalEntry}
 use Rattle.export_machine.specs.declared.event.Request.{Request}
 use Rattle.export_machine.specs.declared.message.Message.{Message}
-use Rattle.export_machine.specs.declared.exporter.ExporterState.TheVariants.{Discovering, Freezing, Preparing, Exporting, Logged, Done, Aborted}
+use Rattle.export_machine.specs.declared.exporter.ExporterState.TheVariants.{Freezing, Preparing, Aborted}
 use Rattle.export_machine.specs.Cluster.{World}
 use Rattle.mds_types.specs.declared.order.Order.{Order}
 use Rattle.export_machine.specs.Authority.{no_order, is_among, is_inside, from_of, to_of, exporter_of, importer_of, named_of, has, is_same, authority, first_below, is_open, is_aborted, open_export, runs_on}
@@ -189,13 +189,7 @@ froze_indexed w i x is e ms = same_indexed w (record (exporter_to w x Preparing)
 -- Abort
 
 pub before_over : (e : ExporterState) (j : ImporterState) → is_before_log e ≡ true → is_over (phase_by e j) ≡ false
-before_over Discovering j h = refl
-before_over Freezing j h = refl
-before_over Preparing j h = refl
-before_over Exporting j h = refl
-before_over Logged j h = absurd (cc)
-before_over Done j h = absurd (cc)
-before_over Aborted j h = absurd (cc)
+before_over e j h = grind arith
 
 pub abort_there : (w : World) → Safely w → (x : ℕ) → is_before_log (exporter_of w x) ≡ true → (d : ℕ) → is_inside w x d ≡ true → d < length w.parents
 abort_there w r x b d i = orders_safely w r d (length w.parents) (λ safe. inside_there w safe x (before_over (exporter_of w x) (importer_of w x) b) d i)

@@ -24,6 +24,7 @@ pub mod Marks
 pub mod Rows
 pub mod ByRank
 pub mod Receiving
+pub mod Moving
 pub mod Growing
 pub mod Starting
 pub mod Bounds

@@ -5,8 +5,7 @@ use Rattle.std.proofs.lemmas.Bool.{cases_Bool, and_from, and_parts, leb-false, n
 use Rattle.std.proofs.lemmas.List.Recursion.{is_count_by}
 use Rattle.export_machine.specs.declared.exporter.ExporterState.{ExporterState}
 use Rattle.export_machine.specs.declared.importer.ImporterState.{ImporterState}
-use Rattle.export_machine.specs.declared.exporter.ExporterState.TheVariants.{Discovering, Freezing, Preparing, Exporting, Logged, Done, Aborted}
-use Rattle.export_machine.specs.declared.importer.ImporterState.TheVariants.{Unknown, Discovered, Prepared, Started, Imported, Dropped}
+use Rattle.export_machine.specs.declared.exporter.ExporterState.TheVariants.{Freezing}
 use Rattle.export_machine.specs.declared.event.Request.{Request}
 use Rattle.export_machine.specs.declared.step_error.StepError.{StepError}
 use Rattle.export_machine.specs.Cluster.{World}
@@ -76,18 +75,7 @@ same_some a b e = cc
 -- exports before the log entry
 
 before_is : (e : ExporterState) (i : ImporterState) → is_over (phase_by e i) ≡ false → is_moving (phase_by e i) ≡ false → is_before_log e ≡ true
-before_is Discovering i h k = refl
-before_is Freezing i h k = refl
-before_is Preparing i h k = refl
-before_is Exporting i h k = refl
-before_is Logged i h k = absurd (cc)
-before_is Done Unknown h k = absurd (cc)
-before_is Done Discovered h k = absurd (cc)
-before_is Done Prepared h k = absurd (cc)
-before_is Done Started h k = absurd (cc)
-before_is Done Imported h k = absurd (cc)
-before_is Done Dropped h k = absurd (cc)
-before_is Aborted i h k = absurd (cc)
+before_is e i h k = grind arith
 
 module _ (w : World) (safe : Safe w) where
   leaves : (r d : ℕ) → is_leaving w r d ≡ true → (x : ℕ) × (is_before_log (exporter_of w x) ≡ true) × (is_inside w x d ≡ true)

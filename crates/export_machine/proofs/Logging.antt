@@ -1,14 +1,13 @@
 -- Which event logs an export.
-use Rattle.std.proofs.Common.{◌≡◌, ◌≢◌, ℕ, Bool, true, false, cond, Option, Some, None, Ok, Err, Result, refl, sym}
+use Rattle.std.proofs.Common.{◌≡◌, ◌≢◌, ℕ, Bool, true, false, cond, Option, Some, None, Ok, Err, Result, refl, sym, arith}
 use Rattle.std.specs.Result.{is_ok}
 use Rattle.std.specs.List.{slice_get}
 use Rattle.export_machine.specs.declared.exporter.ExporterState.{ExporterState}
 use Rattle.export_machine.specs.declared.importer.ImporterState.{ImporterState}
 use Rattle.export_machine.specs.declared.message.Message.{Message}
 use Rattle.export_machine.specs.declared.step_error.StepError.{StepError}
-use Rattle.export_machine.specs.declared.exporter.ExporterState.TheVariants.{Discovering, Preparing, Exporting, Done, Aborted}
-use Rattle.export_machine.specs.declared.importer.ImporterState.TheVariants.{Unknown, Discovered, Prepared, Started}
-use Rattle.export_machine.specs.declared.message.Message.TheVariants.{Discover, DiscoverAck, Prep, PrepAck, ExportAck, Finish, Cancel, Query}
+use Rattle.export_machine.specs.declared.exporter.ExporterState.TheVariants.{Exporting}
+use Rattle.export_machine.specs.declared.message.Message.TheVariants.{ExportAck}
 use Rattle.export_machine.specs.declared.event.Event.{Event}
 use Rattle.export_machine.specs.declared.journal.JournalEntry.{JournalEntry}
 use Rattle.export_machine.specs.Cluster.{World}
@@ -38,20 +37,7 @@ module _ (w : World) where
   either_not false o h = sym h
 
   message_not : (m : Message) (e : ExporterState) (i : ImporterState) → ((x : ℕ) → m ≡ ExportAck x → ⊥) → is_log (move_entry (receiver w m) (move m e i)) ≡ false
-  message_not (ExportAck x) e i n = absurd (n x refl)
-  message_not (Discover x) e Unknown n = refl
-  message_not (DiscoverAck x) Discovering i n = refl
-  message_not (Prep x) e Discovered n = refl
-  message_not (PrepAck x) Preparing i n = refl
-  message_not (Message.Export x) e Prepared n = refl
-  message_not (Finish x) e Started n = refl
-  message_not (Cancel x) e Unknown n = refl
-  message_not (Cancel x) e Discovered n = refl
-  message_not (Cancel x) e Prepared n = refl
-  message_not (Cancel x) e Started n = refl
-  message_not (Query x) Done i n = refl
-  message_not (Query x) Aborted i n = refl
-  message_not _ _ _ n = refl
+  message_not m e i n = grind arith
 
   pub other_message : (m : Message) → ((x : ℕ) → m ≡ ExportAck x → ⊥) → false ≡ is_log (delivered_entry w (Some m))
   other_message m n = either_not (is_stopped w (receiver w m)) (comes_entry w m) (message_not m (exporter_of w (about m)) (importer_of w (about m)) n)

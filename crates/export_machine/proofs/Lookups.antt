@@ -4,8 +4,6 @@ use Rattle.export_machine.specs.declared.exporter.ExporterState.{ExporterState}
 use Rattle.export_machine.specs.declared.importer.ImporterState.{ImporterState}
 use Rattle.export_machine.specs.declared.journal.JournalEntry.{JournalEntry}
 use Rattle.export_machine.specs.Cluster.{World}
-use Rattle.export_machine.specs.declared.exporter.ExporterState.TheVariants.{Discovering, Freezing, Preparing, Exporting, Logged, Done, Aborted}
-use Rattle.export_machine.specs.declared.importer.ImporterState.TheVariants.{Unknown, Discovered, Prepared, Started, Imported, Dropped}
 use Rattle.export_machine.specs.Authority.{no_order, is_among, is_inside, from_of, to_of, exporter_of, importer_of, named_of, has, owns, is_importing, is_taking_over, IsAuthority, any_below, first_below, or_else, is_authority, authority, is_open, is_aborted, open_export}
 use Rattle.export_machine.specs.Step.{is_started}
 use Rattle.export_machine.proofs.Owning.{Phase, is_moving, is_over}
@@ -81,30 +79,13 @@ pub itself : (n : ℕ) → eqb n n ≡ true
 itself n = grind arith
 
 open_phase : (e : ExporterState) (i : ImporterState) → together e i ≡ true → (not (is_aborted e) && not (is_imported i)) ≡ not (is_over (phase_by e i))
-open_phase Discovering i h = grind arith
-open_phase Freezing i h = grind arith
-open_phase Preparing i h = grind arith
-open_phase Exporting i h = grind arith
-open_phase Logged i h = grind arith
-open_phase Done i h = grind arith
-open_phase Aborted i h = refl
+open_phase e i h = grind arith
 
 taking_phase : (e : ExporterState) (i : ImporterState) → is_started i ≡ true → is_committed e ≡ true → is_moving (phase_by e i) ≡ true
 taking_phase e i h k = grind arith
 
 moving_states : (e : ExporterState) (i : ImporterState) → together e i ≡ true → is_moving (phase_by e i) ≡ true → (is_started i ≡ true) × (is_committed e ≡ true)
-moving_states Discovering i h k = absurd (cc)
-moving_states Freezing i h k = absurd (cc)
-moving_states Preparing i h k = absurd (cc)
-moving_states Exporting i h k = absurd (cc)
-moving_states Logged i h k = (h, refl)
-moving_states Done Started h k = (refl, refl)
-moving_states Done Unknown h k = absurd (cc)
-moving_states Done Discovered h k = absurd (cc)
-moving_states Done Prepared h k = absurd (cc)
-moving_states Done Imported h k = absurd (cc)
-moving_states Done Dropped h k = absurd (cc)
-moving_states Aborted i h k = absurd (cc)
+moving_states e i h k = (grind arith, grind arith)
 
 pub moving_open : (p : Phase) → is_moving p ≡ true → is_over p ≡ false
 moving_open p h = grind arith

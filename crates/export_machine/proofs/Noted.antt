@@ -47,13 +47,7 @@ and_none : (b : Bool) → (b && false) ≡ false
 and_none b = grind arith
 
 plain_made : (e : JournalEntry) (d : ℕ) → is_plain e ≡ true → (is_same e (JournalEntry.Made d) ≡ false) × (is_same e (JournalEntry.Gone d) ≡ false)
-plain_made (JournalEntry.Made c) d h = absurd (cc)
-plain_made (JournalEntry.Gone c) d h = absurd (cc)
-plain_made (JournalEntry.Started x) d h = (refl, refl)
-plain_made (JournalEntry.Exported x) d h = (refl, refl)
-plain_made (JournalEntry.Notified x) d h = absurd (cc)
-plain_made (JournalEntry.Imported x) d h = (refl, refl)
-plain_made (JournalEntry.Dropped x) d h = (refl, refl)
+plain_made e d h = (grind arith, grind arith)
 
 quiet_adds : (o : Option Entry) → is_quiet o ≡ true → (r d : ℕ) → (adds r o (JournalEntry.Made d) ≡ false) × (adds r o (JournalEntry.Gone d) ≡ false)
 quiet_adds None q r d = (refl, refl)

@@ -1,14 +1,14 @@
 -- What a rank can rely on where a message comes.
-use Rattle.std.proofs.Common.{◌≡◌, ◌<◌, length, get_or, sym, arith}
+use Rattle.std.proofs.Common.{◌≡◌, ◌<◌, ℕ, true, length, sym, arith}
 use Rattle.std.proofs.lemmas.List.{length-map}
 use Rattle.export_machine.specs.declared.message.Message.{Message}
 use Rattle.export_machine.specs.declared.records.Records.{Records}
-use Rattle.export_machine.specs.Authority.{from_of, to_of}
+use Rattle.export_machine.specs.Authority.{from_of, to_of, is_inside}
 use Rattle.export_machine.specs.Kept.{world_of, indexes_of, CanReceive}
-use Rattle.export_machine.specs.Step.{about}
+use Rattle.export_machine.specs.Step.{about, receiver}
 use Rattle.export_machine.proofs.Found.{orders_by}
-use Rattle.export_machine.proofs.Accepted.{numbers_by, as_importer, exporter_rank, importer_rank, from_here, to_here}
-use Rattle.mds_types.specs.declared.order.Order.{Order}
+use Rattle.export_machine.proofs.Accepted.{numbers_by, as_importer, exporter_rank, importer_rank, receiver_rank}
+use Rattle.export_machine.proofs.Noted.{are_made}
 
 module _ (r : Records) (m : Message) (can : CanReceive r m) where
   pub known_order : about m < length (world_of r).orders
@@ -26,21 +26,11 @@ module _ (r : Records) (m : Message) (can : CanReceive r m) where
   pub from_rank : from_of (world_of r) (about m) < length (world_of r).journals
   from_rank = exporter_rank (world_of r) can.kept.reached (about m) known_order
 
-  pub to_is : (o : Order) → o ≡ get_or r.orders.items (about m) o → to_of (world_of r) (about m) ≡ o.to
-  to_is o e = to_here r.orders.items (about m) o known e
+  here_rank : receiver (world_of r) m < length (world_of r).journals
+  here_rank = receiver_rank (world_of r) can.kept.reached m known_order
 
-  pub from_is : (o : Order) → o ≡ get_or r.orders.items (about m) o → from_of (world_of r) (about m) ≡ o.from
-  from_is o e = from_here r.orders.items (about m) o known e
-
-  pub to_near : (o : Order) → o ≡ get_or r.orders.items (about m) o → o.to < length r.journals.items
-  to_near o e =
-      let k : o.to < length (world_of r).journals = rw (← to_is o e) to_rank in
-      omega (arith, length-map r.journals.items (λ j. j.items))
-
-  pub from_near : (o : Order) → o ≡ get_or r.orders.items (about m) o → o.from < length r.journals.items
-  from_near o e =
-      let k : o.from < length (world_of r).journals = rw (← from_is o e) from_rank in
-      omega (arith, length-map r.journals.items (λ j. j.items))
+  pub here_journal : receiver (world_of r) m < length r.journals.items
+  here_journal = let k : receiver (world_of r) m < length (world_of r).journals = here_rank in omega (arith, length-map r.journals.items (λ j. j.items))
 
   -- as many lists of exports as journals
   pub as_lists : length r.open_at.items ≡ length r.journals.items
@@ -48,14 +38,18 @@ module _ (r : Records) (m : Message) (can : CanReceive r m) where
       let ranks : (world_of r).ranks ≡ length (world_of r).journals = numbers_by (world_of r) can.kept.reached _ _ (λ safe. sym safe.all_ranks) in
       omega (arith, can.kept.indexed.listed.ranked, length-map r.open_at.items (λ l. l.items), length-map r.journals.items (λ j. j.items))
 
-  pub to_list : (o : Order) → o ≡ get_or r.orders.items (about m) o → o.to < length r.open_at.items
-  to_list o e = let k : o.to < length r.journals.items = to_near o e in omega (arith, as_lists)
+  pub here_list : receiver (world_of r) m < length r.open_at.items
+  here_list = let k : receiver (world_of r) m < length r.journals.items = here_journal in omega (arith, as_lists)
+
+  -- each of the export's directories has its places
+  pub inside_owned : (d : ℕ) → is_inside (world_of r) (about m) d ≡ true → d < length r.owners.items
+  inside_owned d h = rw can.kept.indexed.owner_places (are_made (world_of r) can.kept.reached (about m) d h)
+
+  pub inside_opened : (d : ℕ) → is_inside (world_of r) (about m) d ≡ true → d < length r.opened.items
+  inside_opened d h = rw can.kept.indexed.opened_places (are_made (world_of r) can.kept.reached (about m) d h)
 
   pub to_listed : to_of (world_of r) (about m) < length (indexes_of r).open_at
   to_listed = let k : to_of (world_of r) (about m) < length (world_of r).journals = to_rank in omega (arith, as_lists, length-map r.open_at.items (λ l. l.items), length-map r.journals.items (λ j. j.items))
-
-  pub from_list : (o : Order) → o ≡ get_or r.orders.items (about m) o → o.from < length r.open_at.items
-  from_list o e = let k : o.from < length r.journals.items = from_near o e in omega (arith, as_lists)
 
   pub as_exporters : length r.exporters.items ≡ length r.orders.items
   as_exporters = numbers_by (world_of r) can.kept.reached (length r.exporters.items) (length r.orders.items) (λ safe. safe.exporting)

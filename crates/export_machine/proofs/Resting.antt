@@ -15,7 +15,8 @@ use Rattle.export_machine.specs.declared.message.Message.TheVariants.{Discover, 
 use Rattle.export_machine.specs.Cluster.{World}
 use Rattle.mds_types.specs.declared.order.Order.{Order}
 use Rattle.export_machine.specs.Authority.{order_in, no_order, from_of, to_of, exporter_of, importer_of, journal_of, has, has_entry, authority, is_stopped}
-use Rattle.export_machine.specs.Step.{step, answered, refusal, causes, happens, counted, receiver, run, start, journaled_by, importer_to, changed, ignored, stops, restarts, comes, delivered, exporter_by_journal, importer_by_journal, authority_stopped, Move, move, acts, about}
+use Rattle.export_machine.specs.declared.moves.Move.{Move}
+use Rattle.export_machine.specs.Step.{step, answered, refusal, causes, happens, counted, receiver, run, start, journaled_by, changed, ignored, stops, restarts, comes, delivered, exporter_by_journal, importer_by_journal, authority_stopped, move, acts, about}
 use Rattle.export_machine.specs.declared.event.Event.{Event}
 use Rattle.export_machine.specs.Kept.{exporter_at_stop, importer_at_stop}
 use Rattle.export_machine.specs.declared.event.Event.TheVariants.{Begin, End, Start, Deliver, Froze, Notify, Abort, Stop, Restart, Ask}
@@ -40,20 +41,13 @@ pub record Rested (w : World) : Type 0 where
   pub imports : (x : ℕ) → is_stopped w (to_of w x) ≡ true → importer_at_stop (has w (to_of w x) (JournalEntry.Dropped x)) (importer_of w x) ≡ importer_of w x
 
 told_exporter : (n e : Bool) → exporter_at_stop (cond n Done (cond e Logged Aborted)) ≡ cond n Done (cond e Logged Aborted)
-told_exporter true e = refl
-told_exporter false true = refl
-told_exporter false false = refl
+told_exporter n e = grind arith
 
 told_importer : (m d s : Bool) → importer_at_stop d (cond m Imported (cond d Dropped (cond s Started Unknown))) ≡ cond m Imported (cond d Dropped (cond s Started Unknown))
-told_importer true true s = refl
-told_importer true false s = refl
-told_importer false true s = refl
-told_importer false false true = refl
-told_importer false false false = refl
+told_importer m d s = grind arith
 
 unknown_rests : (b : Bool) → importer_at_stop b Unknown ≡ Unknown
-unknown_rests true = refl
-unknown_rests false = refl
+unknown_rests b = grind arith
 
 -- a rank that runs isn't one that is stopped
 differs : (w : World) (r s : ℕ) → is_stopped w r ≡ false → is_stopped w s ≡ true → r ≢ s
@@ -110,17 +104,17 @@ module _ (w : World) where
   -- a message changes a state at its receiver alone
 
   comes_rests : (m : Message) (e : ExporterState) (i : ImporterState) → is_stopped w (receiver w m) ≡ false → Rests w (acts w m (move m e i)).world
-  comes_rests (Discover x) e Unknown up = import_changes (acts w (Discover x) (move (Discover x) e Unknown)).world x Discovered up refl refl refl refl
-  comes_rests (Prep x) e Discovered up = import_changes (acts w (Prep x) (move (Prep x) e Discovered)).world x Prepared up refl refl refl refl
-  comes_rests (Message.Export x) e Prepared up = import_changes (acts w (Message.Export x) (move (Message.Export x) e Prepared)).world x Started up refl refl refl refl
-  comes_rests (Finish x) e Started up = import_changes (acts w (Finish x) (move (Finish x) e Started)).world x Imported up refl refl refl refl
-  comes_rests (Cancel x) e Unknown up = import_changes (importer_to w x Dropped) x Dropped up refl refl refl refl
-  comes_rests (Cancel x) e Discovered up = import_changes (importer_to w x Dropped) x Dropped up refl refl refl refl
-  comes_rests (Cancel x) e Prepared up = import_changes (importer_to w x Dropped) x Dropped up refl refl refl refl
-  comes_rests (Cancel x) e Started up = import_changes (acts w (Cancel x) (move (Cancel x) e Started)).world x Dropped up refl refl refl refl
-  comes_rests (DiscoverAck x) Discovering i up = export_changes (acts w (DiscoverAck x) (move (DiscoverAck x) Discovering i)).world x Freezing up refl refl refl refl
-  comes_rests (PrepAck x) Preparing i up = export_changes (acts w (PrepAck x) (move (PrepAck x) Preparing i)).world x Exporting up refl refl refl refl
-  comes_rests (ExportAck x) Exporting i up = export_changes (acts w (ExportAck x) (move (ExportAck x) Exporting i)).world x Logged up refl refl refl refl
+  comes_rests (Discover x) e Unknown up = import_changes _ x Discovered up refl refl refl refl
+  comes_rests (Prep x) e Discovered up = import_changes _ x Prepared up refl refl refl refl
+  comes_rests (Message.Export x) e Prepared up = import_changes _ x Started up refl refl refl refl
+  comes_rests (Finish x) e Started up = import_changes _ x Imported up refl refl refl refl
+  comes_rests (Cancel x) e Unknown up = import_changes _ x Dropped up refl refl refl refl
+  comes_rests (Cancel x) e Discovered up = import_changes _ x Dropped up refl refl refl refl
+  comes_rests (Cancel x) e Prepared up = import_changes _ x Dropped up refl refl refl refl
+  comes_rests (Cancel x) e Started up = import_changes _ x Dropped up refl refl refl refl
+  comes_rests (DiscoverAck x) Discovering i up = export_changes _ x Freezing up refl refl refl refl
+  comes_rests (PrepAck x) Preparing i up = export_changes _ x Exporting up refl refl refl refl
+  comes_rests (ExportAck x) Exporting i up = export_changes _ x Logged up refl refl refl refl
   comes_rests (Query x) Done i up = record { orders = refl; stopped = refl; exporter = λ y h. refl; importer = λ y h. refl }
   comes_rests (Query x) Aborted i up = record { orders = refl; stopped = refl; exporter = λ y h. refl; importer = λ y h. refl }
   comes_rests _ _ _ up = same

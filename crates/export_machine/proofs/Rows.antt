@@ -7,7 +7,7 @@ use Rattle.export_machine.specs.declared.importer.ImporterState.{ImporterState}
 use Rattle.export_machine.specs.declared.journal.JournalEntry.{JournalEntry}
 use Rattle.export_machine.specs.declared.message.Message.{Message}
 use Rattle.export_machine.specs.declared.exporter.ExporterState.TheVariants.{Exporting, Logged, Done, Aborted}
-use Rattle.export_machine.specs.declared.importer.ImporterState.TheVariants.{Unknown, Discovered, Prepared, Started, Imported, Dropped}
+use Rattle.export_machine.specs.declared.importer.ImporterState.TheVariants.{Prepared, Started, Imported, Dropped}
 use Rattle.export_machine.specs.declared.message.Message.TheVariants.{ExportAck, Finish, Cancel}
 use Rattle.export_machine.specs.Cluster.{World}
 use Rattle.export_machine.specs.Authority.{is_inside, from_of, to_of, exporter_of, importer_of, has, owns, owned_after, is_same, authority, is_open, is_aborted, open_export}
@@ -108,9 +108,6 @@ pub log_started : (w : World) → Safe w → (x k : ℕ) → exporter_of w x ≡
 log_started w safe x k e m =
     ack_started (importer_of w x) (has w (to_of w x) (JournalEntry.Dropped x)) (rw e at (safe.tables.paired x)) (safe.tables.acked k x m) (λ d. (safe.tables.dropped (to_of w x) x d).1)
 
-pub log_there : (w : World) → IsReached w → (x : ℕ) → exporter_of w x ≡ Exporting → (d : ℕ) → is_inside w x d ≡ true → d < length w.parents
-log_there w r x e d i = orders_by w r d (length w.parents) (λ safe. inside_there w safe x (rw e refl) d i)
-
 module _ (w : World) (x k : ℕ) (was : exporter_of w x ≡ Exporting) (sent : slice_get w.sent k ≡ Some (ExportAck x)) (ranked : from_of w x < length w.journals) where
   abbrev pub logged : World
   logged = journals (exporter_to w x Logged) (from_of w x) (JournalEntry.Exported x)
@@ -147,9 +144,6 @@ module _ (w : World) (x k : ℕ) (was : exporter_of w x ≡ Exporting) (sent : s
 
 told_open : (w : World) (x : ℕ) → exporter_of w x ≡ Done → importer_of w x ≡ Started → is_over (phase_of w x) ≡ false
 told_open w x e f = rw (e, f) refl
-
-pub finish_there : (w : World) → IsReached w → (x k : ℕ) → importer_of w x ≡ Started → slice_get w.sent k ≡ Some (Finish x) → (d : ℕ) → is_inside w x d ≡ true → d < length w.parents
-finish_there w r x k was sent d i = orders_by w r d (length w.parents) (λ safe. inside_there w safe x (told_open w x (safe.tables.finish k x sent) was) d i)
 
 module _ (w : World) (x k : ℕ) (was : importer_of w x ≡ Started) (sent : slice_get w.sent k ≡ Some (Finish x)) (ranked : to_of w x < length w.journals) where
   abbrev pub finished : World
@@ -221,12 +215,7 @@ module _ (w : World) (x : ℕ) (was : exporter_of w x ≡ Logged) (ranked : from
       started = rw was at (safe.tables.paired x)
 
       told : (i : ImporterState) → is_started i ≡ true → is_moving (phase_by Done i) ≡ true
-      told Unknown h = absurd (cc)
-      told Discovered h = absurd (cc)
-      told Prepared h = absurd (cc)
-      told Started h = refl
-      told Imported h = absurd (cc)
-      told Dropped h = absurd (cc)
+      told i h = grind arith
 
       forth : (y : ℕ) → is_moving (phase_of w y) ≡ true → is_moving (phase_of (exporter_to w x Done) y) ≡ true
       forth y m = elim (cases_eq y x) [

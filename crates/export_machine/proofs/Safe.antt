@@ -36,38 +36,16 @@ phase_by Done Dropped = Told
 phase_by Aborted i = Over
 
 pub before_moving : (e : ExporterState) (i : ImporterState) → is_before_log e ≡ true → is_moving (phase_by e i) ≡ false
-before_moving Discovering i h = refl
-before_moving Freezing i h = refl
-before_moving Preparing i h = refl
-before_moving Exporting i h = refl
-before_moving Logged i h = cc
-before_moving Done i h = cc
-before_moving Aborted i h = refl
+before_moving e i h = grind arith
 
 pub told : (i : ImporterState) → is_imported i ≡ false → phase_by Done i ≡ Told
-told Unknown h = refl
-told Discovered h = refl
-told Prepared h = refl
-told Started h = refl
-told Imported h = cc
-told Dropped h = refl
+told i h = grind arith
 
 pub told_started : (i : ImporterState) → is_started i ≡ true → phase_by Done i ≡ Told
-told_started Unknown h = refl
-told_started Discovered h = refl
-told_started Prepared h = refl
-told_started Started h = refl
-told_started Imported h = cc
-told_started Dropped h = refl
+told_started i h = grind arith
 
 pub same_phase : (e : ExporterState) (i j : ImporterState) → is_imported i ≡ false → is_imported j ≡ false → phase_by e j ≡ phase_by e i
-same_phase Discovering i j h k = refl
-same_phase Freezing i j h k = refl
-same_phase Preparing i j h k = refl
-same_phase Exporting i j h k = refl
-same_phase Logged i j h k = refl
-same_phase Done i j h k = told j k ∙ sym (told i h)
-same_phase Aborted i j h k = refl
+same_phase e i j h k = grind arith
 
 abbrev pub phase_of : World → ℕ → Phase
 phase_of w x = phase_by (exporter_of w x) (importer_of w x)

@@ -1,5 +1,5 @@
 -- A stop and a restart keep the invariant.
-use Rattle.std.proofs.Common.{◌≡◌, ℕ, Bool, true, false, ◌&&◌, not, eqb, cond, List, length, get_or, Option, Some, None, refl, sym, ◌∙◌, subst, inl, inr, ◌⊎◌}
+use Rattle.std.proofs.Common.{◌≡◌, ℕ, Bool, true, false, ◌&&◌, not, eqb, cond, List, length, get_or, Option, Some, None, refl, sym, ◌∙◌, subst, inl, inr, ◌⊎◌, arith}
 use Rattle.export_machine.specs.declared.exporter.ExporterState.{ExporterState}
 use Rattle.export_machine.specs.declared.importer.ImporterState.{ImporterState}
 use Rattle.export_machine.specs.declared.journal.JournalEntry.{JournalEntry}
@@ -98,38 +98,11 @@ module _ (w : World) (safe : Safe w) (rank : ℕ) where
 -- A restarted rank's states by its journal are those that a stop would leave.
 
 journal_exporter : (s : ExporterState) (n e : Bool) → n ≡ is_done s → e ≡ is_committed s → cond n Done (cond e Logged Aborted) ≡ exporter_at_stop s
-journal_exporter Discovering n e h k = rw (h, k) refl
-journal_exporter Freezing n e h k = rw (h, k) refl
-journal_exporter Preparing n e h k = rw (h, k) refl
-journal_exporter Exporting n e h k = rw (h, k) refl
-journal_exporter Logged n e h k = rw (h, k) refl
-journal_exporter Done n e h k = rw h refl
-journal_exporter Aborted n e h k = rw (h, k) refl
+journal_exporter s n e h k = grind arith
 
 journal_importer : (i : ImporterState) (s m d : Bool) → m ≡ is_imported i → (s && not m && not d) ≡ is_started i → (d ≡ true → i ≡ Dropped) →
     cond m Imported (cond d Dropped (cond s Started Unknown)) ≡ importer_at_stop d i
-journal_importer Unknown s true d h k l = absurd (cc)
-journal_importer Unknown s false true h k l = absurd (cc (l refl))
-journal_importer Unknown true false false h k l = absurd (cc)
-journal_importer Unknown false false false h k l = refl
-journal_importer Discovered s true d h k l = absurd (cc)
-journal_importer Discovered s false true h k l = absurd (cc (l refl))
-journal_importer Discovered true false false h k l = absurd (cc)
-journal_importer Discovered false false false h k l = refl
-journal_importer Prepared s true d h k l = absurd (cc)
-journal_importer Prepared s false true h k l = absurd (cc (l refl))
-journal_importer Prepared true false false h k l = absurd (cc)
-journal_importer Prepared false false false h k l = refl
-journal_importer Started s true d h k l = absurd (cc)
-journal_importer Started s false true h k l = absurd (cc (l refl))
-journal_importer Started true false false h k l = refl
-journal_importer Started false false false h k l = absurd (cc)
-journal_importer Imported s true d h k l = refl
-journal_importer Imported s false d h k l = absurd (cc)
-journal_importer Dropped s true d h k l = absurd (cc)
-journal_importer Dropped s false true h k l = refl
-journal_importer Dropped true false false h k l = absurd (cc)
-journal_importer Dropped false false false h k l = refl
+journal_importer i s m d h k l = grind arith
 
 module _ (w : World) (safe : Safe w) (rank : ℕ) where
   pub exporter_journaled : (x : ℕ) → exporter_by_journal w (from_of w x) x ≡ exporter_at_stop (exporter_of w x)

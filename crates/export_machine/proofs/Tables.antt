@@ -40,13 +40,7 @@ together Exporting i = not (is_imported i) && not (is_dropped i)
 
 -- before the log entry
 pub early_pair : (e : ExporterState) (i : ImporterState) → is_before_log e ≡ true → together e i ≡ (not (is_imported i) && not (is_dropped i))
-early_pair Discovering i h = refl
-early_pair Freezing i h = refl
-early_pair Preparing i h = refl
-early_pair Exporting i h = refl
-early_pair Logged i h = grind arith
-early_pair Done i h = grind arith
-early_pair Aborted i h = grind arith
+early_pair e i h = grind arith
 
 pub early_committed : (e : ExporterState) → is_before_log e ≡ true → is_committed e ≡ false
 early_committed e h = grind arith
@@ -416,10 +410,4 @@ module _ (count : ℕ) (from to : ℕ → ℕ) (exporter : ℕ → ExporterState
       only a b c i j k = grind arith
 
       unknown_pair : (e : ExporterState) (i : ImporterState) → is_started i ≡ false → is_imported i ≡ false → together e i ≡ true → together e Unknown ≡ true
-      unknown_pair Discovering i h k l = refl
-      unknown_pair Freezing i h k l = refl
-      unknown_pair Preparing i h k l = refl
-      unknown_pair Exporting i h k l = refl
-      unknown_pair Logged i h k l = absurd (cc)
-      unknown_pair Done i h k l = grind arith
-      unknown_pair Aborted i h k l = refl
+      unknown_pair e i h k l = grind arith

@@ -1,5 +1,6 @@
 -- Who owns, has authority over and serves a directory, by the journals.
-use Rattle.std.specs.Prelude.{◌≡◌, ℕ, zero, suc, Bool, true, false, ◌&&◌, ◌||◌, not, ◌==◌, List, [], ◌∷◌, length, Option, Some, None, is_some, slice_index_or, if◌then◌else◌, ◌⊎◌}
+use Rattle.std.specs.Prelude.{◌≡◌, ℕ, zero, suc, Bool, true, false, ◌&&◌, ◌||◌, not, ◌==◌, List, [], ◌∷◌}
+use Rattle.std.specs.Prelude.{length, Option, Some, None, is_some, slice_index_or, if◌then◌else◌, ◌⊎◌}
 use Rattle.std.specs.List.{list_any}
 use Rattle.export_machine.specs.declared.exporter.ExporterState.{ExporterState}
 use Rattle.export_machine.specs.declared.importer.ImporterState.{ImporterState}
@@ -88,7 +89,9 @@ owns w r d = owned_by w.orders d false (journal_of w r)
 
 -- rank r's journal has `Started(x)` with neither `Imported(x)` nor `Dropped(x)`
 abbrev pub is_importing : World → ℕ → ℕ → Bool
-is_importing w r x = has w r (JournalEntry.Started x) && not (has w r (JournalEntry.Imported x)) && not (has w r (JournalEntry.Dropped x))
+is_importing w r x =
+    has w r (JournalEntry.Started x) && not (has w r (JournalEntry.Imported x))
+    && not (has w r (JournalEntry.Dropped x))
 
 -- rank r is importing x, which its exporter's journal has as `Exported(x)`
 abbrev pub is_taking_over : World → ℕ → ℕ → Bool

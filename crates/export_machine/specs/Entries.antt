@@ -1,11 +1,14 @@
 -- What an event leaves: at most one entry in one journal, and by it the map and the tree.
-use Rattle.std.specs.Prelude.{◌≡◌, ◌↔◌, ◌<◌, ℕ, Bool, true, false, ◌==◌, List, [], ◌∷◌, ◌++◌, length, Option, Some, None, slice_get, slice_set, if◌then◌else◌}
+use Rattle.std.specs.Prelude.{◌≡◌, ◌↔◌, ◌<◌, ℕ, Bool, true, false, ◌==◌, List, [], ◌∷◌, ◌++◌, length, Option, Some}
+use Rattle.std.specs.Prelude.{None, slice_get, slice_set, if◌then◌else◌}
 use Rattle.export_machine.specs.declared.journal.JournalEntry.{JournalEntry}
 use Rattle.export_machine.specs.declared.message.Message.{Message}
 use Rattle.export_machine.specs.declared.step_error.StepError.{StepError}
 use Rattle.export_machine.specs.Cluster.{World}
-use Rattle.export_machine.specs.Authority.{is_inside, from_of, to_of, exporter_of, importer_of, journal_of, named_of, is_present, has, authority, is_stopped}
-use Rattle.export_machine.specs.Step.{Move, move, about, step, refusal, receiver, exporter_by_journal, importer_by_journal}
+use Rattle.export_machine.specs.Authority.{is_inside, from_of, to_of, exporter_of, importer_of, journal_of, named_of}
+use Rattle.export_machine.specs.Authority.{is_present, has, authority, is_stopped}
+use Rattle.export_machine.specs.declared.moves.Move.{Move}
+use Rattle.export_machine.specs.Step.{move, about, step, refusal, receiver, exporter_by_journal, importer_by_journal}
 use Rattle.export_machine.specs.declared.event.Event.{Event}
 use Rattle.export_machine.specs.declared.event.Event.TheVariants.{Deliver, Notify}
 

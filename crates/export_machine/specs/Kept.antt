@@ -1,8 +1,11 @@
 -- What the tables of a cluster stand for, and what always holds of them.
-use Rattle.std.specs.Prelude.{◌≡◌, ◌≤◌, ◌<◌, ℕ, ◌+◌, suc, Bool, true, ◌&&◌, nat_lt, List, [], ◌∷◌, map, length, Option, None, Some, Result, Ok, Err, slice_get, slice_index_or, vec_len, vec_capacity, Vec, if◌then◌else◌, replicate, false, not, ◌==◌, ◌||◌, is_some}
+use Rattle.std.specs.Prelude.{◌≡◌, ◌≤◌, ◌<◌, ℕ, ◌+◌, suc, Bool, true, ◌&&◌, nat_lt, List, [], ◌∷◌, map, length}
+use Rattle.std.specs.Prelude.{Option, None, Some, Result, Ok, Err, slice_get, slice_index_or, vec_len, vec_capacity}
+use Rattle.std.specs.Prelude.{Vec, if◌then◌else◌, replicate, false, not, ◌==◌, ◌||◌, is_some}
 use Rattle.std.specs.List.{list_all}
 use Rattle.export_machine.specs.Cluster.{World}
-use Rattle.export_machine.specs.Authority.{authority, open_export, is_among, order_in, from_of, exporter_of, importer_of, has_entry}
+use Rattle.export_machine.specs.Authority.{authority, open_export, is_among, order_in, from_of}
+use Rattle.export_machine.specs.Authority.{exporter_of, importer_of, has_entry}
 use Rattle.export_machine.specs.Step.{running_on, is_child, about, receiver, repeats, comes, is_before_log}
 use Rattle.export_machine.specs.View.{IsReached}
 use Rattle.export_machine.specs.declared.event.Event.{Event}
@@ -11,7 +14,8 @@ use Rattle.export_machine.specs.declared.event.Request.{Request}
 use Rattle.export_machine.specs.declared.exporter.ExporterState.{ExporterState}
 use Rattle.export_machine.specs.declared.importer.ImporterState.{ImporterState}
 use Rattle.export_machine.specs.declared.exporter.ExporterState.TheVariants.{Logged, Done, Aborted}
-use Rattle.export_machine.specs.declared.importer.ImporterState.TheVariants.{Unknown, Discovered, Prepared, Started, Imported, Dropped}
+use Rattle.export_machine.specs.declared.importer.ImporterState.TheVariants.{Unknown, Discovered, Prepared}
+use Rattle.export_machine.specs.declared.importer.ImporterState.TheVariants.{Started, Imported, Dropped}
 use Rattle.export_machine.specs.declared.journal.JournalEntry.{JournalEntry}
 use Rattle.export_machine.specs.declared.message.Message.{Message}
 use Rattle.mds_types.specs.declared.order.Order.{Order}
@@ -47,7 +51,17 @@ pub record Indexes : Type 0 where
   pub dropped : List Bool  -- by export: whether its importer's journal has it as dropped
 
 abbrev pub indexes_of : Records → Indexes
-indexes_of r = record { owners = r.owners.items; opened = r.opened.items; running = r.running.items; children = r.children.items; marks = r.marks.items; tickets_at = map (λ list. list.items) r.tickets_at.items; open_at = map (λ list. list.items) r.open_at.items; dropped = r.dropped.items }
+indexes_of r =
+    record {
+      owners = r.owners.items;
+      opened = r.opened.items;
+      running = r.running.items;
+      children = r.children.items;
+      marks = r.marks.items;
+      tickets_at = map (λ list. list.items) r.tickets_at.items;
+      open_at = map (λ list. list.items) r.open_at.items;
+      dropped = r.dropped.items;
+    }
 
 -- how many places of a list pass the test
 abbrev pub count_at : {A : Type 0} → (ℕ → A → Bool) → List A → ℕ
@@ -59,7 +73,8 @@ children_of w d = count_at (is_child d) w.parents
 
 -- the ticket of each running request is among those of its rank
 pub record AreByRank (ranks : ℕ) (tickets : List (Option Request)) (tickets_at : List (List ℕ)) : Type 0 where
-  pub filed : (t : ℕ) (q : Request) → slice_index_or tickets t None ≡ Some q → is_among (slice_index_or tickets_at q.rank []) t ≡ true
+  pub filed : (t : ℕ) (q : Request) → slice_index_or tickets t None ≡ Some q
+      → is_among (slice_index_or tickets_at q.rank []) t ≡ true
   pub ranked : length tickets_at ≡ ranks
 
 -- the states of an import that a stop forgets, where the journal doesn't have it as dropped
@@ -74,9 +89,13 @@ abbrev pub has_dropped : List Order → List (List JournalEntry) → ℕ → Boo
 has_dropped orders journals x = has_entry (slice_index_or journals (order_in orders x).to []) (JournalEntry.Dropped x)
 
 -- each export whose state at a rank a stop of the rank would change is among those of the rank
-pub record AreListed (ranks : ℕ) (orders : List Order) (exporters : List ExporterState) (importers : List ImporterState) (journals : List (List JournalEntry)) (open_at : List (List ℕ)) (dropped : List Bool) : Type 0 where
-  pub exports : (x : ℕ) → is_before_log (slice_index_or exporters x Aborted) ≡ true → is_among (slice_index_or open_at (order_in orders x).from []) x ≡ true
-  pub imports : (x : ℕ) → is_passing (slice_index_or importers x Unknown) ≡ true → has_dropped orders journals x ≡ false → is_among (slice_index_or open_at (order_in orders x).to []) x ≡ true
+pub record AreListed (ranks : ℕ) (orders : List Order) (exporters : List ExporterState)
+    (importers : List ImporterState) (journals : List (List JournalEntry)) (open_at : List (List ℕ))
+    (dropped : List Bool) : Type 0 where
+  pub exports : (x : ℕ) → is_before_log (slice_index_or exporters x Aborted) ≡ true
+      → is_among (slice_index_or open_at (order_in orders x).from []) x ≡ true
+  pub imports : (x : ℕ) → is_passing (slice_index_or importers x Unknown) ≡ true
+      → has_dropped orders journals x ≡ false → is_among (slice_index_or open_at (order_in orders x).to []) x ≡ true
   pub tells : (x : ℕ) → slice_index_or dropped x false ≡ has_dropped orders journals x
   pub ranked : length open_at ≡ ranks
 
@@ -165,7 +184,9 @@ has_dir_places r =
     has_spare r.parents && has_spare r.named && has_spare r.owners && has_spare r.opened && has_spare r.running && has_spare r.children && has_spare r.marks
 
 abbrev pub has_export_places : Records → Bool
-has_export_places r = has_spare r.orders && has_spare r.exporters && has_spare r.importers && has_spare r.sent && has_spare r.dropped && list_all (λ list. has_spare list) r.open_at.items
+has_export_places r =
+    has_spare r.orders && has_spare r.exporters && has_spare r.importers && has_spare r.sent && has_spare r.dropped
+    && list_all (λ list. has_spare list) r.open_at.items
 
 abbrev pub has_ticket_places : Records → ℕ → Bool
 has_ticket_places r rank = has_spare r.tickets && has_place r.tickets_at.items rank
@@ -284,4 +305,14 @@ states_of w x = if nat_lt x (length w.orders) then Some (exporter_of w x, import
 
 -- those of a new cluster
 abbrev pub first_indexes : ℕ → Indexes
-first_indexes ranks = record { owners = Some 0 ∷ []; opened = None ∷ []; running = 0 ∷ []; children = 0 ∷ []; marks = false ∷ []; tickets_at = replicate ranks []; open_at = replicate ranks []; dropped = [] }
+first_indexes ranks =
+    record {
+      owners = Some 0 ∷ [];
+      opened = None ∷ [];
+      running = 0 ∷ [];
+      children = 0 ∷ [];
+      marks = false ∷ [];
+      tickets_at = replicate ranks [];
+      open_at = replicate ranks [];
+      dropped = [];
+    }

@@ -5,6 +5,7 @@ pub mod Promises
 pub mod View
 pub mod Roots
 pub mod Kept
+pub mod Moving
 pub mod Connected
 pub mod Local
 pub mod Room

@@ -1,12 +1,15 @@
 -- What a rank decides by: its own journal, the states of its own exports, the requests that run at it, and whether it
 -- runs. Beside that an event needs what no rank owns: the tree, the numbers of ranks and exports, the count of events.
-use Rattle.std.specs.Prelude.{◌≡◌, ◌≢◌, ◌<◌, ◌↔◌, ℕ, Bool, true, false, ◌&&◌, not, ◌==◌, List, [], ◌∷◌, length, Some, None}
+use Rattle.std.specs.Prelude.{◌≡◌, ◌≢◌, ◌<◌, ◌↔◌, ℕ, Bool, true, false, ◌&&◌}
+use Rattle.std.specs.Prelude.{not, ◌==◌, List, [], ◌∷◌, length, Some, None}
 use Rattle.std.specs.List.{list_all}
 use Rattle.export_machine.specs.declared.event.Request.{Request}
 use Rattle.export_machine.specs.declared.exporter.ExporterState.TheVariants.{Freezing}
 use Rattle.export_machine.specs.Cluster.{World}
-use Rattle.export_machine.specs.Authority.{is_among, is_inside, from_of, exporter_of, order_in, is_present, request_of, owns, serves, any_below, is_stopped}
-use Rattle.export_machine.specs.Step.{refusal, is_before_log, is_child, is_connected, any_at, history_limit, export_limit}
+use Rattle.export_machine.specs.Authority.{is_among, is_inside, from_of, exporter_of, order_in, is_present}
+use Rattle.export_machine.specs.Authority.{request_of, owns, serves, any_below, is_stopped}
+use Rattle.export_machine.specs.Step.{refusal, is_before_log, is_child, is_connected}
+use Rattle.export_machine.specs.Step.{any_at, history_limit, export_limit}
 use Rattle.export_machine.specs.declared.event.Event.{Event}
 use Rattle.export_machine.specs.declared.event.Event.TheVariants.{Begin, Start, Froze}
 
@@ -16,7 +19,8 @@ IsUp w r = (r < w.ranks) × (is_stopped w r ≡ false)
 
 -- rank r has an export of d that it neither logged nor gave up
 abbrev pub is_leaving : World → ℕ → ℕ → Bool
-is_leaving w r d = any_below (length w.orders) (λ x. (from_of w x == r) && is_before_log (exporter_of w x) && is_inside w x d)
+is_leaving w r d =
+    any_below (length w.orders) (λ x. (from_of w x == r) && is_before_log (exporter_of w x) && is_inside w x d)
 
 -- rank r's journal owns d, and no export of its own takes d away
 abbrev pub is_free : World → ℕ → ℕ → Bool

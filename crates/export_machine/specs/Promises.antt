@@ -4,7 +4,8 @@ use Rattle.export_machine.specs.Roots.{AreOwners, nearest}
 use Rattle.export_machine.specs.declared.journal.JournalEntry.{JournalEntry}
 use Rattle.export_machine.specs.declared.event.Request.{Request}
 use Rattle.export_machine.specs.Cluster.{World}
-use Rattle.export_machine.specs.Authority.{is_inside, from_of, named_of, is_present, request_of, has, IsAuthority, authority, serves, is_stopped}
+use Rattle.export_machine.specs.Authority.{is_inside, from_of, named_of, is_present, request_of}
+use Rattle.export_machine.specs.Authority.{has, IsAuthority, authority, serves, is_stopped}
 use Rattle.export_machine.specs.declared.event.Event.{Event}
 use Rattle.export_machine.specs.Step.{step}
 
@@ -26,16 +27,21 @@ RequestsAtAuthority w = (t : ℕ) (q : Request) → request_of w t ≡ Some q �
 
 -- an event changes the authority of no directory on which a request runs
 abbrev pub KeepsAuthority : World → Event → Type 0
-KeepsAuthority w e = (t : ℕ) (q : Request) → request_of w t ≡ Some q → (r : ℕ) → IsAuthority w r q.dir ↔ IsAuthority (step w e).1 r q.dir
+KeepsAuthority w e =
+    (t : ℕ) (q : Request) → request_of w t ≡ Some q → (r : ℕ)
+    → IsAuthority w r q.dir ↔ IsAuthority (step w e).1 r q.dir
 
 -- r exports d, has logged that and hasn't yet notified
 abbrev pub IsBetweenLogAndNotify : World → ℕ → ℕ → Type 0
 IsBetweenLogAndNotify w r d =
-    (x : ℕ) × (is_inside w x d ≡ true) × (from_of w x ≡ r) × (has w r (JournalEntry.Exported x) ≡ true) × (has w r (JournalEntry.Notified x) ≡ false)
+    (x : ℕ) × (is_inside w x d ≡ true) × (from_of w x ≡ r) × (has w r (JournalEntry.Exported x) ≡ true)
+    × (has w r (JournalEntry.Notified x) ≡ false)
 
 -- the map names the authority of each directory or, between log and notify, the exporter
 abbrev pub MapNamed : World → Type 0
-MapNamed w = (d : ℕ) → is_present w d ≡ true → (r : ℕ) × (named_of w d ≡ Some r) × (IsAuthority w r d ⊎ IsBetweenLogAndNotify w r d)
+MapNamed w =
+    (d : ℕ) → is_present w d ≡ true
+    → (r : ℕ) × (named_of w d ≡ Some r) × (IsAuthority w r d ⊎ IsBetweenLogAndNotify w r d)
 
 -- what isn't there is named nowhere and has no authority
 abbrev pub NoneForGone : World → Type 0
@@ -57,4 +63,5 @@ pub record Promised (w : World) : Type 0 where
 
 -- the owner that is nearest on the walk up is the authority
 abbrev pub NearestOwns : World → Type 0
-NearestOwns w = (owners : List (Option ℕ)) → AreOwners w owners → (d : ℕ) → nearest w.parents owners (suc d) d ≡ authority w d
+NearestOwns w =
+    (owners : List (Option ℕ)) → AreOwners w owners → (d : ℕ) → nearest w.parents owners (suc d) d ≡ authority w d

@@ -30,7 +30,8 @@ pub record IsAsRoomy (old new : Records) : Type 0 where
   pub tickets_at : (rank : ℕ) → has_place old.tickets_at.items rank ≡ true → has_place new.tickets_at.items rank ≡ true
   pub dropped : has_spare old.dropped ≡ true → has_spare new.dropped ≡ true
   pub open_at : (rank : ℕ) → has_place old.open_at.items rank ≡ true → has_place new.open_at.items rank ≡ true
-  pub all_open : list_all (λ list. has_spare list) old.open_at.items ≡ true → list_all (λ list. has_spare list) new.open_at.items ≡ true
+  pub all_open : list_all (λ list. has_spare list) old.open_at.items ≡ true
+      → list_all (λ list. has_spare list) new.open_at.items ≡ true
   pub journals : (rank : ℕ) → has_place old.journals.items rank ≡ true → has_place new.journals.items rank ≡ true
 
 -- the event is refused for its first cause or, where it has none, for want of memory

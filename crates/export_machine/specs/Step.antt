@@ -1,22 +1,34 @@
 -- The events of a cluster: when each is refused, what it changes and what it answers.
-use Rattle.std.specs.Prelude.{ℕ, zero, suc, ◌+◌, Bool, true, false, ◌&&◌, ◌||◌, not, ◌==◌, nat_le, List, [], ◌∷◌, ◌++◌, length, Option, Some, None, is_some, Result, Ok, Err, slice_get, slice_index_or, slice_set, if◌then◌else◌, count_by, replicate}
+use Rattle.std.specs.Prelude.{ℕ, zero, suc, ◌+◌, Bool, true, false, ◌&&◌, ◌||◌, not, ◌==◌, nat_le, List, [], ◌∷◌, ◌++◌}
+use Rattle.std.specs.Prelude.{length, Option, Some, None, is_some, Result, Ok, Err, slice_get, slice_index_or}
+use Rattle.std.specs.Prelude.{slice_set, if◌then◌else◌, count_by, replicate}
 use Rattle.std.specs.List.{list_all}
 use Rattle.export_machine.specs.declared.exporter.ExporterState.{ExporterState}
 use Rattle.export_machine.specs.declared.importer.ImporterState.{ImporterState}
 use Rattle.export_machine.specs.declared.journal.JournalEntry.{JournalEntry}
 use Rattle.export_machine.specs.declared.message.Message.{Message}
+use Rattle.export_machine.specs.declared.moves.Move.{Move}
 use Rattle.export_machine.specs.declared.event.Request.{Request}
 use Rattle.export_machine.specs.declared.event.Event.{Event}
-use Rattle.export_machine.specs.declared.event.Event.TheVariants.{Begin, End, Start, Deliver, Froze, Notify, Abort, Stop, Restart, Ask}
+use Rattle.export_machine.specs.declared.event.Event.TheVariants.{Begin, End, Start, Deliver, Froze, Notify, Abort}
+use Rattle.export_machine.specs.declared.event.Event.TheVariants.{Stop, Restart, Ask}
 use Rattle.export_machine.specs.Cluster.{World}
-use Rattle.export_machine.specs.declared.exporter.ExporterState.TheVariants.{Discovering, Freezing, Preparing, Exporting, Logged, Done, Aborted}
-use Rattle.export_machine.specs.declared.importer.ImporterState.TheVariants.{Unknown, Discovered, Prepared, Started, Imported, Dropped}
-use Rattle.export_machine.specs.declared.message.Message.TheVariants.{Discover, DiscoverAck, Prep, PrepAck, ExportAck, Finish, Cancel, Query}
+use Rattle.export_machine.specs.declared.exporter.ExporterState.TheVariants.{Discovering, Freezing, Preparing}
+use Rattle.export_machine.specs.declared.exporter.ExporterState.TheVariants.{Exporting, Logged, Done, Aborted}
+use Rattle.export_machine.specs.declared.importer.ImporterState.TheVariants.{Unknown, Discovered, Prepared, Started}
+use Rattle.export_machine.specs.declared.importer.ImporterState.TheVariants.{Imported, Dropped}
+use Rattle.export_machine.specs.declared.message.Message.TheVariants.{Discover, DiscoverAck, Prep, PrepAck, ExportAck}
+use Rattle.export_machine.specs.declared.message.Message.TheVariants.{Finish, Cancel, Query}
 use Rattle.export_machine.specs.declared.event.Reply.{Reply}
 use Rattle.export_machine.specs.declared.event.Reply.TheVariants.{Ticket, Sent, Changed, Ignored}
 use Rattle.export_machine.specs.declared.step_error.StepError.{StepError}
-use Rattle.export_machine.specs.declared.step_error.StepError.TheVariants.{HistoryFull, NoDir, IsRoot, NotEmpty, TreeFull, NoRank, SameRank, NotConnected, ExportsFull, NoExport, NoMessage, NoTicket, Elsewhere, Busy, Frozen, NotYet, Late}
-use Rattle.export_machine.specs.Authority.{order_in, is_among, is_inside, from_of, to_of, exporter_of, importer_of, journal_of, is_present, request_of, has, authority, open_export, frozen_by, is_stopped, runs_on, or_else}
+use Rattle.export_machine.specs.declared.step_error.StepError.TheVariants.{HistoryFull, NoDir, IsRoot, NotEmpty}
+use Rattle.export_machine.specs.declared.step_error.StepError.TheVariants.{TreeFull, NoRank, SameRank, NotConnected}
+use Rattle.export_machine.specs.declared.step_error.StepError.TheVariants.{ExportsFull, NoExport, NoMessage, NoTicket}
+use Rattle.export_machine.specs.declared.step_error.StepError.TheVariants.{Elsewhere, Busy, Frozen, NotYet, Late}
+use Rattle.export_machine.specs.Authority.{order_in, is_among, is_inside, from_of, to_of, exporter_of, importer_of}
+use Rattle.export_machine.specs.Authority.{journal_of, is_present, request_of, has, authority, open_export, frozen_by}
+use Rattle.export_machine.specs.Authority.{is_stopped, runs_on, or_else}
 
 -- Refusals. The first cause in the list is the answer.
 
@@ -233,14 +245,6 @@ receiver w (Finish x) = to_of w x
 receiver w (Cancel x) = to_of w x
 receiver w (Query x) = from_of w x
 
--- what a message makes the rank do that it comes to: the export's next state there, if it changes, the entry that the
--- rank journals, and the message that it sends
-pub record Move : Type 0 where
-  pub exporter : Option ExporterState
-  pub importer : Option ImporterState
-  pub entry : Option JournalEntry
-  pub sends : Option Message
-
 abbrev pub exporting : ExporterState → Option JournalEntry → Option Message → Option Move
 exporting state e m = Some (record { exporter = Some state; importer = None; entry = e; sends = m })
 
@@ -306,12 +310,14 @@ delivered w (Some m) = if is_stopped w (receiver w m) then ignored w else comes 
 -- an exporter's and an importer's state by the entries of the journal
 abbrev pub exporter_by_journal : World → ℕ → ℕ → ExporterState
 exporter_by_journal w rank x =
-    if has w rank (JournalEntry.Notified x) then Done else (if has w rank (JournalEntry.Exported x) then Logged else Aborted)
+    if has w rank (JournalEntry.Notified x) then Done
+    else (if has w rank (JournalEntry.Exported x) then Logged else Aborted)
 
 abbrev pub importer_by_journal : World → ℕ → ℕ → ImporterState
 importer_by_journal w rank x =
     if has w rank (JournalEntry.Imported x) then Imported
-    else (if has w rank (JournalEntry.Dropped x) then Dropped else (if has w rank (JournalEntry.Started x) then Started else Unknown))
+    else (if has w rank (JournalEntry.Dropped x) then Dropped
+    else (if has w rank (JournalEntry.Started x) then Started else Unknown))
 
 -- the rank's states of its exports and imports are those that its journal tells
 abbrev pub recovered : World → ℕ → World

@@ -11,11 +11,13 @@ use Rattle.export_machine.specs.declared.event.Event.{Event}
 -- has changed then
 abbrev pub IsAnswer : World → Event → Result Reply StepError → World → Type 0
 IsAnswer old e (Ok reply) new = step old e ≡ (Ok reply, new)
-IsAnswer old e (Err error) new = ((step old e ≡ (Err error, old)) ⊎ ((error ≡ Memory) × (refusal old e ≡ None))) × (new ≡ old)
+IsAnswer old e (Err error) new =
+    ((step old e ≡ (Err error, old)) ⊎ ((error ≡ Memory) × (refusal old e ≡ None))) × (new ≡ old)
 
 -- some list of events leads from the start to this world
 abbrev pub IsReached : World → Type 0
-IsReached w = ∥ ((limit : ℕ) × (ranks : ℕ) × (events : List Event) × (1 ≤ ranks) × (run (start limit ranks) events ≡ w)) ∥₁
+IsReached w =
+    ∥ ((limit : ℕ) × (ranks : ℕ) × (events : List Event) × (1 ≤ ranks) × (run (start limit ranks) events ≡ w)) ∥₁
 
 -- the answers to a list of events, one after the other
 abbrev pub AreAnswers : World → List Event → List (Result Reply StepError) → World → Type 0

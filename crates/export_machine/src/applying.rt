@@ -6,7 +6,9 @@ ghost use Rattle.export_machine.specs.Step.{refusal, happens, step};
 ghost use Rattle.export_machine.specs.declared.event.Event.{Event as StepEvent};
 ghost use Rattle.export_machine.specs.View.{IsAnswer};
 ghost use Rattle.export_machine.specs.Room.{IsAsRoomy, IsRefusal};
-ghost use Rattle.export_machine.specs.Kept.{world_of, indexes_of, has_room, has_place, has_spare, has_entry_places, has_list_places, has_ticket_places, has_dir_places, has_export_places, entered_at, IsKept, IsIndexed};
+ghost use Rattle.export_machine.specs.Kept.{world_of, indexes_of, has_room, has_place, has_spare, has_entry_places};
+ghost use Rattle.export_machine.specs.Kept.{has_list_places, has_ticket_places, has_dir_places, has_export_places};
+ghost use Rattle.export_machine.specs.Kept.{entered_at, IsKept, IsIndexed};
 
 use crate::event::{Event, Reply};
 use crate::records::Records;
@@ -20,7 +22,8 @@ fn grow_list<T: Copy>(lists: &mut Vec<Vec<T>>, index: usize) -> Result<(), Alloc
     ensures entries { map (λ list. list.items) lists.new.items ≡ map (λ list. list.items) lists.old.items }
     ensures room { OnOk result (has_place lists.new.items index ≡ true) }
     ensures ready { has_place lists.old.items index ≡ true → IsOk result }
-    ensures all { list_all (λ list. has_spare list) lists.old.items ≡ true → list_all (λ list. has_spare list) lists.new.items ≡ true }
+    ensures all { list_all (λ list. has_spare list) lists.old.items ≡ true
+        → list_all (λ list. has_spare list) lists.new.items ≡ true }
     ensures spare { (other : ℕ) → has_place lists.old.items other ≡ true → has_place lists.new.items other ≡ true }
 {
     lists[index].reserve(1)
@@ -31,7 +34,8 @@ fn grow_all<T: Copy>(lists: &mut Vec<Vec<T>>) -> Result<(), AllocError>
     ensures entries { map (λ list. list.items) lists.new.items ≡ map (λ list. list.items) lists.old.items }
     ensures room { OnOk result (list_all (λ list. has_spare list) lists.new.items ≡ true) }
     ensures ready { list_all (λ list. has_spare list) lists.old.items ≡ true → IsOk result }
-    ensures all { list_all (λ list. has_spare list) lists.old.items ≡ true → list_all (λ list. has_spare list) lists.new.items ≡ true }
+    ensures all { list_all (λ list. has_spare list) lists.old.items ≡ true
+        → list_all (λ list. has_spare list) lists.new.items ≡ true }
     ensures spare { (other : ℕ) → has_place lists.old.items other ≡ true → has_place lists.new.items other ≡ true }
 {
     for index in 0..lists.len() {
@@ -194,7 +198,8 @@ impl Records {
         ensures accepted { OnOk result (refusal (world_of self.old) (event.now) ≡ None) }
         ensures room { OnOk result (has_room self.new (event.now) ≡ true) }
         ensures err { IfErr result (IsRefusal (world_of self.old) (event.now)) }
-        ensures ready { refusal (world_of self.old) (event.now) ≡ None → has_room self.old (event.now) ≡ true → IsOk result }
+        ensures ready { refusal (world_of self.old) (event.now) ≡ None → has_room self.old (event.now) ≡ true
+            → IsOk result }
         ensures world { world_of self.new ≡ world_of self.old }
         ensures kept { IsKept self.new }
         ensures spare { IsAsRoomy self.old self.new }

@@ -1,6 +1,7 @@
 //! Single causes for which an event is refused. No check changes anything or asks for memory.
 
-ghost use Rattle.std.specs.Prelude.{◌≡◌, ℕ, ◌<◌, ◌∷◌, [], length, Some, None, OnOk, not, nat_le, ◌==◌, ◌≢◌, true, false};
+ghost use Rattle.std.specs.Prelude.{◌≡◌, ℕ, ◌<◌, ◌∷◌, [], length, Some, None, OnOk};
+ghost use Rattle.std.specs.Prelude.{not, nat_le, ◌==◌, ◌≢◌, true, false};
 ghost use Rattle.std.specs.List.{list_all};
 ghost use Rattle.export_machine.specs.Authority.{is_present, authority, open_export, frozen_by};
 ghost use Rattle.export_machine.specs.Step.{
@@ -25,7 +26,9 @@ ghost use Rattle.export_machine.specs.Step.{
   least_fault,
 };
 ghost use Rattle.export_machine.specs.Kept.{world_of, cause_of, lesser, IsKept};
-ghost use Rattle.export_machine.specs.declared.step_error.StepError.TheVariants.{HistoryFull, NoDir, NotEmpty, IsRoot, TreeFull, SameRank, ExportsFull};
+ghost use Rattle.export_machine.specs.declared.step_error.StepError.TheVariants.{HistoryFull, NoDir, NotEmpty};
+ghost use Rattle.export_machine.specs.declared.step_error.StepError.TheVariants.{IsRoot, TreeFull, SameRank};
+ghost use Rattle.export_machine.specs.declared.step_error.StepError.TheVariants.{ExportsFull};
 
 use crate::records::Records;
 use crate::step_error::StepError;
@@ -154,7 +157,8 @@ impl Records {
     /// The answer is to be used only for a directory that has an authority.
     fn check_not_frozen(&self, dir: Dir) -> Result<(), StepError>
         requires kept { IsKept self.now }
-        ensures { (rank : ℕ) → authority (world_of self.now) dir ≡ Some rank → cause_of result ≡ held (frozen_by (world_of self.now) rank dir) }
+        ensures { (rank : ℕ) → authority (world_of self.now) dir ≡ Some rank
+            → cause_of result ≡ held (frozen_by (world_of self.now) rank dir) }
     {
         match self.frozen_by(dir) {
             Some(export) => Err(StepError::Frozen(export)),

@@ -1,8 +1,10 @@
 //! A cluster of metadata ranks that move directories by exports.
 
-ghost use Rattle.std.specs.Prelude.{◌≡◌, ◌<◌, ◌≤◌, ◌↔◌, ℕ, length, map, None, true, Some, IsSome, IfSome, IfOk, IfErr, IsOk, Ok, Err, OnOk, OnErr, All, slice_get};
+ghost use Rattle.std.specs.Prelude.{◌≡◌, ◌<◌, ◌≤◌, ◌↔◌, ℕ, length, map, None, true, Some, IsSome, IfSome};
+ghost use Rattle.std.specs.Prelude.{IfOk, IfErr, IsOk, Ok, Err, OnOk, OnErr, All, slice_get};
 ghost use Rattle.export_machine.specs.Authority.{authority, serves, named_of, journal_of, order_in};
-ghost use Rattle.export_machine.specs.Step.{refusal, start, step, happens, counted, answers as answers_to, run as state_after};
+ghost use Rattle.export_machine.specs.Step.{refusal, start, step, happens, counted, answers as answers_to};
+ghost use Rattle.export_machine.specs.Step.{run as state_after};
 ghost use Rattle.export_machine.specs.Entries.{logs_export};
 ghost use Rattle.export_machine.specs.Roots.{roots};
 ghost use Rattle.export_machine.specs.Room.{KeepsRoom, IsRefusal};
@@ -100,8 +102,10 @@ impl Cluster {
     ) -> Result<Vec<Result<Reply, StepError>>, AllocError>
         ensures answers { IfOk result (λ answers. AreAnswers self.old.world (events.now) answers.items self.new.world) }
         // Where no answer was want of memory they are the answers of the definition, and so is the state after them.
-        ensures exact { IfOk result (λ answers. NoneIsMemory answers.items → answers.items ≡ answers_to self.old.world (events.now)) }
-        ensures state { IfOk result (λ answers. NoneIsMemory answers.items → self.new.world ≡ state_after self.old.world (events.now)) }
+        ensures exact { IfOk result (λ answers. NoneIsMemory answers.items
+            → answers.items ≡ answers_to self.old.world (events.now)) }
+        ensures state { IfOk result (λ answers. NoneIsMemory answers.items
+            → self.new.world ≡ state_after self.old.world (events.now)) }
         ensures err { OnErr result (self.new.world ≡ self.old.world) }
         ensures promised { Promised self.new.world }
     {

@@ -1,6 +1,7 @@
 //! Whether a list of directories hangs together, in three walks over it: mark, count and clear.
 
-ghost use Rattle.std.specs.Prelude.{◌≡◌, ℕ, true, false, None, IsTrue, not, length, count_by, slice_index_or, vec_capacity};
+ghost use Rattle.std.specs.Prelude.{◌≡◌, ℕ, true, false, None, IsTrue, not, length};
+ghost use Rattle.std.specs.Prelude.{count_by, slice_index_or, vec_capacity};
 ghost use Rattle.std.specs.List.{list_all};
 ghost use Rattle.export_machine.specs.Authority.{is_among, is_present};
 ghost use Rattle.export_machine.specs.Step.{repeats, is_connected};
@@ -76,7 +77,8 @@ impl Records {
         ensures others { self.new ≡ record self.old { marks = self.new.marks } }
         ensures marks { self.new.marks.items ≡ self.old.marks.items }
         ensures capacity { vec_capacity self.new.marks ≡ vec_capacity self.old.marks }
-        ensures connected { list_all (is_present (world_of self.old)) dirs.now ≡ true → result ≡ is_connected (world_of self.old) dirs.now }
+        ensures connected { list_all (is_present (world_of self.old)) dirs.now ≡ true
+            → result ≡ is_connected (world_of self.old) dirs.now }
     {
         let connected = mark_once(&mut self.marks, &self.parents, dirs)
             && tops(&self.parents, &self.marks, dirs) == 1;

@@ -2,12 +2,15 @@
 //!
 //! A message may come late, twice or not at all. It acts in one state alone, and is ignored in every other.
 
-ghost use Rattle.std.specs.Prelude.{◌≡◌, ◌<◌, length, Some, None, true, slice_get};
-ghost use Rattle.export_machine.specs.Step.{refusal, happens, receiver};
+ghost use Rattle.std.specs.Prelude.{◌≡◌, ◌<◌, ℕ, length, map, Some, None, true, slice_get, vec_len, vec_capacity};
+ghost use Rattle.export_machine.specs.Authority.{order_in, is_inside, exporter_of, importer_of};
+ghost use Rattle.export_machine.specs.Step.{refusal, happens, receiver, about, move};
+ghost use Rattle.export_machine.specs.Step.{exporter_moves, importer_moves, notes, replies};
 ghost use Rattle.export_machine.specs.declared.event.Event.{Event as StepEvent};
 ghost use Rattle.export_machine.specs.Entries.{logs_export, is_log, delivered_entry};
-ghost use Rattle.export_machine.specs.Kept.{world_of, indexes_of, has_room, IsKept, IsIndexed, CanReceive, IsReceived, addressed};
-ghost use Rattle.export_machine.specs.Step.{about};
+ghost use Rattle.export_machine.specs.Kept.{world_of, indexes_of, has_place, has_room, addressed};
+ghost use Rattle.export_machine.specs.Kept.{IsKept, IsIndexed, CanReceive, IsReceived};
+ghost use Rattle.export_machine.specs.Moving.{heard, indexes_noted};
 
 use crate::changes::{enter, mark, put, send};
 use crate::event::{Event, Reply};
@@ -15,170 +18,149 @@ use crate::exporter::ExporterState;
 use crate::importer::ImporterState;
 use crate::journal::JournalEntry;
 use crate::message::Message;
+use crate::moves::{Move, move_of};
 use crate::records::Records;
 use mds_types::Rank;
 
 impl Records {
-    fn discover(&mut self, export: u32) -> Reply
-        requires { CanReceive self.old (Message.Discover export) }
-        ensures { IsReceived self.old (Message.Discover export) result self.new }
+    /// The exporter's next state.
+    fn export_to(&mut self, export: u32, next: Option<ExporterState>)
+        ensures others { self.new ≡ record self.old { exporters = self.new.exporters } }
+        ensures world { world_of self.new ≡ exporter_moves (world_of self.old) export next }
     {
+        match next {
+            Some(state) => put(&mut self.exporters, export as usize, state),
+            None => {}
+        }
+    }
+
+    /// The importer's next state. An export that it hears of is listed at its rank.
+    fn import_to(&mut self, rank: Rank, export: u32, next: Option<ImporterState>)
+        requires near { rank < length self.old.open_at.items }
+        requires room { has_place self.old.open_at.items rank ≡ true }
+        ensures others { self.new ≡ record self.old { importers = self.new.importers; open_at = self.new.open_at } }
+        ensures world { world_of self.new ≡ importer_moves (world_of self.old) export next }
+        ensures listed { map (λ list. list.items) self.new.open_at.items
+            ≡ heard rank export next (importer_of (world_of self.old) export)
+            (map (λ list. list.items) self.old.open_at.items) }
+    {
+        let Some(state) = next else {
+            return;
+        };
         match self.importer(export) {
             ImporterState::Unknown => {
-                self.importers[export as usize] = ImporterState::Discovered;
-                let to = self.orders[export as usize].to;
-                enter(&mut self.open_at, to, export);
-                send(&mut self.sent, Message::DiscoverAck(export))
+                put(&mut self.importers, export as usize, state);
+                enter(&mut self.open_at, rank, export);
             }
-            _ => Reply::Ignored,
+            _ => put(&mut self.importers, export as usize, state),
         }
     }
 
-    fn discover_ack(&mut self, export: u32) -> Reply
-        requires { CanReceive self.old (Message.DiscoverAck export) }
-        ensures { IsReceived self.old (Message.DiscoverAck export) result self.new }
+    /// The tables follow an entry of the export. By `Exported` its directories go to the importer: the point of
+    /// commitment.
+    fn follow(&mut self, export: u32, entry: &JournalEntry)
+        requires known { export < length self.old.orders.items }
+        requires owned { (d : ℕ) → is_inside (world_of self.old) export d ≡ true → d < length self.old.owners.items }
+        requires open { (d : ℕ) → is_inside (world_of self.old) export d ≡ true → d < length self.old.opened.items }
+        ensures others { self.new ≡ record self.old {
+          owners = self.new.owners;
+          opened = self.new.opened;
+          dropped = self.new.dropped;
+        } }
+        ensures indexes { indexes_of self.new
+            ≡ indexes_noted (order_in (world_of self.old).orders export) export (Some entry.now) (indexes_of self.old) }
     {
-        match self.exporter(export) {
-            ExporterState::Discovering => {
-                self.exporters[export as usize] = ExporterState::Freezing;
-                Reply::Changed
+        let order = &self.orders[export as usize];
+        match entry {
+            JournalEntry::Exported(_) => {
+                mark(&mut self.owners, order.dirs.as_slice(), Some(order.to))
             }
-            _ => Reply::Ignored,
+            JournalEntry::Imported(_) => mark(&mut self.opened, order.dirs.as_slice(), None),
+            JournalEntry::Dropped(_) => put(&mut self.dropped, export as usize, true),
+            _ => {}
         }
     }
 
-    fn prep(&mut self, export: u32) -> Reply
-        requires { CanReceive self.old (Message.Prep export) }
-        ensures { IsReceived self.old (Message.Prep export) result self.new }
+    /// The rank journals an entry of the export.
+    fn note(&mut self, rank: Rank, export: u32, entry: &Option<JournalEntry>)
+        requires near { rank < length self.old.journals.items }
+        requires room { has_place self.old.journals.items rank ≡ true }
+        requires known { export < length self.old.orders.items }
+        requires owned { (d : ℕ) → is_inside (world_of self.old) export d ≡ true → d < length self.old.owners.items }
+        requires open { (d : ℕ) → is_inside (world_of self.old) export d ≡ true → d < length self.old.opened.items }
+        ensures others { self.new ≡ record self.old {
+          journals = self.new.journals;
+          owners = self.new.owners;
+          opened = self.new.opened;
+          dropped = self.new.dropped;
+        } }
+        ensures world { world_of self.new ≡ notes (world_of self.old) rank entry.now }
+        ensures indexes { indexes_of self.new
+            ≡ indexes_noted (order_in (world_of self.old).orders export) export entry.now (indexes_of self.old) }
     {
-        match self.importer(export) {
-            ImporterState::Discovered => {
-                self.importers[export as usize] = ImporterState::Prepared;
-                send(&mut self.sent, Message::PrepAck(export))
+        match entry {
+            Some(entry) => {
+                self.follow(export, entry);
+                enter(&mut self.journals, rank, *entry);
             }
-            _ => Reply::Ignored,
+            None => {}
         }
     }
 
-    fn prep_ack(&mut self, export: u32) -> Reply
-        requires { CanReceive self.old (Message.PrepAck export) }
-        ensures { IsReceived self.old (Message.PrepAck export) result self.new }
+    /// Sends a move's message, and answers.
+    fn answer(&mut self, sends: Option<Message>) -> Reply
+        requires room { vec_len self.old.sent < vec_capacity self.old.sent }
+        requires few { length self.old.sent.items < 1048576 }
+        ensures others { self.new ≡ record self.old { sent = self.new.sent } }
+        ensures effect { replies (world_of self.old) sends ≡ record { reply = result; world = world_of self.new } }
     {
-        match self.exporter(export) {
-            ExporterState::Preparing => {
-                self.exporters[export as usize] = ExporterState::Exporting;
-                send(&mut self.sent, Message::Export(export))
-            }
-            _ => Reply::Ignored,
+        match sends {
+            Some(message) => send(&mut self.sent, message),
+            None => Reply::Changed,
         }
     }
 
-    /// The directories come: the importer journals that, and doesn't serve them yet.
-    fn take(&mut self, export: u32) -> Reply
-        requires { CanReceive self.old (Message.Export export) }
-        ensures { IsReceived self.old (Message.Export export) result self.new }
+    /// `Started` and `Exported` tell the state of an export that is listed at the rank.
+    fn tell(&mut self, rank: Rank, entry: &Option<JournalEntry>)
+        requires near { rank < length self.old.open_at.items }
+        requires indexed { IsIndexed (world_of self.old) (indexes_of self.old) }
+        requires exporting { length self.old.exporters.items ≡ length self.old.orders.items }
+        requires importing { length self.old.importers.items ≡ length self.old.orders.items }
+        ensures others { self.new ≡ record self.old { open_at = self.new.open_at; told_at = self.new.told_at } }
+        ensures indexed { IsIndexed (world_of self.new) (indexes_of self.new) }
     {
-        match self.importer(export) {
-            ImporterState::Prepared => {
-                self.importers[export as usize] = ImporterState::Started;
-                let to = self.orders[export as usize].to;
-                enter(&mut self.journals, to, JournalEntry::Started(export));
-                let reply = send(&mut self.sent, Message::ExportAck(export));
-                self.note_told(to);
-                reply
-            }
-            _ => Reply::Ignored,
+        match entry {
+            Some(JournalEntry::Started(_) | JournalEntry::Exported(_)) => self.note_told(rank),
+            _ => {}
         }
     }
 
-    /// The exporter journals that the directories left: the point of commitment.
-    fn log(&mut self, export: u32) -> Reply
-        requires { CanReceive self.old (Message.ExportAck export) }
-        ensures { IsReceived self.old (Message.ExportAck export) result self.new }
-    {
-        match self.exporter(export) {
-            ExporterState::Exporting => {
-                self.exporters[export as usize] = ExporterState::Logged;
-                let order = &self.orders[export as usize];
-                let from = order.from;
-                enter(&mut self.journals, from, JournalEntry::Exported(export));
-                mark(&mut self.owners, order.dirs.as_slice(), Some(order.to));
-                self.note_told(from);
-                Reply::Changed
-            }
-            _ => Reply::Ignored,
-        }
-    }
-
-    /// The importer owns the directories, and the export is over.
-    fn finish(&mut self, export: u32) -> Reply
-        requires { CanReceive self.old (Message.Finish export) }
-        ensures { IsReceived self.old (Message.Finish export) result self.new }
-    {
-        match self.importer(export) {
-            ImporterState::Started => {
-                self.importers[export as usize] = ImporterState::Imported;
-                let order = &self.orders[export as usize];
-                enter(&mut self.journals, order.to, JournalEntry::Imported(export));
-                mark(&mut self.opened, order.dirs.as_slice(), None);
-                Reply::Changed
-            }
-            _ => Reply::Ignored,
-        }
-    }
-
-    fn cancel(&mut self, export: u32) -> Reply
-        requires { CanReceive self.old (Message.Cancel export) }
-        ensures { IsReceived self.old (Message.Cancel export) result self.new }
-    {
-        match self.importer(export) {
-            ImporterState::Unknown => {
-                self.importers[export as usize] = ImporterState::Dropped;
-                let to = self.orders[export as usize].to;
-                enter(&mut self.open_at, to, export);
-                Reply::Changed
-            }
-            ImporterState::Discovered | ImporterState::Prepared => {
-                self.importers[export as usize] = ImporterState::Dropped;
-                Reply::Changed
-            }
-            ImporterState::Started => {
-                self.importers[export as usize] = ImporterState::Dropped;
-                let to = self.orders[export as usize].to;
-                enter(&mut self.journals, to, JournalEntry::Dropped(export));
-                put(&mut self.dropped, export as usize, true);
-                Reply::Changed
-            }
-            ImporterState::Imported | ImporterState::Dropped => Reply::Ignored,
-        }
-    }
-
-    /// An importer asks what became of the export.
-    fn query(&mut self, export: u32) -> Reply
-        requires { CanReceive self.old (Message.Query export) }
-        ensures { IsReceived self.old (Message.Query export) result self.new }
-    {
-        match self.exporter(export) {
-            ExporterState::Done => send(&mut self.sent, Message::Finish(export)),
-            ExporterState::Aborted => send(&mut self.sent, Message::Cancel(export)),
-            _ => Reply::Ignored,
-        }
-    }
-
-    fn receive(&mut self, message: Message) -> Reply
-        requires { CanReceive self.old message }
+    /// Carries out a move of the rank that the message comes to. Here alone a message changes something.
+    fn carry_out(&mut self, rank: Rank, message: Message, next: Move) -> Reply
+        requires can { CanReceive self.old message }
+        requires here { rank ≡ receiver (world_of self.old) message }
+        requires moves { move message (exporter_of (world_of self.old) (about message))
+            (importer_of (world_of self.old) (about message)) ≡ Some next }
         ensures { IsReceived self.old message result self.new }
     {
-        match message {
-            Message::Discover(export) => self.discover(export),
-            Message::DiscoverAck(export) => self.discover_ack(export),
-            Message::Prep(export) => self.prep(export),
-            Message::PrepAck(export) => self.prep_ack(export),
-            Message::Export(export) => self.take(export),
-            Message::ExportAck(export) => self.log(export),
-            Message::Finish(export) => self.finish(export),
-            Message::Cancel(export) => self.cancel(export),
-            Message::Query(export) => self.query(export),
+        let export = message.export();
+        self.export_to(export, next.exporter);
+        self.import_to(rank, export, next.importer);
+        self.note(rank, export, &next.entry);
+        let reply = self.answer(next.sends);
+        self.tell(rank, &next.entry);
+        reply
+    }
+
+    fn receive(&mut self, rank: Rank, message: Message) -> Reply
+        requires can { CanReceive self.old message }
+        requires here { rank ≡ receiver (world_of self.old) message }
+        ensures { IsReceived self.old message result self.new }
+    {
+        let export = message.export();
+        match move_of(message, self.exporter(export), self.importer(export)) {
+            Some(next) => self.carry_out(rank, message, next),
+            None => Reply::Ignored,
         }
     }
 
@@ -205,14 +187,16 @@ impl Records {
         requires kept { IsKept self.old }
         requires accepted { refusal (world_of self.old) (StepEvent.Deliver message) ≡ None }
         requires room { has_room self.old (StepEvent.Deliver message) ≡ true }
-        ensures effect { happens (world_of self.old) (StepEvent.Deliver message) ≡ record { reply = result; world = world_of self.new } }
+        ensures effect { happens (world_of self.old) (StepEvent.Deliver message)
+            ≡ record { reply = result; world = world_of self.new } }
         ensures indexed { IsIndexed (world_of self.new) (indexes_of self.new) }
     {
         let message = self.sent[message as usize];
-        if self.is_stopped(self.receiver(message)) {
+        let rank = self.receiver(message);
+        if self.is_stopped(rank) {
             return Reply::Ignored;
         }
-        self.receive(message)
+        self.receive(rank, message)
     }
 
     /// Whether a message makes the rank that it is for log the export.

@@ -22,7 +22,8 @@ impl Records {
         requires kept { IsKept self.old }
         requires accepted { refusal (world_of self.old) (StepEvent.Begin rank dir) ≡ None }
         requires room { has_room self.old (StepEvent.Begin rank dir) ≡ true }
-        ensures effect { happens (world_of self.old) (StepEvent.Begin rank dir) ≡ record { reply = result; world = world_of self.new } }
+        ensures effect { happens (world_of self.old) (StepEvent.Begin rank dir)
+            ≡ record { reply = result; world = world_of self.new } }
         ensures indexed { IsIndexed (world_of self.new) (indexes_of self.new) }
     {
         let ticket = self.tickets.len() as u32;
@@ -36,7 +37,8 @@ impl Records {
     pub(crate) fn end(&mut self, ticket: u32) -> Reply
         requires kept { IsKept self.old }
         requires accepted { refusal (world_of self.old) (StepEvent.End ticket) ≡ None }
-        ensures effect { happens (world_of self.old) (StepEvent.End ticket) ≡ record { reply = result; world = world_of self.new } }
+        ensures effect { happens (world_of self.old) (StepEvent.End ticket)
+            ≡ record { reply = result; world = world_of self.new } }
         ensures indexed { IsIndexed (world_of self.new) (indexes_of self.new) }
     {
         let Some(request) = self.tickets[ticket as usize] else {
@@ -53,7 +55,8 @@ impl Records {
         requires kept { IsKept self.old }
         requires accepted { refusal (world_of self.old) (StepEvent.Froze export) ≡ None }
         requires room { has_room self.old (StepEvent.Froze export) ≡ true }
-        ensures effect { happens (world_of self.old) (StepEvent.Froze export) ≡ record { reply = result; world = world_of self.new } }
+        ensures effect { happens (world_of self.old) (StepEvent.Froze export)
+            ≡ record { reply = result; world = world_of self.new } }
         ensures indexed { IsIndexed (world_of self.new) (indexes_of self.new) }
     {
         self.exporters[export as usize] = ExporterState::Preparing;
@@ -65,7 +68,8 @@ impl Records {
         requires kept { IsKept self.old }
         requires accepted { refusal (world_of self.old) (StepEvent.Abort export) ≡ None }
         requires room { has_room self.old (StepEvent.Abort export) ≡ true }
-        ensures effect { happens (world_of self.old) (StepEvent.Abort export) ≡ record { reply = result; world = world_of self.new } }
+        ensures effect { happens (world_of self.old) (StepEvent.Abort export)
+            ≡ record { reply = result; world = world_of self.new } }
         ensures indexed { IsIndexed (world_of self.new) (indexes_of self.new) }
     {
         self.exporters[export as usize] = ExporterState::Aborted;
@@ -82,7 +86,8 @@ impl Records {
         requires kept { IsKept self.old }
         requires accepted { refusal (world_of self.old) (StepEvent.Made parent) ≡ None }
         requires room { has_room self.old (StepEvent.Made parent) ≡ true }
-        ensures effect { happens (world_of self.old) (StepEvent.Made parent) ≡ record { reply = result; world = world_of self.new } }
+        ensures effect { happens (world_of self.old) (StepEvent.Made parent)
+            ≡ record { reply = result; world = world_of self.new } }
         ensures indexed { IsIndexed (world_of self.new) (indexes_of self.new) }
     {
         let dir = Dir::new(self.parents.len() as u32);
@@ -106,7 +111,8 @@ impl Records {
         requires kept { IsKept self.old }
         requires accepted { refusal (world_of self.old) (StepEvent.Gone dir) ≡ None }
         requires room { has_room self.old (StepEvent.Gone dir) ≡ true }
-        ensures effect { happens (world_of self.old) (StepEvent.Gone dir) ≡ record { reply = result; world = world_of self.new } }
+        ensures effect { happens (world_of self.old) (StepEvent.Gone dir)
+            ≡ record { reply = result; world = world_of self.new } }
         ensures indexed { IsIndexed (world_of self.new) (indexes_of self.new) }
     {
         let index = dir.number() as usize;
@@ -129,7 +135,8 @@ impl Records {
         requires kept { IsKept self.old }
         requires accepted { refusal (world_of self.old) (StepEvent.Start from to dirs) ≡ None }
         requires room { has_room self.old (StepEvent.Start from to dirs) ≡ true }
-        ensures effect { happens (world_of self.old) (StepEvent.Start from to dirs) ≡ record { reply = result; world = world_of self.new } }
+        ensures effect { happens (world_of self.old) (StepEvent.Start from to dirs)
+            ≡ record { reply = result; world = world_of self.new } }
         ensures indexed { IsIndexed (world_of self.new) (indexes_of self.new) }
     {
         let export = self.orders.len() as u32;
@@ -149,7 +156,8 @@ impl Records {
         requires kept { IsKept self.old }
         requires accepted { refusal (world_of self.old) (StepEvent.Notify export) ≡ None }
         requires room { has_room self.old (StepEvent.Notify export) ≡ true }
-        ensures effect { happens (world_of self.old) (StepEvent.Notify export) ≡ record { reply = result; world = world_of self.new } }
+        ensures effect { happens (world_of self.old) (StepEvent.Notify export)
+            ≡ record { reply = result; world = world_of self.new } }
         ensures indexed { IsIndexed (world_of self.new) (indexes_of self.new) }
     {
         self.exporters[export as usize] = ExporterState::Done;
@@ -168,7 +176,8 @@ impl Records {
         requires kept { IsKept self.old }
         requires accepted { refusal (world_of self.old) (StepEvent.Ask export) ≡ None }
         requires room { has_room self.old (StepEvent.Ask export) ≡ true }
-        ensures effect { happens (world_of self.old) (StepEvent.Ask export) ≡ record { reply = result; world = world_of self.new } }
+        ensures effect { happens (world_of self.old) (StepEvent.Ask export)
+            ≡ record { reply = result; world = world_of self.new } }
         ensures indexed { IsIndexed (world_of self.new) (indexes_of self.new) }
     {
         send(&mut self.sent, Message::Query(export))

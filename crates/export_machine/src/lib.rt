@@ -17,6 +17,7 @@ pub mod importer;
 pub mod journal;
 pub mod laws;
 pub mod message;
+mod moves;
 mod records;
 mod refusals;
 mod roots;

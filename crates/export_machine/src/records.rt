@@ -6,8 +6,11 @@
 //! rank there are the tickets of its requests and the exports that are open there, so that a stop needn't look through
 //! all requests and exports that ever were.
 
-ghost use Rattle.std.specs.Prelude.{◌≡◌, ℕ, ◌<◌, ◌≤◌, IfOk, map, replicate, slice_set, false, ◌∷◌, [], length, Some, slice_index_or};
-ghost use Rattle.export_machine.specs.Authority.{is_present, authority, open_export, is_stopped, exporter_of, importer_of, from_of, to_of, order_in, frozen_by, serves, named_of, journal_of};
+ghost use Rattle.std.specs.Prelude.{◌≡◌, ℕ, ◌<◌, ◌≤◌, IfOk, map, replicate, slice_set};
+ghost use Rattle.std.specs.Prelude.{false, ◌∷◌, [], length, Some, slice_index_or};
+ghost use Rattle.export_machine.specs.Authority.{is_present, authority, open_export, is_stopped, exporter_of};
+ghost use Rattle.export_machine.specs.Authority.{importer_of, from_of, to_of, order_in, frozen_by};
+ghost use Rattle.export_machine.specs.Authority.{serves, named_of, journal_of};
 ghost use Rattle.export_machine.specs.Step.{running_on, start};
 ghost use Rattle.std.specs.List.{list_all};
 ghost use Rattle.export_machine.specs.Roots.{parent_of, root_rank};
@@ -72,7 +75,8 @@ fn empty_lists<T: Copy>(alloc: Global, ranks: u8) -> Result<Vec<Vec<T>>, AllocEr
 /// The journals of a new cluster: rank 0 made directory 0.
 fn first_journals(alloc: Global, ranks: u8) -> Result<Vec<Vec<JournalEntry>>, AllocError>
     requires { 1 ≤ ranks }
-    ensures { IfOk result (λ journals. map (λ journal. journal.items) journals.items ≡ slice_set (replicate ranks []) 0 (JournalEntry.Made 0 ∷ [])) }
+    ensures { IfOk result (λ journals. map (λ journal. journal.items) journals.items
+        ≡ slice_set (replicate ranks []) 0 (JournalEntry.Made 0 ∷ [])) }
 {
     let mut journals = empty_lists(alloc, ranks)?;
     journals[0].push(JournalEntry::Made(Dir::ROOT))?;
@@ -249,7 +253,8 @@ impl Records {
     /// The export because of which the authority of a directory doesn't serve it.
     pub(crate) fn frozen_by(&self, dir: Dir) -> Option<u32>
         requires { IsKept self.now }
-        ensures { (rank : ℕ) → authority (world_of self.now) dir ≡ Some rank → result ≡ frozen_by (world_of self.now) rank dir }
+        ensures { (rank : ℕ) → authority (world_of self.now) dir ≡ Some rank
+            → result ≡ frozen_by (world_of self.now) rank dir }
     {
         match self.open_export(dir) {
             Some(export) => match self.exporter(export) {

@@ -143,7 +143,8 @@ impl Records {
         connected: bool,
     ) -> Result<(), StepError>
         requires kept { IsKept self.now }
-        requires connected { list_all (is_present (world_of self.now)) dirs.now ≡ true → connected ≡ is_connected (world_of self.now) dirs.now }
+        requires connected { list_all (is_present (world_of self.now)) dirs.now ≡ true
+            → connected ≡ is_connected (world_of self.now) dirs.now }
         ensures { cause_of result ≡ first (causes (world_of self.now) (StepEvent.Start from to dirs.now)) }
     {
         self.check_rank(from)?;

@@ -1,10 +1,12 @@
 //! What a stop leaves of a rank's requests and states, and what its journal tells at a restart.
 
-ghost use Rattle.std.specs.Prelude.{◌≡◌, ◌<◌, ℕ, filter, is_some, length, Some, None, true, false, not, ◌&&◌, slice_set, slice_index_or, if◌then◌else◌, ◌==◌};
+ghost use Rattle.std.specs.Prelude.{◌≡◌, ◌<◌, ℕ, filter, is_some, length, Some, None, true, false};
+ghost use Rattle.std.specs.Prelude.{not, ◌&&◌, slice_set, slice_index_or, if◌then◌else◌, ◌==◌};
 ghost use Rattle.export_machine.specs.Authority.{is_among, from_of, to_of, exporter_of, importer_of, has, request_of};
 ghost use Rattle.export_machine.specs.Step.{refusal, happens, map_at, is_before_log, ends_at};
 ghost use Rattle.export_machine.specs.declared.event.Event.{Event as StepEvent};
-ghost use Rattle.export_machine.specs.Kept.{world_of, indexes_of, is_passing, is_open_at, IsKept, IsIndexed, exporter_at_stop, importer_at_stop};
+ghost use Rattle.export_machine.specs.Kept.{world_of, indexes_of, is_passing, is_open_at, IsKept};
+ghost use Rattle.export_machine.specs.Kept.{IsIndexed, exporter_at_stop, importer_at_stop};
 ghost use Rattle.export_machine.specs.declared.event.Request.{Request};
 
 use crate::changes::{mark, put};
@@ -60,14 +62,17 @@ struct Open<'a> {
 
 impl<'a> Open<'a> {
     fn exports(&self, order: &Order, export: u32) -> bool
-        ensures { result ≡ ((order.now.from == self.now.rank) && is_before_log (slice_index_or self.now.exporters.now export ExporterState.Aborted)) }
+        ensures { result ≡ ((order.now.from == self.now.rank) && is_before_log
+            (slice_index_or self.now.exporters.now export ExporterState.Aborted)) }
     {
         order.from == self.rank
             && is_before_log(value_at(self.exporters, export as usize, ExporterState::Aborted))
     }
 
     fn imports(&self, order: &Order, export: u32) -> bool
-        ensures { result ≡ ((order.now.to == self.now.rank) && is_passing (slice_index_or self.now.importers.now export ImporterState.Unknown) && not (slice_index_or self.now.dropped.now export false)) }
+        ensures { result ≡ ((order.now.to == self.now.rank) && is_passing
+            (slice_index_or self.now.importers.now export ImporterState.Unknown) && not
+            (slice_index_or self.now.dropped.now export false)) }
     {
         order.to == self.rank
             && is_passing(value_at(self.importers, export as usize, ImporterState::Unknown))
@@ -75,7 +80,8 @@ impl<'a> Open<'a> {
     }
 
     fn has(&self, export: u32) -> bool
-        ensures { result ≡ is_open_at self.now.rank self.now.orders.now self.now.exporters.now self.now.importers.now self.now.dropped.now export }
+        ensures { result ≡ is_open_at self.now.rank self.now.orders.now self.now.exporters.now self.now.importers.now
+            self.now.dropped.now export }
     {
         if export as usize >= self.orders.len() {
             return false;
@@ -86,7 +92,9 @@ impl<'a> Open<'a> {
 
     /// Keeps those exports whose state at the rank a stop would change.
     fn keep(&self, listed: &mut Vec<u32>)
-        ensures { listed.new.items ≡ filter (is_open_at self.now.rank self.now.orders.now self.now.exporters.now self.now.importers.now self.now.dropped.now) listed.old.items }
+        ensures { listed.new.items ≡ filter
+            (is_open_at self.now.rank self.now.orders.now self.now.exporters.now self.now.importers.now
+            self.now.dropped.now) listed.old.items }
     {
         listed.retain(|export| self.has(*export));
     }
@@ -109,7 +117,8 @@ impl Records {
     /// Whether a stop of the rank aborts the export.
     fn is_halted(&self, rank: Rank, export: usize) -> bool
         requires near { length self.now.exporters.items ≡ length self.now.orders.items }
-        ensures { result ≡ ((from_of (world_of self.now) export == rank) && is_before_log (exporter_of (world_of self.now) export)) }
+        ensures { result ≡ ((from_of (world_of self.now) export == rank) && is_before_log
+            (exporter_of (world_of self.now) export)) }
     {
         export < self.orders.len()
             && self.orders[export].from == rank
@@ -121,7 +130,9 @@ impl Records {
         requires kept { IsKept self.old }
         requires ranked { rank < length self.old.open_at.items }
         ensures others { self.new ≡ record self.old { exporters = self.new.exporters; opened = self.new.opened } }
-        ensures exporters { self.new.exporters.items ≡ map_at (λ x state. if from_of (world_of self.old) x == rank then exporter_at_stop state else state) self.old.exporters.items }
+        ensures exporters { self.new.exporters.items
+            ≡ map_at (λ x state. if from_of (world_of self.old) x == rank then exporter_at_stop state else state)
+            self.old.exporters.items }
         ensures indexed { IsIndexed (world_of self.new) (indexes_of self.new) }
     {
         let index = rank.number() as usize;
@@ -137,7 +148,9 @@ impl Records {
     /// What a stop of the rank leaves of an import.
     fn import_at_stop(&self, rank: Rank, export: usize) -> ImporterState
         requires near { length self.now.importers.items ≡ length self.now.orders.items }
-        ensures { result ≡ (if to_of (world_of self.now) export == rank then importer_at_stop (slice_index_or self.now.dropped.items export false) (importer_of (world_of self.now) export) else importer_of (world_of self.now) export) }
+        ensures { result ≡ (if to_of (world_of self.now) export == rank then importer_at_stop
+            (slice_index_or self.now.dropped.items export false) (importer_of (world_of self.now) export)
+            else importer_of (world_of self.now) export) }
     {
         let state = value_at(&self.importers, export, ImporterState::Unknown);
         if export >= self.orders.len() || self.orders[export].to != rank {
@@ -151,7 +164,8 @@ impl Records {
         requires near { length self.old.importers.items ≡ length self.old.orders.items }
         requires ranked { rank < length self.old.open_at.items }
         requires indexed { IsIndexed (world_of self.old) (indexes_of self.old) }
-        requires dropped { (x : ℕ) → has (world_of self.old) rank (JournalEntry.Dropped x) ≡ true → importer_of (world_of self.old) x ≡ ImporterState.Dropped }
+        requires dropped { (x : ℕ) → has (world_of self.old) rank (JournalEntry.Dropped x) ≡ true
+            → importer_of (world_of self.old) x ≡ ImporterState.Dropped }
         ensures others { self.new ≡ record self.old { importers = self.new.importers } }
         ensures importers { self.new.importers.items
             ≡ map_at (λ x state. if to_of (world_of self.old) x == rank then importer_at_stop (has (world_of self.old) rank (JournalEntry.Dropped x)) state else state) self.old.importers.items }
@@ -203,8 +217,8 @@ impl Records {
         }
     }
 
-    /// A request ended at this rank. Once half of the tickets that are kept for the rank are of such requests, they go: so
-    /// a stop of the rank takes time that grows with its running requests alone.
+    /// A request ended at this rank. Once half of the tickets that are kept for the rank are of such requests, they
+    /// go: so a stop of the rank takes time that grows with its running requests alone.
     pub(crate) fn note_end(&mut self, rank: Rank)
         requires near { rank < length self.old.tickets_at.items }
         requires indexed { IsIndexed (world_of self.old) (indexes_of self.old) }
@@ -224,9 +238,11 @@ impl Records {
     /// Ends the request of a ticket if it runs at this rank.
     fn end_at(&mut self, rank: Rank, ticket: usize)
         requires indexed { IsIndexed (world_of self.old) (indexes_of self.old) }
-        requires there { (q : Request) → request_of (world_of self.old) ticket ≡ Some q → q.dir < length self.old.parents.items }
+        requires there { (q : Request) → request_of (world_of self.old) ticket ≡ Some q
+            → q.dir < length self.old.parents.items }
         ensures others { self.new ≡ record self.old { tickets = self.new.tickets; running = self.new.running } }
-        ensures tickets { self.new.tickets.items ≡ slice_set self.old.tickets.items ticket (ends_at rank (slice_index_or self.old.tickets.items ticket None)) }
+        ensures tickets { self.new.tickets.items ≡ slice_set self.old.tickets.items ticket
+            (ends_at rank (slice_index_or self.old.tickets.items ticket None)) }
         ensures indexed { IsIndexed (world_of self.new) (indexes_of self.new) }
     {
         let Some(request) = value_at(&self.tickets, ticket, None) else {
@@ -243,7 +259,8 @@ impl Records {
     fn end_listed(&mut self, rank: Rank)
         requires near { rank < length self.old.tickets_at.items }
         requires indexed { IsIndexed (world_of self.old) (indexes_of self.old) }
-        requires there { (t : ℕ) (q : Request) → request_of (world_of self.old) t ≡ Some q → q.dir < length self.old.parents.items }
+        requires there { (t : ℕ) (q : Request) → request_of (world_of self.old) t ≡ Some q
+            → q.dir < length self.old.parents.items }
         ensures others { self.new ≡ record self.old { tickets = self.new.tickets; running = self.new.running } }
         ensures tickets { self.new.tickets.items ≡ map_at (λ t request. ends_at rank request) self.old.tickets.items }
         ensures indexed { IsIndexed (world_of self.new) (indexes_of self.new) }
@@ -259,8 +276,14 @@ impl Records {
     fn end_requests(&mut self, rank: Rank)
         requires near { rank < length self.old.tickets_at.items }
         requires indexed { IsIndexed (world_of self.old) (indexes_of self.old) }
-        requires there { (t : ℕ) (q : Request) → request_of (world_of self.old) t ≡ Some q → q.dir < length self.old.parents.items }
-        ensures others { self.new ≡ record self.old { tickets = self.new.tickets; running = self.new.running; tickets_at = self.new.tickets_at; ended_at = self.new.ended_at } }
+        requires there { (t : ℕ) (q : Request) → request_of (world_of self.old) t ≡ Some q
+            → q.dir < length self.old.parents.items }
+        ensures others { self.new ≡ record self.old {
+          tickets = self.new.tickets;
+          running = self.new.running;
+          tickets_at = self.new.tickets_at;
+          ended_at = self.new.ended_at;
+        } }
         ensures tickets { self.new.tickets.items ≡ map_at (λ t request. ends_at rank request) self.old.tickets.items }
         ensures indexed { IsIndexed (world_of self.new) (indexes_of self.new) }
     {
@@ -273,7 +296,8 @@ impl Records {
     pub(crate) fn stop(&mut self, rank: Rank) -> Reply
         requires kept { IsKept self.old }
         requires accepted { refusal (world_of self.old) (StepEvent.Stop rank) ≡ None }
-        ensures effect { happens (world_of self.old) (StepEvent.Stop rank) ≡ record { reply = result; world = world_of self.new } }
+        ensures effect { happens (world_of self.old) (StepEvent.Stop rank)
+            ≡ record { reply = result; world = world_of self.new } }
         ensures indexed { IsIndexed (world_of self.new) (indexes_of self.new) }
     {
         self.halt_exports(rank);
@@ -288,7 +312,8 @@ impl Records {
     pub(crate) fn restart(&mut self, rank: Rank) -> Reply
         requires kept { IsKept self.old }
         requires accepted { refusal (world_of self.old) (StepEvent.Restart rank) ≡ None }
-        ensures effect { happens (world_of self.old) (StepEvent.Restart rank) ≡ record { reply = result; world = world_of self.new } }
+        ensures effect { happens (world_of self.old) (StepEvent.Restart rank)
+            ≡ record { reply = result; world = world_of self.new } }
         ensures indexed { IsIndexed (world_of self.new) (indexes_of self.new) }
     {
         if !self.is_stopped(rank) {

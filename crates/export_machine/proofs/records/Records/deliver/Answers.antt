@@ -13,8 +13,8 @@ use Rattle.export_machine.proofs.records.Records.deliver.Goals as goal
 pub index-message-requires : goal.index-message-requires
 index-message-requires c = let near : c.args.message < length c.args.self.now.sent.items = deliver_near (world_of c.args.self.now) c.args.message c.requires.accepted in omega arith
 
-pub receiver-requires : goal.receiver-requires
-receiver-requires c =
+pub receiver-rank-requires : goal.receiver-rank-requires
+receiver-rank-requires c =
     let sent : slice_get c.args.self.now.sent.items c.args.message ≡ Some c.index-message.result.now =
     item_at c.args.self.now.sent.items c.args.message c.index-message.result.now (deliver_near (world_of c.args.self.now) c.args.message c.requires.accepted) c.index-message.ensures in
     orders_by (world_of c.args.self.now) c.requires.kept.reached (about c.index-message.result.now) (length (world_of c.args.self.now).orders) (λ safe. safe.tables.known c.args.message c.index-message.result.now sent)
@@ -25,7 +25,7 @@ returns-then-is_stopped-clause-effect c =
     let sent : slice_get c.args.self.now.sent.items c.args.message ≡ Some c.index-message.result.now =
     item_at c.args.self.now.sent.items c.args.message c.index-message.result.now (deliver_near (world_of c.args.self.now) c.args.message c.requires.accepted) c.index-message.ensures in
     let s : is_stopped (world_of c.args.self.now) (receiver (world_of c.args.self.now) c.index-message.result.now) ≡ true =
-    ap (is_stopped (world_of c.args.self.now)) (sym c.receiver.ensures) ∙ (sym c.is_stopped.ensures ∙ c.if-is_stopped.true) in
+    ap (is_stopped (world_of c.args.self.now)) (sym c.receiver-rank.ensures) ∙ (sym c.is_stopped.ensures ∙ c.if-is_stopped.true) in
     rw (sent, s) refl
 
 pub receive-requires : goal.receive-requires
@@ -35,12 +35,15 @@ receive-requires c =
     item_at c.args.self.now.sent.items c.args.message c.index-message.result.now (deliver_near (world_of c.args.self.now) c.args.message c.requires.accepted) c.index-message.ensures in
     let room : (has_entry_places c.args.self.now (receiver_of (world_of c.args.self.now) (slice_get c.args.self.now.sent.items c.args.message)) ≡ true) × (has_spare c.args.self.now.sent ≡ true) = and_parts _ _ c.requires.room in
     record {
-      kept = c.requires.kept;
-      sent = (c.args.message, sent);
-      spare = room.1;
-      place = (and_parts _ _ (rw sent at room.0)).0;
-      listing = (and_parts _ _ (rw sent at room.0)).1;
-      few = room_left (world_of c.args.self.now) (Deliver c.args.message) c.requires.accepted;
+      can = record {
+        kept = c.requires.kept;
+        sent = (c.args.message, sent);
+        spare = room.1;
+        place = (and_parts _ _ (rw sent at room.0)).0;
+        listing = (and_parts _ _ (rw sent at room.0)).1;
+        few = room_left (world_of c.args.self.now) (Deliver c.args.message) c.requires.accepted;
+      };
+      here = c.receiver-rank.ensures;
     }
 
 pub returns-clause-effect : goal.returns-clause-effect
@@ -49,5 +52,5 @@ returns-clause-effect c =
     let sent : slice_get c.args.self.now.sent.items c.args.message ≡ Some c.index-message.result.now =
     item_at c.args.self.now.sent.items c.args.message c.index-message.result.now (deliver_near (world_of c.args.self.now) c.args.message c.requires.accepted) c.index-message.ensures in
     let s : is_stopped (world_of c.args.self.now) (receiver (world_of c.args.self.now) c.index-message.result.now) ≡ false =
-    ap (is_stopped (world_of c.args.self.now)) (sym c.receiver.ensures) ∙ (sym c.is_stopped.ensures ∙ c.if-is_stopped.false) in
+    ap (is_stopped (world_of c.args.self.now)) (sym c.receiver-rank.ensures) ∙ (sym c.is_stopped.ensures ∙ c.if-is_stopped.false) in
     rw (sent, s) c.receive.ensures.effect

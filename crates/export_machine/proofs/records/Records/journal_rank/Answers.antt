@@ -6,25 +6,12 @@ use Rattle.export_machine.specs.Cluster.{World}
 use Rattle.export_machine.specs.declared.event.Event.{Event}
 use Rattle.export_machine.specs.View.{IsReached}
 use Rattle.export_machine.specs.Authority.{authority}
-use Rattle.export_machine.specs.declared.message.Message.{Message}
-use Rattle.export_machine.specs.declared.message.Message.TheVariants.{Discover, DiscoverAck, Prep, PrepAck, ExportAck, Finish, Cancel, Query}
-use Rattle.export_machine.specs.Step.{refusal, receiver}
+use Rattle.export_machine.specs.Step.{refusal}
 use Rattle.export_machine.specs.Kept.{world_of, entered_at, receiver_of}
 use Rattle.export_machine.specs.Step.{about}
 use Rattle.export_machine.proofs.Found.{orders_by}
-use Rattle.export_machine.proofs.Accepted.{deliver_near, item_at, as_rank, exporter_rank, importer_rank, notify_order}
+use Rattle.export_machine.proofs.Accepted.{deliver_near, item_at, as_rank, exporter_rank, receiver_rank, notify_order}
 use Rattle.export_machine.proofs.records.Records.journal_rank.Goals as goal
-
-receiver_near : (w : World) → IsReached w → (m : Message) → about m < length w.orders → receiver w m < length w.journals
-receiver_near w r (Discover x) h = importer_rank w r x h
-receiver_near w r (DiscoverAck x) h = exporter_rank w r x h
-receiver_near w r (Prep x) h = importer_rank w r x h
-receiver_near w r (PrepAck x) h = exporter_rank w r x h
-receiver_near w r (Message.Export x) h = importer_rank w r x h
-receiver_near w r (ExportAck x) h = exporter_rank w r x h
-receiver_near w r (Finish x) h = importer_rank w r x h
-receiver_near w r (Cancel x) h = importer_rank w r x h
-receiver_near w r (Query x) h = exporter_rank w r x h
 
 owner_near : (w : World) → IsReached w → (d : ℕ) (o : Option ℕ) → o ≡ authority w d → IfSome o (λ r. r < length w.journals)
 owner_near w h d None e = tt
@@ -94,7 +81,7 @@ returns-in-Deliver-clause-near c =
     let sent : slice_get c.args.self.now.sent.items c.in-Deliver.message ≡ Some c.index.result.now =
     item_at c.args.self.now.sent.items c.in-Deliver.message c.index.result.now (deliver_near (world_of c.args.self.now) c.in-Deliver.message h) c.index.ensures in
     let known = orders_by (world_of c.args.self.now) c.requires.kept.reached (about c.index.result.now) (length (world_of c.args.self.now).orders) (λ safe. safe.tables.known c.in-Deliver.message c.index.result.now sent) in
-    let near : c.receiver.result < length (world_of c.args.self.now).journals = rw c.receiver.ensures (receiver_near (world_of c.args.self.now) c.requires.kept.reached c.index.result.now known) in
+    let near : c.receiver.result < length (world_of c.args.self.now).journals = rw c.receiver.ensures (receiver_rank (world_of c.args.self.now) c.requires.kept.reached c.index.result.now known) in
     omega (arith, length-map c.args.self.now.journals.items (λ j. j.items))
 
 pub returns-in-Notify-clause-rank : goal.returns-in-Notify-clause-rank
@@ -117,14 +104,7 @@ entered_else w (Event.Made p) a b c d = absurd (a p refl)
 entered_else w (Event.Gone x) a b c d = absurd (b x refl)
 entered_else w (Event.Deliver m) a b c d = absurd (c m refl)
 entered_else w (Event.Notify x) a b c d = absurd (d x refl)
-entered_else w (Event.Begin r x) a b c d = refl
-entered_else w (Event.End t) a b c d = refl
-entered_else w (Event.Start f t ds) a b c d = refl
-entered_else w (Event.Froze x) a b c d = refl
-entered_else w (Event.Abort x) a b c d = refl
-entered_else w (Event.Stop r) a b c d = refl
-entered_else w (Event.Restart r) a b c d = refl
-entered_else w (Event.Ask x) a b c d = refl
+entered_else w _ a b c d = refl
 
 pub returns-in_default : goal.returns-in_default
 returns-in_default c =
