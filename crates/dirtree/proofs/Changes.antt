@@ -9,7 +9,8 @@ use Rattle.std.specs.Prelude.{is_some, nat_eq}
 use Rattle.std.specs.Str.{bytes_eq}
 use Rattle.dirtree.specs.Name.{is_name}
 use Rattle.dirtree.specs.Tree.{Entry, entry_at, is_there}
-use Rattle.dirtree.specs.Keeps.{IsIndexed, Key, key, key_of, key_at}
+use Rattle.dirtree.proofs.Indexed.{IsIndexed}
+use Rattle.dirtree.specs.Keeps.{Key, key, key_of, key_at}
 use Rattle.dirtree.proofs.Nodes.{there_by_key}
 
 -- where a number stands among the entries and one more

@@ -3,7 +3,8 @@ use Rattle.std.proofs.Common.{◌≡◌, ℕ, ◌<◌, ◌-◌, List, sym, ap, �
 use Rattle.std.proofs.lemmas.Bool.{false≢true}
 use Rattle.dirtree.specs.Name.{is_name}
 use Rattle.dirtree.specs.Tree.{Entry, IsTree, entry_at, is_there, parent_of, name_of, is_named_child, child_of}
-use Rattle.dirtree.specs.Keeps.{IsIndexed, Key, key, key_at}
+use Rattle.dirtree.proofs.Indexed.{IsIndexed}
+use Rattle.dirtree.specs.Keeps.{Key, key, key_at}
 use Rattle.dirtree.proofs.Nodes.{place, there_by_key, named_key, key_named, found_from, missed_from, after_first}
 
 only : {j k : Key} → Some j ≡ Some k → j ≡ k

@@ -1,9 +1,16 @@
+pub mod Chains
 pub mod Changes
 pub mod Children
+pub mod Counts
+pub mod Indexed
+pub mod Lookups
+pub mod Made
 pub mod Names
 pub mod Nodes
 pub mod PathRoundTrip
 pub mod Paths
+pub mod Removed
+pub mod Rooted
 pub mod Sound
 pub mod TreeFacts
 pub mod Walks

@@ -7,8 +7,9 @@ use Rattle.std.proofs.lemmas.Slice.Eq.{bytes_eq-Decides}
 use Rattle.std.specs.Option.{option_map, option_map_or}
 use Rattle.std.specs.Prelude.{is_some, nat_eq}
 use Rattle.std.specs.Str.{bytes_eq}
-use Rattle.dirtree.specs.Tree.{Entry, IsTree, entry_at, is_there, parent_of, name_of, is_named_child, child_from, child_of}
-use Rattle.dirtree.specs.Keeps.{IsIndexed, Key, key, key_of, key_at}
+use Rattle.dirtree.specs.Tree.{Entry, IsTree, entry_at, is_there, parent_of, name_of, is_named_child, child_from}
+use Rattle.dirtree.proofs.Indexed.{IsIndexed}
+use Rattle.dirtree.specs.Keeps.{Key, key, key_of, key_at}
 
 -- an entry is a child of that name exactly if its key says so
 named_entry : (e : Entry) (p : ℕ) (name : List ℕ) → is_named_child p name (Some e) ≡ true → (e.parent ≡ p) × (e.name ≡ name)
@@ -82,23 +83,6 @@ only : {c d : ℕ} → Some c ≡ Some d → c ≡ d
 only h = cc
 
 module _ (entries : List (Option Entry)) (indexed : ℕ → List ℕ → Option ℕ) (index : IsIndexed entries indexed) where
-  pub child_of-indexed : (p : ℕ) (name : List ℕ) → child_of entries p name ≡ indexed p name
-  child_of-indexed p name =
-      elim (child_of entries p name) as (λ o. child_of entries p name ≡ o → o ≡ indexed p name) [
-        | Some c ↦ λ is.
-            let at = found_from 1 (drop 1 entries) p c name is in
-            let some : 0 < c = omega (arith, at.0) in
-            let named = subst (λ (e : Option Entry). is_named_child p name e ≡ true) (after_first entries c some) at.1 in
-            sym (index.found c (key p name) some (named_key (entry_at entries c) p name named))
-        | None ↦ λ is. elim (indexed p name) as (λ o. indexed p name ≡ o → None ≡ o) [
-          | None ↦ λ _. refl
-          | Some d ↦ λ other.
-              let at = index.finds p d name other in
-              let none = subst (λ (e : Option Entry). is_named_child p name e ≡ false) (after_first entries d at.0) (missed_from 1 (drop 1 entries) p (d - 1) name is) in
-              absurd (false≢true (sym none ∙ key_named (entry_at entries d) p name at.1))
-        ] refl
-      ] refl
-
   pub is_tree : IsTree entries
   is_tree = record {
     rooted = index.rooted;

@@ -35,10 +35,10 @@ removed_tree t d tree allowed =
     after : Key → ℕ → List ℕ → Option ℕ
     after k = λ p text. cond (nat_eq p k.parent && bytes_eq k.name text) None (child_of t.entries p text)
 
-is_equal : (m n : ℕ) → m ≡ n → (m == n) ≡ true
+pub is_equal : (m n : ℕ) → m ≡ n → (m == n) ≡ true
 is_equal m n h = (Decides-eqb m n).1 h
 
-is_other : (m n : ℕ) → m ≢ n → (m == n) ≡ false
+pub is_other : (m n : ℕ) → m ≢ n → (m == n) ≡ false
 is_other m n h = elim (m == n) as (λ b. (m == n) ≡ b → b ≡ false) [
   | true ↦ λ is. absurd (h ((Decides-eqb m n).0 is))
   | false ↦ λ is. refl

@@ -1,5 +1,6 @@
 -- Paths of directories.
-use Rattle.std.specs.Prelude.{◌==◌, not, filter, map, ℕ, Bool, true, false, if◌then◌else◌, List, [], ◌∷◌, length, reverse, codes, Option, Some, None, Result, Ok, Err}
+use Rattle.std.specs.Prelude.{◌==◌, not, filter, map, ℕ, Bool, true, false, if◌then◌else◌, List, []}
+use Rattle.std.specs.Prelude.{◌∷◌, length, reverse, codes, Option, Some, None, Result, Ok, Err}
 use Prim.Native.Nat.{zero, suc}
 use Rattle.std.specs.List.{slice_split, flat_map}
 use Rattle.dirtree.specs.declared.tree_error.TreeError.{TreeError}
@@ -15,12 +16,15 @@ onward (Some child) next = next child
 -- where the names lead from a directory
 abbrev pub walk : List (Option Entry) → ℕ → List (List ℕ) → Result ℕ TreeError
 walk entries at [] = Ok at
-walk entries at (name ∷ names) = if is_name name then onward (child_of entries at name) (λ child. walk entries child names) else Err BadName
+walk entries at (name ∷ names) =
+    if is_name name then onward (child_of entries at name) (λ child. walk entries child names) else Err BadName
 
 -- a path is a slash alone, or names that each stand behind a slash
 abbrev pub find : List (Option Entry) → List ℕ → Result ℕ TreeError
 find entries [] = Err BadName
-find entries (b ∷ path) = if b == 47 then (if length path == 0 then Ok 0 else walk entries 0 (slice_split (λ c. c == 47) path)) else Err BadName
+find entries (b ∷ path) =
+    if b == 47 then (if length path == 0 then Ok 0 else walk entries 0 (slice_split (λ c. c == 47) path))
+    else Err BadName
 
 abbrev pub is_root : ℕ → Bool
 is_root zero = true

@@ -1,5 +1,6 @@
 -- A tree of named directories.
-use Rattle.std.specs.Prelude.{◌≡◌, ℕ, ◌<◌, Bool, true, false, not, ◌&&◌, if◌then◌else◌, ◌==◌, nat_lt, List, [], ◌∷◌, ◌++◌, length, drop, slice_index_or, slice_set, is_some, Option, Some, None}
+use Rattle.std.specs.Prelude.{◌≡◌, ℕ, ◌<◌, Bool, true, false, not, ◌&&◌, if◌then◌else◌, ◌==◌, nat_lt, List, [], ◌∷◌}
+use Rattle.std.specs.Prelude.{◌++◌, length, drop, slice_index_or, slice_set, is_some, Option, Some, None}
 use Prim.Native.Nat.{zero, suc}
 use Rattle.std.specs.List.{list_any}
 use Rattle.std.specs.Option.{option_map, option_map_or}
@@ -57,7 +58,8 @@ is_named_child parent name (Some e) = (e.parent == parent) && bytes_eq e.name na
 -- the number of the child with this name, among entries that are numbered from first
 abbrev pub child_from : ℕ → List (Option Entry) → ℕ → List ℕ → Option ℕ
 child_from first [] parent name = None
-child_from first (e ∷ entries) parent name = if is_named_child parent name e then Some first else child_from (suc first) entries parent name
+child_from first (e ∷ entries) parent name =
+    if is_named_child parent name e then Some first else child_from (suc first) entries parent name
 
 -- the root is nobody's child
 abbrev pub child_of : List (Option Entry) → ℕ → List ℕ → Option ℕ
@@ -84,7 +86,8 @@ make_refusal t parent name =
 
 -- the new directory has the next number
 abbrev pub with_child : Directories → ℕ → List ℕ → ℕ → Directories
-with_child t parent name inodes = record t { entries = t.entries ++ Some (record { parent = parent; name = name; inodes = inodes }) ∷ [] }
+with_child t parent name inodes =
+    record t { entries = t.entries ++ Some (record { parent = parent; name = name; inodes = inodes }) ∷ [] }
 
 -- why a directory can't be removed, if it can't
 abbrev pub remove_refusal : Directories → ℕ → Option TreeError
@@ -105,7 +108,8 @@ row_at entries d = option_map (λ e. record { dir = d; parent = e.parent; inodes
 abbrev pub rows_from : ℕ → List (Option Entry) → List TreeRow
 rows_from first [] = []
 rows_from first (None ∷ entries) = rows_from (suc first) entries
-rows_from first (Some e ∷ entries) = record { dir = first; parent = e.parent; inodes = e.inodes } ∷ rows_from (suc first) entries
+rows_from first (Some e ∷ entries) =
+    record { dir = first; parent = e.parent; inodes = e.inodes } ∷ rows_from (suc first) entries
 
 -- the directories from d up to the root, at most steps of them above d
 abbrev pub up : List (Option Entry) → ℕ → ℕ → List ℕ

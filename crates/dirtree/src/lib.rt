@@ -3,6 +3,7 @@
 
 pub mod laws;
 pub mod name;
+mod name_key;
 mod node;
 pub mod path;
 pub mod path_guesses;
@@ -10,6 +11,7 @@ pub mod tree;
 pub mod tree_error;
 
 pub use name::is_name;
+pub use name_key::NameKey;
 pub use path_guesses::PathGuesses;
 pub use tree::{Tree, TreeRow};
 pub use tree_error::TreeError;

@@ -1,69 +1,147 @@
-//! The places of a tree's directories, each with an index of its children by name.
-ghost use Rattle.std.specs.Prelude.{◌≡◌, ℕ, ◌<◌, ◌==◌, ◌&&◌, ◌↔◌, List, length, OnOk, OnErr, IsTrue, true, Some, None, if◌then◌else◌, string_bytes, slice_set, slice_index_or, vec_capacity};
-ghost use Rattle.std.specs.Str.{bytes_eq};
-ghost use Rattle.dirtree.specs.Tree.{is_there};
-ghost use Rattle.dirtree.specs.Keeps.{entries_of, indexed_at};
+//! The places of a tree's directories.
+//!
+//! A directory stands in the chain of its parent and name, by falling numbers: the heads tell with which directory a
+//! chain begins, and each directory which one follows. The root stands in no chain, so 0 ends one.
+//!
+//! A look-up, a new directory and a removal each go through one chain at most. It has about one directory, unless names
+//! were picked that share a hash: a tree with a secret key (`NameKey`) leaves nobody the means for that.
+ghost use Rattle.std.specs.Prelude.{◌≡◌, ℕ, ◌+◌, ◌<◌, ◌==◌, ◌^◌, length, OnOk, Some, true, if◌then◌else◌};
+ghost use Rattle.std.specs.Prelude.{slice_set, slice_index_or, vec_capacity, IsTrue, ◌↔◌, string_bytes};
+ghost use Rattle.dirtree.specs.Tree.{child_of, IsTree, is_there};
+ghost use Rattle.dirtree.specs.Keeps.{chain_of, children_at, entries_of, head_at, IsChained, next_at, place_at};
 
-use std::alloc::AllocError;
-use std::collections::BTreeMap;
+use std::hash::{FoldHasher, Hasher};
 
-/// A directory, with the numbers of its children by name.
+/// A directory, with how many children it has, and the next directory in its chain.
 #[derive(Drop)]
 pub struct Node {
-    pub parent: u32,
     pub name: String,
+    pub parent: u32,
     pub inodes: u32,
-    pub children: BTreeMap<String, u32>,
+    pub children: u32,
+    pub next: u32,
 }
 
-/// The child of this name, by one look-up in the parent's index.
-pub fn indexed(nodes: &[Option<Node>], parent: usize, name: &str) -> Option<u32>
-    ensures { result ≡ indexed_at nodes.now parent name.now }
+/// How many chains there are: as many as a tree has directories at most, so the heads never have to grow.
+pub const CHAINS: usize = 1 << 16;
+
+/// The chain of a parent and a name.
+pub fn chain(hasher: FoldHasher, parent: u32, name: &str) -> usize
+    ensures value { result ≡ chain_of hasher parent name.now }
+    ensures below { result < 2 ^ 16 }
 {
-    match nodes.get(parent) {
-        Some(Some(node)) => node.children.get(name).copied(),
-        _ => None,
+    let mut fed = hasher;
+    fed.write_u32(parent);
+    fed.write(name.as_bytes());
+    (fed.finish() >> 48) as usize
+}
+
+/// The directory of this number, which is there.
+pub fn standing(nodes: &[Option<Node>], dir: u32) -> &Node
+    requires { is_there (entries_of nodes.now) dir ≡ true }
+    ensures { slice_index_or nodes.now dir None ≡ Some result.now }
+{
+    match nodes.get(dir as usize) {
+        Some(Some(node)) => node,
+        _ => unreachable!(),
     }
 }
 
-/// Whether the index of the directory names a child.
-pub fn names_a_child(nodes: &[Option<Node>], dir: usize) -> bool
-    ensures { IsTrue result ↔ ((name : List ℕ) × (child : ℕ) × (indexed_at nodes.now dir name ≡ Some child)) }
+fn is_named(node: &Node, parent: u32, name: &str) -> bool
+    ensures { IsTrue result ↔ ((node.now.parent ≡ parent) × (string_bytes node.now.name ≡ name.now)) }
 {
-    match nodes.get(dir) {
-        Some(Some(node)) => 0 < node.children.len(),
-        _ => false,
+    node.parent == parent && node.name.as_str() == name
+}
+
+/// The child of this name: its chain is gone through, and each directory there tested.
+pub fn child_in_chain(
+    nodes: &[Option<Node>],
+    heads: &[u32],
+    hasher: FoldHasher,
+    parent: u32,
+    name: &str,
+) -> Option<u32>
+    requires wide { length heads.now ≡ 2 ^ 16 }
+    requires tree { IsTree (entries_of nodes.now) }
+    requires chained { IsChained (place_at hasher (entries_of nodes.now)) (next_at nodes.now) (head_at heads.now) }
+    ensures { result ≡ child_of (entries_of nodes.now) parent name.now }
+{
+    let mut at = heads[chain(hasher, parent, name)];
+    while at != 0 {
+        let node = standing(nodes, at);
+        if is_named(node, parent, name) {
+            return Some(at);
+        }
+        at = node.next;
+    }
+    None
+}
+
+/// The chain in which a directory stands, and the directory before it there, or 0 if the chain begins with it.
+pub fn place_in_chain(
+    nodes: &[Option<Node>],
+    heads: &[u32],
+    hasher: FoldHasher,
+    dir: u32,
+) -> (usize, u32)
+    requires wide { length heads.now ≡ 2 ^ 16 }
+    requires some { 0 < dir }
+    requires there { is_there (entries_of nodes.now) dir ≡ true }
+    requires chained { IsChained (place_at hasher (entries_of nodes.now)) (next_at nodes.now) (head_at heads.now) }
+    ensures below { result.0 < 2 ^ 16 }
+    ensures chain { place_at hasher (entries_of nodes.now) dir ≡ Some result.0 }
+    ensures head { result.1 ≡ 0 → head_at heads.now result.0 ≡ dir }
+    ensures before { 0 < result.1 → (next_at nodes.now result.1 ≡ dir)
+        × (place_at hasher (entries_of nodes.now) result.1 ≡ Some result.0) }
+{
+    let node = standing(nodes, dir);
+    let chain = chain(hasher, node.parent, node.name.as_str());
+    let mut before = 0;
+    let mut at = heads[chain];
+    while at != dir {
+        before = at;
+        at = standing(nodes, at).next;
+    }
+    (chain, before)
+}
+
+/// Tells a directory which one follows it in its chain.
+pub fn set_next(nodes: &mut Vec<Option<Node>>, dir: u32, next: u32)
+    requires there { is_there (entries_of nodes.old.items) dir ≡ true }
+    ensures entries { entries_of nodes.new.items ≡ entries_of nodes.old.items }
+    ensures children { (d : ℕ) → children_at nodes.new.items d ≡ children_at nodes.old.items d }
+    ensures nexts { (d : ℕ) → next_at nodes.new.items d ≡ (if d == dir then next else next_at nodes.old.items d) }
+{
+    if let Some(node) = &mut nodes[dir as usize] {
+        node.next = next;
     }
 }
 
-/// Puts a name into the parent's index.
-pub fn add_name(
-    nodes: &mut Vec<Option<Node>>,
-    parent: usize,
-    name: String,
-    number: u32,
-) -> Result<(), AllocError>
-    requires { parent < length nodes.old.items }
+/// Counts one more child of a directory.
+pub fn count_child(nodes: &mut Vec<Option<Node>>, dir: u32)
+    requires there { is_there (entries_of nodes.old.items) dir ≡ true }
+    requires few { children_at nodes.old.items dir < 2 ^ 16 }
     ensures entries { entries_of nodes.new.items ≡ entries_of nodes.old.items }
     ensures capacity { vec_capacity nodes.new ≡ vec_capacity nodes.old }
-    ensures ok { OnOk result (is_there (entries_of nodes.old.items) parent ≡ true → (p : ℕ) (text : List ℕ)
-        → indexed_at nodes.new.items p text ≡ (if (p == parent) && bytes_eq (string_bytes name) text then Some number else indexed_at nodes.old.items p text)) }
-    ensures err { OnErr result ((p : ℕ) (text : List ℕ) → indexed_at nodes.new.items p text ≡ indexed_at nodes.old.items p text) }
+    ensures children { (d : ℕ) → children_at nodes.new.items d
+        ≡ (if d == dir then children_at nodes.old.items d + 1 else children_at nodes.old.items d) }
+    ensures nexts { (d : ℕ) → next_at nodes.new.items d ≡ next_at nodes.old.items d }
 {
-    if let Some(node) = &mut nodes[parent] {
-        node.children.insert(name, number)?;
+    if let Some(node) = &mut nodes[dir as usize] {
+        node.children += 1;
     }
-    Ok(())
 }
 
-/// Takes a name out of the parent's index.
-pub fn forget_name(nodes: &mut Vec<Option<Node>>, parent: usize, name: &str)
-    requires { parent < length nodes.old.items }
+/// Counts one child of a directory less.
+pub fn discount_child(nodes: &mut Vec<Option<Node>>, dir: u32)
+    requires there { is_there (entries_of nodes.old.items) dir ≡ true }
+    requires some { 0 < children_at nodes.old.items dir }
     ensures entries { entries_of nodes.new.items ≡ entries_of nodes.old.items }
-    ensures indexed { (p : ℕ) (text : List ℕ)
-        → indexed_at nodes.new.items p text ≡ (if (p == parent) && bytes_eq name.now text then None else indexed_at nodes.old.items p text) }
+    ensures children { (d : ℕ) → children_at nodes.old.items d
+        ≡ (if d == dir then children_at nodes.new.items d + 1 else children_at nodes.new.items d) }
+    ensures nexts { (d : ℕ) → next_at nodes.new.items d ≡ next_at nodes.old.items d }
 {
-    if let Some(node) = &mut nodes[parent] {
-        let _ = node.children.remove(name);
+    if let Some(node) = &mut nodes[dir as usize] {
+        node.children -= 1;
     }
 }

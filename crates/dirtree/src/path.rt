@@ -1,5 +1,6 @@
 //! Paths of directories, and where they lead.
-ghost use Rattle.std.specs.Prelude.{◌≡◌, ◌≢◌, ◌↔◌, ◌<◌, ◌==◌, ◌++◌, ◌∷◌, [], ℕ, List, Ok, Err, IfOk, IsOkUnless, IsTrue, MatchOption, OnOk, map, reverse, string_bytes, true, false};
+ghost use Rattle.std.specs.Prelude.{◌≡◌, ◌≢◌, ◌↔◌, ◌<◌, ◌==◌, ◌++◌, ◌∷◌, [], ℕ, List, Ok, Err, IfOk, IsOkUnless};
+ghost use Rattle.std.specs.Prelude.{IsTrue, MatchOption, OnOk, map, reverse, string_bytes, true, false};
 ghost use Rattle.std.specs.List.{flat_map, slice_split};
 ghost use Rattle.dirtree.specs.Path.{find, names_up, path_of, walk};
 ghost use Rattle.dirtree.specs.Tree.{is_there};

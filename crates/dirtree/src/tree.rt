@@ -1,13 +1,17 @@
 //! The tree of directories.
-ghost use Rattle.std.specs.Prelude.{◌≡◌, ℕ, ◌+◌, ◌<◌, ◌≤◌, ◌∷◌, [], Some, None, Ok, Err, true, OnSome, length, map, IfOk, IfErr, IfSome, OnErr, OnOk, IsTrue, ◌↔◌, IsOkUnless};
+ghost use Rattle.std.specs.Prelude.{◌≡◌, ℕ, ◌+◌, ◌<◌, ◌≤◌, ◌∷◌, [], Some, None, Ok, Err, true, OnSome, length};
+ghost use Rattle.std.specs.Prelude.{map, IfOk, IfErr, IfSome, OnErr, OnOk, IsTrue, ◌↔◌, IsOkUnless};
 ghost use Rattle.std.specs.Option.{option_map};
 
 use crate::name::is_name;
-use crate::node::{Node, add_name, forget_name, indexed, names_a_child};
+use crate::name_key::NameKey;
+use crate::node::{
+    CHAINS, Node, chain, child_in_chain, count_child, discount_child, place_in_chain, set_next,
+};
 use crate::tree_error::TreeError;
 use mds_types::Dir;
 use std::alloc::{AllocError, Global};
-use std::collections::BTreeMap;
+use std::hash::FoldHasher;
 use std::marker::Model;
 
 /// A directory of the tree, by the numbers of it and its parent.
@@ -22,7 +26,9 @@ pub struct TreeRow {
 #[derive(Drop)]
 pub struct Tree {
     limit: u32,
+    hasher: FoldHasher,
     nodes: Vec<Option<Node>>,
+    heads: Vec<u32>,
 }
 
 impl Model for Tree {
@@ -33,14 +39,15 @@ impl Model for Tree {
 
     ghost view = { λ tree. record { limit = tree.limit; entries = entries_of tree.nodes.items } };
 
-    ghost invariant = { λ tree. IsSound tree.limit tree.nodes.items };
+    ghost invariant = { λ tree. IsSound tree.limit tree.hasher tree.nodes.items tree.heads.items };
 }
 
 impl Tree {
-    ghost use Rattle.dirtree.specs.Keeps.{entry_of};
+    ghost use Rattle.dirtree.specs.Keeps.{children_of, entry_of};
     ghost use Rattle.dirtree.specs.Name.{is_name};
     ghost use Rattle.dirtree.specs.Path.{walk};
-    ghost use Rattle.dirtree.specs.Tree.{child_of, entry_at, has_child, is_there, IsTree, make_refusal, remove_refusal, root, row_at, rows_from, with_child, without};
+    ghost use Rattle.dirtree.specs.Tree.{child_of, entry_at, has_child, is_there, IsTree, make_refusal};
+    ghost use Rattle.dirtree.specs.Tree.{remove_refusal, root, row_at, rows_from, with_child, without};
 
     /// The tree that has the root alone, and gives at most `limit` numbers.
     pub fn new(alloc: Global, limit: u32) -> Result<Tree, AllocError>
@@ -48,14 +55,29 @@ impl Tree {
         requires high { limit ≤ 65536 }
         ensures { IfOk result (λ tree. tree ≡ record { limit = limit; entries = Some root ∷ [] }) }
     {
+        Tree::keyed(alloc, limit, NameKey::default())
+    }
+
+    /// The same, where the key picks the hash by which names are found.
+    pub fn keyed(alloc: Global, limit: u32, key: NameKey) -> Result<Tree, AllocError>
+        requires low { 1 ≤ limit }
+        requires high { limit ≤ 65536 }
+        ensures { IfOk result (λ tree. tree ≡ record { limit = limit; entries = Some root ∷ [] }) }
+    {
         let mut nodes = Vec::new(alloc);
         nodes.push(Some(Node {
-            parent: 0,
             name: String::new(alloc),
+            parent: 0,
             inodes: 1,
-            children: BTreeMap::new(alloc),
+            children: 0,
+            next: 0,
         }))?;
-        Ok(Tree { limit, nodes })
+        Ok(Tree {
+            limit,
+            hasher: key.hasher(),
+            nodes,
+            heads: vec![in alloc; 0; CHAINS]?,
+        })
     }
 
     /// How many numbers were given, those of removed directories too.
@@ -81,6 +103,7 @@ impl Tree {
         ensures tree { IsTree self.now.entries }
         ensures above { IfSome result (λ n. 0 < dir → n.now.parent < dir) }
         ensures parent { IfSome result (λ n. is_there self.now.entries n.now.parent ≡ true) }
+        ensures children { IfSome result (λ n. n.now.children ≡ children_of self.now.entries dir) }
         ensures below { OnSome result (dir < self.now.limit) }
     {
         let _ = &self.limit;
@@ -114,7 +137,7 @@ impl Tree {
         }
     }
 
-    /// The child of this name, by one look-up in the parent's index.
+    /// The child of this name.
     pub(crate) fn child(&self, parent: Dir, name: &str) -> Option<Dir>
         ensures child { result ≡ child_of self.now.entries parent name.now }
         ensures below { IfSome result (λ child. child < self.now.limit) }
@@ -122,7 +145,7 @@ impl Tree {
         ensures named { OnSome result (is_name name.now ≡ true) }
     {
         let _ = &self.limit;
-        match indexed(&self.nodes, parent.number() as usize, name) {
+        match child_in_chain(&self.nodes, &self.heads, self.hasher, parent.number(), name) {
             Some(child) => Some(Dir::new(child)),
             None => None,
         }
@@ -165,24 +188,28 @@ impl Tree {
     {
         self.can_make(parent, name)?;
         let number = self.nodes.len() as u32;
-        let key = String::from_str(alloc, name)?;
+        let chain = chain(self.hasher, parent.number(), name);
         let node = Node {
-            parent: parent.number(),
             name: String::from_str(alloc, name)?,
+            parent: parent.number(),
             inodes,
-            children: BTreeMap::new(alloc),
+            children: 0,
+            next: self.heads[chain],
         };
         self.nodes.reserve(1)?;
-        add_name(&mut self.nodes, parent.number() as usize, key, number)?;
+        count_child(&mut self.nodes, parent.number());
         self.nodes.push_reserved(Some(node));
+        self.heads[chain] = number;
         Ok(Dir::new(number))
     }
 
     fn has_child(&self, dir: Dir) -> bool
         ensures { result ≡ has_child self.now.entries dir }
     {
-        let _ = &self.limit;
-        names_a_child(&self.nodes, dir.number() as usize)
+        let Some(node) = self.node(dir) else {
+            return false;
+        };
+        node.children > 0
     }
 
     /// What `remove` would refuse.
@@ -211,8 +238,14 @@ impl Tree {
         ensures allowed { OnOk result (remove_refusal self.old dir ≡ None) }
     {
         self.can_remove(dir)?;
+        let (chain, before) = place_in_chain(&self.nodes, &self.heads, self.hasher, dir.number());
         if let Some(node) = self.nodes[dir.number() as usize].take() {
-            forget_name(&mut self.nodes, node.parent as usize, node.name.as_str());
+            discount_child(&mut self.nodes, node.parent);
+            if before == 0 {
+                self.heads[chain] = node.next;
+            } else {
+                set_next(&mut self.nodes, before, node.next);
+            }
         }
         Ok(())
     }
