@@ -30,12 +30,14 @@ module _ {R : Type 0} (remaining : R → Option (List ℕ)) (limit : ℕ) (stric
   -- the script came to its end, or to its first faulty line where the run is strict, and all answers were written
   abbrev pub IsCarriedOut : Bool → Type 0
   IsCarriedOut accepted =
-      (bytes : List ℕ) × Gives remaining old new bytes × ((strict && not accepted) ≡ false → IsEnded remaining new) × AllAnswered limit strict (lines_of bytes) accepted before after
+      (bytes : List ℕ) × Gives remaining old new bytes × ((strict && not accepted) ≡ false
+      → IsEnded remaining new) × AllAnswered limit strict (lines_of bytes) accepted before after
 
   -- a read failed, and all whole lines were answered; or a write failed, and a beginning of what was due was written
   abbrev pub IsBrokenOff : Type 0
   IsBrokenOff =
-      (bytes : List ℕ) × Gives remaining old new bytes × (WholeAnswered limit strict bytes before after ⊎ SomeAnswered limit strict bytes before after)
+      (bytes : List ℕ) × Gives remaining old new bytes × (WholeAnswered limit strict bytes before after
+      ⊎ SomeAnswered limit strict bytes before after)
 
   -- The script was carried out, but its certificates were not all written; or it was broken off.
   abbrev pub IsFailed : Type 0
@@ -52,9 +54,10 @@ abbrev pub AreProved : Option (List ℕ) → Option (List ℕ) → Type 0
 AreProved before after =
     (cs : List Certificate) × All (λ c. IsBest c.problem c.plan) cs × Appends before after (texts cs)
 
--- The words of the command line are accepted, and the script is carried out with the limit and the flag that they name; or
--- nothing is read, as they ask for the help or the version, or are refused.
-abbrev pub IsExit : {R : Type 0} → (R → Option (List ℕ)) → List Text → Reading R → Reading R → Option (List ℕ) → Option (List ℕ) → ℕ → Type 0
+-- The words of the command line are accepted, and the script is carried out with the limit and the flag that they
+-- name; or nothing is read, as they ask for the help or the version, or are refused.
+abbrev pub IsExit : {R : Type 0} → (R → Option (List ℕ)) → List Text → Reading R → Reading R → Option (List ℕ)
+    → Option (List ℕ) → ℕ → Type 0
 IsExit remaining words old new before after status =
     ((fault_of mdbal words ≡ []) × IsRun remaining (limit_of words) (is_strict words) old new before after status)
     ⊎ ((status ≡ 0) × (IsAmong DisplayHelp (fault_of mdbal words) ⊎ IsAmong DisplayVersion (fault_of mdbal words)) × (new ≡ old))

@@ -7,7 +7,9 @@ ghost use Rattle.script_engine.specs.Known.{AppendsFront};
 ghost use Rattle.mdbal.specs.Exit.{AreProved, IsExit, IsRun, message, status_of};
 ghost use Rattle.std.specs.Option.{option_and_then};
 
+use crate::hints::LineHints;
 use command_line::{OptionsError, Settings, options};
+use dirtree::NameKey;
 use script_engine::{Input, RunError, write_whole};
 use script_session::laws::certificates_are_best;
 use script_session::run;
@@ -17,24 +19,28 @@ use std::fs::{File, Files};
 use std::io;
 use std::io::{Read, Write};
 use std::marker::Sync;
+use std::random::RandomSource;
 use std::sync::Wait;
 use std::thread::Threads;
 
-/// Carries out a script as the words of a command line ask, of which the first is the program's name. Gives the exit status.
+/// Carries out a script as the words of a command line ask, of which the first
+/// is the program's name. Gives the exit status.
 ///
-/// It is 0 where every line was accepted, 1 where one was not, 2 where the command line is refused or there is no memory
-/// to begin with, and 3 where a device failed, or the certificates of the adopted plans that `--proofs FILE` asks for
-/// could not all be written. The help and the version end with 0.
-pub fn start<T: Threads + Wait + Files + Sync, S: AsStr, R: Read, W: Write, E: Write>(
-    rt: &T,
-    alloc: Global,
-    words: &[S],
-    input: &mut Input<R>,
-    writer: &mut W,
-    errors: &mut E,
-) -> u8
+/// It is 0 where every line was accepted, 1 where one was not, 2 where the command line is refused or there is no
+/// memory to begin with, and 3 where a device failed, or the certificates of the adopted plans that `--proofs FILE`
+/// asks for could not all be written, or there are no random bytes to key the hash of names with. The help and the
+/// version end with 0. Of a line that spells no command a line on
+/// standard error says why, unless the words have `--quiet`.
+pub fn start<
+    T: Threads + Wait + Files + RandomSource + Sync,
+    S: AsStr,
+    R: Read,
+    W: Write,
+    E: Write,
+>(rt: &T, alloc: Global, words: &[S], input: &mut Input<R>, writer: &mut W, errors: &mut E) -> u8
     requires unread { input.old.reads ≡ 0 }
-    ensures { IsExit R.remaining (map S.text words.now) input.old input.new (W.contents writer.old) (W.contents writer.new) result }
+    ensures { IsExit R.remaining (map S.text words.now) input.old input.new (W.contents writer.old)
+        (W.contents writer.new) result }
 {
     match options(alloc, words) {
         Ok(settings) => carry_out(rt, alloc, settings, input, writer, errors),
@@ -43,7 +49,7 @@ pub fn start<T: Threads + Wait + Files + Sync, S: AsStr, R: Read, W: Write, E: W
 }
 
 // Carries out a script with these settings. Where a file for certificates is asked for, it is made first.
-fn carry_out<T: Threads + Wait + Files + Sync, R: Read, W: Write, E: Write>(
+fn carry_out<T: Threads + Wait + Files + RandomSource + Sync, R: Read, W: Write, E: Write>(
     rt: &T,
     alloc: Global,
     settings: Settings<'_>,
@@ -54,7 +60,8 @@ fn carry_out<T: Threads + Wait + Files + Sync, R: Read, W: Write, E: Write>(
     requires some { 1 ≤ settings.limit }
     requires few { settings.limit ≤ 65536 }
     requires unread { input.old.reads ≡ 0 }
-    ensures { IsRun R.remaining settings.entry.limit settings.entry.strict input.old input.new (W.contents writer.old) (W.contents writer.new) result }
+    ensures { IsRun R.remaining settings.entry.limit settings.entry.strict input.old input.new (W.contents writer.old)
+        (W.contents writer.new) result }
 {
     let mut proofs: Option<T::File> = match open_proofs(rt, settings.proofs) {
         Ok(proofs) => proofs,
@@ -63,8 +70,17 @@ fn carry_out<T: Threads + Wait + Files + Sync, R: Read, W: Write, E: Write>(
             return 3;
         }
     };
-    let (limit, strict) = (settings.limit, settings.strict);
-    prove(rt, alloc, limit, strict, input, writer, &mut proofs, errors)
+    let Ok(key) = name_key(rt) else {
+        return fail(RunError::Read, errors);
+    };
+    prove(rt, alloc, settings, key, input, writer, &mut proofs, errors)
+}
+
+// A key that nobody else knows, for the hash by which names are found.
+fn name_key<T: RandomSource>(rt: &T) -> io::Result<NameKey> {
+    let mut bytes = [0; 8];
+    rt.fill_bytes(&mut bytes)?;
+    Ok(NameKey::from_bytes(bytes))
 }
 
 // The file for certificates, if one is asked for, without what it held.
@@ -79,22 +95,33 @@ fn open_proofs<T: Files>(rt: &T, file: Option<&str>) -> io::Result<Option<T::Fil
 fn prove<T: Threads + Wait + Sync, R: Read, W: Write, P: Write, E: Write>(
     rt: &T,
     alloc: Global,
-    limit: u32,
-    strict: bool,
+    settings: Settings<'_>,
+    key: NameKey,
     input: &mut Input<R>,
     writer: &mut W,
     proofs: &mut Option<P>,
     errors: &mut E,
 ) -> u8
-    requires some { 1 ≤ limit }
-    requires few { limit ≤ 65536 }
+    requires some { 1 ≤ settings.limit }
+    requires few { settings.limit ≤ 65536 }
     requires unread { input.old.reads ≡ 0 }
-    ensures run { IsRun R.remaining limit strict input.old input.new
+    ensures run { IsRun R.remaining settings.entry.limit settings.entry.strict input.old input.new
         (W.contents writer.old) (W.contents writer.new) result }
     ensures proofs { result ≤ 1 → AreProved
         (option_and_then P.contents proofs.old) (option_and_then P.contents proofs.new) }
 {
-    let ended = run(rt, alloc, input, writer, proofs, limit, strict);
+    let mut hints = LineHints {
+        errors,
+        quiet: settings.quiet,
+    };
+    let (limit, strict) = (settings.limit, settings.strict);
+    let ended = run(
+        rt, alloc, input, writer, proofs, &mut hints, key, limit, strict,
+    );
+    let LineHints {
+        errors,
+        quiet: _quiet,
+    } = hints;
     let accepted = match ended.answered {
         Ok(accepted) => accepted,
         Err(failure) => return fail(failure, errors),

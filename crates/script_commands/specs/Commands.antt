@@ -1,5 +1,7 @@
 -- How the lines of a script spell commands.
-use Rattle.std.specs.Prelude.{◌≡◌, ℕ, ℤ, pos, negsuc, ◌+◌, ◌*◌, ◌-◌, Bool, true, false, not, ◌&&◌, ◌||◌, if◌then◌else◌, ◌==◌, nat_lt, nat_le, List, [], ◌∷◌, length, filter, codes, Option, Some, None}
+use Rattle.std.specs.Prelude.{◌≡◌, ℕ, ℤ, pos, negsuc, ◌+◌, ◌*◌, ◌-◌, Bool, true, false, not, ◌&&◌, ◌||◌}
+use Rattle.std.specs.Prelude.{if◌then◌else◌, ◌==◌, nat_lt, nat_le, List, [], ◌∷◌, length, filter, codes, Option, Some}
+use Rattle.std.specs.Prelude.{None}
 use Rattle.std.specs.List.{slice_split, list_all}
 use Rattle.std.specs.Option.{option_map}
 use Rattle.std.specs.Str.{bytes_eq, all_ascii_digits}
@@ -38,7 +40,8 @@ number low high field =
 
 -- the value of an export pin, with -1 for none
 abbrev pub pin_value : List ℕ → Option ℤ
-pin_value field = if bytes_eq field (codes "-1") then Some (negsuc 0) else option_map (λ n. pos n) (number 0 2147483647 field)
+pin_value field =
+    if bytes_eq field (codes "-1") then Some (negsuc 0) else option_map (λ n. pos n) (number 0 2147483647 field)
 
 -- a path or a mask is given by its bytes
 pub data Command : Type 0 where
@@ -129,4 +132,6 @@ asked_by None = Syntax
 asked_by (Some c) = Asks c
 
 abbrev pub asked : List ℕ → Asked
-asked line = if is_skipped (fields line) then Nothing else if list_all is_plain line then asked_by (command (fields line)) else Syntax
+asked line =
+    if is_skipped (fields line) then Nothing else if list_all is_plain line then asked_by (command (fields line))
+    else Syntax

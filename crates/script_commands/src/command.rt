@@ -2,7 +2,8 @@
 ghost use Rattle.std.specs.Prelude.{◌≡◌, ◌∷◌, map, IfOk, true};
 ghost use Rattle.std.specs.List.{list_all};
 ghost use Rattle.std.specs.Option.{option_map};
-ghost use Rattle.script_commands.specs.Commands.{alone, command, is_plain, load, make_dir, mask, pin, rank_of, ranks, remove_dir, restart, stop};
+ghost use Rattle.script_commands.specs.Commands.{alone, command, is_plain, load, make_dir, mask, pin};
+ghost use Rattle.script_commands.specs.Commands.{rank_of, ranks, remove_dir, restart, stop};
 ghost use Rattle.script_commands.specs.View.{view};
 
 use crate::fields::text;

@@ -5,7 +5,8 @@ ghost use Rattle.script_commands.specs.Commands.{is_blank, is_empty, is_plain, f
 
 use std::alloc::{AllocError, Global};
 
-fn is_blank(byte: u8) -> bool
+/// Whether a byte parts fields.
+pub fn is_blank(byte: u8) -> bool
     ensures { result ≡ is_blank byte }
 {
     byte == b' ' || byte == b'\t' || byte == b'\r'
@@ -30,7 +31,8 @@ pub fn is_plain_line(line: &[u8]) -> bool
     plain
 }
 
-fn is_field(part: &[u8]) -> bool
+/// Whether a part between blanks is a field.
+pub fn is_field(part: &[u8]) -> bool
     ensures { result ≡ not (is_empty part.now) }
 {
     match part {

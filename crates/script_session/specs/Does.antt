@@ -3,7 +3,7 @@ use Rattle.std.specs.Prelude.{◌≡◌, Bool, true, false, List, [], ◌⊎◌,
 use Rattle.division_cost.specs.declared.division.Part.{Part}
 use Rattle.mds_types.specs.declared.order.Order.{Order}
 use Rattle.mds_types.specs.declared.plan.Plan.{Plan}
-use Rattle.rank_threads.specs.declared.order_outcome.OrderOutcome.{OrderOutcome}
+use Rattle.export_threads.specs.declared.order_outcome.OrderOutcome.{OrderOutcome}
 use Rattle.script_commands.specs.Commands as line
 use Rattle.script_commands.specs.Commands.{Command}
 use Rattle.script_board.specs.declared.fault.Fault.{Fault}
@@ -55,8 +55,8 @@ IsCaused stands fault = (stands ≡ Some fault) ⊎ ((fault ≡ Memory) × (stan
 abbrev pub IsQuiet : Result BoardData Fault → Printed → Bool → BoardData → Type 0
 IsQuiet changed p ample new = (changed ≡ Ok new) × (p ≡ only_lines []) × (ample ≡ true)
 
--- The board accepts the command: this is printed, and this is the board after it. Ample says whether memory sufficed for all
--- that it does; only `go` can go on without, and then tells it.
+-- The board accepts the command: this is printed, and this is the board after it. Ample says whether memory sufficed
+-- for all that it does; only `go` can go on without, and then tells it.
 abbrev pub Does : BoardData → Command → Printed → Bool → BoardData → Type 0
 Does b (line.Ranks n) p ample new = ⊥
 Does b (line.Mask text) p ample new = IsQuiet (set_mask b text) p ample new
@@ -71,7 +71,8 @@ Does b (line.Cost paths) p ample new =
 Does b line.Plan p ample new =
     (plan : Plan) × IsPlanned b plan new × (p ≡ only_lines (plan_lines new (parts_in_force new))) × (ample ≡ true)
 Does b line.Move p ample new =
-    (orders : List Order) × (outcomes : List OrderOutcome) × IsMoved b orders outcomes new × (p ≡ only_lines (move_lines new orders outcomes)) × (ample ≡ true)
+    (orders : List Order) × (outcomes : List OrderOutcome) × IsMoved b orders outcomes new × (p
+    ≡ only_lines (move_lines new orders outcomes)) × (ample ≡ true)
 Does b (line.Stop rank) p ample new = IsQuiet (stop b rank) p ample new
 Does b (line.Restart rank) p ample new = IsQuiet (restart b rank) p ample new
 Does b line.Stat p ample new = (p ≡ only_lines (stat_lines b)) × (ample ≡ true) × (new ≡ b)

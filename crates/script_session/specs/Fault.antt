@@ -5,7 +5,8 @@ use Rattle.mds_types.specs.declared.refusal.Refusal.TheVariants as refusal
 use Rattle.mds_types.specs.Refusal as refusal_words
 use Rattle.board_state.specs.Refused.{refusal_of}
 use Rattle.script_board.specs.declared.fault.Fault.{Fault}
-use Rattle.script_board.specs.declared.fault.Fault.TheVariants.{Syntax, NoRanks, RanksAgain, Memory, Mask, Refused, ShareFull, NoThread, Pinned}
+use Rattle.script_board.specs.declared.fault.Fault.TheVariants.{Syntax, NoRanks, RanksAgain, Memory, Mask}
+use Rattle.script_board.specs.declared.fault.Fault.TheVariants.{Refused, ShareFull, NoThread, Pinned}
 
 -- a numbered refusal, with its value where there is one
 abbrev pub refused : Refusal → List ℕ

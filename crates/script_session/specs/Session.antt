@@ -1,5 +1,6 @@
 -- What a line of a script does, and what is written for it.
-use Rattle.std.specs.Prelude.{◌≡◌, ◌<◌, ℕ, ◌==◌, Bool, true, false, not, if◌then◌else◌, List, [], ◌++◌, length, take, ◌⊎◌, Option, Some, None}
+use Rattle.std.specs.Prelude.{◌≡◌, ◌<◌, ℕ, ◌==◌, Bool, true, false, not, if◌then◌else◌}
+use Rattle.std.specs.Prelude.{List, [], ◌++◌, length, take, ◌⊎◌, Option, Some, None}
 use Rattle.std.specs.List.{flat_map}
 use Rattle.std.specs.Option.{option_map}
 use Rattle.script_engine.specs.Answers.{Answer, fault_text}
@@ -57,10 +58,16 @@ refusal_lines number refused = flat_map (λ fault. fault_text number (words faul
 
 -- A line that refused a request or a deposit isn't accepted.
 abbrev pub done_answer : ℕ → Printed → Bool → Answer
-done_answer number p ample = record { text = joined p.lines ++ refusal_lines number p.refused; accepted = length p.refused == 0; ample = ample }
+done_answer number p ample =
+    record {
+      text = joined p.lines ++ refusal_lines number p.refused;
+      accepted = length p.refused == 0;
+      ample = ample;
+    }
 
 abbrev pub fault_answer : ℕ → Fault → Answer
-fault_answer number fault = record { text = fault_text number (words fault); accepted = false; ample = not (is_memory fault) }
+fault_answer number fault =
+    record { text = fault_text number (words fault); accepted = false; ample = not (is_memory fault) }
 
 abbrev pub out_of_memory : ℕ → Answer
 out_of_memory number = record { text = fault_text number (words Memory); accepted = false; ample = false }
@@ -73,8 +80,8 @@ published s = record s { board = option_map publish s.board }
 abbrev pub settled : Printed → SessionData → SessionData
 settled p s = if length p.refused == 0 then published s else s
 
--- The line is answered, and the map is published, or there was no memory for that: then the operations stay pending, and
--- the answer is the same.
+-- The line is answered, and the map is published, or there was no memory for that: then the operations stay pending,
+-- and the answer is the same.
 abbrev pub IsSettled : ℕ → Printed → Bool → SessionData → Answer → SessionData → Type 0
 IsSettled number p ample mid a new =
     ((a ≡ done_answer number p ample) × (new ≡ settled p mid))
@@ -82,17 +89,21 @@ IsSettled number p ample mid a new =
 
 -- the answer where memory was refused for a line of a reply: the lines before it stand
 abbrev pub cut_answer : ℕ → List (List ℕ) → Answer
-cut_answer number lines = record { text = joined lines ++ fault_text number (words Memory); accepted = false; ample = false }
+cut_answer number lines =
+    record { text = joined lines ++ fault_text number (words Memory); accepted = false; ample = false }
 
 -- What was done is printed and the map published, or memory was refused for a line of it.
 abbrev pub IsTold : ℕ → Printed → Bool → SessionData → Answer → SessionData → Type 0
-IsTold number p ample mid a new = IsSettled number p ample mid a new ⊎ ((count : ℕ) × (count < length p.lines) × (a ≡ cut_answer number (take count p.lines)) × (new ≡ mid))
+IsTold number p ample mid a new =
+    IsSettled number p ample mid a new
+    ⊎ ((count : ℕ) × (count < length p.lines) × (a ≡ cut_answer number (take count p.lines)) × (new ≡ mid))
 
 -- A line is answered so: what it asks for is done; or a cause stands, and nothing has changed; or none does, but memory
 -- was refused, and nothing has changed. (A line that finds no room for its bytes or its fields is beside these.)
 abbrev pub answers : SessionData → ℕ → List ℕ → Answer → SessionData → Type 0
 answers old number bytes a new =
-    ((p : Printed) × (ample : Bool) × (mid : SessionData) × IsDone old (asked bytes) p ample mid × IsTold number p ample mid a new)
+    ((p : Printed) × (ample : Bool) × (mid : SessionData) × IsDone old (asked
+    bytes) p ample mid × IsTold number p ample mid a new)
     ⊎ ((fault : Fault) × (asked_cause old (asked bytes) ≡ Some fault) × (a ≡ fault_answer number fault) × (new ≡ old))
     ⊎ ((asked_cause old (asked bytes) ≡ None) × (a ≡ out_of_memory number) × (new ≡ old))
 

@@ -16,8 +16,9 @@ abbrev pub NoneSaysMemory : ℕ → List Answer → Type 0
 NoneSaysMemory number [] = Unit {0}
 NoneSaysMemory number (a ∷ more) = (SaysMemory number a → ⊥) × NoneSaysMemory (number + 1) more
 
--- Whether a line's answer is the same however much of the map is published: not so `go`, whose requests are asked of the ranks
--- that the published map names, nor the report, which shows them. (A map that isn't published for want of memory isn't told.)
+-- Whether a line's answer is the same however much of the map is published: not so `go`, whose requests are asked of
+-- the ranks that the published map names, nor the report, which shows them. (A map that isn't published for want of
+-- memory isn't told.)
 abbrev pub tells_all : Asked → Bool
 tells_all (line.Asks line.Go) = false
 tells_all (line.Asks line.Plan) = false

@@ -22,7 +22,8 @@ pub fn carry_out<J: Naming + Send + Sync, M: Publisher<J> + Send, R: Threads + W
     alloc: Global,
     command: Command<'_>,
 ) -> (ScriptBoard<J, M>, Result<Done, Fault>)
-    ensures done { IfOk result.1 (λ done. (ample : Bool) × Does board (view command.entry) (shown result.0 done) ample result.0) }
+    ensures done { IfOk result.1 (λ done. (ample : Bool)
+        × Does board (view command.entry) (shown result.0 done) ample result.0) }
     ensures showable { IfOk result.1 (IsShowable result.0) }
     ensures fault { IfErr result.1 (IsCaused (cause board (view command.entry))) }
     ensures unchanged { OnErr result.1 (result.0 ≡ board) }
@@ -58,7 +59,8 @@ fn change<J: Naming, M: Publisher<J>, R: Threads>(
     command: Command<'_>,
 ) -> Result<Done, Fault>
     requires { is_by_threads (view command) ≡ false }
-    ensures done { IfOk result (λ done. (ample : Bool) × Does board.old (view command.entry) (shown board.new done) ample board.new) }
+    ensures done { IfOk result (λ done. (ample : Bool)
+        × Does board.old (view command.entry) (shown board.new done) ample board.new) }
     ensures showable { IfOk result (IsShowable board.new) }
     ensures fault { IfErr result (IsCaused (cause board.old (view command.entry))) }
     ensures unchanged { OnErr result (board.new ≡ board.old) }

@@ -13,8 +13,10 @@ use std::io::Write;
 
 /// Writes what a faulty line is answered. It takes no memory.
 pub fn write_fault<W: Write>(writer: &mut W, number: u64, fault: Fault) -> Result<(), WriteFailed>
-    ensures ok { OnOk result (Appends (W.contents writer.old) (W.contents writer.new) (fault_text number (words fault))) }
-    ensures err { OnErr result (AppendsFront (W.contents writer.old) (W.contents writer.new) (fault_text number (words fault))) }
+    ensures ok { OnOk result (Appends (W.contents writer.old) (W.contents writer.new)
+        (fault_text number (words fault))) }
+    ensures err { OnErr result (AppendsFront (W.contents writer.old) (W.contents writer.new)
+        (fault_text number (words fault))) }
 {
     match fault {
         Fault::Syntax => script_engine::write_fault(writer, number, "syntax"),
@@ -35,8 +37,10 @@ pub fn write_refused<W: Write>(
     number: u64,
     refused: &[Fault],
 ) -> Result<(), WriteFailed>
-    ensures ok { OnOk result (Appends (W.contents writer.old) (W.contents writer.new) (refusal_lines number refused.now)) }
-    ensures err { OnErr result (AppendsFront (W.contents writer.old) (W.contents writer.new) (refusal_lines number refused.now)) }
+    ensures ok { OnOk result (Appends (W.contents writer.old) (W.contents writer.new)
+        (refusal_lines number refused.now)) }
+    ensures err { OnErr result (AppendsFront (W.contents writer.old) (W.contents writer.new)
+        (refusal_lines number refused.now)) }
 {
     for fault in refused {
         write_fault(writer, number, *fault)?;

@@ -8,10 +8,12 @@ ghost use Rattle.script_session.specs.Session.{SessionData, answers};
 ghost use Rattle.script_session.specs.Proofs.{IsProved, LeadsTo};
 ghost use Rattle.script_session.specs.Script.{AcceptedUpTo, AllAnswered, IsKeptAt, SomeAnswered, WholeAnswered};
 
+use crate::hints::{Hinted, Hints};
 use crate::session::Session;
 use authority_map::MapWriter;
 use board_certificates::Unwritten;
 use board_state::BoardParts;
+use dirtree::NameKey;
 use naming::Naming;
 use script_board::Parts;
 use script_engine::{Input, RunError, WriteFailed, run_script};
@@ -44,15 +46,20 @@ impl Ended {
 
 /// Carries out a script, and says whether each of its lines was accepted. A tree has numbers below `limit`.
 ///
-/// A strict run ends with the first line that isn't accepted. A device that fails ends the run. The parts of a board are
-/// opened first; where there is no memory for them, nothing is read. However a run ends, the certificates of the plans
-/// that the board has adopted are then written to `proofs`, where one is given.
-pub fn run<T: Threads + Wait + Sync, R: Read, W: Write, P: Write>(
+/// A strict run ends with the first line that isn't accepted. A device that fails ends the run. The parts of a board
+/// are opened first; where there is no memory for them, nothing is read. However a run ends, the certificates of the
+/// plans that the board has adopted are then written to `proofs`, where one is given.
+///
+/// `hints` is told of each line that is answered `syntax`, and why. `key` picks the hash by which names are found. Neither
+/// changes what is answered.
+pub fn run<T: Threads + Wait + Sync, R: Read, W: Write, P: Write, H: Hints>(
     rt: &T,
     alloc: Global,
     input: &mut Input<R>,
     writer: &mut W,
     proofs: &mut Option<P>,
+    hints: &mut H,
+    key: NameKey,
     limit: u32,
     strict: bool,
 ) -> Ended
@@ -87,22 +94,33 @@ pub fn run<T: Threads + Wait + Sync, R: Read, W: Write, P: Write>(
         × IfOk result.answered (LeadsTo R.remaining limit strict input.old input.new
         (W.contents writer.old) (W.contents writer.new) last) }
 {
-    let Ok(book) = heat_ledger::Opened::new(alloc) else {
+    let Ok(book) = heat_ledger::NewBook::new(alloc) else {
         return Ended::without_memory();
     };
-    let map = authority_map::Opened::new();
-    run_named::<Brand, T, R, W, P>(rt, alloc, book, map, input, writer, proofs, limit, strict)
+    let map = authority_map::NewMap::new();
+    run_named::<Brand, T, R, W, P, H>(
+        rt, alloc, book, map, input, writer, proofs, hints, key, limit, strict,
+    )
 }
 
 // The same for a board whose name was picked.
-fn run_named<J: Naming + Send + Sync, T: Threads + Wait + Sync, R: Read, W: Write, P: Write>(
+fn run_named<
+    J: Naming + Send + Sync,
+    T: Threads + Wait + Sync,
+    R: Read,
+    W: Write,
+    P: Write,
+    H: Hints,
+>(
     rt: &T,
     alloc: Global,
-    book: heat_ledger::Opened,
-    map: authority_map::Opened,
+    book: heat_ledger::NewBook,
+    map: authority_map::NewMap,
     input: &mut Input<R>,
     writer: &mut W,
     proofs: &mut Option<P>,
+    hints: &mut H,
+    key: NameKey,
     limit: u32,
     strict: bool,
 ) -> Ended
@@ -140,19 +158,23 @@ fn run_named<J: Naming + Send + Sync, T: Threads + Wait + Sync, R: Read, W: Writ
         × IfOk result.answered (LeadsTo R.remaining limit strict input.old input.new
         (W.contents writer.old) (W.contents writer.new) last) }
 {
-    let Some(parts) = open_parts(rt, alloc, book, map, limit) else {
+    let Some(parts) = open_parts(rt, alloc, book, map, key, limit) else {
         return Ended::without_memory();
     };
-    let mut session = Session::<J, MapWriter<J, &T>, T>::new(rt, limit, parts);
-    let answer = |session: &mut Session<
+    let session = Session::<J, MapWriter<J, &T>, T>::new(rt, limit, parts);
+    let mut hinted = Hinted { session, hints };
+    let answer = |hinted: &mut Hinted<
         '_,
-        J,
-        MapWriter<J, &T>,
-        T,
+        Session<'_, J, MapWriter<J, &T>, T>,
+        H,
     >, number: u64, line: &[u8], writer: &mut W| -> Result<bool, WriteFailed>
-        ensures { Tells answers W.contents session.old number line.now writer.old result session.new writer.new }
-    { session.answer(alloc, number, line, writer) };
-    let answered = run_script(alloc, &answer, &mut session, input, writer, strict);
+        ensures { Tells answers W.contents hinted.old number line.now writer.old result hinted.new writer.new }
+    { hinted.answer(alloc, number, line, writer) };
+    let answered = run_script(alloc, &answer, &mut hinted, input, writer, strict);
+    let Hinted {
+        session,
+        hints: _hints,
+    } = hinted;
     session.promises();
     let proved = session.prove(alloc, proofs);
     session.end();
@@ -163,8 +185,9 @@ fn run_named<J: Naming + Send + Sync, T: Threads + Wait + Sync, R: Read, W: Writ
 fn open_parts<'r, J: Naming, T: Wait>(
     rt: &'r T,
     alloc: Global,
-    book: heat_ledger::Opened,
-    map: authority_map::Opened,
+    book: heat_ledger::NewBook,
+    map: authority_map::NewMap,
+    key: NameKey,
     limit: u32,
 ) -> Option<Parts<J, MapWriter<J, &'r T>>>
     requires book { book ≡ J.ledger }
@@ -175,7 +198,7 @@ fn open_parts<'r, J: Naming, T: Wait>(
 {
     match MapWriter::<J, &T>::open(rt, alloc, map, limit, 1) {
         Ok((writer, mut readers)) => match readers.pop() {
-            Some(reader) => Some(Parts::new(BoardParts::new(book, writer), reader)),
+            Some(reader) => Some(Parts::new(BoardParts::keyed(book, writer, key), reader)),
             None => unreachable!(),
         },
         Err(_) => None,

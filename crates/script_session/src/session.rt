@@ -1,5 +1,6 @@
 //! A session: the board that `ranks` makes, and the lines that come before it.
-ghost use Rattle.std.specs.Prelude.{◌≡◌, ◌<◌, ◌≤◌, ◌⊎◌, ℕ, Bool, IfErr, IfOk, IsErrOf, OnErr, OnOk, Some, None, [], length, take, true};
+ghost use Rattle.std.specs.Prelude.{◌≡◌, ◌<◌, ◌≤◌, ◌⊎◌, ℕ, Bool, IfErr, IfOk, IsErrOf};
+ghost use Rattle.std.specs.Prelude.{OnErr, OnOk, Some, None, [], length, take, true};
 ghost use Rattle.script_commands.specs.Commands.{Ranks, asked};
 ghost use Rattle.script_commands.specs.Commands as words;
 ghost use Rattle.script_commands.specs.View.{asked_view, view};
@@ -13,7 +14,8 @@ ghost use Rattle.script_session.specs.Script.{IsKeptAt};
 ghost use Rattle.std.specs.Option.{option_and_then};
 ghost use Rattle.script_session.specs.Printed.{only_lines};
 ghost use Rattle.script_engine.specs.Telling.{Tells};
-ghost use Rattle.script_session.specs.Session.{DoesAt, IsCausedOrNoRoom, IsDone, IsTold, answers, asked_cause, beginning, cause_at, published};
+ghost use Rattle.script_session.specs.Session.{DoesAt, IsCausedOrNoRoom, IsDone, IsTold, answers};
+ghost use Rattle.script_session.specs.Session.{asked_cause, beginning, cause_at, published};
 
 use crate::carry_out::carry_out;
 use crate::done::Done;
@@ -99,8 +101,8 @@ impl<'r, J: Naming, M: Publisher<J>, R: Threads> Session<'r, J, M, R> {
         }
     }
 
-    /// What holds of every board holds of this one: its state is the replay of its history, each adopted plan is best for
-    /// the problem of its opening, and each directory has exactly one authority. It does nothing.
+    /// What holds of every board holds of this one: its state is the replay of its history, each adopted plan is best
+    /// for the problem of its opening, and each directory has exactly one authority. It does nothing.
     pub fn promises(&self)
         ensures { IsKeptAt self.now.board }
     {
@@ -126,7 +128,8 @@ impl<'r, J: Naming, M: Publisher<J>, R: Threads> Session<'r, J, M, R> {
     // Makes the board. Where memory is refused, its parts are kept.
     fn begin(&mut self, alloc: Global, active: RankCount) -> Result<Done, Fault>
         requires { self.old.board ≡ None }
-        ensures done { IfOk result (λ done. IsDone self.old (words.Asks (Ranks active.number)) (shown_at self.new.board done) true self.new) }
+        ensures done { IfOk result (λ done. IsDone self.old (words.Asks (Ranks active.number))
+            (shown_at self.new.board done) true self.new) }
         ensures showable { IfOk result (IsShowableAt self.new.board) }
         ensures fault { IfErr result (λ fault. fault ≡ Fault.Memory) }
         ensures unchanged { OnErr result (self.new ≡ self.old) }
@@ -163,9 +166,15 @@ impl<'r, J: Naming, M: Publisher<J>, R: Threads> Session<'r, J, M, R> {
         writer: &mut W,
     ) -> Result<(), Unprinted>
         requires { IsShowableAt self.old.board done.now }
-        ensures done { OnOk result (Appends (W.contents writer.old) (W.contents writer.new) (joined (shown_at self.old.board done.now).lines)) }
-        ensures memory { IsErrOf result Unprinted.Memory → (count : ℕ) × (count < length (shown_at self.old.board done.now).lines) × Appends (W.contents writer.old) (W.contents writer.new) (joined (take count (shown_at self.old.board done.now).lines)) }
-        ensures write { IsErrOf result Unprinted.Write → AppendsFront (W.contents writer.old) (W.contents writer.new) (joined (shown_at self.old.board done.now).lines) }
+        ensures done { OnOk result (Appends (W.contents writer.old) (W.contents writer.new)
+            (joined (shown_at self.old.board done.now).lines)) }
+        ensures memory { IsErrOf result Unprinted.Memory
+            → (count : ℕ) × (count < length (shown_at self.old.board done.now).lines)
+            × Appends (W.contents writer.old) (W.contents writer.new)
+            (joined (take count (shown_at self.old.board done.now).lines)) }
+        ensures write { IsErrOf result Unprinted.Write
+            → AppendsFront (W.contents writer.old) (W.contents writer.new)
+            (joined (shown_at self.old.board done.now).lines) }
         ensures same { self.new ≡ self.old }
     {
         match &mut self.board {
@@ -183,8 +192,12 @@ impl<'r, J: Naming, M: Publisher<J>, R: Threads> Session<'r, J, M, R> {
         writer: &mut W,
     ) -> Result<bool, WriteFailed>
         requires { IsShowableAt self.old.board done.now }
-        ensures ok { IfOk result (λ accepted. (ample : Bool) → (a : Answer) × IsTold number (shown_at self.old.board done.now) ample self.old a self.new × (accepted ≡ a.accepted) × Appends (W.contents writer.old) (W.contents writer.new) a.text) }
-        ensures err { OnErr result ((ample : Bool) → (a : Answer) × IsTold number (shown_at self.old.board done.now) ample self.old a self.new × AppendsFront (W.contents writer.old) (W.contents writer.new) a.text) }
+        ensures ok { IfOk result (λ accepted. (ample : Bool)
+            → (a : Answer) × IsTold number (shown_at self.old.board done.now) ample self.old a self.new
+            × (accepted ≡ a.accepted) × Appends (W.contents writer.old) (W.contents writer.new) a.text) }
+        ensures err { OnErr result ((ample : Bool)
+            → (a : Answer) × IsTold number (shown_at self.old.board done.now) ample self.old a self.new
+            × AppendsFront (W.contents writer.old) (W.contents writer.new) a.text) }
     {
         match self.print(alloc, done, writer) {
             Ok(()) => {}
@@ -212,7 +225,8 @@ impl<'r, J: Naming + Send + Sync, M: Publisher<J> + Send, R: Threads + Wait + Sy
 > {
     // Carries out a command. Before `ranks` was accepted no other is.
     fn carry_out(&mut self, alloc: Global, command: Command<'_>) -> Result<Done, Fault>
-        ensures done { IfOk result (λ done. (ample : Bool) × IsDone self.old (words.Asks (view command.entry)) (shown_at self.new.board done) ample self.new) }
+        ensures done { IfOk result (λ done. (ample : Bool)
+            × IsDone self.old (words.Asks (view command.entry)) (shown_at self.new.board done) ample self.new) }
         ensures showable { IfOk result (IsShowableAt self.new.board) }
         ensures fault { IfErr result (IsCaused (cause_at self.old.board (view command.entry))) }
         ensures unchanged { OnErr result (self.new ≡ self.old) }
@@ -230,7 +244,8 @@ impl<'r, J: Naming + Send + Sync, M: Publisher<J> + Send, R: Threads + Wait + Sy
 
     // Carries out what a line asks for, and answers what it prints.
     fn carry_asked(&mut self, alloc: Global, what: Asked<'_>) -> Result<Done, Fault>
-        ensures done { IfOk result (λ done. (ample : Bool) × IsDone self.old (asked_view what.entry) (shown_at self.new.board done) ample self.new) }
+        ensures done { IfOk result (λ done. (ample : Bool)
+            × IsDone self.old (asked_view what.entry) (shown_at self.new.board done) ample self.new) }
         ensures showable { IfOk result (IsShowableAt self.new.board) }
         ensures fault { IfErr result (IsCaused (asked_cause self.old (asked_view what.entry))) }
         ensures unchanged { OnErr result (self.new ≡ self.old) }
@@ -245,7 +260,8 @@ impl<'r, J: Naming + Send + Sync, M: Publisher<J> + Send, R: Threads + Wait + Sy
     // Reads a line, carries out what it asks for, and answers what it prints. Where the line's fields find no room, it
     // is refused whatever it says.
     fn take_line(&mut self, alloc: Global, line: &[u8]) -> Result<Done, Fault>
-        ensures done { IfOk result (λ done. (ample : Bool) × IsDone self.old (asked line.now) (shown_at self.new.board done) ample self.new) }
+        ensures done { IfOk result (λ done. (ample : Bool)
+            × IsDone self.old (asked line.now) (shown_at self.new.board done) ample self.new) }
         ensures showable { IfOk result (IsShowableAt self.new.board) }
         ensures fault { IfErr result (IsCausedOrNoRoom (asked_cause self.old (asked line.now))) }
         ensures unchanged { OnErr result (self.new ≡ self.old) }
@@ -283,9 +299,14 @@ fn print<J: Naming, M: Publisher<J>, W: Write>(
     writer: &mut W,
 ) -> Result<(), Unprinted>
     requires { IsShowable board.old done.now }
-    ensures done { OnOk result (Appends (W.contents writer.old) (W.contents writer.new) (joined (shown board.old done.now).lines)) }
-    ensures memory { IsErrOf result Unprinted.Memory → (count : ℕ) × (count < length (shown board.old done.now).lines) × Appends (W.contents writer.old) (W.contents writer.new) (joined (take count (shown board.old done.now).lines)) }
-    ensures write { IsErrOf result Unprinted.Write → AppendsFront (W.contents writer.old) (W.contents writer.new) (joined (shown board.old done.now).lines) }
+    ensures done { OnOk result (Appends (W.contents writer.old) (W.contents writer.new)
+        (joined (shown board.old done.now).lines)) }
+    ensures memory { IsErrOf result Unprinted.Memory
+        → (count : ℕ) × (count < length (shown board.old done.now).lines)
+        × Appends (W.contents writer.old) (W.contents writer.new)
+        (joined (take count (shown board.old done.now).lines)) }
+    ensures write { IsErrOf result Unprinted.Write
+        → AppendsFront (W.contents writer.old) (W.contents writer.new) (joined (shown board.old done.now).lines) }
     ensures same { board.new ≡ board.old }
 {
     match done {

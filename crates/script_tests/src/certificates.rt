@@ -1,10 +1,11 @@
 //! The certificates of the plans that a script adopts.
 use crate::devices::{ENOUGH, Sink, sink_of, source_of};
 use board_certificates::Unwritten;
+use dirtree::NameKey;
 use plan_checker::check;
 use plan_text::read;
 use script_engine::Input;
-use script_session::run;
+use script_session::{Silence, run};
 use std::alloc::Global;
 use std::marker::Sync;
 use std::sync::Wait;
@@ -32,7 +33,17 @@ fn written<T: Threads + Wait + Sync>(
         step,
         writes,
     });
-    let ended = run(rt, alloc, &mut input, &mut sink, &mut proofs, 64, false);
+    let ended = run(
+        rt,
+        alloc,
+        &mut input,
+        &mut sink,
+        &mut proofs,
+        &mut Silence,
+        NameKey::default(),
+        64,
+        false,
+    );
     match proofs {
         Some(sink) => (ended.proved, sink.bytes),
         None => (ended.proved, Vec::new(alloc)),

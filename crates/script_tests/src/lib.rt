@@ -6,6 +6,8 @@ mod certificates;
 #[cfg(test)]
 mod devices;
 #[cfg(test)]
+mod hints;
+#[cfg(test)]
 mod pieces;
 #[cfg(test)]
 mod scripts;

@@ -2,8 +2,9 @@
 ghost use Rattle.std.specs.Prelude.{◌≤◌};
 
 use crate::devices::{ENOUGH, Sink, Source, sink_of, source_of};
+use dirtree::NameKey;
 use script_engine::{Input, RunError};
-use script_session::run;
+use script_session::{Silence, run};
 use std::alloc::Global;
 use std::marker::Sync;
 use std::sync::Wait;
@@ -24,7 +25,17 @@ fn carried_out<T: Threads + Wait + Sync>(
 {
     let mut input = Input::new(source);
     let mut proofs: Option<Sink> = None;
-    let ended = run(rt, alloc, &mut input, sink, &mut proofs, limit, strict);
+    let ended = run(
+        rt,
+        alloc,
+        &mut input,
+        sink,
+        &mut proofs,
+        &mut Silence,
+        NameKey::default(),
+        limit,
+        strict,
+    );
     (ended.answered, input.into_inner().reads)
 }
 
