@@ -182,12 +182,12 @@ module _ (limit : ℕ) (starts cells : List ℕ) (run dir : ℕ) (runs : AreRuns
       before_cut (no m) = omega (arith, p.until (omega (arith, inside.there, past.1)), rises_to starts runs.order (k + 1) run (omega (arith, past.1, m)) inside.there, later)
 
   pub index_cut : (index new : List ℕ) (first : ℕ) → first ≡ (dir + 255) / 256 → IsIndex limit starts index → IsOneMore first index new → IsIndex limit more new
-  index_cut index new first at was change = record { sized = change.sized ∙ was.sized; each = λ b h. each b (omega (arith, h, change.sized)) (leb_tells first b) }
+  index_cut index new first at was operation = record { sized = operation.sized ∙ was.sized; each = λ b h. each b (omega (arith, h, operation.sized)) (leb_tells first b) }
     where
       each : (b : ℕ) → b < length index → Order first b → IsIn more (get_or new b 0) (256 * b)
       each b h (inl le) =
           let old = get_or index b 0 in
-          subst (λ (j : ℕ). IsIn more j (256 * b)) (sym (change.after b le.1 h)) (moves old (256 * b) (was.each b h) (omega (arith, le.1, at)) (ℕ_discrete old run) (leb_tells run old))
+          subst (λ (j : ℕ). IsIn more j (256 * b)) (sym (operation.after b le.1 h)) (moves old (256 * b) (was.each b h) (omega (arith, le.1, at)) (ℕ_discrete old run) (leb_tells run old))
       each b h (inr less) =
           let old = get_or index b 0 in
-          subst (λ (j : ℕ). IsIn more j (256 * b)) (sym (change.before b less.1)) (stays old (256 * b) (was.each b h) (omega (arith, less.1, at)) (ℕ_discrete old run) (leb_tells old run))
+          subst (λ (j : ℕ). IsIn more j (256 * b)) (sym (operation.before b less.1)) (stays old (256 * b) (was.each b h) (omega (arith, less.1, at)) (ℕ_discrete old run) (leb_tells old run))

@@ -43,11 +43,11 @@ abbrev pub counts : ℕ → ℕ → ℕ
 counts old n = either (n == old) (old + 1) n
 
 -- the word counts the list after the step, where it counted it before
-goes : (log known : List Operation) (e : Operation) (old : ℕ) → length known ≡ old → IsPrefix known log → (b : Bool) → (length log == old) ≡ b
-    → Goes IsCounted shows_none moves_none 0 (known, (no_nib, None)) (counts old) (Appends (step 0 old (old + 1) e) (known, (no_nib, None))) ((length log, true) ∷ []) log
-goes log known e old len part true is =
+goes : (log prefix : List Operation) (e : Operation) (old : ℕ) → length prefix ≡ old → IsPrefix prefix log → (b : Bool) → (length log == old) ≡ b
+    → Goes IsCounted shows_none moves_none 0 (prefix, (no_nib, None)) (counts old) (Appends (step 0 old (old + 1) e) (prefix, (no_nib, None))) ((length log, true) ∷ []) log
+goes log prefix e old len part true is =
     let here : length log ≡ old = grind (arith, nat_tests) in
-    let same : log ≡ known = same_length_same log known log ([], append-nil log) part (here ∙ sym len) in
+    let same : log ≡ prefix = same_length_same log prefix log ([], append-nil log) part (here ∙ sym len) in
     let counted : counts old (length log) ≡ length (log ++ e ∷ []) = rw is (omega (arith, length-append log (e ∷ []))) in (
       keeps,
       e ∷ [],
@@ -57,7 +57,7 @@ goes log known e old len part true is =
       inl (refl, refl),
       rw is (ap (λ (l : List Operation). l ++ e ∷ []) same),
     )
-goes log known e old len part false is =
+goes log prefix e old len part false is =
     let all : log ++ [] ≡ log = append-nil log in
     let counted : counts old (length log) ≡ length (log ++ []) = rw is (ap length (sym all)) in (
       keeps,
@@ -69,7 +69,7 @@ goes log known e old len part false is =
       rw is tt,
     )
 
-pub appends_moves : (known : List Operation) (e : Operation) (old : ℕ) → length known ≡ old → Moves IsCounted shows_none moves_none 0 (known, (no_nib, None)) (counts old) (Appends (step 0 old (old + 1) e) (known, (no_nib, None)))
-appends_moves known e old len cells log kept part away =
-    let P : List Cell → Type 0 = λ cs. (0 < length cs) × ((cell cs 0).1 ≡ true) × Goes IsCounted shows_none moves_none 0 (known, (no_nib, None)) (counts old) (Appends (step 0 old (old + 1) e) (known, (no_nib, None))) cs log in
-    subst P (sym kept) (omega arith, refl, goes log known e old len part (length log == old) refl)
+pub appends_moves : (prefix : List Operation) (e : Operation) (old : ℕ) → length prefix ≡ old → Moves IsCounted shows_none moves_none 0 (prefix, (no_nib, None)) (counts old) (Appends (step 0 old (old + 1) e) (prefix, (no_nib, None)))
+appends_moves prefix e old len cells log kept part away =
+    let P : List Cell → Type 0 = λ cs. (0 < length cs) × ((cell cs 0).1 ≡ true) × Goes IsCounted shows_none moves_none 0 (prefix, (no_nib, None)) (counts old) (Appends (step 0 old (old + 1) e) (prefix, (no_nib, None))) cs log in
+    subst P (sym kept) (omega arith, refl, goes log prefix e old len part (length log == old) refl)

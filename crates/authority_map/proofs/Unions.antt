@@ -170,12 +170,12 @@ module _ (limit : ℕ) (starts cells : List ℕ) (run : ℕ) (runs : AreRuns lim
   index_some index first at was b le h = let past = not_before (get_or index b 0) (256 * b) (was.each b h) (omega (arith, le, at)) in omega (arith, past, some)
 
   pub index_united : (index new : List ℕ) (first : ℕ) → first ≡ (get_or starts run 0 + 255) / 256 → IsIndex limit starts index → IsOneMore first new index → IsIndex limit fewer new
-  index_united index new first at was change = record { sized = sym change.sized ∙ was.sized; each = λ b h. each b h (leb_tells first b) }
+  index_united index new first at was operation = record { sized = sym operation.sized ∙ was.sized; each = λ b h. each b h (leb_tells first b) }
     where
       each : (b : ℕ) → b < length new → ((leb first b ≡ true) × (first ≤ b)) ⊎ ((leb first b ≡ false) × (b < first)) → IsIn fewer (get_or new b 0) (256 * b)
       each b h (inl le) =
-          let here : IsIn starts (get_or new b 0 + 1) (256 * b) = subst (λ (j : ℕ). IsIn starts j (256 * b)) (change.after b le.1 h) (was.each b (omega (arith, h, change.sized))) in
+          let here : IsIn starts (get_or new b 0 + 1) (256 * b) = subst (λ (j : ℕ). IsIn starts j (256 * b)) (operation.after b le.1 h) (was.each b (omega (arith, h, operation.sized))) in
           moves (get_or new b 0) (256 * b) here (omega (arith, le.1, at)) (ℕ_discrete (get_or new b 0 + 1) run)
       each b h (inr less) =
           let old = get_or index b 0 in
-          subst (λ (j : ℕ). IsIn fewer j (256 * b)) (change.before b less.1) (stays old (256 * b) (was.each b (omega (arith, h, change.sized))) (omega (arith, less.1, at)) (ℕ_discrete (old + 1) run) (leb_tells run old))
+          subst (λ (j : ℕ). IsIn fewer j (256 * b)) (operation.before b less.1) (stays old (256 * b) (was.each b (omega (arith, h, operation.sized))) (omega (arith, less.1, at)) (ℕ_discrete (old + 1) run) (leb_tells run old))

@@ -2,25 +2,25 @@
 use Rattle.std.proofs.Common.{◌≡◌, zero, suc, List, [], ◌∷◌, ◌++◌, All, refl, ap, sym, ◌∙◌, subst, arith, append-nil, append_assoc, fold}
 use Rattle.std.proofs.lemmas.List.Elements.{All-append}
 use Rattle.authority_map.specs.Operations.{Operation}
-use Rattle.authority_map.specs.Changes.{Growth, changes}
+use Rattle.authority_map.specs.LogEntries.{LogEntry, operations_of}
 
-fold_changes : (xs : List Operation) (es : List Growth) → fold (λ (l : List Operation) (e : Growth). l ++ e.change ∷ []) xs es ≡ xs ++ changes es
-fold_changes xs [] = sym (append-nil xs)
-fold_changes xs (e ∷ es) = fold_changes (xs ++ e.change ∷ []) es ∙ append_assoc xs (e.change ∷ []) (changes es)
+fold_operations : (xs : List Operation) (es : List LogEntry) → fold (λ (l : List Operation) (e : LogEntry). l ++ e.operation ∷ []) xs es ≡ xs ++ operations_of es
+fold_operations xs [] = sym (append-nil xs)
+fold_operations xs (e ∷ es) = fold_operations (xs ++ e.operation ∷ []) es ∙ append_assoc xs (e.operation ∷ []) (operations_of es)
 
 -- all that was pending comes after what was shown
-pub all_shown : (before new waiting pending : List Operation) (es : List Growth) → new ≡ fold (λ (l : List Operation) (e : Growth). l ++ e.change ∷ []) before es → changes es ++ waiting ≡ pending → waiting ≡ [] → new ≡ before ++ pending
+pub all_shown : (before new waiting pending : List Operation) (es : List LogEntry) → new ≡ fold (λ (l : List Operation) (e : LogEntry). l ++ e.operation ∷ []) before es → operations_of es ++ waiting ≡ pending → waiting ≡ [] → new ≡ before ++ pending
 all_shown before new waiting pending es is order none =
-    is ∙ fold_changes before es ∙ ap (λ (l : List Operation). before ++ l) (sym (append-nil (changes es)) ∙ ap (λ (l : List Operation). changes es ++ l) (sym none) ∙ order)
+    is ∙ fold_operations before es ∙ ap (λ (l : List Operation). before ++ l) (sym (append-nil (operations_of es)) ∙ ap (λ (l : List Operation). operations_of es ++ l) (sym none) ∙ order)
 
-changes-snoc : (es : List Growth) (e : Growth) → changes (es ++ e ∷ []) ≡ changes es ++ e.change ∷ []
-changes-snoc [] e = refl
-changes-snoc (x ∷ es) e = ap (λ (l : List Operation). x.change ∷ l) (changes-snoc es e)
+operations_of-snoc : (es : List LogEntry) (e : LogEntry) → operations_of (es ++ e ∷ []) ≡ operations_of es ++ e.operation ∷ []
+operations_of-snoc [] e = refl
+operations_of-snoc (x ∷ es) e = ap (λ (l : List Operation). x.operation ∷ l) (operations_of-snoc es e)
 
 -- one operation goes over, and the order stays
-pub handed : (es new : List Growth) (e : Growth) (left old : List Operation) → new ≡ es ++ e ∷ [] → e.change ∷ left ≡ old → changes new ++ left ≡ changes es ++ old
+pub handed : (es new : List LogEntry) (e : LogEntry) (left old : List Operation) → new ≡ es ++ e ∷ [] → e.operation ∷ left ≡ old → operations_of new ++ left ≡ operations_of es ++ old
 handed es new e left old is order =
-    ap (λ (l : List Growth). changes l ++ left) is ∙ ap (λ (l : List Operation). l ++ left) (changes-snoc es e) ∙ append_assoc (changes es) (e.change ∷ []) left ∙ ap (λ (l : List Operation). changes es ++ l) order
+    ap (λ (l : List LogEntry). operations_of l ++ left) is ∙ ap (λ (l : List Operation). l ++ left) (operations_of-snoc es e) ∙ append_assoc (operations_of es) (e.operation ∷ []) left ∙ ap (λ (l : List Operation). operations_of es ++ l) order
 
 alone : (x : List Operation) → x ≡ [] → All (λ (reader : List Operation). reader ≡ []) (x ∷ [])
 alone x none zero d near = none

@@ -1,5 +1,5 @@
 pub mod Operations
-pub mod Changes
+pub mod LogEntries
 pub mod Log
 pub mod Runs
 pub mod Cells

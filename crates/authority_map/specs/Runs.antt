@@ -31,10 +31,12 @@ pub record AreRuns (limit : ℕ) (starts cells : List ℕ) : Type 0 where
 abbrev pub StartsAt : List ℕ → ℕ → Type 0
 StartsAt starts dir = (run : ℕ) → IsIn starts run dir → slice_index starts run ≡ dir
 
--- Each directory's cell is that of its run. Neighbouring runs differ, but for those that start at one of two directories.
+-- Each directory's cell is that of its run. Neighbouring runs differ, but for
+-- those that start at one of two directories.
 pub record HasCells (limit : ℕ) (starts cells : List ℕ) (cell : ℕ → ℕ) (this that : ℕ) : Type 0 where
   pub each : (run dir : ℕ) → dir < limit → IsIn starts run dir → slice_index cells run ≡ cell dir
-  pub apart : (run : ℕ) → run + 1 < length starts → slice_index starts (run + 1) ≢ this → slice_index starts (run + 1) ≢ that → slice_index cells run ≢ slice_index cells (run + 1)
+  pub apart : (run : ℕ) → run + 1 < length starts → slice_index starts (run + 1) ≢ this
+      → slice_index starts (run + 1) ≢ that → slice_index cells run ≢ slice_index cells (run + 1)
 
 -- For each block of 256 neighbouring directories that has some below the limit, and for one block more, the run of the
 -- block's first directory.

@@ -9,7 +9,7 @@ pub enum Found {
     Rank(Rank),
     /// The directory has no rank.
     NoDir,
-    /// The writer has ended, or the copy that is shown lacks some of what the reader was told of.
+    /// The writer has ended, or the copy that is shown lacks some of what the reader has learned.
     /// The second doesn't happen beside a writer that lives.
     Closed,
 }

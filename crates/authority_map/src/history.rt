@@ -1,14 +1,14 @@
 //! All operations of a map, in order, and how far somebody knows them.
 //!
 //! The list stands in proofs alone, in a book of `logbook` that only grows. In memory there is its
-//! length: the writer's word `Count`, and a number in each `Known`, which is a beginning of the
+//! length: the writer's word `Count`, and a number in each `LogPrefix`, which is a beginning of the
 //! list. Any two beginnings of one list are parts of one another, so the shorter one is known by
 //! its number.
 ghost use Rattle.std.specs.Prelude.{◌≡◌, ◌<◌, ◌^◌, ◌++◌, ◌∷◌, [], ◌⊎◌, length, IfSome, IsTrue, MatchBool};
 ghost use mathlib.Core.List.{IsPrefix};
 ghost use Rattle.authority_map.specs.Log.{counter_of};
 
-use crate::change::Change;
+use crate::operation::MapOperation;
 use logbook::{Gain, Offer, Opening, Plain, Play, Rule, Seen, Start, Word};
 use naming::Naming;
 use std::marker::{Model, PhantomData};
@@ -16,7 +16,7 @@ use std::marker::{Model, PhantomData};
 /// The book's rule: its word has the length of its list.
 pub struct Counted;
 
-impl Rule<Change, u64> for Counted {
+impl Rule<MapOperation, u64> for Counted {
     ghost use Rattle.std.specs.Prelude.{[]};
     ghost use base.Fml.{ftrue};
     ghost use Rattle.authority_map.specs.Log.{IsCounted};
@@ -37,7 +37,7 @@ impl Rule<Change, u64> for Counted {
 // A book opens with an empty list.
 struct Empty;
 
-impl Opening<(), Change> for Empty {
+impl Opening<(), MapOperation> for Empty {
     ghost use Rattle.std.specs.Prelude.{[]};
 
     ghost log = { λ _ _. [] };
@@ -46,7 +46,7 @@ impl Opening<(), Change> for Empty {
 // A step gives its caller nothing to keep.
 struct Nothing;
 
-impl Gain<Change, u64> for Nothing {
+impl Gain<MapOperation, u64> for Nothing {
     ghost use base.Fml.{ftrue};
 
     ghost after = { λ _ _ _. ftrue };
@@ -55,16 +55,16 @@ impl Gain<Change, u64> for Nothing {
 // The step that appends an operation.
 struct Append;
 
-impl Play<Change, u64> for Append {
+impl Play<MapOperation, u64> for Append {
     ghost use Rattle.authority_map.specs.Log.{Appends};
 
     ghost then = { Appends };
 }
 
-impl Plain<Change, Change, u64> for Append {
+impl Plain<MapOperation, MapOperation, u64> for Append {
     ghost use Rattle.std.specs.Prelude.{None};
 
-    ghost ask = { λ change. change };
+    ghost ask = { λ operation. operation };
 
     ghost state = { λ _. None };
 }
@@ -72,12 +72,12 @@ impl Plain<Change, Change, u64> for Append {
 /// What a map begins with. Its one value in a contract is the name that a program picks for its
 /// board. There are no operations.
 #[derive(Drop)]
-pub struct Opened {
-    count: Word<Change, u64, Counted>,
-    seen: Seen<Change, u64, Counted>,
+pub struct NewMap {
+    count: Word<MapOperation, u64, Counted>,
+    seen: Seen<MapOperation, u64, Counted>,
 }
 
-impl Model for Opened {
+impl Model for NewMap {
     ghost use Rattle.std.specs.Prelude.{◌≡◌, []};
     ghost use Rattle.logbook.specs.Pages.{Book, book_coded};
     ghost use Rattle.authority_map.specs.Log.{counter_of};
@@ -91,23 +91,23 @@ impl Model for Opened {
     ghost invariant = { λ opened. (opened.seen.log ≡ []) × (opened.count ≡ counter_of opened.seen.book) };
 }
 
-impl Opened {
+impl NewMap {
     /// A map with a name of its own. It takes no memory.
-    pub fn new() -> Opened {
+    pub fn new() -> NewMap {
         let (seen, mut pens) = Seen::open_row::<(), Empty>(&(), Start::alone(), 1);
         let mut pen = pens.take();
-        Opened {
+        NewMap {
             count: Word::tracked(0, &mut pen),
             seen,
         }
     }
 
     // The beginning that has no operation.
-    pub(crate) fn start<J: Naming>(&self) -> Known<J>
+    pub(crate) fn start<J: Naming>(&self) -> LogPrefix<J>
         requires { self.now ≡ J.map }
         ensures { result ≡ [] }
     {
-        Known {
+        LogPrefix {
             count: 0,
             seen: self.seen.again(),
             of: PhantomData,
@@ -118,7 +118,7 @@ impl Opened {
     pub(crate) fn into_count<J: Naming>(self) -> Count<J>
         requires { self ≡ J.map }
     {
-        let Opened { count, seen: _seen } = self;
+        let NewMap { count, seen: _seen } = self;
         Count {
             count,
             of: PhantomData,
@@ -129,41 +129,41 @@ impl Opened {
 /// How many operations there are. Who has it appends.
 #[derive(Drop)]
 pub struct Count<J: Naming> {
-    count: Word<Change, u64, Counted>,
+    count: Word<MapOperation, u64, Counted>,
     of: PhantomData<J>,
     ghost named: { count ≡ counter_of J.map },
 }
 
 /// A beginning of the list of operations. In memory it is its length.
 #[derive(Drop)]
-pub struct Known<J: Naming> {
+pub struct LogPrefix<J: Naming> {
     count: u64,
-    seen: Seen<Change, u64, Counted>,
+    seen: Seen<MapOperation, u64, Counted>,
     of: PhantomData<J>,
 }
 
-impl<J: Naming> Model for Known<J> {
+impl<J: Naming> Model for LogPrefix<J> {
     ghost use Rattle.std.specs.Prelude.{◌≡◌, List, length};
     ghost use Rattle.authority_map.specs.Operations.{Operation};
 
     ghost Value = { List Operation };
 
-    ghost view = { λ known. known.seen.log };
+    ghost view = { λ prefix. prefix.seen.log };
 
-    ghost invariant = { λ known. (known.count ≡ length known.seen.log) × (known.seen.book ≡ J.map) };
+    ghost invariant = { λ prefix. (prefix.count ≡ length prefix.seen.log) × (prefix.seen.book ≡ J.map) };
 }
 
-impl<J: Naming> Known<J> {
+impl<J: Naming> LogPrefix<J> {
     pub(crate) fn len(&self) -> u64
         ensures { result ≡ length self.now }
     {
         self.count
     }
 
-    pub(crate) fn copied(&self) -> Known<J>
+    pub(crate) fn copied(&self) -> LogPrefix<J>
         ensures { result ≡ self.now }
     {
-        Known {
+        LogPrefix {
             count: self.count,
             seen: self.seen.again(),
             of: PhantomData,
@@ -171,7 +171,7 @@ impl<J: Naming> Known<J> {
     }
 
     // A token of a list that both are beginnings of.
-    fn beside(&self, other: &Known<J>) -> Seen<Change, u64, Counted>
+    fn beside(&self, other: &LogPrefix<J>) -> Seen<MapOperation, u64, Counted>
         ensures mine { IsPrefix self.now result.log }
         ensures theirs { IsPrefix other.now result.log }
     {
@@ -181,14 +181,14 @@ impl<J: Naming> Known<J> {
     }
 
     /// Both are beginnings of one list, so one of them is a beginning of the other.
-    pub(crate) fn are_of_one(&self, other: &Known<J>)
+    pub(crate) fn are_of_one(&self, other: &LogPrefix<J>)
         ensures { IsPrefix self.now other.now ⊎ IsPrefix other.now self.now }
     {
         let _part = self.is_part_of(other);
     }
 
     /// Whether the other one begins with this one. Where it doesn't, this one begins with the other.
-    pub(crate) fn is_part_of(&self, other: &Known<J>) -> bool
+    pub(crate) fn is_part_of(&self, other: &LogPrefix<J>) -> bool
         ensures { MatchBool result (IsPrefix self.now other.now) (IsPrefix other.now self.now) }
     {
         let _whole = self.beside(other);
@@ -196,7 +196,7 @@ impl<J: Naming> Known<J> {
     }
 
     /// Whether both are the same.
-    pub(crate) fn is_same(&self, other: &Known<J>) -> bool
+    pub(crate) fn is_same(&self, other: &LogPrefix<J>) -> bool
         ensures same { IsTrue result → self.now ≡ other.now }
         ensures found { self.now ≡ other.now → IsTrue result }
     {
@@ -206,16 +206,18 @@ impl<J: Naming> Known<J> {
 
     /// This beginning with one operation more, or `None` where the list is longer already. That
     /// doesn't happen to the one writer, which has the word to itself.
-    pub(crate) fn with(&self, count: &Count<J>, change: &Change) -> Option<Known<J>>
+    pub(crate) fn with(&self, count: &Count<J>, operation: &MapOperation) -> Option<LogPrefix<J>>
         requires { length self.now < 2 ^ 62 }
-        ensures { IfSome result (λ known. known ≡ self.now ++ change.now ∷ []) }
+        ensures { IfSome result (λ prefix. prefix ≡ self.now ++ operation.now ∷ []) }
     {
         let expected = self.count;
         let mut seen = self.seen.again();
         let mut pen = seen.no_pen();
-        let mut offer: Offer<Change, u64, Counted, Nothing> = seen.plain::<Nothing, Change, Append>(
-            change,
-        );
+        let mut offer: Offer<MapOperation, u64, Counted, Nothing> = seen.plain::<
+            Nothing,
+            MapOperation,
+            Append,
+        >(operation);
         let found = count
             .count
             .compare_exchange::<Append, Nothing>(
@@ -228,7 +230,7 @@ impl<J: Naming> Known<J> {
         if found != expected {
             return None;
         }
-        Some(Known {
+        Some(LogPrefix {
             count: expected + 1,
             seen,
             of: PhantomData,

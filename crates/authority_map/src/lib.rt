@@ -2,7 +2,7 @@
 //!
 //! A writer appends operations and publishes them. A reader's answer is that of a beginning of the
 //! writer's operations, in order from the first. It never goes back, and it holds all that the
-//! reader was told of, which was published when it was told. Of what two readers hold, or a reader
+//! reader has learned, which was published when it was told. Of what two readers hold, or a reader
 //! and a token, one is a beginning of the other. Two copies of the map are kept by `left_right`:
 //! readers enter the one that is shown, while the writer changes the other.
 //!
@@ -10,20 +10,20 @@
 //! stands in proofs alone.
 #![tactic(auto)]
 
-mod change;
 mod found;
 mod history;
 mod map_error;
 mod map_reader;
 mod map_writer;
+mod operation;
 mod publisher;
 mod queue;
 mod runs;
 mod table;
 
 pub use found::Found;
-pub use history::Opened;
+pub use history::NewMap;
 pub use map_error::MapError;
-pub use map_reader::{MapReader, Told};
+pub use map_reader::{MapReader, Published};
 pub use map_writer::{MapWriter, WriterOf};
 pub use publisher::Publisher;

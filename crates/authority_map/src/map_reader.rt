@@ -5,7 +5,7 @@ ghost use Rattle.authority_map.specs.Operations.{rank_after};
 ghost use Rattle.authority_map.specs.Answer.{found_of};
 
 use crate::found::Found;
-use crate::history::Known;
+use crate::history::LogPrefix;
 use crate::publisher::Publisher;
 use crate::table::Table;
 use left_right::ReadHandle;
@@ -18,7 +18,7 @@ use std::marker::Model;
 #[derive(Drop)]
 pub struct MapReader<J: Naming> {
     handle: ReadHandle<Table<J>>,
-    known: Known<J>,
+    prefix: LogPrefix<J>,
 }
 
 impl<J: Naming> Model for MapReader<J> {
@@ -27,86 +27,86 @@ impl<J: Naming> Model for MapReader<J> {
 
     ghost Value = { List Operation };
 
-    ghost view = { λ reader. reader.known };
+    ghost view = { λ reader. reader.prefix };
 }
 
-/// What a writer of the board's map told: the operations that it had published. It goes to a reader
+/// What was published of the board's map: the operations that were when it was made. It goes to a reader
 /// in another thread.
 #[derive(Drop)]
-pub struct Told<J: Naming> {
-    known: Known<J>,
+pub struct Published<J: Naming> {
+    prefix: LogPrefix<J>,
 }
 
-impl<J: Naming> Model for Told<J> {
+impl<J: Naming> Model for Published<J> {
     ghost use Rattle.std.specs.Prelude.{List};
     ghost use Rattle.authority_map.specs.Operations.{Operation};
 
     ghost Value = { List Operation };
 
-    ghost view = { λ told. told.known };
+    ghost view = { λ published. published.prefix };
 }
 
-impl<J: Naming> Told<J> {
-    pub(crate) fn of(known: Known<J>) -> Told<J>
-        ensures { result ≡ known }
+impl<J: Naming> Published<J> {
+    pub(crate) fn of(prefix: LogPrefix<J>) -> Published<J>
+        ensures { result ≡ prefix }
     {
-        Told { known }
+        Published { prefix }
     }
 
     /// Of what two tokens tell, one is a beginning of the other.
-    pub fn beside(&self, other: &Told<J>)
+    pub fn beside(&self, other: &Published<J>)
         ensures { IsPrefix self.now other.now ⊎ IsPrefix other.now self.now }
     {
-        self.known.are_of_one(&other.known);
+        self.prefix.are_of_one(&other.prefix);
     }
 }
 
 impl<J: Naming> MapReader<J> {
-    pub(crate) fn over(handle: ReadHandle<Table<J>>, known: Known<J>) -> MapReader<J>
-        ensures { result ≡ known }
+    pub(crate) fn over(handle: ReadHandle<Table<J>>, prefix: LogPrefix<J>) -> MapReader<J>
+        ensures { result ≡ prefix }
     {
-        MapReader { handle, known }
+        MapReader { handle, prefix }
     }
 
     /// The rank of a directory. The answer holds all that earlier answers held and all that the
-    /// reader was told of. It takes no lock and no memory, and never waits.
+    /// reader has learned. It takes no lock and no memory, and never waits.
     pub fn find(&mut self, dir: Dir) -> Found
         ensures answer { result ≢ Found.Closed → result ≡ found_of (rank_after self.new dir) }
-        ensures known { IsPrefix self.old self.new }
+        ensures prefix { IsPrefix self.old self.new }
     {
         let Some(table) = self.handle.enter() else {
             return Found::Closed;
         };
-        if !self.known.is_part_of(&table.known) {
+        if !self.prefix.is_part_of(&table.prefix) {
             return Found::Closed;
         }
-        self.known = table.known.copied();
+        self.prefix = table.prefix.copied();
         match table.rank_of(dir) {
             Some(rank) => Found::Rank(rank),
             None => Found::NoDir,
         }
     }
 
-    /// What the answers hold is a beginning of what was told, or what was told is one of it.
-    pub fn beside(&self, told: &Told<J>)
-        ensures { IsPrefix self.now told.now ⊎ IsPrefix told.now self.now }
+    /// What the answers hold is a beginning of what was published, or that is one of it.
+    pub fn beside(&self, published: &Published<J>)
+        ensures { IsPrefix self.now published.now ⊎ IsPrefix published.now self.now }
     {
-        self.known.are_of_one(&told.known);
+        self.prefix.are_of_one(&published.prefix);
     }
 
     /// Of what the answers of two readers hold, one is a beginning of the other.
     pub fn beside_reader(&self, other: &MapReader<J>)
         ensures { IsPrefix self.now other.now ⊎ IsPrefix other.now self.now }
     {
-        self.known.are_of_one(&other.known);
+        self.prefix.are_of_one(&other.prefix);
     }
 
-    /// Whether the answers hold just what the writer told, and nothing later.
-    pub fn is_at(&self, told: &Told<J>) -> bool
-        ensures same { IsTrue result → self.now ≡ told.now }
-        ensures found { self.now ≡ told.now → IsTrue result }
+    /// Whether the answers hold just what was published then, and nothing later.
+    pub fn is_at(&self, published: &Published<J>) -> bool
+        ensures same { IsTrue result → self.now ≡ published.now }
+        ensures found { self.now ≡ published.now → IsTrue result }
     {
-        self.known.is_same(&told.known)
+        self.prefix.is_same(&published.prefix)
     }
 
     /// The rank of a directory in all that is published, for a reader beside the writer. It is what
@@ -114,7 +114,7 @@ impl<J: Naming> MapReader<J> {
     /// out, the writer's own copy answers.
     pub fn find_latest<P: Publisher<J>>(&mut self, publisher: &P, dir: Dir) -> Option<Rank>
         ensures rank { result ≡ rank_after (P.published publisher.now) dir }
-        ensures known { IsPrefix self.old self.new }
+        ensures prefix { IsPrefix self.old self.new }
     {
         self.learn(publisher.tell());
         let found = self.find(dir);
@@ -128,14 +128,14 @@ impl<J: Naming> MapReader<J> {
         }
     }
 
-    /// Hears what the writer told: from now on the answers hold it.
-    pub fn learn(&mut self, told: Told<J>)
-        ensures known { IsPrefix self.old self.new }
-        ensures heard { IsPrefix told self.new }
+    /// Learns what was published: from now on the answers hold it.
+    pub fn learn(&mut self, published: Published<J>)
+        ensures prefix { IsPrefix self.old self.new }
+        ensures learned { IsPrefix published self.new }
     {
-        let Told { known } = told;
-        if self.known.is_part_of(&known) {
-            self.known = known;
+        let Published { prefix } = published;
+        if self.prefix.is_part_of(&prefix) {
+            self.prefix = prefix;
         }
     }
 }

@@ -2,10 +2,10 @@
 ghost use Rattle.std.specs.Prelude.{◌≡◌, ◌≤◌, [], All, IfOk, IfErr, vec_len};
 ghost use Rattle.left_right.specs.Handles.{published, pending};
 
-use crate::change::What;
-use crate::history::{Known, Opened};
+use crate::history::{LogPrefix, NewMap};
 use crate::map_error::MapError;
-use crate::map_reader::{MapReader, Told};
+use crate::map_reader::{MapReader, Published};
+use crate::operation::OperationKind;
 use crate::publisher::Publisher;
 use crate::queue::{Entry, Queue, hand_all};
 use crate::table::Table;
@@ -32,14 +32,14 @@ pub type MapWriter<J, R> = WriterOf<J, Table<J>, Entry<J>, R>;
 fn open_copies<J: Naming, R: Wait + Drop>(
     rt: R,
     alloc: Global,
-    start: &Known<J>,
+    start: &LogPrefix<J>,
     limit: u32,
     readers: u8,
 ) -> Result<(WriteHandle<Table<J>, Entry<J>, R>, Vec<MapReader<J>>), MapError>
     requires start { start.now ≡ [] }
     requires limit { (limit ≡ J.limit) × (1 ≤ limit) }
     requires readers { 1 ≤ readers }
-    ensures copies { IfOk result (λ t. ((published t.0).known ≡ []) × (pending t.0 ≡ [])) }
+    ensures copies { IfOk result (λ t. ((published t.0).prefix ≡ []) × (pending t.0 ≡ [])) }
     ensures count { IfOk result (λ t. vec_len t.1 ≡ readers) }
     ensures readers { IfOk result (λ t. All (λ reader. reader ≡ []) t.1.items) }
 {
@@ -62,14 +62,15 @@ impl<J: Naming, R: Wait + Drop> WriterOf<J, Table<J>, Entry<J>, R> {
     pub fn open(
         rt: R,
         alloc: Global,
-        opened: Opened,
+        opened: NewMap,
         limit: u32,
         readers: u8,
-    ) -> Result<(MapWriter<J, R>, Vec<MapReader<J>>), (MapError, Opened)>
+    ) -> Result<(MapWriter<J, R>, Vec<MapReader<J>>), (MapError, NewMap)>
         requires name { opened ≡ J.map }
         requires limit { (limit ≡ J.limit) × (1 ≤ limit) × (limit ≤ DIR_LIMIT) }
         requires readers { (1 ≤ readers) × (readers ≤ 64) }
-        ensures writer { IfOk result (λ t. ((published t.0.copies).known ≡ []) × (pending t.0.copies ≡ []) × (t.0.queue.waiting ≡ [])) }
+        ensures writer { IfOk result (λ t. ((published t.0.copies).prefix ≡ []) × (pending t.0.copies ≡ [])
+            × (t.0.queue.waiting ≡ [])) }
         ensures count { IfOk result (λ t. vec_len t.1 ≡ readers) }
         ensures readers { IfOk result (λ t. All (λ reader. reader ≡ []) t.1.items) }
         ensures err { IfErr result (λ e. e.1 ≡ opened) }
@@ -88,11 +89,11 @@ impl<J: Naming, R: Wait + Drop> WriterOf<J, Table<J>, Entry<J>, R> {
 impl<J: Naming, R: Wait + Drop> Publisher<J> for WriterOf<J, Table<J>, Entry<J>, R> {
     ghost use Rattle.std.specs.Prelude.{◌++◌};
     ghost use Rattle.left_right.specs.Handles.{published, pending};
-    ghost use Rattle.authority_map.specs.Changes.{changes};
+    ghost use Rattle.authority_map.specs.LogEntries.{operations_of};
 
-    ghost published = { λ writer. (published writer.copies).known };
+    ghost published = { λ writer. (published writer.copies).prefix };
 
-    ghost pending = { λ writer. changes (pending writer.copies) ++ writer.queue.waiting };
+    ghost pending = { λ writer. operations_of (pending writer.copies) ++ writer.queue.waiting };
 
     ghost room = { λ writer. writer.queue.room };
 
@@ -101,11 +102,11 @@ impl<J: Naming, R: Wait + Drop> Publisher<J> for WriterOf<J, Table<J>, Entry<J>,
     }
 
     fn set(&mut self, dirs: Vec<Dir>, rank: Rank) {
-        self.queue.push(What::Set(dirs, rank));
+        self.queue.push(OperationKind::Set(dirs, rank));
     }
 
     fn clear(&mut self, dir: Dir) {
-        self.queue.push(What::Clear(dir));
+        self.queue.push(OperationKind::Clear(dir));
     }
 
     fn publish(&mut self) -> Result<(), MapError> {
@@ -118,8 +119,8 @@ impl<J: Naming, R: Wait + Drop> Publisher<J> for WriterOf<J, Table<J>, Entry<J>,
         }
     }
 
-    fn tell(&self) -> Told<J> {
-        Told::of(self.copies.published().known.copied())
+    fn tell(&self) -> Published<J> {
+        Published::of(self.copies.published().prefix.copied())
     }
 
     fn rank_of(&self, dir: Dir) -> Option<Rank> {

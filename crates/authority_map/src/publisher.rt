@@ -3,7 +3,7 @@ ghost use Rattle.std.specs.Prelude.{◌≡◌, ◌-◌, ◌<◌, ◌≤◌, ◌�
 ghost use Rattle.authority_map.specs.Operations.{Operation, SetTo, Clear, rank_after};
 
 use crate::map_error::MapError;
-use crate::map_reader::Told;
+use crate::map_reader::Published;
 use mds_types::{Dir, Rank};
 use naming::Naming;
 
@@ -46,12 +46,14 @@ pub trait Publisher<J: Naming> {
     /// Shows readers all that is pending. It waits for readers that are still in the copy of the
     /// publish before the last.
     fn publish(&mut self) -> Result<(), MapError>
-        ensures ok { OnOk result ((published self.new ≡ published self.old ++ pending self.old) × (pending self.new ≡ [])) }
+        ensures ok { OnOk result ((published self.new ≡ published self.old ++ pending self.old)
+            × (pending self.new ≡ [])) }
         ensures refused { IfErr result (λ e. e ≡ MapError.Memory) }
-        ensures unchanged { OnErr result ((published self.new ≡ published self.old) × (pending self.new ≡ pending self.old)) };
+        ensures unchanged { OnErr result ((published self.new ≡ published self.old)
+            × (pending self.new ≡ pending self.old)) };
 
     /// A token of what is published.
-    fn tell(&self) -> Told<J>
+    fn tell(&self) -> Published<J>
         ensures { result ≡ published self.now };
 
     /// The rank of a directory in what is published.

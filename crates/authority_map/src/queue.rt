@@ -1,11 +1,11 @@
 //! The operations that a writer hasn't handed to its copies.
 ghost use Rattle.std.specs.Prelude.{◌≡◌, ◌++◌, ◌∷◌, [], None, IsTrue, IfSome, IfNone};
 ghost use Rattle.left_right.specs.Handles.{published, pending};
-ghost use Rattle.authority_map.specs.Changes.{changes, ready_change};
+ghost use Rattle.authority_map.specs.LogEntries.{operations_of, ready_operation};
 
-use crate::change::{Change, What};
-use crate::history::{Count, Known};
+use crate::history::{Count, LogPrefix};
 use crate::map_error::MapError;
+use crate::operation::{MapOperation, OperationKind};
 use crate::table::Table;
 use left_right::WriteHandle;
 use naming::Naming;
@@ -17,20 +17,20 @@ use std::sync::Wait;
 /// An operation, with the list before it and after it.
 #[derive(Drop)]
 pub struct Entry<J: Naming> {
-    pub(crate) change: Change,
-    pub(crate) before: Known<J>,
-    pub(crate) after: Known<J>,
+    pub(crate) operation: MapOperation,
+    pub(crate) before: LogPrefix<J>,
+    pub(crate) after: LogPrefix<J>,
 }
 
 impl<J: Naming> Model for Entry<J> {
     ghost use Rattle.std.specs.Prelude.{◌≡◌, ◌++◌, ◌∷◌, []};
-    ghost use Rattle.authority_map.specs.Changes.{Growth};
+    ghost use Rattle.authority_map.specs.LogEntries.{LogEntry};
 
-    ghost Value = { Growth };
+    ghost Value = { LogEntry };
 
-    ghost view = { λ entry. record { change = entry.change; before = entry.before; after = entry.after } };
+    ghost view = { λ entry. record { operation = entry.operation; before = entry.before; after = entry.after } };
 
-    ghost invariant = { λ entry. entry.after ≡ entry.before ++ entry.change ∷ [] };
+    ghost invariant = { λ entry. entry.after ≡ entry.before ++ entry.operation ∷ [] };
 }
 
 /// The operations that wait, in order. One of them may be in the list of all operations already:
@@ -39,20 +39,24 @@ impl<J: Naming> Model for Entry<J> {
 pub struct Queue<J: Naming> {
     count: Count<J>,
     // The list as far as operations were handed to the copies.
-    end: Known<J>,
+    end: LogPrefix<J>,
     ready: Option<Entry<J>>,
-    waiting: VecDeque<Change>,
+    waiting: VecDeque<MapOperation>,
 }
 
 impl<J: Naming> Model for Queue<J> {
     ghost use Rattle.std.specs.Prelude.{◌≡◌, ◌-◌, ◌++◌, IfSome};
     ghost use Rattle.std.specs.VecDeque.{deque_len, deque_capacity};
-    ghost use Rattle.authority_map.specs.Changes.{ready_change};
+    ghost use Rattle.authority_map.specs.LogEntries.{ready_operation};
     ghost use Rattle.authority_map.specs.Answer.{Queued};
 
     ghost Value = { Queued };
 
-    ghost view = { λ queue. record { end = queue.end; waiting = ready_change queue.ready ++ queue.waiting.items; room = deque_capacity queue.waiting - deque_len queue.waiting } };
+    ghost view = { λ queue. record {
+      end = queue.end;
+      waiting = ready_operation queue.ready ++ queue.waiting.items;
+      room = deque_capacity queue.waiting - deque_len queue.waiting;
+    } };
 
     ghost invariant = { λ queue. IfSome queue.ready (λ entry. entry.before ≡ queue.end) };
 }
@@ -63,10 +67,10 @@ const OPERATION_LIMIT: u64 = 1 << 60;
 impl<J: Naming> Queue<J> {
     ghost use Rattle.std.specs.Prelude.{◌≡◌, ◌+◌, ◌-◌, ◌≤◌, ◌↔◌, ◌++◌, ◌∷◌, [], length, IsTrue, IfErr, OnOk};
     ghost use Rattle.left_right.specs.Handles.{published, pending};
-    ghost use Rattle.authority_map.specs.Changes.{changes, operation_of};
+    ghost use Rattle.authority_map.specs.LogEntries.{operations_of, operation_of};
 
     /// Nothing waits.
-    pub(crate) fn new(alloc: Global, count: Count<J>, start: Known<J>) -> Queue<J>
+    pub(crate) fn new(alloc: Global, count: Count<J>, start: LogPrefix<J>) -> Queue<J>
         ensures { result.waiting ≡ [] }
     {
         Queue {
@@ -87,11 +91,12 @@ impl<J: Naming> Queue<J> {
     }
 
     /// One more operation waits.
-    pub(crate) fn push(&mut self, what: What)
+    pub(crate) fn push(&mut self, kind: OperationKind)
         requires { 1 ≤ self.old.room }
-        ensures { self.new ≡ record self.old { waiting = self.old.waiting ++ operation_of what ∷ []; room = self.old.room - 1 } }
+        ensures { self.new ≡ record self.old
+            { waiting = self.old.waiting ++ operation_of kind ∷ []; room = self.old.room - 1 } }
     {
-        self.waiting.push_back_reserved(Change { what });
+        self.waiting.push_back_reserved(MapOperation { kind });
     }
 
     /// Whether nothing waits.
@@ -107,7 +112,8 @@ impl<J: Naming> Queue<J> {
         copies: &mut WriteHandle<Table<J>, Entry<J>, R>,
     ) -> bool
         ensures shown { published copies.new ≡ published copies.old }
-        ensures order { changes (pending copies.new) ++ self.new.waiting ≡ changes (pending copies.old) ++ self.old.waiting }
+        ensures order { operations_of (pending copies.new) ++ self.new.waiting
+            ≡ operations_of (pending copies.old) ++ self.old.waiting }
         ensures fewer { IsTrue result → length self.new.waiting + 1 ≡ length self.old.waiting }
         ensures end { self.new.end ++ self.new.waiting ≡ self.old.end ++ self.old.waiting }
     {
@@ -133,11 +139,12 @@ impl<J: Naming> Queue<J> {
 fn next_entry<J: Naming>(
     ready: &mut Option<Entry<J>>,
     count: &Count<J>,
-    end: &Known<J>,
-    waiting: &mut VecDeque<Change>,
+    end: &LogPrefix<J>,
+    waiting: &mut VecDeque<MapOperation>,
 ) -> Option<Entry<J>>
     requires { IfSome ready.old (λ entry. entry.before ≡ end.now) }
-    ensures some { IfSome result (λ entry. (ready.new ≡ None) × (entry.change ∷ waiting.new.items ≡ ready_change ready.old ++ waiting.old.items)) }
+    ensures some { IfSome result (λ entry. (ready.new ≡ None)
+        × (entry.operation ∷ waiting.new.items ≡ ready_operation ready.old ++ waiting.old.items)) }
     ensures before { IfSome result (λ entry. entry.before ≡ end.now) }
     ensures none { IfNone result ((ready.new ≡ ready.old) × (waiting.new.items ≡ waiting.old.items)) }
 {
@@ -150,25 +157,25 @@ fn next_entry<J: Naming>(
 // The first operation that waits, which is in the list from now on.
 fn first_entry<J: Naming>(
     count: &Count<J>,
-    end: &Known<J>,
-    waiting: &mut VecDeque<Change>,
+    end: &LogPrefix<J>,
+    waiting: &mut VecDeque<MapOperation>,
 ) -> Option<Entry<J>>
-    ensures some { IfSome result (λ entry. entry.change ∷ waiting.new.items ≡ waiting.old.items) }
+    ensures some { IfSome result (λ entry. entry.operation ∷ waiting.new.items ≡ waiting.old.items) }
     ensures before { IfSome result (λ entry. entry.before ≡ end.now) }
     ensures none { IfNone result (waiting.new.items ≡ waiting.old.items) }
 {
     if end.len() >= OPERATION_LIMIT {
         return None;
     }
-    let change = waiting.pop_front()?;
-    match end.with(count, &change) {
+    let operation = waiting.pop_front()?;
+    match end.with(count, &operation) {
         Some(after) => Some(Entry {
-            change,
+            operation,
             before: end.copied(),
             after,
         }),
         None => {
-            waiting.push_front_reserved(change);
+            waiting.push_front_reserved(operation);
             None
         }
     }
@@ -180,7 +187,8 @@ pub(crate) fn hand_all<J: Naming, R: Wait + Drop>(
     queue: &mut Queue<J>,
 ) -> bool
     ensures shown { published copies.new ≡ published copies.old }
-    ensures order { changes (pending copies.new) ++ queue.new.waiting ≡ changes (pending copies.old) ++ queue.old.waiting }
+    ensures order { operations_of (pending copies.new) ++ queue.new.waiting
+        ≡ operations_of (pending copies.old) ++ queue.old.waiting }
     ensures all { IsTrue result → queue.new.waiting ≡ [] }
 {
     while !queue.is_empty() {

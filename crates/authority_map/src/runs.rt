@@ -5,7 +5,8 @@
 //! by halving, among those between the first runs of its block and of the next one, which an index
 //! tells. To write a directory's cell, its run is split so that it stands alone, and then it is joined
 //! with neighbours that have the same cell. There are never more runs than directories.
-ghost use Rattle.std.specs.Prelude.{◌≡◌, ◌≢◌, ℕ, ◌+◌, ◌-◌, ◌^◌, ◌==◌, ◌<◌, ◌≤◌, All, length, slice_index, if◌then◌else◌, vec_capacity};
+ghost use Rattle.std.specs.Prelude.{◌≡◌, ◌≢◌, ℕ, ◌+◌, ◌-◌, ◌^◌, ◌==◌, ◌<◌, ◌≤◌, All, length};
+ghost use Rattle.std.specs.Prelude.{slice_index, if◌then◌else◌, vec_capacity};
 ghost use Rattle.authority_map.specs.Operations.{names};
 ghost use Rattle.authority_map.specs.Runs.{IsIn, IsAmong, IsIndex, IsOneMore, AreStarts, AreRuns, StartsAt, HasCells};
 
@@ -102,7 +103,8 @@ fn cut(
     ensures room { (limit ≤ vec_capacity starts.new) × (limit ≤ vec_capacity cells.new) }
     ensures starts { StartsAt starts.new.items dir }
     ensures others { (other : ℕ) → StartsAt starts.old.items other → StartsAt starts.new.items other }
-    ensures cells { (cell : ℕ → ℕ) (this : ℕ) → HasCells limit starts.old.items cells.old.items cell this this → HasCells limit starts.new.items cells.new.items cell this dir }
+    ensures cells { (cell : ℕ → ℕ) (this : ℕ) → HasCells limit starts.old.items cells.old.items cell this this
+        → HasCells limit starts.new.items cells.new.items cell this dir }
 {
     let cell = cells[run];
     let Ok(()) = starts.insert(run + 1, dir) else {
@@ -124,7 +126,8 @@ fn split(starts: &mut Vec<u32>, cells: &mut Vec<u8>, index: &mut Vec<u32>, limit
     ensures room { (limit ≤ vec_capacity starts.new) × (limit ≤ vec_capacity cells.new) }
     ensures starts { dir < limit → StartsAt starts.new.items dir }
     ensures others { (other : ℕ) → StartsAt starts.old.items other → StartsAt starts.new.items other }
-    ensures cells { (cell : ℕ → ℕ) (this : ℕ) → HasCells limit starts.old.items cells.old.items cell this this → HasCells limit starts.new.items cells.new.items cell this dir }
+    ensures cells { (cell : ℕ → ℕ) (this : ℕ) → HasCells limit starts.old.items cells.old.items cell this this
+        → HasCells limit starts.new.items cells.new.items cell this dir }
 {
     if dir >= limit {
         return;
@@ -144,8 +147,11 @@ fn unite(starts: &mut Vec<u32>, cells: &mut Vec<u8>, index: &mut Vec<u32>, limit
     requires alike { slice_index cells.old.items (run - 1) ≡ slice_index cells.old.items run }
     ensures runs { AreRuns limit starts.new.items cells.new.items }
     ensures index { IsIndex limit starts.new.items index.new.items }
-    ensures room { (vec_capacity starts.new ≡ vec_capacity starts.old) × (vec_capacity cells.new ≡ vec_capacity cells.old) }
-    ensures cells { (cell : ℕ → ℕ) (this : ℕ) → HasCells limit starts.old.items cells.old.items cell this (slice_index starts.old.items run) → HasCells limit starts.new.items cells.new.items cell this this }
+    ensures room { (vec_capacity starts.new ≡ vec_capacity starts.old)
+        × (vec_capacity cells.new ≡ vec_capacity cells.old) }
+    ensures cells { (cell : ℕ → ℕ) (this : ℕ)
+        → HasCells limit starts.old.items cells.old.items cell this (slice_index starts.old.items run)
+        → HasCells limit starts.new.items cells.new.items cell this this }
 {
     let start = starts.remove(run);
     let _cell = cells.remove(run);
@@ -160,7 +166,8 @@ fn join(starts: &mut Vec<u32>, cells: &mut Vec<u8>, index: &mut Vec<u32>, limit:
     ensures runs { AreRuns limit starts.new.items cells.new.items }
     ensures index { IsIndex limit starts.new.items index.new.items }
     ensures room { (limit ≤ vec_capacity starts.new) × (limit ≤ vec_capacity cells.new) }
-    ensures cells { (cell : ℕ → ℕ) (this : ℕ) → HasCells limit starts.old.items cells.old.items cell this dir → HasCells limit starts.new.items cells.new.items cell this this }
+    ensures cells { (cell : ℕ → ℕ) (this : ℕ) → HasCells limit starts.old.items cells.old.items cell this dir
+        → HasCells limit starts.new.items cells.new.items cell this this }
 {
     let run = run_of(starts, dir);
     if starts[run] == dir && run > 0 && cells[run - 1] == cells[run] {
@@ -185,7 +192,8 @@ pub(crate) fn write(
     ensures runs { AreRuns limit starts.new.items cells.new.items }
     ensures index { IsIndex limit starts.new.items index.new.items }
     ensures room { (limit ≤ vec_capacity starts.new) × (limit ≤ vec_capacity cells.new) }
-    ensures cells { (old : ℕ → ℕ) → HasCells limit starts.old.items cells.old.items old 0 0 → HasCells limit starts.new.items cells.new.items (λ d. if d == dir then cell else old d) 0 0 }
+    ensures cells { (old : ℕ → ℕ) → HasCells limit starts.old.items cells.old.items old 0 0
+        → HasCells limit starts.new.items cells.new.items (λ d. if d == dir then cell else old d) 0 0 }
 {
     let run = run_of(starts, dir);
     if cells[run] == cell {
@@ -216,7 +224,8 @@ pub(crate) fn write_all(
     ensures runs { AreRuns limit starts.new.items cells.new.items }
     ensures index { IsIndex limit starts.new.items index.new.items }
     ensures room { (limit ≤ vec_capacity starts.new) × (limit ≤ vec_capacity cells.new) }
-    ensures cells { (old : ℕ → ℕ) → HasCells limit starts.old.items cells.old.items old 0 0 → HasCells limit starts.new.items cells.new.items (λ d. if names dirs.now d then cell else old d) 0 0 }
+    ensures cells { (old : ℕ → ℕ) → HasCells limit starts.old.items cells.old.items old 0 0
+        → HasCells limit starts.new.items cells.new.items (λ d. if names dirs.now d then cell else old d) 0 0 }
 {
     for dir in dirs {
         write(starts, cells, index, limit, dir.number(), cell);

@@ -4,8 +4,8 @@ ghost use Rattle.authority_map.specs.Operations.{rank_after};
 ghost use Rattle.authority_map.specs.Cells.{AreCells};
 ghost use Rattle.authority_map.specs.Runs.{IsIndex};
 
-use crate::change::{Change, What};
-use crate::history::Known;
+use crate::history::LogPrefix;
+use crate::operation::{MapOperation, OperationKind};
 use crate::queue::Entry;
 use crate::runs::{BLOCK, indexed_run_of, write, write_all};
 use left_right::Absorb;
@@ -22,8 +22,8 @@ pub struct Table<J: Naming> {
     cells: Vec<u8>,
     // The run of each block's first directory.
     index: Vec<u32>,
-    pub known: Known<J>,
-    ghost kept: { AreCells limit starts.items cells.items known },
+    pub prefix: LogPrefix<J>,
+    ghost kept: { AreCells limit starts.items cells.items prefix },
     ghost indexed: { IsIndex limit starts.items index.items },
     ghost room: { (limit ≤ vec_capacity starts) × (limit ≤ vec_capacity cells) },
     ghost sized: { limit ≡ J.limit },
@@ -38,10 +38,10 @@ fn are_below(dirs: &[Dir], limit: u32) -> bool
 
 impl<J: Naming> Table<J> {
     /// No directory has a rank. There is room for a run for each directory.
-    pub fn new(alloc: Global, limit: u32, known: Known<J>) -> Result<Table<J>, AllocError>
-        requires known { known ≡ [] }
+    pub fn new(alloc: Global, limit: u32, prefix: LogPrefix<J>) -> Result<Table<J>, AllocError>
+        requires prefix { prefix ≡ [] }
         requires limit { (limit ≡ J.limit) × (1 ≤ limit) }
-        ensures { IfOk result (λ t. t.known ≡ []) }
+        ensures { IfOk result (λ t. t.prefix ≡ []) }
     {
         let mut starts = Vec::with_capacity(alloc, limit as usize)?;
         let mut cells = Vec::with_capacity(alloc, limit as usize)?;
@@ -53,12 +53,12 @@ impl<J: Naming> Table<J> {
             starts,
             cells,
             index,
-            known,
+            prefix,
         })
     }
 
     pub fn rank_of(&self, dir: Dir) -> Option<Rank>
-        ensures { result ≡ rank_after self.now.known dir }
+        ensures { result ≡ rank_after self.now.prefix dir }
     {
         if dir.number() >= self.limit {
             return None;
@@ -70,18 +70,18 @@ impl<J: Naming> Table<J> {
 
 impl<J: Naming> Absorb<Entry<J>> for Table<J> {
     // A clause reads an array as a list, of any length.
-    type State = [Change; 0];
+    type State = [MapOperation; 0];
 
-    ghost state = { λ t. t.known };
+    ghost state = { λ t. t.prefix };
 
-    ghost applied = { λ xs x. xs ++ x.change ∷ [] };
+    ghost applied = { λ xs x. xs ++ x.operation ∷ [] };
 
     fn absorb_first(&mut self, entry: &Entry<J>, _other: &Table<J>) -> Result<(), AllocError> {
-        if !entry.before.is_same(&self.known) {
+        if !entry.before.is_same(&self.prefix) {
             return Err(AllocError);
         }
-        match &entry.change.what {
-            What::Set(dirs, rank) => {
+        match &entry.operation.kind {
+            OperationKind::Set(dirs, rank) => {
                 if !are_below(dirs.as_slice(), self.limit) {
                     return Err(AllocError);
                 }
@@ -93,10 +93,10 @@ impl<J: Naming> Absorb<Entry<J>> for Table<J> {
                     dirs.as_slice(),
                     rank.number() + 1,
                 );
-                self.known = entry.after.copied();
+                self.prefix = entry.after.copied();
                 Ok(())
             }
-            What::Clear(dir) => {
+            OperationKind::Clear(dir) => {
                 if dir.number() >= self.limit {
                     return Err(AllocError);
                 }
@@ -108,7 +108,7 @@ impl<J: Naming> Absorb<Entry<J>> for Table<J> {
                     dir.number(),
                     0,
                 );
-                self.known = entry.after.copied();
+                self.prefix = entry.after.copied();
                 Ok(())
             }
         }

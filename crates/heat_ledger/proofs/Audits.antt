@@ -1,16 +1,16 @@
--- What the keeper learns while it has all that the shares have.
+-- What the authority learns while it has all that the shares have.
 use Rattle.std.proofs.Common.{◌≡◌, ℕ, ◌+◌, ◌-◌, ◌*◌, ◌≤◌, List, [], ◌∷◌, ◌++◌, sum_by, refl, ap, ◌∙◌, true, ⊎_elim, arith}
 use Rattle.std.proofs.lemmas.List.Sums.{sum_by_push}
-use Rattle.heat_ledger.specs.declared.tally.Hand.{Hand}
+use Rattle.heat_ledger.specs.declared.tally.TokenState.{TokenState}
 use Rattle.heat_ledger.specs.Rows.{at}
-use Rattle.heat_ledger.specs.Tally.{most, both_of, holding}
+use Rattle.heat_ledger.specs.Tally.{most, both_of, share_state}
 use Rattle.heat_ledger.specs.Ledger.{ShareData, hit_slot, begun_slot, laid_out, IsShare}
-use Rattle.heat_ledger.specs.Keeping.{IsAudited}
+use Rattle.heat_ledger.specs.Gathering.{IsAudited}
 use Rattle.heat_ledger.proofs.RowLemmas.{at_sums}
 use Rattle.heat_ledger.proofs.Slots.{at_laid_out_hits, at_laid_out_begun, entry_is}
 
--- a share's counts say what its seat has
-pub laid_amounts : (limit : ℕ) (u : Hand) (weight : ℕ) (hits pending begun : List ℕ) → IsShare limit u weight hits pending begun → (k : ℕ) → at (laid_out hits pending begun) k ≡ at u.amounts k
+-- a share's counts say what its token has
+pub laid_amounts : (limit : ℕ) (u : TokenState) (weight : ℕ) (hits pending begun : List ℕ) → IsShare limit u weight hits pending begun → (k : ℕ) → at (laid_out hits pending begun) k ≡ at u.amounts k
 laid_amounts limit u weight hits pending begun s k = ⊎_elim
     (λ (h : (d : ℕ) × (k ≡ hit_slot d)).
     let d = h.0 in
@@ -27,7 +27,7 @@ laid_amounts limit u weight hits pending begun s k = ⊎_elim
     (entry_is k)
 
 -- with these amounts it is a share again
-pub laid_share : (limit : ℕ) (u : Hand) (weight : ℕ) (hits pending begun : List ℕ) → IsShare limit u weight hits pending begun → IsShare limit (holding weight (laid_out hits pending begun)) weight hits pending begun
+pub laid_share : (limit : ℕ) (u : TokenState) (weight : ℕ) (hits pending begun : List ℕ) → IsShare limit u weight hits pending begun → IsShare limit (share_state weight (laid_out hits pending begun)) weight hits pending begun
 laid_share limit u weight hits pending begun s = record {
   holds = refl;
   weighs = refl;
@@ -42,41 +42,41 @@ laid_share limit u weight hits pending begun s = record {
 }
 
 -- together they rest on their parts
-pub backed_both : (v u w : Hand) → w ≡ both_of v u → ((k : ℕ) → at v.amounts k ≤ v.parts * most) → ((k : ℕ) → at u.amounts k ≤ u.parts * most) → (k : ℕ) → at w.amounts k ≤ w.parts * most
+pub backed_both : (v u w : TokenState) → w ≡ both_of v u → ((k : ℕ) → at v.amounts k ≤ v.parts * most) → ((k : ℕ) → at u.amounts k ≤ u.parts * most) → (k : ℕ) → at w.amounts k ≤ w.parts * most
 backed_both v u w is mine theirs k =
     let m = mine k in
     let t = theirs k in
-    let a : at w.amounts k ≡ at v.amounts k + at u.amounts k = ap (λ (h : Hand). at h.amounts k) is ∙ at_sums v.amounts u.amounts k in
-    let p : w.parts * most ≡ (v.parts + u.parts) * most = ap (λ (h : Hand). h.parts * most) is in
+    let a : at w.amounts k ≡ at v.amounts k + at u.amounts k = ap (λ (h : TokenState). at h.amounts k) is ∙ at_sums v.amounts u.amounts k in
+    let p : w.parts * most ≡ (v.parts + u.parts) * most = ap (λ (h : TokenState). h.parts * most) is in
     omega arith
 
--- what the keeper keeps when it gives a share's amounts back rests on its parts
-pub rest_backed : (limit : ℕ) (v u w x : Hand) (weight : ℕ) (hits pending begun : List ℕ) (left : List ShareData) → IsShare limit u weight hits pending begun → w ≡ both_of v u → IsAudited w x left → ((k : ℕ) → at v.amounts k ≤ v.parts * most)
+-- what the authority keeps when it gives a share's amounts back rests on its parts
+pub rest_backed : (limit : ℕ) (v u w x : TokenState) (weight : ℕ) (hits pending begun : List ℕ) (left : List ShareData) → IsShare limit u weight hits pending begun → w ≡ both_of v u → IsAudited w x left → ((k : ℕ) → at v.amounts k ≤ v.parts * most)
     → (k : ℕ) → at x.amounts k ≤ (x.parts - weight) * most + at (laid_out hits pending begun) k
 rest_backed limit v u w x weight hits pending begun left s is audited mine k =
-    let a : at w.amounts k ≡ at v.amounts k + at u.amounts k = ap (λ (h : Hand). at h.amounts k) is ∙ at_sums v.amounts u.amounts k in
+    let a : at w.amounts k ≡ at v.amounts k + at u.amounts k = ap (λ (h : TokenState). at h.amounts k) is ∙ at_sums v.amounts u.amounts k in
     let b = audited.amounts k in
     let l = laid_amounts limit u weight hits pending begun s k in
     let weighs = s.weighs in
-    let p : w.parts ≡ v.parts + u.parts = ap (λ (h : Hand). h.parts) is in
+    let p : w.parts ≡ v.parts + u.parts = ap (λ (h : TokenState). h.parts) is in
     let q = audited.parts in
     let r : x.parts - weight ≡ v.parts = omega arith in
     let n : (x.parts - weight) * most ≡ v.parts * most = ap (λ (n : ℕ). n * most) r in
     let m = mine k in
     omega arith
 
-pub audited_more : (limit : ℕ) (v u w x z : Hand) (all left : List ShareData) (share : ShareData) → IsShare limit u share.weight share.hits share.pending share.begun → w ≡ both_of v u → IsAudited w x left → all ≡ left ++ share ∷ []
-    → z.keeps ≡ true → z.parts + share.weight ≡ x.parts → ((k : ℕ) → at z.amounts k + at (laid_out share.hits share.pending share.begun) k ≡ at x.amounts k) → ((k : ℕ) → at z.totals k ≡ at x.totals k)
+pub audited_more : (limit : ℕ) (v u w x z : TokenState) (all left : List ShareData) (share : ShareData) → IsShare limit u share.weight share.hits share.pending share.begun → w ≡ both_of v u → IsAudited w x left → all ≡ left ++ share ∷ []
+    → z.has_totals ≡ true → z.parts + share.weight ≡ x.parts → ((k : ℕ) → at z.amounts k + at (laid_out share.hits share.pending share.begun) k ≡ at x.amounts k) → ((k : ℕ) → at z.totals k ≡ at x.totals k)
     → IsAudited v z all
-audited_more limit v u w x z all left share s is audited order keeps parts amounts totals =
+audited_more limit v u w x z all left share s is audited order has_totals parts amounts totals =
     let weighs = s.weighs in
-    let p : w.parts ≡ v.parts + u.parts = ap (λ (h : Hand). h.parts) is in
+    let p : w.parts ≡ v.parts + u.parts = ap (λ (h : TokenState). h.parts) is in
     let q = audited.parts in
-    let amount : (k : ℕ) → at w.amounts k ≡ at v.amounts k + at u.amounts k = λ k. ap (λ (h : Hand). at h.amounts k) is ∙ at_sums v.amounts u.amounts k in
-    let total : (k : ℕ) → at w.totals k ≡ at v.totals k = λ k. ap (λ (h : Hand). at h.totals k) is in
+    let amount : (k : ℕ) → at w.amounts k ≡ at v.amounts k + at u.amounts k = λ k. ap (λ (h : TokenState). at h.amounts k) is ∙ at_sums v.amounts u.amounts k in
+    let total : (k : ℕ) → at w.totals k ≡ at v.totals k = λ k. ap (λ (h : TokenState). at h.totals k) is in
     let sum : (f : ShareData → ℕ) → sum_by f all ≡ sum_by f left + f share = λ f. ap (sum_by f) order ∙ sum_by_push f left share in
     record {
-      keeps = keeps;
+      has_totals = has_totals;
       parts = omega arith;
       amounts = λ k. (let a = amounts k in let b = audited.amounts k in let c = amount k in let l = laid_amounts limit u share.weight share.hits share.pending share.begun s k in omega arith);
       totals = λ k. (let a = totals k in let b = audited.totals k in let c = total k in omega arith);

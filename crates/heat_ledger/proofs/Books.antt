@@ -1,7 +1,7 @@
 -- What a deposit and a begun request need of the book, and what they keep.
 use Rattle.std.proofs.Common.{◌≡◌, ℕ, ◌+◌, ◌*◌, ◌<◌, ◌≤◌, List, [], set, length, refl, sym, ap, ◌∙◌, true, ⊎_elim, arith}
 use native.Mathlib.Decide.{ℕ_discrete}
-use Rattle.heat_ledger.specs.declared.tally.Hand.{Hand}
+use Rattle.heat_ledger.specs.declared.tally.TokenState.{TokenState}
 use Rattle.heat_ledger.specs.Rows.{at, sums, raised}
 use Rattle.heat_ledger.specs.Tally.{most, all_parts}
 use Rattle.heat_ledger.specs.Ledger.{hit_slot, begun_slot, spread, unit, IsShare, IsBook}
@@ -10,7 +10,7 @@ use Rattle.heat_ledger.proofs.Slots.{at_spread_hits, at_spread_begun, at_unit_sa
 use Rattle.heat_ledger.proofs.Shares.{apart, not_hit}
 
 -- a share's amounts rest on its weight after a deposit
-pub deposit_backed : (limit : ℕ) (v : Hand) (weight : ℕ) (hits pending begun : List ℕ) → IsShare limit v weight hits pending begun → (k : ℕ) → at v.amounts k ≤ v.parts * most → at (sums v.amounts (spread pending)) k ≤ v.parts * most
+pub deposit_backed : (limit : ℕ) (v : TokenState) (weight : ℕ) (hits pending begun : List ℕ) → IsShare limit v weight hits pending begun → (k : ℕ) → at v.amounts k ≤ v.parts * most → at (sums v.amounts (spread pending)) k ≤ v.parts * most
 deposit_backed limit v weight hits pending begun s k was = ⊎_elim
     (λ (h : (d : ℕ) × (k ≡ hit_slot d)).
     let d = h.0 in
@@ -27,10 +27,10 @@ deposit_backed limit v weight hits pending begun s k was = ⊎_elim
     omega arith)
     (entry_is k)
 
-pub deposit_book : (limit : ℕ) (v w : Hand) (shares : ℕ) (counted begun pending : List ℕ) → IsBook limit v shares counted begun → length pending ≡ limit → w.keeps ≡ true → w.amounts ≡ [] → w.parts ≡ v.parts
+pub deposit_book : (limit : ℕ) (v w : TokenState) (shares : ℕ) (counted begun pending : List ℕ) → IsBook limit v shares counted begun → length pending ≡ limit → w.has_totals ≡ true → w.amounts ≡ [] → w.parts ≡ v.parts
     → ((k : ℕ) → at w.totals k ≡ at v.totals k + at (spread pending) k) → IsBook limit w shares (sums counted pending) begun
-deposit_book limit v w shares counted begun pending b l keeps out parts totals = record {
-  keeps = keeps;
+deposit_book limit v w shares counted begun pending b l has_totals out parts totals = record {
+  has_totals = has_totals;
   all_out = out;
   parts = (let p = b.parts in omega arith);
   some = b.some;
@@ -41,12 +41,12 @@ deposit_book limit v w shares counted begun pending b l keeps out parts totals =
 }
 
 -- what the book counts then fits
-pub deposit_fits : (limit : ℕ) (v w : Hand) (shares : ℕ) (counted begun pending : List ℕ) → IsBook limit v shares counted begun → ((k : ℕ) → at w.totals k ≡ at v.totals k + at (spread pending) k) → ((k : ℕ) → at w.totals k ≤ all_parts * most)
+pub deposit_fits : (limit : ℕ) (v w : TokenState) (shares : ℕ) (counted begun pending : List ℕ) → IsBook limit v shares counted begun → ((k : ℕ) → at w.totals k ≡ at v.totals k + at (spread pending) k) → ((k : ℕ) → at w.totals k ≤ all_parts * most)
     → (d : ℕ) → at counted d + at pending d < 18446744073709551616
 deposit_fits limit v w shares counted begun pending b totals fits d = let t = totals (hit_slot d) in let s = at_spread_hits pending d (hit_slot d) refl in let k = b.known d in let f = fits (hit_slot d) in omega arith
 
 -- a share's amounts rest on its weight after a request
-pub begin_backed : (limit : ℕ) (v w : Hand) (weight shares : ℕ) (hits pending begun counted booked : List ℕ) (dir : ℕ) → IsShare limit v weight hits pending begun → IsBook limit w shares counted booked → at booked dir < most
+pub begin_backed : (limit : ℕ) (v w : TokenState) (weight shares : ℕ) (hits pending begun counted booked : List ℕ) (dir : ℕ) → IsShare limit v weight hits pending begun → IsBook limit w shares counted booked → at booked dir < most
     → (k : ℕ) → at v.amounts k ≤ at w.totals k → at v.amounts k ≤ v.parts * most → at (sums v.amounts (unit (begun_slot dir))) k ≤ v.parts * most
 begin_backed limit v w weight shares hits pending begun counted booked dir s b room k under was = by-cases (ℕ_discrete k (begun_slot dir))
   where
@@ -65,7 +65,7 @@ begin_backed limit v w weight shares hits pending begun counted booked dir s b r
         omega arith
 
 -- a share's requests fit after one more
-pub begin_fits : (limit : ℕ) (v : Hand) (weight : ℕ) (hits pending begun : List ℕ) (dir : ℕ) → IsShare limit v weight hits pending begun → at (sums v.amounts (unit (begun_slot dir))) (begun_slot dir) ≤ v.parts * most
+pub begin_fits : (limit : ℕ) (v : TokenState) (weight : ℕ) (hits pending begun : List ℕ) (dir : ℕ) → IsShare limit v weight hits pending begun → at (sums v.amounts (unit (begun_slot dir))) (begun_slot dir) ≤ v.parts * most
     → at begun dir + 1 < 18446744073709551616
 begin_fits limit v weight hits pending begun dir s back =
     let a = at_sums v.amounts (unit (begun_slot dir)) (begun_slot dir) in
@@ -75,10 +75,10 @@ begin_fits limit v weight hits pending begun dir s back =
     let weighs = s.weighs in
     omega arith
 
-pub begin_book : (limit : ℕ) (v w : Hand) (shares dir : ℕ) (counted begun : List ℕ) → IsBook limit v shares counted begun → w.keeps ≡ true → w.amounts ≡ [] → w.parts ≡ v.parts
+pub begin_book : (limit : ℕ) (v w : TokenState) (shares dir : ℕ) (counted begun : List ℕ) → IsBook limit v shares counted begun → w.has_totals ≡ true → w.amounts ≡ [] → w.parts ≡ v.parts
     → ((k : ℕ) → at w.totals k ≡ at v.totals k + at (unit (begun_slot dir)) k) → dir < limit → IsBook limit w shares counted (raised begun dir)
-begin_book limit v w shares dir counted begun b keeps out parts totals inside = record {
-  keeps = keeps;
+begin_book limit v w shares dir counted begun b has_totals out parts totals inside = record {
+  has_totals = has_totals;
   all_out = out;
   parts = (let p = b.parts in omega arith);
   some = b.some;
@@ -104,10 +104,10 @@ begin_book limit v w shares dir counted begun b keeps out parts totals inside = 
         let q = at_raised_other begun dir d n in
         omega arith
 
--- a hand with the same totals serves as well
-pub same_book : (limit : ℕ) (v w : Hand) (shares : ℕ) (counted begun : List ℕ) → IsBook limit v shares counted begun → w.keeps ≡ true → w.amounts ≡ [] → w.parts ≡ v.parts → ((k : ℕ) → at w.totals k ≡ at v.totals k) → IsBook limit w shares counted begun
-same_book limit v w shares counted begun b keeps out parts totals = record {
-  keeps = keeps;
+-- another token with the same totals serves as well
+pub same_book : (limit : ℕ) (v w : TokenState) (shares : ℕ) (counted begun : List ℕ) → IsBook limit v shares counted begun → w.has_totals ≡ true → w.amounts ≡ [] → w.parts ≡ v.parts → ((k : ℕ) → at w.totals k ≡ at v.totals k) → IsBook limit w shares counted begun
+same_book limit v w shares counted begun b has_totals out parts totals = record {
+  has_totals = has_totals;
   all_out = out;
   parts = (let p = b.parts in omega arith);
   some = b.some;
@@ -118,6 +118,6 @@ same_book limit v w shares counted begun b keeps out parts totals = record {
 }
 
 -- the same, as the code writes it
-pub begin_book_at : (limit : ℕ) (v w : Hand) (shares dir row a : ℕ) (counted begun : List ℕ) → IsBook limit v shares counted begun → w.keeps ≡ true → w.amounts ≡ [] → w.parts ≡ v.parts
+pub begin_book_at : (limit : ℕ) (v w : TokenState) (shares dir row a : ℕ) (counted begun : List ℕ) → IsBook limit v shares counted begun → w.has_totals ≡ true → w.amounts ≡ [] → w.parts ≡ v.parts
     → ((k : ℕ) → at w.totals k ≡ at v.totals k + at (unit (begun_slot dir)) k) → dir < limit → row ≡ dir → a ≡ at begun dir → IsBook limit w shares counted (set begun row (a + 1))
-begin_book_at limit v w shares dir row a counted begun b keeps out parts totals inside er ea = rw (er, ea) (begin_book limit v w shares dir counted begun b keeps out parts totals inside)
+begin_book_at limit v w shares dir row a counted begun b has_totals out parts totals inside er ea = rw (er, ea) (begin_book limit v w shares dir counted begun b has_totals out parts totals inside)

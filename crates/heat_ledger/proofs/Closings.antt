@@ -2,14 +2,14 @@
 use Rattle.std.proofs.Common.{◌≡◌, ℕ, zero, suc, ◌+◌, ◌-◌, ◌*◌, ◌≤◌, List, [], ◌∷◌, ◌++◌, All, replicate, sum_by, refl, sym, ap, ◌∙◌, true, subst, arith}
 use Rattle.std.proofs.lemmas.List.Sums.{sum_by_push}
 use Rattle.std.proofs.lemmas.List.Elements.{All-append}
-use Rattle.heat_ledger.specs.declared.tally.Hand.{Hand}
+use Rattle.heat_ledger.specs.declared.tally.TokenState.{TokenState}
 use Rattle.heat_ledger.specs.Rows.{at}
 use Rattle.heat_ledger.specs.Tally.{most, all_parts, both_of, after_issue, IsLearned}
 use Rattle.heat_ledger.specs.Ledger.{ShareData, IsClean, weight_of, hits_of, begun_of, hit_slot, begun_slot, IsShare, IsBook}
-use Rattle.heat_ledger.specs.Keeping.{IsGathered}
+use Rattle.heat_ledger.specs.Gathering.{IsGathered}
 use Rattle.heat_ledger.proofs.RowLemmas.{at_sums}
 
-pub gathered_none : (v : Hand) (all : List ShareData) → v.amounts ≡ [] → IsGathered v.parts v all all
+pub gathered_none : (v : TokenState) (all : List ShareData) → v.amounts ≡ [] → IsGathered v.parts v all all
 gathered_none v all none = record {
   weights = refl;
   hits = λ d. (let e : at v.amounts (hit_slot d) ≡ 0 = ap (λ xs. at xs (hit_slot d)) none in omega arith);
@@ -17,14 +17,14 @@ gathered_none v all none = record {
   backed = λ k. (let e : at v.amounts k ≡ 0 = ap (λ xs. at xs k) none in omega arith);
 }
 
--- the keeper has one share more
-pub gathered_more : (limit parts : ℕ) (v u w : Hand) (all rest left : List ShareData) (x : ShareData) → rest ≡ left ++ x ∷ [] → IsGathered parts v all rest → IsClean x
+-- the authority has one share more
+pub gathered_more : (limit parts : ℕ) (v u w : TokenState) (all rest left : List ShareData) (x : ShareData) → rest ≡ left ++ x ∷ [] → IsGathered parts v all rest → IsClean x
     → IsShare limit u x.weight x.hits x.pending x.begun → ((k : ℕ) → at u.amounts k ≤ u.parts * most) → w ≡ both_of v u → IsGathered parts w all left
 gathered_more limit parts v u w all rest left x is g clean s back now =
     let weighs = s.weighs in
-    let np : w.parts ≡ v.parts + u.parts = ap (λ (h : Hand). h.parts) now in
+    let np : w.parts ≡ v.parts + u.parts = ap (λ (h : TokenState). h.parts) now in
     let sum : (f : ShareData → ℕ) → sum_by f rest ≡ sum_by f left + f x = λ f. ap (sum_by f) is ∙ sum_by_push f left x in
-    let amount : (k : ℕ) → at w.amounts k ≡ at v.amounts k + at u.amounts k = λ k. ap (λ (h : Hand). at h.amounts k) now ∙ at_sums v.amounts u.amounts k in
+    let amount : (k : ℕ) → at w.amounts k ≡ at v.amounts k + at u.amounts k = λ k. ap (λ (h : TokenState). at h.amounts k) now ∙ at_sums v.amounts u.amounts k in
     record {
       weights = (let a = g.weights in let s = sum (λ s. s.weight) in omega arith);
       hits = λ d. (let a = g.hits d in let t = sum (λ s. at s.hits d) in let m = amount (hit_slot d) in let k = s.known d in let c = clean d in omega arith);
@@ -33,16 +33,16 @@ gathered_more limit parts v u w all rest left x is g clean s back now =
     }
 
 -- all shares of the book were there
-pub record IsClosed (shares : ℕ) (counted started : List ℕ) (hand : Hand) (all : List ShareData) : Type 0 where
+pub record IsClosed (shares : ℕ) (counted started : List ℕ) (state : TokenState) (all : List ShareData) : Type 0 where
   pub weights : weight_of all ≡ shares
-  pub parts : hand.parts ≡ all_parts
+  pub parts : state.parts ≡ all_parts
   pub hits : (dir : ℕ) → at counted dir ≡ hits_of all dir
   pub begun : (dir : ℕ) → at started dir ≡ begun_of all dir
-  pub backed : (k : ℕ) → at hand.amounts k ≤ shares * most
+  pub backed : (k : ℕ) → at state.amounts k ≤ shares * most
 
-pub closed : (limit : ℕ) (v w : Hand) (shares : ℕ) (counted begun : List ℕ) (all : List ShareData) → IsBook limit v shares counted begun → IsGathered v.parts w all [] → w.keeps ≡ true → w.totals ≡ v.totals → IsLearned w
+pub closed : (limit : ℕ) (v w : TokenState) (shares : ℕ) (counted begun : List ℕ) (all : List ShareData) → IsBook limit v shares counted begun → IsGathered v.parts w all [] → w.has_totals ≡ true → w.totals ≡ v.totals → IsLearned w
     → shares - weight_of all ≡ 0 → IsClosed shares counted begun w all
-closed limit v w shares counted begun all b g keeps totals l left =
+closed limit v w shares counted begun all b g has_totals totals l left =
     let p = b.parts in
     let q = g.weights in
     let r = l.parts in
@@ -50,15 +50,15 @@ closed limit v w shares counted begun all b g keeps totals l left =
     record {
       weights = omega arith;
       parts = full;
-      hits = λ d. (let a = b.known d in let t : at w.totals (hit_slot d) ≡ at v.totals (hit_slot d) = ap (λ xs. at xs (hit_slot d)) totals in let h = g.hits d in let e = l.whole keeps full (hit_slot d) in omega arith);
-      begun = λ d. (let a = b.begins d in let t : at w.totals (begun_slot d) ≡ at v.totals (begun_slot d) = ap (λ xs. at xs (begun_slot d)) totals in let h = g.begun d in let e = l.whole keeps full (begun_slot d) in omega arith);
+      hits = λ d. (let a = b.known d in let t : at w.totals (hit_slot d) ≡ at v.totals (hit_slot d) = ap (λ xs. at xs (hit_slot d)) totals in let h = g.hits d in let e = l.whole has_totals full (hit_slot d) in omega arith);
+      begun = λ d. (let a = b.begins d in let t : at w.totals (begun_slot d) ≡ at v.totals (begun_slot d) = ap (λ xs. at xs (begun_slot d)) totals in let h = g.begun d in let e = l.whole has_totals full (begun_slot d) in omega arith);
       backed = λ k. (let a = g.backed k in let m : v.parts * most + shares * most ≡ w.parts * most = omega (arith, ap (λ n. n * most) p, ap (λ n. n * most) full) in omega arith);
     }
 
 -- the book goes on, without a share
-pub retired : (limit : ℕ) (v w x : Hand) (shares : ℕ) (counted begun : List ℕ) → IsBook limit v shares counted begun → w.keeps ≡ true → w.totals ≡ v.totals → w.parts ≡ all_parts → x ≡ after_issue shares [] [] w → IsBook limit x shares counted begun
-retired limit v w x shares counted begun b keeps totals full is = subst (λ (h : Hand). IsBook limit h shares counted begun) (sym is) record {
-  keeps = keeps;
+pub retired : (limit : ℕ) (v w x : TokenState) (shares : ℕ) (counted begun : List ℕ) → IsBook limit v shares counted begun → w.has_totals ≡ true → w.totals ≡ v.totals → w.parts ≡ all_parts → x ≡ after_issue shares [] [] w → IsBook limit x shares counted begun
+retired limit v w x shares counted begun b has_totals totals full is = subst (λ (h : TokenState). IsBook limit h shares counted begun) (sym is) record {
+  has_totals = has_totals;
   all_out = refl;
   parts = (let p = b.parts in omega arith);
   some = b.some;

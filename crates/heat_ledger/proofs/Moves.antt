@@ -4,131 +4,131 @@ use mathlib.Core.Option.{some, some-ne-none, some-injective}
 use lib.ListN.{get_elem?}
 use Rattle.atomic_table.specs.Table.{Step, Me, Act, Allows, Splits, Joins}
 use Rattle.atomic_table.proofs.Lists.{at_set, at_snoc, set_again}
-use Rattle.heat_ledger.specs.declared.tally.Hand.{Hand}
+use Rattle.heat_ledger.specs.declared.tally.TokenState.{TokenState}
 use Rattle.heat_ledger.specs.Rows.{at}
-use Rattle.heat_ledger.specs.Tally.{total, holding, keeping, all_parts, most, IsBalanced, IsFair, both_of, after_issue, IsLearned, Learns}
+use Rattle.heat_ledger.specs.Tally.{total, share_state, authority_state, all_parts, most, IsBalanced, IsBalancedTable, both_of, after_issue, IsLearned, Learns}
 use Rattle.heat_ledger.proofs.RowLemmas.{at_sums}
 use Rattle.heat_ledger.proofs.Totals.{total_set, total_snoc, total_get, total_scaled}
 
-off : (v : Hand) → v.keeps ≡ false → v.keeps ≡ true → ⊥
+off : (v : TokenState) → v.has_totals ≡ false → v.has_totals ≡ true → ⊥
 off v n y = true≢false (sym y ∙ n)
 
-pub begins : IsBalanced (keeping all_parts [] ∷ [])
+pub begins : IsBalanced (authority_state all_parts [] ∷ [])
 begins = record {
-  seat = 0;
+  token = 0;
   whole = refl;
   sums = one;
   backed = two;
 }
   where
-    one : (by : ℕ) (v : Hand) → get_elem? (keeping all_parts [] ∷ []) by ≡ some v → v.keeps ≡ true → (by ≡ 0) × ((k : ℕ) → total (λ u. at u.amounts k) (keeping all_parts [] ∷ []) ≡ at v.totals k)
-    one zero v e y = (refl, λ k. ap (λ (u : Hand). at u.totals k) (some-injective (keeping all_parts []) v e))
+    one : (by : ℕ) (v : TokenState) → get_elem? (authority_state all_parts [] ∷ []) by ≡ some v → v.has_totals ≡ true → (by ≡ 0) × ((k : ℕ) → total (λ u. at u.amounts k) (authority_state all_parts [] ∷ []) ≡ at v.totals k)
+    one zero v e y = (refl, λ k. ap (λ (u : TokenState). at u.totals k) (some-injective (authority_state all_parts []) v e))
     one (suc by) v e y = absurd (some-ne-none v (sym e))
 
-    two : (by : ℕ) (v : Hand) → get_elem? (keeping all_parts [] ∷ []) by ≡ some v → (k : ℕ) → at v.amounts k ≤ v.parts * most
-    two zero v e k = subst (λ (u : Hand). at u.amounts k ≤ u.parts * most) (some-injective (keeping all_parts []) v e) (omega arith)
+    two : (by : ℕ) (v : TokenState) → get_elem? (authority_state all_parts [] ∷ []) by ≡ some v → (k : ℕ) → at v.amounts k ≤ v.parts * most
+    two zero v e k = subst (λ (u : TokenState). at u.amounts k ≤ u.parts * most) (some-injective (authority_state all_parts []) v e) (omega arith)
     two (suc by) v e k = absurd (some-ne-none v (sym e))
 
--- a new seat with these amounts, of which the keeper's totals know
-pub issues : (id : ℕ) (v : Hand) (parts : ℕ) (amounts rest extra : List ℕ) → v.keeps ≡ true → parts ≤ v.parts
+-- a new token with these amounts, of which the authority's totals know
+pub issues : (id : ℕ) (v : TokenState) (parts : ℕ) (amounts rest extra : List ℕ) → v.has_totals ≡ true → parts ≤ v.parts
     → ((k : ℕ) → at amounts k + at rest k ≡ at v.amounts k + at extra k)
     → ((k : ℕ) → at amounts k ≤ parts * most)
     → ((k : ℕ) → at rest k ≤ (v.parts - parts) * most)
-    → (views : List Hand) → IsBalanced views → get_elem? views id ≡ some v → IsBalanced (set views id (after_issue parts rest extra v) ++ holding parts amounts ∷ [])
-issues id v parts amounts rest extra keeps fits same backed left views b here =
+    → (views : List TokenState) → IsBalanced views → get_elem? views id ≡ some v → IsBalanced (set views id (after_issue parts rest extra v) ++ share_state parts amounts ∷ [])
+issues id v parts amounts rest extra has_totals fits same backed left views b here =
     let w = after_issue parts rest extra v in
-    let n = holding parts amounts in
-    let mine = b.sums id v here keeps in
-    let sum : (f : Hand → ℕ) → total f (set views id w ++ n ∷ []) + f v ≡ total f views + f w + f n = λ f. (let s = total_set f views id v w here in let t = total_snoc f (set views id w) n in omega arith) in
+    let n = share_state parts amounts in
+    let mine = b.sums id v here has_totals in
+    let sum : (f : TokenState → ℕ) → total f (set views id w ++ n ∷ []) + f v ≡ total f views + f w + f n = λ f. (let s = total_set f views id v w here in let t = total_snoc f (set views id w) n in omega arith) in
     record {
-      seat = b.seat;
+      token = b.token;
       whole = (let s = sum (λ u. u.parts) in let a = b.whole in omega arith);
       sums = λ by u e y. ⊎_elim
           (λ old. ⊎_elim
           (λ (x : (by ≡ id) × (w ≡ u)). (
             x.0 ∙ mine.0,
-            λ k. subst (λ (z : Hand). total (λ q. at q.amounts k) (set views id w ++ n ∷ []) ≡ at z.totals k) x.1
+            λ k. subst (λ (z : TokenState). total (λ q. at q.amounts k) (set views id w ++ n ∷ []) ≡ at z.totals k) x.1
                 (let s = sum (λ q. at q.amounts k) in let t = mine.1 k in let a = at_sums v.totals extra k in let d = same k in omega arith),
           ))
           (λ (x : (by ≢ id) × (get_elem? views by ≡ some u)). absurd (x.0 ((b.sums by u x.1 y).0 ∙ sym mine.0)))
           (at_set views id by w u old))
-          (λ (new : n ≡ u). absurd (off u (ap (λ (z : Hand). z.keeps) (sym new)) y))
+          (λ (new : n ≡ u). absurd (off u (ap (λ (z : TokenState). z.has_totals) (sym new)) y))
           (at_snoc (set views id w) n u by e);
       backed = λ by u e k. ⊎_elim
           (λ old. ⊎_elim
-          (λ (x : (by ≡ id) × (w ≡ u)). subst (λ (z : Hand). at z.amounts k ≤ z.parts * most) x.1 (left k))
+          (λ (x : (by ≡ id) × (w ≡ u)). subst (λ (z : TokenState). at z.amounts k ≤ z.parts * most) x.1 (left k))
           (λ (x : (by ≢ id) × (get_elem? views by ≡ some u)). b.backed by u x.1 k)
           (at_set views id by w u old))
-          (λ (new : n ≡ u). subst (λ (z : Hand). at z.amounts k ≤ z.parts * most) new (backed k))
+          (λ (new : n ≡ u). subst (λ (z : TokenState). at z.amounts k ≤ z.parts * most) new (backed k))
           (at_snoc (set views id w) n u by e);
     }
 
-pub splits : (id : ℕ) (v : Hand) (parts : ℕ) (amounts rest extra : List ℕ) → v.keeps ≡ true → parts ≤ v.parts
+pub splits : (id : ℕ) (v : TokenState) (parts : ℕ) (amounts rest extra : List ℕ) → v.has_totals ≡ true → parts ≤ v.parts
     → ((k : ℕ) → at amounts k + at rest k ≡ at v.amounts k + at extra k)
     → ((k : ℕ) → at amounts k ≤ parts * most)
     → ((k : ℕ) → at rest k ≤ (v.parts - parts) * most)
-    → Splits IsFair id v (after_issue parts rest extra v) (holding parts amounts)
-splits id v parts amounts rest extra keeps fits same backed left s h here = issues id v parts amounts rest extra keeps fits same backed left s.views h here
+    → Splits IsBalancedTable id v (after_issue parts rest extra v) (share_state parts amounts)
+splits id v parts amounts rest extra has_totals fits same backed left s h here = issues id v parts amounts rest extra has_totals fits same backed left s.views h here
 
--- a seat takes in a holder's seat
-pub joins : (id : ℕ) (v : Hand) (other : ℕ) (w : Hand) → w.keeps ≡ false → Joins IsFair id v other w (both_of v w) (holding 0 [])
+-- a token takes in a holder's token
+pub joins : (id : ℕ) (v : TokenState) (other : ℕ) (w : TokenState) → w.has_totals ≡ false → Joins IsBalancedTable id v other w (both_of v w) (share_state 0 [])
 joins id v other w held s b here apart there =
     let views = s.views in
     let one = both_of v w in
-    let none = holding 0 [] in
+    let none = share_state 0 [] in
     let mid = set views id one in
     let theirs : get_elem? views other ≡ some w = ⊎_elim (λ (t : (other ≡ id) × (one ≡ w)). absurd (apart t.0)) (λ (t : (other ≢ id) × (get_elem? views other ≡ some w)). t.1) (at_set views id other one w there) in
-    let sum : (f : Hand → ℕ) → total f (set mid other none) + f w + f v ≡ total f views + f one + f none = λ f. (let p = total_set f views id v one here in let q = total_set f mid other w none there in omega arith) in
+    let sum : (f : TokenState → ℕ) → total f (set mid other none) + f w + f v ≡ total f views + f one + f none = λ f. (let p = total_set f views id v one here in let q = total_set f mid other w none there in omega arith) in
     let amount : (k : ℕ) → total (λ q. at q.amounts k) (set mid other none) ≡ total (λ q. at q.amounts k) views = λ k. (let p = sum (λ q. at q.amounts k) in let a = at_sums v.amounts w.amounts k in omega arith) in
     record {
-      seat = b.seat;
+      token = b.token;
       whole = (let p = sum (λ u. u.parts) in let a = b.whole in omega arith);
       sums = λ by u e y. ⊎_elim
-          (λ (x : (by ≡ other) × (none ≡ u)). absurd (off u (ap (λ (z : Hand). z.keeps) (sym x.1)) y))
+          (λ (x : (by ≡ other) × (none ≡ u)). absurd (off u (ap (λ (z : TokenState). z.has_totals) (sym x.1)) y))
           (λ (x : (by ≢ other) × (get_elem? mid by ≡ some u)). ⊎_elim
           (λ (z : (by ≡ id) × (one ≡ u)).
-          let old = b.sums id v here (ap (λ (q : Hand). q.keeps) z.1 ∙ y) in (
+          let old = b.sums id v here (ap (λ (q : TokenState). q.has_totals) z.1 ∙ y) in (
             z.0 ∙ old.0,
-            λ k. amount k ∙ (old.1 k ∙ ap (λ (q : Hand). at q.totals k) z.1),
+            λ k. amount k ∙ (old.1 k ∙ ap (λ (q : TokenState). at q.totals k) z.1),
           ))
           (λ (z : (by ≢ id) × (get_elem? views by ≡ some u)). let old = b.sums by u z.1 y in (old.0, λ k. amount k ∙ old.1 k))
           (at_set views id by one u x.1))
           (at_set mid other by none u e);
       backed = λ by u e k. ⊎_elim
-          (λ (x : (by ≡ other) × (none ≡ u)). subst (λ (z : Hand). at z.amounts k ≤ z.parts * most) x.1 (omega arith))
+          (λ (x : (by ≡ other) × (none ≡ u)). subst (λ (z : TokenState). at z.amounts k ≤ z.parts * most) x.1 (omega arith))
           (λ (x : (by ≢ other) × (get_elem? mid by ≡ some u)). ⊎_elim
-          (λ (z : (by ≡ id) × (one ≡ u)). subst (λ (q : Hand). at q.amounts k ≤ q.parts * most) z.1
+          (λ (z : (by ≡ id) × (one ≡ u)). subst (λ (q : TokenState). at q.amounts k ≤ q.parts * most) z.1
           (let p = b.backed id v here k in let q = b.backed other w theirs k in let a = at_sums v.amounts w.amounts k in omega arith))
           (λ (z : (by ≢ id) × (get_elem? views by ≡ some u)). b.backed by u z.1 k)
           (at_set views id by one u x.1))
           (at_set mid other by none u e);
     }
 
--- what the rule says of one hand
-pub tells : (views : List Hand) → IsBalanced views → (id : ℕ) (v : Hand) → get_elem? views id ≡ some v → IsLearned v
+-- what the rule says of one token
+pub tells : (views : List TokenState) → IsBalanced views → (id : ℕ) (v : TokenState) → get_elem? views id ≡ some v → IsLearned v
 tells views b id v here = record {
   parts = (let p = total_get (λ u. u.parts) views id v here in let a = b.whole in omega arith);
   backed = b.backed id v here;
-  within = λ keeps k.
-      let sums = (b.sums id v here keeps).1 k in
+  within = λ has_totals k.
+      let sums = (b.sums id v here has_totals).1 k in
       let p = total_get (λ u. at u.amounts k) views id v here in
       let q = total_scaled (λ u. at u.amounts k) (λ u. u.parts) most views (λ by u e. b.backed by u e k) in
       let a = b.whole in
       (omega arith, omega arith);
-  whole = λ keeps all k.
-      let none = holding 0 [] in
-      let sums = (b.sums id v here keeps).1 k in
+  whole = λ has_totals all k.
+      let none = share_state 0 [] in
+      let sums = (b.sums id v here has_totals).1 k in
       let p = total_set (λ u. u.parts) views id v none here in
       let q = total_set (λ u. at u.amounts k) views id v none here in
       let rest = total_scaled (λ u. at u.amounts k) (λ u. u.parts) most (set views id none) (λ by u e. ⊎_elim
-      (λ (x : (by ≡ id) × (none ≡ u)). subst (λ (z : Hand). at z.amounts k ≤ z.parts * most) x.1 (omega arith))
+      (λ (x : (by ≡ id) × (none ≡ u)). subst (λ (z : TokenState). at z.amounts k ≤ z.parts * most) x.1 (omega arith))
       (λ (x : (by ≢ id) × (get_elem? views by ≡ some u)). b.backed by u x.1 k)
       (at_set views id by none u e)) in
       let a = b.whole in
       omega arith;
 }
 
-pub learns : (slots id : ℕ) (me : Me ℕ Hand) (st : Step ℕ) → Allows IsFair slots id me 0 (λ n. n) (Learns st me)
+pub learns : (slots id : ℕ) (me : Me ℕ TokenState) (st : Step ℕ) → Allows IsBalancedTable slots id me 0 (λ n. n) (Learns st me)
 learns slots id me st s b homes here fits = (
   me.0,
   Act.keeps,

@@ -1,17 +1,17 @@
 -- What keeps a share a share.
 use Rattle.std.proofs.Common.{◌≡◌, ◌≢◌, ℕ, ◌+◌, ◌*◌, ◌<◌, ◌≤◌, List, length, replicate, refl, sym, ap, ◌∙◌, arith}
 use native.Mathlib.Decide.{ℕ_discrete}
-use Rattle.heat_ledger.specs.declared.tally.Hand.{Hand}
+use Rattle.heat_ledger.specs.declared.tally.TokenState.{TokenState}
 use Rattle.heat_ledger.specs.Rows.{at, sums, raised, raised_by}
-use Rattle.heat_ledger.specs.Tally.{most, both_of, holding, IsLearned}
+use Rattle.heat_ledger.specs.Tally.{most, both_of, share_state, IsLearned}
 use Rattle.heat_ledger.specs.Ledger.{hit_slot, begun_slot, spread, unit, IsShare}
 use Rattle.heat_ledger.proofs.RowLemmas.{at_sums, at_raised_same, at_raised_other, at_raised_by_same, at_raised_by_other, at_replicate, length-raised, length-raised_by, length-sums, length-replicate}
 use Rattle.heat_ledger.proofs.Slots.{at_spread_hits, at_spread_begun, at_unit_same, at_unit_other}
 
 -- a share that counts so many hits of a directory stays one, while they find room
-pub count_kept : (limit : ℕ) (hand : Hand) (weight d n : ℕ) (hits pending begun : List ℕ) → IsShare limit hand weight hits pending begun → d < limit → at hits d + n ≤ weight * most
-    → IsShare limit hand weight (raised_by hits d n) (raised_by pending d n) begun
-count_kept limit hand weight d n hits pending begun s inside fits = record {
+pub count_kept : (limit : ℕ) (state : TokenState) (weight d n : ℕ) (hits pending begun : List ℕ) → IsShare limit state weight hits pending begun → d < limit → at hits d + n ≤ weight * most
+    → IsShare limit state weight (raised_by hits d n) (raised_by pending d n) begun
+count_kept limit state weight d n hits pending begun s inside fits = record {
   holds = s.holds;
   weighs = s.weighs;
   some = s.some;
@@ -30,7 +30,7 @@ count_kept limit hand weight d n hits pending begun s inside fits = record {
     in_pending : d < length pending
     in_pending = let e = s.as_pending in omega arith
 
-    known : (k : ℕ) → Dec (k ≡ d) → at hand.amounts (hit_slot k) + at (raised_by pending d n) k ≡ at (raised_by hits d n) k
+    known : (k : ℕ) → Dec (k ≡ d) → at state.amounts (hit_slot k) + at (raised_by pending d n) k ≡ at (raised_by hits d n) k
     known k (yes e) =
         let p : at (raised_by pending d n) k ≡ at pending d + n = ap (at (raised_by pending d n)) e ∙ at_raised_by_same pending d n in_pending in
         let q : at (raised_by hits d n) k ≡ at hits d + n = ap (at (raised_by hits d n)) e ∙ at_raised_by_same hits d n in_hits in
@@ -42,15 +42,15 @@ count_kept limit hand weight d n hits pending begun s inside fits = record {
     room k (yes e) = let q : at (raised_by hits d n) k ≡ at hits d + n = ap (at (raised_by hits d n)) e ∙ at_raised_by_same hits d n in_hits in omega arith
     room k (no m) = let q = at_raised_by_other hits d n k m in let r = s.room k in omega arith
 
-pub hit_kept : (limit : ℕ) (hand : Hand) (weight d : ℕ) (hits pending begun : List ℕ) → IsShare limit hand weight hits pending begun → d < limit → at hits d < most
-    → IsShare limit hand weight (raised hits d) (raised pending d) begun
-hit_kept limit hand weight d hits pending begun s inside less = count_kept limit hand weight d 1 hits pending begun s inside (let w = s.some in omega arith)
+pub hit_kept : (limit : ℕ) (state : TokenState) (weight d : ℕ) (hits pending begun : List ℕ) → IsShare limit state weight hits pending begun → d < limit → at hits d < most
+    → IsShare limit state weight (raised hits d) (raised pending d) begun
+hit_kept limit state weight d hits pending begun s inside less = count_kept limit state weight d 1 hits pending begun s inside (let w = s.some in omega arith)
 
 -- what a directory's counts are at most
-pub hits_fit : (limit : ℕ) (hand : Hand) (weight : ℕ) (hits pending begun : List ℕ) → IsShare limit hand weight hits pending begun → (d : ℕ) → (at hits d ≤ 65 * most) × (at pending d ≤ 65 * most)
-hits_fit limit hand weight hits pending begun s d = let r = s.room d in let l = s.light in let k = s.known d in (omega arith, omega arith)
+pub hits_fit : (limit : ℕ) (state : TokenState) (weight : ℕ) (hits pending begun : List ℕ) → IsShare limit state weight hits pending begun → (d : ℕ) → (at hits d ≤ 65 * most) × (at pending d ≤ 65 * most)
+hits_fit limit state weight hits pending begun s d = let r = s.room d in let l = s.light in let k = s.known d in (omega arith, omega arith)
 
-pub join_kept : (limit : ℕ) (v w : Hand) (n m : ℕ) (hits hits' pending pending' begun begun' : List ℕ) → IsShare limit v n hits pending begun → IsShare limit w m hits' pending' begun' → IsLearned (both_of v w)
+pub join_kept : (limit : ℕ) (v w : TokenState) (n m : ℕ) (hits hits' pending pending' begun begun' : List ℕ) → IsShare limit v n hits pending begun → IsShare limit w m hits' pending' begun' → IsLearned (both_of v w)
     → IsShare limit (both_of v w) (n + m) (sums hits hits') (sums pending pending') (sums begun begun')
 join_kept limit v w n m hits hits' pending pending' begun begun' s t l = record {
   holds = s.holds;
@@ -66,7 +66,7 @@ join_kept limit v w n m hits hits' pending pending' begun begun' s t l = record 
 }
 
 -- what two shares have together fits
-pub join_fits : (limit : ℕ) (v w : Hand) (n m : ℕ) (hits hits' pending pending' begun begun' : List ℕ) → IsShare limit v n hits pending begun → IsShare limit w m hits' pending' begun' → IsLearned (both_of v w)
+pub join_fits : (limit : ℕ) (v w : TokenState) (n m : ℕ) (hits hits' pending pending' begun begun' : List ℕ) → IsShare limit v n hits pending begun → IsShare limit w m hits' pending' begun' → IsLearned (both_of v w)
     → (n + m ≤ 65) × ((d : ℕ) → (at hits d + at hits' d ≤ 65 * most) × (at pending d + at pending' d ≤ 65 * most) × (at begun d + at begun' d ≤ 65 * most))
 join_fits limit v w n m hits hits' pending pending' begun begun' s t l =
     let both = join_kept limit v w n m hits hits' pending pending' begun begun' s t l in (
@@ -81,8 +81,8 @@ join_fits limit v w n m hits hits' pending pending' begun begun' s t l =
           (omega (arith, fit.0), omega (arith, fit.1), omega arith),
     )
 
-pub deposit_share : (limit : ℕ) (v : Hand) (weight : ℕ) (hits pending begun : List ℕ) → IsShare limit v weight hits pending begun
-    → IsShare limit (holding v.parts (sums v.amounts (spread pending))) weight hits (replicate limit 0) begun
+pub deposit_share : (limit : ℕ) (v : TokenState) (weight : ℕ) (hits pending begun : List ℕ) → IsShare limit v weight hits pending begun
+    → IsShare limit (share_state v.parts (sums v.amounts (spread pending))) weight hits (replicate limit 0) begun
 deposit_share limit v weight hits pending begun s = record {
   holds = refl;
   weighs = s.weighs;
@@ -104,8 +104,8 @@ apart d dir n e = n (omega arith)
 pub not_hit : (d dir : ℕ) → hit_slot d ≢ begun_slot dir
 not_hit d dir e = absurd (omega arith)
 
-pub begin_share : (limit : ℕ) (v : Hand) (weight dir : ℕ) (hits pending begun : List ℕ) → IsShare limit v weight hits pending begun → dir < limit
-    → IsShare limit (holding v.parts (sums v.amounts (unit (begun_slot dir)))) weight hits pending (raised begun dir)
+pub begin_share : (limit : ℕ) (v : TokenState) (weight dir : ℕ) (hits pending begun : List ℕ) → IsShare limit v weight hits pending begun → dir < limit
+    → IsShare limit (share_state v.parts (sums v.amounts (unit (begun_slot dir)))) weight hits pending (raised begun dir)
 begin_share limit v weight dir hits pending begun s inside = record {
   holds = refl;
   weighs = s.weighs;

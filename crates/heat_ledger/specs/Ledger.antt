@@ -1,8 +1,8 @@
--- What a share and the book of all shares count, and what their seats at the desk know of it.
+-- What a share and the book of all shares count, and what their tokens know of it.
 use Rattle.std.specs.Prelude.{◌≡◌, ℕ, zero, suc, ◌+◌, ◌*◌, ◌≤◌, Bool, true, false, List, [], ◌∷◌, length, sum_by}
 use Rattle.atomic_table.specs.Seated.{TableId}
 use Rattle.atomic_table.specs.declared.shared.Seat.{Seat}
-use Rattle.heat_ledger.specs.declared.tally.Hand.{Hand}
+use Rattle.heat_ledger.specs.declared.tally.TokenState.{TokenState}
 use Rattle.heat_ledger.specs.Rows.{at, sums, differences, IsZero}
 use Rattle.heat_ledger.specs.Tally.{most, all_parts}
 
@@ -62,42 +62,42 @@ abbrev pub unit : ℕ → List ℕ
 unit zero = 1 ∷ []
 unit (suc k) = 0 ∷ unit k
 
--- it is a seat at this desk
-pub record IsSeated (desk : TableId) (seat : Seat ℕ Hand) : Type 0 where
-  pub words : desk.words ≡ 1
-  pub table : seat.table_id ≡ desk
-  pub none_out : seat.me.1 ≡ []
+-- it is a token of this table, and nothing else is out
+pub record IsTokenOf (tokens : TableId) (token : Seat ℕ TokenState) : Type 0 where
+  pub words : tokens.words ≡ 1
+  pub table : token.table_id ≡ tokens
+  pub none_out : token.me.1 ≡ []
 
 -- What was deposited, and what is pending, are the hits. A share's hits rest on its weight.
-pub record IsShare (limit : ℕ) (hand : Hand) (weight : ℕ) (hits pending begun : List ℕ) : Type 0 where
-  pub holds : hand.keeps ≡ false
-  pub weighs : hand.parts ≡ weight
+pub record IsShare (limit : ℕ) (state : TokenState) (weight : ℕ) (hits pending begun : List ℕ) : Type 0 where
+  pub holds : state.has_totals ≡ false
+  pub weighs : state.parts ≡ weight
   pub some : 1 ≤ weight
   pub light : weight ≤ all_parts
-  pub known : (dir : ℕ) → at hand.amounts (hit_slot dir) + at pending dir ≡ at hits dir
-  pub begins : (dir : ℕ) → at hand.amounts (begun_slot dir) ≡ at begun dir
+  pub known : (dir : ℕ) → at state.amounts (hit_slot dir) + at pending dir ≡ at hits dir
+  pub begins : (dir : ℕ) → at state.amounts (begun_slot dir) ≡ at begun dir
   pub room : (dir : ℕ) → at hits dir ≤ weight * most
   pub as_hits : length hits ≡ limit
   pub as_pending : length pending ≡ limit
   pub as_begun : length begun ≡ limit
 
 -- What the book counted is what all shares deposited.
-pub record IsBook (limit : ℕ) (hand : Hand) (shares : ℕ) (counted begun : List ℕ) : Type 0 where
-  pub keeps : hand.keeps ≡ true
-  pub all_out : hand.amounts ≡ []
-  pub parts : hand.parts + shares ≡ all_parts
+pub record IsBook (limit : ℕ) (state : TokenState) (shares : ℕ) (counted begun : List ℕ) : Type 0 where
+  pub has_totals : state.has_totals ≡ true
+  pub all_out : state.amounts ≡ []
+  pub parts : state.parts + shares ≡ all_parts
   pub some : 1 ≤ shares
-  pub known : (dir : ℕ) → at hand.totals (hit_slot dir) ≡ at counted dir
-  pub begins : (dir : ℕ) → at hand.totals (begun_slot dir) ≡ at begun dir
+  pub known : (dir : ℕ) → at state.totals (hit_slot dir) ≡ at counted dir
+  pub begins : (dir : ℕ) → at state.totals (begun_slot dir) ≡ at begun dir
   pub as_counted : length counted ≡ limit
   pub as_begun : length begun ≡ limit
 
 -- how many of the shares are used up
-abbrev pub spent_of : Bool → ℕ → ℕ
-spent_of true shares = 0
-spent_of false shares = shares
+abbrev pub closed_parts : Bool → ℕ → ℕ
+closed_parts true shares = 0
+closed_parts false shares = shares
 
 -- the parts of the shares that are used up
-pub record IsSpent (hand : Hand) (is_open : Bool) (shares : ℕ) : Type 0 where
-  pub holds : hand.keeps ≡ false
-  pub parts : hand.parts ≡ spent_of is_open shares
+pub record IsClosedPart (state : TokenState) (is_open : Bool) (shares : ℕ) : Type 0 where
+  pub holds : state.has_totals ≡ false
+  pub parts : state.parts ≡ closed_parts is_open shares

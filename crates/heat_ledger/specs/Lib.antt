@@ -3,5 +3,5 @@ pub mod Touched
 pub mod Tally
 pub mod Ledger
 pub mod Opening
-pub mod Keeping
+pub mod Gathering
 pub mod Refused

@@ -1,5 +1,6 @@
 -- Rows of counts, one count for each directory number below a limit.
-use Rattle.std.specs.Prelude.{◌≡◌, ℕ, ◌+◌, ◌-◌, List, [], ◌∷◌, ◌++◌, length, replicate, slice_index_or, slice_set, filter, nat_lt}
+use Rattle.std.specs.Prelude.{◌≡◌, ℕ, ◌+◌, ◌-◌, List, [], ◌∷◌, ◌++◌, length, replicate}
+use Rattle.std.specs.Prelude.{slice_index_or, slice_set, filter, nat_lt}
 
 -- the count of a directory, and 0 past the limit
 abbrev pub at : List ℕ → ℕ → ℕ

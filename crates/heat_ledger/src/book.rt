@@ -3,11 +3,11 @@
 use crate::auditing::audit_all;
 use crate::closing::{gather, missing, none_left};
 use crate::missing::Missing;
-use crate::opened::Opened;
-use crate::opening::{Room, deal, lay_out};
+use crate::new_book::NewBook;
+use crate::opening::{Room, lay_out, open_shares};
 use crate::row::Row;
 use crate::share::Share;
-use crate::tally::{Desk, Place, grant, issue, learn, reissue};
+use crate::tally::{Token, TokenTable, grant, issue, learn, reissue};
 use mds_types::Dir;
 use mds_types::limits::DIR_LIMIT;
 use naming::Naming;
@@ -23,9 +23,9 @@ use std::sync::Arc;
 /// while the book is open, and `close` when it ends. All memory is taken by `open`.
 #[derive(Drop)]
 pub struct Book<J: Naming> {
-    desk: Arc<Desk, Global>,
-    seat: Place,
-    spent: Place,
+    tokens: Arc<TokenTable, Global>,
+    token: Token,
+    closed: Token,
     is_open: bool,
     shares: u8,
     counted: Vec<u64>,
@@ -36,17 +36,27 @@ pub struct Book<J: Naming> {
 impl<J: Naming> Model for Book<J> {
     ghost use Rattle.std.specs.Prelude.{◌≡◌};
     ghost use Rattle.std.specs.Arc.{arc_value};
-    ghost use Rattle.heat_ledger.specs.Ledger.{BookData, IsSeated, IsBook, IsSpent};
+    ghost use Rattle.heat_ledger.specs.Ledger.{BookData, IsTokenOf, IsBook, IsClosedPart};
 
     ghost Value = { BookData };
 
-    ghost view = { λ book. record { is_open = book.is_open; shares = book.shares; counted = book.counted.items; begun = book.begun.items } };
+    ghost view = { λ book. record {
+      is_open = book.is_open;
+      shares = book.shares;
+      counted = book.counted.items;
+      begun = book.begun.items;
+    } };
 
-    ghost invariant = { λ book. IsSeated (arc_value book.desk).shared.table_id book.seat × ((arc_value book.desk).shared.table_id ≡ J.ledger) × IsBook J.limit book.seat.me.0 book.shares book.counted.items book.begun.items × IsSeated (arc_value book.desk).shared.table_id book.spent × IsSpent book.spent.me.0 book.is_open book.shares };
+    ghost invariant = { λ book. IsTokenOf (arc_value book.tokens).shared.table_id book.token
+        × ((arc_value book.tokens).shared.table_id ≡ J.ledger)
+        × IsBook J.limit book.token.me.0 book.shares book.counted.items book.begun.items
+        × IsTokenOf (arc_value book.tokens).shared.table_id book.closed
+        × IsClosedPart book.closed.me.0 book.is_open book.shares };
 }
 
 impl<J: Naming> Book<J> {
-    ghost use Rattle.std.specs.Prelude.{◌≡◌, ℕ, ◌+◌, ◌^◌, ◌<◌, ◌≤◌, true, false, All, IsErr, IfOk, IfErr, OnOk, OnErr, length, replicate};
+    ghost use Rattle.std.specs.Prelude.{◌≡◌, ℕ, ◌+◌, ◌^◌, ◌<◌, ◌≤◌, true, false, All, IsErr};
+    ghost use Rattle.std.specs.Prelude.{IfOk, IfErr, OnOk, OnErr, length, replicate};
     ghost use Rattle.heat_ledger.specs.Rows.{at, sums, raised};
     ghost use Rattle.heat_ledger.specs.Ledger.{IsClean, weight_of, hits_of, pending_of, begun_of};
 
@@ -54,40 +64,51 @@ impl<J: Naming> Book<J> {
     /// what was opened is handed back.
     pub fn open(
         alloc: Global,
-        opened: Opened,
+        opened: NewBook,
         limit: u32,
         shares: u8,
-    ) -> Result<(Book<J>, Vec<Share<J>>), AllocFailed<Opened>>
+    ) -> Result<(Book<J>, Vec<Share<J>>), AllocFailed<NewBook>>
         requires name { opened ≡ J.ledger }
         requires limit { (limit ≡ J.limit) × (1 ≤ limit) × (limit ≤ DIR_LIMIT) }
         requires shares { (1 ≤ shares) × (shares ≤ 64) }
-        ensures book { IfOk result (λ r. r.0 ≡ record { is_open = true; shares = shares; counted = replicate limit 0; begun = replicate limit 0 }) }
-        ensures shares { IfOk result (λ r. r.1.items ≡ replicate shares (record { weight = 1; hits = replicate limit 0; pending = replicate limit 0; begun = replicate limit 0 })) }
+        ensures book { IfOk result (λ r. r.0 ≡ record {
+          is_open = true;
+          shares = shares;
+          counted = replicate limit 0;
+          begun = replicate limit 0;
+        }) }
+        ensures shares { IfOk result (λ r. r.1.items
+            ≡ replicate shares (record {
+              weight = 1;
+              hits = replicate limit 0;
+              pending = replicate limit 0;
+              begun = replicate limit 0;
+            })) }
         ensures err { IfErr result (λ e. e.value ≡ opened) }
     {
-        let Ok(room) = lay_out::<J>(alloc, &opened.desk, limit, shares) else {
+        let Ok(room) = lay_out::<J>(alloc, &opened.tokens, limit, shares) else {
             return Err(AllocFailed { value: opened });
         };
         let Room {
-            blanks,
+            unopened_shares,
             shares: none,
             counted,
             begun,
         } = room;
-        let Opened { desk, mut seat } = opened;
-        let dealt = deal::<J>(&mut seat, blanks, none);
-        let spent = issue::<Brand>(&desk.shared, &mut seat);
+        let NewBook { tokens, mut token } = opened;
+        let all = open_shares::<J>(&mut token, unopened_shares, none);
+        let closed = issue::<Brand>(&tokens.shared, &mut token);
         let book = Book {
-            desk,
-            seat,
-            spent,
+            tokens,
+            token,
+            closed,
             is_open: true,
             shares,
             counted,
             begun,
             of: PhantomData,
         };
-        Ok((book, dealt))
+        Ok((book, all))
     }
 
     /// The hits on a directory that were deposited.
@@ -121,9 +142,9 @@ impl<J: Naming> Book<J> {
         ensures share { share.new ≡ record share.old { pending = replicate J.limit 0 } }
     {
         reissue::<Brand, Row>(
-            &self.desk.shared,
-            &mut self.seat,
-            &mut share.seat,
+            &self.tokens.shared,
+            &mut self.token,
+            &mut share.token,
             &share.pending,
         );
         share.pending.move_into(&mut self.counted);
@@ -136,7 +157,7 @@ impl<J: Naming> Book<J> {
         ensures book { self.new ≡ record self.old { begun = raised self.old.begun dir } }
         ensures share { share.new ≡ record share.old { begun = raised share.old.begun dir } }
     {
-        reissue::<Brand, Dir>(&self.desk.shared, &mut self.seat, &mut share.seat, &dir);
+        reissue::<Brand, Dir>(&self.tokens.shared, &mut self.token, &mut share.token, &dir);
         let row = dir.number() as usize;
         self.begun[row] += 1;
         share.begun.raise(dir);
@@ -146,12 +167,13 @@ impl<J: Naming> Book<J> {
     /// changes.
     pub fn audit(&mut self, shares: &mut Vec<Share<J>>)
         requires { weight_of shares.old.items ≡ self.old.shares }
-        ensures hits { (dir : ℕ) → at self.new.counted dir + pending_of shares.new.items dir ≡ hits_of shares.new.items dir }
+        ensures hits { (dir : ℕ) → at self.new.counted dir + pending_of shares.new.items dir
+            ≡ hits_of shares.new.items dir }
         ensures begun { (dir : ℕ) → at self.new.begun dir ≡ begun_of shares.new.items dir }
         ensures same { (self.new ≡ self.old) × (shares.new.items ≡ shares.old.items) }
     {
-        audit_all::<J>(&self.desk.shared, &mut self.seat, shares);
-        let _none = issue::<Brand>(&self.desk.shared, &mut self.seat);
+        audit_all::<J>(&self.tokens.shared, &mut self.token, shares);
+        let _none = issue::<Brand>(&self.tokens.shared, &mut self.token);
     }
 
     /// Closes the book over all its shares, which are used up. Where some are missing, it says how
@@ -168,16 +190,21 @@ impl<J: Naming> Book<J> {
         ensures err { OnErr result (self.new ≡ self.old) }
     {
         if !self.is_open {
-            let back = none_left::<J>(&self.desk.shared, &mut self.seat, &mut self.spent, shares);
+            let back = none_left::<J>(
+                &self.tokens.shared,
+                &mut self.token,
+                &mut self.closed,
+                shares,
+            );
             return Err((Missing(self.shares), back));
         }
         let left = missing::<J>(self.shares, shares.as_slice());
         if left > 0 {
             return Err((Missing(left), shares));
         }
-        gather::<J>(&self.desk.shared, &mut self.seat, shares);
-        learn(&self.desk.shared, &mut self.seat);
-        self.spent = grant::<Brand, u8>(&self.desk.shared, &mut self.seat, &self.shares);
+        gather::<J>(&self.tokens.shared, &mut self.token, shares);
+        learn(&self.tokens.shared, &mut self.token);
+        self.closed = grant::<Brand, u8>(&self.tokens.shared, &mut self.token, &self.shares);
         self.is_open = false;
         Ok(())
     }

@@ -1,11 +1,11 @@
 //! What the book learns when shares come back to it.
 ghost use Rattle.std.specs.Prelude.{◌≡◌, [], ◌+◌, ◌-◌, true, false, All};
 ghost use Rattle.heat_ledger.specs.Tally.{all_parts};
-ghost use Rattle.heat_ledger.specs.Ledger.{IsSeated, IsClean, weight_of};
-ghost use Rattle.heat_ledger.specs.Keeping.{IsGathered};
+ghost use Rattle.heat_ledger.specs.Ledger.{IsTokenOf, IsClean, weight_of};
+ghost use Rattle.heat_ledger.specs.Gathering.{IsGathered};
 
 use crate::share::Share;
-use crate::tally::{Floor, Place, issue, learn, merge, take_back};
+use crate::tally::{SharedTable, Token, issue, learn, merge, take_back};
 use naming::Naming;
 use std::marker::Brand;
 use std::mem;
@@ -22,35 +22,36 @@ pub(crate) fn missing<J: Naming>(shares: u8, back: &[Share<J>]) -> u8
 }
 
 /// Takes back all that these shares have.
-pub(crate) fn gather<J: Naming>(desk: &Floor, keeper: &mut Place, shares: Vec<Share<J>>)
-    requires name { desk.now.table_id ≡ J.ledger }
-    requires seated { IsSeated J.ledger keeper.old }
-    requires keeper { (keeper.old.me.0.keeps ≡ true) × (keeper.old.me.0.amounts ≡ []) }
+pub(crate) fn gather<J: Naming>(tokens: &SharedTable, authority: &mut Token, shares: Vec<Share<J>>)
+    requires name { tokens.now.table_id ≡ J.ledger }
+    requires of_table { IsTokenOf J.ledger authority.old }
+    requires authority { (authority.old.me.0.has_totals ≡ true) × (authority.old.me.0.amounts ≡ []) }
     requires clean { All IsClean shares.items }
-    ensures seated { IsSeated J.ledger keeper.new }
-    ensures keeper { (keeper.new.me.0.keeps ≡ true) × (keeper.new.me.0.totals ≡ keeper.old.me.0.totals) }
-    ensures gathered { IsGathered keeper.old.me.0.parts keeper.new.me.0 shares.items [] }
+    ensures of_table { IsTokenOf J.ledger authority.new }
+    ensures authority { (authority.new.me.0.has_totals ≡ true)
+        × (authority.new.me.0.totals ≡ authority.old.me.0.totals) }
+    ensures gathered { IsGathered authority.old.me.0.parts authority.new.me.0 shares.items [] }
 {
     let mut shares = shares;
     while let Some(share) = shares.pop() {
-        take_back(desk, keeper, share.into_seat());
+        take_back(tokens, authority, share.into_token());
     }
 }
 
-/// Where the keeper and what is spent have all parts, there are no shares.
+/// Where the authority and the closed part have all parts, there are no shares.
 pub(crate) fn none_left<J: Naming>(
-    desk: &Floor,
-    keeper: &mut Place,
-    spent: &mut Place,
+    tokens: &SharedTable,
+    authority: &mut Token,
+    closed: &mut Token,
     shares: Vec<Share<J>>,
 ) -> Vec<Share<J>>
-    requires name { desk.now.table_id ≡ J.ledger }
-    requires seated { IsSeated J.ledger keeper.old × IsSeated J.ledger spent.old }
-    requires keeper { (keeper.old.me.0.keeps ≡ true) × (keeper.old.me.0.amounts ≡ []) }
-    requires spent { spent.old.me.0.keeps ≡ false }
-    requires all { keeper.old.me.0.parts + spent.old.me.0.parts ≡ all_parts }
-    ensures seated { IsSeated J.ledger keeper.new × IsSeated J.ledger spent.new }
-    ensures same { (keeper.new.me.0 ≡ keeper.old.me.0) × (spent.new.me.0 ≡ spent.old.me.0) }
+    requires name { tokens.now.table_id ≡ J.ledger }
+    requires of_table { IsTokenOf J.ledger authority.old × IsTokenOf J.ledger closed.old }
+    requires authority { (authority.old.me.0.has_totals ≡ true) × (authority.old.me.0.amounts ≡ []) }
+    requires closed { closed.old.me.0.has_totals ≡ false }
+    requires all { authority.old.me.0.parts + closed.old.me.0.parts ≡ all_parts }
+    ensures of_table { IsTokenOf J.ledger authority.new × IsTokenOf J.ledger closed.new }
+    ensures same { (authority.new.me.0 ≡ authority.old.me.0) × (closed.new.me.0 ≡ closed.old.me.0) }
     ensures none { shares.items ≡ [] }
     ensures handed_back { result.items ≡ shares.items }
 {
@@ -58,23 +59,23 @@ pub(crate) fn none_left<J: Naming>(
     match shares.pop() {
         None => shares,
         Some(share) => {
-            absorb(desk, keeper, spent);
-            take_back(desk, keeper, share.into_seat());
-            learn(desk, keeper);
+            absorb(tokens, authority, closed);
+            take_back(tokens, authority, share.into_token());
+            learn(tokens, authority);
             unreachable!()
         }
     }
 }
 
-// The keeper takes in what is spent.
-fn absorb(desk: &Floor, keeper: &mut Place, spent: &mut Place)
-    requires seated { IsSeated desk.now.table_id keeper.old × IsSeated desk.now.table_id spent.old }
-    requires keeper { (keeper.old.me.0.keeps ≡ true) × (keeper.old.me.0.amounts ≡ []) }
-    requires spent { spent.old.me.0.keeps ≡ false }
-    ensures seated { IsSeated desk.now.table_id keeper.new }
-    ensures parts { keeper.new.me.0.parts ≡ keeper.old.me.0.parts + spent.old.me.0.parts }
+// The authority takes in the closed part.
+fn absorb(tokens: &SharedTable, authority: &mut Token, closed: &mut Token)
+    requires of_table { IsTokenOf tokens.now.table_id authority.old × IsTokenOf tokens.now.table_id closed.old }
+    requires authority { (authority.old.me.0.has_totals ≡ true) × (authority.old.me.0.amounts ≡ []) }
+    requires closed { closed.old.me.0.has_totals ≡ false }
+    ensures of_table { IsTokenOf tokens.now.table_id authority.new }
+    ensures parts { authority.new.me.0.parts ≡ authority.old.me.0.parts + closed.old.me.0.parts }
 {
-    let none = issue::<Brand>(desk, keeper);
-    let old = mem::replace(spent, none);
-    merge(desk, keeper, old);
+    let none = issue::<Brand>(tokens, authority);
+    let old = mem::replace(closed, none);
+    merge(tokens, authority, old);
 }

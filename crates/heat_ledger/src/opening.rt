@@ -1,22 +1,22 @@
-//! Memory for a book and its shares, and the first seats at its desk.
+//! Memory for a book and its shares, and their first tokens.
 ghost use Rattle.std.specs.Arc.{arc_value};
 ghost use Rattle.std.specs.Prelude.{◌≡◌, [], ℕ, ◌-◌, ◌≤◌, All, IfOk, vec_len, vec_capacity, replicate};
-ghost use Rattle.heat_ledger.specs.Tally.{all_parts, keeping};
-ghost use Rattle.heat_ledger.specs.Ledger.{IsSeated};
-ghost use Rattle.heat_ledger.specs.Opening.{IsBlank, fresh_share};
+ghost use Rattle.heat_ledger.specs.Tally.{all_parts, authority_state};
+ghost use Rattle.heat_ledger.specs.Ledger.{IsTokenOf};
+ghost use Rattle.heat_ledger.specs.Opening.{IsUnopened, fresh_share};
 
 use crate::row::Row;
 use crate::share::Share;
-use crate::tally::{Desk, Place, grant};
+use crate::tally::{Token, TokenTable, grant};
 use naming::Naming;
 use std::alloc::{AllocError, Global};
 use std::marker::{Brand, PhantomData};
 use std::sync::Arc;
 
-/// A share without a seat.
+/// A share without a token.
 #[derive(Drop)]
-pub(crate) struct Blank {
-    desk: Arc<Desk, Global>,
+pub(crate) struct UnopenedShare {
+    tokens: Arc<TokenTable, Global>,
     hits: Row,
     pending: Row,
     begun: Row,
@@ -25,86 +25,93 @@ pub(crate) struct Blank {
 /// All memory that a book and its shares will need.
 #[derive(Drop)]
 pub(crate) struct Room<J: Naming> {
-    pub(crate) blanks: Vec<Blank>,
+    pub(crate) unopened_shares: Vec<UnopenedShare>,
     pub(crate) shares: Vec<Share<J>>,
     pub(crate) counted: Vec<u64>,
     pub(crate) begun: Vec<u64>,
 }
 
-fn new_blank(alloc: Global, desk: &Arc<Desk, Global>, limit: u32) -> Result<Blank, AllocError>
-    ensures { IfOk result (IsBlank (arc_value desk.now).shared.table_id limit) }
+fn new_unopened(
+    alloc: Global,
+    tokens: &Arc<TokenTable, Global>,
+    limit: u32,
+) -> Result<UnopenedShare, AllocError>
+    ensures { IfOk result (IsUnopened (arc_value tokens.now).shared.table_id limit) }
 {
     let hits = Row::new(alloc, limit)?;
     let pending = Row::new(alloc, limit)?;
     let begun = Row::new(alloc, limit)?;
-    let desk = Arc::try_clone(desk)?;
-    Ok(Blank {
-        desk,
+    let tokens = Arc::try_clone(tokens)?;
+    Ok(UnopenedShare {
+        tokens,
         hits,
         pending,
         begun,
     })
 }
 
-fn new_blanks(
+fn new_unopened_shares(
     alloc: Global,
-    desk: &Arc<Desk, Global>,
+    tokens: &Arc<TokenTable, Global>,
     limit: u32,
     count: u8,
-) -> Result<Vec<Blank>, AllocError>
+) -> Result<Vec<UnopenedShare>, AllocError>
     ensures count { IfOk result (λ v. vec_len v ≡ count) }
-    ensures blank { IfOk result (λ v. All (IsBlank (arc_value desk.now).shared.table_id limit) v.items) }
+    ensures unopened { IfOk result (λ v. All (IsUnopened (arc_value tokens.now).shared.table_id limit) v.items) }
 {
-    let mut blanks = Vec::with_capacity(alloc, count as usize)?;
+    let mut unopened_shares = Vec::with_capacity(alloc, count as usize)?;
     for made in 0..count {
-        blanks.push(new_blank(alloc, desk, limit)?)?;
+        unopened_shares.push(new_unopened(alloc, tokens, limit)?)?;
     }
-    Ok(blanks)
+    Ok(unopened_shares)
 }
 
 /// Room for a book of this many shares.
 pub(crate) fn lay_out<J: Naming>(
     alloc: Global,
-    desk: &Arc<Desk, Global>,
+    tokens: &Arc<TokenTable, Global>,
     limit: u32,
     count: u8,
 ) -> Result<Room<J>, AllocError>
-    ensures count { IfOk result (λ room. vec_len room.blanks ≡ count) }
-    ensures blank { IfOk result (λ room. All (IsBlank (arc_value desk.now).shared.table_id limit) room.blanks.items) }
+    ensures count { IfOk result (λ room. vec_len room.unopened_shares ≡ count) }
+    ensures unopened { IfOk result (λ room. All (IsUnopened (arc_value tokens.now).shared.table_id limit)
+        room.unopened_shares.items) }
     ensures shares { IfOk result (λ room. (room.shares.items ≡ []) × (count ≤ vec_capacity room.shares)) }
-    ensures rows { IfOk result (λ room. (room.counted.items ≡ replicate limit 0) × (room.begun.items ≡ replicate limit 0)) }
+    ensures rows { IfOk result (λ room. (room.counted.items ≡ replicate limit 0)
+        × (room.begun.items ≡ replicate limit 0)) }
 {
-    let blanks = new_blanks(alloc, desk, limit, count)?;
+    let unopened_shares = new_unopened_shares(alloc, tokens, limit, count)?;
     let shares = Vec::with_capacity(alloc, count as usize)?;
     let counted = vec![in alloc; 0u64; limit as usize]?;
     let begun = vec![in alloc; 0u64; limit as usize]?;
     Ok(Room {
-        blanks,
+        unopened_shares,
         shares,
         counted,
         begun,
     })
 }
 
-// A share with no counts, from the keeper's parts.
-fn deal_one<J: Naming>(keeper: &mut Place, blank: Blank) -> Share<J>
-    requires name { IsSeated J.ledger keeper.old }
-    requires keeper { (keeper.old.me.0 ≡ keeping keeper.old.me.0.parts []) × (1 ≤ keeper.old.me.0.parts) }
-    requires blank { IsBlank J.ledger J.limit blank }
-    ensures name { IsSeated J.ledger keeper.new }
-    ensures keeper { keeper.new.me.0 ≡ keeping (keeper.old.me.0.parts - 1) [] }
+// A share with no counts, from the authority's parts.
+fn open_share<J: Naming>(authority: &mut Token, unopened: UnopenedShare) -> Share<J>
+    requires name { IsTokenOf J.ledger authority.old }
+    requires authority { (authority.old.me.0 ≡ authority_state authority.old.me.0.parts [])
+        × (1 ≤ authority.old.me.0.parts) }
+    requires unopened { IsUnopened J.ledger J.limit unopened }
+    ensures name { IsTokenOf J.ledger authority.new }
+    ensures authority { authority.new.me.0 ≡ authority_state (authority.old.me.0.parts - 1) [] }
     ensures share { result ≡ fresh_share J.limit }
 {
-    let Blank {
-        desk,
+    let UnopenedShare {
+        tokens,
         hits,
         pending,
         begun,
-    } = blank;
-    let seat = grant::<Brand, Row>(&desk.shared, keeper, &hits);
+    } = unopened;
+    let token = grant::<Brand, Row>(&tokens.shared, authority, &hits);
     Share {
-        desk,
-        seat,
+        tokens,
+        token,
         weight: 1,
         hits,
         pending,
@@ -113,25 +120,25 @@ fn deal_one<J: Naming>(keeper: &mut Place, blank: Blank) -> Share<J>
     }
 }
 
-/// A share for each blank.
-pub(crate) fn deal<J: Naming>(
-    keeper: &mut Place,
-    blanks: Vec<Blank>,
+/// Opens each of these shares.
+pub(crate) fn open_shares<J: Naming>(
+    authority: &mut Token,
+    unopened_shares: Vec<UnopenedShare>,
     shares: Vec<Share<J>>,
 ) -> Vec<Share<J>>
-    requires name { IsSeated J.ledger keeper.old }
-    requires keeper { keeper.old.me.0 ≡ keeping all_parts [] }
-    requires blanks { All (IsBlank J.ledger J.limit) blanks.items }
-    requires few { vec_len blanks ≤ 64 }
-    requires room { (shares.items ≡ []) × (vec_len blanks ≤ vec_capacity shares) }
-    ensures name { IsSeated J.ledger keeper.new }
-    ensures keeper { keeper.new.me.0 ≡ keeping (all_parts - vec_len blanks) [] }
-    ensures shares { result.items ≡ replicate (vec_len blanks) (fresh_share J.limit) }
+    requires name { IsTokenOf J.ledger authority.old }
+    requires authority { authority.old.me.0 ≡ authority_state all_parts [] }
+    requires unopened_shares { All (IsUnopened J.ledger J.limit) unopened_shares.items }
+    requires few { vec_len unopened_shares ≤ 64 }
+    requires room { (shares.items ≡ []) × (vec_len unopened_shares ≤ vec_capacity shares) }
+    ensures name { IsTokenOf J.ledger authority.new }
+    ensures authority { authority.new.me.0 ≡ authority_state (all_parts - vec_len unopened_shares) [] }
+    ensures shares { result.items ≡ replicate (vec_len unopened_shares) (fresh_share J.limit) }
 {
-    let mut blanks = blanks;
+    let mut unopened_shares = unopened_shares;
     let mut shares = shares;
-    while let Some(blank) = blanks.pop() {
-        shares.push_reserved(deal_one::<J>(keeper, blank));
+    while let Some(unopened) = unopened_shares.pop() {
+        shares.push_reserved(open_share::<J>(authority, unopened));
     }
     shares
 }

@@ -1,9 +1,11 @@
 //! Counts by directory, and which directories have one.
 //!
 //! A row notes each directory at its first count, so that what is done with all counts takes time
-//! for the directories that were counted, and not for all that there could be. It asks for all its memory when it is made,
-//! and writes to it as far as the last directory that was counted: a row without counts touches none.
-ghost use Rattle.std.specs.Prelude.{◌≡◌, ℕ, ◌+◌, ◌^◌, ◌<◌, ◌≤◌, ◌↔◌, [], IsTrue, IfOk, length, map, slice_set, vec_capacity};
+//! for the directories that were counted, and not for all that there could be. It asks for all its
+//! memory when it is made, and writes to it as far as the last directory that was counted: a row
+//! without counts touches none.
+ghost use Rattle.std.specs.Prelude.{◌≡◌, ℕ, ◌+◌, ◌^◌, ◌<◌, ◌≤◌, ◌↔◌, [], IsTrue, IfOk};
+ghost use Rattle.std.specs.Prelude.{length, map, slice_set, vec_capacity};
 ghost use Rattle.heat_ledger.specs.Rows.{at, IsZero};
 ghost use Rattle.heat_ledger.specs.Touched.{IsTracked};
 
@@ -30,7 +32,8 @@ impl Model for Row {
 
     ghost view = { λ row. padded row.limit row.counts.items };
 
-    ghost invariant = { λ row. IsTracked row.counts.items row.touched.items × (length row.counts.items ≤ row.limit) × (row.limit ≤ vec_capacity row.counts) × (row.limit ≤ vec_capacity row.touched) };
+    ghost invariant = { λ row. IsTracked row.counts.items row.touched.items × (length row.counts.items ≤ row.limit)
+        × (row.limit ≤ vec_capacity row.counts) × (row.limit ≤ vec_capacity row.touched) };
 }
 
 impl Row {
@@ -152,7 +155,8 @@ fn add(counts: &mut Vec<u64>, touched: &mut Vec<u32>, dir: u32, more: u64)
     requires fits { at counts.old.items dir + more < 2 ^ 64 }
     ensures counts { counts.new.items ≡ slice_set counts.old.items dir (at counts.old.items dir + more) }
     ensures tracked { IsTracked counts.new.items touched.new.items }
-    ensures capacity { (vec_capacity touched.new ≡ vec_capacity touched.old) × (vec_capacity counts.new ≡ vec_capacity counts.old) }
+    ensures capacity { (vec_capacity touched.new ≡ vec_capacity touched.old)
+        × (vec_capacity counts.new ≡ vec_capacity counts.old) }
 {
     let place = dir as usize;
     if counts[place] == 0 {
@@ -168,14 +172,16 @@ fn add_all(
     others: &Vec<u64>,
     other_touched: &Vec<u32>,
 )
-    requires tracked { IsTracked counts.old.items touched.old.items × IsTracked others.now.items other_touched.now.items }
+    requires tracked { IsTracked counts.old.items touched.old.items
+        × IsTracked others.now.items other_touched.now.items }
     requires room { length counts.old.items ≤ vec_capacity touched.old }
     requires lengths { length others.now.items ≤ length counts.old.items }
     requires fits { (dir : ℕ) → at counts.old.items dir + at others.now.items dir < 2 ^ 64 }
     ensures sums { (dir : ℕ) → at counts.new.items dir ≡ at counts.old.items dir + at others.now.items dir }
     ensures length { length counts.new.items ≡ length counts.old.items }
     ensures tracked { IsTracked counts.new.items touched.new.items }
-    ensures capacity { (vec_capacity touched.new ≡ vec_capacity touched.old) × (vec_capacity counts.new ≡ vec_capacity counts.old) }
+    ensures capacity { (vec_capacity touched.new ≡ vec_capacity touched.old)
+        × (vec_capacity counts.new ≡ vec_capacity counts.old) }
 {
     for j in 0..other_touched.len() {
         let dir = other_touched[j];
@@ -191,7 +197,8 @@ fn move_all(into: &mut Vec<u64>, from: &mut Vec<u64>, touched: &Vec<u32>)
     ensures sums { (dir : ℕ) → at into.new.items dir ≡ at into.old.items dir + at from.old.items dir }
     ensures zero { IsZero from.new.items }
     ensures capacity { vec_capacity from.new ≡ vec_capacity from.old }
-    ensures lengths { (length into.new.items ≡ length into.old.items) × (length from.new.items ≡ length from.old.items) }
+    ensures lengths { (length into.new.items ≡ length into.old.items)
+        × (length from.new.items ≡ length from.old.items) }
 {
     for j in 0..touched.len() {
         let i = touched[j] as usize;

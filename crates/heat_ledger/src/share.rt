@@ -2,7 +2,7 @@
 
 use crate::hit_error::HitError;
 use crate::row::Row;
-use crate::tally::{Desk, Place, learn, merge};
+use crate::tally::{Token, TokenTable, learn, merge};
 use mds_types::Dir;
 use naming::Naming;
 use std::alloc::{AllocError, Global};
@@ -21,8 +21,8 @@ pub const HIT_LIMIT: u64 = 1 << 56;
 /// counts nothing takes up address space alone.
 #[derive(Drop)]
 pub struct Share<J: Naming> {
-    pub(crate) desk: Arc<Desk, Global>,
-    pub(crate) seat: Place,
+    pub(crate) tokens: Arc<TokenTable, Global>,
+    pub(crate) token: Token,
     pub(crate) weight: u8,
     pub(crate) hits: Row,
     pub(crate) pending: Row,
@@ -33,19 +33,27 @@ pub struct Share<J: Naming> {
 impl<J: Naming> Model for Share<J> {
     ghost use Rattle.std.specs.Prelude.{◌≡◌};
     ghost use Rattle.std.specs.Arc.{arc_value};
-    ghost use Rattle.heat_ledger.specs.Ledger.{ShareData, IsSeated, IsShare};
+    ghost use Rattle.heat_ledger.specs.Ledger.{ShareData, IsTokenOf, IsShare};
 
     ghost Value = { ShareData };
 
-    ghost view = { λ share. record { weight = share.weight; hits = share.hits; pending = share.pending; begun = share.begun } };
+    ghost view = { λ share. record {
+      weight = share.weight;
+      hits = share.hits;
+      pending = share.pending;
+      begun = share.begun;
+    } };
 
-    ghost invariant = { λ share. IsSeated (arc_value share.desk).shared.table_id share.seat × ((arc_value share.desk).shared.table_id ≡ J.ledger) × IsShare J.limit share.seat.me.0 share.weight share.hits share.pending share.begun };
+    ghost invariant = { λ share. IsTokenOf (arc_value share.tokens).shared.table_id share.token
+        × ((arc_value share.tokens).shared.table_id ≡ J.ledger)
+        × IsShare J.limit share.token.me.0 share.weight share.hits share.pending share.begun };
 }
 
 impl<J: Naming> Share<J> {
-    ghost use Rattle.std.specs.Prelude.{◌≡◌, ℕ, List, ◌+◌, ◌-◌, ◌^◌, ◌<◌, ◌≤◌, ◌↔◌, IsTrue, IsErrOf, IfOk, OnOk, OnErr, length, min, fold};
+    ghost use Rattle.std.specs.Prelude.{◌≡◌, ℕ, List, ◌+◌, ◌-◌, ◌^◌, ◌<◌, ◌≤◌, ◌↔◌, IsTrue};
+    ghost use Rattle.std.specs.Prelude.{IsErrOf, IfOk, OnOk, OnErr, length, min, fold};
     ghost use Rattle.heat_ledger.specs.Rows.{at, sums, raised, raised_by, counted_rows, with_row};
-    ghost use Rattle.heat_ledger.specs.Ledger.{IsClean, IsSeated, IsShare};
+    ghost use Rattle.heat_ledger.specs.Ledger.{IsClean, IsTokenOf, IsShare};
 
     /// The hits on a directory that this share has counted, deposited or not.
     pub fn hits(&self, dir: Dir) -> u64
@@ -66,7 +74,8 @@ impl<J: Naming> Share<J> {
     /// these directories alone, and asks for memory first.
     pub fn pending_rows(&self, alloc: Global) -> Result<Vec<(Dir, u64)>, AllocError>
         ensures rows { IfOk result (λ rows. rows.items ≡ counted_rows self.now.pending) }
-        ensures sums { (counted : List ℕ) → length counted ≡ J.limit → fold with_row counted (counted_rows self.now.pending) ≡ sums counted self.now.pending }
+        ensures sums { (counted : List ℕ) → length counted ≡ J.limit
+            → fold with_row counted (counted_rows self.now.pending) ≡ sums counted self.now.pending }
     {
         self.pending.rows(alloc)
     }
@@ -89,7 +98,8 @@ impl<J: Naming> Share<J> {
     /// The number that directories are below.
     pub fn limit(&self) -> usize
         ensures limit { result ≡ J.limit }
-        ensures rows { (length self.now.hits ≡ J.limit) × (length self.now.pending ≡ J.limit) × (length self.now.begun ≡ J.limit) }
+        ensures rows { (length self.now.hits ≡ J.limit) × (length self.now.pending ≡ J.limit)
+            × (length self.now.begun ≡ J.limit) }
     {
         self.hits.len()
     }
@@ -103,7 +113,8 @@ impl<J: Naming> Share<J> {
 
     /// Counts a hit.
     pub fn hit(&mut self, dir: Dir) -> Result<(), HitError>
-        ensures ok { OnOk result (self.new ≡ record self.old { hits = raised self.old.hits dir; pending = raised self.old.pending dir }) }
+        ensures ok { OnOk result (self.new ≡ record self.old
+            { hits = raised self.old.hits dir; pending = raised self.old.pending dir }) }
         ensures no_dir { IsErrOf result HitError.NoDir ↔ (J.limit ≤ dir) }
         ensures full { IsErrOf result HitError.ShareFull ↔ ((dir < J.limit) × (2 ^ 56 ≤ at self.old.hits dir)) }
         ensures err { OnErr result (self.new ≡ self.old) }
@@ -124,7 +135,8 @@ impl<J: Naming> Share<J> {
     pub fn count(&mut self, dir: Dir, hits: u32) -> u32
         requires inside { dir < J.limit }
         ensures counted { result ≡ min hits (2 ^ 56 - at self.old.hits dir) }
-        ensures share { self.new ≡ record self.old { hits = raised_by self.old.hits dir result; pending = raised_by self.old.pending dir result } }
+        ensures share { self.new ≡ record self.old
+            { hits = raised_by self.old.hits dir result; pending = raised_by self.old.pending dir result } }
     {
         let room = HIT_LIMIT.saturating_sub(self.hits.get(dir));
         let counted = u64::from(hits).min(room);
@@ -135,39 +147,44 @@ impl<J: Naming> Share<J> {
 
     /// Takes in another share of the same book.
     pub fn join(&mut self, other: Share<J>)
-        ensures { self.new ≡ record { weight = self.old.weight + other.weight; hits = sums self.old.hits other.hits; pending = sums self.old.pending other.pending; begun = sums self.old.begun other.begun } }
+        ensures { self.new ≡ record {
+          weight = self.old.weight + other.weight;
+          hits = sums self.old.hits other.hits;
+          pending = sums self.old.pending other.pending;
+          begun = sums self.old.begun other.begun;
+        } }
     {
         let Share {
-            desk: _desk,
-            seat,
+            tokens: _tokens,
+            token,
             weight,
             hits,
             pending,
             begun,
             of: _of,
         } = other;
-        merge(&self.desk.shared, &mut self.seat, seat);
-        learn(&self.desk.shared, &mut self.seat);
+        merge(&self.tokens.shared, &mut self.token, token);
+        learn(&self.tokens.shared, &mut self.token);
         self.weight += weight;
         self.hits.join(hits);
         self.pending.join(pending);
         self.begun.join(begun);
     }
 
-    /// The share's seat at the desk, with all that the desk knows of it.
-    pub(crate) fn into_seat(self) -> Place
-        ensures seated { IsSeated J.ledger result }
+    /// The share's token, with all that is known of it.
+    pub(crate) fn into_token(self) -> Token
+        ensures of_table { IsTokenOf J.ledger result }
         ensures share { IsShare J.limit result.me.0 self.weight self.hits self.pending self.begun }
     {
         let Share {
-            desk: _desk,
-            seat,
+            tokens: _tokens,
+            token,
             weight: _weight,
             hits: _hits,
             pending: _pending,
             begun: _begun,
             of: _of,
         } = self;
-        seat
+        token
     }
 }

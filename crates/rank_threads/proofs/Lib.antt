@@ -1,4 +1,3 @@
-pub mod Carrying
 pub mod Counting
 pub mod Ended
 pub mod GoingOn

@@ -1,5 +1,6 @@
 -- What the answers of a phase say of its board.
-use Rattle.std.specs.Prelude.{◌≡◌, ◌≢◌, ◌⊎◌, ℕ, ◌+◌, List, [], ◌∷◌, Option, Some, None, All, IfSome, IsOk, Result, Ok, Err}
+use Rattle.std.specs.Prelude.{◌≡◌, ◌≢◌, ◌⊎◌, ℕ, ◌+◌, List, [], ◌∷◌, Option, Some}
+use Rattle.std.specs.Prelude.{None, All, IfSome, IsOk, Result, Ok, Err}
 use Rattle.std.specs.List.{AllZip}
 use Rattle.export_machine.specs.declared.event.Event.TheVariants.{Begin, End}
 use Rattle.export_machine.specs.declared.event.Reply.TheVariants.{Ticket}
@@ -49,17 +50,20 @@ IsAnswered before rank work answer = IsReply before rank work.dir answer.ticket 
 
 -- The board answered each request of a rank, or there was no thread for it, which is told to each.
 abbrev pub IsRankAnswered : World → ℕ → List Work → List WorkAnswer → Type 0
-IsRankAnswered before rank works answers = AllZip (IsAnswered before rank) works answers ⊎ All (λ a. a ≡ no_thread) answers
+IsRankAnswered before rank works answers =
+    AllZip (IsAnswered before rank) works answers ⊎ All (λ a. a ≡ no_thread) answers
 
 -- A rank's requests are served: its share counts what the answers name, and these are what the board said.
-pub record IsRankServed (limit : ℕ) (before : World) (rank : ℕ) (old : ShareData) (works : List Work) (answers : List WorkAnswer) (new : ShareData) : Type 0 where
+pub record IsRankServed (limit : ℕ) (before : World) (rank : ℕ) (old : ShareData) (works : List Work)
+    (answers : List WorkAnswer) (new : ShareData) : Type 0 where
   pub served : IsServed limit old works answers new
   pub answered : IsRankAnswered before rank works answers
 
 -- the answers of all ranks, from this one on
 abbrev pub AreAnswered : World → ℕ → List (List Work) → List (List WorkAnswer) → Type 0
 AreAnswered before rank [] [] = Unit {0}
-AreAnswered before rank (works ∷ scripts) (a ∷ answers) = IsRankAnswered before rank works a × AreAnswered before (rank + 1) scripts answers
+AreAnswered before rank (works ∷ scripts) (a ∷ answers) =
+    IsRankAnswered before rank works a × AreAnswered before (rank + 1) scripts answers
 AreAnswered before rank [] (a ∷ answers) = ⊥
 AreAnswered before rank (works ∷ scripts) [] = ⊥
 
@@ -75,8 +79,10 @@ HasEnded now answer = IfSome answer.ticket (λ ticket. request_of now.state.clus
 -- All ends were accepted, or one was refused so.
 abbrev pub IsEndMet : World → Result Unit BoardError → Type 0
 IsEndMet before (Ok done) = Unit {0}
-IsEndMet before (Err error) = (ticket : ℕ) × IsMet before (Step (End ticket)) error × (error ≢ board_error.Step NoTicket)
+IsEndMet before (Err error) =
+    (ticket : ℕ) × IsMet before (Step (End ticket)) error × (error ≢ board_error.Step NoTicket)
 
 -- No request whose ticket an answer names runs any more, or the end of one was refused.
 abbrev pub IsEndTold : World → World → List (List WorkAnswer) → Result Unit BoardError → Type 0
-IsEndTold before now answers ended = IsEndMet before ended × (IsOk ended → All (λ of_rank. All (HasEnded now) of_rank) answers)
+IsEndTold before now answers ended =
+    IsEndMet before ended × (IsOk ended → All (λ of_rank. All (HasEnded now) of_rank) answers)

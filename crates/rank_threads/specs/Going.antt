@@ -1,9 +1,8 @@
 -- What a phase does to a board: requests begin and end, hits are deposited, and nothing else.
-use Rattle.std.specs.Prelude.{◌≡◌, Bool, true, false, List, [], length, take, drop, All}
+use Rattle.std.specs.Prelude.{◌≡◌, Bool, true, false, List, length, take, drop, All}
 use Rattle.export_machine.specs.declared.event.Event.TheVariants.{Begin, End}
 use Rattle.board_state.specs.declared.change.Change.{Change}
 use Rattle.board_state.specs.declared.change.Change.TheVariants.{Deposit, Step}
-use Rattle.board_state.specs.State.{start}
 use Rattle.mds_board.specs.declared.entry.Entry.{Entry}
 use Rattle.mds_board.specs.History.{World, IsReplay}
 
@@ -26,7 +25,3 @@ pub record WentOn (old new : World) : Type 0 where
   pub replay : IsReplay old.state (added old new) new.state
   pub same_book : (new.is_open ≡ old.is_open) × (new.shares ≡ old.shares)
   pub same_map : new.published ≡ old.published
-
--- the board of no phase
-abbrev pub no_board : World
-no_board = record { state = start 0 0; is_open = false; shares = 0; published = []; history = [] }

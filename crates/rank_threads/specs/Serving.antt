@@ -55,7 +55,8 @@ abbrev pub after_hits : ShareData → ℕ → ℕ → ShareData
 after_hits share d n = record share { hits = with_row share.hits (d, n); pending = with_row share.pending (d, n) }
 
 -- On each directory below the limit a share counts what the answers name.
-pub record Counted (limit : ℕ) (old : ShareData) (works : List Work) (answers : List WorkAnswer) (new : ShareData) : Type 0 where
+pub record Counted (limit : ℕ) (old : ShareData) (works : List Work) (answers : List WorkAnswer)
+    (new : ShareData) : Type 0 where
   pub weight : new.weight ≡ old.weight
   pub hits : (d : ℕ) → d < limit → at new.hits d ≡ at old.hits d + hits_on d works answers
   pub pending : (d : ℕ) → d < limit → at new.pending d ≡ at old.pending d + hits_on d works answers
@@ -74,18 +75,21 @@ abbrev pub AreShort : ℕ → ShareData → List Work → List WorkAnswer → Ty
 AreShort limit share works answers = AllZip (λ w a. IsShort limit share w.dir a.refused) works answers
 
 -- Each request has an answer, in order, and the share counts what these name.
-pub record IsServed (limit : ℕ) (old : ShareData) (works : List Work) (answers : List WorkAnswer) (new : ShareData) : Type 0 where
+pub record IsServed (limit : ℕ) (old : ShareData) (works : List Work) (answers : List WorkAnswer)
+    (new : ShareData) : Type 0 where
   pub fits : AllZip Fits works answers
   pub short : AreShort limit new works answers
   pub counted : Counted limit old works answers new
 
 -- The share was cleared of its pending hits by a deposit, or is as it was.
 abbrev pub IsDeposited : ShareData → ShareData → Type 0
-IsDeposited old new = ((new.hits ≡ old.hits) × (new.begun ≡ old.begun) × (new.weight ≡ old.weight)) × (IsClean new ⊎ (new ≡ old))
+IsDeposited old new =
+    ((new.hits ≡ old.hits) × (new.begun ≡ old.begun) × (new.weight ≡ old.weight)) × (IsClean new ⊎ (new ≡ old))
 
 -- What a phase makes of a rank's share: each request has an answer, in order; on each directory below the limit hits
 -- and begun requests rise by what these name; and the hits are deposited, or pending.
-pub record IsReturned (limit : ℕ) (old : ShareData) (works : List Work) (answers : List WorkAnswer) (new : ShareData) : Type 0 where
+pub record IsReturned (limit : ℕ) (old : ShareData) (works : List Work) (answers : List WorkAnswer)
+    (new : ShareData) : Type 0 where
   pub fits : AllZip Fits works answers
   pub short : AreShort limit new works answers
   pub weight : new.weight ≡ old.weight
@@ -96,5 +100,6 @@ pub record IsReturned (limit : ℕ) (old : ShareData) (works : List Work) (answe
 -- the same of the shares of all ranks, in their order
 abbrev pub AreReturned : ℕ → List ShareData → List (List Work) → List (List WorkAnswer) → List ShareData → Type 0
 AreReturned limit [] [] [] [] = Unit {0}
-AreReturned limit (s ∷ shares) (w ∷ scripts) (a ∷ answers) (t ∷ after) = IsReturned limit s w a t × AreReturned limit shares scripts answers after
+AreReturned limit (s ∷ shares) (w ∷ scripts) (a ∷ answers) (t ∷ after) =
+    IsReturned limit s w a t × AreReturned limit shares scripts answers after
 AreReturned _ _ _ _ _ = ⊥

@@ -26,7 +26,7 @@ pub trait Phase {
 }
 
 impl Phase for Brand {
-    ghost use Rattle.rank_threads.specs.Going.{no_board};
+    ghost use Rattle.export_threads.specs.Carrying.{no_board};
 
     ghost before = { no_board };
 }
@@ -53,7 +53,8 @@ impl<J: Naming, M: Publisher<J>, K: Phase> Phased<J, M, K> {
     /// A request on a directory begins at a rank, and is counted in a share. It answers the ticket.
     #[tactic(auto, unfolding(board_state::specs::State::happens, export_machine::specs::Step::happens))]
     pub fn begin(&mut self, share: &mut Share<J>, rank: Rank, dir: Dir) -> Result<u32, BoardError>
-        ensures answer { IsAnswer self.old (Change.Step (Event.Begin rank dir)) (spelled (λ ticket. Answer.Reply (Reply.Ticket ticket)) result) self.new }
+        ensures answer { IsAnswer self.old (Change.Step (Event.Begin rank dir))
+            (spelled (λ ticket. Answer.Reply (Reply.Ticket ticket)) result) self.new }
         ensures begun { IfOk result (λ ticket. IsBegun K.before rank dir ticket) }
         ensures refused { IfErr result (λ error. IsMet K.before (Change.Step (Event.Begin rank dir)) error) }
         ensures share { OnOk result (share.new ≡ record share.old { begun = raised share.old.begun dir }) }
@@ -85,8 +86,10 @@ impl<J: Naming, M: Publisher<J>, K: Phase> Phased<J, M, K> {
 
     /// Counts the hits that a share has pending.
     pub fn deposit(&mut self, alloc: Global, share: &mut Share<J>) -> Result<(), BoardError>
-        ensures answer { IsAnswer self.old (Change.Deposit (counted_rows share.old.pending)) (spelled (λ _. Answer.Done) result) self.new }
-        ensures refused { IfErr result (λ error. IsMet K.before (Change.Deposit (counted_rows share.old.pending)) error) }
+        ensures answer { IsAnswer self.old (Change.Deposit (counted_rows share.old.pending))
+            (spelled (λ _. Answer.Done) result) self.new }
+        ensures refused { IfErr result (λ error. IsMet K.before (Change.Deposit (counted_rows share.old.pending))
+            error) }
         ensures share { OnOk result (share.new ≡ record share.old { pending = replicate J.limit 0 }) }
         ensures unchanged { OnErr result (share.new ≡ share.old) }
     {

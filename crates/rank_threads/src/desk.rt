@@ -4,8 +4,9 @@ ghost use Rattle.rank_threads.specs.Answered.{IsRankServed};
 
 use crate::board_cell::{BoardCell, Phase};
 use crate::serving::serve_script;
-use crate::work::{Gate, Work, WorkAnswer};
+use crate::work::{Work, WorkAnswer};
 use authority_map::Publisher;
+use export_threads::Gate;
 use heat_ledger::Share;
 use mds_types::Rank;
 use naming::Naming;
@@ -36,7 +37,8 @@ struct Served<J: Naming, K: Phase> {
 impl<J: Naming, K: Phase> Promise<Desk<J>> for Served<J, K> {
     ghost use Rattle.rank_threads.specs.Answered.{IsRankServed};
 
-    ghost kept_by = { λ p desk. IsRankServed J.limit K.before p.rank p.share.value p.script.value.items desk.answers.items desk.share };
+    ghost kept_by = { λ p desk. IsRankServed J.limit K.before p.rank p.share.value p.script.value.items
+        desk.answers.items desk.share };
 }
 
 // Serves the requests of a rank, or refuses them where it has no thread.
@@ -96,7 +98,8 @@ pub(crate) fn serve_beside<
     requires rest { F.pre rest }
     requires empty { desk.answers.items ≡ [] }
     requires room { length script.now.items ≤ vec_capacity desk.answers }
-    ensures served { IsRankServed J.limit K.before rank desk.share script.now.items result.0.answers.items result.0.share }
+    ensures served { IsRankServed J.limit K.before rank desk.share script.now.items result.0.answers.items
+        result.0.share }
     ensures rest { F.post rest result.1 }
 {
     if script.is_empty() {
@@ -108,7 +111,8 @@ pub(crate) fn serve_beside<
         rt,
         |scope| -> (Desk<J>, T)
             requires { F.pre rest × (desk.answers.items ≡ []) × (length script.now.items ≤ vec_capacity desk.answers) }
-            ensures { IsRankServed J.limit K.before rank desk.share script.entry.now.items result.0.answers.items result.0.share × F.post rest result.1 }
+            ensures { IsRankServed J.limit K.before rank desk.share script.entry.now.items result.0.answers.items
+                result.0.share × F.post rest result.1 }
         {
             let promise = Served::<J, K> {
                 share: Snapshot::of(&desk.share),

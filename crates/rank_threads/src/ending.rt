@@ -28,7 +28,8 @@ impl<J: Naming, M: Publisher<J>, K: Phase> Phased<J, M, K> {
     // Ends a request, unless it has ended.
     fn end_once(&mut self, alloc: Global, ticket: u32) -> Result<(), BoardError>
         ensures ended { IsOk result → request_of self.new.state.cluster ticket ≡ None }
-        ensures others { (t : ℕ) → request_of self.old.state.cluster t ≡ None → request_of self.new.state.cluster t ≡ None }
+        ensures others { (t : ℕ) → request_of self.old.state.cluster t ≡ None
+            → request_of self.new.state.cluster t ≡ None }
         ensures refused { IsEndMet K.before result }
     {
         if self.has_ended(ticket) {
@@ -43,7 +44,8 @@ impl<J: Naming, M: Publisher<J>, K: Phase> Phased<J, M, K> {
     // Ends the requests of a rank that still run.
     fn end_those(&mut self, alloc: Global, answers: &[WorkAnswer]) -> Result<(), BoardError>
         ensures ended { IsOk result → All (HasEnded self.new) answers.now }
-        ensures others { (t : ℕ) → request_of self.old.state.cluster t ≡ None → request_of self.new.state.cluster t ≡ None }
+        ensures others { (t : ℕ) → request_of self.old.state.cluster t ≡ None
+            → request_of self.new.state.cluster t ≡ None }
         ensures refused { IsEndMet K.before result }
     {
         let mut ended = Ok(());

@@ -1,5 +1,6 @@
 //! The requests of all ranks, by a thread a rank.
-ghost use Rattle.std.specs.Prelude.{◌≡◌, ◌<◌, ◌≤◌, ◌+◌, [], ◌∷◌, ◌++◌, IfErr, IfOk, IsOk, OnErr, length, map, vec_capacity, vec_len};
+ghost use Rattle.std.specs.Prelude.{◌≡◌, ◌<◌, ◌≤◌, ◌+◌, [], ◌∷◌, ◌++◌, IfErr, IfOk, IsOk};
+ghost use Rattle.std.specs.Prelude.{OnErr, length, map, vec_capacity, vec_len};
 ghost use Rattle.std.specs.List.{All, AllZip};
 ghost use Rattle.heat_ledger.specs.Ledger.{IsClean, ShareData};
 ghost use Rattle.rank_threads.specs.Answered.{AreAnswered, IsDepositTold, IsEndTold};
@@ -9,9 +10,10 @@ ghost use Rattle.rank_threads.specs.Serving.{AreReturned, IsDeposited};
 use crate::board_cell::{BoardCell, Phase};
 use crate::desk::{Desk, serve_beside};
 use crate::ending::first_refusal;
-use crate::work::{Gate, Work, WorkAnswer};
+use crate::work::{Work, WorkAnswer};
 use authority_map::Publisher;
 use board_state::BoardError;
+use export_threads::Gate;
 use heat_ledger::Share;
 use mds_board::Board;
 use mds_types::Rank;
@@ -66,7 +68,8 @@ fn with_desk<J: Naming, M: Publisher<J>, K: Phase, R: Wait>(
 ) -> Joined<J>
     requires shares { vec_len ranks.shares < vec_capacity ranks.shares }
     requires answers { vec_len ranks.answers < vec_capacity ranks.answers }
-    ensures last { (last : ShareData) × IsDeposited desk.share last × (IsOk result.deposited → IsClean last) × (result.shares.items ≡ ranks.shares.items ++ last ∷ []) }
+    ensures last { (last : ShareData) × IsDeposited desk.share last × (IsOk result.deposited → IsClean last)
+        × (result.shares.items ≡ ranks.shares.items ++ last ∷ []) }
     ensures given { result.answers.items ≡ ranks.answers.items ++ desk.answers ∷ [] }
     ensures deposited { IsOk result.deposited → IsOk ranks.deposited }
     ensures told { IsDepositTold K.before ranks.deposited → IsDepositTold K.before result.deposited }
@@ -99,7 +102,8 @@ fn last_desk<J: Naming>(shares: &mut Vec<Share<J>>, rooms: &mut Vec<Vec<WorkAnsw
     ensures share { shares.old.items ≡ shares.new.items ++ result.share ∷ [] }
     ensures room { rooms.old.items ≡ rooms.new.items ++ result.answers ∷ [] }
     ensures fewer { (vec_len shares.new + 1 ≡ vec_len shares.old) × (vec_len rooms.new + 1 ≡ vec_len rooms.old) }
-    ensures same { (vec_capacity shares.new ≡ vec_capacity shares.old) × (vec_capacity rooms.new ≡ vec_capacity rooms.old) }
+    ensures same { (vec_capacity shares.new ≡ vec_capacity shares.old)
+        × (vec_capacity rooms.new ≡ vec_capacity rooms.old) }
 {
     let (Some(share), Some(answers)) = (shares.pop(), rooms.pop()) else {
         unreachable!()
@@ -126,10 +130,14 @@ fn serve_ranks<
 ) -> Joined<J>
     requires few { length scripts.now ≤ 64 }
     requires equal { vec_len shares ≡ length scripts.now }
-    requires rooms { (vec_len rooms ≡ length scripts.now) × AllZip (λ script room. (room.items ≡ []) × (length script.items ≤ vec_capacity room)) scripts.now rooms.items }
-    ensures returned { AreReturned J.limit shares.items (map (λ s. s.items) scripts.now) (map (λ a. a.items) result.answers.items) result.shares.items }
+    requires rooms { (vec_len rooms ≡ length scripts.now)
+        × AllZip (λ script room. (room.items ≡ []) × (length script.items ≤ vec_capacity room)) scripts.now
+        rooms.items }
+    ensures returned { AreReturned J.limit shares.items (map (λ s. s.items) scripts.now)
+        (map (λ a. a.items) result.answers.items) result.shares.items }
     ensures clean { IsOk result.deposited → All (λ s. IsClean s) result.shares.items }
-    ensures answered { AreAnswered K.before 0 (map (λ s. s.items) scripts.now) (map (λ a. a.items) result.answers.items) }
+    ensures answered { AreAnswered K.before 0 (map (λ s. s.items) scripts.now)
+        (map (λ a. a.items) result.answers.items) }
     ensures told { IsDepositTold K.before result.deposited }
     ensures count { (vec_len result.shares ≡ length scripts.now) × (vec_len result.answers ≡ length scripts.now) }
     ensures shares { vec_capacity result.shares ≡ vec_capacity shares }
@@ -159,12 +167,17 @@ fn serve_ranks<
         || -> Joined<J>
             requires few { length before.now ≤ 64 }
             requires equal { vec_len shares ≡ length before.now }
-            requires rooms { (vec_len rooms ≡ length before.now) × AllZip (λ script room. (room.items ≡ []) × (length script.items ≤ vec_capacity room)) before.now rooms.items }
-            ensures returned { AreReturned J.limit shares.items (map (λ s. s.items) before.entry.now) (map (λ a. a.items) result.answers.items) result.shares.items }
+            requires rooms { (vec_len rooms ≡ length before.now)
+                × AllZip (λ script room. (room.items ≡ []) × (length script.items ≤ vec_capacity room)) before.now
+                rooms.items }
+            ensures returned { AreReturned J.limit shares.items (map (λ s. s.items) before.entry.now)
+                (map (λ a. a.items) result.answers.items) result.shares.items }
             ensures clean { IsOk result.deposited → All (λ s. IsClean s) result.shares.items }
-            ensures answered { AreAnswered K.before 0 (map (λ s. s.items) before.entry.now) (map (λ a. a.items) result.answers.items) }
+            ensures answered { AreAnswered K.before 0 (map (λ s. s.items) before.entry.now)
+                (map (λ a. a.items) result.answers.items) }
             ensures told { IsDepositTold K.before result.deposited }
-            ensures count { (vec_len result.shares ≡ length before.entry.now) × (vec_len result.answers ≡ length before.entry.now) }
+            ensures count { (vec_len result.shares ≡ length before.entry.now)
+                × (vec_len result.answers ≡ length before.entry.now) }
             ensures shares { vec_capacity result.shares ≡ vec_capacity shares }
             ensures answers { vec_capacity result.answers ≡ vec_capacity rooms }
         { serve_ranks(rt, alloc, cell, gate, before, shares, rooms) },
@@ -174,7 +187,8 @@ fn serve_ranks<
 
 // An empty list for each script, with room for its answers.
 fn lay(alloc: Global, scripts: &[Vec<Work>]) -> Result<Vec<Vec<WorkAnswer>>, AllocError>
-    ensures { IfOk result (λ rooms. AllZip (λ script room. (room.items ≡ []) × (length script.items ≤ vec_capacity room)) scripts.now rooms.items) }
+    ensures { IfOk result (λ rooms. AllZip
+        (λ script room. (room.items ≡ []) × (length script.items ≤ vec_capacity room)) scripts.now rooms.items) }
 {
     let mut rooms = Vec::new(alloc);
     for script in scripts {
@@ -202,11 +216,15 @@ fn serve_named<
     requires board { board ≡ K.before }
     requires few { length scripts.now ≤ 64 }
     requires equal { vec_len shares ≡ length scripts.now }
-    requires rooms { (vec_len rooms ≡ length scripts.now) × AllZip (λ script room. (room.items ≡ []) × (length script.items ≤ vec_capacity room)) scripts.now rooms.items }
+    requires rooms { (vec_len rooms ≡ length scripts.now)
+        × AllZip (λ script room. (room.items ≡ []) × (length script.items ≤ vec_capacity room)) scripts.now
+        rooms.items }
     ensures board { WentOn K.before result.0 }
-    ensures returned { AreReturned J.limit shares.items (map (λ s. s.items) scripts.now) (map (λ a. a.items) result.1.answers.items) result.1.shares.items }
+    ensures returned { AreReturned J.limit shares.items (map (λ s. s.items) scripts.now)
+        (map (λ a. a.items) result.1.answers.items) result.1.shares.items }
     ensures clean { IsOk result.1.deposited → All (λ s. IsClean s) result.1.shares.items }
-    ensures answered { AreAnswered K.before 0 (map (λ s. s.items) scripts.now) (map (λ a. a.items) result.1.answers.items) }
+    ensures answered { AreAnswered K.before 0 (map (λ s. s.items) scripts.now)
+        (map (λ a. a.items) result.1.answers.items) }
     ensures told { IsDepositTold K.before result.1.deposited }
     ensures ended { IsEndTold K.before result.0 (map (λ a. a.items) result.1.answers.items) result.1.ended }
 {
@@ -250,11 +268,14 @@ pub fn serve_phase<
     requires few { length scripts.now ≤ 64 }
     requires equal { vec_len shares ≡ length scripts.now }
     ensures board { WentOn board result.0 }
-    ensures returned { IfOk result.1 (λ ranks. AreReturned J.limit shares.items (map (λ s. s.items) scripts.now) (map (λ a. a.items) ranks.answers.items) ranks.shares.items) }
+    ensures returned { IfOk result.1 (λ ranks. AreReturned J.limit shares.items (map (λ s. s.items) scripts.now)
+        (map (λ a. a.items) ranks.answers.items) ranks.shares.items) }
     ensures clean { IfOk result.1 (λ ranks. IsOk ranks.deposited → All (λ s. IsClean s) ranks.shares.items) }
-    ensures answered { IfOk result.1 (λ ranks. AreAnswered board 0 (map (λ s. s.items) scripts.now) (map (λ a. a.items) ranks.answers.items)) }
+    ensures answered { IfOk result.1 (λ ranks. AreAnswered board 0 (map (λ s. s.items) scripts.now)
+        (map (λ a. a.items) ranks.answers.items)) }
     ensures told { IfOk result.1 (λ ranks. IsDepositTold board ranks.deposited) }
-    ensures ended { IfOk result.1 (λ ranks. IsEndTold board result.0 (map (λ a. a.items) ranks.answers.items) ranks.ended) }
+    ensures ended { IfOk result.1 (λ ranks. IsEndTold board result.0 (map (λ a. a.items) ranks.answers.items)
+        ranks.ended) }
     ensures memory { IfErr result.1 (λ e. e.value.items ≡ shares.items) }
     ensures unchanged { OnErr result.1 (result.0 ≡ board) }
 {

@@ -5,8 +5,9 @@ ghost use Rattle.rank_threads.specs.Answered.{IsAnswered, IsRankAnswered};
 ghost use Rattle.rank_threads.specs.Serving.{Counted, Fits, IsServed, IsShort, after_hits, no_thread};
 
 use crate::board_cell::{BoardCell, Phase};
-use crate::work::{Gate, Work, WorkAnswer, WorkError};
+use crate::work::{Work, WorkAnswer, WorkError};
 use authority_map::Publisher;
+use export_threads::Gate;
 use heat_ledger::{HitError, Share};
 use mds_types::{Dir, Rank};
 use naming::Naming;

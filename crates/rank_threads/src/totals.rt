@@ -9,8 +9,9 @@ ghost use Rattle.rank_threads.specs.Serving.{AreReturned, begun_on, hits_on};
 ghost use Rattle.rank_threads.specs.Totals.{over_ranks};
 
 use crate::phase::{Ranks, serve_phase};
-use crate::work::{Gate, Work};
+use crate::work::Work;
 use authority_map::Publisher;
+use export_threads::Gate;
 use heat_ledger::Share;
 use mds_board::Board;
 use naming::Naming;
@@ -40,16 +41,19 @@ pub fn serve_with_totals<
     requires equal { vec_len shares ≡ length scripts.now }
     requires whole { weight_of shares.items ≡ board.shares }
     ensures board { WentOn board result.0 }
-    ensures returned { IfOk result.1 (λ ranks. AreReturned J.limit shares.items (map (λ s. s.items) scripts.now) (map (λ a. a.items) ranks.answers.items) ranks.shares.items) }
+    ensures returned { IfOk result.1 (λ ranks. AreReturned J.limit shares.items (map (λ s. s.items) scripts.now)
+        (map (λ a. a.items) ranks.answers.items) ranks.shares.items) }
     ensures clean { IfOk result.1 (λ ranks. IsOk ranks.deposited → All (λ s. IsClean s) ranks.shares.items) }
     ensures whole { IfOk result.1 (λ ranks. weight_of ranks.shares.items ≡ result.0.shares) }
     ensures begun { IfOk result.1 (λ ranks. (d : ℕ) → d < J.limit → at result.0.state.begun d
         ≡ at board.state.begun d + over_ranks (begun_on d) (map (λ s. s.items) scripts.now) (map (λ a. a.items) ranks.answers.items)) }
     ensures hits { IfOk result.1 (λ ranks. (d : ℕ) → d < J.limit → at result.0.state.counted d + pending_of ranks.shares.items d
         ≡ (at board.state.counted d + pending_of shares.items d) + over_ranks (hits_on d) (map (λ s. s.items) scripts.now) (map (λ a. a.items) ranks.answers.items)) }
-    ensures answered { IfOk result.1 (λ ranks. AreAnswered board 0 (map (λ s. s.items) scripts.now) (map (λ a. a.items) ranks.answers.items)) }
+    ensures answered { IfOk result.1 (λ ranks. AreAnswered board 0 (map (λ s. s.items) scripts.now)
+        (map (λ a. a.items) ranks.answers.items)) }
     ensures told { IfOk result.1 (λ ranks. IsDepositTold board ranks.deposited) }
-    ensures ended { IfOk result.1 (λ ranks. IsEndTold board result.0 (map (λ a. a.items) ranks.answers.items) ranks.ended) }
+    ensures ended { IfOk result.1 (λ ranks. IsEndTold board result.0 (map (λ a. a.items) ranks.answers.items)
+        ranks.ended) }
     ensures memory { IfErr result.1 (λ e. e.value.items ≡ shares.items) }
     ensures unchanged { OnErr result.1 (result.0 ≡ board) }
 {
@@ -73,7 +77,8 @@ fn audited<J: Naming, M: Publisher<J>>(
 ) -> (Board<J, M>, Ranks<J>)
     requires whole { weight_of ranks.shares.items ≡ board.shares }
     ensures begun { (d : ℕ) → at result.0.state.begun d ≡ begun_of ranks.shares.items d }
-    ensures hits { (d : ℕ) → at result.0.state.counted d + pending_of ranks.shares.items d ≡ hits_of ranks.shares.items d }
+    ensures hits { (d : ℕ) → at result.0.state.counted d + pending_of ranks.shares.items d
+        ≡ hits_of ranks.shares.items d }
     ensures board { result.0 ≡ board }
     ensures shares { result.1.shares.items ≡ ranks.shares.items }
     ensures answers { result.1.answers.items ≡ ranks.answers.items }

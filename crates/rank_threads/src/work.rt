@@ -6,25 +6,6 @@ use mds_types::{Dir, Rank, Refusal};
 use std::error::Error;
 use std::fmt;
 
-/// Is told of each request of a rank, by its number in the rank's script: before its hits, and after its end. In a
-/// phase of exports it is told of each turn of a rank, by its round. No lock is held then.
-pub trait Gate {
-    /// A request was asked for, and has counted no hit; or a turn begins.
-    fn before(&self, rank: Rank, number: usize);
-
-    /// A request has its answer, or a turn is over.
-    fn after(&self, rank: Rank, number: usize);
-}
-
-/// A gate that does nothing.
-pub struct OpenGate;
-
-impl Gate for OpenGate {
-    fn before(&self, _rank: Rank, _number: usize) {}
-
-    fn after(&self, _rank: Rank, _number: usize) {}
-}
-
 /// A request on a directory, of so many hits.
 #[derive(Clone, Copy, Debug, PartialEq, Eq)]
 pub struct Work {

@@ -1,5 +1,5 @@
 use Rattle.std.proofs.Common.{◌≡◌, ◌*◌, ℕ, [], ◌∷◌, ◌++◌, ◌∙◌, ap, rules, arith, subst, sym}
-use Rattle.heat_ledger.specs.declared.tally.Hand.{Hand}
+use Rattle.heat_ledger.specs.declared.tally.TokenState.{TokenState}
 use Rattle.heat_ledger.specs.Rows.{at}
 use Rattle.heat_ledger.specs.Tally.{most, both_of}
 use Rattle.heat_ledger.specs.Ledger.{IsShare}
@@ -9,45 +9,45 @@ use Rattle.heat_ledger.proofs.auditing.+audit_all.Goals as goal
 
 pub audit_all-requires : goal.audit_all-requires
 audit_all-requires g t c κs within =
-    let both : c.take_back.new.keeper.me.0 ≡ both_of c.args.keeper.now.me.0 c.share.inside.seat.me.0 = search rules in
-    (search rules, (search rules, (search rules, (search rules, (search rules, backed_both c.args.keeper.now.me.0 c.share.inside.seat.me.0 c.take_back.new.keeper.me.0 both c.requires.backed c.take_back.ensures.backed)))))
+    let both : c.take_back.new.authority.me.0 ≡ both_of c.args.authority.now.me.0 c.share.inside.token.me.0 = search rules in
+    (search rules, (search rules, (search rules, (search rules, (search rules, backed_both c.args.authority.now.me.0 c.share.inside.token.me.0 c.take_back.new.authority.me.0 both c.requires.backed c.take_back.ensures.backed)))))
 
-pub give_back-seat-requires-clause-amounts : goal.give_back-seat-requires-clause-amounts
-give_back-seat-requires-clause-amounts g t c k =
+pub give_back-token-requires-clause-amounts : goal.give_back-token-requires-clause-amounts
+give_back-token-requires-clause-amounts g t c k =
     let s = c.share.inside in
-    let both : c.take_back.new.keeper.me.0 ≡ both_of c.args.keeper.now.me.0 s.seat.me.0 = search rules in
-    let l = laid_amounts g.J.Naming.limit s.seat.me.0 s.weight s.hits s.pending s.begun c.share.invariant.2 k in
-    let a = ap (λ (h : Hand). at h.amounts k) both ∙ at_sums c.args.keeper.now.me.0.amounts s.seat.me.0.amounts k in
+    let both : c.take_back.new.authority.me.0 ≡ both_of c.args.authority.now.me.0 s.token.me.0 = search rules in
+    let l = laid_amounts g.J.Naming.limit s.token.me.0 s.weight s.hits s.pending s.begun c.share.invariant.2 k in
+    let a = ap (λ (h : TokenState). at h.amounts k) both ∙ at_sums c.args.authority.now.me.0.amounts s.token.me.0.amounts k in
     let b = c.audit_all.ensures.audited.amounts k in
     omega (arith, l, a, b)
 
-pub give_back-seat-requires-clause-backed : goal.give_back-seat-requires-clause-backed
-give_back-seat-requires-clause-backed g t c k =
+pub give_back-token-requires-clause-backed : goal.give_back-token-requires-clause-backed
+give_back-token-requires-clause-backed g t c k =
     let s = c.share.inside in
-    let l = laid_amounts g.J.Naming.limit s.seat.me.0 s.weight s.hits s.pending s.begun c.share.invariant.2 k in
+    let l = laid_amounts g.J.Naming.limit s.token.me.0 s.weight s.hits s.pending s.begun c.share.invariant.2 k in
     let back = c.take_back.ensures.backed k in
     let weighs = ap (λ (n : ℕ). n * most) c.share.invariant.2.weighs in
     omega (arith, l, back, weighs)
 
-pub give_back-seat-requires-clause-rest : goal.give_back-seat-requires-clause-rest
-give_back-seat-requires-clause-rest g t c =
+pub give_back-token-requires-clause-rest : goal.give_back-token-requires-clause-rest
+give_back-token-requires-clause-rest g t c =
     let s = c.share.inside in
-    let both : c.take_back.new.keeper.me.0 ≡ both_of c.args.keeper.now.me.0 s.seat.me.0 = search rules in
-    rest_backed g.J.Naming.limit c.args.keeper.now.me.0 s.seat.me.0 c.take_back.new.keeper.me.0 c.audit_all.new.keeper.me.0 s.weight s.hits s.pending s.begun c.pop.new.self.items c.share.invariant.2 both c.audit_all.ensures.audited c.requires.backed
+    let both : c.take_back.new.authority.me.0 ≡ both_of c.args.authority.now.me.0 s.token.me.0 = search rules in
+    rest_backed g.J.Naming.limit c.args.authority.now.me.0 s.token.me.0 c.take_back.new.authority.me.0 c.audit_all.new.authority.me.0 s.weight s.hits s.pending s.begun c.pop.new.self.items c.share.invariant.2 both c.audit_all.ensures.audited c.requires.backed
 
 pub invariant_of-push_reserved : goal.invariant_of-push_reserved
 invariant_of-push_reserved g t c =
     let s = c.share.inside in (
       search rules,
       search rules,
-      subst (λ (v : Hand). IsShare g.J.Naming.limit v s.weight s.hits s.pending s.begun) (sym c.give_back-seat.ensures.seat) (laid_share g.J.Naming.limit s.seat.me.0 s.weight s.hits s.pending s.begun c.share.invariant.2),
+      subst (λ (v : TokenState). IsShare g.J.Naming.limit v s.weight s.hits s.pending s.begun) (sym c.give_back-token.ensures.token) (laid_share g.J.Naming.limit s.token.me.0 s.weight s.hits s.pending s.begun c.share.invariant.2),
     )
 
 pub returns-clause-audited : goal.returns-clause-audited
 returns-clause-audited g t c =
     let s = c.share.inside in
-    let both : c.take_back.new.keeper.me.0 ≡ both_of c.args.keeper.now.me.0 s.seat.me.0 = search rules in
+    let both : c.take_back.new.authority.me.0 ≡ both_of c.args.authority.now.me.0 s.token.me.0 = search rules in
     let order : c.args.shares.now.items ≡ c.pop.new.self.items ++ c.in-Some.share ∷ [] = search rules in
-    let e = c.give_back-seat.ensures in
-    audited_more g.J.Naming.limit c.args.keeper.now.me.0 s.seat.me.0 c.take_back.new.keeper.me.0 c.audit_all.new.keeper.me.0 c.give_back-seat.new.keeper.me.0 c.args.shares.now.items c.pop.new.self.items _ c.share.invariant.2 both c.audit_all.ensures.audited
-    (rw c.share.view_is order) e.keeper.0 e.keeper.1 e.amounts e.totals
+    let e = c.give_back-token.ensures in
+    audited_more g.J.Naming.limit c.args.authority.now.me.0 s.token.me.0 c.take_back.new.authority.me.0 c.audit_all.new.authority.me.0 c.give_back-token.new.authority.me.0 c.args.shares.now.items c.pop.new.self.items _ c.share.invariant.2 both c.audit_all.ensures.audited
+    (rw c.share.view_is order) e.authority.0 e.authority.1 e.amounts e.totals

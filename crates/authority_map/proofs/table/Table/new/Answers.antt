@@ -6,4 +6,4 @@ pub invariant_of-result-clause-kept : goal.invariant_of-result-clause-kept
 invariant_of-result-clause-kept g c =
     let starts : c.push_reserved.new.self.items ≡ 0 ∷ [] = search rules in
     let cells : c.push_reserved-2.new.self.items ≡ 0 ∷ [] = search rules in
-    rw (starts, cells, c.requires.known) (cells_none c.args.limit c.requires.limit.1)
+    rw (starts, cells, c.requires.prefix) (cells_none c.args.limit c.requires.limit.1)

@@ -1,7 +1,7 @@
 use Rattle.std.proofs.Common.{◌≡◌, ◌<◌, ◌∙◌, ℕ, List, length, ap, sym, rules, arith, subst}
-use Rattle.heat_ledger.specs.declared.tally.Hand.{Hand}
+use Rattle.heat_ledger.specs.declared.tally.TokenState.{TokenState}
 use Rattle.heat_ledger.specs.Rows.{at, sums, raised}
-use Rattle.heat_ledger.specs.Tally.{holding, most}
+use Rattle.heat_ledger.specs.Tally.{share_state, most}
 use Rattle.heat_ledger.specs.Ledger.{BookData, unit, begun_slot, IsShare}
 use Rattle.heat_ledger.proofs.RowLemmas.{at_sums, at_within}
 use Rattle.heat_ledger.proofs.Shares.{begin_share}
@@ -9,16 +9,16 @@ use Rattle.heat_ledger.proofs.Books.{begin_backed, begin_book_at, begin_fits}
 use Rattle.heat_ledger.proofs.book.Book.begin.Goals as goal
 
 pub reissue-requires-clause-amounts : goal.reissue-requires-clause-amounts
-reissue-requires-clause-amounts g c k = at_sums c.share.inside.seat.me.0.amounts (unit (begun_slot c.args.dir)) k
+reissue-requires-clause-amounts g c k = at_sums c.share.inside.token.me.0.amounts (unit (begun_slot c.args.dir)) k
 
 pub reissue-requires-clause-backed : goal.reissue-requires-clause-backed
 reissue-requires-clause-backed g c k under was =
-    begin_backed g.J.Naming.limit c.share.inside.seat.me.0 c.self.inside.seat.me.0 c.share.inside.weight c.self.inside.shares c.share.inside.hits c.share.inside.pending c.share.inside.begun c.self.inside.counted.items c.self.inside.begun.items c.args.dir
+    begin_backed g.J.Naming.limit c.share.inside.token.me.0 c.self.inside.token.me.0 c.share.inside.weight c.self.inside.shares c.share.inside.hits c.share.inside.pending c.share.inside.begun c.self.inside.counted.items c.self.inside.begun.items c.args.dir
     c.share.invariant.2 c.self.invariant.2 (subst (λ (b : BookData). at b.begun c.args.dir < most) (sym c.self.view_is) c.requires.room) k under was
 
 pub raise-requires-clause-fits : goal.raise-requires-clause-fits
 raise-requires-clause-fits g c =
-    begin_fits g.J.Naming.limit c.share.inside.seat.me.0 c.share.inside.weight c.share.inside.hits c.share.inside.pending c.share.inside.begun c.args.dir c.share.invariant.2 (c.reissue.ensures.backed (begun_slot c.args.dir))
+    begin_fits g.J.Naming.limit c.share.inside.token.me.0 c.share.inside.weight c.share.inside.hits c.share.inside.pending c.share.inside.begun c.args.dir c.share.invariant.2 (c.reissue.ensures.backed (begun_slot c.args.dir))
 
 pub invariant_of-self : goal.invariant_of-self
 invariant_of-self g c =
@@ -28,7 +28,7 @@ invariant_of-self g c =
     let found : c.index_mut.result.now ≡ at b.begun.items c.number-row.result = c.index_mut.ensures.value ∙ at_within b.begun.items c.number-row.result c.index_mut.result.now inside in (
       search rules,
       search rules,
-      begin_book_at g.J.Naming.limit b.seat.me.0 c.reissue.new.keeper.me.0 b.shares c.args.dir c.number-row.result c.index_mut.result.now b.counted.items b.begun.items c.self.invariant.2 e.keeper.0 e.keeper.1 e.keeper.3 e.totals c.requires.inside c.number-row.ensures
+      begin_book_at g.J.Naming.limit b.token.me.0 c.reissue.new.authority.me.0 b.shares c.args.dir c.number-row.result c.index_mut.result.now b.counted.items b.begun.items c.self.invariant.2 e.authority.0 e.authority.1 e.authority.3 e.totals c.requires.inside c.number-row.ensures
           (found ∙ ap (at b.begun.items) c.number-row.ensures),
       search rules,
       search rules,
@@ -38,9 +38,9 @@ pub invariant_of-share : goal.invariant_of-share
 invariant_of-share g c =
     let s = c.share.inside in
     let d = c.args.dir in
-    let met : holding s.seat.me.0.parts (sums s.seat.me.0.amounts (unit (begun_slot d))) ≡ c.reissue.new.seat.me.0 = search rules in (
+    let met : share_state s.token.me.0.parts (sums s.token.me.0.amounts (unit (begun_slot d))) ≡ c.reissue.new.token.me.0 = search rules in (
       search rules,
       search rules,
-      subst (λ (l : List ℕ). IsShare g.J.Naming.limit c.reissue.new.seat.me.0 s.weight s.hits s.pending l) (sym c.raise.ensures)
-          (subst (λ (v : Hand). IsShare g.J.Naming.limit v s.weight s.hits s.pending (raised s.begun d)) met (begin_share g.J.Naming.limit s.seat.me.0 s.weight d s.hits s.pending s.begun c.share.invariant.2 c.requires.inside)),
+      subst (λ (l : List ℕ). IsShare g.J.Naming.limit c.reissue.new.token.me.0 s.weight s.hits s.pending l) (sym c.raise.ensures)
+          (subst (λ (v : TokenState). IsShare g.J.Naming.limit v s.weight s.hits s.pending (raised s.begun d)) met (begin_share g.J.Naming.limit s.token.me.0 s.weight d s.hits s.pending s.begun c.share.invariant.2 c.requires.inside)),
     )

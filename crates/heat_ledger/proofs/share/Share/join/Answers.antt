@@ -1,5 +1,5 @@
 use Rattle.std.proofs.Common.{◌≡◌, ◌+◌, rules, arith, subst}
-use Rattle.heat_ledger.specs.declared.tally.Hand.{Hand}
+use Rattle.heat_ledger.specs.declared.tally.TokenState.{TokenState}
 use Rattle.heat_ledger.specs.Rows.{sums}
 use Rattle.heat_ledger.specs.Tally.{both_of, IsLearned}
 use Rattle.heat_ledger.specs.Ledger.{IsShare}
@@ -10,20 +10,20 @@ pub join-requires-3-clause-fits : goal.join-requires-3-clause-fits
 join-requires-3-clause-fits g c dir =
     let s = c.self.inside in
     let t = c.other.inside in
-    let met : c.merge.new.seat.me.0 ≡ both_of s.seat.me.0 t.seat.me.0 = search rules in
+    let met : c.merge.new.token.me.0 ≡ both_of s.token.me.0 t.token.me.0 = search rules in
     let l = subst IsLearned met c.learn.ensures.learned in
-    let fit = ((join_fits g.J.Naming.limit s.seat.me.0 t.seat.me.0 s.weight t.weight s.hits t.hits s.pending t.pending s.begun t.begun c.self.invariant.2 c.other.invariant.2 l).1 dir).2 in
+    let fit = ((join_fits g.J.Naming.limit s.token.me.0 t.token.me.0 s.weight t.weight s.hits t.hits s.pending t.pending s.begun t.begun c.self.invariant.2 c.other.invariant.2 l).1 dir).2 in
     omega (arith, fit)
 
 pub invariant_of-self : goal.invariant_of-self
 invariant_of-self g c =
     let s = c.self.inside in
     let t = c.other.inside in
-    let met : c.merge.new.seat.me.0 ≡ both_of s.seat.me.0 t.seat.me.0 = search rules in
-    let now : both_of s.seat.me.0 t.seat.me.0 ≡ c.learn.new.seat.me.0 = search rules in
+    let met : c.merge.new.token.me.0 ≡ both_of s.token.me.0 t.token.me.0 = search rules in
+    let now : both_of s.token.me.0 t.token.me.0 ≡ c.learn.new.token.me.0 = search rules in
     let l = subst IsLearned met c.learn.ensures.learned in (
       search rules,
       search rules,
-      rw (c.join.ensures, c.join-2.ensures, c.join-3.ensures) (subst (λ (v : Hand). IsShare g.J.Naming.limit v (s.weight + t.weight) (sums s.hits t.hits) (sums s.pending t.pending) (sums s.begun t.begun)) now
-          (join_kept g.J.Naming.limit s.seat.me.0 t.seat.me.0 s.weight t.weight s.hits t.hits s.pending t.pending s.begun t.begun c.self.invariant.2 c.other.invariant.2 l)),
+      rw (c.join.ensures, c.join-2.ensures, c.join-3.ensures) (subst (λ (v : TokenState). IsShare g.J.Naming.limit v (s.weight + t.weight) (sums s.hits t.hits) (sums s.pending t.pending) (sums s.begun t.begun)) now
+          (join_kept g.J.Naming.limit s.token.me.0 t.token.me.0 s.weight t.weight s.hits t.hits s.pending t.pending s.begun t.begun c.self.invariant.2 c.other.invariant.2 l)),
     )

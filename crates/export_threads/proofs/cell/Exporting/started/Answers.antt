@@ -1,0 +1,12 @@
+use Rattle.std.proofs.Common.{◌∙◌, sym, subst}
+use Rattle.export_rounds.specs.Asked.{AreAsked}
+use Rattle.export_threads.proofs.Carrying.{begun_later}
+use Rattle.export_threads.proofs.cell.Exporting.started.Goals as goal
+
+pub returns-in-Some-Started : goal.returns-in-Some-Started
+returns-in-Some-Started g c =
+    let first = g.K.ExportPhase.before in
+    let found = c.in-Some-Started.ensures.lookup.3 in
+    let asked = subst (λ ss. AreAsked first c.self.inside.board g.K.ExportPhase.orders ss) (sym c.deref.ensures.value) c.self.invariant.asked in
+    begun_later first c.self.inside.board g.K.ExportPhase.orders c.deref.result.now c.args.number c.in-Some-Started.export c.in-Some-Started.field-0.now found.0 asked
+    (sym (found.1 c.in-Some-Started.field-0.now) ∙ c.in-Some-Started.field-0-is)

@@ -1,0 +1,186 @@
+//! The orders of a board are carried out, by a thread a rank.
+ghost use Rattle.std.specs.Prelude.{◌≡◌, ◌≤◌, [], count_by, length, vec_capacity, IfOk, OnErr};
+ghost use Rattle.export_rounds.specs.Adding.{GoesOnBy};
+ghost use Rattle.export_rounds.specs.Asked.{AreAsked, is_begun};
+ghost use Rattle.export_rounds.specs.Further.{IsFurther};
+ghost use Rattle.export_threads.specs.Carrying.{AreAll, AreTold};
+
+use crate::cell::{ExportCell, ExportPhase};
+use crate::gate::Gate;
+use crate::order_outcome::OrderOutcome;
+use crate::telling::tell;
+use crate::turns::take_turns;
+use authority_map::Publisher;
+use export_machine::Event;
+use export_rounds::desk::{set_up, sort_out};
+use export_rounds::looks::is_before_log;
+use export_rounds::starting::waiting;
+use export_rounds::{Desk, Standing};
+use mds_board::Board;
+use mds_types::Order;
+use naming::Naming;
+use std::alloc::{AllocError, Global};
+use std::marker::{Brand, Send, Sync};
+use std::sync::Wait;
+use std::thread::Threads;
+
+/// Rounds of a phase.
+const ROUNDS: usize = 8;
+
+// What a phase asks memory for before its first event.
+struct Prepared {
+    outcomes: Vec<OrderOutcome>,
+    standings: Vec<Standing>,
+    desks: Vec<Desk>,
+}
+
+// Room for the outcomes, the orders as ones that wait, and what each rank has to look after.
+fn prepare<J: Naming, M: Publisher<J>>(
+    alloc: Global,
+    board: &Board<J, M>,
+    orders: &[Order],
+) -> Result<Prepared, AllocError>
+    ensures asked { IfOk result (λ p. AreAsked board.now board.now orders.now p.standings.items) }
+    ensures none { IfOk result (λ p. count_by is_begun p.standings.items ≡ 0) }
+    ensures room { IfOk result (λ p. (p.outcomes.items ≡ []) × (length orders.now ≤ vec_capacity p.outcomes)) }
+{
+    let outcomes = Vec::with_capacity(alloc, orders.len())?;
+    let standings = waiting(alloc, orders)?;
+    let desks = set_up(alloc, board.cluster(), board.pins().active(), orders)?;
+    Ok(Prepared {
+        outcomes,
+        standings,
+        desks,
+    })
+}
+
+// Starts the orders whose exporter is no active rank, so that each is refused.
+fn start_strays<J: Naming, M: Publisher<J>, K: ExportPhase, R: Wait>(
+    rt: &R,
+    alloc: Global,
+    cell: &ExportCell<J, M, K>,
+    active: usize,
+    orders: &[Order],
+) {
+    for (number, order) in orders.iter().enumerate() {
+        if order.from.number() as usize >= active {
+            let _refused = cell.lock(rt).start(alloc, number);
+        }
+    }
+}
+
+// The ranks take their turns in rounds. In each they have the messages that were sent before it.
+fn take_rounds<
+    J: Naming + Send + Sync,
+    M: Publisher<J> + Send,
+    K: ExportPhase + Send + Sync,
+    R: Threads + Wait + Sync,
+    G: Gate + Sync,
+>(rt: &R, alloc: Global, cell: &ExportCell<J, M, K>, gate: &G, desks: Vec<Desk>) {
+    let mut desks = desks;
+    let mut seen = cell.lock(rt).cluster().sent();
+    for round in 0..ROUNDS {
+        desks = take_turns(rt, alloc, cell, gate, round, desks);
+        let board = cell.lock(rt);
+        let sent = board.cluster().sent();
+        // a message that finds no place isn't delivered
+        let _ = sort_out(board.cluster(), &mut desks, seen..sent);
+        seen = sent;
+    }
+}
+
+// Aborts the exports of the phase that aren't logged.
+fn abort_rest<J: Naming, M: Publisher<J>, K: ExportPhase, R: Wait>(
+    rt: &R,
+    alloc: Global,
+    cell: &ExportCell<J, M, K>,
+    orders: usize,
+) {
+    for number in 0..orders {
+        let mut board = cell.lock(rt);
+        if let Some(export) = board.started(number) {
+            if is_before_log(board.cluster(), export) {
+                board.step(alloc, Event::Abort(export));
+            }
+        }
+    }
+}
+
+// Carries out the orders with which the phase K begins.
+fn carry_out_named<
+    J: Naming + Send + Sync,
+    M: Publisher<J> + Send,
+    K: ExportPhase + Send + Sync,
+    R: Threads + Wait + Sync,
+    G: Gate + Sync,
+>(
+    rt: &R,
+    alloc: Global,
+    board: Board<J, M>,
+    gate: &G,
+    orders: &[Order],
+    prepared: Prepared,
+) -> (Board<J, M>, Vec<OrderOutcome>)
+    requires board { board ≡ K.before }
+    requires orders { orders.now ≡ K.orders }
+    requires asked { AreAsked board board orders.now prepared.standings.items }
+    requires none { count_by is_begun prepared.standings.items ≡ 0 }
+    requires room { (prepared.outcomes.items ≡ []) × (length orders.now ≤ vec_capacity prepared.outcomes) }
+    ensures further { IsFurther board result.0 }
+    ensures events { GoesOnBy (length board.state.cluster.orders) board result.0 }
+    ensures outcomes { AreTold board result.0 orders.now result.1.items }
+    ensures all { AreAll board result.0 result.1.items }
+{
+    let Prepared {
+        mut outcomes,
+        standings,
+        desks,
+    } = prepared;
+    let active = desks.len();
+    let cell = ExportCell::<J, M, K>::new(board, standings);
+    start_strays(rt, alloc, &cell, active, orders);
+    take_rounds(rt, alloc, &cell, gate, desks);
+    abort_rest(rt, alloc, &cell, orders.len());
+    let (board, standings) = cell.into_parts();
+    tell(board.cluster(), &standings, &mut outcomes);
+    (board, outcomes)
+}
+
+/// Carries out orders in eight rounds, by a thread for each rank that has something to do, and tells what became of
+/// each.
+///
+/// In a round each rank takes the messages that had come when the round began, in rising order, freezes its exports
+/// in state freezing, notifies of its logged ones and publishes the map if it did. In the first round it starts its
+/// orders and asks about its imports that were left started before that. An event that is refused is passed over.
+/// What isn't logged after the last round is aborted, but for exports of earlier phases. The orders of a rank for
+/// which there is no thread in the first round aren't started; what else it has to look after goes on by the calling
+/// thread.
+///
+/// All memory for the answer is asked for before the first event.
+pub fn export_phase<
+    J: Naming + Send + Sync,
+    M: Publisher<J> + Send,
+    R: Threads + Wait + Sync,
+    G: Gate + Sync,
+>(
+    rt: &R,
+    alloc: Global,
+    board: Board<J, M>,
+    gate: &G,
+    orders: &[Order],
+) -> (Board<J, M>, Result<Vec<OrderOutcome>, AllocError>)
+    ensures further { IsFurther board result.0 }
+    ensures events { GoesOnBy (length board.state.cluster.orders) board result.0 }
+    ensures outcomes { IfOk result.1 (λ outcomes. AreTold board result.0 orders.now outcomes.items) }
+    ensures all { IfOk result.1 (λ outcomes. AreAll board result.0 outcomes.items) }
+    ensures unchanged { OnErr result.1 (result.0 ≡ board) }
+{
+    let prepared = match prepare(alloc, &board, orders) {
+        Ok(prepared) => prepared,
+        Err(error) => return (board, Err(error)),
+    };
+    let (board, outcomes) = carry_out_named::<J, M, Brand, R, G>(
+        rt, alloc, board, gate, orders, prepared,
+    );
+    (board, Ok(outcomes))
+}

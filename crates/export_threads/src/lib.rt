@@ -1,0 +1,18 @@
+//! Exports between the ranks, each rank's turns by a thread of its own, over one board under a lock.
+//!
+//! What a thread finds under the lock is the board with which the phase began, with exports alone on top of its
+//! history, and how each order stands on it: the lock's type says so.
+#![tactic(auto)]
+
+mod cell;
+pub mod exporting;
+pub mod gate;
+pub mod order_outcome;
+mod telling;
+mod turn;
+mod turns;
+
+pub use export_rounds::Outcome;
+pub use exporting::export_phase;
+pub use gate::{Gate, OpenGate};
+pub use order_outcome::OrderOutcome;

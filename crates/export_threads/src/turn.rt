@@ -1,0 +1,111 @@
+//! The turn of a rank in a round of exports. The lock is held for one event at a time.
+
+use crate::cell::{ExportCell, ExportPhase};
+use crate::gate::Gate;
+use authority_map::Publisher;
+use export_machine::Event;
+use export_rounds::Desk;
+use export_rounds::looks::{is_at_work, is_freezing, is_logged, is_wanted};
+use naming::Naming;
+use std::alloc::Global;
+use std::sync::Wait;
+
+/// A rank starts its orders and asks about its imports, once; takes the messages that have come, goes on with its
+/// exports, and publishes the map if it changed that.
+pub(crate) fn take_turn<J: Naming, M: Publisher<J>, K: ExportPhase, R: Wait, G: Gate>(
+    rt: &R,
+    alloc: Global,
+    cell: &ExportCell<J, M, K>,
+    gate: &G,
+    round: usize,
+    desk: &mut Desk,
+) {
+    gate.before(desk.rank, round);
+    start(rt, alloc, cell, desk);
+    ask(rt, alloc, cell, desk);
+    take_messages(rt, alloc, cell, desk);
+    freeze(rt, alloc, cell, &desk.exports);
+    if notify(rt, alloc, cell, &desk.exports) {
+        cell.lock(rt).publish();
+    }
+    desk.exports
+        .retain(|export| is_at_work(cell.lock(rt).cluster(), *export));
+    gate.after(desk.rank, round);
+}
+
+// Starts the rank's orders, and lays their exports on its desk.
+fn start<J: Naming, M: Publisher<J>, K: ExportPhase, R: Wait>(
+    rt: &R,
+    alloc: Global,
+    cell: &ExportCell<J, M, K>,
+    desk: &mut Desk,
+) {
+    for number in desk.orders.iter() {
+        if let Some(export) = cell.lock(rt).start(alloc, *number) {
+            // an export that finds no place is aborted at the end of the phase
+            let _ = desk.exports.push(export);
+        }
+    }
+    desk.orders.clear();
+}
+
+// Asks what became of the rank's imports that were left started.
+fn ask<J: Naming, M: Publisher<J>, K: ExportPhase, R: Wait>(
+    rt: &R,
+    alloc: Global,
+    cell: &ExportCell<J, M, K>,
+    desk: &mut Desk,
+) {
+    for import in desk.imports.iter() {
+        cell.lock(rt).step(alloc, Event::Ask(*import));
+    }
+    desk.imports.clear();
+}
+
+// Delivers the rank's messages, but for those about an export whose import is over.
+fn take_messages<J: Naming, M: Publisher<J>, K: ExportPhase, R: Wait>(
+    rt: &R,
+    alloc: Global,
+    cell: &ExportCell<J, M, K>,
+    desk: &mut Desk,
+) {
+    for message in desk.messages.iter() {
+        let mut board = cell.lock(rt);
+        if is_wanted(board.cluster(), *message) {
+            board.step(alloc, Event::Deliver(*message));
+        }
+    }
+    desk.messages.clear();
+}
+
+// Freezes the exports that are in state freezing.
+fn freeze<J: Naming, M: Publisher<J>, K: ExportPhase, R: Wait>(
+    rt: &R,
+    alloc: Global,
+    cell: &ExportCell<J, M, K>,
+    exports: &[u32],
+) {
+    for export in exports {
+        let mut board = cell.lock(rt);
+        if is_freezing(board.cluster(), *export) {
+            board.step(alloc, Event::Froze(*export));
+        }
+    }
+}
+
+// Notifies of the exports that are logged, and says whether it did.
+fn notify<J: Naming, M: Publisher<J>, K: ExportPhase, R: Wait>(
+    rt: &R,
+    alloc: Global,
+    cell: &ExportCell<J, M, K>,
+    exports: &[u32],
+) -> bool {
+    let mut notified = false;
+    for export in exports {
+        let mut board = cell.lock(rt);
+        if is_logged(board.cluster(), *export) {
+            notified |= board.step(alloc, Event::Notify(*export));
+        }
+    }
+    notified
+}

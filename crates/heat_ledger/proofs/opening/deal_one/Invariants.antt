@@ -1,5 +1,0 @@
-use Rattle.std.specs.Prelude.{[]}
-use Rattle.heat_ledger.proofs.opening.deal_one.Given as goal
-
-abbrev pub ghosts-grant : goal.ghosts-grant
-ghosts-grant g a = record { parts = 1; amounts = []; rest = []; extra = [] }
