@@ -2,9 +2,10 @@
 //!
 //! Without an argument it prints nothing. `times LIST` prints how many events the list has, how many were accepted, and
 //! nanoseconds of processor time for all of them, the least of several runs; a copy of each event is kept with its
-//! answer, in room that the first run takes. `alone LIST` is the same with nothing kept. `reads` times the reads, with a sum
-//! of what they answered. `start` times the start of an export of 32,768 directories by rising numbers: asked for, and
-//! applied. `stop` times the stop of a rank at which a thousand requests run, after 400,000 that ended. `events LIST` prints the list, one event a line, so that other programs can be timed on it: those before
+//! answer, in room that the first run takes. `alone LIST` is the same with nothing kept. `reads` times the reads,
+//! with a sum of what they answered. `start` times the start of an export of 32,768 directories by rising numbers:
+//! asked for, and applied. `stop` times the stop of a rank at which a thousand requests run, after 400,000 that
+//! ended. `events LIST` prints the list, one event a line, so that other programs can be timed on it: those before
 //! the line `now` aren't timed.
 
 mod lists;
@@ -172,7 +173,8 @@ fn time_reads(rt: &HostRuntime) -> io::Result<()> {
     time_named(rt, &cluster)
 }
 
-/// The least times of `can_apply` and of `apply`, of the same start. Each start is given up, so that the next is accepted.
+/// The least times of `can_apply` and of `apply`, of the same start. Each start
+/// is given up, so that the next is accepted.
 fn time_start(rt: &HostRuntime) -> io::Result<()> {
     let list = make_events(rt.alloc(), Kind::Requests)?;
     let mut cluster = prepared(rt.alloc(), &list.before)?;

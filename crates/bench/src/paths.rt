@@ -20,7 +20,7 @@ use std::thread::Threads;
 use std::time::CpuClock;
 
 fn print_hits<R: Threads + CpuClock + Print + Sync>(rt: &R, alloc: Global) -> io::Result<()> {
-    let opened = heat_ledger::Opened::new(alloc)?;
+    let opened = heat_ledger::NewBook::new(alloc)?;
     if let Some(times) = time_ledger::<Brand, R>(rt, alloc, opened)? {
         println!(rt; "hit {}", times.same)?;
         println!(rt; "scattered_hit {}", times.scattered)?;
@@ -36,7 +36,7 @@ fn print_finds<R: Threads + Wait + CpuClock + Print + Sync>(
     alloc: Global,
     rank: Rank,
 ) -> io::Result<()> {
-    let opened = authority_map::Opened::new();
+    let opened = authority_map::NewMap::new();
     if let Ok(Some(times)) = time_map::<Brand, R>(rt, alloc, opened, rank) {
         println!(rt; "find {}", times.one)?;
         println!(rt; "find_in_four_threads {}", times.four)?;
@@ -49,7 +49,7 @@ fn print_ledger<R: Print>(rt: &R, alloc: Global, limit: u32, shares: u8) -> io::
     if limit < 1 || limit > DIR_LIMIT || shares < 1 || shares > 64 {
         return Ok(());
     }
-    let opened = heat_ledger::Opened::new(alloc)?;
+    let opened = heat_ledger::NewBook::new(alloc)?;
     let sum = open_ledger::<Brand>(alloc, opened, limit, shares)?;
     println!(rt; "hits {sum}")
 }
@@ -63,7 +63,7 @@ fn print_map<R: Wait + CpuClock + Print>(
     if limit < 1 || limit > DIR_LIMIT {
         return Ok(());
     }
-    let opened = authority_map::Opened::new();
+    let opened = authority_map::NewMap::new();
     match publish_in::<Brand, R>(rt, alloc, opened, limit, rank) {
         Ok(time) => println!(rt; "publish {time}"),
         Err(_) => Ok(()),

@@ -1,11 +1,11 @@
 //! Times the calls of a board with 8 active ranks and room for 65,536 directories.
 //!
-//! Without an argument it prints nothing. Else it prints a line: a name, how many calls were accepted, and nanoseconds of
-//! processor time a call, the least of several runs; then the same of what it stands on. `tick` is a tick of the board, and
-//! one of heats alone. `requests` is a request that begins and ends. `stop` is the stop of a rank at which a thousand requests
-//! run, by request. `balance` is a plan for 65,536 directories, and the same problem opened and solved alone. `sets` and `ones`
-//! carry out orders of 65,536 directories: one order of all, and 32,768 orders of one. `rest` makes 2^20 events, so that their
-//! memory can be seen from outside.
+//! Without an argument it prints nothing. Else it prints a line: a name, how many calls were accepted, and
+//! nanoseconds of processor time a call, the least of several runs; then the same of what it stands on. `tick` is a
+//! tick of the board, and one of heats alone. `requests` is a request that begins and ends. `stop` is the stop of a
+//! rank at which a thousand requests run, by request. `balance` is a plan for 65,536 directories, and the same
+//! problem opened and solved alone. `sets` and `ones` carry out orders of 65,536 directories: one order of all, and
+//! 32,768 orders of one. `rest` makes 2^20 events, so that their memory can be seen from outside.
 
 mod moving;
 mod planning;
@@ -87,8 +87,8 @@ fn time<J: Naming, M: Publisher<J>, R: Threads + Sync + CpuClock + Print>(
 fn time_opened<J: Naming, R: Threads + Wait + Sync + CpuClock + Print>(
     rt: &R,
     alloc: Global,
-    book: heat_ledger::Opened,
-    map: authority_map::Opened,
+    book: heat_ledger::NewBook,
+    map: authority_map::NewMap,
     calls: Calls,
 ) -> io::Result<()>
     requires book { book ≡ J.ledger }
@@ -120,8 +120,8 @@ fn time_named<R: Threads + Wait + Sync + CpuClock + Print>(
     alloc: Global,
     calls: Calls,
 ) -> io::Result<()> {
-    let book = heat_ledger::Opened::new(alloc)?;
-    let map = authority_map::Opened::new();
+    let book = heat_ledger::NewBook::new(alloc)?;
+    let map = authority_map::NewMap::new();
     time_opened::<Brand, R>(rt, alloc, book, map, calls)?;
     Ok(())
 }

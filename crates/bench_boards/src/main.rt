@@ -1,7 +1,7 @@
 //! Times calls of boards and phases of threads over them, for the scripts of the folder `bench` at the top.
 //!
-//! The first word says of what: `board` or `threads`. The words after it are told in the module of that name. Without a word
-//! it prints nothing.
+//! The first word says of what: `board` or `threads`. The words after it are told in the module of that name. Without
+//! a word it prints nothing.
 #![tactic(auto)]
 
 mod board;

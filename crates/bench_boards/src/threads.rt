@@ -1,9 +1,9 @@
 //! Times phases of the ranks' threads beside the same work on one thread.
 //!
-//! Without an argument it prints nothing. `serve RANKS HITS` serves 10,000 requests of so many hits, which the ranks share
-//! evenly, rank k on its directory k; with no hits there is no request. `export RANKS` moves directories from each rank to the
-//! next, 65,536 in all. Each prints a line for a thread a rank and a line for one thread: nanoseconds of wall time, the least of
-//! several runs.
+//! Without an argument it prints nothing. `serve RANKS HITS` serves 10,000 requests of so many hits, which the ranks
+//! share evenly, rank k on its directory k; with no hits there is no request. `export RANKS` moves directories from
+//! each rank to the next, 65,536 in all. Each prints a line for a thread a rank and a line for one thread:
+//! nanoseconds of wall time, the least of several runs.
 
 mod boards;
 
@@ -40,8 +40,8 @@ fn time<R: Threads + Wait + Clock + Sync>(
     requires ranks { (1 ≤ ranks) × (ranks ≤ 64) }
 {
     let names = (
-        heat_ledger::Opened::new(alloc)?,
-        authority_map::Opened::new(),
+        heat_ledger::NewBook::new(alloc)?,
+        authority_map::NewMap::new(),
     );
     let nanos = match work {
         Work::Serve(hits) => time_serve::<Brand, R>(rt, alloc, names, ranks, hits, by_threads)?,

@@ -56,8 +56,8 @@ fn write_adopted<W: Write>(
     write_one(alloc, problem, plan.plan(), writer)
 }
 
-/// Writes the certificates of all plans that a history adopts, in the order of their adoption. Each has the problem that
-/// was opened last before, the plan and the plan's proofs. Where a write fails, a beginning of them was written.
+/// Writes the certificates of all plans that a history adopts, in the order of their adoption. Each has the problem
+/// that was opened last before, the plan and the plan's proofs. Where a write fails, a beginning of them was written.
 pub fn write_certificates<W: Write>(
     alloc: Global,
     history: &[Entry],

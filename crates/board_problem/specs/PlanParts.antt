@@ -36,7 +36,8 @@ part_of_top rows dirs plan i = record {
 
 -- the parts of a plan for these rows, which are those of these directories, by rising tops
 abbrev pub plan_parts : List ProblemRow → List ℕ → Plan → List PlanPart
-plan_parts rows dirs plan = map (part_of_top rows dirs plan) (filter (is_part_top rows (plan_label plan)) (below (length rows)))
+plan_parts rows dirs plan =
+    map (part_of_top rows dirs plan) (filter (is_part_top rows (plan_label plan)) (below (length rows)))
 
 -- the tops of some parts
 abbrev pub part_tops : List PlanPart → List ℕ

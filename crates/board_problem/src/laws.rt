@@ -36,7 +36,8 @@ pub fn directories_divide_as_rows()
         heat ≤ greatest_dir_heat entries own heats k label }
 {}
 
-/// The row of a directory's parent is the row that its row names: the problem's tree is that of the unpinned directories.
+/// The row of a directory's parent is the row that its row names: the problem's
+/// tree is that of the unpinned directories.
 pub fn parents_are_rows()
     ensures { (entries : List (Option Entry)) (own : List (Option ℕ)) (heats now : List ℕ) (i : ℕ) → IsTree entries → i < length (unpinned entries own)
         → slice_index (unpinned entries own) (parent_at (problem_rows entries own heats now) i) ≡ parent_of entries (slice_index (unpinned entries own) i) }

@@ -37,7 +37,8 @@ pub fn open(
     requires pins { tree.now.limit ≤ length pins.now.own }
     requires heats { tree.now.limit ≤ heat.now.limit }
     requires now { length tree.now.entries ≤ length now.now }
-    ensures problem { IfOk result (λ opened. opened.problem ≡ record { rows = problem_rows tree.now.entries pins.now.own heat.now.heats now.now; ranks = ranks }) }
+    ensures problem { IfOk result (λ opened. opened.problem
+        ≡ record { rows = problem_rows tree.now.entries pins.now.own heat.now.heats now.now; ranks = ranks }) }
     ensures dirs { IfOk result (λ opened. opened.dirs.items ≡ unpinned tree.now.entries pins.now.own) }
     ensures off { result ≡ Err OpenError.BalancerOff ↔ (rank_count ranks ≡ 0) }
     ensures memory { 0 < rank_count ranks → IsOkUnless result OpenError.Memory }

@@ -50,7 +50,8 @@ fn totals(
     requires size { length part.now ≡ length rows.now }
     requires labels { (i : ℕ) → i < length rows.now → slice_index part.now i < count }
     ensures size { IfOk result (λ totals. length totals.items ≡ count) }
-    ensures totals { IfOk result (λ totals. (p : ℕ) → p < count → slice_index_or totals.items p nothing ≡ total_of rows.now (slice_index part.now) (length rows.now) p) }
+    ensures totals { IfOk result (λ totals. (p : ℕ) → p < count
+        → slice_index_or totals.items p nothing ≡ total_of rows.now (slice_index part.now) (length rows.now) p) }
 {
     let nothing = Total { heat: 0, inodes: 0 };
     let mut totals = vec![in alloc; nothing; count]?;

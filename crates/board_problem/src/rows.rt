@@ -24,7 +24,13 @@ fn row(tree: &Tree, heat: &Heat, now: &[Rank], places: &[u32], dir: Dir) -> Prob
     requires heats { dir < heat.now.limit }
     requires now { dir < length now.now }
     requires places { dir < length places.now }
-    ensures row { result ≡ record { parent = slice_index places.now (parent_of tree.now.entries dir); heat = slice_index heat.now.heats dir; inodes = inodes_of tree.now.entries dir; now = slice_index_or now.now dir 0 } }
+    ensures row { result ≡ record {
+      parent = slice_index places.now (parent_of tree.now.entries dir);
+      heat = slice_index heat.now.heats dir;
+      inodes = inodes_of tree.now.entries dir;
+      now = slice_index_or now.now
+          dir 0;
+    } }
     ensures cool { result.heat ≤ 2 ^ 40 }
 {
     let Some(found) = tree.row(dir) else {
@@ -49,7 +55,8 @@ pub fn rows(
     requires pins { tree.now.limit ≤ length pins.now.own }
     requires heats { tree.now.limit ≤ heat.now.limit }
     requires now { length tree.now.entries ≤ length now.now }
-    ensures rows { IfOk result (λ found. found.rows.items ≡ problem_rows tree.now.entries pins.now.own heat.now.heats now.now) }
+    ensures rows { IfOk result (λ found. found.rows.items
+        ≡ problem_rows tree.now.entries pins.now.own heat.now.heats now.now) }
     ensures dirs { IfOk result (λ found. found.dirs.items ≡ unpinned tree.now.entries pins.now.own) }
     ensures forest { IfOk result (λ found. IsForest found.rows.items) }
 {

@@ -4,22 +4,17 @@ use Rattle.std.proofs.lemmas.Bool.{ne_eqb}
 use Rattle.std.proofs.lemmas.Bool.Decides.{nat_tests}
 use Rattle.authority_map.proofs.CellLemmas.{rank_after-none, rank_after-snoc}
 use Rattle.authority_map.specs.Operations.{Operation, SetTo, Clear, names, entry_after, rank_after}
-use Rattle.export_machine.specs.Authority.{is_among, is_present, open_export, order_in, authority, named_of, from_of, to_of, exporter_of, importer_of, is_stopped}
+use Rattle.export_machine.specs.Authority.{is_among, is_present, open_export, order_in, authority, named_of, from_of, to_of, exporter_of}
 use Rattle.export_machine.specs.Cluster.{World}
 use Rattle.export_machine.specs.declared.event.Event.{Event}
 use Rattle.export_machine.specs.declared.event.Event.TheVariants.{Made, Gone, Begin, End, Start, Deliver, Froze, Notify, Abort, Stop, Restart, Ask}
-use Rattle.export_machine.specs.declared.exporter.ExporterState.{ExporterState}
-use Rattle.export_machine.specs.declared.exporter.ExporterState.TheVariants.{Discovering, Freezing, Preparing, Exporting, Logged, Done, Aborted}
-use Rattle.export_machine.specs.declared.importer.ImporterState.{ImporterState}
-use Rattle.export_machine.specs.declared.importer.ImporterState.TheVariants.{Unknown, Discovered, Prepared, Started, Imported, Dropped}
 use Rattle.export_machine.specs.declared.journal.JournalEntry.{JournalEntry}
-use Rattle.export_machine.specs.declared.message.Message.{Message}
-use Rattle.export_machine.specs.declared.message.Message.TheVariants.{Discover, DiscoverAck, Prep, PrepAck, ExportAck, Finish, Cancel, Query}
 use Rattle.export_machine.specs.declared.step_error.StepError.{StepError}
 use Rattle.heat_ledger.specs.Rows.{raised}
-use Rattle.export_machine.specs.Entries.{is_log, logs_export, unless_refused, Entry, accepted_entry, comes_entry, delivered_entry, entered_by, entry, move_entry, named_after, named_by, IsRecorded, parents_after}
+use Rattle.export_machine.specs.Entries.{is_log, logs_export, unless_refused, Entry, accepted_entry, delivered_entry, entered_by, entry, named_after, named_by, IsRecorded, parents_after}
+use Rattle.export_machine.proofs.Entries.{delivered_named}
 use Rattle.export_machine.specs.Step as machine
-use Rattle.export_machine.specs.Step.{move, about, receiver, authority_stopped, history_limit, when, is_root, no_dir, any_at, is_child, no_export, late, is_logged, busy, not_yet, running_on, no_rank, rank_stopped, not_served}
+use Rattle.export_machine.specs.Step.{authority_stopped, history_limit, when, is_root, no_dir, any_at, is_child, no_export, late, is_logged, busy, not_yet, running_on, no_rank, rank_stopped, not_served}
 use Rattle.export_machine.specs.declared.step_error.StepError.TheVariants.{HistoryFull, IsRoot, NotEmpty, NoDir, NoExport}
 use Rattle.board_state.specs.declared.change.Change.TheVariants.{Step}
 use Rattle.board_state.specs.declared.change.Answer.TheVariants as answer
@@ -34,83 +29,6 @@ names_among (x ∷ xs) d = ap (λ b. (x == d) || b) (names_among xs d)
 or_false : (b : Bool) → (b || false) ≡ b
 or_false true = refl
 or_false false = refl
-
--- an entry that the map doesn't follow
-abbrev is_quiet : Option Entry → Type 0
-is_quiet None = Unit {0}
-is_quiet (Some e) = (w : World) (d rank : ℕ) → named_after w d rank e.entry ≡ named_of w d
-
-moves_quietly : (rank : ℕ) (m : Message) (e : ExporterState) (i : ImporterState) → is_quiet (move_entry rank (move m e i))
-moves_quietly rank (Discover x) e Unknown = tt
-moves_quietly rank (Discover x) e Discovered = tt
-moves_quietly rank (Discover x) e Prepared = tt
-moves_quietly rank (Discover x) e Started = tt
-moves_quietly rank (Discover x) e Imported = tt
-moves_quietly rank (Discover x) e Dropped = tt
-moves_quietly rank (DiscoverAck x) Discovering i = tt
-moves_quietly rank (DiscoverAck x) Freezing i = tt
-moves_quietly rank (DiscoverAck x) Preparing i = tt
-moves_quietly rank (DiscoverAck x) Exporting i = tt
-moves_quietly rank (DiscoverAck x) Logged i = tt
-moves_quietly rank (DiscoverAck x) Done i = tt
-moves_quietly rank (DiscoverAck x) Aborted i = tt
-moves_quietly rank (Prep x) e Unknown = tt
-moves_quietly rank (Prep x) e Discovered = tt
-moves_quietly rank (Prep x) e Prepared = tt
-moves_quietly rank (Prep x) e Started = tt
-moves_quietly rank (Prep x) e Imported = tt
-moves_quietly rank (Prep x) e Dropped = tt
-moves_quietly rank (PrepAck x) Discovering i = tt
-moves_quietly rank (PrepAck x) Freezing i = tt
-moves_quietly rank (PrepAck x) Preparing i = tt
-moves_quietly rank (PrepAck x) Exporting i = tt
-moves_quietly rank (PrepAck x) Logged i = tt
-moves_quietly rank (PrepAck x) Done i = tt
-moves_quietly rank (PrepAck x) Aborted i = tt
-moves_quietly rank (Message.Export x) e Unknown = tt
-moves_quietly rank (Message.Export x) e Discovered = tt
-moves_quietly rank (Message.Export x) e Prepared = λ w d r. refl
-moves_quietly rank (Message.Export x) e Started = tt
-moves_quietly rank (Message.Export x) e Imported = tt
-moves_quietly rank (Message.Export x) e Dropped = tt
-moves_quietly rank (ExportAck x) Discovering i = tt
-moves_quietly rank (ExportAck x) Freezing i = tt
-moves_quietly rank (ExportAck x) Preparing i = tt
-moves_quietly rank (ExportAck x) Exporting i = λ w d r. refl
-moves_quietly rank (ExportAck x) Logged i = tt
-moves_quietly rank (ExportAck x) Done i = tt
-moves_quietly rank (ExportAck x) Aborted i = tt
-moves_quietly rank (Finish x) e Unknown = tt
-moves_quietly rank (Finish x) e Discovered = tt
-moves_quietly rank (Finish x) e Prepared = tt
-moves_quietly rank (Finish x) e Started = λ w d r. refl
-moves_quietly rank (Finish x) e Imported = tt
-moves_quietly rank (Finish x) e Dropped = tt
-moves_quietly rank (Cancel x) e Unknown = tt
-moves_quietly rank (Cancel x) e Discovered = tt
-moves_quietly rank (Cancel x) e Prepared = tt
-moves_quietly rank (Cancel x) e Started = λ w d r. refl
-moves_quietly rank (Cancel x) e Imported = tt
-moves_quietly rank (Cancel x) e Dropped = tt
-moves_quietly rank (Query x) Discovering i = tt
-moves_quietly rank (Query x) Freezing i = tt
-moves_quietly rank (Query x) Preparing i = tt
-moves_quietly rank (Query x) Exporting i = tt
-moves_quietly rank (Query x) Logged i = tt
-moves_quietly rank (Query x) Done i = tt
-moves_quietly rank (Query x) Aborted i = tt
-
-quietly : (w : World) (d : ℕ) (e : Option Entry) → is_quiet e → named_by w d e ≡ named_of w d
-quietly w d None h = refl
-quietly w d (Some e) h = h w d e.rank
-
-delivered_quietly : (w : World) (d : ℕ) (m : Option Message) → named_by w d (delivered_entry w m) ≡ named_of w d
-delivered_quietly w d None = refl
-delivered_quietly w d (Some m) = on (is_stopped w (receiver w m))
-  where
-    on : (b : Bool) → named_by w d (if b then None else comes_entry w m) ≡ named_of w d
-    on true = refl
-    on false = quietly w d (comes_entry w m) (moves_quietly (receiver w m) m (exporter_of w (about m)) (importer_of w (about m)))
 
 -- causes that an accepted event doesn't have
 
@@ -184,7 +102,7 @@ module _ (w : World) (ops : List Operation) (d : ℕ) (now : rank_after ops d �
   follows (Begin r g) h = same None refl
   follows (End t) h = same None refl
   follows (Start from to dirs) h = same None refl
-  follows (Deliver m) h = same (delivered_entry w (slice_get w.sent m)) (delivered_quietly w d (slice_get w.sent m))
+  follows (Deliver m) h = same (delivered_entry w (slice_get w.sent m)) (sym (delivered_named w d (slice_get w.sent m)))
   follows (Froze x) h = same None refl
   follows (Notify x) h = notified x
   follows (Abort x) h = same None refl

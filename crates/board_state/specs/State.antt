@@ -1,6 +1,7 @@
 -- What a board holds, when each change is refused, and what it does.
 use Rattle.std.specs.Option.{option_and_then}
-use Rattle.std.specs.Prelude.{ℕ, ◌+◌, ◌==◌, nat_le, Bool, true, false, if◌then◌else◌, List, [], ◌∷◌, ◌++◌, length, map, slice_get, slice_index, replicate, fold, Option, Some, None}
+use Rattle.std.specs.Prelude.{ℕ, ◌+◌, ◌==◌, nat_le, Bool, true, false, if◌then◌else◌, List, [], ◌∷◌, ◌++◌}
+use Rattle.std.specs.Prelude.{length, map, slice_get, slice_index, replicate, fold, Option, Some, None}
 use Rattle.authority_map.specs.Operations.{Operation, SetTo, Clear}
 use Rattle.dir_pins.specs.declared.pin_error.PinError.{PinError}
 use Rattle.dir_pins.specs.Pins as pins
@@ -45,8 +46,8 @@ pub record Force : Type 0 where
   pub dirs : List ℕ
   pub event : ℕ
 
--- counted and begun are by directory: deposited hits and requests that began; the mask is a bit map of ranks; map has all
--- operations on the map from directory to rank
+-- counted and begun are by directory: deposited hits and requests that began; the mask is a bit map of ranks; map has
+-- all operations on the map from directory to rank
 pub record State : Type 0 where
   pub directories : Directories
   pub pins : PinTable
@@ -111,8 +112,11 @@ adopt_cause None = Some NoProblem
 adopt_cause (Some o) = unless_changed o.changed
 
 abbrev pub cause : State → Change → Option BoardError
-cause s (Make parent name inodes) = or_cause (of_tree (tree.make_refusal s.directories parent name)) (of_step (machine.refusal s.cluster (Made parent)))
-cause s (Remove d) = or_cause (of_tree (tree.remove_refusal s.directories d)) (of_step (machine.refusal s.cluster (Gone d)))
+cause s (Make parent name inodes) =
+    or_cause (of_tree (tree.make_refusal s.directories parent name))
+    (of_step (machine.refusal s.cluster (Made parent)))
+cause s (Remove d) =
+    or_cause (of_tree (tree.remove_refusal s.directories d)) (of_step (machine.refusal s.cluster (Gone d)))
 cause s (change.Pin d value) = of_pin (pins.pin_refusal s.pins.active s.directories.entries d value)
 cause s (Mask bits) = None
 cause s (Deposit hits) = None
@@ -130,7 +134,8 @@ refusal s c = or_cause (when (nat_le event_limit s.events) HistoryFull) (cause s
 
 -- why a problem is neither opened nor its plan adopted in one call
 abbrev pub balance_refusal : State → Option BoardError
-balance_refusal s = or_cause (when (nat_le 1_048_575 s.events) HistoryFull) (when (rank_count (usable s) == 0) BalancerOff)
+balance_refusal s =
+    or_cause (when (nat_le 1_048_575 s.events) HistoryFull) (when (rank_count (usable s) == 0) BalancerOff)
 
 -- Effects.
 
@@ -168,7 +173,8 @@ begun_with begun _ = begun
 
 -- a directory's hits give heat while it is there
 abbrev pub warmed : List (Option tree.Entry) → Heats → ℕ × ℕ → Heats
-warmed entries h hit = if tree.is_there entries hit.0 then touched h hit.0 (after_deposit (slice_index h.heats hit.0) hit.1) else h
+warmed entries h hit =
+    if tree.is_there entries hit.0 then touched h hit.0 (after_deposit (slice_index h.heats hit.0) hit.1) else h
 
 -- the authority of each directory, and 0 where there is none
 abbrev pub rank_or_0 : Option ℕ → ℕ
@@ -180,7 +186,8 @@ authorities s = map (λ d. rank_or_0 (authority s.cluster d)) (below (length s.d
 
 -- the problem of the directories that no pin holds, with their heats, inodes and authorities
 abbrev pub problem_of : State → ProblemData
-problem_of s = record { rows = problem_rows s.directories.entries s.pins.own s.heats.heats (authorities s); ranks = usable s }
+problem_of s =
+    record { rows = problem_rows s.directories.entries s.pins.own s.heats.heats (authorities s); ranks = usable s }
 
 abbrev pub dirs_of : State → List ℕ
 dirs_of s = pins.unpinned s.directories.entries s.pins.own
@@ -197,7 +204,8 @@ holders s = map (authority s.cluster) (below (length s.directories.entries))
 abbrev pub rank_of_row : Plan → ℕ → Option ℕ
 rank_of_row plan row = option_and_then (slice_get plan.rank) (slice_get plan.part row)
 
--- the rank that a plan gives d: that of the first row whose directory is d, where dirs are those of the rows from this one on
+-- the rank that a plan gives d: that of the first row whose directory is d, where
+-- dirs are those of the rows from this one on
 abbrev pub planned_from : ℕ → List ℕ → Plan → ℕ → Option ℕ
 planned_from row [] plan d = None
 planned_from row (dir ∷ dirs) plan d = if dir == d then rank_of_row plan row else planned_from (row + 1) dirs plan d
@@ -253,14 +261,16 @@ happens s (Remove d) =
       map = s.map ++ map_change s.cluster (Gone d);
       opened = marked s.opened s.events;
     })
-happens s (change.Pin d value) = done (record s { pins = pins.with_pin s.pins d value; opened = marked s.opened s.events })
+happens s (change.Pin d value) =
+    done (record s { pins = pins.with_pin s.pins d value; opened = marked s.opened s.events })
 happens s (Mask bits) = done (record s { mask = bits; opened = marked s.opened s.events })
 happens s (Deposit hits) =
     done (record s {
       heats = fold (warmed s.directories.entries) s.heats hits;
       counted = fold with_row s.counted hits;
     })
-happens s Tick = done (record s { heats = record s.heats { ticks = s.heats.ticks + 1; heats = map after_tick s.heats.heats } })
+happens s Tick =
+    done (record s { heats = record s.heats { ticks = s.heats.ticks + 1; heats = map after_tick s.heats.heats } })
 happens s (Step e) =
     record {
       state = record s {

@@ -1,5 +1,6 @@
 -- What contracts see of a state, and how a change is made.
-use Rattle.std.specs.Prelude.{◌≡◌, ◌≤◌, ◌⊎◌, ℕ, Bool, true, false, List, [], ◌∷◌, ◌++◌, length, map, Option, Some, None, Result, Ok, Err}
+use Rattle.std.specs.Prelude.{◌≡◌, ◌≤◌, ◌⊎◌, ℕ, Bool, true, false, List, [], ◌∷◌, ◌++◌}
+use Rattle.std.specs.Prelude.{length, map, Option, Some, None, Result, Ok, Err}
 use Rattle.std.specs.Option.{option_map}
 use Rattle.authority_map.specs.Operations.{Operation, SetTo, rank_after}
 use Rattle.dirtree.specs.Tree.{Directories, Entry}
@@ -47,7 +48,8 @@ abbrev pub IsBelied : State → Change → Type 0
 IsBelied s (Adopt plan) = IsNotCertified s.opened plan
 IsBelied s _ = ⊥
 
--- A change is refused so: for the first cause; or no cause stands, and there was no memory or the plan's proofs don't hold.
+-- A change is refused so: for the first cause; or no cause stands, and there was
+-- no memory or the plan's proofs don't hold.
 abbrev pub IsDue : State → Change → BoardError → Type 0
 IsDue s c e = (refusal s c ≡ Some e) ⊎ ((refusal s c ≡ None) × ((e ≡ Memory) ⊎ ((e ≡ NotBest) × IsBelied s c)))
 
@@ -65,7 +67,8 @@ abbrev pub spelled : {A : Type 0} → (A → Answer) → Result A BoardError →
 spelled reply (Ok x) = Ok (reply x)
 spelled reply (Err error) = Err error
 
--- The problem is opened, and this best plan adopted, with these orders: two changes, of which neither has a cause to be refused.
+-- The problem is opened, and this best plan adopted, with these orders: two changes,
+-- of which neither has a cause to be refused.
 abbrev pub IsBalance : Present → ProblemData → Plan → List Order → Present → Type 0
 IsBalance old problem plan orders new =
     (refusal old.state Open ≡ None) × (problem ≡ problem_of old.state)
@@ -91,7 +94,8 @@ set_by None = []
 set_by (Some order) = SetTo order.dirs order.to ∷ []
 
 -- what the fields of a state stand for
-abbrev pub present_of : Directories → PinTable → Heats → ℕ → BookData → World → List Operation → List Operation → Option Opened → Option Force → ℕ → Present
+abbrev pub present_of : Directories → PinTable → Heats → ℕ → BookData → World → List Operation → List Operation
+    → Option Opened → Option Force → ℕ → Present
 present_of directories pins heats mask book cluster published pending opened in_force events = record {
   state = record {
     directories = directories;

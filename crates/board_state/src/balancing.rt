@@ -13,7 +13,8 @@ use mds_types::{Order, Plan, Problem};
 use naming::Naming;
 use std::alloc::{AllocError, Global};
 
-/// What a balance did: the problem that was opened, the plan that was adopted, and the plan's orders, to give and to keep.
+/// What a balance did: the problem that was opened, the plan that was adopted,
+/// and the plan's orders, to give and to keep.
 #[derive(Drop)]
 pub struct Balanced {
     /// The problem.
@@ -40,13 +41,14 @@ impl<J: Naming, M: Publisher<J>> BoardState<J, M> {
         None
     }
 
-    /// Opens the problem, solves it and adopts the plan: two events. It answers the problem, the plan and its orders, these
-    /// twice: to give, and to keep.
+    /// Opens the problem, solves it and adopts the plan: two events. It answers the problem, the plan and its orders,
+    /// these twice: to give, and to keep.
     #[tactic(auto, unfolding(crate::specs::State::happens))]
     pub fn balance<S: Solver>(&mut self, alloc: Global, solver: &S) -> Result<Balanced, BoardError>
         ensures ok { IfOk result (λ r. IsBalance self.old r.problem r.plan r.orders self.new) }
         ensures twice { IfOk result (λ r. r.given.items ≡ r.orders) }
-        ensures err { IfErr result (λ e. (balance_refusal self.old.state ≡ Some e) ⊎ ((balance_refusal self.old.state ≡ None) × (e ≡ BoardError.Memory))) }
+        ensures err { IfErr result (λ e. (balance_refusal self.old.state ≡ Some e)
+            ⊎ ((balance_refusal self.old.state ≡ None) × (e ≡ BoardError.Memory))) }
         ensures unchanged { OnErr result (self.new ≡ self.old) }
     {
         if let Some(error) = self.balance_refusal() {

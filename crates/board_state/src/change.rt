@@ -72,7 +72,8 @@ impl Hits {
     }
 }
 
-/// Export orders at a place of their own, so that a reply without them takes little room. To a contract it is the list of them.
+/// Export orders at a place of their own, so that a reply without them takes little
+/// room. To a contract it is the list of them.
 #[derive(Drop)]
 pub struct Orders {
     list: Box<Vec<Order>, Global>,

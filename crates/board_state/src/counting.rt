@@ -1,5 +1,6 @@
 //! Shares of the ledger deposit hits, and requests begin.
-ghost use Rattle.std.specs.Prelude.{◌≡◌, ◌≤◌, ◌+◌, ℕ, List, All, true, false, IsErr, IfErr, IfOk, OnOk, OnErr, fold, replicate};
+ghost use Rattle.std.specs.Prelude.{◌≡◌, ◌≤◌, ◌+◌, ℕ, List, All, true, false, IsErr};
+ghost use Rattle.std.specs.Prelude.{IfErr, IfOk, OnOk, OnErr, fold, replicate};
 ghost use Rattle.heat_ledger.specs.Ledger.{IsClean, begun_of, hits_of, pending_of, weight_of};
 ghost use Rattle.heat_ledger.specs.Rows.{at, counted_rows, raised};
 ghost use Rattle.board_state.specs.State.{refusal, happens, warmed};
@@ -34,7 +35,8 @@ impl<J: Naming, M: Publisher<J>> BoardState<J, M> {
     /// takes time for these directories alone.
     #[tactic(auto, unfolding(crate::specs::State::happens))]
     pub fn deposit(&mut self, alloc: Global, share: &mut Share<J>) -> Result<Hits, BoardError>
-        ensures step { IsStep self.old (Change.Deposit (counted_rows share.old.pending)) (spelled (λ _. Answer.Done) result) self.new }
+        ensures step { IsStep self.old (Change.Deposit (counted_rows share.old.pending))
+            (spelled (λ _. Answer.Done) result) self.new }
         ensures hits { IfOk result (λ hits. hits ≡ counted_rows share.old.pending) }
         ensures share { OnOk result (share.new ≡ record share.old { pending = replicate J.limit 0 }) }
         ensures unchanged { OnErr result (share.new ≡ share.old) }
@@ -96,7 +98,8 @@ impl<J: Naming, M: Publisher<J>> BoardState<J, M> {
     /// begun requests theirs. It changes nothing.
     pub fn audit(&mut self, shares: &mut Vec<Share<J>>)
         requires { weight_of shares.old.items ≡ self.old.shares }
-        ensures hits { (dir : ℕ) → at self.new.state.counted dir + pending_of shares.new.items dir ≡ hits_of shares.new.items dir }
+        ensures hits { (dir : ℕ) → at self.new.state.counted dir + pending_of shares.new.items dir
+            ≡ hits_of shares.new.items dir }
         ensures begun { (dir : ℕ) → at self.new.state.begun dir ≡ begun_of shares.new.items dir }
         ensures same { (self.new ≡ self.old) × (shares.new.items ≡ shares.old.items) }
     {

@@ -2,7 +2,8 @@
 ghost use Rattle.std.specs.Prelude.{◌≡◌, ◌<◌, IfOk, IsSome, IsTrue, None, false};
 ghost use Rattle.mds_types.specs.RankSet.{rank_count};
 ghost use Rattle.mds_types.specs.declared.plan.Plan.{Plan};
-ghost use Rattle.board_state.specs.State.{refusal, happens, authorities, dirs_of, enforced, plan_orders, problem_of, rows_of, usable};
+ghost use Rattle.board_state.specs.State.{refusal, happens, authorities, dirs_of, enforced};
+ghost use Rattle.board_state.specs.State.{plan_orders, problem_of, rows_of, usable};
 ghost use Rattle.board_state.specs.Steps.{IsStep, IsBestForOpen, IsNotCertified, spelled};
 
 use crate::board_error::BoardError;
@@ -47,7 +48,12 @@ impl<J: Naming, M: Publisher<J>> BoardState<J, M> {
     pub(crate) fn problems(&self, alloc: Global) -> Result<(KeptProblem, OpenProblem), AllocError>
         requires { 0 < rank_count (usable self.now.state) }
         ensures kept { IfOk result (λ p. p.0 ≡ problem_of self.now.state) }
-        ensures opening { IfOk result (λ p. p.1 ≡ record { problem = problem_of self.now.state; dirs = dirs_of self.now.state; changed = None }) }
+        ensures opening { IfOk result (λ p. p.1 ≡ record {
+          problem = problem_of self.now.state;
+          dirs = dirs_of
+              self.now.state;
+          changed = None;
+        }) }
     {
         let now = self.authorities(alloc)?;
         let Ok(found) = open(
@@ -76,7 +82,12 @@ impl<J: Naming, M: Publisher<J>> BoardState<J, M> {
     ) -> Result<(Problem, KeptProblem, OpenProblem), AllocError>
         requires { 0 < rank_count (usable self.now.state) }
         ensures given { IfOk result (λ p. (p.0 ≡ problem_of self.now.state) × (p.1 ≡ p.0)) }
-        ensures opening { IfOk result (λ p. p.2 ≡ record { problem = problem_of self.now.state; dirs = dirs_of self.now.state; changed = None }) }
+        ensures opening { IfOk result (λ p. p.2 ≡ record {
+          problem = problem_of self.now.state;
+          dirs = dirs_of
+              self.now.state;
+          changed = None;
+        }) }
     {
         let (kept, opening) = self.problems(alloc)?;
         let given = kept.problem().copied(alloc)?;
@@ -142,17 +153,19 @@ impl<J: Naming, M: Publisher<J>> BoardState<J, M> {
 
     // The orders of a plan for the problem that is open, to give and to keep.
     fn orders_of(&self, alloc: Global, plan: &Plan) -> Result<(Vec<Order>, Orders), AllocError>
-        ensures given { IfOk result (λ os. os.0.items ≡ plan_orders self.now.state (rows_of self.now.state.opened) plan.now) }
+        ensures given { IfOk result (λ os. os.0.items
+            ≡ plan_orders self.now.state (rows_of self.now.state.opened) plan.now) }
         ensures kept { IfOk result (λ os. os.1 ≡ plan_orders self.now.state (rows_of self.now.state.opened) plan.now) }
     {
         self.plan_orders(alloc, self.open_rows(), plan)
     }
 
-    /// Puts a plan in force that is best for the problem that is open. It is answered which directories go where, twice: to
-    /// give, and to keep.
+    /// Puts a plan in force that is best for the problem that is open. It is answered which directories go where,
+    /// twice: to give, and to keep.
     #[tactic(auto, unfolding(crate::specs::State::happens))]
     pub fn adopt(&mut self, alloc: Global, plan: &Plan) -> Result<(Vec<Order>, Orders), BoardError>
-        ensures step { IsStep self.old (Change.Adopt plan.now) (spelled (λ os. Answer.Orders os.0.items) result) self.new }
+        ensures step { IsStep self.old (Change.Adopt plan.now) (spelled (λ os. Answer.Orders os.0.items) result)
+            self.new }
         ensures twice { IfOk result (λ os. os.1 ≡ os.0.items) }
     {
         if let Some(error) = self.adopt_refusal() {

@@ -10,20 +10,21 @@ ghost use Rattle.board_state.specs.State.{start};
 use crate::state::BoardState;
 use authority_map::Publisher;
 use dir_pins::Pins;
-use dirtree::Tree;
+use dirtree::{NameKey, Tree};
 use export_machine::Cluster;
 use heat_decay::Heat;
-use heat_ledger::{Book, Opened, Share};
+use heat_ledger::{Book, NewBook, Share};
 use mds_types::{Dir, Rank, RankSet};
 use naming::Naming;
 use std::alloc::{AllocError, Global};
 use std::marker::PhantomData;
 
-/// What was opened for the board that `J` names: its ledger, and its map, which has no operation yet. Since the writer of
-/// a map can't be dropped, neither can this.
+/// What was opened for the board that `J` names: its ledger, and its map, which has no operation yet. Since the
+/// writer of a map can't be dropped, neither can this.
 pub struct BoardParts<J: Naming, M: Publisher<J>> {
-    book: Opened,
+    book: NewBook,
     map: M,
+    key: NameKey,
     of: PhantomData<J>,
     ghost named: { book ≡ J.ledger },
     ghost unwritten: { (M.published map ≡ []) × (M.pending map ≡ []) },
@@ -31,13 +32,27 @@ pub struct BoardParts<J: Naming, M: Publisher<J>> {
 
 impl<J: Naming, M: Publisher<J>> BoardParts<J, M> {
     /// These parts.
-    pub fn new(book: Opened, map: M) -> BoardParts<J, M>
+    pub fn new(book: NewBook, map: M) -> BoardParts<J, M>
         requires named { book ≡ J.ledger }
         requires unwritten { (M.published map ≡ []) × (M.pending map ≡ []) }
     {
         BoardParts {
             book,
             map,
+            key: NameKey::default(),
+            of: PhantomData,
+        }
+    }
+
+    /// These parts, and a key for the hash by which the board's tree finds names.
+    pub fn keyed(book: NewBook, map: M, key: NameKey) -> BoardParts<J, M>
+        requires named { book ≡ J.ledger }
+        requires unwritten { (M.published map ≡ []) × (M.pending map ≡ []) }
+    {
+        BoardParts {
+            book,
+            map,
+            key,
             of: PhantomData,
         }
     }
@@ -47,6 +62,7 @@ impl<J: Naming, M: Publisher<J>> BoardParts<J, M> {
         let BoardParts {
             book: _book,
             map,
+            key: _key,
             of: _of,
         } = self;
         map.end();
@@ -54,8 +70,8 @@ impl<J: Naming, M: Publisher<J>> BoardParts<J, M> {
 }
 
 impl<J: Naming, M: Publisher<J>> BoardState<J, M> {
-    /// The root alone, at rank 0 of so many active ranks, with room for the directory numbers below `limit`, and a share of
-    /// the ledger for each rank. Where memory is refused, the parts are handed back.
+    /// The root alone, at rank 0 of so many active ranks, with room for the directory numbers below `limit`, and a
+    /// share of the ledger for each rank. Where memory is refused, the parts are handed back.
     pub fn new(
         alloc: Global,
         parts: BoardParts<J, M>,
@@ -67,25 +83,29 @@ impl<J: Naming, M: Publisher<J>> BoardState<J, M> {
         requires high { limit ≤ 65536 }
         requires some { 1 ≤ active }
         requires few { active ≤ 64 }
-        ensures state { IfOk result (λ r. r.0 ≡ record { state = start limit active; is_open = true; shares = active; published = [] }) }
+        ensures state { IfOk result (λ r. r.0 ≡ record {
+          state = start limit active;
+          is_open = true;
+          shares = active;
+          published = [];
+        }) }
         ensures shares { IfOk result (λ r. r.1.items ≡ replicate active (fresh_share limit)) }
     {
-        let BoardParts { book, mut map, of } = parts;
+        let BoardParts {
+            book,
+            mut map,
+            key,
+            of: _of,
+        } = parts;
         let (Ok(mut root), Ok(tables)) = (
             room_for_root::<J, M>(alloc, &mut map),
-            Tables::new(alloc, limit, active),
+            Tables::new(alloc, limit, active, key),
         ) else {
-            return Err(BoardParts { book, map, of });
+            return Err(BoardParts::keyed(book, map, key));
         };
         let (book, shares) = match Book::open(alloc, book, limit, active) {
             Ok(opened) => opened,
-            Err(failed) => {
-                return Err(BoardParts {
-                    book: failed.value,
-                    map,
-                    of,
-                });
-            }
+            Err(failed) => return Err(BoardParts::keyed(failed.value, map, key)),
         };
         root.push_reserved(Dir::ROOT);
         map.set(root, Rank::default());
@@ -121,7 +141,7 @@ struct Tables {
 }
 
 impl Tables {
-    fn new(alloc: Global, limit: u32, active: u8) -> Result<Tables, AllocError>
+    fn new(alloc: Global, limit: u32, active: u8, key: NameKey) -> Result<Tables, AllocError>
         requires low { 1 ≤ limit }
         requires high { limit ≤ 65536 }
         requires some { 1 ≤ active }
@@ -132,7 +152,7 @@ impl Tables {
         ensures cluster { IfOk result (λ t. t.cluster.world ≡ first_world limit active) }
     {
         Ok(Tables {
-            tree: Tree::new(alloc, limit)?,
+            tree: Tree::keyed(alloc, limit, key)?,
             pins: Pins::new(alloc, limit, active)?,
             heat: Heat::new(alloc, limit)?,
             cluster: Cluster::new(alloc, limit, active)?,

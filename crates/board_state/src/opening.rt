@@ -4,7 +4,8 @@ use crate::change::KeptProblem;
 use mds_types::{Dir, Problem};
 use std::marker::Model;
 
-/// The problem that is open, with the directories of its rows, and the first event since that changed what it was made of.
+/// The problem that is open, with the directories of its rows, and the first event
+/// since that changed what it was made of.
 #[derive(Drop)]
 pub struct OpenProblem {
     pub(crate) problem: KeptProblem,

@@ -31,8 +31,8 @@ impl<J: Naming, M: Publisher<J>> BoardState<J, M> {
         orders(alloc, &self.tree, &now, &target)
     }
 
-    // The orders by which directories come to the ranks that a plan gives them, twice: to give and to keep. `dirs` are the
-    // directories of the plan's rows.
+    // The orders by which directories come to the ranks that a plan gives them, twice: to give and to keep. `dirs`
+    // are the directories of the plan's rows.
     pub(crate) fn plan_orders(
         &self,
         alloc: Global,

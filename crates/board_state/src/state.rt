@@ -5,7 +5,7 @@ ghost use Rattle.board_state.specs.Steps.{refused_for};
 
 use crate::board_error::BoardError;
 use crate::opening::{InForce, OpenProblem};
-use authority_map::{Publisher, Told};
+use authority_map::{Published, Publisher};
 use dir_pins::Pins;
 use dirtree::Tree;
 use export_machine::Cluster;
@@ -42,9 +42,11 @@ impl<J: Naming, M: Publisher<J>> Model for BoardState<J, M> {
 
     ghost Value = { Present };
 
-    ghost view = { λ b. present_of b.tree b.pins b.heat b.mask b.book b.cluster.world (M.published b.map) (M.pending b.map) b.opened b.in_force b.events };
+    ghost view = { λ b. present_of b.tree b.pins b.heat b.mask b.book b.cluster.world (M.published b.map)
+        (M.pending b.map) b.opened b.in_force b.events };
 
-    ghost invariant = { λ b. IsFitting (present_of b.tree b.pins b.heat b.mask b.book b.cluster.world (M.published b.map) (M.pending b.map) b.opened b.in_force b.events).state × (b.tree.limit ≡ J.limit) };
+    ghost invariant = { λ b. IsFitting (present_of b.tree b.pins b.heat b.mask b.book b.cluster.world
+        (M.published b.map) (M.pending b.map) b.opened b.in_force b.events).state × (b.tree.limit ≡ J.limit) };
 }
 
 /// This event changed what the problem was made of.
@@ -139,13 +141,14 @@ impl<J: Naming, M: Publisher<J>> BoardState<J, M> {
 
     /// Publishes the map, and says whether memory sufficed. It is no event.
     pub fn publish(&mut self) -> bool
-        ensures { MatchBool result (self.new ≡ record self.old { published = self.old.state.map }) (self.new ≡ self.old) }
+        ensures { MatchBool result (self.new ≡ record self.old { published = self.old.state.map })
+            (self.new ≡ self.old) }
     {
         self.map.publish().is_ok()
     }
 
     /// A token of what is published, for the map's readers.
-    pub fn tell(&self) -> Told<J>
+    pub fn tell(&self) -> Published<J>
         ensures { result ≡ self.now.published }
     {
         self.map.tell()

@@ -1,5 +1,6 @@
 -- Bytes as characters of their own, and back.
-use Rattle.std.specs.Prelude.{◌==◌, ◌||◌, ◌+◌, ◌-◌, ◌*◌, ◌/◌, ◌%◌, ℕ, Bool, List, [], ◌∷◌, Option, Some, None, nat_lt, if◌then◌else◌}
+use Rattle.std.specs.Prelude.{◌==◌, ◌||◌, ◌+◌, ◌-◌, ◌*◌, ◌/◌, ◌%◌, ℕ, Bool, List, []}
+use Rattle.std.specs.Prelude.{◌∷◌, Option, Some, None, nat_lt, if◌then◌else◌}
 use Rattle.std.specs.List.{flat_map}
 
 -- a byte from 0x80 as the two bytes of the character of that number
@@ -17,5 +18,6 @@ is_lead byte = (byte == 194) || (byte == 195)
 abbrev pub narrow_behind : Option ℕ → List ℕ → List ℕ
 narrow_behind None [] = []
 narrow_behind (Some lead) [] = []
-narrow_behind None (byte ∷ text) = if is_lead byte then narrow_behind (Some byte) text else byte ∷ narrow_behind None text
+narrow_behind None (byte ∷ text) =
+    if is_lead byte then narrow_behind (Some byte) text else byte ∷ narrow_behind None text
 narrow_behind (Some lead) (byte ∷ text) = (lead % 4 * 64 + byte % 64) ∷ narrow_behind None text

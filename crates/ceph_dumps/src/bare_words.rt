@@ -47,7 +47,8 @@ fn zero_over(word: &mut [u8])
     }
 }
 
-/// Whether `inf` or `nan` stands anywhere, in strings or not. All places are looked at, which a processor does for many at once.
+/// Whether `inf` or `nan` stands anywhere, in strings or not. All places are looked
+/// at, which a processor does for many at once.
 fn may_have_words(text: &[u8]) -> bool {
     let (second, third) = (text.get(1..).unwrap_or(&[]), text.get(2..).unwrap_or(&[]));
     let mut found = false;

@@ -1,7 +1,8 @@
 //! Entries and export pins of directories, as `getfattr` lists them.
 //!
-//! A directory has a line `# file: NAME`, a line `ATTRIBUTE="VALUE"` and a blank one. In a name `\134`, `\012` and `\015` are a
-//! backslash, a newline and a return, and all else is raw. The root is `.`, and other names have no slash in front.
+//! A directory has a line `# file: NAME`, a line `ATTRIBUTE="VALUE"` and a blank one. In a name `\134`, `\012` and
+//! `\015` are a backslash, a newline and a return, and all else is raw. The root is
+//! `.`, and other names have no slash in front.
 
 use crate::dump_error::DumpError;
 use std::alloc::{AllocError, Global};

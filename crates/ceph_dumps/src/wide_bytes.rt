@@ -67,7 +67,8 @@ fn joined(lead: u8, byte: u8) -> u8
 
 /// The bytes that were widened to this text.
 pub fn narrowed(alloc: Global, text: &[u8]) -> Result<Vec<u8>, AllocError>
-    ensures back { IfOk result (λ found. (bytes : List ℕ) → All (λ byte. byte < 256) bytes → text.now ≡ wide bytes → found.items ≡ bytes) }
+    ensures back { IfOk result (λ found. (bytes : List ℕ) → All (λ byte. byte < 256) bytes → text.now ≡ wide bytes
+        → found.items ≡ bytes) }
 {
     if greatest(text) < 128 {
         return Vec::from_slice(alloc, text);

@@ -17,7 +17,8 @@ pub fn part_heats(
     requires size { length part.now ≡ length rows.now }
     requires below { (i : ℕ) → i < length rows.now → slice_index part.now i < count }
     ensures size { IfOk result (λ heats. length heats.items ≡ count) }
-    ensures heats { IfOk result (λ heats. (p : ℕ) → p < count → slice_index heats.items p ≡ min (2 ^ 64 - 1) (part_heat rows.now (slice_index part.now) p)) }
+    ensures heats { IfOk result (λ heats. (p : ℕ) → p < count
+        → slice_index heats.items p ≡ min (2 ^ 64 - 1) (part_heat rows.now (slice_index part.now) p)) }
 {
     let mut heats = vec![in alloc; 0u64; count as usize]?;
     for (i, row) in rows.iter().enumerate() {
@@ -141,7 +142,8 @@ fn choose_within(
     requires zero { has_rank ranks 0 ≡ true }
     ensures size { IfOk result (λ choice. length choice.rank.items ≡ length heats.now) }
     ensures top { IfOk result (λ choice. slice_index choice.rank.items top ≡ 0) }
-    ensures usable { IfOk result (λ choice. (p : ℕ) → p < length heats.now → has_rank ranks (slice_index choice.rank.items p) ≡ true) }
+    ensures usable { IfOk result (λ choice. (p : ℕ) → p < length heats.now
+        → has_rank ranks (slice_index choice.rank.items p) ≡ true) }
 {
     let mut rank = vec![in alloc; Rank::default(); heats.len()]?;
     let mut loads = pinned.to_vec(alloc)?;
@@ -180,7 +182,8 @@ pub fn choose(
     requires zero { has_rank ranks 0 ≡ true }
     ensures size { IfOk result (λ rank. length rank.items ≡ length heats.now) }
     ensures top { IfOk result (λ rank. slice_index rank.items top ≡ 0) }
-    ensures usable { IfOk result (λ rank. (p : ℕ) → p < length heats.now → has_rank ranks (slice_index rank.items p) ≡ true) }
+    ensures usable { IfOk result (λ rank. (p : ℕ) → p < length heats.now
+        → has_rank ranks (slice_index rank.items p) ≡ true) }
 {
     let plain = choose_within(alloc, heats, cells, top, pinned, ranks, 0)?;
     let more = (plain.greatest / 100).saturating_mul(u64::from(keep));

@@ -16,7 +16,8 @@ no_pins = record { foreign = None; earlier = None }
 abbrev pub own_at : List OwnPins → ℕ → OwnPins
 own_at own i = slice_index_or own i no_pins
 
--- a row is to be at the rank of its part, its own pins are what they are, and only the root is known to stay where it is
+-- a row is to be at the rank of its part, its own pins are what they are, and
+-- only the root is known to stay where it is
 abbrev pub asked_row : List ProblemRow → List ℕ → List ℕ → List OwnPins → ℕ → PinRow
 asked_row rows part rank own i = record {
   parent = parent_at rows i;
@@ -27,7 +28,8 @@ asked_row rows part rank own i = record {
 }
 
 -- that is asked of the first n rows
-pub record ArePinRows (rows : List ProblemRow) (part rank : List ℕ) (own : List OwnPins) (n : ℕ) (found : List PinRow) : Type 0 where
+pub record ArePinRows (rows : List ProblemRow) (part rank : List ℕ) (own : List OwnPins) (n : ℕ)
+    (found : List PinRow) : Type 0 where
   pub size : length found ≡ n
   pub asked : (i : ℕ) → i < n → row_at found i ≡ asked_row rows part rank own i
 

@@ -1,5 +1,6 @@
 -- Which of several plans is taken.
-use Rattle.std.specs.Prelude.{◌≡◌, ◌<◌, ◌≤◌, ◌+◌, ◌/◌, ◌%◌, ◌⊎◌, ℕ, Bool, true, false, List, Option, Some, None, length, max, slice_get, if◌then◌else◌, ◌==◌}
+use Rattle.std.specs.Prelude.{◌≡◌, ◌<◌, ◌≤◌, ◌+◌, ◌/◌, ◌%◌, ◌⊎◌, ℕ, Bool, true, false, List, Option}
+use Rattle.std.specs.Prelude.{Some, None, length, max, slice_get, if◌then◌else◌, ◌==◌}
 use Rattle.std.specs.Option.{option_map_or}
 use Rattle.mds_types.specs.declared.problem.ProblemRow.{ProblemRow}
 use Rattle.mds_types.specs.Problem.{heat_at}
@@ -32,24 +33,27 @@ pub record IsChosen (plans : List Planned) (k : ℕ) : Type 0 where
 abbrev pub fair_share : ℕ → ℕ → ℕ
 fair_share heat parts = max (heat / parts) 1
 
--- how finely rows are divided for so many parts, where there are so many ranks: once one row alone was the hottest part,
--- only multiples are tried, with rows capped at a fair share
+-- how finely rows are divided for so many parts, where there are so many ranks: once one row alone was the hottest
+-- part, only multiples are tried, with rows capped at a fair share
 abbrev pub size_of : ℕ → ℕ → ℕ → Bool → Option Size
 size_of heat ranks parts false = Some (record { parts = parts; cap = no_cap })
-size_of heat ranks parts true = if parts % ranks == 0 then Some (record { parts = parts; cap = fair_share heat parts }) else None
+size_of heat ranks parts true =
+    if parts % ranks == 0 then Some (record { parts = parts; cap = fair_share heat parts }) else None
 
 abbrev pub total_of_rows : List ProblemRow → ℕ
 total_of_rows rows = sum_below (length rows) (heat_at rows)
 
 -- one of the plans is of so many parts, with rows capped there
-pub record HasPlanOf (ranks : ℕ) (pinned : List ℕ) (rows : List ProblemRow) (plans : List Planned) (parts cap : ℕ) : Type 0 where
+pub record HasPlanOf (ranks : ℕ) (pinned : List ℕ) (rows : List ProblemRow) (plans : List Planned)
+    (parts cap : ℕ) : Type 0 where
   pub k : ℕ
   pub plan : Planned
   pub there : slice_get plans k ≡ Some plan
   pub of : IsPlanOf ranks pinned rows parts cap plan
 
 -- one of the plans is of fewer parts, and one row alone is its hottest part: more parts change nothing
-pub record HasHeavyPlan (ranks : ℕ) (pinned : List ℕ) (rows : List ProblemRow) (plans : List Planned) (parts : ℕ) : Type 0 where
+pub record HasHeavyPlan (ranks : ℕ) (pinned : List ℕ) (rows : List ProblemRow) (plans : List Planned)
+    (parts : ℕ) : Type 0 where
   pub fewer : ℕ
   pub less : fewer < parts
   pub k : ℕ
@@ -58,9 +62,10 @@ pub record HasHeavyPlan (ranks : ℕ) (pinned : List ℕ) (rows : List ProblemRo
   pub of : IsPlanOf ranks pinned rows fewer no_cap plan
   pub heavy : plan.is_heavy ≡ true
 
--- every number of parts below n, from that of the ranks on, is weighed, unless one row alone was the hottest part before.
--- Where it was, the multiples of the number of ranks are weighed with rows capped at a fair share
-pub record AreWeighed (ranks : ℕ) (pinned : List ℕ) (rows : List ProblemRow) (plans : List Planned) (n : ℕ) : Type 0 where
+-- every number of parts below n, from that of the ranks on, is weighed, unless one row alone was the hottest part
+-- before. Where it was, the multiples of the number of ranks are weighed with rows capped at a fair share
+pub record AreWeighed (ranks : ℕ) (pinned : List ℕ) (rows : List ProblemRow) (plans : List Planned)
+    (n : ℕ) : Type 0 where
   pub all : (k : ℕ) (plan : Planned) → slice_get plans k ≡ Some plan → IsPlan ranks pinned rows plan
   pub each : (parts : ℕ) → rank_count ranks ≤ parts → parts < n
       → HasPlanOf ranks pinned rows plans parts no_cap ⊎ HasHeavyPlan ranks pinned rows plans parts

@@ -11,7 +11,8 @@ use Rattle.ceph_plan.specs.Choice.{IsAsked}
 use Rattle.ceph_plan.specs.Plans.{IsPlan}
 
 -- all that `propose` promises, in one word
-pub record IsProposal (ranks : ℕ) (pinned : List ℕ) (rows : List ProblemRow) (parts : Parts) (own : List OwnPins) (found : Proposal) : Type 0 where
+pub record IsProposal (ranks : ℕ) (pinned : List ℕ) (rows : List ProblemRow) (parts : Parts) (own : List OwnPins)
+    (found : Proposal) : Type 0 where
   pub plan : IsPlan ranks pinned rows found.plan
   pub asked : IsAsked ranks pinned rows parts found.plan
   pub targets : ArePinRows rows found.plan.part.items found.plan.packing.rank.items own (length rows) found.rows.items

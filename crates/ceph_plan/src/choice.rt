@@ -1,5 +1,6 @@
 //! How many parts: each number from that of the ranks to 64 is tried.
-ghost use Rattle.std.specs.Prelude.{◌≡◌, ◌<◌, ◌≤◌, ◌+◌, ◌/◌, ◌^◌, ◌↔◌, ℕ, All, length, true, false, IfOk, IsErrOf, IsTrue};
+ghost use Rattle.std.specs.Prelude.{◌≡◌, ◌<◌, ◌≤◌, ◌+◌, ◌/◌, ◌^◌, ◌↔◌, ℕ, All, length};
+ghost use Rattle.std.specs.Prelude.{true, false, IfOk, IsErrOf, IsTrue};
 ghost use Rattle.mds_types.specs.Problem.{IsForest};
 ghost use Rattle.mds_types.specs.RankSet.{has_rank};
 ghost use Rattle.ceph_plan.specs.Choice.{AreWeighed, IsAsked, IsBest, IsChosen, greatest_at, moved_at, size_of};
@@ -73,8 +74,8 @@ fn chosen(plans: &[Planned]) -> usize
 
 /// How finely rows of this heat are divided for so many parts, if they are, where there are so many ranks.
 ///
-/// Once one row alone was the hottest part, more parts change nothing: rows are then capped at a fair share, and only each number
-/// that is a multiple of that of the ranks is tried.
+/// Once one row alone was the hottest part, more parts change nothing: rows are then capped at a fair share, and only
+/// each number that is a multiple of that of the ranks is tried.
 fn size_for(parts: u8, ranks: u8, heat: u64, is_heavy: bool) -> Option<Size>
     requires ranks { 0 < ranks }
     requires parts { 0 < parts }
@@ -144,8 +145,9 @@ fn best_plan(
 
 /// Which rank of the set each row is to be at, in connected parts, several a rank.
 ///
-/// `pinned[r]` is the heat that is held at rank r, and `keep` the percent by which a load may pass the greatest so that a part
-/// stays where it is. The root's part goes to rank 0, as Ceph never moves the root: without rank 0 there is no plan.
+/// `pinned[r]` is the heat that is held at rank r, and `keep` the percent by which a load may pass the greatest so
+/// that a part stays where it is. The root's part goes to rank 0, as Ceph never moves
+/// the root: without rank 0 there is no plan.
 pub fn choose_plan(
     alloc: Global,
     rows: &[ProblemRow],

@@ -1,5 +1,5 @@
-//! Which rank each directory of a live CephFS is to be at: the directories are divided into connected parts, several a rank, and
-//! the parts are packed on the ranks.
+//! Which rank each directory of a live CephFS is to be at: the directories are divided into connected parts, several
+//! a rank, and the parts are packed on the ranks.
 #![tactic(auto)]
 
 pub mod choice;

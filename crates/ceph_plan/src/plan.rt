@@ -85,14 +85,14 @@ fn has_row_of(rows: &[ProblemRow], heat: u64) -> bool
     false
 }
 
-/// Divides the rows into at most so many parts with the least greatest heat, where no row counts as hotter than `cap`, and packs
-/// the parts on the ranks by the heat that they have.
+/// Divides the rows into at most so many parts with the least greatest heat, where no row counts as hotter than
+/// `cap`, and packs the parts on the ranks by the heat that they have.
 ///
-/// Where one row alone is the hottest part, no division is cooler, and the rest isn't divided any further. A cap below that row's
-/// heat lets the rest be divided as finely as the number of parts allows.
+/// Where one row alone is the hottest part, no division is cooler, and the rest isn't divided any further. A cap
+/// below that row's heat lets the rest be divided as finely as the number of parts allows.
 ///
-/// `pinned[r]` is the heat that is held at rank r, and `keep` the percent by which a load may pass the greatest so that a part
-/// stays where it is.
+/// `pinned[r]` is the heat that is held at rank r, and `keep` the percent by which a load may pass the greatest so
+/// that a part stays where it is.
 pub fn plan_parts(
     alloc: Global,
     rows: &[ProblemRow],

@@ -34,7 +34,8 @@ pub struct Proposal {
     pub changes: Vec<Change>,
 }
 
-/// What is asked of each row: to be at the rank of its part, wherever it is now. Only the root is known to stay where it is.
+/// What is asked of each row: to be at the rank of its part, wherever it is now.
+/// Only the root is known to stay where it is.
 fn pin_rows(
     alloc: Global,
     rows: &[ProblemRow],
@@ -61,8 +62,8 @@ fn pin_rows(
     Ok(found)
 }
 
-/// Plans which rank each row is to be at, as `choose_plan` does, and gives the changes of pins that bring it there, wherever it
-/// is now. `own[i]` are row i's own pins.
+/// Plans which rank each row is to be at, as `choose_plan` does, and gives the changes of pins that bring it there,
+/// wherever it is now. `own[i]` are row i's own pins.
 pub fn propose(
     alloc: Global,
     rows: &[ProblemRow],
@@ -77,9 +78,11 @@ pub fn propose(
     // the plan is the one that is chosen of all numbers of parts, or of the number that is asked for
     ensures asked { IfOk result (λ found. IsAsked ranks pinned.now rows.now parts found.plan) }
     // what is asked of the pins is what was planned
-    ensures targets { IfOk result (λ found. ArePinRows rows.now found.plan.part.items found.plan.packing.rank.items own.now (length rows.now) found.rows.items) }
+    ensures targets { IfOk result (λ found. ArePinRows rows.now found.plan.part.items found.plan.packing.rank.items
+        own.now (length rows.now) found.rows.items) }
     // once all changes are made, each row that no foreign pin holds is there
-    ensures realized { IfOk result (λ found. IsRealized found.rows.items (applied (before_pin found.rows.items) found.changes.items)) }
+    ensures realized { IfOk result (λ found. IsRealized found.rows.items
+        (applied (before_pin found.rows.items) found.changes.items)) }
     // once some are made, the nearest pin of each row is where it was, or where it is in the end
     ensures once { IfOk result (λ found. MovesOnce found.rows.items found.changes.items) }
     // each change gives its row another pin than it had

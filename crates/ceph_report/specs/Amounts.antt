@@ -20,21 +20,26 @@ goal_at holds rows i = goal_of (held_at holds i) (target_at rows i)
 
 -- of the first n directories, the heat of those that are at rank r and aren't spread
 abbrev pub heat_now : List Directory → ℕ → ℕ → ℕ
-heat_now directories r n = sum_below n (λ i. if (now_at directories i == r) && not (is_spread_at directories i) then heat_at directories i else 0)
+heat_now directories r n =
+    sum_below n (λ i. if (now_at directories i == r) && not (is_spread_at directories i) then heat_at directories i
+    else 0)
 
 -- the inodes of what goes to another rank than it is at, which only what nothing holds does
 abbrev pub going_of : ℕ → Held → ℕ → ℕ → ℕ
 going_of now hold goal inodes = if is_free hold && not (now == goal) then inodes else 0
 
 abbrev pub going_at : List Directory → List Held → List ℕ → ℕ → ℕ
-going_at directories holds goals i = going_of (now_at directories i) (held_at holds i) (slice_index goals i) (inodes_at directories i)
+going_at directories holds goals i =
+    going_of (now_at directories i) (held_at holds i) (slice_index goals i) (inodes_at directories i)
 
 -- of the first n directories, the inodes that go to rank r, and those that go from rank r
 abbrev pub inodes_to : List Directory → List Held → List ℕ → ℕ → ℕ → ℕ
-inodes_to directories holds goals r n = sum_below n (λ i. if slice_index goals i == r then going_at directories holds goals i else 0)
+inodes_to directories holds goals r n =
+    sum_below n (λ i. if slice_index goals i == r then going_at directories holds goals i else 0)
 
 abbrev pub inodes_from : List Directory → List Held → List ℕ → ℕ → ℕ → ℕ
-inodes_from directories holds goals r n = sum_below n (λ i. if now_at directories i == r then going_at directories holds goals i else 0)
+inodes_from directories holds goals r n =
+    sum_below n (λ i. if now_at directories i == r then going_at directories holds goals i else 0)
 
 -- a number for each of 64 ranks, as far as 64 bits can count
 pub record AreAmounts (amounts : List ℕ) (of : ℕ → ℕ) : Type 0 where

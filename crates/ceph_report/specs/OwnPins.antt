@@ -16,4 +16,5 @@ foreign_at directories i =
 -- the pins of the first n directories, and no more
 pub record AreOwnPins (directories : List Directory) (n : ℕ) (own : List OwnPins) : Type 0 where
   pub size : length own ≡ n
-  pub pins : (i : ℕ) → i < n → own_at own i ≡ record { foreign = foreign_at directories i; earlier = earlier_at directories i }
+  pub pins : (i : ℕ) → i < n → own_at own i
+      ≡ record { foreign = foreign_at directories i; earlier = earlier_at directories i }

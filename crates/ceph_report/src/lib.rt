@@ -1,5 +1,5 @@
-//! What a plan for a live CephFS is shown as: a report for people, a picture, a shell script that sets the pins, and the same
-//! directories as a script of `mdbal`.
+//! What a plan for a live CephFS is shown as: a report for people, a picture, a shell script that sets the pins, and
+//! the same directories as a script of `mdbal`.
 #![tactic(auto)]
 
 pub mod foreign;

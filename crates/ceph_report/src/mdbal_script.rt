@@ -1,6 +1,7 @@
 //! The same directories as a script of `mdbal`.
 //!
-//! Names hold bytes from 0x21 to 0x7e there: others, and `%`, are written as `%` and two hexadecimal digits. Heat is in hundredths.
+//! Names hold bytes from 0x21 to 0x7e there: others, and `%`, are written as `%` and
+//! two hexadecimal digits. Heat is in hundredths.
 
 use ceph_snapshot::{Directory, Held};
 use std::alloc::{AllocError, Global};

@@ -36,7 +36,8 @@ fn goal(hold: Held, target: Rank) -> Rank
 pub fn goals_of(alloc: Global, holds: &[Held], rows: &[PinRow]) -> Result<Vec<Rank>, AllocError>
     requires { length holds.now ≡ length rows.now }
     ensures size { IfOk result (λ goals. length goals.items ≡ length rows.now) }
-    ensures goals { IfOk result (λ goals. (i : ℕ) → i < length rows.now → slice_index goals.items i ≡ goal_at holds.now rows.now i) }
+    ensures goals { IfOk result (λ goals. (i : ℕ) → i < length rows.now
+        → slice_index goals.items i ≡ goal_at holds.now rows.now i) }
 {
     let mut goals = Vec::with_capacity(alloc, rows.len())?;
     for (at, row) in rows.iter().enumerate() {
@@ -73,7 +74,8 @@ fn heats_now(
     spread: &[u64],
 ) -> Result<Vec<u64>, AllocError>
     requires { length spread.now ≡ 64 }
-    ensures { IfOk result (λ heats. AreAmounts heats.items (λ r. slice_index spread.now r + heat_now directories.now r (length directories.now))) }
+    ensures { IfOk result (λ heats. AreAmounts heats.items
+        (λ r. slice_index spread.now r + heat_now directories.now r (length directories.now))) }
 {
     let mut heats = spread.to_vec(alloc)?;
     for (at, directory) in directories.iter().enumerate() {
@@ -94,7 +96,8 @@ fn inodes_into(
 ) -> Result<Vec<u64>, AllocError>
     requires holds { length holds.now ≡ length directories.now }
     requires goals { length goals.now ≡ length directories.now }
-    ensures { IfOk result (λ inodes. AreAmounts inodes.items (λ r. inodes_to directories.now holds.now goals.now r (length directories.now))) }
+    ensures { IfOk result (λ inodes. AreAmounts inodes.items
+        (λ r. inodes_to directories.now holds.now goals.now r (length directories.now))) }
 {
     let mut inodes = vec![in alloc; 0u64; usize::from(RANK_LIMIT)]?;
     for (at, directory) in directories.iter().enumerate() {
@@ -114,7 +117,8 @@ fn inodes_away(
 ) -> Result<Vec<u64>, AllocError>
     requires holds { length holds.now ≡ length directories.now }
     requires goals { length goals.now ≡ length directories.now }
-    ensures { IfOk result (λ inodes. AreAmounts inodes.items (λ r. inodes_from directories.now holds.now goals.now r (length directories.now))) }
+    ensures { IfOk result (λ inodes. AreAmounts inodes.items
+        (λ r. inodes_from directories.now holds.now goals.now r (length directories.now))) }
 {
     let mut inodes = vec![in alloc; 0u64; usize::from(RANK_LIMIT)]?;
     for (at, directory) in directories.iter().enumerate() {
@@ -125,7 +129,8 @@ fn inodes_away(
     Ok(inodes)
 }
 
-/// The numbers of each of 64 ranks. `goals[i]` is the rank that directory i is to be at, and `spread` the heat of what is spread.
+/// The numbers of each of 64 ranks. `goals[i]` is the rank that directory i is to
+/// be at, and `spread` the heat of what is spread.
 pub fn sums_of(
     alloc: Global,
     directories: &[Directory],
@@ -136,9 +141,12 @@ pub fn sums_of(
     requires holds { length holds.now ≡ length directories.now }
     requires goals { length goals.now ≡ length directories.now }
     requires spread { length spread.now ≡ 64 }
-    ensures now { IfOk result (λ sums. AreAmounts sums.now.items (λ r. slice_index spread.now r + heat_now directories.now r (length directories.now))) }
-    ensures into { IfOk result (λ sums. AreAmounts sums.into.items (λ r. inodes_to directories.now holds.now goals.now r (length directories.now))) }
-    ensures out { IfOk result (λ sums. AreAmounts sums.out.items (λ r. inodes_from directories.now holds.now goals.now r (length directories.now))) }
+    ensures now { IfOk result (λ sums. AreAmounts sums.now.items
+        (λ r. slice_index spread.now r + heat_now directories.now r (length directories.now))) }
+    ensures into { IfOk result (λ sums. AreAmounts sums.into.items
+        (λ r. inodes_to directories.now holds.now goals.now r (length directories.now))) }
+    ensures out { IfOk result (λ sums. AreAmounts sums.out.items
+        (λ r. inodes_from directories.now holds.now goals.now r (length directories.now))) }
 {
     let now = heats_now(alloc, directories, spread)?;
     let into = inodes_into(alloc, directories, holds, goals)?;
@@ -208,8 +216,8 @@ fn brought(
     Ok(brought)
 }
 
-/// What each pin of this program brings to its rank once the changes are made, the most inodes first. Pins that bring nothing
-/// are left out.
+/// What each pin of this program brings to its rank once the changes are made, the most inodes first. Pins that bring
+/// nothing are left out.
 pub fn moves_of(
     alloc: Global,
     directories: &[Directory],

@@ -18,8 +18,8 @@ fn push_name(list: &mut Vec<u8>, path: &[u8]) -> Result<(), AllocError> {
     Ok(())
 }
 
-/// The list of the pins of this program once the changes are made: those that stand already and those that are set, deepest
-/// first.
+/// The list of the pins of this program once the changes are made: those that stand
+/// already and those that are set, deepest first.
 pub fn make_own_list(
     alloc: Global,
     directories: &[Directory],

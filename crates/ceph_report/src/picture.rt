@@ -1,6 +1,6 @@
-//! A picture of the directories: a box a directory under its parent's, as wide as the heat at and below it, in the colour of the
-//! rank that it is to be at. Where the rank differs from the parent's the edge is thick. The children of a directory that are too
-//! cold for boxes of their own have a grey one together, behind the others.
+//! A picture of the directories: a box a directory under its parent's, as wide as the heat at and below it, in the
+//! colour of the rank that it is to be at. Where the rank differs from the parent's the edge is thick. The children
+//! of a directory that are too cold for boxes of their own have a grey one together, behind the others.
 
 use crate::shown::push_path;
 use ceph_snapshot::Directory;

@@ -52,7 +52,8 @@ fn changed_rows(alloc: Global, changes: &[Change], count: usize) -> Result<Vec<b
     Ok(marks)
 }
 
-/// How many pins of an earlier plan stand as they are while the changes are made: rows that have one, but for those that change.
+/// How many pins of an earlier plan stand as they are while the changes are made:
+/// rows that have one, but for those that change.
 pub fn standing_pins(
     alloc: Global,
     rows: &[PinRow],

@@ -1,5 +1,6 @@
 -- What folding leaves: the directories that are kept, each with what the folded ones below it had.
-use Rattle.std.specs.Prelude.{◌≡◌, ◌==◌, ◌<◌, ℕ, zero, suc, Bool, true, false, not, List, length, slice_get, slice_index, slice_index_or, Option, Some, None, if◌then◌else◌}
+use Rattle.std.specs.Prelude.{◌≡◌, ◌==◌, ◌<◌, ℕ, zero, suc, Bool, true, false, not, List, length, slice_get}
+use Rattle.std.specs.Prelude.{slice_index, slice_index_or, Option, Some, None, if◌then◌else◌}
 use Rattle.std.specs.List.{sum_by}
 use Rattle.std.specs.Option.{option_map}
 use Rattle.mds_types.specs.Sums.{count_below, sum_below}
@@ -50,13 +51,14 @@ folded directories gone home i =
     (brought (inodes_at directories) home (length directories) i))
     (slice_get directories i)
 
--- what is left where these are gone: each kept directory stands at its new place, and what the others had is at the nearest
--- above them that is kept
+-- what is left where these are gone: each kept directory stands at its new place, and what the others had is at the
+-- nearest above them that is kept
 pub record HasLeft (directories left : List Directory) (gone : ℕ → Bool) (home : ℕ → ℕ) : Type 0 where
   pub nearest : (i : ℕ) → i < length directories → IsHome directories gone i (home i)
   pub inside : (i : ℕ) → i < length directories → home i < length directories
   pub size : length left ≡ kept_below gone (length directories)
-  pub kept : (i : ℕ) → i < length directories → gone i ≡ false → slice_get left (kept_below gone i) ≡ folded directories gone home i
+  pub kept : (i : ℕ) → i < length directories → gone i ≡ false
+      → slice_get left (kept_below gone i) ≡ folded directories gone home i
 
 -- only plain directories are gone, each with all below it
 pub record AreGone (directories : List Directory) (gone : ℕ → Bool) : Type 0 where
@@ -64,7 +66,8 @@ pub record AreGone (directories : List Directory) (gone : ℕ → Bool) : Type 0
   pub below : (i : ℕ) → 0 < i → i < length directories → gone (parent_at directories i) ≡ true → gone i ≡ true
 
 abbrev pub IsFolded : List Directory → List Directory → Type 0
-IsFolded directories left = (gone : ℕ → Bool) × (home : ℕ → ℕ) × AreGone directories gone × HasLeft directories left gone home
+IsFolded directories left =
+    (gone : ℕ → Bool) × (home : ℕ → ℕ) × AreGone directories gone × HasLeft directories left gone home
 
 -- directory i with another parent and these amounts
 abbrev pub put_together : List Directory → List ℕ → List ℕ → List ℕ → ℕ → Option Directory

@@ -1,5 +1,6 @@
 -- What holds a directory, and what is held at each rank.
-use Rattle.std.specs.Prelude.{◌≡◌, ◌==◌, ◌&&◌, ◌||◌, ◌<◌, ◌-◌, ◌^◌, ℕ, zero, suc, Bool, true, false, not, is_some, List, length, slice_get, slice_index_or, Option, Some, None, if◌then◌else◌}
+use Rattle.std.specs.Prelude.{◌≡◌, ◌==◌, ◌&&◌, ◌||◌, ◌<◌, ◌-◌, ◌^◌, ℕ, zero, suc, Bool, true, false, not, is_some}
+use Rattle.std.specs.Prelude.{List, length, slice_get, slice_index_or, Option, Some, None, if◌then◌else◌}
 use Rattle.std.specs.Option.{option_map_or}
 use Rattle.mds_types.specs.Sums.{sum_below}
 use Rattle.ceph_snapshot.specs.declared.directory.Directory.{Directory}
@@ -52,7 +53,8 @@ pub record IsHolder (directories : List Directory) (i holder : ℕ) : Type 0 whe
 
 -- a pin there holds directory i at the pin's rank, and what is spread is held where it lies
 abbrev pub held_by : List Directory → ℕ → ℕ → Held
-held_by directories i holder = option_map_or (λ (rank : ℕ). Pinned rank) (pin_at directories holder) (Spread (now_at directories i))
+held_by directories i holder =
+    option_map_or (λ (rank : ℕ). Pinned rank) (pin_at directories holder) (Spread (now_at directories i))
 
 pub record IsHeld (directories : List Directory) (i : ℕ) (hold : Held) : Type 0 where
   pub by : (holder : ℕ) → IsHolder directories i holder → hold ≡ held_by directories i holder

@@ -10,7 +10,8 @@ use std::alloc::{AllocError, Global};
 /// The heat of each directory.
 pub fn own_heats(alloc: Global, directories: &[Directory]) -> Result<Vec<u64>, AllocError>
     ensures size { IfOk result (λ heats. length heats.items ≡ length directories.now) }
-    ensures heats { IfOk result (λ heats. (i : ℕ) → i < length directories.now → slice_index heats.items i ≡ heat_at directories.now i) }
+    ensures heats { IfOk result (λ heats. (i : ℕ) → i < length directories.now
+        → slice_index heats.items i ≡ heat_at directories.now i) }
 {
     let mut heats = Vec::with_capacity(alloc, directories.len())?;
     for directory in directories {
@@ -22,7 +23,8 @@ pub fn own_heats(alloc: Global, directories: &[Directory]) -> Result<Vec<u64>, A
 /// The inodes of each directory.
 pub fn own_inodes(alloc: Global, directories: &[Directory]) -> Result<Vec<u64>, AllocError>
     ensures size { IfOk result (λ inodes. length inodes.items ≡ length directories.now) }
-    ensures inodes { IfOk result (λ inodes. (i : ℕ) → i < length directories.now → slice_index inodes.items i ≡ inodes_at directories.now i) }
+    ensures inodes { IfOk result (λ inodes. (i : ℕ) → i < length directories.now
+        → slice_index inodes.items i ≡ inodes_at directories.now i) }
 {
     let mut inodes = Vec::with_capacity(alloc, directories.len())?;
     for directory in directories {
@@ -40,7 +42,9 @@ pub fn brought_home(
     requires size { length homes.now ≡ length amounts.now }
     requires inside { (i : ℕ) → i < length homes.now → slice_index homes.now i < length amounts.now }
     ensures size { IfOk result (λ sums. length sums.items ≡ length amounts.now) }
-    ensures sums { IfOk result (λ sums. (there : ℕ) → there < length amounts.now → slice_index sums.items there ≡ brought (slice_index amounts.now) (slice_index homes.now) (length amounts.now) there) }
+    ensures sums { IfOk result (λ sums. (there : ℕ) → there < length amounts.now
+        → slice_index sums.items there
+        ≡ brought (slice_index amounts.now) (slice_index homes.now) (length amounts.now) there) }
 {
     let mut sums = vec![in alloc; 0u64; amounts.len()]?;
     for (at, amount) in amounts.iter().enumerate() {
@@ -62,7 +66,9 @@ pub fn heats_home(
     requires size { length homes.now ≡ length directories.now }
     requires inside { (i : ℕ) → i < length directories.now → slice_index homes.now i < length directories.now }
     ensures size { IfOk result (λ sums. length sums.items ≡ length directories.now) }
-    ensures heats { IfOk result (λ sums. (there : ℕ) → there < length directories.now → slice_index sums.items there ≡ brought (heat_at directories.now) (slice_index homes.now) (length directories.now) there) }
+    ensures heats { IfOk result (λ sums. (there : ℕ) → there < length directories.now
+        → slice_index sums.items there
+        ≡ brought (heat_at directories.now) (slice_index homes.now) (length directories.now) there) }
 {
     let heats = own_heats(alloc, directories)?;
     let sums = brought_home(alloc, heats.as_slice(), homes)?;
@@ -78,7 +84,9 @@ pub fn inodes_home(
     requires size { length homes.now ≡ length directories.now }
     requires inside { (i : ℕ) → i < length directories.now → slice_index homes.now i < length directories.now }
     ensures size { IfOk result (λ sums. length sums.items ≡ length directories.now) }
-    ensures inodes { IfOk result (λ sums. (there : ℕ) → there < length directories.now → slice_index sums.items there ≡ brought (inodes_at directories.now) (slice_index homes.now) (length directories.now) there) }
+    ensures inodes { IfOk result (λ sums. (there : ℕ) → there < length directories.now
+        → slice_index sums.items there
+        ≡ brought (inodes_at directories.now) (slice_index homes.now) (length directories.now) there) }
 {
     let inodes = own_inodes(alloc, directories)?;
     let sums = brought_home(alloc, inodes.as_slice(), homes)?;

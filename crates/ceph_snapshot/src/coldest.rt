@@ -1,8 +1,9 @@
 //! Which directories are folded where there are too many: the coldest, each with all that is below it.
 //!
-//! A directory goes by the heat at and below it, so it never goes before what is below it; of two that are as cold the last goes
-//! first. One that isn't plain stays, and so does all that is above it.
-ghost use Rattle.std.specs.Prelude.{◌≡◌, ◌<◌, ◌≤◌, ◌↔◌, ℕ, IsTrue, true, false, count_by, length, slice_index, slice_set, IfOk, IfSome};
+//! A directory goes by the heat at and below it, so it never goes before what is below it; of two that are as cold
+//! the last goes first. One that isn't plain stays, and so does all that is above it.
+ghost use Rattle.std.specs.Prelude.{◌≡◌, ◌<◌, ◌≤◌, ◌↔◌, ℕ, IsTrue, true, false, count_by};
+ghost use Rattle.std.specs.Prelude.{length, slice_index, slice_set, IfOk, IfSome};
 ghost use Rattle.mds_types.specs.Sums.{count_below};
 ghost use Rattle.ceph_snapshot.specs.Folding.{AreGone, IsPlain, is_marked, kept_below};
 ghost use Rattle.ceph_snapshot.specs.Holding.{AreParentsFirst, parent_at};
@@ -51,8 +52,10 @@ fn mark(stays: &mut Vec<bool>, at: usize, above: usize)
 fn staying(alloc: Global, directories: &[Directory]) -> Result<Vec<bool>, AllocError>
     requires { AreParentsFirst directories.now }
     ensures size { IfOk result (λ stays. length stays.items ≡ length directories.now) }
-    ensures plain { IfOk result (λ stays. (i : ℕ) → i < length directories.now → is_marked stays.items i ≡ false → IsPlain directories.now i) }
-    ensures above { IfOk result (λ stays. (i : ℕ) → 0 < i → i < length directories.now → is_marked stays.items i ≡ true → is_marked stays.items (parent_at directories.now i) ≡ true) }
+    ensures plain { IfOk result (λ stays. (i : ℕ) → i < length directories.now → is_marked stays.items i ≡ false
+        → IsPlain directories.now i) }
+    ensures above { IfOk result (λ stays. (i : ℕ) → 0 < i → i < length directories.now
+        → is_marked stays.items i ≡ true → is_marked stays.items (parent_at directories.now i) ≡ true) }
 {
     let mut stays = vec![in alloc; false; directories.len()]?;
     for at in (0..directories.len()).rev() {
@@ -67,7 +70,8 @@ fn staying(alloc: Global, directories: &[Directory]) -> Result<Vec<bool>, AllocE
 fn heats_below(alloc: Global, directories: &[Directory]) -> Result<Vec<u64>, AllocError>
     requires { AreParentsFirst directories.now }
     ensures size { IfOk result (λ heats. length heats.items ≡ length directories.now) }
-    ensures rise { IfOk result (λ heats. (i : ℕ) → 0 < i → i < length directories.now → slice_index heats.items i ≤ slice_index heats.items (parent_at directories.now i)) }
+    ensures rise { IfOk result (λ heats. (i : ℕ) → 0 < i → i < length directories.now
+        → slice_index heats.items i ≤ slice_index heats.items (parent_at directories.now i)) }
 {
     let mut heats = own_heats(alloc, directories)?;
     for at in (1..directories.len()).rev() {
@@ -91,7 +95,9 @@ fn key_of(heats: &[u64], at: usize) -> Key
 /// What those directories go by that don't stay.
 fn keys(alloc: Global, heats: &[u64], stays: &[bool]) -> Result<Vec<Key>, AllocError>
     requires { length stays.now ≡ length heats.now }
-    ensures { IfOk result (λ keys. (last : Key) → count_by (λ key. is_at_most key last) keys.items ≡ count_below (length heats.now) (goes heats.now stays.now last)) }
+    ensures { IfOk result (λ keys. (last : Key)
+        → count_by (λ key. is_at_most key last) keys.items
+        ≡ count_below (length heats.now) (goes heats.now stays.now last)) }
 {
     let mut keys = Vec::new(alloc);
     for at in 0..heats.len() {
@@ -118,7 +124,8 @@ fn last_key(mut keys: Vec<Key>, count: usize) -> Result<Option<Key>, AllocError>
 fn marks(alloc: Global, heats: &[u64], stays: &[bool], last: Key) -> Result<Vec<bool>, AllocError>
     requires { length stays.now ≡ length heats.now }
     ensures size { IfOk result (λ marks. length marks.items ≡ length heats.now) }
-    ensures marks { IfOk result (λ marks. (i : ℕ) → i < length heats.now → is_marked marks.items i ≡ goes heats.now stays.now last i) }
+    ensures marks { IfOk result (λ marks. (i : ℕ) → i < length heats.now
+        → is_marked marks.items i ≡ goes heats.now stays.now last i) }
 {
     let mut marks = Vec::with_capacity(alloc, heats.len())?;
     for at in 0..heats.len() {

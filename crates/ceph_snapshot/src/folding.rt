@@ -1,7 +1,9 @@
 //! Folds the coldest directories into those above them, where there are more than the planner takes.
-ghost use Rattle.std.specs.Prelude.{◌≡◌, ◌+◌, ◌<◌, ◌≤◌, ◌^◌, ℕ, IsTrue, false, true, length, slice_get, slice_index, IfOk, IsOkAnd};
+ghost use Rattle.std.specs.Prelude.{◌≡◌, ◌+◌, ◌<◌, ◌≤◌, ◌^◌, ℕ, IsTrue, false, true};
+ghost use Rattle.std.specs.Prelude.{length, slice_get, slice_index, IfOk, IsOkAnd};
 ghost use Rattle.std.specs.Option.{option_map};
-ghost use Rattle.ceph_snapshot.specs.Folding.{HasLeft, IsFolded, IsHome, all_heat, all_inodes, is_marked, kept_below, put_together, with_amounts};
+ghost use Rattle.ceph_snapshot.specs.Folding.{HasLeft, IsFolded, IsHome, all_heat, all_inodes, is_marked};
+ghost use Rattle.ceph_snapshot.specs.Folding.{kept_below, put_together, with_amounts};
 ghost use Rattle.ceph_snapshot.specs.Holding.{AreParentsFirst, parent_at};
 
 use crate::amounts::{heats_home, inodes_home};
@@ -28,8 +30,10 @@ fn homes(alloc: Global, directories: &[Directory], gone: &[bool]) -> Result<Vec<
     requires size { length gone.now ≡ length directories.now }
     requires root { is_marked gone.now 0 ≡ false }
     ensures size { IfOk result (λ homes. length homes.items ≡ length directories.now) }
-    ensures inside { IfOk result (λ homes. (i : ℕ) → i < length directories.now → slice_index homes.items i < length directories.now) }
-    ensures homes { IfOk result (λ homes. (i : ℕ) → i < length directories.now → IsHome directories.now (is_marked gone.now) i (slice_index homes.items i)) }
+    ensures inside { IfOk result (λ homes. (i : ℕ) → i < length directories.now
+        → slice_index homes.items i < length directories.now) }
+    ensures homes { IfOk result (λ homes. (i : ℕ) → i < length directories.now
+        → IsHome directories.now (is_marked gone.now) i (slice_index homes.items i)) }
 {
     let mut homes = Vec::with_capacity(alloc, directories.len())?;
     for (at, directory) in directories.iter().enumerate() {
@@ -47,7 +51,8 @@ fn homes(alloc: Global, directories: &[Directory], gone: &[bool]) -> Result<Vec<
 fn places(alloc: Global, gone: &[bool]) -> Result<Vec<u32>, AllocError>
     requires { length gone.now ≤ 2 ^ 32 }
     ensures size { IfOk result (λ places. length places.items ≡ length gone.now) }
-    ensures places { IfOk result (λ places. (i : ℕ) → i < length gone.now → slice_index places.items i ≡ kept_below (is_marked gone.now) i) }
+    ensures places { IfOk result (λ places. (i : ℕ) → i < length gone.now
+        → slice_index places.items i ≡ kept_below (is_marked gone.now) i) }
 {
     let mut places = Vec::with_capacity(alloc, gone.len())?;
     let mut kept = 0u64;
@@ -70,7 +75,8 @@ fn new_parents(
     requires few { length directories.now ≤ 2 ^ 32 }
     requires size { length gone.now ≡ length directories.now }
     ensures size { IfOk result (λ parents. length parents.items ≡ length directories.now) }
-    ensures parents { IfOk result (λ parents. (i : ℕ) → i < length directories.now → slice_index parents.items i ≡ kept_below (is_marked gone.now) (parent_at directories.now i)) }
+    ensures parents { IfOk result (λ parents. (i : ℕ) → i < length directories.now
+        → slice_index parents.items i ≡ kept_below (is_marked gone.now) (parent_at directories.now i)) }
 {
     let places = places(alloc, gone)?;
     let mut parents = Vec::with_capacity(alloc, directories.len())?;
@@ -85,7 +91,8 @@ fn put(directories: &mut [Directory], from: usize, to: usize, parent: u32, heat:
     requires inside { from < length directories.old }
     requires earlier { to ≤ from }
     ensures size { length directories.new ≡ length directories.old }
-    ensures there { slice_get directories.new to ≡ option_map (with_amounts parent heat inodes) (slice_get directories.old from) }
+    ensures there { slice_get directories.new to
+        ≡ option_map (with_amounts parent heat inodes) (slice_get directories.old from) }
     ensures before { (i : ℕ) → i < to → slice_get directories.new i ≡ slice_get directories.old i }
     ensures behind { (i : ℕ) → from < i → slice_get directories.new i ≡ slice_get directories.old i }
 {
@@ -96,7 +103,8 @@ fn put(directories: &mut [Directory], from: usize, to: usize, parent: u32, heat:
     directory.inodes = inodes;
 }
 
-/// Puts the directories that are kept behind one another, each with its new parent and what came to it. Gives how many they are.
+/// Puts the directories that are kept behind one another, each with its new parent
+/// and what came to it. Gives how many they are.
 fn close_up(
     directories: &mut [Directory],
     gone: &[bool],
@@ -110,7 +118,9 @@ fn close_up(
     requires inodes { length inodes.now ≡ length directories.old }
     ensures size { length directories.new ≡ length directories.old }
     ensures count { result ≡ kept_below (is_marked gone.now) (length directories.old) }
-    ensures kept { (i : ℕ) → i < length directories.old → is_marked gone.now i ≡ false → slice_get directories.new (kept_below (is_marked gone.now) i) ≡ put_together directories.old parents.now heats.now inodes.now i }
+    ensures kept { (i : ℕ) → i < length directories.old → is_marked gone.now i ≡ false
+        → slice_get directories.new (kept_below (is_marked gone.now) i)
+        ≡ put_together directories.old parents.now heats.now inodes.now i }
 {
     let mut kept = 0;
     for at in 0..directories.len() {
@@ -145,8 +155,8 @@ fn folded(
     Ok(directories)
 }
 
-/// Folds the coldest directories, each with all below it, until at most `limit` are left: what they have, heat and inodes, goes
-/// to the nearest directory above them that is kept. Gives how many were folded.
+/// Folds the coldest directories, each with all below it, until at most `limit` are left: what they have, heat and
+/// inodes, goes to the nearest directory above them that is kept. Gives how many were folded.
 ///
 /// Directories with a pin, those that are spread, and those that are at another rank than their parent stay.
 pub fn fold(

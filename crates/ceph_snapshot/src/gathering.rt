@@ -1,7 +1,8 @@
 //! Gathers what the dumps of all ranks say.
 //!
-//! A directory has its heat from the rank that has authority: the nearest subtree root at or above it decides. Where that root is
-//! in fragments at several ranks, there is no such rank: the directory, and what is below it with no root of its own, is spread.
+//! A directory has its heat from the rank that has authority: the nearest subtree root at or above it decides. Where
+//! that root is in fragments at several ranks, there is no such rank: the directory, and what is below it with no
+//! root of its own, is spread.
 
 use crate::directory::Directory;
 use crate::names::Names;
@@ -16,8 +17,8 @@ pub enum SnapshotError {
     /// The allocator refused a growth.
     #[error("no memory")]
     Memory,
-    /// More directories have to stay than are to be left, there are more than 32 bits can number, or what comes together at one,
-    /// heat or inodes, is more than 64 bits can count.
+    /// More directories have to stay than are to be left, there are more than 32 bits can number, or what comes
+    /// together at one, heat or inodes, is more than 64 bits can count.
     #[error("too many directories")]
     TooMany,
 }

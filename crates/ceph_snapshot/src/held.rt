@@ -1,9 +1,10 @@
 //! What pins hold, and what that comes to at each rank.
 //!
-//! A directory is held by the nearest pin at or above it that this program didn't set. What is spread counts as held where it
-//! lies.
+//! A directory is held by the nearest pin at or above it that this program didn't set.
+//! What is spread counts as held where it lies.
 ghost use Rattle.std.specs.Prelude.{◌≡◌, ◌<◌, ◌+◌, ◌↔◌, ℕ, Some, false, length, min, slice_index, true, IfOk};
-ghost use Rattle.ceph_snapshot.specs.Holding.{AreParentsFirst, IsHeld, held_at, held_below, hold_below, is_at, most_heat};
+ghost use Rattle.ceph_snapshot.specs.Holding.{AreParentsFirst, IsHeld, held_at, held_below};
+ghost use Rattle.ceph_snapshot.specs.Holding.{hold_below, is_at, most_heat};
 
 use crate::directory::Directory;
 use mds_types::Rank;
@@ -61,7 +62,8 @@ fn next_hold(pin: Option<Rank>, is_spread: bool, now: Rank, above: Held) -> Held
 /// What holds each directory. The root itself can't be pinned.
 pub fn holds(alloc: Global, directories: &[Directory]) -> Result<Vec<Held>, AllocError>
     ensures size { IfOk result (λ holds. length holds.items ≡ length directories.now) }
-    ensures held { IfOk result (λ holds. AreParentsFirst directories.now → (i : ℕ) → i < length directories.now → IsHeld directories.now i (held_at holds.items i)) }
+    ensures held { IfOk result (λ holds. AreParentsFirst directories.now → (i : ℕ) → i < length directories.now
+        → IsHeld directories.now i (held_at holds.items i)) }
 {
     let mut found = Vec::with_capacity(alloc, directories.len())?;
     for (at, directory) in directories.iter().enumerate() {
@@ -88,7 +90,10 @@ pub fn held_heat(
     requires holds { length holds.now ≡ length directories.now }
     requires spread { length spread.now ≡ 64 }
     ensures size { IfOk result (λ heats. length heats.items ≡ 64) }
-    ensures heats { IfOk result (λ heats. (r : ℕ) → r < 64 → slice_index heats.items r ≡ min most_heat (slice_index spread.now r + held_below directories.now holds.now r (length directories.now))) }
+    ensures heats { IfOk result (λ heats. (r : ℕ) → r < 64
+        → slice_index heats.items r
+        ≡ min most_heat (slice_index spread.now r + held_below directories.now holds.now r
+        (length directories.now))) }
 {
     let mut heats = spread.to_vec(alloc)?;
     for (at, directory) in directories.iter().enumerate() {

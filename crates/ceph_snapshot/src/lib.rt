@@ -1,5 +1,5 @@
-//! One picture of a live CephFS, made of the dumps of its ranks: the directories with their own heat, their inodes, where each is
-//! and what pins it.
+//! One picture of a live CephFS, made of the dumps of its ranks: the directories with their own heat, their inodes,
+//! where each is and what pins it.
 #![tactic(auto)]
 
 mod amounts;

@@ -8,7 +8,8 @@ use mds_types::ProblemRow;
 use mds_types::limits::HEAT_LIMIT;
 use std::alloc::{AllocError, Global};
 
-/// The directories as rows. What is held is planned as if it had neither heat nor inodes: it counts at the rank that holds it.
+/// The directories as rows. What is held is planned as if it had neither heat nor
+/// inodes: it counts at the rank that holds it.
 pub fn rows_of(
     alloc: Global,
     directories: &[Directory],

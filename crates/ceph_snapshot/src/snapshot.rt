@@ -42,8 +42,8 @@ fn place_all(nodes: &mut [Node]) {
     }
 }
 
-/// Adds the heat that a rank has seen at a directory, if the rank has authority or the directory is spread. Gives what of it
-/// counts as spread.
+/// Adds the heat that a rank has seen at a directory, if the rank has authority or the directory is spread. Gives
+/// what of it counts as spread.
 fn sight(node: &mut Node, seen: Sighting) -> u64 {
     let directory = &mut node.directory;
     if directory.is_spread {

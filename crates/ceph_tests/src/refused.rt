@@ -122,7 +122,8 @@ fn answer(alloc: Global) -> Result<(usize, u64, u64, u64, usize), Refused> {
     ))
 }
 
-// With `rt try --test --fail-alloc N`, the N-th growth is refused: one turn at most lacks memory, and each other answers as ever.
+// With `rt try --test --fail-alloc N`, the N-th growth is refused: one turn at most
+// lacks memory, and each other answers as ever.
 #[test]
 fn a_refused_growth_is_told(rt: HostRuntime) -> Result<(), Fail> {
     let mut refused = 0u32;

@@ -1,5 +1,6 @@
 -- What a part has at each rank, and where its cost stands in a table.
-use Rattle.std.specs.Prelude.{◌≡◌, ◌==◌, ◌&&◌, ◌<◌, ◌≤◌, ◌+◌, ◌*◌, ◌-◌, ◌^◌, ℕ, nat_le, true, List, All, length, slice_index, if◌then◌else◌}
+use Rattle.std.specs.Prelude.{◌≡◌, ◌==◌, ◌&&◌, ◌<◌, ◌≤◌, ◌+◌, ◌*◌, ◌-◌, ◌^◌, ℕ, nat_le}
+use Rattle.std.specs.Prelude.{true, List, All, length, slice_index, if◌then◌else◌}
 use Rattle.mds_types.specs.declared.problem.ProblemRow.{ProblemRow}
 use Rattle.mds_types.specs.Placing.{cost}
 use Rattle.mds_types.specs.Problem.{inodes_at, now_at}
@@ -19,7 +20,8 @@ own_between rows label from to part r =
 -- the inodes of so many parts by the rank that has them now, in the rows from one on to before another: 64 cells a part
 pub record AreSums (rows : List ProblemRow) (label : ℕ → ℕ) (count from to : ℕ) (sums : List ℕ) : Type 0 where
   pub size : length sums ≡ count * 64
-  pub cells : (part r : ℕ) → part < count → r < 64 → slice_index sums (part * 64 + r) ≡ own_between rows label from to part r
+  pub cells : (part r : ℕ) → part < count → r < 64
+      → slice_index sums (part * 64 + r) ≡ own_between rows label from to part r
   pub small : All (λ sum. sum ≤ (to - from) * 2 ^ 32) sums
 
 -- what the types of the rows from one on to before another hold
@@ -50,7 +52,8 @@ chosen_cost ranks cells k rank = sum_below k (λ part. cell_at ranks cells part 
 -- what each of these parts moves at each rank of the set
 pub record AreCosts (rows : List ProblemRow) (label : ℕ → ℕ) (count ranks : ℕ) (cells : List ℕ) : Type 0 where
   pub size : length cells ≡ count * rank_count ranks
-  pub costs : (part r : ℕ) → part < count → has_rank ranks r ≡ true → cell_at ranks cells part r ≡ cost rows label part r
+  pub costs : (part r : ℕ) → part < count → has_rank ranks r ≡ true
+      → cell_at ranks cells part r ≡ cost rows label part r
   pub small : All (λ cell. cell ≤ 2 ^ 48) cells
 
 -- what each of these parts moves at each rank of the set, by the inodes that each rank has of it

@@ -1,5 +1,6 @@
 //! The table of costs, from one pass over the rows.
-ghost use Rattle.std.specs.Prelude.{◌≡◌, ◌≢◌, ◌<◌, ◌≤◌, ◌+◌, ◌-◌, ◌*◌, ◌^◌, ℕ, true, length, slice_index, vec_len, All, IfOk};
+ghost use Rattle.std.specs.Prelude.{◌≡◌, ◌≢◌, ◌<◌, ◌≤◌, ◌+◌, ◌-◌, ◌*◌, ◌^◌, ℕ, true};
+ghost use Rattle.std.specs.Prelude.{length, slice_index, vec_len, All, IfOk};
 ghost use Rattle.mds_types.specs.RankSet.{has_rank, rank_count};
 ghost use Rattle.cost_table.specs.Costs.{cell_at, part_total, AreCells, AreCosts};
 

@@ -1,11 +1,14 @@
 -- Export pins of directories on ranks.
-use Rattle.std.specs.Prelude.{◌≡◌, ◌<◌, ◌⊎◌, Contains, ℕ, ℤ, pos, negsuc, Bool, true, false, not, ◌&&◌, if◌then◌else◌, nat_lt, List, [], ◌∷◌, ◌++◌, length, filter, slice_set, slice_index_or, replicate, is_none, Option, Some, None}
+use Rattle.std.specs.Prelude.{◌≡◌, ◌<◌, ◌⊎◌, Contains, ℕ, ℤ, pos, negsuc, Bool, true, false, not, ◌&&◌}
+use Rattle.std.specs.Prelude.{if◌then◌else◌, nat_lt, List, [], ◌∷◌, ◌++◌, length, filter, slice_set}
+use Rattle.std.specs.Prelude.{slice_index_or, replicate, is_none, Option, Some, None}
 use Prim.Native.Nat.{zero, suc}
 use Rattle.dirtree.specs.Tree.{Entry, is_there, parent_of, walk_up}
 use Rattle.dir_pins.specs.declared.pin_error.PinError.{PinError}
 use Rattle.dir_pins.specs.declared.pin_error.PinError.TheVariants.{NoDir, NoRank}
 
--- own is the directories' own pins, by their numbers, which are below the limit; the ranks below active can be pinned on
+-- own is the directories' own pins, by their numbers, which are below the limit;
+-- the ranks below active can be pinned on
 pub record PinTable : Type 0 where
   pub limit : ℕ
   pub active : ℕ

@@ -1,5 +1,6 @@
 //! The pins that were set, by the numbers of the directories.
-ghost use Rattle.std.specs.Prelude.{◌≡◌, ℕ, ◌+◌, ◌<◌, ◌≤◌, Some, None, Ok, Err, length, map, true, false, negsuc, ◌≢◌, IsOk, IfOk, IfErr, IfSome, OnOk, OnErr, slice_set, slice_index_or, is_some};
+ghost use Rattle.std.specs.Prelude.{◌≡◌, ℕ, ◌+◌, ◌<◌, ◌≤◌, Some, None, Ok, Err, length, map, true, false, negsuc};
+ghost use Rattle.std.specs.Prelude.{◌≢◌, IsOk, IfOk, IfErr, IfSome, OnOk, OnErr, slice_set, slice_index_or, is_some};
 ghost use Rattle.dirtree.specs.Tree.{is_there};
 
 use crate::pin_error::PinError;
@@ -23,11 +24,13 @@ impl Model for Pins {
 
     ghost view = { λ pins. record { limit = length pins.own.items; active = pins.active; own = pins.own.items } };
 
-    ghost invariant = { λ pins. (pins.active ≤ 64) × (length pins.own.items ≤ 65536) × AreActive pins.active pins.own.items };
+    ghost invariant = { λ pins. (pins.active ≤ 64) × (length pins.own.items ≤ 65536)
+        × AreActive pins.active pins.own.items };
 }
 
 impl Pins {
-    ghost use Rattle.dir_pins.specs.Pins.{AreActive, below, is_pin, is_unpinned, no_pins, pin_refusal, pin_value, nearest_pin, unpinned, with_pin};
+    ghost use Rattle.dir_pins.specs.Pins.{AreActive, below, is_pin, is_unpinned, no_pins, pin_refusal};
+    ghost use Rattle.dir_pins.specs.Pins.{pin_value, nearest_pin, unpinned, with_pin};
 
     /// No pin, with room for the numbers below `limit`, and the ranks below `active` to pin on.
     pub fn new(alloc: Global, limit: u32, active: u8) -> Result<Pins, AllocError>
@@ -143,7 +146,8 @@ impl Pins {
         requires room { tree.now.limit ≤ length self.now.own }
         requires size { length known.now ≡ length tree.now.entries }
         requires inside { dir < length tree.now.entries }
-        requires below { (d : ℕ) → d < dir → slice_index_or known.now d false ≡ is_unpinned tree.now.entries self.now.own d }
+        requires below { (d : ℕ) → d < dir → slice_index_or known.now d false
+            ≡ is_unpinned tree.now.entries self.now.own d }
         ensures { result ≡ is_unpinned tree.now.entries self.now.own dir }
     {
         let Some(row) = tree.row(dir) else {
@@ -155,11 +159,13 @@ impl Pins {
         dir == Dir::ROOT || known[row.parent.number() as usize]
     }
 
-    /// For each number, whether its directory is there and no pin holds it: one pass, since a parent's number is smaller.
+    /// For each number, whether its directory is there and no pin holds it: one
+    /// pass, since a parent's number is smaller.
     pub fn marks(&self, alloc: Global, tree: &Tree) -> Result<Vec<bool>, AllocError>
         requires { tree.now.limit ≤ length self.now.own }
         ensures size { IfOk result (λ marks. length marks.items ≡ length tree.now.entries) }
-        ensures unpinned { IfOk result (λ marks. (d : ℕ) → d < length tree.now.entries → slice_index_or marks.items d false ≡ is_unpinned tree.now.entries self.now.own d) }
+        ensures unpinned { IfOk result (λ marks. (d : ℕ) → d < length tree.now.entries
+            → slice_index_or marks.items d false ≡ is_unpinned tree.now.entries self.now.own d) }
     {
         let mut known = vec![in alloc; false; tree.numbers() as usize]?;
         for number in 0..tree.numbers() {
@@ -169,8 +175,8 @@ impl Pins {
         Ok(known)
     }
 
-    /// The pin that holds a directory, where that is known of all with smaller numbers. A number without a directory counts as
-    /// one of the root's children.
+    /// The pin that holds a directory, where that is known of all with smaller numbers. A number without a directory
+    /// counts as one of the root's children.
     fn held_by(&self, tree: &Tree, known: &[Option<Rank>], dir: Dir) -> Option<Rank>
         requires room { dir < length self.now.own }
         requires known { known.now ≡ map (nearest_pin tree.now.entries self.now.own) (below dir) }
@@ -192,7 +198,8 @@ impl Pins {
     /// The pin that holds each directory, by its number: one pass, since a parent's number is smaller.
     pub fn nearest(&self, alloc: Global, tree: &Tree) -> Result<Vec<Option<Rank>>, AllocError>
         requires { tree.now.limit ≤ length self.now.own }
-        ensures { IfOk result (λ pins. pins.items ≡ map (nearest_pin tree.now.entries self.now.own) (below (length tree.now.entries))) }
+        ensures { IfOk result (λ pins. pins.items
+            ≡ map (nearest_pin tree.now.entries self.now.own) (below (length tree.now.entries))) }
     {
         let mut known = Vec::with_capacity(alloc, tree.numbers() as usize)?;
         for number in 0..tree.numbers() {

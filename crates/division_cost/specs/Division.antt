@@ -17,9 +17,11 @@ InPart entries own tops p d = Contains (members entries own tops p.top) d
 
 -- Each directory that no pin holds is in one part, which has its nearest top, and no other directory is in any. Each
 -- part is connected, and has its top and the sums of its directories' heats and inodes.
-pub record IsDivision (entries : List (Option Entry)) (own : List (Option ℕ)) (heats tops : List ℕ) (parts : List Part) : Type 0 where
+pub record IsDivision (entries : List (Option Entry)) (own : List (Option ℕ)) (heats tops : List ℕ)
+    (parts : List Part) : Type 0 where
   pub covered : (d : ℕ) → is_unpinned entries own d ≡ true → (p : Part) × Contains parts p × InPart entries own tops p d
-  pub apart : (p q : Part) (d : ℕ) → Contains parts p → Contains parts q → InPart entries own tops p d → InPart entries own tops q d → p ≡ q
+  pub apart : (p q : Part) (d : ℕ) → Contains parts p → Contains parts q → InPart entries own tops p d
+      → InPart entries own tops q d → p ≡ q
   pub unpinned : (p : Part) (d : ℕ) → Contains parts p → InPart entries own tops p d → is_unpinned entries own d ≡ true
   pub nearest : (p : Part) (d : ℕ) → Contains parts p → InPart entries own tops p d → top_of entries tops d ≡ p.top
   pub connected : (p : Part) → Contains parts p → IsConnected (IsEdge entries) (InPart entries own tops p)

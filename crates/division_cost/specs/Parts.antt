@@ -1,5 +1,6 @@
 -- The parts of a tree below chosen tops, their heats in accesses and their sizes in inodes.
-use Rattle.std.specs.Prelude.{◌≡◌, ◌==◌, ◌<◌, ◌&&◌, ◌||◌, ℕ, max, Bool, false, if◌then◌else◌, List, [], ◌∷◌, length, filter, map, sum_by, slice_index, slice_index_or, Option}
+use Rattle.std.specs.Prelude.{◌≡◌, ◌==◌, ◌<◌, ◌&&◌, ◌||◌, ℕ, max, Bool, false, if◌then◌else◌, List, []}
+use Rattle.std.specs.Prelude.{◌∷◌, length, filter, map, sum_by, slice_index, slice_index_or, Option}
 use Rattle.std.specs.List.{list_any}
 use Rattle.dirtree.specs.Tree.{Entry, inodes_of, walk_up}
 use Rattle.dir_pins.specs.Pins.{below, is_unpinned}
@@ -48,7 +49,8 @@ is_free_top entries own tops d = is_unpinned entries own d && is_top tops d
 
 -- the parts, by the rising numbers of their tops
 abbrev pub parts : List (Option Entry) → List (Option ℕ) → List ℕ → List ℕ → List Part
-parts entries own heats tops = map (part_at entries own heats tops) (filter (is_free_top entries own tops) (below (length entries)))
+parts entries own heats tops =
+    map (part_at entries own heats tops) (filter (is_free_top entries own tops) (below (length entries)))
 
 -- the heat of the hottest part, or 0 where there is none
 abbrev pub greatest : List Part → ℕ

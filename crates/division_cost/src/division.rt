@@ -70,7 +70,9 @@ fn nearest_tops(alloc: Global, tree: &Tree, is_top: &[bool]) -> Result<Vec<Dir>,
     requires { length is_top.now ≡ length tree.now.entries }
     ensures size { IfOk result (λ found. length found.items ≡ length tree.now.entries) }
     ensures above { IfOk result (λ found. (d : ℕ) → slice_index_or found.items d 0 ≤ d) }
-    ensures nearest { (tops : List ℕ) → Marks is_top.now tops → IfOk result (λ found. (d : ℕ) → d < length tree.now.entries → slice_index_or found.items d 0 ≡ top_of tree.now.entries tops d) }
+    ensures nearest { (tops : List ℕ) → Marks is_top.now tops
+        → IfOk result (λ found. (d : ℕ) → d < length tree.now.entries
+        → slice_index_or found.items d 0 ≡ top_of tree.now.entries tops d) }
 {
     let mut found = vec![in alloc; Dir::ROOT; tree.numbers() as usize]?;
     for number in 0..tree.numbers() {
@@ -95,7 +97,9 @@ fn totals(
     requires tops { length tops.now ≡ length tree.now.entries }
     requires above { (d : ℕ) → slice_index_or tops.now d 0 ≤ d }
     ensures size { IfOk result (λ totals. length totals.items ≡ length tree.now.entries) }
-    ensures totals { IfOk result (λ totals. (t : ℕ) → t < length tree.now.entries → slice_index_or totals.items t nothing ≡ counted tree.now.entries heat.now.heats marks.now tops.now (length tree.now.entries) t) }
+    ensures totals { IfOk result (λ totals. (t : ℕ) → t < length tree.now.entries
+        → slice_index_or totals.items t nothing
+        ≡ counted tree.now.entries heat.now.heats marks.now tops.now (length tree.now.entries) t) }
 {
     let nothing = Total { heat: 0, inodes: 0 };
     let mut totals = vec![in alloc; nothing; tree.numbers() as usize]?;
@@ -125,7 +129,8 @@ pub fn parts(
     requires heats { tree.now.limit ≤ heat.now.limit }
     requires tops { length is_top.now ≡ length tree.now.entries }
     requires root { slice_index_or is_top.now 0 false ≡ true }
-    ensures { (tops : List ℕ) → Marks is_top.now tops → IfOk result (λ found. found.items ≡ parts tree.now.entries pins.now.own heat.now.heats tops) }
+    ensures { (tops : List ℕ) → Marks is_top.now tops
+        → IfOk result (λ found. found.items ≡ parts tree.now.entries pins.now.own heat.now.heats tops) }
 {
     let marks = pins.marks(alloc, tree)?;
     let nearest = nearest_tops(alloc, tree, is_top)?;

@@ -7,7 +7,8 @@ ghost use Rattle.division_cost.specs.Parts.{greatest, parts};
 
 /// In every tree, under any pins and below any tops, the parts divide the directories that no pin holds.
 pub fn parts_divide()
-    ensures { (entries : List (Option Entry)) (own : List (Option ℕ)) (heats tops : List ℕ) → IsTree entries → IsDivision entries own heats tops (parts entries own heats tops) }
+    ensures { (entries : List (Option Entry)) (own : List (Option ℕ)) (heats tops : List ℕ) → IsTree entries
+        → IsDivision entries own heats tops (parts entries own heats tops) }
 {}
 
 /// The greatest heat of some parts is the heat of the hottest of them.

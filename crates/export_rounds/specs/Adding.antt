@@ -6,7 +6,8 @@ use Rattle.board_state.specs.declared.change.Change.TheVariants.{Step}
 use Rattle.mds_board.specs.declared.entry.Entry.{Entry}
 use Rattle.mds_board.specs.History.{World}
 
--- An export is started, goes on, or is aborted. Those that were started before the phase, so many, aren't aborted by it.
+-- An export is started, goes on, or is aborted. Those that were started before
+-- the phase, so many, aren't aborted by it.
 abbrev pub IsOfPhase : ℕ → Change → Type 0
 IsOfPhase before (Step (Start from to dirs)) = Unit {0}
 IsOfPhase before (Step (Deliver message)) = Unit {0}

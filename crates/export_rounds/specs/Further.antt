@@ -13,7 +13,8 @@ abbrev pub IsInner : Change → Type 0
 IsInner (Step e) = is_inner e ≡ true
 IsInner _ = ⊥
 
--- As much of the map is published as before or, since it was published in between, all operations of the entries until then.
+-- As much of the map is published as before or, since it was published in between,
+-- all operations of the entries until then.
 abbrev pub IsPublished : World → List Entry → List Operation → Type 0
 IsPublished old more published =
     (published ≡ old.published)

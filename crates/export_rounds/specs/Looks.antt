@@ -1,7 +1,8 @@
 -- What the states of an export ask of its ranks.
 use Rattle.std.specs.Prelude.{Bool, true, false}
 use Rattle.export_machine.specs.declared.exporter.ExporterState.{ExporterState}
-use Rattle.export_machine.specs.declared.exporter.ExporterState.TheVariants.{Aborted, Discovering, Done, Exporting, Freezing, Logged, Preparing}
+use Rattle.export_machine.specs.declared.exporter.ExporterState.TheVariants.{Aborted, Discovering, Done, Exporting}
+use Rattle.export_machine.specs.declared.exporter.ExporterState.TheVariants.{Freezing, Logged, Preparing}
 use Rattle.export_machine.specs.declared.importer.ImporterState.{ImporterState}
 use Rattle.export_machine.specs.declared.importer.ImporterState.TheVariants.{Dropped, Imported}
 

@@ -36,7 +36,8 @@ word x _ _ = Open x
 -- the export of an order, with its word by its states
 abbrev pub IsTold : World → World → Order → Outcome → Type 0
 IsTold old new order told =
-    (x : ℕ) × IsStarted old new order x × (told ≡ word x (exporter_of new.state.cluster x) (importer_of new.state.cluster x))
+    (x : ℕ) × IsStarted old new order x × (told
+    ≡ word x (exporter_of new.state.cluster x) (importer_of new.state.cluster x))
 
 -- What became of an order is why it was refused, or how its export stands.
 abbrev pub IsOutcome : World → World → Order → Outcome → Type 0
@@ -54,4 +55,5 @@ is_started _ = true
 
 -- No other exports were started.
 abbrev pub AreAll : World → World → List Outcome → Type 0
-AreAll old new outcomes = length new.state.cluster.orders ≡ length old.state.cluster.orders + count_by is_started outcomes
+AreAll old new outcomes =
+    length new.state.cluster.orders ≡ length old.state.cluster.orders + count_by is_started outcomes

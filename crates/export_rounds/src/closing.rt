@@ -38,7 +38,8 @@ pub(crate) fn tell(cluster: &Cluster, standings: &[Standing], outcomes: &mut Vec
     requires settled { AreSettled standings.now }
     requires room { length standings.now ≤ vec_capacity outcomes.old }
     requires none { outcomes.old.items ≡ [] }
-    ensures told { (first now : World) (orders : List TheOrder) → now.state.cluster ≡ cluster.now.world → AreAsked first now orders standings.now → AreOutcomes first now orders outcomes.new.items }
+    ensures told { (first now : World) (orders : List TheOrder) → now.state.cluster ≡ cluster.now.world
+        → AreAsked first now orders standings.now → AreOutcomes first now orders outcomes.new.items }
     ensures counted { count_by is_started outcomes.new.items ≡ count_by is_begun standings.now }
 {
     for standing in standings {
@@ -49,7 +50,8 @@ pub(crate) fn tell(cluster: &Cluster, standings: &[Standing], outcomes: &mut Vec
 /// What became of an order that doesn't wait.
 pub fn outcome(cluster: &Cluster, standing: &Standing) -> Outcome
     requires settled { is_waiting standing.now ≡ false }
-    ensures told { (first now : World) (order : TheOrder) → now.state.cluster ≡ cluster.now.world → IsAsked first now order standing.now → IsOutcome first now order result }
+    ensures told { (first now : World) (order : TheOrder) → now.state.cluster ≡ cluster.now.world
+        → IsAsked first now order standing.now → IsOutcome first now order result }
     ensures counted { is_started result ≡ is_begun standing.now }
 {
     match standing {
@@ -61,7 +63,8 @@ pub fn outcome(cluster: &Cluster, standing: &Standing) -> Outcome
 
 // How an export stands.
 fn outcome_of(cluster: &Cluster, export: u32) -> Outcome
-    ensures told { export < length cluster.now.world.orders → result ≡ word export (exporter_of cluster.now.world export) (importer_of cluster.now.world export) }
+    ensures told { export < length cluster.now.world.orders
+        → result ≡ word export (exporter_of cluster.now.world export) (importer_of cluster.now.world export) }
     ensures started { is_started result ≡ true }
 {
     match cluster.states(export) {

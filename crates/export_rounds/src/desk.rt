@@ -6,8 +6,8 @@ use mds_types::{Order, Rank};
 use std::alloc::{AllocError, Global};
 use std::ops::Range;
 
-/// What a rank has to look after in a phase. Orders, messages and exports go by their numbers. It says what a rank tries in
-/// its turn, and not what it may do.
+/// What a rank has to look after in a phase. Orders, messages and exports go by their numbers. It says what a rank
+/// tries in its turn, and not what it may do.
 #[derive(Drop)]
 pub struct Desk {
     /// The rank.

@@ -1,8 +1,8 @@
 //! The orders of a board are carried out in rounds, on one thread.
 //!
-//! Each rank has its turn in each round: it starts its orders, takes the messages that have come, and goes on with the exports
-//! that it gives away. Nothing but events of exports is done to the board. Desks, standings and outcomes are also those of the
-//! phases in which each rank has a thread.
+//! Each rank has its turn in each round: it starts its orders, takes the messages that have come, and goes on with
+//! the exports that it gives away. Nothing but events of exports is done to the board. Desks, standings and outcomes
+//! are also those of the phases in which each rank has a thread.
 #![tactic(auto)]
 
 pub mod closing;

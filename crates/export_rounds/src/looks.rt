@@ -14,7 +14,8 @@ pub fn is_under_way(exporter: ExporterState) -> bool
 
 /// Whether the exporter has steps to make in an export.
 pub fn is_at_work(cluster: &Cluster, export: u32) -> bool
-    ensures there { export < length cluster.now.world.orders → result ≡ looks.is_under_way (exporter_of cluster.now.world export) }
+    ensures there { export < length cluster.now.world.orders
+        → result ≡ looks.is_under_way (exporter_of cluster.now.world export) }
 {
     match cluster.states(export) {
         Some((exporter, _)) => is_under_way(exporter),
@@ -24,21 +25,24 @@ pub fn is_at_work(cluster: &Cluster, export: u32) -> bool
 
 /// Whether the exporter waits until no request runs on the directories.
 pub fn is_freezing(cluster: &Cluster, export: u32) -> bool
-    ensures there { export < length cluster.now.world.orders → result ≡ looks.is_freezing (exporter_of cluster.now.world export) }
+    ensures there { export < length cluster.now.world.orders
+        → result ≡ looks.is_freezing (exporter_of cluster.now.world export) }
 {
     matches!(cluster.states(export), Some((ExporterState::Freezing, _)))
 }
 
 /// Whether the exporter has logged the export.
 pub fn is_logged(cluster: &Cluster, export: u32) -> bool
-    ensures there { export < length cluster.now.world.orders → result ≡ looks.is_logged (exporter_of cluster.now.world export) }
+    ensures there { export < length cluster.now.world.orders
+        → result ≡ looks.is_logged (exporter_of cluster.now.world export) }
 {
     matches!(cluster.states(export), Some((ExporterState::Logged, _)))
 }
 
 /// Whether the exporter can still give the export up.
 pub fn is_before_log(cluster: &Cluster, export: u32) -> bool
-    ensures there { export < length cluster.now.world.orders → result ≡ looks.is_before_log (exporter_of cluster.now.world export) }
+    ensures there { export < length cluster.now.world.orders
+        → result ≡ looks.is_before_log (exporter_of cluster.now.world export) }
 {
     matches!(
         cluster.states(export),
@@ -54,7 +58,8 @@ pub fn is_before_log(cluster: &Cluster, export: u32) -> bool
 
 /// Whether messages about an export may still do something: its importer has neither imported nor dropped it.
 pub fn is_awaited(cluster: &Cluster, export: u32) -> bool
-    ensures there { export < length cluster.now.world.orders → result ≡ looks.is_awaited (importer_of cluster.now.world export) }
+    ensures there { export < length cluster.now.world.orders
+        → result ≡ looks.is_awaited (importer_of cluster.now.world export) }
 {
     match cluster.states(export) {
         Some((_, importer)) => !matches!(

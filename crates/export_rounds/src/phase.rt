@@ -24,9 +24,10 @@ const LATER_ROUNDS: u32 = 7;
 /// Carries out orders in eight rounds, and tells what became of each.
 ///
 /// In a round each rank, from 0 on, takes the messages that had come when the round began, in rising order, freezes its
-/// exports in state freezing, notifies of its logged ones and publishes the map if it did. In the first round it starts its
-/// orders and asks about its imports that were left started before that. An event that is refused is passed over. What isn't
-/// logged after the last round is aborted. All memory for the answer is asked for before the first event.
+/// exports in state freezing, notifies of its logged ones and publishes the map if it did. In the first round it
+/// starts its orders and asks about its imports that were left started before that. An event that is refused is
+/// passed over. What isn't logged after the last round is aborted. All memory for
+/// the answer is asked for before the first event.
 pub fn carry_out_orders<J: Naming, M: Publisher<J>>(
     board: &mut Board<J, M>,
     alloc: Global,
@@ -57,8 +58,10 @@ fn first_round<J: Naming, M: Publisher<J>>(
     desks: &mut Vec<Desk>,
 )
     ensures further { IsFurther board.old board.new }
-    ensures asked { (first : World) (orders : List TheOrder) → IsFurther first board.old → AreAsked first board.old orders standings.old.items → AreAsked first board.new orders standings.new.items }
-    ensures counted { length board.new.state.cluster.orders + count_by is_begun standings.old.items ≡ length board.old.state.cluster.orders + count_by is_begun standings.new.items }
+    ensures asked { (first : World) (orders : List TheOrder) → IsFurther first board.old
+        → AreAsked first board.old orders standings.old.items → AreAsked first board.new orders standings.new.items }
+    ensures counted { length board.new.state.cluster.orders + count_by is_begun standings.old.items
+        ≡ length board.old.state.cluster.orders + count_by is_begun standings.new.items }
 {
     for desk in desks.iter_mut() {
         start_at(board, alloc, standings, desk);

@@ -37,8 +37,10 @@ pub(crate) fn start_at<J: Naming, M: Publisher<J>>(
     desk: &mut Desk,
 )
     ensures further { IsFurther board.old board.new }
-    ensures asked { (first : World) (orders : List TheOrder) → IsFurther first board.old → AreAsked first board.old orders standings.old.items → AreAsked first board.new orders standings.new.items }
-    ensures counted { length board.new.state.cluster.orders + count_by is_begun standings.old.items ≡ length board.old.state.cluster.orders + count_by is_begun standings.new.items }
+    ensures asked { (first : World) (orders : List TheOrder) → IsFurther first board.old
+        → AreAsked first board.old orders standings.old.items → AreAsked first board.new orders standings.new.items }
+    ensures counted { length board.new.state.cluster.orders + count_by is_begun standings.old.items
+        ≡ length board.old.state.cluster.orders + count_by is_begun standings.new.items }
 {
     for number in desk.orders.iter() {
         let started = settle_at(board, alloc, standings, *number);
@@ -64,8 +66,10 @@ pub fn settle_at<J: Naming, M: Publisher<J>>(
 ) -> Option<u32>
     ensures further { IsFurther board.old board.new }
     ensures events { (before : ℕ) → GoesOnBy before board.old board.new }
-    ensures asked { (first : World) (orders : List TheOrder) → IsFurther first board.old → AreAsked first board.old orders standings.old.items → AreAsked first board.new orders standings.new.items }
-    ensures counted { length board.new.state.cluster.orders + count_by is_begun standings.old.items ≡ length board.old.state.cluster.orders + count_by is_begun standings.new.items }
+    ensures asked { (first : World) (orders : List TheOrder) → IsFurther first board.old
+        → AreAsked first board.old orders standings.old.items → AreAsked first board.new orders standings.new.items }
+    ensures counted { length board.new.state.cluster.orders + count_by is_begun standings.old.items
+        ≡ length board.old.state.cluster.orders + count_by is_begun standings.new.items }
 {
     let standing = standings.get_mut(number)?;
     settle(board, alloc, standing)
@@ -78,8 +82,10 @@ pub(crate) fn settle_rest<J: Naming, M: Publisher<J>>(
     standings: &mut Vec<Standing>,
 )
     ensures further { IsFurther board.old board.new }
-    ensures asked { (first : World) (orders : List TheOrder) → IsFurther first board.old → AreAsked first board.old orders standings.old.items → AreAsked first board.new orders standings.new.items }
-    ensures counted { length board.new.state.cluster.orders + count_by is_begun standings.old.items ≡ length board.old.state.cluster.orders + count_by is_begun standings.new.items }
+    ensures asked { (first : World) (orders : List TheOrder) → IsFurther first board.old
+        → AreAsked first board.old orders standings.old.items → AreAsked first board.new orders standings.new.items }
+    ensures counted { length board.new.state.cluster.orders + count_by is_begun standings.old.items
+        ≡ length board.old.state.cluster.orders + count_by is_begun standings.new.items }
     ensures settled { AreSettled standings.new.items }
 {
     for standing in standings.iter_mut() {
@@ -96,8 +102,10 @@ fn settle<J: Naming, M: Publisher<J>>(
 ) -> Option<u32>
     ensures further { IsFurther board.old board.new }
     ensures events { (before : ℕ) → GoesOnBy before board.old board.new }
-    ensures asked { (first : World) (order : TheOrder) → IsFurther first board.old → IsAsked first board.old order standing.old → IsAsked first board.new order standing.new }
-    ensures counted { length board.new.state.cluster.orders + ones (is_begun standing.old) ≡ length board.old.state.cluster.orders + ones (is_begun standing.new) }
+    ensures asked { (first : World) (order : TheOrder) → IsFurther first board.old
+        → IsAsked first board.old order standing.old → IsAsked first board.new order standing.new }
+    ensures counted { length board.new.state.cluster.orders + ones (is_begun standing.old)
+        ≡ length board.old.state.cluster.orders + ones (is_begun standing.new) }
     ensures settled { is_waiting standing.new ≡ false }
 {
     match replace(standing, Standing::Refused(BoardError::Memory)) {

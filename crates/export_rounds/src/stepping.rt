@@ -42,7 +42,8 @@ pub(crate) fn start<J: Naming, M: Publisher<J>>(
 ) -> Result<u32, BoardError>
     ensures further { IsFurther board.old board.new }
     ensures events { (before : ℕ) → GoesOnBy before board.old board.new }
-    ensures started { IfOk result (λ x. (x ≡ length board.old.state.cluster.orders) × (board.new.state.cluster.orders ≡ board.old.state.cluster.orders ++ order ∷ [])) }
+    ensures started { IfOk result (λ x. (x ≡ length board.old.state.cluster.orders)
+        × (board.new.state.cluster.orders ≡ board.old.state.cluster.orders ++ order ∷ [])) }
     ensures refused { IfErr result (λ e. IsDue board.old.state (Step (Event.Start order.from order.to order.dirs)) e) }
     ensures unchanged { OnErr result (board.new ≡ board.old) }
 {

@@ -40,7 +40,8 @@ impl Model for Heat {
 }
 
 impl Heat {
-    ghost use Rattle.std.specs.Prelude.{◌+◌, ◌-◌, ◌/◌, ◌↔◌, All, IfOk, IsErr, OnOk, OnErr, length, map, slice_index, slice_index_or};
+    ghost use Rattle.std.specs.Prelude.{◌+◌, ◌-◌, ◌/◌, ◌↔◌, All, IfOk, IsErr, OnOk, OnErr};
+    ghost use Rattle.std.specs.Prelude.{length, map, slice_index, slice_index_or};
     ghost use Rattle.heat_decay.specs.Heat.{Heats, after_deposit, after_tick, all_cold, touched};
 
     /// No directory has heat, and no tick was made. It takes all memory that the heats will need.

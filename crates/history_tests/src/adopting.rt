@@ -131,8 +131,8 @@ fn adopted<J: Naming, R: Wait + Drop>(
     rt: &impl Abort,
     waits: R,
     alloc: Global,
-    book: heat_ledger::Opened,
-    map: authority_map::Opened,
+    book: heat_ledger::NewBook,
+    map: authority_map::NewMap,
 ) -> Result<(), Fail>
     requires book { book ≡ J.ledger }
     requires map { map ≡ J.map }
@@ -152,7 +152,7 @@ fn adopted<J: Naming, R: Wait + Drop>(
 
 #[test]
 fn plans_are_adopted_with_their_orders(rt: HostRuntime) -> Result<(), Fail> {
-    let book = heat_ledger::Opened::new(rt.alloc())?;
-    let map = authority_map::Opened::new();
+    let book = heat_ledger::NewBook::new(rt.alloc())?;
+    let map = authority_map::NewMap::new();
     adopted::<Brand, _>(&rt, &rt, rt.alloc(), book, map)
 }

@@ -18,8 +18,8 @@ type Made<J, R> = (Board<J, MapWriter<J, R>>, Vec<Share<J>>, Vec<MapReader<J>>);
 pub(crate) fn open<J: Naming, R: Wait + Drop>(
     rt: R,
     alloc: Global,
-    book: heat_ledger::Opened,
-    map: authority_map::Opened,
+    book: heat_ledger::NewBook,
+    map: authority_map::NewMap,
     limit: u32,
     ranks: u8,
 ) -> Result<Made<J, R>, Fail>
@@ -44,8 +44,8 @@ pub(crate) fn open<J: Naming, R: Wait + Drop>(
 pub(crate) fn open_at_last<J: Naming, R: Wait + Drop + Copy>(
     rt: R,
     alloc: Global,
-    book: heat_ledger::Opened,
-    map: authority_map::Opened,
+    book: heat_ledger::NewBook,
+    map: authority_map::NewMap,
 ) -> Result<Made<J, R>, Fail>
     requires book { book ≡ J.ledger }
     requires map { map ≡ J.map }

@@ -115,8 +115,8 @@ fn changed<J: Naming, R: Wait + Drop>(
     rt: &impl Abort,
     waits: R,
     alloc: Global,
-    book: heat_ledger::Opened,
-    map: authority_map::Opened,
+    book: heat_ledger::NewBook,
+    map: authority_map::NewMap,
 ) -> Result<(), Fail>
     requires book { book ≡ J.ledger }
     requires map { map ≡ J.map }
@@ -135,7 +135,7 @@ fn changed<J: Naming, R: Wait + Drop>(
 
 #[test]
 fn changes_are_kept_with_their_replies(rt: HostRuntime) -> Result<(), Fail> {
-    let book = heat_ledger::Opened::new(rt.alloc())?;
-    let map = authority_map::Opened::new();
+    let book = heat_ledger::NewBook::new(rt.alloc())?;
+    let map = authority_map::NewMap::new();
     changed::<Brand, _>(&rt, &rt, rt.alloc(), book, map)
 }

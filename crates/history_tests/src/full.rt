@@ -83,8 +83,8 @@ fn filled<J: Naming, R: Wait + Drop>(
     rt: &impl Abort,
     waits: R,
     alloc: Global,
-    book: heat_ledger::Opened,
-    map: authority_map::Opened,
+    book: heat_ledger::NewBook,
+    map: authority_map::NewMap,
 ) -> Result<(), Fail>
     requires book { book ≡ J.ledger }
     requires map { map ≡ J.map }
@@ -101,7 +101,7 @@ fn filled<J: Naming, R: Wait + Drop>(
 
 #[test]
 fn a_full_board_refuses_before_all_else(rt: HostRuntime) -> Result<(), Fail> {
-    let book = heat_ledger::Opened::new(rt.alloc())?;
-    let map = authority_map::Opened::new();
+    let book = heat_ledger::NewBook::new(rt.alloc())?;
+    let map = authority_map::NewMap::new();
     filled::<Brand, _>(&rt, &rt, rt.alloc(), book, map)
 }

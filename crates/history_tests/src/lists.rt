@@ -150,8 +150,8 @@ fn ask_each<J: Naming, M: Publisher<J>>(
 fn answers<J: Naming, R: Wait + Drop>(
     waits: R,
     alloc: Global,
-    book: heat_ledger::Opened,
-    map: authority_map::Opened,
+    book: heat_ledger::NewBook,
+    map: authority_map::NewMap,
     is_list: bool,
 ) -> Result<(Vec<Given>, Reading), Fail>
     requires book { book ≡ J.ledger }
@@ -178,8 +178,8 @@ fn answered<R: Wait + Drop>(
     alloc: Global,
     is_list: bool,
 ) -> Result<(Vec<Given>, Reading), Fail> {
-    let book = heat_ledger::Opened::new(alloc)?;
-    let map = authority_map::Opened::new();
+    let book = heat_ledger::NewBook::new(alloc)?;
+    let map = authority_map::NewMap::new();
     answers::<Brand, R>(waits, alloc, book, map, is_list)
 }
 
@@ -284,8 +284,8 @@ fn closed<J: Naming, R: Wait + Drop>(
     rt: &impl Abort,
     waits: R,
     alloc: Global,
-    book: heat_ledger::Opened,
-    map: authority_map::Opened,
+    book: heat_ledger::NewBook,
+    map: authority_map::NewMap,
 ) -> Result<(), Fail>
     requires book { book ≡ J.ledger }
     requires map { map ≡ J.map }
@@ -305,7 +305,7 @@ fn closed<J: Naming, R: Wait + Drop>(
 
 #[test]
 fn a_closed_board_counts_no_more(rt: HostRuntime) -> Result<(), Fail> {
-    let book = heat_ledger::Opened::new(rt.alloc())?;
-    let map = authority_map::Opened::new();
+    let book = heat_ledger::NewBook::new(rt.alloc())?;
+    let map = authority_map::NewMap::new();
     closed::<Brand, _>(&rt, &rt, rt.alloc(), book, map)
 }

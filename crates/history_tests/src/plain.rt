@@ -60,7 +60,8 @@ impl Export {
     }
 }
 
-/// The problem that is open: its rows, their directories, its ranks, and the first event that changed what it was made of.
+/// The problem that is open: its rows, their directories, its ranks, and the first
+/// event that changed what it was made of.
 #[derive(Drop)]
 pub(crate) struct Posed {
     pub(crate) rows: Vec<ProblemRow>,

@@ -51,8 +51,8 @@ enum Step {
     Ask(u32),
 }
 
-/// A list in which each change is accepted: the root and /a move to rank 1 by a plan, one export is aborted, and one is asked
-/// about.
+/// A list in which each change is accepted: the root and /a move to rank 1 by a plan,
+/// one export is aborted, and one is asked about.
 const CHANGES: [Do; 50] = [
     Do::Make(0, "a"),
     Do::Hit(1),
@@ -270,8 +270,8 @@ fn changed<J: Naming, R: Wait + Drop + Copy>(
     rt: &impl Abort,
     waits: R,
     alloc: Global,
-    book: heat_ledger::Opened,
-    map: authority_map::Opened,
+    book: heat_ledger::NewBook,
+    map: authority_map::NewMap,
 ) -> Result<(), Fail>
     requires book { book ≡ J.ledger }
     requires map { map ≡ J.map }
@@ -287,16 +287,16 @@ fn changed<J: Naming, R: Wait + Drop + Copy>(
     done
 }
 
-fn book_at_last(alloc: Global) -> Result<heat_ledger::Opened, AllocError> {
-    match heat_ledger::Opened::new(alloc) {
+fn book_at_last(alloc: Global) -> Result<heat_ledger::NewBook, AllocError> {
+    match heat_ledger::NewBook::new(alloc) {
         Ok(book) => Ok(book),
-        Err(_) => heat_ledger::Opened::new(alloc),
+        Err(_) => heat_ledger::NewBook::new(alloc),
     }
 }
 
 #[test]
 fn a_refused_growth_changes_nothing(rt: HostRuntime) -> Result<(), Fail> {
     let book = book_at_last(rt.alloc())?;
-    let map = authority_map::Opened::new();
+    let map = authority_map::NewMap::new();
     changed::<Brand, _>(&rt, &rt, rt.alloc(), book, map)
 }

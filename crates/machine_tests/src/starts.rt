@@ -60,7 +60,8 @@ fn can_apply_names_the_refusal_of_a_start(rt: HostRuntime) -> Result<(), Fail> {
     Ok(())
 }
 
-/// An event that is prepared, and then happens. Where a growth is refused nothing has changed, and it is prepared again.
+/// An event that is prepared, and then happens. Where a growth is refused nothing
+/// has changed, and it is prepared again.
 fn happened(cluster: &mut Cluster, event: Event) -> Result<Reply, StepError> {
     let before = written(cluster);
     match cluster.prepare(&event) {

@@ -22,9 +22,11 @@ pub record IsHeldHeat (directories : List Directory) (holds : List Held) (spread
   pub at : (r : ℕ) → r < 64
       → slice_index pinned r ≡ min most_heat (slice_index spread r + held_below directories holds r (length directories))
 
--- what is planned: the rows are the directories, each with its heat where nothing holds it and with none where something does;
--- the plan is the one that is chosen of all that are weighed of these rows, with the held heat at its ranks
-pub record IsPlanned (directories : List Directory) (holds : List Held) (pinned : List ℕ) (ranks : ℕ) (parts : Parts) (proposal : Proposal) : Type 0 where
+-- what is planned: the rows are the directories, each with its heat where nothing holds it and with none where
+-- something does; the plan is the one that is chosen of all that are weighed of
+-- these rows, with the held heat at its ranks
+pub record IsPlanned (directories : List Directory) (holds : List Held) (pinned : List ℕ) (ranks : ℕ) (parts : Parts)
+    (proposal : Proposal) : Type 0 where
   pub rows : List ProblemRow
   pub own : List OwnPins
   pub rows_of : AreRowsOf directories holds (length directories) rows
@@ -32,18 +34,22 @@ pub record IsPlanned (directories : List Directory) (holds : List Held) (pinned 
   pub proposed : IsProposal ranks pinned rows parts own proposal
 
 -- what is decided for directories, with this heat by rank of what is spread
-pub record IsDecision (directories : List Directory) (spread : List ℕ) (ranks : ℕ) (parts : Parts) (decision : Decision) : Type 0 where
+pub record IsDecision (directories : List Directory) (spread : List ℕ) (ranks : ℕ) (parts : Parts)
+    (decision : Decision) : Type 0 where
   pub size : length decision.holds.items ≡ length directories
   pub held : (i : ℕ) → i < length directories → IsHeld directories i (held_at decision.holds.items i)
   pub pinned : IsHeldHeat directories decision.holds.items spread decision.pinned.items
   pub planned : IsPlanned directories decision.holds.items decision.pinned.items ranks parts decision.proposal
-  pub goals : (i : ℕ) → i < length directories → slice_index decision.goals.items i ≡ goal_at decision.holds.items decision.proposal.rows.items i
+  pub goals : (i : ℕ) → i < length directories
+      → slice_index decision.goals.items i ≡ goal_at decision.holds.items decision.proposal.rows.items i
   pub now : AreAmounts decision.sums.now.items (λ r. slice_index spread r + heat_now directories r (length directories))
-  pub into : AreAmounts decision.sums.into.items (λ r. inodes_to directories decision.holds.items decision.goals.items r (length directories))
-  pub out : AreAmounts decision.sums.out.items (λ r. inodes_from directories decision.holds.items decision.goals.items r (length directories))
+  pub into : AreAmounts decision.sums.into.items
+      (λ r. inodes_to directories decision.holds.items decision.goals.items r (length directories))
+  pub out : AreAmounts decision.sums.out.items
+      (λ r. inodes_from directories decision.holds.items decision.goals.items r (length directories))
 
--- what was collected of directories, with this heat by rank of what is spread, and what came of it: at most as many directories
--- as the planner takes, with all their heat and inodes, and what is decided for these
+-- what was collected of directories, with this heat by rank of what is spread, and what came of it: at most as many
+-- directories as the planner takes, with all their heat and inodes, and what is decided for these
 pub record IsOutcome (collected : List Directory) (spread : List ℕ) (parts : Parts) (outcome : Outcome) : Type 0 where
   pub few : length outcome.directories.items ≤ DIR_LIMIT
   pub folded : IsFolded collected outcome.directories.items

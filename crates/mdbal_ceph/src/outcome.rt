@@ -1,5 +1,6 @@
 //! Plans, and writes what came of it.
-ghost use Rattle.std.specs.Prelude.{◌≡◌, ◌<◌, ◌≤◌, ◌-◌, ◌*◌, ◌↔◌, ◌&&◌, ℕ, IfOk, IsTrue, Some, length, nat_lt, slice_index};
+ghost use Rattle.std.specs.Prelude.{◌≡◌, ◌<◌, ◌≤◌, ◌-◌, ◌*◌, ◌↔◌, ◌&&◌, ℕ, IfOk};
+ghost use Rattle.std.specs.Prelude.{IsTrue, Some, length, nat_lt, slice_index};
 ghost use Rattle.mds_types.specs.Sums.{max_below};
 ghost use Rattle.mds_types.specs.RankSet.{has_rank};
 ghost use Rattle.mdbal_ceph.specs.Outcomes.{IsDecision, IsOutcome};
@@ -63,7 +64,10 @@ fn is_worth_it(now: u64, planned: u64, percent: u8) -> bool
 
 /// Whether the plan is worth a proposal: the hottest rank gets cooler by at least so many percent.
 fn is_proposed(outcome: &Outcome, percent: u8) -> bool
-    ensures { let now = max_below (length outcome.now.decision.sums.now.items) (slice_index outcome.now.decision.sums.now.items) in let planned = outcome.now.decision.proposal.plan.packing.greatest in IsTrue result ↔ ((planned < now) × (now * percent ≤ (now - planned) * 100)) }
+    ensures { let now = max_below (length outcome.now.decision.sums.now.items)
+        (slice_index outcome.now.decision.sums.now.items) in let
+        planned = outcome.now.decision.proposal.plan.packing.greatest in IsTrue result
+        ↔ ((planned < now) × (now * percent ≤ (now - planned) * 100)) }
 {
     let greatest = outcome.decision.proposal.plan.packing.greatest;
     is_worth_it(greatest_now(&outcome.decision.sums), greatest, percent)
@@ -71,7 +75,9 @@ fn is_proposed(outcome: &Outcome, percent: u8) -> bool
 
 /// The ranks that may have a part.
 fn usable(settings: &Settings, collected: &Collected) -> Result<RankSet, Error>
-    ensures { (mask : ℕ) → settings.now.mask ≡ Some mask → IfOk result (λ ranks. (rank : ℕ) → has_rank ranks rank ≡ (nat_lt rank collected.now.size && has_rank mask rank)) }
+    ensures { (mask : ℕ) → settings.now.mask ≡ Some mask
+        → IfOk result (λ ranks. (rank : ℕ)
+        → has_rank ranks rank ≡ (nat_lt rank collected.now.size && has_rank mask rank)) }
 {
     let own = collected.cluster.mask.as_ref().map(|mask| mask.as_str());
     match ranks_of(settings.mask, own, collected.size) {
@@ -113,8 +119,10 @@ fn decided(
 
 /// Plans what was collected.
 fn planned(alloc: Global, settings: &Settings, collected: Collected) -> Result<Outcome, Error>
-    ensures outcome { IfOk result (IsOutcome collected.snapshot.directories.items collected.snapshot.spread.items settings.now.parts) }
-    ensures ranks { IfOk result (λ outcome. (mask : ℕ) → settings.now.mask ≡ Some mask → (rank : ℕ) → has_rank outcome.ranks rank ≡ (nat_lt rank collected.size && has_rank mask rank)) }
+    ensures outcome { IfOk result (IsOutcome collected.snapshot.directories.items collected.snapshot.spread.items
+        settings.now.parts) }
+    ensures ranks { IfOk result (λ outcome. (mask : ℕ) → settings.now.mask ≡ Some mask → (rank : ℕ)
+        → has_rank outcome.ranks rank ≡ (nat_lt rank collected.size && has_rank mask rank)) }
     ensures size { IfOk result (λ outcome. outcome.size ≡ collected.size) }
     ensures samples { IfOk result (λ outcome. outcome.samples ≡ collected.samples) }
 {

@@ -17,14 +17,16 @@ abbrev pub is_fit : Command → Bool
 is_fit (command.Step e) = is_inner e
 is_fit _ = true
 
--- The problem is opened, and a best plan for it adopted, whose orders are the answer. It is refused for want of places, a
--- balancer that is off and memory alone, and then changes nothing.
+-- The problem is opened, and a best plan for it adopted, whose orders are the answer. It is refused for want of
+-- places, a balancer that is off and memory alone, and then changes nothing.
 abbrev pub IsBalanced : World → Result Answer BoardError → World → Type 0
 IsBalanced old (Ok reply) new =
-    (plan : Plan) × IsBest (problem_of old.state) plan × IsCertified (problem_of old.state) plan × (refusal old.state change.Open ≡ None)
+    (plan : Plan) × IsBest (problem_of old.state) plan × IsCertified (problem_of old.state) plan × (refusal old.state
+    change.Open ≡ None)
     × (reply ≡ (happens (next old.state change.Open) (change.Adopt plan)).reply)
     × (new ≡ recorded (recorded old change.Open) (change.Adopt plan))
-IsBalanced old (Err e) new = ((balance_refusal old.state ≡ Some e) ⊎ ((balance_refusal old.state ≡ None) × (e ≡ Memory))) × (new ≡ old)
+IsBalanced old (Err e) new =
+    ((balance_refusal old.state ≡ Some e) ⊎ ((balance_refusal old.state ≡ None) × (e ≡ Memory))) × (new ≡ old)
 
 -- a command is the change of its name, and a balance two of them
 abbrev pub IsCarriedOut : World → Command → Result Answer BoardError → World → Type 0
@@ -39,6 +41,7 @@ IsCarriedOut old command.Balance answer new = IsBalanced old answer new
 -- the commands one after the other, each with its answer
 abbrev pub AreCarriedOut : World → List Command → List (Result Answer BoardError) → World → Type 0
 AreCarriedOut old [] [] new = new ≡ old
-AreCarriedOut old (c ∷ cs) (a ∷ more) new = (between : World) × IsCarriedOut old c a between × AreCarriedOut between cs more new
+AreCarriedOut old (c ∷ cs) (a ∷ more) new =
+    (between : World) × IsCarriedOut old c a between × AreCarriedOut between cs more new
 AreCarriedOut old [] (a ∷ more) new = ⊥
 AreCarriedOut old (c ∷ cs) [] new = ⊥

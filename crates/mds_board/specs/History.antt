@@ -8,8 +8,8 @@ use Rattle.board_state.specs.State.{State, start, refusal, happens, next}
 use Rattle.board_state.specs.Steps.{Present, IsAllowed, IsDue}
 use Rattle.mds_board.specs.declared.entry.Entry.{Entry}
 
--- What contracts see of a board: its state, whether its ledger is open, how many shares that has, how much of the map is
--- published, and the accepted changes with their replies.
+-- What contracts see of a board: its state, whether its ledger is open, how many shares that has, how much of the map
+-- is published, and the accepted changes with their replies.
 pub record World : Type 0 where
   pub state : State
   pub is_open : Bool
@@ -18,7 +18,8 @@ pub record World : Type 0 where
   pub history : List Entry
 
 abbrev pub world_of : Present → List Entry → World
-world_of p history = record { state = p.state; is_open = p.is_open; shares = p.shares; published = p.published; history = history }
+world_of p history =
+    record { state = p.state; is_open = p.is_open; shares = p.shares; published = p.published; history = history }
 
 -- From old the entries' changes were accepted in turn, with these replies, and left new.
 abbrev pub IsReplay : State → List Entry → State → Type 0

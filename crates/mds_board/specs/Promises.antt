@@ -31,11 +31,15 @@ abbrev pub opened_at : State → Option State → List Entry → Option State
 opened_at s last [] = last
 opened_at s last (e ∷ es) = opened_at (Rattle.board_state.specs.State.next s e.change) (opens s last e.change) es
 
--- Each plan in a history that begins at first is best for the problem of the tree, pins, heats, mask and authorities as they
--- were at the last opening before it.
+-- Each plan in a history that begins at first is best for the problem of the tree, pins, heats, mask and authorities
+-- as they were at the last opening before it.
 abbrev pub AdoptsBest : State → List Entry → Type 0
 AdoptsBest first history =
-    (before more : List Entry) (plan : Plan) (reply : Answer) → history ≡ before ++ record { change = Adopt plan; reply = reply } ∷ more
+    (before more : List Entry) (plan : Plan) (reply : Answer) → history ≡ before ++ record {
+      change =
+          Adopt plan;
+      reply = reply;
+    } ∷ more
     → (s : State) × (opened_at first None before ≡ Some s) × IsBest (problem_of s) plan
 
 -- the events of the cluster that a change makes
@@ -50,11 +54,12 @@ abbrev pub cluster_events : List Entry → List Event
 cluster_events [] = []
 cluster_events (e ∷ es) = cluster_event e.change ++ cluster_events es
 
--- What holds of every board: its state is the replay of its history from the empty board; each adopted plan is best for the
--- problem of its opening; its cluster is the machine's after the history's events; each directory has exactly one authority,
--- which the map names but between log and notify, and no request runs at a stopped rank.
+-- What holds of every board: its state is the replay of its history from the empty board; each adopted plan is best
+-- for the problem of its opening; its cluster is the machine's after the history's events; each directory has exactly
+-- one authority, which the map names but between log and notify, and no request runs at a stopped rank.
 pub record IsKept (w : World) : Type 0 where
   pub replay : IsReplay (start w.state.directories.limit w.state.pins.active) w.history w.state
   pub plans : AdoptsBest (start w.state.directories.limit w.state.pins.active) w.history
-  pub cluster : w.state.cluster ≡ machine.run (machine.start w.state.directories.limit w.state.pins.active) (cluster_events w.history)
+  pub cluster : w.state.cluster ≡ machine.run (machine.start w.state.directories.limit w.state.pins.active)
+      (cluster_events w.history)
   pub promised : Promised w.state.cluster

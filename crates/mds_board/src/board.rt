@@ -1,5 +1,6 @@
 //! The board.
-ghost use Rattle.std.specs.Prelude.{◌≡◌, ◌⊎◌, ℕ, ◌+◌, [], All, IfOk, IfErr, IsErr, OnOk, OnErr, MatchBool, None, Some, false, replicate, true};
+ghost use Rattle.std.specs.Prelude.{◌≡◌, ◌⊎◌, ℕ, ◌+◌, [], All, IfOk, IfErr, IsErr, OnOk, OnErr};
+ghost use Rattle.std.specs.Prelude.{MatchBool, None, Some, false, replicate, true};
 ghost use Rattle.mds_types.specs.Certificate.{IsBest, IsCertified};
 ghost use Rattle.mds_types.specs.declared.plan.Plan.{Plan};
 ghost use Rattle.heat_ledger.specs.Opening.{fresh_share};
@@ -25,8 +26,8 @@ use std::marker::Model;
 
 /// One state, with the history of its changes. `J` names it.
 ///
-/// Each change is refused, which changes nothing, or is made whole and kept with its reply. The board can't be dropped, only
-/// ended, as it has the map's writer.
+/// Each change is refused, which changes nothing, or is made whole and kept with its reply. The board can't be
+/// dropped, only ended, as it has the map's writer.
 pub struct Board<J: Naming, M: Publisher<J>> {
     pub(crate) state: BoardState<J, M>,
     pub(crate) history: Vec<Entry>,
@@ -43,8 +44,8 @@ impl<J: Naming, M: Publisher<J>> Model for Board<J, M> {
 }
 
 impl<J: Naming, M: Publisher<J>> Board<J, M> {
-    /// The root alone, at rank 0 of so many active ranks, with room for the directory numbers below `limit`, and a share of
-    /// the ledger for each rank. Where memory is refused, the parts are handed back.
+    /// The root alone, at rank 0 of so many active ranks, with room for the directory numbers below `limit`, and a
+    /// share of the ledger for each rank. Where memory is refused, the parts are handed back.
     pub fn new(
         alloc: Global,
         parts: BoardParts<J, M>,
@@ -56,7 +57,13 @@ impl<J: Naming, M: Publisher<J>> Board<J, M> {
         requires high { limit ≤ 65536 }
         requires some { 1 ≤ active }
         requires few { active ≤ 64 }
-        ensures board { IfOk result (λ r. r.0 ≡ record { state = start limit active; is_open = true; shares = active; published = []; history = [] }) }
+        ensures board { IfOk result (λ r. r.0 ≡ record {
+          state = start limit active;
+          is_open = true;
+          shares = active;
+          published = [];
+          history = [];
+        }) }
         ensures shares { IfOk result (λ r. r.1.items ≡ replicate active (fresh_share limit)) }
     {
         match BoardState::new(alloc, parts, limit, active) {
@@ -141,7 +148,8 @@ impl<J: Naming, M: Publisher<J>> Board<J, M> {
 
     /// Counts the hits that a share has pending, which give heat to the directories that are there.
     pub fn deposit(&mut self, alloc: Global, share: &mut Share<J>) -> Result<(), BoardError>
-        ensures answer { IsAnswer self.old (Change.Deposit (counted_rows share.old.pending)) (spelled (λ _. Answer.Done) result) self.new }
+        ensures answer { IsAnswer self.old (Change.Deposit (counted_rows share.old.pending))
+            (spelled (λ _. Answer.Done) result) self.new }
         ensures share { OnOk result (share.new ≡ record share.old { pending = replicate J.limit 0 }) }
         ensures unchanged { OnErr result (share.new ≡ share.old) }
     {
@@ -167,8 +175,8 @@ impl<J: Naming, M: Publisher<J>> Board<J, M> {
         Ok(keep_step(&mut self.history, begin, reply))
     }
 
-    /// An event of the cluster that neither makes nor removes a directory nor begins a request: `make`, `remove` and `begin`
-    /// do that.
+    /// An event of the cluster that neither makes nor removes a directory nor begins a request: `make`, `remove` and
+    /// `begin` do that.
     pub fn step(&mut self, alloc: Global, event: Event) -> Result<Reply, BoardError>
         requires inner { is_inner event ≡ true }
         ensures { IsAnswer self.old (Change.Step event) (spelled Answer.Reply result) self.new }
@@ -192,10 +200,11 @@ impl<J: Naming, M: Publisher<J>> Board<J, M> {
         Ok(given)
     }
 
-    /// Puts a plan in force that is best for the problem that is open. It answers the orders by which the directories come
-    /// to the ranks that the plan gives them.
+    /// Puts a plan in force that is best for the problem that is open. It answers the orders by which the directories
+    /// come to the ranks that the plan gives them.
     pub fn adopt(&mut self, alloc: Global, plan: Plan) -> Result<Vec<Order>, BoardError>
-        ensures { IsAnswer self.old (Change.Adopt plan) (spelled (λ orders. Answer.Orders orders.items) result) self.new }
+        ensures { IsAnswer self.old (Change.Adopt plan) (spelled (λ orders. Answer.Orders orders.items) result)
+            self.new }
     {
         let Ok(kept) = room_for_plan(alloc, &mut self.history, plan) else {
             return Err(or_memory(self.state.adopt_refusal()));
@@ -209,8 +218,8 @@ impl<J: Naming, M: Publisher<J>> Board<J, M> {
         Ok(given)
     }
 
-    /// Opens the problem, solves it and adopts the plan: two events. It answers the plan's orders, as the history has them.
-    /// It refuses for want of places, a balancer that is off and memory alone.
+    /// Opens the problem, solves it and adopts the plan: two events. It answers the plan's orders, as the history has
+    /// them. It refuses for want of places, a balancer that is off and memory alone.
     #[tactic(auto, unfolding(board_state::specs::State::happens))]
     pub fn balance<S: Solver>(
         &mut self,
@@ -220,7 +229,8 @@ impl<J: Naming, M: Publisher<J>> Board<J, M> {
         ensures ok { IfOk result (λ orders. (plan : Plan) × IsBest (problem_of self.old.state) plan × IsCertified (problem_of self.old.state) plan × (refusal self.old.state Change.Open ≡ None)
             × (Answer.Orders orders.items ≡ (happens (next self.old.state Change.Open) (Change.Adopt plan)).reply)
             × (self.new ≡ recorded (recorded self.old Change.Open) (Change.Adopt plan))) }
-        ensures err { IfErr result (λ e. (balance_refusal self.old.state ≡ Some e) ⊎ ((balance_refusal self.old.state ≡ None) × (e ≡ BoardError.Memory))) }
+        ensures err { IfErr result (λ e. (balance_refusal self.old.state ≡ Some e)
+            ⊎ ((balance_refusal self.old.state ≡ None) × (e ≡ BoardError.Memory))) }
         ensures unchanged { OnErr result (self.new ≡ self.old) }
     {
         if self.history.reserve(2).is_err() {
@@ -232,7 +242,8 @@ impl<J: Naming, M: Publisher<J>> Board<J, M> {
 
     /// Publishes the map, and says whether memory sufficed. It is no event.
     pub fn publish(&mut self) -> bool
-        ensures { MatchBool result (self.new ≡ record self.old { published = self.old.state.map }) (self.new ≡ self.old) }
+        ensures { MatchBool result (self.new ≡ record self.old { published = self.old.state.map })
+            (self.new ≡ self.old) }
     {
         self.state.publish()
     }
@@ -241,7 +252,8 @@ impl<J: Naming, M: Publisher<J>> Board<J, M> {
     /// begun requests theirs. It changes nothing, and is no event.
     pub fn audit(&mut self, shares: &mut Vec<Share<J>>)
         requires { weight_of shares.old.items ≡ self.old.shares }
-        ensures hits { (dir : ℕ) → at self.new.state.counted dir + pending_of shares.new.items dir ≡ hits_of shares.new.items dir }
+        ensures hits { (dir : ℕ) → at self.new.state.counted dir + pending_of shares.new.items dir
+            ≡ hits_of shares.new.items dir }
         ensures begun { (dir : ℕ) → at self.new.state.begun dir ≡ begun_of shares.new.items dir }
         ensures same { (self.new ≡ self.old) × (shares.new.items ≡ shares.old.items) }
     {

@@ -1,7 +1,7 @@
 //! The board: one state, and the stored history that gives it.
 //!
-//! Each accepted change is kept with its reply, each plan that was adopted is best for the problem that was open, and each
-//! directory has exactly one authority.
+//! Each accepted change is kept with its reply, each plan that was adopted is best for the problem that was open, and
+//! each directory has exactly one authority.
 #![tactic(auto)]
 
 pub mod board;

@@ -9,7 +9,7 @@ ghost use Rattle.mds_board.specs.Promises.{IsKept, cluster_event, cluster_events
 
 use crate::board::Board;
 use crate::entry::Entry;
-use authority_map::{Publisher, Told};
+use authority_map::{Published, Publisher};
 use board_state::{Change, InForce, OpenProblem};
 use dir_pins::Pins;
 use dirtree::Tree;
@@ -27,11 +27,12 @@ impl<J: Naming, M: Publisher<J>> Board<J, M> {
         &self.history
     }
 
-    /// The events of the cluster in the history, in order: a directory that was made is `Made`, one that was removed `Gone`. A
-    /// new cluster to which they happen is this board's.
+    /// The events of the cluster in the history, in order: a directory that was made is `Made`, one that was removed
+    /// `Gone`. A new cluster to which they happen is this board's.
     pub fn cluster_events(&self, alloc: Global) -> Result<Vec<Event>, AllocError>
         ensures events { IfOk result (λ found. found.items ≡ cluster_events self.now.history) }
-        ensures again { IfOk result (λ found. run (start self.now.state.directories.limit self.now.state.pins.active) found.items ≡ self.now.state.cluster) }
+        ensures again { IfOk result (λ found. run (start self.now.state.directories.limit self.now.state.pins.active)
+            found.items ≡ self.now.state.cluster) }
     {
         let mut events = Vec::new(alloc);
         for entry in &self.history {
@@ -40,8 +41,8 @@ impl<J: Naming, M: Publisher<J>> Board<J, M> {
         Ok(events)
     }
 
-    /// What holds of every board, whatever was done to it: its state is the replay of its history, each adopted plan is best
-    /// for the problem of its opening, and each directory has exactly one authority. It does nothing.
+    /// What holds of every board, whatever was done to it: its state is the replay of its history, each adopted plan
+    /// is best for the problem of its opening, and each directory has exactly one authority. It does nothing.
     pub fn promises(&self)
         ensures { IsKept self.now }
     {
@@ -100,7 +101,8 @@ impl<J: Naming, M: Publisher<J>> Board<J, M> {
     /// The plan in force.
     pub fn plan_in_force(&self) -> Option<&Plan>
         ensures exact { option_map (λ plan. plan.now) result ≡ plan_in_force self.now }
-        ensures best { MatchOption result (self.now.state.in_force ≡ None) (λ plan. IsBestInForce self.now.state.in_force plan.now) }
+        ensures best { MatchOption result (self.now.state.in_force ≡ None)
+            (λ plan. IsBestInForce self.now.state.in_force plan.now) }
     {
         match self.in_force() {
             Some(force) => adopted_at(&self.history, force.event() as usize),
@@ -130,7 +132,7 @@ impl<J: Naming, M: Publisher<J>> Board<J, M> {
     }
 
     /// A token of what is published, for the map's readers.
-    pub fn tell(&self) -> Told<J>
+    pub fn tell(&self) -> Published<J>
         ensures { result ≡ self.now.published }
     {
         self.state.tell()

@@ -1,5 +1,6 @@
 -- What makes the proofs of a plan proofs: of its greatest heat, and of the inodes that it moves.
-use Rattle.std.specs.Prelude.{◌≡◌, ◌≢◌, ◌<◌, ◌≤◌, ◌+◌, ◌-◌, ℕ, ℤ, pos, ◌+ℤ◌, ◌≤ℤ◌, true, List, length, slice_index, slice_index_or}
+use Rattle.std.specs.Prelude.{◌≡◌, ◌≢◌, ◌<◌, ◌≤◌, ◌+◌, ◌-◌, ℕ, ℤ, pos, ◌+ℤ◌, ◌≤ℤ◌}
+use Rattle.std.specs.Prelude.{true, List, length, slice_index, slice_index_or}
 use Rattle.mds_types.specs.declared.problem.ProblemRow.{ProblemRow}
 use Rattle.mds_types.specs.declared.cut_proof.CutProof.{CutProof}
 use Rattle.mds_types.specs.declared.cut_proof.CutProof.TheVariants.{Zero, Heavy, Table}
@@ -44,7 +45,8 @@ pub record IsPartition (rows : List ProblemRow) (k : ℕ) (label : ℕ → ℕ) 
   pub used : (part : ℕ) → part < k → (i : ℕ) × InPart rows label part i
 
 -- a division into no more parts than there are ranks, with its greatest heat and a proof that none has a smaller one
-pub record IsCutCertified (rows : List ProblemRow) (ranks : ℕ) (part : List ℕ) (k greatest : ℕ) (proof : CutProof) : Type 0 where
+pub record IsCutCertified (rows : List ProblemRow) (ranks : ℕ) (part : List ℕ) (k greatest : ℕ)
+    (proof : CutProof) : Type 0 where
   pub few : k ≤ ranks
   pub size : length part ≡ length rows
   pub parts : IsPartition rows k (slice_index part)

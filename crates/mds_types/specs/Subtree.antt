@@ -1,5 +1,6 @@
 -- What a division does within one subtree.
-use Rattle.std.specs.Prelude.{◌≡◌, ◌==◌, ◌<◌, ◌≤◌, ◌⊎◌, ◌&&◌, ℕ, zero, suc, Bool, not, nat_lt, List, length, if◌then◌else◌}
+use Rattle.std.specs.Prelude.{◌≡◌, ◌==◌, ◌<◌, ◌≤◌, ◌⊎◌, ◌&&◌, ℕ, zero, suc, Bool}
+use Rattle.std.specs.Prelude.{not, nat_lt, List, length, if◌then◌else◌}
 use Rattle.mds_types.specs.declared.problem.ProblemRow.{ProblemRow}
 use Rattle.mds_types.specs.Problem.{parent_at, heat_at}
 use Rattle.mds_types.specs.Sums.{sum_below, count_below, some_below}

@@ -44,5 +44,6 @@ pub fn dual_proof_bounds()
 
 /// A plan whose proofs hold is best.
 pub fn certified_plan_is_best()
-    ensures { (problem : ProblemData) (plan : Plan) → IsProblem problem → IsCertified problem plan → IsBest problem plan }
+    ensures { (problem : ProblemData) (plan : Plan) → IsProblem problem → IsCertified problem plan
+        → IsBest problem plan }
 {}

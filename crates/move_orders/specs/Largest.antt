@@ -6,7 +6,7 @@ use Rattle.mds_types.specs.declared.order.Order.{Order}
 use Rattle.dirtree.specs.Tree.{Entry, is_there, parent_of}
 use Rattle.move_orders.specs.Moves.{rank_at}
 
--- d is there, and goes from one rank to another: now has the rank of each directory, target the rank that it is to be at
+-- d is there, and goes from one rank to another: now has each directory's rank, target the rank where it is to be
 pub record Moves (entries : List (Option Entry)) (now target : List (Option ℕ)) (from to d : ℕ) : Type 0 where
   pub there : is_there entries d ≡ true
   pub at : rank_at now d ≡ Some from
@@ -28,7 +28,8 @@ pub record IsOrder (entries : List (Option Entry)) (now target : List (Option �
   pub moves : (d : ℕ) → Contains o.dirs d → Moves entries now target o.from o.to d
   pub connected : IsConnected (IsEdge entries) (Contains o.dirs)
   -- no directory beside it could be added
-  pub largest : (c d : ℕ) → Contains o.dirs c → IsEdge entries c d → Moves entries now target o.from o.to d → Contains o.dirs d
+  pub largest : (c d : ℕ) → Contains o.dirs c → IsEdge entries c d → Moves entries now target o.from o.to d
+      → Contains o.dirs d
   -- the top has the least number and stands above all others: each of them has its parent in the set
   pub below_top : (d : ℕ) → Contains o.dirs d → d ≢ top o → Contains o.dirs (parent_of entries d)
 

@@ -1,5 +1,6 @@
 -- The moves that directories are to make, each from the rank that has it to the rank that it is to be at.
-use Rattle.std.specs.Prelude.{◌==◌, ◌&&◌, ℕ, Bool, false, not, if◌then◌else◌, List, [], ◌∷◌, slice_index_or, is_some, Option, Some, None}
+use Rattle.std.specs.Prelude.{◌==◌, ◌&&◌, ℕ, Bool, false, not, if◌then◌else◌, List, []}
+use Rattle.std.specs.Prelude.{◌∷◌, slice_index_or, is_some, Option, Some, None}
 use Prim.Native.Nat.{zero, suc}
 use Rattle.dirtree.specs.Tree.{Entry, is_there, parent_of, walk_up}
 use Rattle.move_orders.specs.declared.moves.Move.{Move}
@@ -26,7 +27,8 @@ is_same_move _ _ = false
 -- d moves, and its parent does not move as it does; the root has no parent
 abbrev pub is_top : List (Option Entry) → (ℕ → Option Move) → ℕ → Bool
 is_top entries move zero = is_some (move 0)
-is_top entries move (suc d) = is_some (move (suc d)) && not (is_same_move (move (parent_of entries (suc d))) (move (suc d)))
+is_top entries move (suc d) =
+    is_some (move (suc d)) && not (is_same_move (move (parent_of entries (suc d))) (move (suc d)))
 
 -- the first of these directories that is a top, or the root
 abbrev pub first_top : List (Option Entry) → (ℕ → Option Move) → List ℕ → ℕ

@@ -20,7 +20,13 @@ to_of (Some m) = m.to
 
 -- the order of a top, with the directories below n, rising
 abbrev pub order_of : List (Option Entry) → (ℕ → Option Move) → ℕ → ℕ → Order
-order_of entries move n top = record { from = from_of (move top); to = to_of (move top); dirs = filter (is_member entries move top) (range_with_len 0 n) }
+order_of entries move n top =
+    record {
+      from = from_of (move top);
+      to = to_of (move top);
+      dirs = filter (is_member entries move top)
+          (range_with_len 0 n);
+    }
 
 -- the tops below n, rising
 abbrev pub tops : List (Option Entry) → (ℕ → Option Move) → ℕ → List ℕ
@@ -28,4 +34,6 @@ tops entries move n = filter (is_top entries move) (range_with_len 0 n)
 
 -- the orders by rising tops: now has the rank of each directory, target the rank that it is to be at
 abbrev pub orders : List (Option Entry) → List (Option ℕ) → List (Option ℕ) → List Order
-orders entries now target = map (order_of entries (move_of entries now target) (length entries)) (tops entries (move_of entries now target) (length entries))
+orders entries now target =
+    map (order_of entries (move_of entries now target) (length entries))
+    (tops entries (move_of entries now target) (length entries))

@@ -1,5 +1,6 @@
 //! Orders while their directories are found.
-ghost use Rattle.std.specs.Prelude.{◌≡◌, ◌<◌, ◌++◌, ◌∷◌, [], length, slice_index, slice_index_or, slice_set, IfOk, OnOk};
+ghost use Rattle.std.specs.Prelude.{◌≡◌, ◌<◌, ◌++◌, ◌∷◌, [], length, slice_index};
+ghost use Rattle.std.specs.Prelude.{slice_index_or, slice_set, IfOk, OnOk};
 ghost use Rattle.move_orders.specs.Found.{begun, no_order, with_dir};
 
 use crate::moves::Move;
@@ -79,7 +80,8 @@ impl Found {
     pub(crate) fn begin(&mut self, alloc: Global, made: &Move, top: Dir) -> Result<(), AllocError>
         requires { top < length self.old.places.items }
         ensures orders { OnOk result (self.new.orders.items ≡ self.old.orders.items ++ begun made.now top ∷ []) }
-        ensures places { OnOk result (self.new.places.items ≡ slice_set self.old.places.items top (length self.old.orders.items)) }
+        ensures places { OnOk result (self.new.places.items
+            ≡ slice_set self.old.places.items top (length self.old.orders.items)) }
     {
         let place = self.orders.len();
         self.orders.push(Draft::new(alloc, made, top)?)?;
@@ -94,7 +96,8 @@ impl Found {
         requires place { slice_index self.old.places.items parent < length self.old.orders.items }
         ensures orders { OnOk result (let place = slice_index self.old.places.items parent in
             self.new.orders.items ≡ slice_set self.old.orders.items place (with_dir (slice_index_or self.old.orders.items place no_order) dir)) }
-        ensures places { OnOk result (self.new.places.items ≡ slice_set self.old.places.items dir (slice_index self.old.places.items parent)) }
+        ensures places { OnOk result (self.new.places.items
+            ≡ slice_set self.old.places.items dir (slice_index self.old.places.items parent)) }
     {
         let place = self.places[parent.number() as usize];
         self.orders[place].add(dir)?;

@@ -8,10 +8,12 @@ ghost use Rattle.move_orders.specs.Orders.{orders};
 /// In every tree the orders are the largest connected sets that go from one rank to another, and
 /// each directory that is to move is in one of them.
 pub fn orders_are_largest()
-    ensures { (entries : List (Option Entry)) (now target : List (Option ℕ)) → IsTree entries → AreOrders entries now target (orders entries now target) }
+    ensures { (entries : List (Option Entry)) (now target : List (Option ℕ)) → IsTree entries
+        → AreOrders entries now target (orders entries now target) }
 {}
 
 /// There is one list of orders, and no other: the words of sets leave nothing open.
 pub fn orders_are_unique()
-    ensures { (entries : List (Option Entry)) (now target : List (Option ℕ)) (some others : List Order) → AreOrders entries now target some → AreOrders entries now target others → some ≡ others }
+    ensures { (entries : List (Option Entry)) (now target : List (Option ℕ)) (some others : List Order)
+        → AreOrders entries now target some → AreOrders entries now target others → some ≡ others }
 {}

@@ -2,7 +2,7 @@
 ghost use Rattle.std.specs.Prelude.{◌≡◌};
 
 use crate::maps::{all_found, clear, give, give_two, hear, look, rank, show};
-use authority_map::{Found, MapError, MapReader, MapWriter, Opened, Publisher};
+use authority_map::{Found, MapError, MapReader, MapWriter, NewMap, Publisher};
 use mds_types::{Dir, Rank};
 use naming::Naming;
 use std::alloc::Global;
@@ -146,7 +146,7 @@ fn is_found<J: Naming, M: Publisher<J>>(
 fn on_map<J: Naming, R: Wait + Drop>(
     rt: R,
     alloc: Global,
-    opened: Opened,
+    opened: NewMap,
     case: Case,
 ) -> Result<bool, MapError>
     requires name { opened ≡ J.map }
@@ -169,7 +169,7 @@ fn on_a_map<R: Wait + Drop>(
     alloc: Global,
     case: Case,
 ) -> Result<(), Fail> {
-    let is_well = on_map::<Brand, R>(waits, alloc, Opened::new(), case)?;
+    let is_well = on_map::<Brand, R>(waits, alloc, NewMap::new(), case)?;
     assert!(rt; is_well);
     Ok(())
 }

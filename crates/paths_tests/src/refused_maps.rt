@@ -2,7 +2,7 @@
 ghost use Rattle.std.specs.Prelude.{◌≡◌, ◌<◌};
 
 use crate::maps::{give, look, rank, show};
-use authority_map::{Found, MapError, MapReader, MapWriter, Opened, Publisher};
+use authority_map::{Found, MapError, MapReader, MapWriter, NewMap, Publisher};
 use mds_types::{Dir, Rank};
 use naming::Naming;
 use std::alloc::Global;
@@ -81,7 +81,7 @@ fn go_on<J: Naming, R: Wait + Drop>(
 }
 
 // Opens a map, and opens it again where memory was refused. It says whether all went as it should.
-fn open_at_last<J: Naming, R: Wait>(rt: &R, alloc: Global, opened: Opened) -> bool
+fn open_at_last<J: Naming, R: Wait>(rt: &R, alloc: Global, opened: NewMap) -> bool
     requires name { opened ≡ J.map }
     requires limit { J.limit ≡ 4 }
 {
@@ -98,5 +98,5 @@ fn open_at_last<J: Naming, R: Wait>(rt: &R, alloc: Global, opened: Opened) -> bo
 
 #[test]
 fn a_refused_growth_changes_no_map(rt: HostRuntime) {
-    assert!(rt; open_at_last::<Brand, HostRuntime>(&rt, rt.alloc(), Opened::new()));
+    assert!(rt; open_at_last::<Brand, HostRuntime>(&rt, rt.alloc(), NewMap::new()));
 }

@@ -2,7 +2,7 @@
 ghost use Rattle.std.specs.Prelude.{◌≡◌, ◌<◌, ◌≤◌, All, IfOk};
 ghost use Rattle.heat_ledger.specs.Ledger.{IsClean, weight_of};
 
-use heat_ledger::{Book, HitError, Missing, Opened, Share};
+use heat_ledger::{Book, HitError, Missing, NewBook, Share};
 use mds_types::Dir;
 use naming::Naming;
 use std::alloc::{AllocError, AllocFailed, Global};
@@ -46,7 +46,7 @@ fn with<J: Naming>(shares: Vec<Share<J>>, share: Share<J>) -> Result<Vec<Share<J
 // A book of some shares on four directories, opened again where memory was refused.
 fn open<J: Naming>(
     alloc: Global,
-    opened: Opened,
+    opened: NewBook,
     shares: u8,
 ) -> Result<(Book<J>, Vec<Share<J>>), AllocError>
     requires name { opened ≡ J.ledger }
@@ -146,7 +146,7 @@ fn close_over<J: Naming>(
 fn count_seven<J: Naming + Send + Sync + 'static, R: Threads + Abort + Sync>(
     rt: &R,
     alloc: Global,
-    opened: Opened,
+    opened: NewBook,
 ) -> Result<(), AllocError>
     requires name { opened ≡ J.ledger }
     requires limit { J.limit ≡ 4 }
@@ -181,7 +181,7 @@ fn joined<J: Naming>(
 fn close_joined<J: Naming, R: Abort>(
     rt: &R,
     alloc: Global,
-    opened: Opened,
+    opened: NewBook,
 ) -> Result<(), AllocError>
     requires name { opened ≡ J.ledger }
     requires limit { J.limit ≡ 4 }
@@ -204,14 +204,14 @@ fn close_joined<J: Naming, R: Abort>(
 #[test]
 fn a_share_moves_through_a_thread(rt: HostRuntime) -> Result<(), Fail> {
     let alloc: Global = rt.alloc();
-    count_seven::<Brand, HostRuntime>(&rt, alloc, Opened::new(alloc)?)?;
+    count_seven::<Brand, HostRuntime>(&rt, alloc, NewBook::new(alloc)?)?;
     Ok(())
 }
 
 #[test]
 fn joined_shares_close_a_book(rt: HostRuntime) -> Result<(), Fail> {
     let alloc: Global = rt.alloc();
-    close_joined::<Brand, HostRuntime>(&rt, alloc, Opened::new(alloc)?)?;
+    close_joined::<Brand, HostRuntime>(&rt, alloc, NewBook::new(alloc)?)?;
     Ok(())
 }
 
@@ -219,7 +219,7 @@ fn joined_shares_close_a_book(rt: HostRuntime) -> Result<(), Fail> {
 fn count_surely<J: Naming, R: Abort>(
     rt: &R,
     alloc: Global,
-    opened: Opened,
+    opened: NewBook,
 ) -> Result<(), AllocError>
     requires name { opened ≡ J.ledger }
     requires limit { J.limit ≡ 4 }
@@ -246,9 +246,9 @@ fn count_surely<J: Naming, R: Abort>(
 #[test]
 fn a_refused_growth_hands_back(rt: HostRuntime) -> Result<(), Fail> {
     let alloc: Global = rt.alloc();
-    let opened = match Opened::new(alloc) {
+    let opened = match NewBook::new(alloc) {
         Ok(opened) => opened,
-        Err(_) => Opened::new(alloc)?,
+        Err(_) => NewBook::new(alloc)?,
     };
     count_surely::<Brand, HostRuntime>(&rt, alloc, opened)?;
     Ok(())

@@ -2,7 +2,7 @@
 ghost use Rattle.std.specs.Prelude.{◌≡◌};
 
 use crate::maps::{give, hear, look, rank, show};
-use authority_map::{Found, MapError, MapReader, MapWriter, Opened, Publisher};
+use authority_map::{Found, MapError, MapReader, MapWriter, NewMap, Publisher};
 use mds_types::Dir;
 use naming::Naming;
 use std::alloc::Global;
@@ -116,7 +116,7 @@ fn watch_all<J: Naming + Send + Sync, M: Publisher<J> + Send, R: Threads + Sync>
 fn raise_and_watch<J: Naming + Send + Sync, R: Threads + Wait + Sync>(
     rt: &R,
     alloc: Global,
-    opened: Opened,
+    opened: NewMap,
 ) -> Option<([bool; 3], [Found; 3], bool)>
     requires name { opened ≡ J.map }
     requires limit { J.limit ≡ 4 }
@@ -133,7 +133,7 @@ fn raise_and_watch<J: Naming + Send + Sync, R: Threads + Wait + Sync>(
 
 #[test]
 fn answers_never_go_back(rt: HostRuntime) -> Result<(), Fail> {
-    let seen = raise_and_watch::<Brand, HostRuntime>(&rt, rt.alloc(), Opened::new()).ok_or("open")?;
+    let seen = raise_and_watch::<Brand, HostRuntime>(&rt, rt.alloc(), NewMap::new()).ok_or("open")?;
     let (forward, last, raised) = seen;
     assert!(rt; raised);
     assert_eq!(rt; forward, [true, true, true]);

@@ -51,4 +51,5 @@ HoldsAt rows table rests cuts bound i =
 
 -- the table holds at row i
 abbrev pub IsChecked : List ProblemRow → List Row → ℕ → ℕ → Type 0
-IsChecked rows table bound i = HoldsAt rows table (kept_of_children rows table i) (cuts_of_children rows table i) bound i
+IsChecked rows table bound i =
+    HoldsAt rows table (kept_of_children rows table i) (cuts_of_children rows table i) bound i

@@ -44,8 +44,8 @@ fn is_cut_proof(
     }
 }
 
-/// Whether the rows are divided into `k` connected parts, no more than there are ranks, with this greatest heat, and the
-/// proof shows that no division into as many parts as there are ranks has a smaller one.
+/// Whether the rows are divided into `k` connected parts, no more than there are ranks, with this greatest heat, and
+/// the proof shows that no division into as many parts as there are ranks has a smaller one.
 pub fn check_cut(
     alloc: Global,
     problem: &Problem,

@@ -48,7 +48,8 @@ pub record IsLink (r : ℕ) (cell : ℕ → ℕ → ℕ) (u w owner near turn : 
   pub exact : near j + u (owner i - 1) ≡ near i + cell (owner i - 1) j + w j
 
 -- the t nearest ranks have been reached, and the ways over their parts were tried
-pub record IsReaching (r : ℕ) (cell : ℕ → ℕ → ℕ) (u w owner : ℕ → ℕ) (s : ℕ) (near via turn : ℕ → ℕ) (t : ℕ) : Type 0 where
+pub record IsReaching (r : ℕ) (cell : ℕ → ℕ → ℕ) (u w owner : ℕ → ℕ) (s : ℕ) (near via turn : ℕ → ℕ)
+    (t : ℕ) : Type 0 where
   pub recent : (j : ℕ) → j < r → turn j ≤ t
   pub counted : count_below r (λ j. nat_lt 0 (turn j)) ≡ t
   pub owned : (j : ℕ) → j < r → 0 < turn j → 0 < owner j
@@ -59,7 +60,8 @@ pub record IsReaching (r : ℕ) (cell : ℕ → ℕ → ℕ) (u w owner : ℕ �
   pub linked : (i j : ℕ) → j < r → via j ≡ i + 1 → IsLink r cell u w owner near turn i j
 
 -- a free rank e has been reached, and no free one is nearer
-pub record IsReached (r : ℕ) (cell : ℕ → ℕ → ℕ) (u w owner : ℕ → ℕ) (s : ℕ) (near via turn : ℕ → ℕ) (e : ℕ) : Type 0 where
+pub record IsReached (r : ℕ) (cell : ℕ → ℕ → ℕ) (u w owner : ℕ → ℕ) (s : ℕ) (near via turn : ℕ → ℕ)
+    (e : ℕ) : Type 0 where
   pub inside : e < r
   pub free : owner e ≡ 0
   pub seen : 0 < turn e

@@ -1,5 +1,6 @@
 //! The best placing of parts on ranks, with the prices that show that none is better.
-ghost use Rattle.std.specs.Prelude.{◌≡◌, ◌≢◌, ◌<◌, ◌≤◌, ◌+◌, ◌*◌, ◌^◌, ℕ, true, length, pos, slice_index, slice_index_or, neg_ℤ, IfOk};
+ghost use Rattle.std.specs.Prelude.{◌≡◌, ◌≢◌, ◌<◌, ◌≤◌, ◌+◌, ◌*◌, ◌^◌, ℕ, true, length};
+ghost use Rattle.std.specs.Prelude.{pos, slice_index, slice_index_or, neg_ℤ, IfOk};
 ghost use Rattle.cost_table.specs.Costs.{cell_at, cell_at_place, chosen_cost, rank_place};
 ghost use Rattle.cost_table.specs.Prices.{ArePrices};
 ghost use Rattle.mds_types.specs.Certificate.{AreRanks};
@@ -147,7 +148,8 @@ fn rank_prices(alloc: Global, debts: &[u64]) -> Result<Vec<i64>, AllocError>
 /// prices that show it.
 pub fn assign(alloc: Global, costs: &Costs) -> Result<Assigned, AllocError>
     ensures size { IfOk result (λ assigned. length assigned.ranks.items ≡ costs.now.count) }
-    ensures ranks { IfOk result (λ assigned. AreRanks costs.now.ranks costs.now.count (slice_index assigned.ranks.items)) }
+    ensures ranks { IfOk result (λ assigned. AreRanks costs.now.ranks costs.now.count
+        (slice_index assigned.ranks.items)) }
     ensures moved { IfOk result (λ assigned. assigned.moved
         ≡ chosen_cost costs.now.ranks costs.now.cells costs.now.count (slice_index assigned.ranks.items)) }
     ensures least { IfOk result (λ assigned. (other : ℕ → ℕ) → AreRanks costs.now.ranks costs.now.count other →

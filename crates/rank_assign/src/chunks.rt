@@ -104,7 +104,8 @@ fn add_rows<R: Threads + Sync>(
     requires labelled { AreLabelled of.rows.now of.part.now of.count }
     requires chunk { 0 < chunk }
     requires none { AreSummed of.rows.now of.part.now of.count 0 0 total.old }
-    ensures { OnOk result (AreSummed of.entry.rows.now of.entry.part.now of.entry.count 0 (length of.entry.rows.now) total.new) }
+    ensures { OnOk result (AreSummed of.entry.rows.now of.entry.part.now of.entry.count 0 (length of.entry.rows.now)
+        total.new) }
 {
     let rows = of.rows.len();
     let mut first = 0;
@@ -125,7 +126,8 @@ pub fn sums_by<R: Threads + Sync>(
 ) -> Result<Vec<u64>, AllocError>
     requires labelled { AreLabelled of.rows.now of.part.now of.count }
     requires chunk { 0 < chunk }
-    ensures { IfOk result (λ sums. AreSummed of.entry.rows.now of.entry.part.now of.entry.count 0 (length of.entry.rows.now) sums.items) }
+    ensures { IfOk result (λ sums. AreSummed of.entry.rows.now of.entry.part.now of.entry.count 0
+        (length of.entry.rows.now) sums.items) }
 {
     let mut total = vec![in alloc; 0; of.count as usize * 64]?;
     add_rows(rt, alloc, &mut total, of, chunk)?;

@@ -20,7 +20,11 @@ impl Model for Costs {
 
     ghost view = { λ costs. record { count = costs.count; ranks = costs.ranks; cells = costs.cells.items } };
 
-    ghost invariant = { λ costs. IsCostData (record { count = costs.count; ranks = costs.ranks; cells = costs.cells.items }) };
+    ghost invariant = { λ costs. IsCostData (record {
+      count = costs.count;
+      ranks = costs.ranks;
+      cells = costs.cells.items;
+    }) };
 }
 
 /// Whether no cell is above 2^48.

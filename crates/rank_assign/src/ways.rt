@@ -3,10 +3,12 @@
 //! A step from a part to a rank costs what the prices leave of its cost there, which is never below
 //! 0. A step from a rank to the part that has it costs nothing. This is Dijkstra's algorithm; it ends
 //! at the nearest rank that is free. A rank stands here for its place among the ranks of the set.
-ghost use Rattle.std.specs.Prelude.{◌≡◌, ◌≢◌, ◌<◌, ◌≤◌, ◌+◌, ◌-◌, ◌*◌, ◌^◌, ℕ, true, false, length, slice_index, slice_index_or};
+ghost use Rattle.std.specs.Prelude.{◌≡◌, ◌≢◌, ◌<◌, ◌≤◌, ◌+◌, ◌-◌, ◌*◌, ◌^◌, ℕ, true};
+ghost use Rattle.std.specs.Prelude.{false, length, slice_index, slice_index_or};
 ghost use Rattle.cost_table.specs.Costs.{cell_at_place};
 ghost use Rattle.rank_assign.specs.Matching.{IsMatching};
-ghost use Rattle.rank_assign.specs.Ways.{near_at, via_at, turn_at, no_way, IsFirstWay, IsImproved, IsReached, IsReaching};
+ghost use Rattle.rank_assign.specs.Ways.{near_at, via_at, turn_at, no_way, IsFirstWay};
+ghost use Rattle.rank_assign.specs.Ways.{IsImproved, IsReached, IsReaching};
 
 use cost_table::cell_at_place;
 
@@ -47,7 +49,8 @@ fn nearest(ways: &[Way], owners: &[u32]) -> usize
     requires small { (j : ℕ) → j < length ways.now → near_at ways.now j < 2 ^ 60 }
     ensures inside { result < length ways.now }
     ensures unseen { turn_at ways.now result ≡ 0 }
-    ensures least { (j : ℕ) → j < length ways.now → turn_at ways.now j ≡ 0 → near_at ways.now result ≤ near_at ways.now j }
+    ensures least { (j : ℕ) → j < length ways.now → turn_at ways.now j ≡ 0
+        → near_at ways.now result ≤ near_at ways.now j }
 {
     let mut nearest = 0;
     let mut least = u64::MAX;
@@ -64,7 +67,8 @@ fn nearest(ways: &[Way], owners: &[u32]) -> usize
 /// Marks the rank at this place as reached.
 fn mark(ways: &mut [Way], place: usize, turn: u32)
     requires { place < length ways.old }
-    ensures here { slice_index_or ways.new place no_way ≡ record (slice_index_or ways.old place no_way) { turn = turn } }
+    ensures here { slice_index_or ways.new place no_way
+        ≡ record (slice_index_or ways.old place no_way) { turn = turn } }
     ensures other { (j : ℕ) → j ≢ place → slice_index_or ways.new j no_way ≡ slice_index_or ways.old j no_way }
 {
     ways[place].turn = turn;
@@ -90,7 +94,8 @@ fn relax(ways: &mut [Way], cells: &[u64], debts: &[u64], part: usize, price: u64
     requires cells { (j : ℕ) → j < length debts.now → cell_at_place cells.now (length debts.now) part j ≤ 2 ^ 48 }
     requires debts { (j : ℕ) → j < length debts.now → slice_index debts.now j ≤ 2 ^ 56 }
     requires near { near_at ways.old via ≤ 2 ^ 57 }
-    requires reached { (j : ℕ) → j < length debts.now → 0 < turn_at ways.old j → near_at ways.old j ≤ near_at ways.old via }
+    requires reached { (j : ℕ) → j < length debts.now → 0 < turn_at ways.old j
+        → near_at ways.old j ≤ near_at ways.old via }
     requires below { (j : ℕ) → j < length debts.now →
         price ≤ cell_at_place cells.now (length debts.now) part j + slice_index debts.now j }
     ensures { (j : ℕ) → j < length debts.now → IsImproved (slice_index_or ways.old j no_way) (slice_index_or ways.new j no_way)

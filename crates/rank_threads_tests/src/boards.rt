@@ -58,7 +58,7 @@ fn make<J: Naming, M: Publisher<J>>(
 pub(crate) fn open<'r, J: Naming, R: Wait>(
     rt: &'r R,
     alloc: Global,
-    names: (heat_ledger::Opened, authority_map::Opened),
+    names: (heat_ledger::NewBook, authority_map::NewMap),
     ranks: u8,
     dirs: u32,
 ) -> Result<(Board<J, MapWriter<J, &'r R>>, Vec<Share<J>>), &'static str>
@@ -95,8 +95,8 @@ fn keep(told: &mut Vec<WorkAnswer>, answers: &[Vec<WorkAnswer>]) {
     }
 }
 
-/// Serves the requests of all ranks with jitter, and adds their answers. Where there is no memory, no deposit or no end, it adds
-/// none.
+/// Serves the requests of all ranks with jitter, and adds their answers. Where there
+/// is no memory, no deposit or no end, it adds none.
 pub(crate) fn serve<J: Naming + Send + Sync, M: Publisher<J> + Send, R: Threads + Wait + Sync>(
     rt: &R,
     alloc: Global,

@@ -20,8 +20,8 @@ use std::thread::Threads;
 fn open<'r, J: Naming, R: Wait>(
     rt: &'r R,
     alloc: Global,
-    book: heat_ledger::Opened,
-    map: authority_map::Opened,
+    book: heat_ledger::NewBook,
+    map: authority_map::NewMap,
 ) -> Result<Board<J, MapWriter<J, &'r R>>, Fail>
     requires book { book ≡ J.ledger }
     requires map { map ≡ J.map }
@@ -59,7 +59,7 @@ struct Seen {
 fn carry_out<J: Naming + Send + Sync, R: Threads + Wait + Sync>(
     rt: &R,
     alloc: Global,
-    names: (heat_ledger::Opened, authority_map::Opened),
+    names: (heat_ledger::NewBook, authority_map::NewMap),
 ) -> Result<Seen, Fail>
     requires book { names.0 ≡ J.ledger }
     requires map { names.1 ≡ J.map }
@@ -90,13 +90,13 @@ fn carry_out<J: Naming + Send + Sync, R: Threads + Wait + Sync>(
     })
 }
 
-// Whatever the schedule: what one rank gives has the numbers in the order of its orders, and what two ranks give at once is
-// done too. An export to a stopped rank is aborted.
+// Whatever the schedule: what one rank gives has the numbers in the order of its orders, and what two ranks give at
+// once is done too. An export to a stopped rank is aborted.
 #[test]
 fn ranks_carry_out_orders(rt: HostRuntime) -> Result<(), Fail> {
     for _ in 0..100u32 {
-        let book = heat_ledger::Opened::new(rt.alloc())?;
-        let map = authority_map::Opened::new();
+        let book = heat_ledger::NewBook::new(rt.alloc())?;
+        let map = authority_map::NewMap::new();
         let seen = carry_out::<Brand, _>(&rt, rt.alloc(), (book, map))?;
         let there = [done(0), done(1)];
         assert_eq!(rt; seen.there.as_slice(), there.as_slice());

@@ -33,7 +33,7 @@ fn tick_often<J: Naming, M: Publisher<J>>(board: &mut Board<J, M>, ticks: u32) {
 fn serve<J: Naming + Send + Sync, R: Threads + Wait + Sync>(
     rt: &R,
     alloc: Global,
-    names: (heat_ledger::Opened, authority_map::Opened),
+    names: (heat_ledger::NewBook, authority_map::NewMap),
     scripts: &[Vec<Work>],
     ticks: u32,
 ) -> Result<Left, Fail>

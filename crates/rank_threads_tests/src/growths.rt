@@ -29,7 +29,8 @@ fn are_fresh<J: Naming>(shares: &[Share<J>]) -> bool {
     fresh && shares.len() == 2
 }
 
-// Serves the requests of two ranks, again where there was no memory for the answers, and says whether that changed nothing.
+// Serves the requests of two ranks, again where there was no memory for the answers,
+// and says whether that changed nothing.
 fn serve_at_last<J: Naming + Send + Sync, M: Publisher<J> + Send, R: Threads + Wait + Sync>(
     rt: &R,
     alloc: Global,
@@ -72,7 +73,7 @@ struct Served {
 fn serve<J: Naming + Send + Sync, R: Threads + Wait + Sync>(
     rt: &R,
     alloc: Global,
-    names: (heat_ledger::Opened, authority_map::Opened),
+    names: (heat_ledger::NewBook, authority_map::NewMap),
 ) -> Result<Served, AllocError>
     requires book { names.0 ≡ J.ledger }
     requires map { names.1 ≡ J.map }
@@ -184,7 +185,7 @@ fn carry_out_at_last<J: Naming + Send + Sync, M: Publisher<J> + Send, R: Threads
 fn carry_out<J: Naming + Send + Sync, R: Threads + Wait + Sync>(
     rt: &R,
     alloc: Global,
-    names: (heat_ledger::Opened, authority_map::Opened),
+    names: (heat_ledger::NewBook, authority_map::NewMap),
 ) -> Result<Moved, AllocError>
     requires book { names.0 ≡ J.ledger }
     requires map { names.1 ≡ J.map }

@@ -1,5 +1,5 @@
-//! Tests of the rank threads: requests of two ranks and of 64, and orders of three; where growths or threads are refused, or the history is
-//! full, too.
+//! Tests of the rank threads: requests of two ranks and of 64, and orders of three; where growths or threads are
+//! refused, or the history is full, too.
 #![tactic(auto)]
 
 #[cfg(test)]

@@ -51,7 +51,7 @@ struct Seen {
 fn serve_many<J: Naming + Send + Sync, R: Threads + Wait + Sync>(
     rt: &R,
     alloc: Global,
-    names: (heat_ledger::Opened, authority_map::Opened),
+    names: (heat_ledger::NewBook, authority_map::NewMap),
 ) -> Result<Seen, Fail>
     requires book { names.0 ≡ J.ledger }
     requires map { names.1 ≡ J.map }

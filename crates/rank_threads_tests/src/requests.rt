@@ -62,8 +62,8 @@ pub(crate) fn scripts(
 pub(crate) fn open<'r, J: Naming, R: Wait>(
     rt: &'r R,
     alloc: Global,
-    book: heat_ledger::Opened,
-    map: authority_map::Opened,
+    book: heat_ledger::NewBook,
+    map: authority_map::NewMap,
 ) -> Result<(Board<J, MapWriter<J, &'r R>>, Vec<Share<J>>), Fail>
     requires book { book ≡ J.ledger }
     requires map { map ≡ J.map }
@@ -101,7 +101,7 @@ struct Seen {
 fn serve<J: Naming + Send + Sync, R: Threads + Wait + Sync, G: Gate + Sync>(
     rt: &R,
     alloc: Global,
-    names: (heat_ledger::Opened, authority_map::Opened),
+    names: (heat_ledger::NewBook, authority_map::NewMap),
     gate: &G,
     scripts: &[Vec<Work>],
     stopped: Option<Rank>,
@@ -139,10 +139,10 @@ fn serve<J: Naming + Send + Sync, R: Threads + Wait + Sync, G: Gate + Sync>(
 
 pub(crate) fn names(
     alloc: Global,
-) -> Result<(heat_ledger::Opened, authority_map::Opened), AllocError> {
+) -> Result<(heat_ledger::NewBook, authority_map::NewMap), AllocError> {
     Ok((
-        heat_ledger::Opened::new(alloc)?,
-        authority_map::Opened::new(),
+        heat_ledger::NewBook::new(alloc)?,
+        authority_map::NewMap::new(),
     ))
 }
 

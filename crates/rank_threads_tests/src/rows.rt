@@ -71,7 +71,7 @@ fn step<J: Naming + Send + Sync, M: Publisher<J> + Send, R: Threads + Wait + Syn
 fn play<J: Naming + Send + Sync, R: Threads + Wait + Sync>(
     rt: &R,
     alloc: Global,
-    names: (heat_ledger::Opened, authority_map::Opened),
+    names: (heat_ledger::NewBook, authority_map::NewMap),
     steps: &[Do],
 ) -> Result<Vec<WorkAnswer>, Fail>
     requires book { names.0 ≡ J.ledger }

@@ -24,7 +24,7 @@ struct Served {
 fn serve_three<J: Naming + Send + Sync, R: Threads + Wait + Sync>(
     rt: &R,
     alloc: Global,
-    names: (heat_ledger::Opened, authority_map::Opened),
+    names: (heat_ledger::NewBook, authority_map::NewMap),
 ) -> Result<Served, Fail>
     requires book { names.0 ≡ J.ledger }
     requires map { names.1 ≡ J.map }
@@ -72,7 +72,7 @@ struct Moved {
 fn move_two<J: Naming + Send + Sync, R: Threads + Wait + Sync>(
     rt: &R,
     alloc: Global,
-    names: (heat_ledger::Opened, authority_map::Opened),
+    names: (heat_ledger::NewBook, authority_map::NewMap),
 ) -> Result<Moved, Fail>
     requires book { names.0 ≡ J.ledger }
     requires map { names.1 ≡ J.map }

@@ -16,7 +16,7 @@ use std::thread::Threads;
 fn serve_audited<J: Naming + Send + Sync, R: Threads + Wait + Sync>(
     rt: &R,
     alloc: Global,
-    names: (heat_ledger::Opened, authority_map::Opened),
+    names: (heat_ledger::NewBook, authority_map::NewMap),
     scripts: &[Vec<Work>],
 ) -> Result<(u64, u64), Fail>
     requires book { names.0 ≡ J.ledger }

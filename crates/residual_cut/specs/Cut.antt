@@ -18,7 +18,8 @@ pub record IsCut (rows : List ProblemRow) (bound : ℕ) (cut : Cut) : Type 0 whe
   pub within : IsWithin rows cut.count (slice_index cut.part.items) bound
   pub rising : IsRising rows (slice_index cut.part.items)
   pub table : IsCutTable rows cut.rows.items bound
-  pub fewest : (k : ℕ) (label : ℕ → ℕ) → IsDivision rows k label → IsWithin rows k label bound → cut.count ≤ part_count rows k label
+  pub fewest : (k : ℕ) (label : ℕ → ℕ) → IsDivision rows k label → IsWithin rows k label bound
+      → cut.count ≤ part_count rows k label
   pub counted : 0 < length rows → cut.count ≡ cuts_at cut.rows.items 0 + 1
 
 -- the least row that is hotter than the bound

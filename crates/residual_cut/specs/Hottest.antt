@@ -1,5 +1,6 @@
 -- The hottest children of a row.
-use Rattle.std.specs.Prelude.{◌≡◌, ◌<◌, ◌≤◌, ◌&&◌, ◌++◌, ◌∷◌, [], ℕ, Bool, true, nat_lt, List, length, All, IsPermutation, if◌then◌else◌}
+use Rattle.std.specs.Prelude.{◌≡◌, ◌<◌, ◌≤◌, ◌&&◌, ◌++◌, ◌∷◌, [], ℕ, Bool, true, nat_lt}
+use Rattle.std.specs.Prelude.{List, length, All, IsPermutation, if◌then◌else◌}
 use Rattle.mds_types.specs.declared.problem.ProblemRow.{ProblemRow}
 use Rattle.mds_types.specs.CutTable.{is_child}
 use Rattle.residual_cut.specs.declared.child.Child.{Child}
@@ -8,7 +9,8 @@ use Rattle.residual_cut.specs.Heap.{row_count}
 
 -- children of row i that pass the test, each at most once, with their rests; they stand after it. None of them has less
 -- than the floor, and where one that passes the test isn't among them, it has no more, and there are as many as wanted.
-pub record AreHottest (rows : List ProblemRow) (rest : ℕ → ℕ) (test : ℕ → Bool) (i most floor : ℕ) (children : List Child) : Type 0 where
+pub record AreHottest (rows : List ProblemRow) (rest : ℕ → ℕ) (test : ℕ → Bool) (i most floor : ℕ)
+    (children : List Child) : Type 0 where
   pub each : (j : ℕ) → row_count j children ≤ (if nat_lt j (length rows) && (is_child rows i j && test j) then 1 else 0)
   pub rests : All (λ child. child.rest ≡ rest child.row.0) children
   pub after : All (λ child. (i < child.row.0) × (child.row.0 < length rows)) children

@@ -1,5 +1,6 @@
 -- A walk that keeps only what is left of each subtree.
-use Rattle.std.specs.Prelude.{◌≡◌, ◌<◌, ◌≤◌, ◌+◌, ◌-◌, ◌^◌, ◌&&◌, ℕ, Bool, true, nat_lt, min, max, List, length, if◌then◌else◌}
+use Rattle.std.specs.Prelude.{◌≡◌, ◌<◌, ◌≤◌, ◌+◌, ◌-◌, ◌^◌, ◌&&◌, ℕ, Bool, true}
+use Rattle.std.specs.Prelude.{nat_lt, min, max, List, length, if◌then◌else◌}
 use Rattle.mds_types.specs.declared.problem.ProblemRow.{ProblemRow}
 use Rattle.mds_types.specs.declared.cut_proof.Row.{Row}
 use Rattle.mds_types.specs.CutTable.{is_child, rest_at, price_at, is_cut_at}
@@ -16,7 +17,8 @@ pub record IsSeen (rows : List ProblemRow) (table : List Row) (above : ℕ) : Ty
   pub full : (v j : ℕ) → j < length rows → is_child rows v j ≡ true → is_cut_at table j ≡ true
       → above ≤ rest_at table v + price_at table v
 
--- the rests are those of a walk's table, which nobody keeps, and the whole subtrees of the children that are not handled yet
+-- the rests are those of a walk's table, which nobody keeps, and the whole subtrees
+-- of the children that are not handled yet
 pub record IsProbed (rows : List ProblemRow) (heat rest : ℕ → ℕ) (bound m s : ℕ) (seen : Seen) : Type 0 where
   pub table : List Row
   pub walked : IsWalked rows table bound m s

@@ -20,7 +20,8 @@ pub record AreHot (n : ℕ) (heat : ℕ → ℕ) (low m : ℕ) (hot : List ℕ) 
   pub from : (k : ℕ) → k < length hot → m ≤ slice_index hot k
   pub falls : (k : ℕ) → k < length hot → slice_index hot k < limit_of n hot k
   pub hotter : (k : ℕ) → k < length hot → low < heat (slice_index hot k)
-  pub light : (k v : ℕ) → k ≤ length hot → m ≤ v → v < limit_of n hot k → (k < length hot → slice_index hot k < v) → heat v ≤ low
+  pub light : (k v : ℕ) → k ≤ length hot → m ≤ v → v < limit_of n hot k → (k < length hot → slice_index hot k < v)
+      → heat v ≤ low
 
 -- the rows whose subtree is no hotter than that have all its heat
 abbrev pub AreLightWhole : ℕ → ℕ → (ℕ → ℕ) → (ℕ → ℕ) → Type 0

@@ -1,5 +1,6 @@
 -- The walk over the rows from the last one up.
-use Rattle.std.specs.Prelude.{◌≡◌, ◌≢◌, max, slice_index_or, ◌<◌, ◌≤◌, ◌+◌, ◌&&◌, ℕ, Bool, true, false, nat_le, List, length, if◌then◌else◌}
+use Rattle.std.specs.Prelude.{◌≡◌, ◌≢◌, max, slice_index_or, ◌<◌, ◌≤◌, ◌+◌, ◌&&◌, ℕ, Bool}
+use Rattle.std.specs.Prelude.{true, false, nat_le, List, length, if◌then◌else◌}
 use Rattle.mds_types.specs.declared.problem.ProblemRow.{ProblemRow}
 use Rattle.mds_types.specs.declared.cut_proof.Row.{Row}
 use Rattle.mds_types.specs.Problem.{parent_at, heat_at}

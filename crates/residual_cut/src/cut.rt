@@ -1,6 +1,7 @@
 //! The cut of a problem at a bound.
 
-ghost use Rattle.std.specs.Prelude.{◌≡◌, ◌<◌, ◌≤◌, ◌+◌, ◌-◌, ◌^◌, ℕ, true, false, length, IfOk, IfErr, IfNone, IfSome, OnErr, OnOk, if◌then◌else◌};
+ghost use Rattle.std.specs.Prelude.{◌≡◌, ◌<◌, ◌≤◌, ◌+◌, ◌-◌, ◌^◌, ℕ, true, false, length, IfOk};
+ghost use Rattle.std.specs.Prelude.{IfErr, IfNone, IfSome, OnErr, OnOk, if◌then◌else◌};
 ghost use Rattle.mds_types.specs.CutTable.{IsCutTable, cuts_at, is_cut_at};
 ghost use Rattle.mds_types.specs.Division.{HasFew};
 ghost use Rattle.mds_types.specs.Problem.{IsForest, heat_at};
@@ -103,7 +104,8 @@ fn make_table(
     requires linked { IsLinked rows.now links.now.first.items links.now.next.items 1 }
     requires cool { (i : ℕ) → i < length rows.now → heat_at rows.now i ≤ bound }
     ensures table { IfOk result (λ table. IsCutTable rows.now table.items bound) }
-    ensures counted { IfOk result (λ table. cuts_at table.items 0 ≡ count_below (length rows.now) (is_cut_at table.items)) }
+    ensures counted { IfOk result (λ table. cuts_at table.items 0
+        ≡ count_below (length rows.now) (is_cut_at table.items)) }
     ensures few { IfOk result (λ table. HasFew rows.now (cuts_at table.items 0 + 1) bound) }
 {
     let mut table = first_table(alloc, rows)?;
@@ -200,7 +202,8 @@ pub fn cut_at(
     requires { passes.old < 2 ^ 32 - 1 }
     ensures cut { IfOk result (IsCut problem.now.rows bound) }
     ensures heavy { IfErr result (λ e. IfHeavy e (IsFirstHot problem.now.rows bound)) }
-    ensures named { is_memory result ≡ true → (i : ℕ) → i < length problem.now.rows → heat_at problem.now.rows i ≤ bound }
+    ensures named { is_memory result ≡ true → (i : ℕ) → i < length problem.now.rows
+        → heat_at problem.now.rows i ≤ bound }
     ensures passes { passes.new ≡ (if is_memory result then passes.old else passes.old + 1) }
 {
     let rows = problem.rows();

@@ -2,7 +2,8 @@
 //!
 //! The children come out of a heap of the hottest, so that only as many are put in order as are cut.
 
-ghost use Rattle.std.specs.Prelude.{◌≡◌, ◌<◌, ◌≤◌, ◌+◌, ◌-◌, ◌^◌, ◌≢◌, ℕ, true, false, All, length, slice_index_or, IfOk, OnOk};
+ghost use Rattle.std.specs.Prelude.{◌≡◌, ◌<◌, ◌≤◌, ◌+◌, ◌-◌, ◌^◌, ◌≢◌, ℕ, true, false};
+ghost use Rattle.std.specs.Prelude.{All, length, slice_index_or, IfOk, OnOk};
 ghost use Rattle.mds_types.specs.CutTable.{cuts_at, rest_at, is_cut_at, no_cut};
 ghost use Rattle.mds_types.specs.Problem.{IsForest, heat_at};
 ghost use Rattle.mds_types.specs.Sums.{count_below};
@@ -89,8 +90,10 @@ fn cut_child(table: &mut [Row], i: usize, child: Child)
       price = child.rest;
       cut = is_cut_at table.old i;
     } }
-    ensures child { slice_index_or table.new child.row.0 no_cut ≡ record (slice_index_or table.old child.row.0 no_cut) { cut = true } }
-    ensures other { (v : ℕ) → v ≢ i → v ≢ child.row.0 → slice_index_or table.new v no_cut ≡ slice_index_or table.old v no_cut }
+    ensures child { slice_index_or table.new child.row.0 no_cut
+        ≡ record (slice_index_or table.old child.row.0 no_cut) { cut = true } }
+    ensures other { (v : ℕ) → v ≢ i → v ≢ child.row.0
+        → slice_index_or table.new v no_cut ≡ slice_index_or table.old v no_cut }
 {
     let row = &mut table[i];
     row.rest -= child.rest;

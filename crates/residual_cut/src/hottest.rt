@@ -1,7 +1,8 @@
 //! The hottest children of a row, so many that no more of them can be cut, without putting the others in
 //! order.
 
-ghost use Rattle.std.specs.Prelude.{◌≡◌, ◌<◌, ◌≤◌, ◌^◌, ℕ, true, false, All, IsPermutation, length, take, drop, slice_index, IfOk, OnOk};
+ghost use Rattle.std.specs.Prelude.{◌≡◌, ◌<◌, ◌≤◌, ◌^◌, ℕ, true, false, All, IsPermutation};
+ghost use Rattle.std.specs.Prelude.{length, take, drop, slice_index, IfOk, OnOk};
 ghost use Rattle.mds_types.specs.Problem.{IsForest};
 ghost use Rattle.residual_cut.specs.Hottest.{AreHottest, IsMet};
 ghost use Rattle.residual_cut.specs.Links.{IsLinked};

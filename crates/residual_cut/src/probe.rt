@@ -4,7 +4,8 @@
 //! row is taken from its parent too. Only rows whose subtree is hotter than the lower end of the bounds are
 //! walked over, as nothing is cut in the other subtrees.
 
-ghost use Rattle.std.specs.Prelude.{◌≡◌, ◌<◌, ◌≤◌, ◌+◌, ◌-◌, ◌^◌, ◌≢◌, ℕ, min, max, length, slice_index, IfOk, OnOk, OnErr};
+ghost use Rattle.std.specs.Prelude.{◌≡◌, ◌<◌, ◌≤◌, ◌+◌, ◌-◌, ◌^◌, ◌≢◌, ℕ, min, max};
+ghost use Rattle.std.specs.Prelude.{length, slice_index, IfOk, OnOk, OnErr};
 ghost use Rattle.mds_types.specs.Division.{HasFew, NeedsMore};
 ghost use Rattle.mds_types.specs.Problem.{IsForest, heat_at, parent_at};
 ghost use Rattle.residual_cut.specs.Probe.{IfFits, IfTooMany};
@@ -70,9 +71,11 @@ fn cut_hot_row(
     requires room { length rest.old ≡ length rows.now }
     requires cool { (v : ℕ) → v < length rows.now → heat_at rows.now v ≤ bound }
     requires few { seen.old.cuts < most }
-    requires probed { IsProbed rows.now (slice_index trees.now.heat.items) (slice_index rest.old) bound (i + 1) (i + 1) seen.old }
+    requires probed { IsProbed rows.now (slice_index trees.now.heat.items) (slice_index rest.old) bound (i + 1)
+        (i + 1) seen.old }
     ensures room { length rest.new ≡ length rows.now }
-    ensures probed { OnOk result (IsProbed rows.now (slice_index trees.now.heat.items) (slice_index rest.new) bound (i + 1) i seen.new) }
+    ensures probed { OnOk result (IsProbed rows.now (slice_index trees.now.heat.items) (slice_index rest.new) bound
+        (i + 1) i seen.new) }
     ensures done { OnOk result (seen.new.cuts < most → slice_index rest.new i ≤ bound) }
     ensures same { OnErr result (rest.new ≡ rest.old) }
 {
@@ -113,9 +116,11 @@ fn cut_row(
     requires here { here ≡ slice_index rest.old i }
     requires cool { (v : ℕ) → v < length rows.now → heat_at rows.now v ≤ bound }
     requires few { seen.old.cuts < most }
-    requires probed { IsProbed rows.now (slice_index trees.now.heat.items) (slice_index rest.old) bound (i + 1) (i + 1) seen.old }
+    requires probed { IsProbed rows.now (slice_index trees.now.heat.items) (slice_index rest.old) bound (i + 1)
+        (i + 1) seen.old }
     ensures room { length rest.new ≡ length rows.now }
-    ensures probed { OnOk result (IsProbed rows.now (slice_index trees.now.heat.items) (slice_index rest.new) bound (i + 1) i seen.new) }
+    ensures probed { OnOk result (IsProbed rows.now (slice_index trees.now.heat.items) (slice_index rest.new) bound
+        (i + 1) i seen.new) }
     ensures left { IfOk result (λ left. left ≡ slice_index rest.new i) }
     ensures done { OnOk result (seen.new.cuts < most → slice_index rest.new i ≤ bound) }
     ensures same { OnErr result (rest.new ≡ rest.old) }
@@ -160,7 +165,8 @@ fn take_from_parent(
     requires room { length rest.old ≡ length rows.now }
     requires left { left ≡ slice_index rest.old i }
     requires less { slice_index rest.old i ≤ slice_index trees.now.heat.items i }
-    requires enough { slice_index trees.now.heat.items i - slice_index rest.old i ≤ slice_index rest.old (parent_at rows.now i) }
+    requires enough { slice_index trees.now.heat.items i - slice_index rest.old i
+        ≤ slice_index rest.old (parent_at rows.now i) }
     ensures room { length rest.new ≡ length rows.now }
     ensures here { slice_index rest.new (parent_at rows.now i) ≡ slice_index rest.old (parent_at rows.now i)
         - (slice_index trees.now.heat.items i - slice_index rest.old i) }
@@ -193,10 +199,12 @@ fn probe_rows(
     requires low { trees.now.low ≤ bound }
     requires room { length rest.old ≡ length rows.now }
     requires whole { (v : ℕ) → v < length rows.now → slice_index rest.old v ≡ slice_index trees.now.heat.items v }
-    ensures few { IfOk result (λ seen. seen.cuts < most → HasFew rows.now most (max seen.hottest (slice_index rest.new 0))) }
+    ensures few { IfOk result (λ seen. seen.cuts < most
+        → HasFew rows.now most (max seen.hottest (slice_index rest.new 0))) }
     ensures within { IfOk result (λ seen. seen.cuts < most → max seen.hottest (slice_index rest.new 0) ≤ bound) }
     ensures room { length rest.new ≡ length rows.now }
-    ensures light { AreLightWhole (length rows.now) trees.now.low (slice_index trees.now.heat.items) (slice_index rest.new) }
+    ensures light { AreLightWhole (length rows.now) trees.now.low (slice_index trees.now.heat.items)
+        (slice_index rest.new) }
     ensures above { IfOk result (λ seen. most ≤ seen.cuts → bound < seen.above) }
     ensures more { IfOk result (λ seen. most ≤ seen.cuts → NeedsMore rows.now most (seen.above - 1)) }
 {
@@ -245,9 +253,11 @@ pub fn try_bound(
     requires ranks { 0 < ranks }
     requires low { trees.now.low ≤ bound }
     requires room { length rest.old ≡ length rows.now }
-    requires light { AreLightWhole (length rows.now) trees.now.low (slice_index trees.now.heat.items) (slice_index rest.old) }
+    requires light { AreLightWhole (length rows.now) trees.now.low (slice_index trees.now.heat.items)
+        (slice_index rest.old) }
     ensures room { length rest.new ≡ length rows.now }
-    ensures light { AreLightWhole (length rows.now) trees.now.low (slice_index trees.now.heat.items) (slice_index rest.new) }
+    ensures light { AreLightWhole (length rows.now) trees.now.low (slice_index trees.now.heat.items)
+        (slice_index rest.new) }
     ensures fits { IfOk result (IfFits (λ heat. HasFew rows.now ranks heat × (heat ≤ bound))) }
     ensures too_many { IfOk result (IfTooMany (λ above. (bound < above) × NeedsMore rows.now ranks (above - 1))) }
     ensures passes { OnOk result (passes.new ≡ passes.old + 1) }

@@ -85,7 +85,8 @@ pub fn restore(rows: &[ProblemRow], trees: &Subtrees, rest: &mut [u64])
     requires some { 0 < length rows.now }
     requires trees { AreSubtrees rows.now trees.now }
     requires room { length rest.old ≡ length rows.now }
-    requires light { AreLightWhole (length rows.now) trees.now.low (slice_index trees.now.heat.items) (slice_index rest.old) }
+    requires light { AreLightWhole (length rows.now) trees.now.low (slice_index trees.now.heat.items)
+        (slice_index rest.old) }
     ensures room { length rest.new ≡ length rows.now }
     ensures whole { (v : ℕ) → v < length rows.now → slice_index rest.new v ≡ slice_index trees.now.heat.items v }
 {

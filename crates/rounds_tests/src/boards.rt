@@ -13,8 +13,8 @@ use std::test::Fail;
 pub(crate) fn open<J: Naming, R: Wait + Drop>(
     rt: R,
     alloc: Global,
-    book: heat_ledger::Opened,
-    map: authority_map::Opened,
+    book: heat_ledger::NewBook,
+    map: authority_map::NewMap,
     limit: u32,
     ranks: u8,
 ) -> Result<Board<J, MapWriter<J, R>>, Fail>
@@ -42,8 +42,8 @@ pub(crate) fn open<J: Naming, R: Wait + Drop>(
 pub(crate) fn open_at_last<J: Naming, R: Wait + Drop + Copy>(
     rt: R,
     alloc: Global,
-    book: heat_ledger::Opened,
-    map: authority_map::Opened,
+    book: heat_ledger::NewBook,
+    map: authority_map::NewMap,
 ) -> Result<Board<J, MapWriter<J, R>>, Fail>
     requires book { book ≡ J.ledger }
     requires map { map ≡ J.map }

@@ -61,8 +61,8 @@ fn on_board<J: Naming, R: Wait + Drop>(
     rt: &impl Abort,
     waits: R,
     alloc: Global,
-    book: heat_ledger::Opened,
-    map: authority_map::Opened,
+    book: heat_ledger::NewBook,
+    map: authority_map::NewMap,
 ) -> Result<(), Fail>
     requires book { book ≡ J.ledger }
     requires map { map ≡ J.map }
@@ -76,7 +76,7 @@ fn on_board<J: Naming, R: Wait + Drop>(
 
 #[test]
 fn each_of_many_exports_is_done(rt: HostRuntime) -> Result<(), Fail> {
-    let book = heat_ledger::Opened::new(rt.alloc())?;
-    let map = authority_map::Opened::new();
+    let book = heat_ledger::NewBook::new(rt.alloc())?;
+    let map = authority_map::NewMap::new();
     on_board::<Brand, _>(&rt, &rt, rt.alloc(), book, map)
 }

@@ -211,8 +211,8 @@ fn on_board<J: Naming, R: Wait + Drop>(
     rt: &impl Abort,
     waits: R,
     alloc: Global,
-    book: heat_ledger::Opened,
-    map: authority_map::Opened,
+    book: heat_ledger::NewBook,
+    map: authority_map::NewMap,
     case: Case,
 ) -> Result<(), Fail>
     requires book { book ≡ J.ledger }
@@ -231,8 +231,8 @@ fn on_a_board<R: Wait + Drop>(
     alloc: Global,
     case: Case,
 ) -> Result<(), Fail> {
-    let book = heat_ledger::Opened::new(alloc)?;
-    let map = authority_map::Opened::new();
+    let book = heat_ledger::NewBook::new(alloc)?;
+    let map = authority_map::NewMap::new();
     on_board::<Brand, R>(rt, waits, alloc, book, map, case)
 }
 

@@ -80,8 +80,8 @@ fn made_at_last<J: Naming, M: Publisher<J>>(
     }
 }
 
-/// Whether the outcome is what became of the order for a directory: where a growth was refused, it may be any but a named
-/// refusal.
+/// Whether the outcome is what became of the order for a directory: where a growth
+/// was refused, it may be any but a named refusal.
 fn is_told<J: Naming, M: Publisher<J>>(board: &Board<J, M>, dir: u32, outcome: Outcome) -> bool {
     let authority = board.cluster().authority(Dir::new(dir));
     match outcome {
@@ -138,8 +138,8 @@ fn on_board<J: Naming, R: Wait + Drop + Copy>(
     rt: &impl Abort,
     waits: R,
     alloc: Global,
-    book: heat_ledger::Opened,
-    map: authority_map::Opened,
+    book: heat_ledger::NewBook,
+    map: authority_map::NewMap,
 ) -> Result<(), Fail>
     requires book { book ≡ J.ledger }
     requires map { map ≡ J.map }
@@ -151,16 +151,16 @@ fn on_board<J: Naming, R: Wait + Drop + Copy>(
     done
 }
 
-fn book_at_last(alloc: Global) -> Result<heat_ledger::Opened, AllocError> {
-    match heat_ledger::Opened::new(alloc) {
+fn book_at_last(alloc: Global) -> Result<heat_ledger::NewBook, AllocError> {
+    match heat_ledger::NewBook::new(alloc) {
         Ok(book) => Ok(book),
-        Err(_) => heat_ledger::Opened::new(alloc),
+        Err(_) => heat_ledger::NewBook::new(alloc),
     }
 }
 
 #[test]
 fn a_refused_growth_is_made_up_for(rt: HostRuntime) -> Result<(), Fail> {
     let book = book_at_last(rt.alloc())?;
-    let map = authority_map::Opened::new();
+    let map = authority_map::NewMap::new();
     on_board::<Brand, _>(&rt, &rt, rt.alloc(), book, map)
 }

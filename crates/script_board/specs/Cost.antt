@@ -16,7 +16,8 @@ unless_pinned (Some rank) d = Err Pinned
 
 -- the top that a path names
 abbrev pub top : BoardData → List ℕ → Result ℕ Fault
-top b path = find b path >>= λ d. unless_pinned (nearest_pin b.world.state.directories.entries b.world.state.pins.own d) d
+top b path =
+    find b path >>= λ d. unless_pinned (nearest_pin b.world.state.directories.entries b.world.state.pins.own d) d
 
 -- the tops that paths name, from left to right
 abbrev pub tops : BoardData → List (List ℕ) → Result (List ℕ) Fault
@@ -25,7 +26,9 @@ tops b (path ∷ paths) = top b path >>= λ d. tops b paths >>= λ more. Ok (d �
 
 -- the parts below the tops that paths name
 abbrev pub cost : BoardData → List (List ℕ) → Result (List Part) Fault
-cost b paths = tops b paths >>= λ ts. Ok (parts b.world.state.directories.entries b.world.state.pins.own b.world.state.heats.heats ts)
+cost b paths =
+    tops b paths >>= λ ts. Ok
+    (parts b.world.state.directories.entries b.world.state.pins.own b.world.state.heats.heats ts)
 
 -- the tops of these parts are directories of the board
 abbrev pub AreThere : BoardData → List Part → Type 0

@@ -3,8 +3,8 @@ use Rattle.std.specs.Prelude.{◌≡◌, List, [], ◌++◌}
 use Rattle.mds_types.specs.declared.order.Order.{Order}
 use Rattle.board_state.specs.State.{pin_orders}
 use Rattle.export_rounds.specs.Further.{IsFurther}
-use Rattle.rank_threads.specs.declared.order_outcome.OrderOutcome.{OrderOutcome}
-use Rattle.rank_threads.specs.Carrying.{AreAll, AreTold}
+use Rattle.export_threads.specs.declared.order_outcome.OrderOutcome.{OrderOutcome}
+use Rattle.export_threads.specs.Carrying.{AreAll, AreTold}
 use Rattle.script_board.specs.Board.{BoardData}
 
 -- the orders of pins, and then those of the last plan

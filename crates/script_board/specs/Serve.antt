@@ -1,7 +1,9 @@
 -- What `go` does: the waiting requests are served by a thread a rank, and each share deposits its hits.
 use Rattle.std.specs.List.{list_any}
 use Rattle.std.specs.Option.{option_map}
-use Rattle.std.specs.Prelude.{◌≡◌, ℕ, ◌<◌, ◌+◌, ◌==◌, nat_lt, if◌then◌else◌, Bool, not, List, [], ◌∷◌, ◌++◌, All, filter, length, map, slice_get, slice_index_or, Option, Some, None, Result, Ok, Err, IsOk}
+use Rattle.std.specs.Prelude.{◌≡◌, ℕ, ◌<◌, ◌+◌, ◌==◌, nat_lt, if◌then◌else◌, Bool, not, List, [], ◌∷◌, ◌++◌, All}
+use Rattle.std.specs.Prelude.{filter, length, map, slice_get, slice_index_or, Option, Some, None, Result, Ok, Err}
+use Rattle.std.specs.Prelude.{IsOk}
 use Rattle.authority_map.specs.Operations.{rank_after}
 use Rattle.dirtree.specs.Tree as tree
 use Rattle.heat_ledger.specs.Ledger.{IsClean, ShareData, pending_of}
@@ -59,7 +61,8 @@ abbrev pub places : World → ℕ → List Load → List Seat
 places w ranks loads = places_after w ranks [] loads
 
 -- Each rank has the requests that are asked of it, in their order.
-pub record IsDealt (w : World) (ranks : ℕ) (loads : List Load) (scripts : List (List Work)) (seats : List Seat) : Type 0 where
+pub record IsDealt (w : World) (ranks : ℕ) (loads : List Load) (scripts : List (List Work))
+    (seats : List Seat) : Type 0 where
   pub as_many : length scripts ≡ ranks
   pub each : (rank : ℕ) → rank < ranks → script_at scripts rank ≡ works_at w ranks rank loads
   pub found : seats ≡ places w ranks loads

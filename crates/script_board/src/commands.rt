@@ -1,7 +1,8 @@
 //! The commands that change the board.
 ghost use Rattle.std.specs.Prelude.{◌≡◌, ◌<◌, IfErr, IfOk, OnErr, OnOk, Ok, Err, true};
 ghost use Rattle.dirtree.specs.Tree.{is_there};
-ghost use Rattle.script_board.specs.Commands.{find, load, make_dir, parent_path, remove_dir, replanned, restart, set_mask, set_pin, stop, tick};
+ghost use Rattle.script_board.specs.Commands.{find, load, make_dir, parent_path, remove_dir, replanned};
+ghost use Rattle.script_board.specs.Commands.{restart, set_mask, set_pin, stop, tick};
 ghost use Rattle.script_board.specs.Fault.{IsDue};
 
 use crate::fault::Fault;

@@ -59,7 +59,8 @@ impl<J: Naming, M: Publisher<J>> ScriptBoard<J, M> {
     fn tops(&self, alloc: Global, paths: &[&str]) -> Result<Vec<bool>, Fault>
         ensures size { IfOk result (λ is_top. length is_top.items ≡ length self.now.world.state.directories.entries) }
         ensures some { IfOk result (λ is_top. 1 ≤ length is_top.items) }
-        ensures tops { IfOk result (λ is_top. (ts : List ℕ) × (tops self.now (map (λ path. path.now) paths.now) ≡ Ok ts) × Marks is_top.items ts) }
+        ensures tops { IfOk result (λ is_top. (ts : List ℕ)
+            × (tops self.now (map (λ path. path.now) paths.now) ≡ Ok ts) × Marks is_top.items ts) }
         ensures fault { IfErr result (IsDue (tops self.now (map (λ path. path.now) paths.now))) }
     {
         let Ok(mut is_top) = vec![in alloc; false; self.numbers() as usize] else {

@@ -1,5 +1,6 @@
 //! The waiting requests are dealt to the ranks that they are asked of.
-ghost use Rattle.std.specs.Prelude.{◌≡◌, ◌<◌, ◌≤◌, ◌+◌, ◌++◌, ◌∷◌, [], IfOk, OnOk, filter, length, map, slice_set, vec_capacity, vec_len};
+ghost use Rattle.std.specs.Prelude.{◌≡◌, ◌<◌, ◌≤◌, ◌+◌, ◌++◌, ◌∷◌, [], IfOk, OnOk, filter};
+ghost use Rattle.std.specs.Prelude.{length, map, slice_set, vec_capacity, vec_len};
 ghost use Rattle.dirtree.specs.Tree.{is_there};
 ghost use Rattle.mds_board.specs.History.{World};
 ghost use Rattle.script_board.specs.Serve.{IsDealt, asked_rank, refusal_at, refusals, script_at, work_of};
@@ -48,7 +49,8 @@ fn asked_rank<J: Naming, M: Publisher<J>>(
 
 // No requests, for so many ranks.
 fn no_requests(alloc: Global, ranks: usize) -> Result<Dealt, AllocError>
-    ensures { (w : World) → IfOk result (λ dealt. IsDealt w ranks [] (map (λ s. s.items) dealt.scripts.items) dealt.seats.items) }
+    ensures { (w : World) → IfOk result
+        (λ dealt. IsDealt w ranks [] (map (λ s. s.items) dealt.scripts.items) dealt.seats.items) }
 {
     let mut scripts = Vec::new(alloc);
     for _rank in 0..ranks {

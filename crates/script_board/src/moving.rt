@@ -4,9 +4,9 @@ ghost use Rattle.script_board.specs.Move.{IsMoved, move_orders};
 
 use crate::script_board::ScriptBoard;
 use authority_map::Publisher;
+use export_threads::{OpenGate, OrderOutcome, export_phase};
 use mds_types::Order;
 use naming::Naming;
-use rank_threads::{OpenGate, OrderOutcome, export_phase};
 use std::alloc::{AllocError, Global};
 use std::marker::{Send, Sync};
 use std::sync::Wait;

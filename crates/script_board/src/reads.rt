@@ -1,5 +1,6 @@
 //! What a report and a plan read of the board.
-ghost use Rattle.std.specs.Prelude.{◌≡◌, ◌<◌, ◌≤◌, IfOk, IsTrue, length, slice_index, slice_index_or, string_bytes, true};
+ghost use Rattle.std.specs.Prelude.{◌≡◌, ◌<◌, ◌≤◌, IfOk, IsTrue, length, slice_index};
+ghost use Rattle.std.specs.Prelude.{slice_index_or, string_bytes, true};
 ghost use Rattle.authority_map.specs.Operations.{rank_after};
 ghost use Rattle.dirtree.specs.Path.{path_of};
 ghost use Rattle.dirtree.specs.Tree.{is_there};

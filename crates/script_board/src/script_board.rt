@@ -31,9 +31,19 @@ impl<J: Naming, M: Publisher<J>> Model for ScriptBoard<J, M> {
 
     ghost Value = { BoardData };
 
-    ghost view = { λ b. record { world = b.board; shares = b.shares.items; loads = b.loads.items; kept = b.kept.items } };
+    ghost view = { λ b. record {
+      world = b.board;
+      shares = b.shares.items;
+      loads = b.loads.items;
+      kept = b.kept.items;
+    } };
 
-    ghost invariant = { λ b. IsBoard (record { world = b.board; shares = b.shares.items; loads = b.loads.items; kept = b.kept.items }) };
+    ghost invariant = { λ b. IsBoard (record {
+      world = b.board;
+      shares = b.shares.items;
+      loads = b.loads.items;
+      kept = b.kept.items;
+    }) };
 }
 
 impl<J: Naming, M: Publisher<J>> ScriptBoard<J, M> {

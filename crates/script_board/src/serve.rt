@@ -74,7 +74,8 @@ impl<J: Naming + Send + Sync, M: Publisher<J> + Send> ScriptBoard<J, M> {
 impl<J: Naming, M: Publisher<J>> ScriptBoard<J, M> {
     // Deals the waiting requests to the ranks, and asks for room for the refusals that may be met.
     fn prepare(&mut self, alloc: Global) -> Result<(Dealt, Vec<Fault>), AllocError>
-        ensures dealt { IfOk result (λ r. IsDealt self.old.world (length self.old.shares) (waiting self.old) (map (λ s. s.items) r.0.scripts.items) r.0.seats.items) }
+        ensures dealt { IfOk result (λ r. IsDealt self.old.world (length self.old.shares) (waiting self.old)
+            (map (λ s. s.items) r.0.scripts.items) r.0.seats.items) }
         ensures none { IfOk result (λ r. r.1.items ≡ []) }
         ensures room { IfOk result (λ r. length r.0.seats.items + 2 ≤ vec_capacity r.1) }
         ensures same { self.new ≡ self.old }
@@ -90,7 +91,8 @@ impl<J: Naming, M: Publisher<J>> ScriptBoard<J, M> {
         requires none { refused.items ≡ [] }
         requires room { length dealt.now.seats.items + 2 ≤ vec_capacity refused }
         ensures shares { result.0.items ≡ ranks.shares.items }
-        ensures told { result.1.items ≡ refusals (map (λ a. a.items) ranks.answers.items) dealt.now.seats.items ++ unless_done ranks.ended ++ unless_done ranks.deposited }
+        ensures told { result.1.items ≡ refusals (map (λ a. a.items) ranks.answers.items)
+            dealt.now.seats.items ++ unless_done ranks.ended ++ unless_done ranks.deposited }
     {
         let Ranks {
             shares,

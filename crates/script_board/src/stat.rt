@@ -13,7 +13,8 @@ impl<J: Naming, M: Publisher<J>> ScriptBoard<J, M> {
     /// The directories, by rising numbers.
     pub fn directories(&self, alloc: Global) -> Result<Vec<Dir>, AllocError>
         ensures dirs { IfOk result (λ dirs. dirs.items ≡ directories self.now.world.state.directories.entries) }
-        ensures there { IfOk result (λ dirs. All (λ dir. is_there self.now.world.state.directories.entries dir ≡ true) dirs.items) }
+        ensures there { IfOk result (λ dirs. All (λ dir. is_there self.now.world.state.directories.entries dir ≡ true)
+            dirs.items) }
         ensures below { IfOk result (λ dirs. All (λ dir. dir < self.now.world.state.directories.limit) dirs.items) }
     {
         let mut dirs = Vec::new(alloc);

@@ -16,8 +16,8 @@ use std::thread::Threads;
 pub(crate) fn open<J: Naming, R: Wait + Drop>(
     rt: R,
     alloc: Global,
-    book: heat_ledger::Opened,
-    map: authority_map::Opened,
+    book: heat_ledger::NewBook,
+    map: authority_map::NewMap,
 ) -> Result<ScriptBoard<J, MapWriter<J, R>>, Fail>
     requires book { book ≡ J.ledger }
     requires map { map ≡ J.map }
@@ -59,8 +59,8 @@ pub(crate) fn gone<J: Naming + Send + Sync, M: Publisher<J> + Send, R: Threads +
 pub(crate) fn open_at_last<J: Naming, R: Wait + Drop + Copy>(
     rt: R,
     alloc: Global,
-    book: heat_ledger::Opened,
-    map: authority_map::Opened,
+    book: heat_ledger::NewBook,
+    map: authority_map::NewMap,
 ) -> Result<ScriptBoard<J, MapWriter<J, R>>, Fail>
     requires book { book ≡ J.ledger }
     requires map { map ≡ J.map }

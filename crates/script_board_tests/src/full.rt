@@ -39,8 +39,8 @@ fn served_last<J: Naming + Send + Sync, M: Publisher<J> + Send, R: Abort + Threa
 fn on_board<J: Naming + Send + Sync, R: Abort + Threads + Wait + Sync>(
     rt: &R,
     alloc: Global,
-    book: heat_ledger::Opened,
-    map: authority_map::Opened,
+    book: heat_ledger::NewBook,
+    map: authority_map::NewMap,
 ) -> Result<(), Fail>
     requires book { book ≡ J.ledger }
     requires map { map ≡ J.map }
@@ -54,7 +54,7 @@ fn on_board<J: Naming + Send + Sync, R: Abort + Threads + Wait + Sync>(
 
 #[test]
 fn refused_ends_and_deposits_are_told(rt: HostRuntime) -> Result<(), Fail> {
-    let book = heat_ledger::Opened::new(rt.alloc())?;
-    let map = authority_map::Opened::new();
+    let book = heat_ledger::NewBook::new(rt.alloc())?;
+    let map = authority_map::NewMap::new();
     on_board::<Brand, _>(&rt, rt.alloc(), book, map)
 }

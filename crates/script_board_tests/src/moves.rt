@@ -75,8 +75,8 @@ fn on_board<J: Naming + Send + Sync, R: Threads + Wait + Sync>(
     rt: &impl Abort,
     threads: &R,
     alloc: Global,
-    book: heat_ledger::Opened,
-    map: authority_map::Opened,
+    book: heat_ledger::NewBook,
+    map: authority_map::NewMap,
 ) -> Result<(), Fail>
     requires book { book ≡ J.ledger }
     requires map { map ≡ J.map }
@@ -94,7 +94,7 @@ fn on_board<J: Naming + Send + Sync, R: Threads + Wait + Sync>(
 
 #[test]
 fn pins_and_plans_move_directories(rt: HostRuntime) -> Result<(), Fail> {
-    let book = heat_ledger::Opened::new(rt.alloc())?;
-    let map = authority_map::Opened::new();
+    let book = heat_ledger::NewBook::new(rt.alloc())?;
+    let map = authority_map::NewMap::new();
     on_board::<Brand, _>(&rt, &rt, rt.alloc(), book, map)
 }

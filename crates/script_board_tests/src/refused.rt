@@ -159,7 +159,8 @@ fn gone<J: Naming + Send + Sync, M: Publisher<J> + Send, R: Threads + Wait + Syn
     board.go(threads, alloc)
 }
 
-/// A request is refused for want of memory at most, and then counts no hit. Hits that found no memory stay for the next call.
+/// A request is refused for want of memory at most, and then counts no hit. Hits
+/// that found no memory stay for the next call.
 fn served<J: Naming + Send + Sync, M: Publisher<J> + Send, R: Threads + Wait + Sync>(
     rt: &impl Abort,
     threads: &R,
@@ -254,8 +255,8 @@ fn on_board<J: Naming + Send + Sync, R: Threads + Wait + Sync>(
     rt: &impl Abort,
     threads: &R,
     alloc: Global,
-    book: heat_ledger::Opened,
-    map: authority_map::Opened,
+    book: heat_ledger::NewBook,
+    map: authority_map::NewMap,
 ) -> Result<(), Fail>
     requires book { book ≡ J.ledger }
     requires map { map ≡ J.map }
@@ -270,16 +271,16 @@ fn on_board<J: Naming + Send + Sync, R: Threads + Wait + Sync>(
     done
 }
 
-fn book_at_last(alloc: Global) -> Result<heat_ledger::Opened, AllocError> {
-    match heat_ledger::Opened::new(alloc) {
+fn book_at_last(alloc: Global) -> Result<heat_ledger::NewBook, AllocError> {
+    match heat_ledger::NewBook::new(alloc) {
         Ok(book) => Ok(book),
-        Err(_) => heat_ledger::Opened::new(alloc),
+        Err(_) => heat_ledger::NewBook::new(alloc),
     }
 }
 
 #[test]
 fn a_refused_growth_changes_nothing(rt: HostRuntime) -> Result<(), Fail> {
     let book = book_at_last(rt.alloc())?;
-    let map = authority_map::Opened::new();
+    let map = authority_map::NewMap::new();
     on_board::<Brand, _>(&rt, &rt, rt.alloc(), book, map)
 }

@@ -60,8 +60,8 @@ fn stopped<J: Naming + Send + Sync, M: Publisher<J> + Send, R: Abort + Threads +
 fn on_board<J: Naming + Send + Sync, R: Abort + Threads + Wait + Sync>(
     rt: &R,
     alloc: Global,
-    book: heat_ledger::Opened,
-    map: authority_map::Opened,
+    book: heat_ledger::NewBook,
+    map: authority_map::NewMap,
 ) -> Result<(), Fail>
     requires book { book ≡ J.ledger }
     requires map { map ≡ J.map }
@@ -76,7 +76,7 @@ fn on_board<J: Naming + Send + Sync, R: Abort + Threads + Wait + Sync>(
 
 #[test]
 fn requests_are_counted_where_they_are_served(rt: HostRuntime) -> Result<(), Fail> {
-    let book = heat_ledger::Opened::new(rt.alloc())?;
-    let map = authority_map::Opened::new();
+    let book = heat_ledger::NewBook::new(rt.alloc())?;
+    let map = authority_map::NewMap::new();
     on_board::<Brand, _>(&rt, rt.alloc(), book, map)
 }

@@ -34,7 +34,12 @@ impl<R> Model for Input<R> {
 
     ghost Value = { Reading R };
 
-    ghost view = { λ input. record { reader = input.reader; given = bytes_of input.past; reads = input.reads; ended = input.ended } };
+    ghost view = { λ input. record {
+      reader = input.reader;
+      given = bytes_of input.past;
+      reads = input.reads;
+      ended = input.ended;
+    } };
 
     ghost invariant = { λ input. input.reads ≤ 2 ^ 40 };
 }

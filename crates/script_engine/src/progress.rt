@@ -1,5 +1,6 @@
 //! How far a run has come: the line that has begun, and what the next piece of the script does.
-ghost use Rattle.std.specs.Prelude.{◌≡◌, ◌≢◌, MatchBool, Bool, ℕ, ◌+◌, ◌<◌, ◌≤◌, ◌^◌, ◌++◌, ◌∷◌, [], List, OnOk, OnErr, IfOk, true, false, not, ◌&&◌, length};
+ghost use Rattle.std.specs.Prelude.{◌≡◌, ◌≢◌, MatchBool, Bool, ℕ, ◌+◌, ◌<◌, ◌≤◌, ◌^◌, ◌++◌, ◌∷◌, []};
+ghost use Rattle.std.specs.Prelude.{List, OnOk, OnErr, IfOk, true, false, not, ◌&&◌, length};
 ghost use Rattle.std.specs.Io.KnownBytes.{Appends};
 ghost use Rattle.script_engine.specs.Known.{AppendsFront};
 ghost use Rattle.script_engine.specs.Answers.{Answer, Takes};
@@ -25,7 +26,8 @@ pub(crate) struct Progress {
 impl Progress {
     /// Puts bytes of the line into the buffer, where there is room.
     fn hold(&mut self, part: &[u8])
-        ensures kept { self.new.has_room ≡ true → (self.old.has_room ≡ true) × (self.new.line.items ≡ self.old.line.items ++ part.now) }
+        ensures kept { self.new.has_room ≡ true
+            → (self.old.has_room ≡ true) × (self.new.line.items ≡ self.old.line.items ++ part.now) }
         ensures holds { (rest : List ℕ) → Holds rest self.old.line.items self.old.has_room
             → Holds (rest ++ part.now) self.new.line.items self.new.has_room }
         ensures number { self.new.number ≡ self.old.number }

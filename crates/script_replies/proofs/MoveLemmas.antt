@@ -1,7 +1,7 @@
 -- Orders with their outcomes.
 use Rattle.std.proofs.Common.{◌≡◌, ℕ, zero, suc, ◌<◌, List, [], ◌∷◌, length, get_or, refl, ap, arith}
 use Rattle.mds_types.specs.declared.order.Order.{Order}
-use Rattle.rank_threads.specs.declared.order_outcome.OrderOutcome.{OrderOutcome}
+use Rattle.export_threads.specs.declared.order_outcome.OrderOutcome.{OrderOutcome}
 use Rattle.script_replies.specs.Move.{pairs}
 
 pub length-pairs : (orders : List Order) (outcomes : List OrderOutcome) → length outcomes ≡ length orders → length (pairs orders outcomes) ≡ length orders

@@ -9,7 +9,9 @@ abbrev pub cost_line : List Part → List ℕ
 cost_line ps = codes "cost greatest " ++ decimal (greatest ps) ++ codes " parts " ++ decimal (length ps) ++ 10 ∷ []
 
 abbrev pub part_line : BoardData → Part → List ℕ
-part_line b p = codes "part " ++ path_of b.world.state.directories.entries p.top ++ codes " heat " ++ decimal p.heat ++ codes " inodes " ++ decimal p.inodes ++ 10 ∷ []
+part_line b p =
+    codes "part " ++ path_of b.world.state.directories.entries p.top
+    ++ codes " heat " ++ decimal p.heat ++ codes " inodes " ++ decimal p.inodes ++ 10 ∷ []
 
 -- the line on all parts, and then a line a part
 abbrev pub cost_lines : BoardData → List Part → List (List ℕ)

@@ -1,5 +1,6 @@
 -- What the command `move` prints.
-use Rattle.std.specs.Prelude.{ℕ, Bool, true, false, List, [], ◌∷◌, ◌++◌, length, map, codes, decimal, slice_index_or, sum_by, Option, Some, None}
+use Rattle.std.specs.Prelude.{ℕ, Bool, true, false, List, [], ◌∷◌, ◌++◌, length, map, codes}
+use Rattle.std.specs.Prelude.{decimal, slice_index_or, sum_by, Option, Some, None}
 use Rattle.dirtree.specs.Path.{path_of}
 use Rattle.dirtree.specs.Tree.{Entry, entry_at, is_there}
 use Rattle.mds_types.specs.declared.order.Order.{Order}
@@ -8,8 +9,8 @@ use Rattle.mds_types.specs.declared.refusal.Refusal.TheVariants as refusal
 use Rattle.board_state.specs.Refused.{refusal_of}
 use Rattle.export_rounds.specs.declared.outcome.Outcome.{Outcome}
 use Rattle.export_rounds.specs.declared.outcome.Outcome.TheVariants.{Done, Aborted, Open, Refused}
-use Rattle.rank_threads.specs.declared.order_outcome.OrderOutcome.{OrderOutcome}
-use Rattle.rank_threads.specs.declared.order_outcome.OrderOutcome.TheVariants.{TakenUp, NoThread}
+use Rattle.export_threads.specs.declared.order_outcome.OrderOutcome.{OrderOutcome}
+use Rattle.export_threads.specs.declared.order_outcome.OrderOutcome.TheVariants.{TakenUp, NoThread}
 use Rattle.script_board.specs.Board.{BoardData}
 
 abbrev pub word : Outcome → List ℕ
@@ -44,7 +45,9 @@ path_if false entries d = codes "-"
 
 -- the path of an order's top, as long as it is there
 abbrev pub top_path : BoardData → Order → List ℕ
-top_path b order = path_if (is_there b.world.state.directories.entries (top_of order)) b.world.state.directories.entries (top_of order)
+top_path b order =
+    path_if (is_there b.world.state.directories.entries (top_of order)) b.world.state.directories.entries
+    (top_of order)
 
 -- whence and where the directories below a path go
 abbrev pub way_text : List ℕ → ℕ → ℕ → List ℕ
@@ -52,10 +55,13 @@ way_text path from to = codes "export " ++ path ++ codes " from " ++ decimal fro
 
 -- what goes that way, and what became of it
 abbrev pub export_text : List ℕ → ℕ → ℕ → List ℕ → List ℕ
-export_text way count inodes told = way ++ codes " dirs " ++ decimal count ++ codes " inodes " ++ decimal inodes ++ codes " " ++ told ++ 10 ∷ []
+export_text way count inodes told =
+    way ++ codes " dirs " ++ decimal count ++ codes " inodes " ++ decimal inodes ++ codes " " ++ told ++ 10 ∷ []
 
 abbrev pub export_line : BoardData → Order × OrderOutcome → List ℕ
-export_line b told = export_text (way_text (top_path b told.0) told.0.from told.0.to) (length told.0.dirs) (all_inodes b.world.state.directories.entries told.0.dirs) (order_word told.1)
+export_line b told =
+    export_text (way_text (top_path b told.0) told.0.from told.0.to) (length told.0.dirs)
+    (all_inodes b.world.state.directories.entries told.0.dirs) (order_word told.1)
 
 -- each order with its outcome
 abbrev pub pairs : List Order → List OrderOutcome → List (Order × OrderOutcome)

@@ -23,7 +23,10 @@ abbrev pub plan_line : Plan → List ℕ
 plan_line plan = first_line plan.greatest plan.moved (proof_word plan.cut)
 
 abbrev pub plan_part_line : BoardData → PlanPart → List ℕ
-plan_part_line b part = codes "part " ++ path_of b.world.state.directories.entries part.top ++ codes " rank " ++ decimal part.rank ++ codes " heat " ++ decimal part.heat ++ codes " inodes " ++ decimal part.inodes ++ 10 ∷ []
+plan_part_line b part =
+    codes "part " ++ path_of b.world.state.directories.entries part.top
+    ++ codes " rank " ++ decimal part.rank
+    ++ codes " heat " ++ decimal part.heat ++ codes " inodes " ++ decimal part.inodes ++ 10 ∷ []
 
 -- the parts of a plan that is in force
 abbrev pub parts_of : Option Force → Option Plan → List PlanPart

@@ -24,7 +24,9 @@ reply_lines b (Stat dirs) = cluster_line b ∷ map (dir_line b) dirs.items
 abbrev pub IsPrintable : BoardData → Reply → Type 0
 IsPrintable b Nothing = Unit {0}
 IsPrintable b (Cost parts) = AreThere b parts.items
-IsPrintable b (Plan parts) = ((plan : ThePlan) × (plan_in_force b.world ≡ Some plan)) × All (λ part. is_there b.world.state.directories.entries part.top ≡ true) parts.items
+IsPrintable b (Plan parts) =
+    ((plan : ThePlan) × (plan_in_force b.world ≡ Some plan))
+    × All (λ part. is_there b.world.state.directories.entries part.top ≡ true) parts.items
 IsPrintable b (Move orders outcomes) = length outcomes.items ≡ length orders.items
 IsPrintable b (Stat dirs) = (dirs.items ≡ directories b.world.state.directories.entries)
     × All (λ dir. is_there b.world.state.directories.entries dir ≡ true) dirs.items × All (λ dir. dir < b.world.state.directories.limit) dirs.items

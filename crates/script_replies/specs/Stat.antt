@@ -1,5 +1,6 @@
 -- What the command `stat` prints.
-use Rattle.std.specs.Prelude.{ℕ, List, [], ◌∷◌, ◌++◌, length, map, codes, decimal, slice_index, slice_index_or, Option, Some, None}
+use Rattle.std.specs.Prelude.{ℕ, List, [], ◌∷◌, ◌++◌, length, map, codes, decimal}
+use Rattle.std.specs.Prelude.{slice_index, slice_index_or, Option, Some, None}
 use Rattle.authority_map.specs.Operations.{rank_after}
 use Rattle.mds_types.specs.RankSet.{rank_count}
 use Rattle.dirtree.specs.Path.{path_of}
@@ -15,11 +16,19 @@ rank_text (Some rank) = decimal rank
 
 -- the line on the cluster
 abbrev pub cluster_line : BoardData → List ℕ
-cluster_line b = codes "stat ranks " ++ decimal b.world.state.pins.active ++ codes " usable " ++ decimal (rank_count (usable b.world.state)) ++ codes " directories " ++ decimal (length (directories b.world.state.directories.entries)) ++ 10 ∷ []
+cluster_line b =
+    codes "stat ranks " ++ decimal b.world.state.pins.active
+    ++ codes " usable " ++ decimal (rank_count (usable b.world.state))
+    ++ codes " directories " ++ decimal (length (directories b.world.state.directories.entries)) ++ 10 ∷ []
 
 -- the line on a directory: the pin that holds there, and the rank in the published map
 abbrev pub dir_line : BoardData → ℕ → List ℕ
-dir_line b d = codes "dir " ++ decimal d ++ codes " " ++ path_of b.world.state.directories.entries d ++ codes " pin " ++ rank_text (nearest_pin b.world.state.directories.entries b.world.state.pins.own d) ++ codes " rank " ++ rank_text (rank_after b.world.published d) ++ codes " heat " ++ decimal (slice_index b.world.state.heats.heats d) ++ codes " hits " ++ decimal (slice_index_or b.world.state.counted d 0) ++ 10 ∷ []
+dir_line b d =
+    codes "dir " ++ decimal d ++ codes " " ++ path_of b.world.state.directories.entries d
+    ++ codes " pin " ++ rank_text (nearest_pin b.world.state.directories.entries b.world.state.pins.own d)
+    ++ codes " rank " ++ rank_text (rank_after b.world.published d)
+    ++ codes " heat " ++ decimal (slice_index b.world.state.heats.heats d)
+    ++ codes " hits " ++ decimal (slice_index_or b.world.state.counted d 0) ++ 10 ∷ []
 
 -- the line on the cluster, and then a line a directory
 abbrev pub stat_lines : BoardData → List (List ℕ)

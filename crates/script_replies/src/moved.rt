@@ -1,13 +1,14 @@
 //! The lines of `move`.
 ghost use Rattle.std.specs.Prelude.{◌≡◌, IfOk, string_bytes};
-ghost use Rattle.script_replies.specs.Move.{all_inodes, export_line, export_text, move_line, order_word, top_of, top_path, way_text, word};
+ghost use Rattle.script_replies.specs.Move.{all_inodes, export_line, export_text, move_line};
+ghost use Rattle.script_replies.specs.Move.{order_word, top_of, top_path, way_text, word};
 
 use authority_map::Publisher;
 use dirtree::Tree;
 use export_rounds::Outcome;
+use export_threads::OrderOutcome;
 use mds_types::{Dir, Order, Rank, Refusal};
 use naming::Naming;
-use rank_threads::OrderOutcome;
 use script_board::ScriptBoard;
 use std::alloc::{AllocError, Global};
 

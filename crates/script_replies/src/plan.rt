@@ -57,9 +57,11 @@ pub fn parts_in_force<J: Naming, M: Publisher<J>>(
     board: &ScriptBoard<J, M>,
 ) -> Result<Vec<PlanPart>, AllocError>
     requires { (old : BoardData) × (plan : ThePlan) × IsPlanned old plan board.now }
-    ensures plan { (old : BoardData) (plan : ThePlan) → IsPlanned old plan board.now → plan_in_force board.now.world ≡ Some plan }
+    ensures plan { (old : BoardData) (plan : ThePlan) → IsPlanned old plan board.now
+        → plan_in_force board.now.world ≡ Some plan }
     ensures parts { IfOk result (λ parts. parts.items ≡ parts_in_force board.now) }
-    ensures there { IfOk result (λ parts. All (λ part. is_there board.now.world.state.directories.entries part.top ≡ true) parts.items) }
+    ensures there { IfOk result (λ parts. All
+        (λ part. is_there board.now.world.state.directories.entries part.top ≡ true) parts.items) }
 {
     let made = board.board();
     made.promises();

@@ -1,5 +1,6 @@
 //! Writing a reply, line by line.
-ghost use Rattle.std.specs.Prelude.{◌≡◌, ◌<◌, ℕ, IfOk, IsErrOf, IsSome, Some, OnErr, OnOk, ◌++◌, [], length, slice_index_or, string_bytes, take};
+ghost use Rattle.std.specs.Prelude.{◌≡◌, ◌<◌, ℕ, IfOk, IsErrOf, IsSome, Some, OnErr, OnOk, ◌++◌};
+ghost use Rattle.std.specs.Prelude.{[], length, slice_index_or, string_bytes, take};
 ghost use Rattle.std.specs.Io.KnownBytes.{Appends};
 ghost use Rattle.script_engine.specs.Known.{AppendsFront};
 ghost use Rattle.script_replies.specs.Printed.{joined};
@@ -51,9 +52,14 @@ pub fn print_reply<J: Naming, M: Publisher<J>, W: Write>(
     writer: &mut W,
 ) -> Result<(), Unprinted>
     requires { IsPrintable board.old reply.now }
-    ensures done { OnOk result (Appends (W.contents writer.old) (W.contents writer.new) (joined (reply_lines board.old reply.now))) }
-    ensures memory { IsErrOf result Unprinted.Memory → (count : ℕ) × (count < length (reply_lines board.old reply.now)) × Appends (W.contents writer.old) (W.contents writer.new) (joined (take count (reply_lines board.old reply.now))) }
-    ensures write { IsErrOf result Unprinted.Write → AppendsFront (W.contents writer.old) (W.contents writer.new) (joined (reply_lines board.old reply.now)) }
+    ensures done { OnOk result (Appends (W.contents writer.old) (W.contents writer.new)
+        (joined (reply_lines board.old reply.now))) }
+    ensures memory { IsErrOf result Unprinted.Memory
+        → (count : ℕ) × (count < length (reply_lines board.old reply.now))
+        × Appends (W.contents writer.old) (W.contents writer.new)
+        (joined (take count (reply_lines board.old reply.now))) }
+    ensures write { IsErrOf result Unprinted.Write
+        → AppendsFront (W.contents writer.old) (W.contents writer.new) (joined (reply_lines board.old reply.now)) }
     ensures same { board.new ≡ board.old }
 {
     let mut chunk = String::new(alloc);
@@ -84,7 +90,8 @@ fn push_line<J: Naming, M: Publisher<J>>(
 ) -> Result<(), AllocError>
     requires there { IsPrintable board.old reply.now }
     requires inside { index < length (reply_lines board.old reply.now) }
-    ensures more { OnOk result (string_bytes chunk.new ≡ string_bytes chunk.old ++ slice_index_or (reply_lines board.old reply.now) index []) }
+    ensures more { OnOk result (string_bytes chunk.new
+        ≡ string_bytes chunk.old ++ slice_index_or (reply_lines board.old reply.now) index []) }
     ensures unchanged { OnErr result (string_bytes chunk.new ≡ string_bytes chunk.old) }
     ensures same { board.new ≡ board.old }
 {
@@ -131,7 +138,8 @@ fn line_in_force<J: Naming, M: Publisher<J>>(
     board: &ScriptBoard<J, M>,
 ) -> Result<String, AllocError>
     requires { IsSome (plan_in_force board.now.world) }
-    ensures { (plan : ThePlan) → plan_in_force board.now.world ≡ Some plan → IfOk result (λ line. string_bytes line ≡ plan_line plan) }
+    ensures { (plan : ThePlan) → plan_in_force board.now.world ≡ Some plan
+        → IfOk result (λ line. string_bytes line ≡ plan_line plan) }
 {
     match board.board().plan_in_force() {
         Some(plan) => plan_line(alloc, plan),

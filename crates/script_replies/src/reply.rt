@@ -5,8 +5,8 @@ ghost use Rattle.script_replies.specs.Reply.{IsPrintable, reply_lines};
 
 use board_problem::PlanPart;
 use division_cost::Part;
+use export_threads::OrderOutcome;
 use mds_types::{Dir, Order};
-use rank_threads::OrderOutcome;
 
 /// What a command prints, from which its lines are made one by one as they are written.
 #[derive(Drop)]

@@ -2,7 +2,7 @@
 ghost use Rattle.std.specs.Prelude.{◌≡◌, ◌≤◌};
 
 use crate::paths::clock::{RUNS, keys, now, per_step};
-use authority_map::{Found, MapError, MapReader, MapWriter, Opened, Publisher};
+use authority_map::{Found, MapError, MapReader, MapWriter, NewMap, Publisher};
 use mds_types::limits::DIR_LIMIT;
 use mds_types::{Dir, Rank};
 use naming::Naming;
@@ -159,7 +159,7 @@ fn time_copies<J: Naming + Send + Sync, W: Wait + Drop, R: Threads + CpuClock + 
 pub fn time_map<J: Naming + Send + Sync, R: Threads + Wait + CpuClock + Sync>(
     rt: &R,
     alloc: Global,
-    opened: Opened,
+    opened: NewMap,
     rank: Rank,
 ) -> Result<Option<FindTimes>, MapError>
     requires name { opened ≡ J.map }
@@ -179,7 +179,7 @@ pub fn time_map<J: Naming + Send + Sync, R: Threads + Wait + CpuClock + Sync>(
 pub fn publish_in<J: Naming, R: Wait + CpuClock>(
     rt: &R,
     alloc: Global,
-    opened: Opened,
+    opened: NewMap,
     limit: u32,
     rank: Rank,
 ) -> Result<u64, MapError>

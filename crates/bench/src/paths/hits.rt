@@ -2,7 +2,7 @@
 ghost use Rattle.std.specs.Prelude.{◌≡◌, ◌≤◌};
 
 use crate::paths::clock::{RUNS, keys, now, per_step};
-use heat_ledger::{Book, Opened, Share};
+use heat_ledger::{Book, NewBook, Share};
 use mds_types::Dir;
 use mds_types::limits::DIR_LIMIT;
 use naming::Naming;
@@ -111,7 +111,7 @@ fn all_keys(alloc: Global) -> Result<Vec<u32>, AllocError> {
 pub fn time_ledger<J: Naming + Send + Sync, R: Threads + CpuClock + Sync>(
     rt: &R,
     alloc: Global,
-    opened: Opened,
+    opened: NewBook,
 ) -> Result<Option<HitTimes>, AllocError>
     requires name { opened ≡ J.ledger }
     requires limit { J.limit ≡ DIR_LIMIT }
@@ -151,7 +151,7 @@ pub fn time_ledger<J: Naming + Send + Sync, R: Threads + CpuClock + Sync>(
 /// Opens a ledger, whose memory can then be seen from outside.
 pub fn open_ledger<J: Naming>(
     alloc: Global,
-    opened: Opened,
+    opened: NewBook,
     limit: u32,
     shares: u8,
 ) -> Result<u64, AllocError>

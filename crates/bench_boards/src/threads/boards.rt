@@ -28,7 +28,8 @@ fn rank(number: u8) -> Rank {
     Rank::new(number).unwrap_or(Rank::default())
 }
 
-// The rank that is to have a directory other than the root: neighbours have the same, and each rank as many, but the last.
+// The rank that is to have a directory other than the root: neighbours have the
+// same, and each rank as many, but the last.
 fn rank_of(ranks: u8, dirs: u32, dir: u32) -> u32 {
     let each = dirs.saturating_sub(1) / u32::from(ranks).max(1);
     let number = dir.saturating_sub(1) / each.max(1);
@@ -71,7 +72,7 @@ fn make<J: Naming, M: Publisher<J>>(
 fn open<'r, J: Naming, R: Wait>(
     rt: &'r R,
     alloc: Global,
-    names: (heat_ledger::Opened, authority_map::Opened),
+    names: (heat_ledger::NewBook, authority_map::NewMap),
     ranks: u8,
     dirs: u32,
 ) -> Result<(Board<J, MapWriter<J, &'r R>>, Vec<Share<J>>), AllocError>
@@ -214,7 +215,7 @@ fn serve<J: Naming + Send + Sync, M: Publisher<J> + Send, R: Threads + Wait + Sy
 pub fn time_serve<J: Naming + Send + Sync, R: Threads + Wait + Clock + Sync>(
     rt: &R,
     alloc: Global,
-    names: (heat_ledger::Opened, authority_map::Opened),
+    names: (heat_ledger::NewBook, authority_map::NewMap),
     ranks: u8,
     hits: u32,
     by_threads: bool,
@@ -279,7 +280,7 @@ fn counted<J: Naming, M: Publisher<J>>(board: &Board<J, M>, ranks: u8) -> u64 {
 pub fn time_export<J: Naming + Send + Sync, R: Threads + Wait + Clock + Sync>(
     rt: &R,
     alloc: Global,
-    names: (heat_ledger::Opened, authority_map::Opened),
+    names: (heat_ledger::NewBook, authority_map::NewMap),
     ranks: u8,
     by_threads: bool,
 ) -> io::Result<u128>
