@@ -60,11 +60,11 @@ impl<
     ) -> Result<bool, WriteFailed>
         ensures { Tells answers W.contents self.old number line.now writer.old result self.new writer.new }
     {
-        let accepted = self.session.answer(alloc, number, line, writer)?;
-        if !accepted {
+        let answered = self.session.answer(alloc, number, line, writer);
+        if let Ok(false) = answered {
             tell(alloc, self.hints, number, line);
         }
-        Ok(accepted)
+        answered
     }
 }
 
