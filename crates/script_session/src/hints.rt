@@ -61,10 +61,17 @@ impl<
         ensures { Tells answers W.contents self.old number line.now writer.old result self.new writer.new }
     {
         let answered = self.session.answer(alloc, number, line, writer);
-        if let Ok(false) = answered {
+        if is_unaccepted(&answered) {
             tell(alloc, self.hints, number, line);
         }
         answered
+    }
+}
+
+fn is_unaccepted(answered: &Result<bool, WriteFailed>) -> bool {
+    match answered {
+        Ok(accepted) => !*accepted,
+        Err(_) => false,
     }
 }
 
