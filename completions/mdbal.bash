@@ -5,7 +5,7 @@ _mdbal() {
         --limit) return ;;
         --proofs) COMPREPLY=($(compgen -f -- "$cur")); return ;;
     esac
-    COMPREPLY=($(compgen -W '--limit --strict --proofs --help --version' -- "$cur"))
+    COMPREPLY=($(compgen -W '--limit --strict --proofs --quiet --help --version' -- "$cur"))
 }
 _mdbal_ceph() {
     local cur=${COMP_WORDS[COMP_CWORD]} prev=${COMP_WORDS[COMP_CWORD-1]}

@@ -32,7 +32,7 @@ use Rattle.command_line.specs.declared.options_error.OptionsError.{OptionsError}
 use Rattle.command_line.specs.declared.options_error.OptionsError.TheVariants.{Help, Memory, Refused, Version}
 use Rattle.clap.proofs.CallerReads.{signed_reads}
 use Rattle.clap.proofs.OnLiterals.{clap_on_literals}
-use Rattle.command_line.specs.CommandLine.{limit_rule, mdbal, number_of, proofs_rule, strict_rule}
+use Rattle.command_line.specs.CommandLine.{limit_rule, mdbal, number_of, proofs_rule, quiet_rule, strict_rule}
 use Rattle.command_line.proofs.Passed.{IsOwn, text_passed}
 
 pub is_plain_line : is_simple_and_free mdbal ≡ true
@@ -53,68 +53,93 @@ none_of (x ∷ xs) h =
     let zero : length (x ∷ xs) ≡ 0 = grind (arith, nat_tests) in
     absurd (omega arith)
 
--- three things of which a list is made
-record HasThree {X Y : Type 0} (f : X → Y) (r s t : Y) (xs : List X) : Type 0 where
+-- four things of which a list is made
+record HasFour {X Y : Type 0} (f : X → Y) (q r s t : Y) (xs : List X) : Type 0 where
   first : X
   second : X
   third : X
-  are : xs ≡ first ∷ second ∷ third ∷ []
-  first_is : f first ≡ r
-  second_is : f second ≡ s
-  third_is : f third ≡ t
+  fourth : X
+  are : xs ≡ first ∷ second ∷ third ∷ fourth ∷ []
+  first_is : f first ≡ q
+  second_is : f second ≡ r
+  third_is : f third ≡ s
+  fourth_is : f fourth ≡ t
 
-three_of : (X Y : Type 0) (f : X → Y) (r s t : Y) (xs : List X) → map f xs ≡ r ∷ s ∷ t ∷ [] → HasThree f r s t xs
-three_of X Y f r s t [] h = cc
-three_of X Y f r s t (a ∷ []) h = cc
-three_of X Y f r s t (a ∷ b ∷ []) h = cc
-three_of X Y f r s t (a ∷ b ∷ d ∷ []) h = record {
+four_of : (X Y : Type 0) (f : X → Y) (q r s t : Y) (xs : List X) → map f xs ≡ q ∷ r ∷ s ∷ t ∷ [] → HasFour f q r s t xs
+four_of X Y f q r s t [] h = cc
+four_of X Y f q r s t (a ∷ []) h = cc
+four_of X Y f q r s t (a ∷ b ∷ []) h = cc
+four_of X Y f q r s t (a ∷ b ∷ d ∷ []) h = cc
+four_of X Y f q r s t (a ∷ b ∷ d ∷ e ∷ []) h = record {
   first = a;
   second = b;
   third = d;
+  fourth = e;
   are = refl;
-  first_is = ap (λ (ys : List Y). slice_index_or ys 0 r) h;
-  second_is = ap (λ (ys : List Y). slice_index_or ys 1 r) h;
-  third_is = ap (λ (ys : List Y). slice_index_or ys 2 r) h;
+  first_is = ap (λ (ys : List Y). slice_index_or ys 0 q) h;
+  second_is = ap (λ (ys : List Y). slice_index_or ys 1 q) h;
+  third_is = ap (λ (ys : List Y). slice_index_or ys 2 q) h;
+  fourth_is = ap (λ (ys : List Y). slice_index_or ys 3 q) h;
 }
-three_of X Y f r s t (a ∷ b ∷ d ∷ x ∷ xs) h = cc
+four_of X Y f q r s t (a ∷ b ∷ d ∷ e ∷ x ∷ xs) h = cc
 
--- the three arguments
+-- the four arguments
 abbrev IsLine : List Arg → Type 0
-IsLine = HasThree rule_of limit_rule strict_rule proofs_rule
+IsLine = HasFour rule_of limit_rule strict_rule proofs_rule quiet_rule
 
-line_of : (xs : List Arg) → map rule_of xs ≡ limit_rule ∷ strict_rule ∷ proofs_rule ∷ [] → IsLine xs
-line_of = three_of Arg Rule rule_of limit_rule strict_rule proofs_rule
+line_of : (xs : List Arg) → map rule_of xs ≡ limit_rule ∷ strict_rule ∷ proofs_rule ∷ quiet_rule ∷ [] → IsLine xs
+line_of = four_of Arg Rule rule_of limit_rule strict_rule proofs_rule quiet_rule
 
 no_groups_of : (a : Arg) (r : Rule) → rule_of a ≡ r → r.is_simple ≡ true → a.groups.items ≡ []
 no_groups_of a r h simple =
     let all = ap (λ (x : Rule). x.is_simple) h ∙ simple in
     none_of a.groups.items (both_true _ _ (both_true _ _ (both_true _ _ all).1).1).0
 
--- a name stands at one of the three places alone
-alone : (a b d : Arg) → a.id.now ≡ codes "limit" → b.id.now ≡ codes "strict" → d.id.now ≡ codes "proofs" → (j : ℕ) (e : Arg) → j < 3
-    → (bytes_eq (slice_index_or (a ∷ b ∷ d ∷ []) j e).id.now (codes "limit") ≡ true → j ≡ 0)
-    × (bytes_eq (slice_index_or (a ∷ b ∷ d ∷ []) j e).id.now (codes "strict") ≡ true → j ≡ 1)
-alone a b d is_a is_b is_d zero e lt = (
+-- a name stands at one of the four places alone
+alone : (a b d e : Arg) → a.id.now ≡ codes "limit" → b.id.now ≡ codes "strict" → d.id.now ≡ codes "proofs" → e.id.now ≡ codes "quiet"
+    → (j : ℕ) (x : Arg) → j < 4
+    → (bytes_eq (slice_index_or (a ∷ b ∷ d ∷ e ∷ []) j x).id.now (codes "limit") ≡ true → j ≡ 0)
+    × (bytes_eq (slice_index_or (a ∷ b ∷ d ∷ e ∷ []) j x).id.now (codes "strict") ≡ true → j ≡ 1)
+    × (bytes_eq (slice_index_or (a ∷ b ∷ d ∷ e ∷ []) j x).id.now (codes "quiet") ≡ true → j ≡ 3)
+alone a b d e is_a is_b is_d is_e zero x lt = (
   λ h. refl,
   λ h.
       let bad : false ≡ true = subst (λ (t : Text). bytes_eq t (codes "strict") ≡ true) is_a h in
       cc,
+  λ h.
+      let bad : false ≡ true = subst (λ (t : Text). bytes_eq t (codes "quiet") ≡ true) is_a h in
+      cc,
 )
-alone a b d is_a is_b is_d (suc zero) e lt = (
+alone a b d e is_a is_b is_d is_e (suc zero) x lt = (
   λ h.
       let bad : false ≡ true = subst (λ (t : Text). bytes_eq t (codes "limit") ≡ true) is_b h in
       cc,
   λ h. refl,
+  λ h.
+      let bad : false ≡ true = subst (λ (t : Text). bytes_eq t (codes "quiet") ≡ true) is_b h in
+      cc,
 )
-alone a b d is_a is_b is_d (suc (suc zero)) e lt = (
+alone a b d e is_a is_b is_d is_e (suc (suc zero)) x lt = (
   λ h.
       let bad : false ≡ true = subst (λ (t : Text). bytes_eq t (codes "limit") ≡ true) is_d h in
       cc,
   λ h.
       let bad : false ≡ true = subst (λ (t : Text). bytes_eq t (codes "strict") ≡ true) is_d h in
       cc,
+  λ h.
+      let bad : false ≡ true = subst (λ (t : Text). bytes_eq t (codes "quiet") ≡ true) is_d h in
+      cc,
 )
-alone a b d is_a is_b is_d (suc (suc (suc j))) e lt = absurd (omega arith)
+alone a b d e is_a is_b is_d is_e (suc (suc (suc zero))) x lt = (
+  λ h.
+      let bad : false ≡ true = subst (λ (t : Text). bytes_eq t (codes "limit") ≡ true) is_e h in
+      cc,
+  λ h.
+      let bad : false ≡ true = subst (λ (t : Text). bytes_eq t (codes "strict") ≡ true) is_e h in
+      cc,
+  λ h. refl,
+)
+alone a b d e is_a is_b is_d is_e (suc (suc (suc (suc j)))) x lt = absurd (omega arith)
 
 -- a name that begins with another letter is neither empty nor that of the flag for help or the version
 first_letter : (t u : Text) → t ≡ u → slice_index_or t 0 0 ≡ slice_index_or u 0 0
@@ -122,44 +147,72 @@ first_letter t u h = ap (λ (v : Text). slice_index_or v 0 0) h
 
 limit_own : (c : Command) (l : IsLine (args_of c)) → IsOwn c 0 l.first
 limit_own c l =
-    let id : l.first.id.now ≡ codes "limit" = ap (λ (r : Rule). r.id) l.first_is in
-    let other : l.second.id.now ≡ codes "strict" = ap (λ (r : Rule). r.id) l.second_is in
-    let file : l.third.id.now ≡ codes "proofs" = ap (λ (r : Rule). r.id) l.third_is in
+    let is_limit : l.first.id.now ≡ codes "limit" = ap (λ (r : Rule). r.id) l.first_is in
+    let is_strict : l.second.id.now ≡ codes "strict" = ap (λ (r : Rule). r.id) l.second_is in
+    let is_proofs : l.third.id.now ≡ codes "proofs" = ap (λ (r : Rule). r.id) l.third_is in
+    let is_quiet : l.fourth.id.now ≡ codes "quiet" = ap (λ (r : Rule). r.id) l.fourth_is in
     record {
       below = rw l.are (omega arith);
       is = rw l.are refl;
-      alone = λ j e lt h. (alone l.first l.second l.third id other file j e (rw l.are at lt)).0 (subst (λ (t : Text). bytes_eq (slice_index_or (l.first ∷ l.second ∷ l.third ∷ []) j e).id.now t ≡ true) id (rw l.are at h));
+      alone = λ j e lt h. (alone l.first l.second l.third l.fourth is_limit is_strict is_proofs is_quiet j e (rw l.are at lt)).0
+          (subst (λ (t : Text). bytes_eq (slice_index_or (l.first ∷ l.second ∷ l.third ∷ l.fourth ∷ []) j e).id.now t ≡ true) is_limit (rw l.are at h));
       named = λ h.
-          let bad : 108 ≡ 0 = first_letter (codes "limit") [] (sym id ∙ h) in
+          let bad : 108 ≡ 0 = first_letter (codes "limit") [] (sym is_limit ∙ h) in
           absurd (omega arith);
       not_added = λ auto. elim auto [
         | inl h ↦
-            let bad : 108 ≡ 104 = first_letter (codes "limit") (codes "help") (sym id ∙ h) in
+            let bad : 108 ≡ 104 = first_letter (codes "limit") (codes "help") (sym is_limit ∙ h) in
             absurd (omega arith)
         | inr h ↦
-            let bad : 108 ≡ 118 = first_letter (codes "limit") (codes "version") (sym id ∙ h) in
+            let bad : 108 ≡ 118 = first_letter (codes "limit") (codes "version") (sym is_limit ∙ h) in
             absurd (omega arith)
       ];
     }
 
 strict_own : (c : Command) (l : IsLine (args_of c)) → IsOwn c 1 l.second
 strict_own c l =
-    let other : l.first.id.now ≡ codes "limit" = ap (λ (r : Rule). r.id) l.first_is in
-    let id : l.second.id.now ≡ codes "strict" = ap (λ (r : Rule). r.id) l.second_is in
-    let file : l.third.id.now ≡ codes "proofs" = ap (λ (r : Rule). r.id) l.third_is in
+    let is_limit : l.first.id.now ≡ codes "limit" = ap (λ (r : Rule). r.id) l.first_is in
+    let is_strict : l.second.id.now ≡ codes "strict" = ap (λ (r : Rule). r.id) l.second_is in
+    let is_proofs : l.third.id.now ≡ codes "proofs" = ap (λ (r : Rule). r.id) l.third_is in
+    let is_quiet : l.fourth.id.now ≡ codes "quiet" = ap (λ (r : Rule). r.id) l.fourth_is in
     record {
       below = rw l.are (omega arith);
       is = rw l.are refl;
-      alone = λ j e lt h. (alone l.first l.second l.third other id file j e (rw l.are at lt)).1 (subst (λ (t : Text). bytes_eq (slice_index_or (l.first ∷ l.second ∷ l.third ∷ []) j e).id.now t ≡ true) id (rw l.are at h));
+      alone = λ j e lt h. (alone l.first l.second l.third l.fourth is_limit is_strict is_proofs is_quiet j e (rw l.are at lt)).1
+          (subst (λ (t : Text). bytes_eq (slice_index_or (l.first ∷ l.second ∷ l.third ∷ l.fourth ∷ []) j e).id.now t ≡ true) is_strict (rw l.are at h));
       named = λ h.
-          let bad : 115 ≡ 0 = first_letter (codes "strict") [] (sym id ∙ h) in
+          let bad : 115 ≡ 0 = first_letter (codes "strict") [] (sym is_strict ∙ h) in
           absurd (omega arith);
       not_added = λ auto. elim auto [
         | inl h ↦
-            let bad : 115 ≡ 104 = first_letter (codes "strict") (codes "help") (sym id ∙ h) in
+            let bad : 115 ≡ 104 = first_letter (codes "strict") (codes "help") (sym is_strict ∙ h) in
             absurd (omega arith)
         | inr h ↦
-            let bad : 115 ≡ 118 = first_letter (codes "strict") (codes "version") (sym id ∙ h) in
+            let bad : 115 ≡ 118 = first_letter (codes "strict") (codes "version") (sym is_strict ∙ h) in
+            absurd (omega arith)
+      ];
+    }
+
+quiet_own : (c : Command) (l : IsLine (args_of c)) → IsOwn c 3 l.fourth
+quiet_own c l =
+    let is_limit : l.first.id.now ≡ codes "limit" = ap (λ (r : Rule). r.id) l.first_is in
+    let is_strict : l.second.id.now ≡ codes "strict" = ap (λ (r : Rule). r.id) l.second_is in
+    let is_proofs : l.third.id.now ≡ codes "proofs" = ap (λ (r : Rule). r.id) l.third_is in
+    let is_quiet : l.fourth.id.now ≡ codes "quiet" = ap (λ (r : Rule). r.id) l.fourth_is in
+    record {
+      below = rw l.are (omega arith);
+      is = rw l.are refl;
+      alone = λ j e lt h. (alone l.first l.second l.third l.fourth is_limit is_strict is_proofs is_quiet j e (rw l.are at lt)).2
+          (subst (λ (t : Text). bytes_eq (slice_index_or (l.first ∷ l.second ∷ l.third ∷ l.fourth ∷ []) j e).id.now t ≡ true) is_quiet (rw l.are at h));
+      named = λ h.
+          let bad : 113 ≡ 0 = first_letter (codes "quiet") [] (sym is_quiet ∙ h) in
+          absurd (omega arith);
+      not_added = λ auto. elim auto [
+        | inl h ↦
+            let bad : 113 ≡ 104 = first_letter (codes "quiet") (codes "help") (sym is_quiet ∙ h) in
+            absurd (omega arith)
+        | inr h ↦
+            let bad : 113 ≡ 118 = first_letter (codes "quiet") (codes "version") (sym is_quiet ∙ h) in
             absurd (omega arith)
       ];
     }
@@ -184,9 +237,10 @@ loose c is l =
     let third = both_true _ _ (both_true _ _ first.1).1 in
     record {
       globals = not_true _ third.0;
-      unnamed = rw l.are (All-cons Unnamed l.first (l.second ∷ l.third ∷ []) (no_groups_of l.first limit_rule l.first_is refl)
-          (All-cons Unnamed l.second (l.third ∷ []) (no_groups_of l.second strict_rule l.second_is refl)
-          (All-cons Unnamed l.third [] (no_groups_of l.third proofs_rule l.third_is refl) (All-nil Unnamed))));
+      unnamed = rw l.are (All-cons Unnamed l.first (l.second ∷ l.third ∷ l.fourth ∷ []) (no_groups_of l.first limit_rule l.first_is refl)
+          (All-cons Unnamed l.second (l.third ∷ l.fourth ∷ []) (no_groups_of l.second strict_rule l.second_is refl)
+          (All-cons Unnamed l.third (l.fourth ∷ []) (no_groups_of l.third proofs_rule l.third_is refl)
+          (All-cons Unnamed l.fourth [] (no_groups_of l.fourth quiet_rule l.fourth_is refl) (All-nil Unnamed)))));
       groups = none_of (groups_of c) first.0;
     }
 
@@ -209,6 +263,17 @@ strict_text c m is p t found =
     let k = loose c is l in
     let got = text_passed c m p k.globals k.unnamed k.groups 1 l.second (strict_own c l) parser.Bool
     (ap (λ (r : Rule). r.parser) l.second_is) t (rw id found) in
+    rw got.1 got.2
+
+pub quiet_text : (c : Command) (m : ArgMatches) → app_of c ≡ mdbal → IsParsedFrom c m
+    → (t : Text) → one_text (found_of m) (codes "quiet") ≡ Some t
+    → (bytes_eq t (codes "true") || bytes_eq t (codes "false")) ≡ true
+quiet_text c m is p t found =
+    let l = line_of (args_of c) (ap (λ (x : App). x.top.rules) is) in
+    let id : l.fourth.id.now ≡ codes "quiet" = ap (λ (r : Rule). r.id) l.fourth_is in
+    let k = loose c is l in
+    let got = text_passed c m p k.globals k.unnamed k.groups 3 l.fourth (quiet_own c l) parser.Bool
+    (ap (λ (r : Rule). r.parser) l.fourth_is) t (rw id found) in
     rw got.1 got.2
 
 -- the number that is read of the limit's text, or the most where there is none

@@ -31,13 +31,21 @@ proofs_rule = record (new_rule (codes "proofs")) {
   value_names = 1;
 }
 
+-- `--quiet`, with no value
+abbrev pub quiet_rule : Rule
+quiet_rule = record (new_rule (codes "quiet")) {
+  long = Some (codes "quiet");
+  action = Some SetTrue;
+  parser = Some parser.Bool;
+}
+
 -- the program, which has a version
 abbrev pub versioned : App
 versioned = let app = new_app (codes "mdbal") in record app { top = record app.top { has_version = true } }
 
--- `mdbal [--limit N] [--strict] [--proofs FILE]`, which has a version
+-- `mdbal [--limit N] [--strict] [--proofs FILE] [--quiet]`, which has a version
 abbrev pub mdbal : App
-mdbal = with_rule (with_rule (with_rule versioned limit_rule) strict_rule) proofs_rule
+mdbal = with_rule (with_rule (with_rule (with_rule versioned limit_rule) strict_rule) proofs_rule) quiet_rule
 
 -- the number of a text of decimal digits
 abbrev pub number_of : Text → ℕ
@@ -49,7 +57,13 @@ limit_of words = unwrap_or (option_map number_of (one_of (codes "limit") (matche
 
 -- the words have `--strict`
 abbrev pub is_strict : List Text → Bool
-is_strict words = option_map_or (λ text. bytes_eq text (codes "true")) (one_of (codes "strict") (matches_of mdbal words)) false
+is_strict words =
+    option_map_or (λ text. bytes_eq text (codes "true")) (one_of (codes "strict") (matches_of mdbal words)) false
+
+-- the words have `--quiet`
+abbrev pub is_quiet : List Text → Bool
+is_quiet words =
+    option_map_or (λ text. bytes_eq text (codes "true")) (one_of (codes "quiet") (matches_of mdbal words)) false
 
 -- the file that `--proofs` names
 abbrev pub proofs_of : List Text → Option Text

@@ -1,6 +1,6 @@
 //! The words of `mdbal`'s command line.
 //!
-//! `mdbal [--limit N] [--strict] [--proofs FILE]`: what counts as such a line is `clap`'s own reading of it.
+//! `mdbal [--limit N] [--strict] [--proofs FILE] [--quiet]`: what counts as such a line is `clap`'s own reading of it.
 #![tactic(auto)]
 
 pub mod laws;

@@ -1,8 +1,8 @@
 //! The settings that the words of a command line give.
 ghost use Rattle.std.specs.Prelude.{◌≡◌, false, ◌≤◌, [], IfErr, IfOk, map, option_map};
-ghost use Rattle.clap.specs.Words.{app_of, fault_of, rule_of};
-ghost use Rattle.command_line.specs.CommandLine.{is_strict, limit_of, limit_rule, mdbal};
-ghost use Rattle.command_line.specs.CommandLine.{proofs_of, proofs_rule, strict_rule};
+ghost use Rattle.clap.specs.Words.{app_of, fault_of, rule_of, with_rule};
+ghost use Rattle.command_line.specs.CommandLine.{is_quiet, is_strict, limit_of, limit_rule, mdbal};
+ghost use Rattle.command_line.specs.CommandLine.{proofs_of, proofs_rule, quiet_rule, strict_rule, versioned};
 ghost use Rattle.command_line.specs.Outcome.{Explains};
 
 use crate::options_error::OptionsError;
@@ -23,18 +23,21 @@ pub struct Settings<'a> {
     pub strict: bool,
     /// The file that the certificates of the adopted plans are written to, if one is named.
     pub proofs: Option<&'a str>,
+    /// Whether nothing is said on standard error of lines that spell no command.
+    pub quiet: bool,
 }
 
 /// Reads the words of a command line, of which the first is the program's name.
 ///
 /// `--limit N` takes 1 to 65536, which is also the limit where the words name none. `--strict` and
-/// `--limit` may each stand once, and so may `--proofs FILE`.
+/// `--limit` may each stand once, and so may `--proofs FILE` and `--quiet`.
 pub fn options<'a, S: AsStr>(alloc: Global, words: &'a [S]) -> Result<Settings<'a>, OptionsError>
     ensures accepted { IfOk result (λ _. fault_of mdbal (map S.text words.now) ≡ []) }
     ensures limit { IfOk result (λ s. s.limit ≡ limit_of (map S.text words.now)) }
     ensures within { IfOk result (λ s. (1 ≤ s.limit) × (s.limit ≤ DIR_LIMIT)) }
     ensures strict { IfOk result (λ s. s.strict ≡ is_strict (map S.text words.now)) }
     ensures proofs { IfOk result (λ s. option_map (λ file. file.now) s.proofs ≡ proofs_of (map S.text words.now)) }
+    ensures quiet { IfOk result (λ s. s.quiet ≡ is_quiet (map S.text words.now)) }
     ensures refused { IfErr result (Explains (fault_of mdbal (map S.text words.now))) }
 {
     let matches = command(alloc)?.try_get_matches_from(words)?;
@@ -42,6 +45,7 @@ pub fn options<'a, S: AsStr>(alloc: Global, words: &'a [S]) -> Result<Settings<'
         limit: matches.get_one::<u32>("limit").unwrap_or(DIR_LIMIT),
         strict: matches.get_flag("strict"),
         proofs: matches.get_str("proofs"),
+        quiet: matches.get_flag("quiet"),
     })
 }
 
@@ -77,9 +81,20 @@ fn proofs_option<'a>(alloc: Global) -> Arg<'a>
         .help("File to write the certificates of the adopted plans to; mdbal_check checks them")
 }
 
-// The program's command, as `clap` knows it.
-fn command<'a>(alloc: Global) -> Result<Command<'a>, AllocError>
-    ensures { IfOk result (λ c. app_of c ≡ mdbal) }
+fn quiet_flag<'a>(alloc: Global) -> Arg<'a>
+    ensures rule { rule_of result ≡ quiet_rule }
+    ensures local { result.global ≡ false }
+{
+    Arg::new(alloc, "quiet")
+        .long("quiet")
+        .action(ArgAction::SetTrue)
+        .value_parser(value_parser!(bool))
+        .help("Don't say on standard error why a line is `syntax`")
+}
+
+// The program's command with `--limit` and `--strict`.
+fn limited_command<'a>(alloc: Global) -> Result<Command<'a>, AllocError>
+    ensures { IfOk result (λ c. app_of c ≡ with_rule (with_rule versioned limit_rule) strict_rule) }
 {
     Command::new(alloc, "mdbal")
         .version(VERSION)
@@ -87,6 +102,14 @@ fn command<'a>(alloc: Global) -> Result<Command<'a>, AllocError>
             "Carries out the script on standard input, and writes its answers to standard output",
         )
         .arg(limit_option(alloc))?
-        .arg(strict_flag(alloc))?
-        .arg(proofs_option(alloc))
+        .arg(strict_flag(alloc))
+}
+
+// The program's command, as `clap` knows it.
+fn command<'a>(alloc: Global) -> Result<Command<'a>, AllocError>
+    ensures { IfOk result (λ c. app_of c ≡ mdbal) }
+{
+    limited_command(alloc)?
+        .arg(proofs_option(alloc))?
+        .arg(quiet_flag(alloc))
 }

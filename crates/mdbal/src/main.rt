@@ -1,7 +1,8 @@
-//! `mdbal [--limit N] [--strict] [--proofs FILE]`: reads a script on standard input, and writes the answers to standard
-//! output.
+//! `mdbal [--limit N] [--strict] [--proofs FILE] [--quiet]`: reads a script on standard input, and writes the answers
+//! to standard output.
 #![tactic(auto)]
 
+mod hints;
 mod start;
 
 use script_engine::{Input, Output};

@@ -7,6 +7,7 @@ ghost use Rattle.script_engine.specs.Known.{AppendsFront};
 ghost use Rattle.mdbal.specs.Exit.{AreProved, IsExit, IsRun, message, status_of};
 ghost use Rattle.std.specs.Option.{option_and_then};
 
+use crate::hints::LineHints;
 use command_line::{OptionsError, Settings, options};
 use dirtree::NameKey;
 use script_engine::{Input, RunError, write_whole};
@@ -28,7 +29,8 @@ use std::thread::Threads;
 /// It is 0 where every line was accepted, 1 where one was not, 2 where the command line is refused or there is no
 /// memory to begin with, and 3 where a device failed, or the certificates of the adopted plans that `--proofs FILE`
 /// asks for could not all be written, or there are no random bytes to key the hash of names with. The help and the
-/// version end with 0.
+/// version end with 0. Of a line that spells no command a line on
+/// standard error says why, unless the words have `--quiet`.
 pub fn start<
     T: Threads + Wait + Files + RandomSource + Sync,
     S: AsStr,
@@ -108,8 +110,18 @@ fn prove<T: Threads + Wait + Sync, R: Read, W: Write, P: Write, E: Write>(
     ensures proofs { result ≤ 1 → AreProved
         (option_and_then P.contents proofs.old) (option_and_then P.contents proofs.new) }
 {
+    let mut hints = LineHints {
+        errors,
+        quiet: settings.quiet,
+    };
     let (limit, strict) = (settings.limit, settings.strict);
-    let ended = run(rt, alloc, input, writer, proofs, key, limit, strict);
+    let ended = run(
+        rt, alloc, input, writer, proofs, &mut hints, key, limit, strict,
+    );
+    let LineHints {
+        errors,
+        quiet: _quiet,
+    } = hints;
     let accepted = match ended.answered {
         Ok(accepted) => accepted,
         Err(failure) => return fail(failure, errors),

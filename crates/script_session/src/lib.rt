@@ -3,11 +3,13 @@
 
 mod carry_out;
 pub mod done;
+pub mod hints;
 pub mod laws;
 pub mod report;
 pub mod script;
 pub mod session;
 
 pub use done::Done;
+pub use hints::{Hints, Silence};
 pub use script::{Ended, run};
 pub use session::Session;

@@ -8,6 +8,7 @@ ghost use Rattle.script_session.specs.Session.{SessionData, answers};
 ghost use Rattle.script_session.specs.Proofs.{IsProved, LeadsTo};
 ghost use Rattle.script_session.specs.Script.{AcceptedUpTo, AllAnswered, IsKeptAt, SomeAnswered, WholeAnswered};
 
+use crate::hints::{Hinted, Hints};
 use crate::session::Session;
 use authority_map::MapWriter;
 use board_certificates::Unwritten;
@@ -49,13 +50,15 @@ impl Ended {
 /// are opened first; where there is no memory for them, nothing is read. However a run ends, the certificates of the
 /// plans that the board has adopted are then written to `proofs`, where one is given.
 ///
-/// `key` picks the hash by which names are found. It changes no answer.
-pub fn run<T: Threads + Wait + Sync, R: Read, W: Write, P: Write>(
+/// `hints` is told of each line that is answered `syntax`, and why. `key` picks the hash by which names are found. Neither
+/// changes what is answered.
+pub fn run<T: Threads + Wait + Sync, R: Read, W: Write, P: Write, H: Hints>(
     rt: &T,
     alloc: Global,
     input: &mut Input<R>,
     writer: &mut W,
     proofs: &mut Option<P>,
+    hints: &mut H,
     key: NameKey,
     limit: u32,
     strict: bool,
@@ -95,13 +98,20 @@ pub fn run<T: Threads + Wait + Sync, R: Read, W: Write, P: Write>(
         return Ended::without_memory();
     };
     let map = authority_map::NewMap::new();
-    run_named::<Brand, T, R, W, P>(
-        rt, alloc, book, map, input, writer, proofs, key, limit, strict,
+    run_named::<Brand, T, R, W, P, H>(
+        rt, alloc, book, map, input, writer, proofs, hints, key, limit, strict,
     )
 }
 
 // The same for a board whose name was picked.
-fn run_named<J: Naming + Send + Sync, T: Threads + Wait + Sync, R: Read, W: Write, P: Write>(
+fn run_named<
+    J: Naming + Send + Sync,
+    T: Threads + Wait + Sync,
+    R: Read,
+    W: Write,
+    P: Write,
+    H: Hints,
+>(
     rt: &T,
     alloc: Global,
     book: heat_ledger::NewBook,
@@ -109,6 +119,7 @@ fn run_named<J: Naming + Send + Sync, T: Threads + Wait + Sync, R: Read, W: Writ
     input: &mut Input<R>,
     writer: &mut W,
     proofs: &mut Option<P>,
+    hints: &mut H,
     key: NameKey,
     limit: u32,
     strict: bool,
@@ -150,16 +161,20 @@ fn run_named<J: Naming + Send + Sync, T: Threads + Wait + Sync, R: Read, W: Writ
     let Some(parts) = open_parts(rt, alloc, book, map, key, limit) else {
         return Ended::without_memory();
     };
-    let mut session = Session::<J, MapWriter<J, &T>, T>::new(rt, limit, parts);
-    let answer = |session: &mut Session<
+    let session = Session::<J, MapWriter<J, &T>, T>::new(rt, limit, parts);
+    let mut hinted = Hinted { session, hints };
+    let answer = |hinted: &mut Hinted<
         '_,
-        J,
-        MapWriter<J, &T>,
-        T,
+        Session<'_, J, MapWriter<J, &T>, T>,
+        H,
     >, number: u64, line: &[u8], writer: &mut W| -> Result<bool, WriteFailed>
-        ensures { Tells answers W.contents session.old number line.now writer.old result session.new writer.new }
-    { session.answer(alloc, number, line, writer) };
-    let answered = run_script(alloc, &answer, &mut session, input, writer, strict);
+        ensures { Tells answers W.contents hinted.old number line.now writer.old result hinted.new writer.new }
+    { hinted.answer(alloc, number, line, writer) };
+    let answered = run_script(alloc, &answer, &mut hinted, input, writer, strict);
+    let Hinted {
+        session,
+        hints: _hints,
+    } = hinted;
     session.promises();
     let proved = session.prove(alloc, proofs);
     session.end();

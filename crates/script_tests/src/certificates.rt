@@ -5,7 +5,7 @@ use dirtree::NameKey;
 use plan_checker::check;
 use plan_text::read;
 use script_engine::Input;
-use script_session::run;
+use script_session::{Silence, run};
 use std::alloc::Global;
 use std::marker::Sync;
 use std::sync::Wait;
@@ -39,6 +39,7 @@ fn written<T: Threads + Wait + Sync>(
         &mut input,
         &mut sink,
         &mut proofs,
+        &mut Silence,
         NameKey::default(),
         64,
         false,

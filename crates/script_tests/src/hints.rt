@@ -1,5 +1,9 @@
 //! What is said of lines that spell no command.
+use crate::devices::{ENOUGH, Sink, sink_of, source_of};
+use dirtree::NameKey;
 use script_commands::{LineFault, explain};
+use script_engine::Input;
+use script_session::{Hints, run};
 use std::test::Fail;
 
 #[test]
@@ -97,6 +101,52 @@ fn says_nothing_of_other_lines(rt: HostRuntime) -> Result<(), Fail> {
     for line in table {
         let fault = explain(rt.alloc(), line)?;
         assert!(rt; fault.is_none(), "{fault:?}");
+    }
+    Ok(())
+}
+
+/// Keeps the numbers of the lines that it is told of.
+#[derive(Drop)]
+struct Heard {
+    lines: Vec<u64>,
+}
+
+impl Hints for Heard {
+    fn faulty_line(&mut self, number: u64, _fault: &LineFault<'_>) {
+        let _ = self.lines.push(number);
+    }
+}
+
+// A line that is refused, or says nothing, is not told.
+#[test]
+fn a_run_tells_each_line_that_spells_no_command(rt: HostRuntime) -> Result<(), Fail> {
+    let script = "ranks 0\nplan\nranks 1\nplan\n# lod\n\nlod\nload /a 1\nload /a";
+    // (strict, the lines that are told)
+    let table: [(bool, &[u64]); 2] = [(false, &[1, 7, 9]), (true, &[1])];
+    for (strict, wanted) in table {
+        let mut input = Input::new(source_of(script.as_bytes(), 5));
+        let mut sink = sink_of(rt.alloc(), ENOUGH);
+        let mut proofs: Option<Sink> = None;
+        let mut heard = Heard {
+            lines: Vec::new(rt.alloc()),
+        };
+        let ended = run(
+            &rt,
+            rt.alloc(),
+            &mut input,
+            &mut sink,
+            &mut proofs,
+            &mut heard,
+            NameKey::default(),
+            64,
+            strict,
+        );
+        assert_eq!(rt; ended.answered, Ok(false));
+        assert!(rt;
+            heard.lines.as_slice() == wanted,
+            "{heard:?}",
+            heard = heard.lines
+        );
     }
     Ok(())
 }

@@ -4,7 +4,7 @@ ghost use Rattle.std.specs.Prelude.{◌≤◌};
 use crate::devices::{ENOUGH, Sink, Source, sink_of, source_of};
 use dirtree::NameKey;
 use script_engine::{Input, RunError};
-use script_session::run;
+use script_session::{Silence, run};
 use std::alloc::Global;
 use std::marker::Sync;
 use std::sync::Wait;
@@ -31,6 +31,7 @@ fn carried_out<T: Threads + Wait + Sync>(
         &mut input,
         sink,
         &mut proofs,
+        &mut Silence,
         NameKey::default(),
         limit,
         strict,

@@ -3,29 +3,45 @@
 use command_line::{OptionsError, Settings, options};
 use std::test::Fail;
 
-// (words after the program's name, limit, strict, file for certificates)
+// (words after the program's name, limit, strict, file for certificates, quiet)
 #[test]
 fn reads_settings(rt: HostRuntime) -> Result<(), Fail> {
-    let table: [(&[&str], u32, bool, Option<&str>); 8] = [
-        (&["mdbal"], 65536, false, None),
-        (&["mdbal", "--strict"], 65536, true, None),
-        (&["mdbal", "--limit", "1"], 1, false, None),
-        (&["mdbal", "--limit=65536"], 65536, false, None),
-        (&["mdbal", "--limit", "2", "--strict"], 2, true, None),
-        (&["mdbal", "--strict", "--limit", "2"], 2, true, None),
-        (&["mdbal", "--proofs", "plans"], 65536, false, Some("plans")),
+    let table: [(&[&str], u32, bool, Option<&str>, bool); 10] = [
+        (&["mdbal"], 65536, false, None, false),
+        (&["mdbal", "--strict"], 65536, true, None, false),
+        (&["mdbal", "--quiet"], 65536, false, None, true),
+        (&["mdbal", "--limit", "1"], 1, false, None, false),
+        (&["mdbal", "--limit=65536"], 65536, false, None, false),
+        (&["mdbal", "--limit", "2", "--strict"], 2, true, None, false),
+        (&["mdbal", "--strict", "--limit", "2"], 2, true, None, false),
+        (
+            &["mdbal", "--quiet", "--limit", "2", "--strict"],
+            2,
+            true,
+            None,
+            true,
+        ),
+        (
+            &["mdbal", "--proofs", "plans"],
+            65536,
+            false,
+            Some("plans"),
+            false,
+        ),
         (
             &["mdbal", "--strict", "--proofs=a b"],
             65536,
             true,
             Some("a b"),
+            false,
         ),
     ];
-    for (words, limit, strict, proofs) in table {
+    for (words, limit, strict, proofs, quiet) in table {
         let wanted = Settings {
             limit,
             strict,
             proofs,
+            quiet,
         };
         match options(rt.alloc(), words) {
             Ok(settings) => assert_eq!(rt; settings, wanted, "{words:?}"),
@@ -37,7 +53,7 @@ fn reads_settings(rt: HostRuntime) -> Result<(), Fail> {
 
 #[test]
 fn refuses_other_lines(rt: HostRuntime) -> Result<(), Fail> {
-    let table: [&[&str]; 12] = [
+    let table: [&[&str]; 14] = [
         &["mdbal", "--limit", "0"],
         &["mdbal", "--limit", "65537"],
         &["mdbal", "--limit", "4294967297"],
@@ -47,6 +63,8 @@ fn refuses_other_lines(rt: HostRuntime) -> Result<(), Fail> {
         &["mdbal", "--limit", "2", "--limit", "2"],
         &["mdbal", "--strict", "--strict"],
         &["mdbal", "--strict=yes"],
+        &["mdbal", "--quiet", "--quiet"],
+        &["mdbal", "--quiet=true"],
         &["mdbal", "script"],
         &["mdbal", "--proofs"],
         &["mdbal", "--proofs", "a", "--proofs", "b"],
@@ -79,6 +97,7 @@ fn tells_help_apart(rt: HostRuntime) -> Result<(), Fail> {
                 assert!(rt; text.contains("Usage: mdbal [OPTIONS]"), "{words:?}");
                 assert!(rt; text.contains("--limit <N>"), "{words:?}");
                 assert!(rt; text.contains("--strict"), "{words:?}");
+                assert!(rt; text.contains("--quiet"), "{words:?}");
             }
             Ok(settings) => assert!(rt; false, "{words:?} gave {settings:?}"),
         }
@@ -120,6 +139,7 @@ fn a_refused_growth_is_told(rt: HostRuntime) -> Result<(), Fail> {
         limit: 2,
         strict: true,
         proofs: None,
+        quiet: false,
     };
     let mut without_memory: [bool; 4] = [false; 4];
     for turn in &mut without_memory {

@@ -13,3 +13,7 @@ returns-clause-limit c = refl
 pub returns-clause-strict : goal.returns-clause-strict
 unfolding clap_on_literals
 returns-clause-strict c = refl
+
+pub returns-clause-quiet : goal.returns-clause-quiet
+unfolding clap_on_literals
+returns-clause-quiet c = refl

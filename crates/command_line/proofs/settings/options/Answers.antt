@@ -10,7 +10,7 @@ use Rattle.clap.specs.Words.{App, app_of, fault_of, first_of, is_simple_and_free
 use Rattle.clap.specs.Simple.{is_simple}
 use Rattle.clap.proofs.WalkLemmas.{first_value-rows, one_text-rows}
 use Rattle.command_line.specs.CommandLine.{mdbal, number_of}
-use Rattle.command_line.proofs.Line.{explained, is_plain_line, is_simple_line, limit_given, limit_text, strict_given, strict_text}
+use Rattle.command_line.proofs.Line.{explained, is_plain_line, is_simple_line, limit_given, limit_text, quiet_text, strict_given, strict_text}
 use Rattle.command_line.proofs.settings.options.Goals as goal
 
 pub returns-clause-accepted : goal.returns-clause-accepted
@@ -46,6 +46,17 @@ returns-clause-strict g c =
     let text = one_text-rows (found_of m) (codes "strict") ∙ ap (one_of (codes "strict")) rows in
     strict_given (one_text (found_of m) (codes "strict")) c.get_flag.result
     (λ t h. strict_text c.in_ok-command.field-0 m is c.in_ok-matches.ensures.parsed t h) c.get_flag.ensures.none c.get_flag.ensures.value c.get_flag.ensures.other
+    ∙ ap (λ o. option_map_or (λ t. bytes_eq t (codes "true")) o false) text
+
+pub returns-clause-quiet : goal.returns-clause-quiet
+returns-clause-quiet g c =
+    let is : app_of c.in_ok-command.field-0 ≡ mdbal = c.in_ok-command.ensures in
+    let m = c.in_ok-matches.matches in
+    let rows : rows_of (found_of m) ≡ matches_of mdbal (map g.S.AsStr.text c.args.words.now) =
+    (c.in_ok-matches.ensures.matches (ap is_simple is ∙ is_simple_line)).0 ∙ ap (λ a. matches_of a (map g.S.AsStr.text c.args.words.now)) is in
+    let text = one_text-rows (found_of m) (codes "quiet") ∙ ap (one_of (codes "quiet")) rows in
+    strict_given (one_text (found_of m) (codes "quiet")) c.get_flag-2.result
+    (λ t h. quiet_text c.in_ok-command.field-0 m is c.in_ok-matches.ensures.parsed t h) c.get_flag-2.ensures.none c.get_flag-2.ensures.value c.get_flag-2.ensures.other
     ∙ ap (λ o. option_map_or (λ t. bytes_eq t (codes "true")) o false) text
 
 pub returns-clause-proofs : goal.returns-clause-proofs
