@@ -50,8 +50,8 @@ impl Ended {
 /// are opened first; where there is no memory for them, nothing is read. However a run ends, the certificates of the
 /// plans that the board has adopted are then written to `proofs`, where one is given.
 ///
-/// `hints` is told of each line that is answered `syntax`, and why. `key` picks the hash by which names are found. Neither
-/// changes what is answered.
+/// `hints` is told of each line that is answered `syntax`, and why. `key` picks the hash by which names are found.
+/// Neither changes what is answered.
 pub fn run<T: Threads + Wait + Sync, R: Read, W: Write, P: Write, H: Hints>(
     rt: &T,
     alloc: Global,

@@ -6,75 +6,76 @@ use script_engine::Input;
 use script_session::{Hints, run};
 use std::test::Fail;
 
+// (line, what is said)
+const FAULTS: [(&[u8], &str); 27] = [
+    (b"lod /a 1", "unknown command \"lod\""),
+    (b"DIR /a 1", "unknown command \"DIR\""),
+    (b" \tranks1\r", "unknown command \"ranks1\""),
+    (b"ranks", "ranks N: 2 fields are needed, 1 is there"),
+    (b"ranks 0", "ranks N: N is 0, and must be 1 to 64"),
+    (b"ranks 65", "ranks N: N is 65, and must be 1 to 64"),
+    (
+        b"mask 0x1 0x2",
+        "mask MASK: 2 fields are needed, 3 are there",
+    ),
+    (
+        b"dir /a",
+        "dir PATH INODES: 3 fields are needed, 2 are there",
+    ),
+    (
+        b"dir /a 4294967296",
+        "dir PATH INODES: INODES is 4294967296, and must be 0 to 4294967295",
+    ),
+    (b"rmdir", "rmdir PATH: 2 fields are needed, 1 is there"),
+    (
+        b"pin /a -2",
+        "pin PATH RANK: RANK is -2, and must be -1, or 0 to 2147483647",
+    ),
+    (
+        b"load /a 0",
+        "load PATH HITS: HITS is 0, and must be 1 to 1000000",
+    ),
+    (
+        b"load /a +7",
+        "load PATH HITS: HITS is +7, and must be 1 to 1000000",
+    ),
+    (
+        b"load /a 1000001",
+        "load PATH HITS: HITS is 1000001, and must be 1 to 1000000",
+    ),
+    (
+        b"load /a 7 7",
+        "load PATH HITS: 3 fields are needed, 4 are there",
+    ),
+    (b"go /a", "go: 1 field is needed, 2 are there"),
+    (b"tick 1", "tick: 1 field is needed, 2 are there"),
+    (b"plan 1 2", "plan: 1 field is needed, 3 are there"),
+    (b"move -", "move: 1 field is needed, 2 are there"),
+    (b"stop 64", "stop RANK: RANK is 64, and must be 0 to 63"),
+    (b"restart x", "restart RANK: RANK is x, and must be 0 to 63"),
+    (b"stat stat", "stat: 1 field is needed, 2 are there"),
+    (
+        b"d\x07ir /a 1",
+        "\"d\\x07ir\" has a byte that is not printable ASCII",
+    ),
+    (
+        b"cost /a /\xc3\xa9",
+        "\"/\\xc3\\xa9\" has a byte that is not printable ASCII",
+    ),
+    (b"\x7f", "\"\\x7f\" has a byte that is not printable ASCII"),
+    (
+        b"abcdefghijklmnopqrstuvwxyzabcdefghijklmn",
+        "unknown command \"abcdefghijklmnopqrstuvwxyzabcdefghijklmn\"",
+    ),
+    (
+        b"abcdefghijklmnopqrstuvwxyzabcdefghijklmno 1",
+        "unknown command \"abcdefghijklmnopqrstuvwxyzabcdefghijklmn..\"",
+    ),
+];
+
 #[test]
 fn says_what_is_wrong(rt: HostRuntime) -> Result<(), Fail> {
-    // (line, what is said)
-    let table: [(&[u8], &str); 27] = [
-        (b"lod /a 1", "unknown command \"lod\""),
-        (b"DIR /a 1", "unknown command \"DIR\""),
-        (b" \tranks1\r", "unknown command \"ranks1\""),
-        (b"ranks", "ranks N: 2 fields are needed, 1 is there"),
-        (b"ranks 0", "ranks N: N is 0, and must be 1 to 64"),
-        (b"ranks 65", "ranks N: N is 65, and must be 1 to 64"),
-        (
-            b"mask 0x1 0x2",
-            "mask MASK: 2 fields are needed, 3 are there",
-        ),
-        (
-            b"dir /a",
-            "dir PATH INODES: 3 fields are needed, 2 are there",
-        ),
-        (
-            b"dir /a 4294967296",
-            "dir PATH INODES: INODES is 4294967296, and must be 0 to 4294967295",
-        ),
-        (b"rmdir", "rmdir PATH: 2 fields are needed, 1 is there"),
-        (
-            b"pin /a -2",
-            "pin PATH RANK: RANK is -2, and must be -1, or 0 to 2147483647",
-        ),
-        (
-            b"load /a 0",
-            "load PATH HITS: HITS is 0, and must be 1 to 1000000",
-        ),
-        (
-            b"load /a +7",
-            "load PATH HITS: HITS is +7, and must be 1 to 1000000",
-        ),
-        (
-            b"load /a 1000001",
-            "load PATH HITS: HITS is 1000001, and must be 1 to 1000000",
-        ),
-        (
-            b"load /a 7 7",
-            "load PATH HITS: 3 fields are needed, 4 are there",
-        ),
-        (b"go /a", "go: 1 field is needed, 2 are there"),
-        (b"tick 1", "tick: 1 field is needed, 2 are there"),
-        (b"plan 1 2", "plan: 1 field is needed, 3 are there"),
-        (b"move -", "move: 1 field is needed, 2 are there"),
-        (b"stop 64", "stop RANK: RANK is 64, and must be 0 to 63"),
-        (b"restart x", "restart RANK: RANK is x, and must be 0 to 63"),
-        (b"stat stat", "stat: 1 field is needed, 2 are there"),
-        (
-            b"d\x07ir /a 1",
-            "\"d\\x07ir\" has a byte that is not printable ASCII",
-        ),
-        (
-            b"cost /a /\xc3\xa9",
-            "\"/\\xc3\\xa9\" has a byte that is not printable ASCII",
-        ),
-        (b"\x7f", "\"\\x7f\" has a byte that is not printable ASCII"),
-        (
-            b"abcdefghijklmnopqrstuvwxyzabcdefghijklmn",
-            "unknown command \"abcdefghijklmnopqrstuvwxyzabcdefghijklmn\"",
-        ),
-        (
-            b"abcdefghijklmnopqrstuvwxyzabcdefghijklmno 1",
-            "unknown command \"abcdefghijklmnopqrstuvwxyzabcdefghijklmn..\"",
-        ),
-    ];
-    for (line, wanted) in table {
+    for (line, wanted) in FAULTS {
         match explain(rt.alloc(), line)? {
             Some(fault) => {
                 let text = format!(in rt.alloc(); "{fault}")?;

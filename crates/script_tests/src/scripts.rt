@@ -69,75 +69,76 @@ const TWO_PARTS: &str = "ranks 1\ndir /a 10\ndir /b 20\nload /a 4\nload /b 6\ngo
 const TWO_PARTS_COST: &str =
     "cost greatest 6 parts 2\npart / heat 4 inodes 11\npart /b heat 6 inodes 20\ncost greatest 10 parts 1\npart / heat 10 inodes 31\n";
 
+// (script, whether all lines are accepted, what is written)
+const ANSWERS: [(&str, bool, &str); 14] = [
+    ("", true, ""),
+    (TWO_PARTS, true, TWO_PARTS_COST),
+    (
+        "ranks 1\ndir /a 1\ndir /a/.. 1",
+        false,
+        "line 3: refused 8 BadName\n",
+    ),
+    (
+        "ranks 2\ndir /a 10\ndir /b 20\npin /b 1\nload /a 4\nload /b 6\ngo\ncost /a\ncost /b\n",
+        false,
+        "cost greatest 4 parts 2\npart / heat 0 inodes 1\npart /a heat 4 inodes 10\nline 9: refused 35 Pinned\n",
+    ),
+    (
+        "dir /a 1\nranks 1\nload /a\nranks 1\n",
+        false,
+        "line 1: no ranks\nline 3: syntax\nline 4: ranks again\n",
+    ),
+    (
+        "# a comment\n\n \t\r\nranks 0\nranks 65\nranks 064\nDIR /a 1\ncost /a\n",
+        false,
+        "line 4: syntax\nline 5: syntax\nline 7: syntax\nline 8: refused 6 NoDir\n",
+    ),
+    (
+        "ranks 2\ndir /a 1\ndir /a 2\ndir b 1\ndir /x/b 1\npin /a 2\npin /a -2\npin /a 2147483648\npin /x 5\nload /x 1\nload /a 0\n",
+        false,
+        "line 3: refused 7 Exists\nline 4: refused 8 BadName\nline 5: refused 6 NoDir\nline 6: refused 12 NoRank\nline 7: syntax\nline 8: syntax\nline 9: refused 6 NoDir\nline 10: refused 6 NoDir\nline 11: syntax\n",
+    ),
+    (
+        "ranks 1\ndir /a 1\ndir /b 1\ndir /c 1\ndir /d 1\n",
+        false,
+        "line 5: refused 11 TreeFull\n",
+    ),
+    (
+        "ranks 2\npin / 1\ncost\npin / -1\ncost\n",
+        true,
+        "cost greatest 0 parts 0\ncost greatest 0 parts 1\npart / heat 0 inodes 1\n",
+    ),
+    (
+        "ranks 2\nmask 0x3\ndir /p 1\ndir /p/q 1\npin /p 1\npin /p/q 0\npin /p/q -1\nstat\n",
+        true,
+        "stat ranks 2 usable 2 directories 3\ndir 0 / pin - rank 0 heat 0 hits 0\ndir 1 /p pin 1 rank 0 heat 0 hits 0\ndir 2 /p/q pin 1 rank 0 heat 0 hits 0\n",
+    ),
+    (
+        "ranks 2\nmask -1\ndir /a 1\nload /a 7\ngo\ntick\nstat\ntick\ntick\nstat\n",
+        true,
+        "stat ranks 2 usable 2 directories 2\ndir 0 / pin - rank 0 heat 0 hits 0\ndir 1 /a pin - rank 0 heat 3 hits 7\nstat ranks 2 usable 2 directories 2\ndir 0 / pin - rank 0 heat 0 hits 0\ndir 1 /a pin - rank 0 heat 0 hits 7\n",
+    ),
+    (
+        "ranks 2\nload / 5\ngo\nmask 0x1\nstat\nmask 0xfC\nstat\n",
+        true,
+        "stat ranks 2 usable 1 directories 1\ndir 0 / pin - rank 0 heat 5 hits 5\nstat ranks 2 usable 0 directories 1\ndir 0 / pin - rank 0 heat 5 hits 5\n",
+    ),
+    (
+        "ranks 2\ndir /a 1\ndir /a 1\ndir /a/b 1\nrmdir /a\nrmdir /\nrmdir /c\nmask 0x\nmask 0x+1\nmask\ntick 1\nstat 1\n",
+        false,
+        "line 3: refused 7 Exists\nline 5: refused 9 NotEmpty\nline 6: refused 10 IsRoot\nline 7: refused 6 NoDir\nline 8: refused 1 BadMask\nline 9: refused 1 BadMask\nline 10: syntax\nline 11: syntax\nline 12: syntax\n",
+    ),
+    // A request whose directory is removed is served no more, and the number is never given again.
+    (
+        "ranks 1\ndir /a 1\nload /a 3\nload / 2\nrmdir /a\ngo\ndir /a 1\nstat\n",
+        true,
+        "stat ranks 1 usable 0 directories 2\ndir 0 / pin - rank 0 heat 2 hits 2\ndir 2 /a pin - rank 0 heat 0 hits 0\n",
+    ),
+];
+
 #[test]
 fn answers_scripts(rt: HostRuntime) -> Result<(), Fail> {
-    // (script, whether all lines are accepted, what is written)
-    let table = [
-        ("", true, ""),
-        (TWO_PARTS, true, TWO_PARTS_COST),
-        (
-            "ranks 1\ndir /a 1\ndir /a/.. 1",
-            false,
-            "line 3: refused 8 BadName\n",
-        ),
-        (
-            "ranks 2\ndir /a 10\ndir /b 20\npin /b 1\nload /a 4\nload /b 6\ngo\ncost /a\ncost /b\n",
-            false,
-            "cost greatest 4 parts 2\npart / heat 0 inodes 1\npart /a heat 4 inodes 10\nline 9: refused 35 Pinned\n",
-        ),
-        (
-            "dir /a 1\nranks 1\nload /a\nranks 1\n",
-            false,
-            "line 1: no ranks\nline 3: syntax\nline 4: ranks again\n",
-        ),
-        (
-            "# a comment\n\n \t\r\nranks 0\nranks 65\nranks 064\nDIR /a 1\ncost /a\n",
-            false,
-            "line 4: syntax\nline 5: syntax\nline 7: syntax\nline 8: refused 6 NoDir\n",
-        ),
-        (
-            "ranks 2\ndir /a 1\ndir /a 2\ndir b 1\ndir /x/b 1\npin /a 2\npin /a -2\npin /a 2147483648\npin /x 5\nload /x 1\nload /a 0\n",
-            false,
-            "line 3: refused 7 Exists\nline 4: refused 8 BadName\nline 5: refused 6 NoDir\nline 6: refused 12 NoRank\nline 7: syntax\nline 8: syntax\nline 9: refused 6 NoDir\nline 10: refused 6 NoDir\nline 11: syntax\n",
-        ),
-        (
-            "ranks 1\ndir /a 1\ndir /b 1\ndir /c 1\ndir /d 1\n",
-            false,
-            "line 5: refused 11 TreeFull\n",
-        ),
-        (
-            "ranks 2\npin / 1\ncost\npin / -1\ncost\n",
-            true,
-            "cost greatest 0 parts 0\ncost greatest 0 parts 1\npart / heat 0 inodes 1\n",
-        ),
-        (
-            "ranks 2\nmask 0x3\ndir /p 1\ndir /p/q 1\npin /p 1\npin /p/q 0\npin /p/q -1\nstat\n",
-            true,
-            "stat ranks 2 usable 2 directories 3\ndir 0 / pin - rank 0 heat 0 hits 0\ndir 1 /p pin 1 rank 0 heat 0 hits 0\ndir 2 /p/q pin 1 rank 0 heat 0 hits 0\n",
-        ),
-        (
-            "ranks 2\nmask -1\ndir /a 1\nload /a 7\ngo\ntick\nstat\ntick\ntick\nstat\n",
-            true,
-            "stat ranks 2 usable 2 directories 2\ndir 0 / pin - rank 0 heat 0 hits 0\ndir 1 /a pin - rank 0 heat 3 hits 7\nstat ranks 2 usable 2 directories 2\ndir 0 / pin - rank 0 heat 0 hits 0\ndir 1 /a pin - rank 0 heat 0 hits 7\n",
-        ),
-        (
-            "ranks 2\nload / 5\ngo\nmask 0x1\nstat\nmask 0xfC\nstat\n",
-            true,
-            "stat ranks 2 usable 1 directories 1\ndir 0 / pin - rank 0 heat 5 hits 5\nstat ranks 2 usable 0 directories 1\ndir 0 / pin - rank 0 heat 5 hits 5\n",
-        ),
-        (
-            "ranks 2\ndir /a 1\ndir /a 1\ndir /a/b 1\nrmdir /a\nrmdir /\nrmdir /c\nmask 0x\nmask 0x+1\nmask\ntick 1\nstat 1\n",
-            false,
-            "line 3: refused 7 Exists\nline 5: refused 9 NotEmpty\nline 6: refused 10 IsRoot\nline 7: refused 6 NoDir\nline 8: refused 1 BadMask\nline 9: refused 1 BadMask\nline 10: syntax\nline 11: syntax\nline 12: syntax\n",
-        ),
-        // A request whose directory is removed is served no more, and the number is never given again.
-        (
-            "ranks 1\ndir /a 1\nload /a 3\nload / 2\nrmdir /a\ngo\ndir /a 1\nstat\n",
-            true,
-            "stat ranks 1 usable 0 directories 2\ndir 0 / pin - rank 0 heat 2 hits 2\ndir 2 /a pin - rank 0 heat 0 hits 0\n",
-        ),
-    ];
-    for (script, accepted, text) in table {
+    for (script, accepted, text) in ANSWERS {
         for step in [1, 7, 4096] {
             let is_as_said = answers_so(&rt, rt.alloc(), script, step, 4, accepted, text);
             assert!(rt; is_as_said, "{script} by {step}");

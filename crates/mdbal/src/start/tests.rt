@@ -95,13 +95,13 @@ impl Write for Failing {
 // A standard error that fails loses hints alone.
 #[test]
 fn a_lost_hint_changes_nothing(rt: HostRuntime) -> Result<(), Fail> {
-    let script = "ranks 2\nlod /a 1\ndir /a\nstop 64\ncost\n";
+    let script = "ranks 2\nlod /a 1\nstop 64\ncost\n";
     let words: [&str; 1] = ["mdbal"];
-    let text =
-        "line 2: syntax\nline 3: syntax\nline 4: syntax\ncost greatest 0 parts 1\npart / heat 0 inodes 1\n";
+    let text = "line 2: syntax\nline 3: syntax\ncost greatest 0 parts 1\npart / heat 0 inodes 1\n";
     let said =
-        "mdbal: line 2: unknown command \"lod\"\nmdbal: line 3: dir PATH INODES: 3 fields are needed, 2 are there\nmdbal: line 4: stop RANK: RANK is 64, and must be 0 to 63\n";
-    for writes in 0..8usize {
+        "mdbal: line 2: unknown command \"lod\"\nmdbal: line 3: stop RANK: RANK is 64, and must be 0 to 63\n";
+    // each of the two hints takes two writes
+    for writes in 0..5usize {
         let mut errors = Failing {
             bytes: Vec::new(rt.alloc()),
             writes,
@@ -124,7 +124,7 @@ fn a_lost_hint_changes_nothing(rt: HostRuntime) -> Result<(), Fail> {
         );
         assert_eq!(rt;
             errors.bytes.len() == said.len(),
-            writes == 7,
+            writes == 4,
             "after {writes}"
         );
     }
