@@ -53,40 +53,41 @@ fn packed(
     )?))
 }
 
+// (heats and present ranks, what is pinned, the ranks, the loads, the greatest, the bound)
+const PACKED: [(&[(u64, u8)], &[(usize, u64)], &[u8], [u64; 3], u64, u64); 4] = [
+    (
+        &[(0, 0), (7, 0), (6, 0), (5, 0), (4, 0), (3, 0)],
+        &[],
+        &[0, 0, 1, 2, 2, 1],
+        [7, 9, 9],
+        9,
+        9,
+    ),
+    // among equals the rank that has most of the part
+    (&[(0, 0), (7, 2)], &[], &[0, 2], [0, 0, 7], 7, 7),
+    // a part stays where it is while another rank is hotter anyway
+    (
+        &[(3, 0), (5, 0)],
+        &[(1, 100)],
+        &[0, 0],
+        [8, 100, 0],
+        100,
+        100,
+    ),
+    // and goes where the least is pinned otherwise
+    (
+        &[(3, 0), (99, 0)],
+        &[(1, 100)],
+        &[0, 2],
+        [3, 100, 99],
+        100,
+        100,
+    ),
+];
+
 #[test]
 fn packs_the_hottest_first(rt: HostRuntime) -> Result<(), Fail> {
-    // (heats and present ranks, what is pinned, the ranks, the loads, the greatest, the bound)
-    let table: [(&[(u64, u8)], &[(usize, u64)], &[u8], [u64; 3], u64, u64); 4] = [
-        (
-            &[(0, 0), (7, 0), (6, 0), (5, 0), (4, 0), (3, 0)],
-            &[],
-            &[0, 0, 1, 2, 2, 1],
-            [7, 9, 9],
-            9,
-            9,
-        ),
-        // among equals the rank that has most of the part
-        (&[(0, 0), (7, 2)], &[], &[0, 2], [0, 0, 7], 7, 7),
-        // a part stays where it is while another rank is hotter anyway
-        (
-            &[(3, 0), (5, 0)],
-            &[(1, 100)],
-            &[0, 0],
-            [8, 100, 0],
-            100,
-            100,
-        ),
-        // and goes where the least is pinned otherwise
-        (
-            &[(3, 0), (99, 0)],
-            &[(1, 100)],
-            &[0, 2],
-            [3, 100, 99],
-            100,
-            100,
-        ),
-    ];
-    for (given, pinned, ranks, loads, greatest, bound) in table {
+    for (given, pinned, ranks, loads, greatest, bound) in PACKED {
         let packing = packed(rt.alloc(), given, pinned)?.ok_or("refused")?;
         let mut found = Vec::new(rt.alloc());
         for rank in packing.rank.as_slice().iter().take(given.len()) {

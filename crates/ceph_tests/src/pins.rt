@@ -16,41 +16,42 @@ fn some_rank(number: i8) -> Option<Rank> {
     u8::try_from(number).ok().map(rank)
 }
 
+const PINNED: [(&[Given], &[(u32, u8)]); 5] = [
+    // all is where it is to be
+    (&[(0, 0, -1, 0), (0, 0, -1, 0), (1, 0, -1, 0)], &[]),
+    // the subtree of row 1 goes to rank 1, but for row 3
+    (
+        &[
+            (0, 0, -1, 0),
+            (0, 1, -1, 0),
+            (1, 1, -1, 0),
+            (2, 0, -1, 0),
+            (1, 1, -1, 0),
+        ],
+        &[(3, 0), (1, 1)],
+    ),
+    // row 1 is at rank 2 though nothing pins it there: it has to be called back
+    (&[(0, 0, -1, 0), (0, 0, -1, 2), (1, 0, -1, 2)], &[(1, 0)]),
+    // where a row rests isn't known: each child of the root is pinned
+    (
+        &[
+            (0, 0, -1, 0),
+            (0, 0, -1, -1),
+            (1, 0, -1, -1),
+            (0, 0, -1, -1),
+        ],
+        &[(3, 0), (1, 0)],
+    ),
+    // row 1 and what is below it belong to somebody else
+    (
+        &[(0, 0, -1, 0), (0, 1, 2, 2), (1, 1, -1, 2), (0, 1, -1, 0)],
+        &[(3, 1)],
+    ),
+];
+
 #[test]
 fn pins_where_a_rank_changes(rt: HostRuntime) -> Result<(), Fail> {
-    let table: [(&[Given], &[(u32, u8)]); 5] = [
-        // all is where it is to be
-        (&[(0, 0, -1, 0), (0, 0, -1, 0), (1, 0, -1, 0)], &[]),
-        // the subtree of row 1 goes to rank 1, but for row 3
-        (
-            &[
-                (0, 0, -1, 0),
-                (0, 1, -1, 0),
-                (1, 1, -1, 0),
-                (2, 0, -1, 0),
-                (1, 1, -1, 0),
-            ],
-            &[(3, 0), (1, 1)],
-        ),
-        // row 1 is at rank 2 though nothing pins it there: it has to be called back
-        (&[(0, 0, -1, 0), (0, 0, -1, 2), (1, 0, -1, 2)], &[(1, 0)]),
-        // where a row rests isn't known: each child of the root is pinned
-        (
-            &[
-                (0, 0, -1, 0),
-                (0, 0, -1, -1),
-                (1, 0, -1, -1),
-                (0, 0, -1, -1),
-            ],
-            &[(3, 0), (1, 0)],
-        ),
-        // row 1 and what is below it belong to somebody else
-        (
-            &[(0, 0, -1, 0), (0, 1, 2, 2), (1, 1, -1, 2), (0, 1, -1, 0)],
-            &[(3, 1)],
-        ),
-    ];
-    for (given, expected) in table {
+    for (given, expected) in PINNED {
         let pins = pins_of(rt.alloc(), given)?;
         let mut found = Vec::new(rt.alloc());
         for pin in pins.as_slice() {

@@ -72,22 +72,6 @@ fn prints_number_name_and_value(rt: HostRuntime) -> Result<(), Fail> {
         (StepError::Frozen(4), "20 Frozen 4"),
         (StepError::SameRank, "21 SameRank"),
         (StepError::NotYet(5), "22 NotYet 5"),
-        (
-            StepError::Late(ExporterState::Discovering),
-            "23 Late discovering",
-        ),
-        (StepError::Late(ExporterState::Freezing), "23 Late freezing"),
-        (
-            StepError::Late(ExporterState::Preparing),
-            "23 Late preparing",
-        ),
-        (
-            StepError::Late(ExporterState::Exporting),
-            "23 Late exporting",
-        ),
-        (StepError::Late(ExporterState::Logged), "23 Late logged"),
-        (StepError::Late(ExporterState::Done), "23 Late done"),
-        (StepError::Late(ExporterState::Aborted), "23 Late aborted"),
         (StepError::NoMessage, "24 NoMessage"),
         (StepError::NoTicket, "25 NoTicket"),
         (StepError::NotConnected, "26 NotConnected"),
@@ -97,6 +81,25 @@ fn prints_number_name_and_value(rt: HostRuntime) -> Result<(), Fail> {
     ];
     for (error, want) in table {
         let printed = printed(rt.alloc(), error)?;
+        assert_eq!(rt; printed.as_str(), want);
+    }
+    Ok(())
+}
+
+const LATE: [(ExporterState, &str); 7] = [
+    (ExporterState::Discovering, "23 Late discovering"),
+    (ExporterState::Freezing, "23 Late freezing"),
+    (ExporterState::Preparing, "23 Late preparing"),
+    (ExporterState::Exporting, "23 Late exporting"),
+    (ExporterState::Logged, "23 Late logged"),
+    (ExporterState::Done, "23 Late done"),
+    (ExporterState::Aborted, "23 Late aborted"),
+];
+
+#[test]
+fn prints_the_state_of_a_late_export(rt: HostRuntime) -> Result<(), Fail> {
+    for (state, want) in LATE {
+        let printed = printed(rt.alloc(), StepError::Late(state))?;
         assert_eq!(rt; printed.as_str(), want);
     }
     Ok(())

@@ -41,51 +41,52 @@ fn word(proof: &CutProof) -> &'static str {
     }
 }
 
+// (rows, ranks, greatest heat, moved inodes, proof, part of each row, rank of each part)
+const SMALL_TREES: [(&[Given], u64, u64, u64, &str, &[u32], &[u8]); 6] = [
+    (&[(0, 0, 1, 0)], 3, 0, 0, "zero", &[0], &[0]),
+    (
+        &[(0, 0, 1, 0), (0, 4, 10, 0), (0, 6, 20, 0)],
+        3,
+        6,
+        11,
+        "heavy",
+        &[0, 0, 1],
+        &[1, 0],
+    ),
+    (
+        &[(0, 0, 1, 0), (0, 100, 5, 0), (0, 1, 7, 0)],
+        3,
+        100,
+        5,
+        "heavy",
+        &[0, 1, 0],
+        &[0, 1],
+    ),
+    (
+        &[(0, 0, 1, 0), (0, 3, 5, 0), (1, 3, 1, 0), (2, 3, 1, 0)],
+        3,
+        6,
+        2,
+        "table",
+        &[0, 0, 1, 1],
+        &[0, 1],
+    ),
+    (
+        &[(0, 2, 1, 0), (0, 5, 10, 0)],
+        2,
+        7,
+        11,
+        "table",
+        &[0, 0],
+        &[1],
+    ),
+    (&[], 5, 0, 0, "zero", &[], &[]),
+];
+
 #[test]
 fn solves_small_trees(rt: HostRuntime) -> Result<(), Fail> {
     let alloc = rt.alloc();
-    // (rows, ranks, greatest heat, moved inodes, proof, part of each row, rank of each part)
-    let table: [(&[Given], u64, u64, u64, &str, &[u32], &[u8]); 6] = [
-        (&[(0, 0, 1, 0)], 3, 0, 0, "zero", &[0], &[0]),
-        (
-            &[(0, 0, 1, 0), (0, 4, 10, 0), (0, 6, 20, 0)],
-            3,
-            6,
-            11,
-            "heavy",
-            &[0, 0, 1],
-            &[1, 0],
-        ),
-        (
-            &[(0, 0, 1, 0), (0, 100, 5, 0), (0, 1, 7, 0)],
-            3,
-            100,
-            5,
-            "heavy",
-            &[0, 1, 0],
-            &[0, 1],
-        ),
-        (
-            &[(0, 0, 1, 0), (0, 3, 5, 0), (1, 3, 1, 0), (2, 3, 1, 0)],
-            3,
-            6,
-            2,
-            "table",
-            &[0, 0, 1, 1],
-            &[0, 1],
-        ),
-        (
-            &[(0, 2, 1, 0), (0, 5, 10, 0)],
-            2,
-            7,
-            11,
-            "table",
-            &[0, 0],
-            &[1],
-        ),
-        (&[], 5, 0, 0, "zero", &[], &[]),
-    ];
-    for (rows, ranks, greatest, moved, proof, part, rank) in table {
+    for (rows, ranks, greatest, moved, proof, part, rank) in SMALL_TREES {
         let problem = problem(alloc, rows, ranks)?;
         let plan = solved(&rt, alloc, &problem)?;
         assert_eq!(rt; plan.greatest, greatest, "{rows:?}");

@@ -4,39 +4,40 @@ use command_line::{OptionsError, Settings, options};
 use std::test::Fail;
 
 // (words after the program's name, limit, strict, file for certificates, quiet)
+const SETTINGS: [(&[&str], u32, bool, Option<&str>, bool); 10] = [
+    (&["mdbal"], 65536, false, None, false),
+    (&["mdbal", "--strict"], 65536, true, None, false),
+    (&["mdbal", "--quiet"], 65536, false, None, true),
+    (&["mdbal", "--limit", "1"], 1, false, None, false),
+    (&["mdbal", "--limit=65536"], 65536, false, None, false),
+    (&["mdbal", "--limit", "2", "--strict"], 2, true, None, false),
+    (&["mdbal", "--strict", "--limit", "2"], 2, true, None, false),
+    (
+        &["mdbal", "--quiet", "--limit", "2", "--strict"],
+        2,
+        true,
+        None,
+        true,
+    ),
+    (
+        &["mdbal", "--proofs", "plans"],
+        65536,
+        false,
+        Some("plans"),
+        false,
+    ),
+    (
+        &["mdbal", "--strict", "--proofs=a b"],
+        65536,
+        true,
+        Some("a b"),
+        false,
+    ),
+];
+
 #[test]
 fn reads_settings(rt: HostRuntime) -> Result<(), Fail> {
-    let table: [(&[&str], u32, bool, Option<&str>, bool); 10] = [
-        (&["mdbal"], 65536, false, None, false),
-        (&["mdbal", "--strict"], 65536, true, None, false),
-        (&["mdbal", "--quiet"], 65536, false, None, true),
-        (&["mdbal", "--limit", "1"], 1, false, None, false),
-        (&["mdbal", "--limit=65536"], 65536, false, None, false),
-        (&["mdbal", "--limit", "2", "--strict"], 2, true, None, false),
-        (&["mdbal", "--strict", "--limit", "2"], 2, true, None, false),
-        (
-            &["mdbal", "--quiet", "--limit", "2", "--strict"],
-            2,
-            true,
-            None,
-            true,
-        ),
-        (
-            &["mdbal", "--proofs", "plans"],
-            65536,
-            false,
-            Some("plans"),
-            false,
-        ),
-        (
-            &["mdbal", "--strict", "--proofs=a b"],
-            65536,
-            true,
-            Some("a b"),
-            false,
-        ),
-    ];
-    for (words, limit, strict, proofs, quiet) in table {
+    for (words, limit, strict, proofs, quiet) in SETTINGS {
         let wanted = Settings {
             limit,
             strict,

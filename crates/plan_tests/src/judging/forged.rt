@@ -63,26 +63,27 @@ fn with_row(row: usize, changed: InTable) -> Claim {
     claim
 }
 
+// (row, what stands there, whether the plan is accepted)
+const FORGED_ROWS: [(usize, InTable, bool); 11] = [
+    (3, (0, 3, 9, true), true),
+    (0, (2, 3, 4, false), true),
+    (1, (2, 3, 2, false), false),
+    (2, (1, 3, 4, true), false),
+    (2, (1, 3, 2, true), false),
+    (0, (2, 3, 3, true), false),
+    (3, (0, u64::MAX, 0, true), false),
+    (3, (u32::MAX, 3, 0, true), false),
+    (1, (2, 3, u64::MAX, false), false),
+    (2, (1, 2, 3, true), false),
+    (3, (0, 3, 0, false), false),
+];
+
 #[test]
 fn judges_forged_tables(rt: HostRuntime) -> Result<(), Fail> {
     let alloc = rt.alloc();
     let chain = problem(alloc, &CHAIN, 3)?;
     assert!(rt; accepts(alloc, &chain, &TRUE_CLAIM)?);
-    // (row, what stands there, whether the plan is accepted)
-    let forged = [
-        (3, (0, 3, 9, true), true),
-        (0, (2, 3, 4, false), true),
-        (1, (2, 3, 2, false), false),
-        (2, (1, 3, 4, true), false),
-        (2, (1, 3, 2, true), false),
-        (0, (2, 3, 3, true), false),
-        (3, (0, u64::MAX, 0, true), false),
-        (3, (u32::MAX, 3, 0, true), false),
-        (1, (2, 3, u64::MAX, false), false),
-        (2, (1, 2, 3, true), false),
-        (3, (0, 3, 0, false), false),
-    ];
-    for (row, changed, accepted) in forged {
+    for (row, changed, accepted) in FORGED_ROWS {
         let says = accepts(alloc, &chain, &with_row(row, changed))?;
         assert_eq!(rt; says, accepted, "row {row} as {changed:?}");
     }
@@ -95,105 +96,106 @@ fn judges_forged_tables(rt: HostRuntime) -> Result<(), Fail> {
     Ok(())
 }
 
+const FORGED_PLACINGS: [(&str, Claim); 13] = [
+    (
+        "parts that aren't connected",
+        Claim {
+            part: [0, 1, 0, 1],
+            ..TRUE_CLAIM
+        },
+    ),
+    (
+        "two parts on one rank",
+        Claim {
+            rank: [0, 0],
+            ..TRUE_CLAIM
+        },
+    ),
+    (
+        "a rank that isn't of the set",
+        Claim {
+            rank: [0, 2],
+            ..TRUE_CLAIM
+        },
+    ),
+    (
+        "a dearer placing",
+        Claim {
+            rank: [1, 0],
+            moved: 6,
+            ..TRUE_CLAIM
+        },
+    ),
+    (
+        "fewer inodes than move",
+        Claim {
+            moved: 1,
+            ..TRUE_CLAIM
+        },
+    ),
+    (
+        "a greatest heat that isn't reached",
+        Claim {
+            greatest: 5,
+            ..TRUE_CLAIM
+        },
+    ),
+    (
+        "a rank's price above 0",
+        Claim {
+            prices: [1, 1, -1, 1],
+            ..TRUE_CLAIM
+        },
+    ),
+    (
+        "a part's price too low",
+        Claim {
+            prices: [1, 2, -2, 0],
+            ..TRUE_CLAIM
+        },
+    ),
+    (
+        "a price above 0 of a rank that has a part",
+        Claim {
+            prices: [2, 1, -2, 1],
+            ..TRUE_CLAIM
+        },
+    ),
+    (
+        "the least part price",
+        Claim {
+            prices: [i64::MIN, 2, -2, 0],
+            ..TRUE_CLAIM
+        },
+    ),
+    (
+        "the greatest part price",
+        Claim {
+            prices: [i64::MAX, 2, -2, 0],
+            ..TRUE_CLAIM
+        },
+    ),
+    (
+        "the least numbers",
+        Claim {
+            prices: [i64::MIN; 4],
+            ..TRUE_CLAIM
+        },
+    ),
+    (
+        "the greatest numbers",
+        Claim {
+            prices: [i64::MAX; 4],
+            ..TRUE_CLAIM
+        },
+    ),
+];
+
 #[test]
 fn judges_forged_placings(rt: HostRuntime) -> Result<(), Fail> {
     let alloc = rt.alloc();
     let chain = problem(alloc, &CHAIN, 3)?;
-    let forged = [
-        (
-            "parts that aren't connected",
-            Claim {
-                part: [0, 1, 0, 1],
-                ..TRUE_CLAIM
-            },
-        ),
-        (
-            "two parts on one rank",
-            Claim {
-                rank: [0, 0],
-                ..TRUE_CLAIM
-            },
-        ),
-        (
-            "a rank that isn't of the set",
-            Claim {
-                rank: [0, 2],
-                ..TRUE_CLAIM
-            },
-        ),
-        (
-            "a dearer placing",
-            Claim {
-                rank: [1, 0],
-                moved: 6,
-                ..TRUE_CLAIM
-            },
-        ),
-        (
-            "fewer inodes than move",
-            Claim {
-                moved: 1,
-                ..TRUE_CLAIM
-            },
-        ),
-        (
-            "a greatest heat that isn't reached",
-            Claim {
-                greatest: 5,
-                ..TRUE_CLAIM
-            },
-        ),
-        (
-            "a rank's price above 0",
-            Claim {
-                prices: [1, 1, -1, 1],
-                ..TRUE_CLAIM
-            },
-        ),
-        (
-            "a part's price too low",
-            Claim {
-                prices: [1, 2, -2, 0],
-                ..TRUE_CLAIM
-            },
-        ),
-        (
-            "a price above 0 of a rank that has a part",
-            Claim {
-                prices: [2, 1, -2, 1],
-                ..TRUE_CLAIM
-            },
-        ),
-        (
-            "the least part price",
-            Claim {
-                prices: [i64::MIN, 2, -2, 0],
-                ..TRUE_CLAIM
-            },
-        ),
-        (
-            "the greatest part price",
-            Claim {
-                prices: [i64::MAX, 2, -2, 0],
-                ..TRUE_CLAIM
-            },
-        ),
-        (
-            "the least numbers",
-            Claim {
-                prices: [i64::MIN; 4],
-                ..TRUE_CLAIM
-            },
-        ),
-        (
-            "the greatest numbers",
-            Claim {
-                prices: [i64::MAX; 4],
-                ..TRUE_CLAIM
-            },
-        ),
-    ];
-    for (what, claim) in forged {
+    for (what, claim) in FORGED_PLACINGS {
         assert!(rt; !accepts(alloc, &chain, &claim)?, "{what}");
     }
     Ok(())
