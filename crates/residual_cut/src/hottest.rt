@@ -22,7 +22,8 @@ pub struct Hottest {
     pub floor: u64,
 }
 
-/// Puts the `most` hottest children first, and tells the least rest among them.
+/// Puts the `most` hottest children first, and tells the least rest among them. There are at most twice `most`: few
+/// enough to sort them.
 fn put_hottest_first(children: &mut [Child], most: usize) -> u64
     requires some { 0 < most }
     requires enough { most ≤ length children.old }
