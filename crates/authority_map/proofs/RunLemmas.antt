@@ -50,17 +50,17 @@ pub but_more : (limit : ℕ) (starts cells : List ℕ) (cell : ℕ → ℕ) (thi
 but_more limit starts cells cell this that has = record { each = has.each; apart = λ run h a b. has.apart run h a a }
 
 -- there are no more runs than directories
-pub start_above : (limit : ℕ) (starts cells : List ℕ) → AreRuns limit starts cells → (run : ℕ) → run < length starts → run ≤ get_or starts run 0
-start_above limit starts cells runs zero h = omega arith
-start_above limit starts cells runs (suc run) h = let e : suc run ≡ run + 1 = omega arith in rw e (omega (arith, start_above limit starts cells runs run (omega arith), runs.order.rising run (omega arith)))
+pub start_above : (starts : List ℕ) → AreStarts starts → (run : ℕ) → run < length starts → run ≤ get_or starts run 0
+start_above starts order zero h = omega arith
+start_above starts order (suc run) h = let e : suc run ≡ run + 1 = omega arith in rw e (omega (arith, start_above starts order run (omega arith), order.rising run (omega arith)))
 
 pub few_runs : (limit : ℕ) (starts cells : List ℕ) → AreRuns limit starts cells → length starts ≤ limit
-few_runs limit starts cells runs = let last : length starts - 1 < length starts = omega (arith, runs.order.some) in omega (arith, start_above limit starts cells runs (length starts - 1) last, runs.below (length starts - 1) last)
+few_runs limit starts cells runs = let last : length starts - 1 < length starts = omega (arith, runs.order.some) in omega (arith, start_above starts runs.order (length starts - 1) last, runs.below (length starts - 1) last)
 
-same_test : (x y : ℕ) → x ≡ y → (x == y) ≡ true
+pub same_test : (x y : ℕ) → x ≡ y → (x == y) ≡ true
 same_test x y e = grind (arith, nat_tests)
 
-other_test : (x y : ℕ) → x ≢ y → (x == y) ≡ false
+pub other_test : (x y : ℕ) → x ≢ y → (x == y) ≡ false
 other_test x y n = grind (arith, nat_tests)
 
 -- where a directory stands alone in its run, that run's cell is written

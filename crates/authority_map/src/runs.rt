@@ -4,8 +4,10 @@
 //! run goes on until the next one starts, the last one until the limit. A directory's run is found
 //! by halving, among those between the first runs of its block and of the next one, which an index
 //! tells. To write a directory's cell, its run is split so that it stands alone, and then it is joined
-//! with neighbours that have the same cell. There are never more runs than directories.
-ghost use Rattle.std.specs.Prelude.{◌≡◌, ◌≢◌, ℕ, ◌+◌, ◌-◌, ◌^◌, ◌==◌, ◌<◌, ◌≤◌, All, length};
+//! with neighbours that have the same cell. Where the directory is the first of several and the run
+//! before has the wanted cell, or the last of several and the run after has it, the border of the two
+//! runs moves by one instead, and no run comes or goes. There are never more runs than directories.
+ghost use Rattle.std.specs.Prelude.{◌≡◌, ◌≢◌, ◌↔◌, ℕ, ◌+◌, ◌-◌, ◌^◌, ◌==◌, ◌<◌, ◌≤◌, All, IsTrue, List, length};
 ghost use Rattle.std.specs.Prelude.{slice_index, if◌then◌else◌, vec_capacity};
 ghost use Rattle.authority_map.specs.Operations.{names};
 ghost use Rattle.authority_map.specs.Runs.{IsIn, IsAmong, IsIndex, IsOneMore, AreStarts, AreRuns, StartsAt, HasCells};
@@ -175,6 +177,89 @@ fn join(starts: &mut Vec<u32>, cells: &mut Vec<u8>, index: &mut Vec<u32>, limit:
     }
 }
 
+// Whether the directory after this one is in the same run.
+#[inline(always)]
+fn has_next(starts: &[u32], limit: u32, run: usize, dir: u32) -> bool
+    requires starts { (k : ℕ) → k < length starts.now → slice_index starts.now k < limit }
+    requires inside { IsIn starts.now run dir }
+    requires below { dir < limit }
+    ensures { IsTrue result ↔ ((dir + 1 < limit) × IsIn starts.now run (dir + 1)) }
+{
+    if run + 1 < starts.len() {
+        dir + 1 < starts[run + 1]
+    } else {
+        dir + 1 < limit
+    }
+}
+
+// The first directory of a run, which has another, goes to the run before.
+fn shift(starts: &mut Vec<u32>, index: &mut Vec<u32>, limit: u32, run: usize, dir: u32)
+    requires order { AreStarts starts.old.items }
+    requires index { IsIndex limit starts.old.items index.old.items }
+    requires some { 1 ≤ run }
+    requires first { slice_index starts.old.items run ≡ dir }
+    requires next { IsIn starts.old.items run (dir + 1) }
+    requires below { dir + 1 < limit }
+    ensures runs { (cells : List ℕ) → AreRuns limit starts.old.items cells → AreRuns limit starts.new.items cells }
+    ensures index { IsIndex limit starts.new.items index.new.items }
+    ensures room { vec_capacity starts.new ≡ vec_capacity starts.old }
+    ensures cells { (cells : List ℕ) (old : ℕ → ℕ) → HasCells limit starts.old.items cells old 0 0
+        → HasCells limit starts.new.items cells (λ d. if d == dir then slice_index cells (run - 1) else old d) 0 0 }
+{
+    starts[run] = dir + 1;
+    if dir as usize % BLOCK == 0 {
+        index[dir as usize / BLOCK] -= 1;
+    }
+}
+
+// The last directory of a run, which has another, goes to the run after.
+fn shift_back(starts: &mut Vec<u32>, index: &mut Vec<u32>, limit: u32, run: usize, dir: u32)
+    requires order { AreStarts starts.old.items }
+    requires index { IsIndex limit starts.old.items index.old.items }
+    requires there { run + 1 < length starts.old.items }
+    requires later { slice_index starts.old.items run < dir }
+    requires last { slice_index starts.old.items (run + 1) ≡ dir + 1 }
+    requires below { dir < limit }
+    ensures runs { (cells : List ℕ) → AreRuns limit starts.old.items cells → AreRuns limit starts.new.items cells }
+    ensures index { IsIndex limit starts.new.items index.new.items }
+    ensures room { vec_capacity starts.new ≡ vec_capacity starts.old }
+    ensures cells { (cells : List ℕ) (old : ℕ → ℕ) → HasCells limit starts.old.items cells old 0 0
+        → HasCells limit starts.new.items cells (λ d. if d == dir then slice_index cells (run + 1) else old d) 0 0 }
+{
+    starts[run + 1] = dir;
+    if dir as usize % BLOCK == 0 {
+        index[dir as usize / BLOCK] += 1;
+    }
+}
+
+// Writes a directory's cell by way of a run that has it alone.
+fn write_alone(
+    starts: &mut Vec<u32>,
+    cells: &mut Vec<u8>,
+    index: &mut Vec<u32>,
+    limit: u32,
+    dir: u32,
+    cell: u8,
+)
+    requires runs { AreRuns limit starts.old.items cells.old.items }
+    requires index { IsIndex limit starts.old.items index.old.items }
+    requires room { (limit ≤ vec_capacity starts.old) × (limit ≤ vec_capacity cells.old) }
+    requires inside { dir < limit }
+    requires small { cell ≤ 64 }
+    ensures runs { AreRuns limit starts.new.items cells.new.items }
+    ensures index { IsIndex limit starts.new.items index.new.items }
+    ensures room { (limit ≤ vec_capacity starts.new) × (limit ≤ vec_capacity cells.new) }
+    ensures cells { (old : ℕ → ℕ) → HasCells limit starts.old.items cells.old.items old 0 0
+        → HasCells limit starts.new.items cells.new.items (λ d. if d == dir then cell else old d) 0 0 }
+{
+    split(starts, cells, index, limit, dir);
+    split(starts, cells, index, limit, dir + 1);
+    let alone = run_of(starts, dir);
+    cells[alone] = cell;
+    join(starts, cells, index, limit, dir + 1);
+    join(starts, cells, index, limit, dir);
+}
+
 /// Writes a directory's cell.
 pub(crate) fn write(
     starts: &mut Vec<u32>,
@@ -199,12 +284,21 @@ pub(crate) fn write(
     if cells[run] == cell {
         return;
     }
-    split(starts, cells, index, limit, dir);
-    split(starts, cells, index, limit, dir + 1);
-    let alone = run_of(starts, dir);
-    cells[alone] = cell;
-    join(starts, cells, index, limit, dir + 1);
-    join(starts, cells, index, limit, dir);
+    if starts[run] == dir
+        && run > 0
+        && cells[run - 1] == cell
+        && has_next(starts, limit, run, dir)
+    {
+        shift(starts, index, limit, run, dir);
+    } else if starts[run] < dir
+        && run + 1 < starts.len()
+        && starts[run + 1] == dir + 1
+        && cells[run + 1] == cell
+    {
+        shift_back(starts, index, limit, run, dir);
+    } else {
+        write_alone(starts, cells, index, limit, dir, cell);
+    }
 }
 
 /// Writes the cell of each of these directories.
