@@ -1,3 +1,4 @@
+pub mod FieldLemmas
 pub mod LineLemmas
 pub mod NumberLemmas
 pub mod PlainLemmas

@@ -1,12 +1,12 @@
 //! The commands, each with what its word asks of the fields behind it.
-ghost use Rattle.std.specs.Prelude.{◌≡◌, ◌∷◌, map, IfOk, true};
+ghost use Rattle.std.specs.Prelude.{◌≡◌, ◌∷◌, bytes_eq, codes, drop, map, IfOk, false, true};
 ghost use Rattle.std.specs.List.{list_all};
 ghost use Rattle.std.specs.Option.{option_map};
-ghost use Rattle.script_commands.specs.Commands.{alone, command, is_plain, load, make_dir, mask, pin};
+ghost use Rattle.script_commands.specs.Commands.{alone, command, fields, is_plain, load, make_dir, mask, pin};
 ghost use Rattle.script_commands.specs.Commands.{rank_of, ranks, remove_dir, restart, stop};
 ghost use Rattle.script_commands.specs.View.{view};
 
-use crate::fields::text;
+use crate::fields::{fields, text};
 use crate::number::{number, pin_value};
 use crate::rank_count::RankCount;
 use mds_types::Rank;
@@ -179,44 +179,58 @@ fn texts<'a>(alloc: Global, rest: &[&'a [u8]]) -> Result<Vec<&'a str>, AllocErro
     Ok(paths)
 }
 
-/// The command that a word and the fields behind it spell, if they spell one.
-pub fn find_command<'a>(
-    alloc: Global,
-    word: &[u8],
-    rest: &[&'a [u8]],
-) -> Result<Option<Command<'a>>, AllocError>
-    requires { list_all (list_all is_plain) (map (λ field. field.now) rest.now) ≡ true }
-    ensures { IfOk result (λ found. option_map view found ≡ command (word.now ∷ map (λ field. field.now) rest.now)) }
+/// Whether a line's first word asks for the cost of a division, whose tops are all fields behind the word.
+pub(crate) fn is_cost(word: &[u8]) -> bool
+    ensures { result ≡ bytes_eq word.now (codes "cost") }
+{
+    word == b"cost".as_slice()
+}
+
+/// The fields behind a line's first word, as texts.
+pub(crate) fn tops(alloc: Global, line: &[u8]) -> Result<Vec<&str>, AllocError>
+    requires { list_all is_plain line.now ≡ true }
+    ensures { IfOk result (λ paths. map (λ path. path.now) paths.items ≡ drop 1 (fields line.now)) }
+{
+    let parts = fields(alloc, line)?;
+    match parts.split_first() {
+        Some((_, rest)) => texts(alloc, rest),
+        None => Ok(Vec::new(alloc)),
+    }
+}
+
+/// The command that a word other than `cost` and the fields behind it spell, if they spell one.
+pub(crate) fn find_command<'a>(word: &[u8], rest: &[&'a [u8]]) -> Option<Command<'a>>
+    requires other { bytes_eq word.now (codes "cost") ≡ false }
+    requires plain { list_all (list_all is_plain) (map (λ field. field.now) rest.now) ≡ true }
+    ensures { option_map view result ≡ command (word.now ∷ map (λ field. field.now) rest.now) }
 {
     if word == b"ranks".as_slice() {
-        Ok(ranks(rest))
+        ranks(rest)
     } else if word == b"mask".as_slice() {
-        Ok(mask(rest))
+        mask(rest)
     } else if word == b"dir".as_slice() {
-        Ok(make_dir(rest))
+        make_dir(rest)
     } else if word == b"rmdir".as_slice() {
-        Ok(remove_dir(rest))
+        remove_dir(rest)
     } else if word == b"pin".as_slice() {
-        Ok(pin(rest))
+        pin(rest)
     } else if word == b"load".as_slice() {
-        Ok(load(rest))
+        load(rest)
     } else if word == b"go".as_slice() {
-        Ok(alone(Command::Go, rest))
+        alone(Command::Go, rest)
     } else if word == b"tick".as_slice() {
-        Ok(alone(Command::Tick, rest))
-    } else if word == b"cost".as_slice() {
-        Ok(Some(Command::Cost(texts(alloc, rest)?)))
+        alone(Command::Tick, rest)
     } else if word == b"plan".as_slice() {
-        Ok(alone(Command::Plan, rest))
+        alone(Command::Plan, rest)
     } else if word == b"move".as_slice() {
-        Ok(alone(Command::Move, rest))
+        alone(Command::Move, rest)
     } else if word == b"stop".as_slice() {
-        Ok(stop(rest))
+        stop(rest)
     } else if word == b"restart".as_slice() {
-        Ok(restart(rest))
+        restart(rest)
     } else if word == b"stat".as_slice() {
-        Ok(alone(Command::Stat, rest))
+        alone(Command::Stat, rest)
     } else {
-        Ok(None)
+        None
     }
 }

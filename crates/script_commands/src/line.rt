@@ -1,10 +1,10 @@
 //! What a line asks for.
-ghost use Rattle.std.specs.Prelude.{◌≡◌, IfOk};
-ghost use Rattle.script_commands.specs.Commands.{asked};
+ghost use Rattle.std.specs.Prelude.{◌≡◌, ℕ, List, ◌∷◌, codes, IfOk, OnErr};
+ghost use Rattle.script_commands.specs.Commands.{asked, fields};
 ghost use Rattle.script_commands.specs.View.{asked_view};
 
-use crate::command::{Command, find_command};
-use crate::fields::{begins_with_hash, fields, is_plain_line};
+use crate::command::{Command, find_command, is_cost, tops};
+use crate::fields::{begins_with_hash, first_fields, is_plain_line};
 use std::alloc::{AllocError, Global};
 
 /// What a line asks for.
@@ -17,11 +17,12 @@ pub enum Asked<'a> {
     Asks(Command<'a>),
 }
 
-/// What a line asks for. Only memory can be refused.
+/// What a line asks for. Only memory can be refused, which no line needs but one that asks for a cost.
 pub fn read_line(alloc: Global, line: &[u8]) -> Result<Asked<'_>, AllocError>
-    ensures { IfOk result (λ found. asked_view found ≡ asked line.now) }
+    ensures asked { IfOk result (λ found. asked_view found ≡ asked line.now) }
+    ensures memory { OnErr result ((tops : List (List ℕ)) × (fields line.now ≡ codes "cost" ∷ tops)) }
 {
-    let parts = fields(alloc, line)?;
+    let parts = first_fields(line);
     let Some((word, rest)) = parts.split_first() else {
         return Ok(Asked::Nothing);
     };
@@ -31,7 +32,10 @@ pub fn read_line(alloc: Global, line: &[u8]) -> Result<Asked<'_>, AllocError>
     if !is_plain_line(line) {
         return Ok(Asked::Syntax);
     }
-    match find_command(alloc, word, rest)? {
+    if is_cost(word) {
+        return Ok(Asked::Asks(Command::Cost(tops(alloc, line)?)));
+    }
+    match find_command(word, rest) {
         Some(found) => Ok(Asked::Asks(found)),
         None => Ok(Asked::Syntax),
     }

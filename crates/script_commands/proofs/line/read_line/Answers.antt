@@ -1,21 +1,21 @@
-use Rattle.std.proofs.Common.{Bor, ◌≡◌, ◌≢◌, ℕ, List, ◌∷◌, map, get_or, true, Some, rules, tests, sym, ap, ◌∙◌}
-use Rattle.std.specs.List.{list_all}
+use Rattle.std.proofs.Common.{Bor, ◌≡◌, ℕ, List, ◌∷◌, map, take, Some, None, sym, ap, ◌∙◌}
 use Rattle.std.specs.Option.{option_map}
 use Rattle.std.proofs.lemmas.Bool.{false≢true}
-use Rattle.script_commands.specs.Commands.{fields, is_plain, command}
+use Rattle.script_commands.specs.Commands.{fields}
 use Rattle.script_commands.specs.View.{view}
-use Rattle.script_commands.proofs.LineLemmas.{asks}
-use Rattle.script_commands.proofs.PlainLemmas.{rest_plain}
+use Rattle.script_commands.proofs.LineLemmas.{first_asks, first_plain}
 use Rattle.script_commands.proofs.line.read_line.Goals as goal
+use Rattle.script_commands.proofs.line.read_line.Goals.{In-Some}
 
-pub returns-in-Some-2 : goal.returns-in-Some-2
-returns-in-Some-2 c =
-    let split : fields c.args.line.now ≡ c.in-Some.word.now.now ∷ map (λ (x : Bor (List ℕ)). x.now) c.in-Some.rest.now = sym c.in_ok-parts.ensures ∙ ap (map (λ (x : Bor (List ℕ)). x.now)) (sym c.deref.ensures.value ∙ c.in-Some.ensures.cases.0) in
-    let plain : list_all is_plain c.args.line.now ≡ true = sym c.is_plain_line.ensures ∙ c.if-not-is_plain_line.false in
-    asks c.args.line.now c.in-Some.word.now.now (map (λ (x : Bor (List ℕ)). x.now) c.in-Some.rest.now) (view c.in-Some-2.found) split (λ e. false≢true (c.if-begins_with_hash.ensures.1 e)) plain (sym c.in_ok-found.ensures ∙ ap (option_map view) c.in-Some-2.is)
+-- the first field, and those behind it
+taken : (c : In-Some) → take 4 (fields c.args.line.now) ≡ c.in-Some.word.now.now ∷ map (λ (part : Bor (List ℕ)). part.now) c.in-Some.rest.now
+taken c = sym c.first_fields-parts.ensures ∙ ap (map (λ (part : Bor (List ℕ)). part.now)) (sym c.deref.ensures.0 ∙ c.in-Some.ensures.cases.0)
 
-pub find_command-requires : goal.find_command-requires
-find_command-requires c =
-    let split : fields c.args.line.now ≡ c.in-Some.word.now.now ∷ map (λ (x : Bor (List ℕ)). x.now) c.in-Some.rest.now = sym c.in_ok-parts.ensures ∙ ap (map (λ (x : Bor (List ℕ)). x.now)) (sym c.deref.ensures.value ∙ c.in-Some.ensures.cases.0) in
-    let plain : list_all is_plain c.args.line.now ≡ true = sym c.is_plain_line.ensures ∙ c.if-not-is_plain_line.false in
-    rest_plain c.args.line.now c.in-Some.word.now.now (map (λ (x : Bor (List ℕ)). x.now) c.in-Some.rest.now) split plain
+pub find_command-requires-clause-plain : goal.find_command-requires-clause-plain
+find_command-requires-clause-plain c = first_plain c.args.line.now _ _ (taken (goal.at.find_command-requires-clause-plain c).In-Some) (sym c.is_plain_line.ensures ∙ c.if-not-is_plain_line.false)
+
+pub returns-in-Some-find_command-clause-asked : goal.returns-in-Some-find_command-clause-asked
+returns-in-Some-find_command-clause-asked c = first_asks c.args.line.now _ _ (taken (goal.at.returns-in-Some-find_command-clause-asked c).In-Some) (sym c.is_plain_line.ensures ∙ c.if-not-is_plain_line.false) (Some (view c.in-Some-find_command.found)) (λ e. false≢true (c.if-begins_with_hash.ensures.1 e)) (sym c.is_cost.ensures ∙ c.if-is_cost.false) (sym (ap (option_map view) c.in-Some-find_command.is) ∙ c.find_command.ensures)
+
+pub returns-in-None-clause-asked : goal.returns-in-None-clause-asked
+returns-in-None-clause-asked c = first_asks c.args.line.now _ _ (taken (goal.at.returns-in-None-clause-asked c).In-Some) (sym c.is_plain_line.ensures ∙ c.if-not-is_plain_line.false) None (λ e. false≢true (c.if-begins_with_hash.ensures.1 e)) (sym c.is_cost.ensures ∙ c.if-is_cost.false) (sym (ap (option_map view) c.in-None.is) ∙ c.find_command.ensures)
