@@ -1,5 +1,5 @@
 //! What each command does to a board.
-ghost use Rattle.std.specs.Prelude.{◌≡◌, Bool, IfErr, IfOk, OnErr, false};
+ghost use Rattle.std.specs.Prelude.{◌≡◌, Bool, IfErr, IfOk, OnErr, false, true};
 ghost use Rattle.script_commands.specs.View.{view};
 ghost use Rattle.script_session.specs.Does.{Does, IsCaused, cause, is_by_threads};
 ghost use Rattle.script_session.specs.Done.{IsShowable, shown};
@@ -15,13 +15,28 @@ use std::marker::{Send, Sync};
 use std::sync::Wait;
 use std::thread::Threads;
 
-/// Carries out a command, and answers the board and what is printed of it.
-pub fn carry_out<J: Naming + Send + Sync, M: Publisher<J> + Send, R: Threads + Wait + Sync>(
+/// Whether the threads of the ranks carry a command out.
+pub fn is_by_threads(command: &Command<'_>) -> bool
+    ensures { result ≡ is_by_threads (view command.now) }
+{
+    match command {
+        Command::Go | Command::Move => true,
+        _ => false,
+    }
+}
+
+/// Carries out a command by threads of the ranks, and answers the board and what is printed of it.
+pub fn carry_out_by_threads<
+    J: Naming + Send + Sync,
+    M: Publisher<J> + Send,
+    R: Threads + Wait + Sync,
+>(
     board: ScriptBoard<J, M>,
     rt: &R,
     alloc: Global,
     command: Command<'_>,
 ) -> (ScriptBoard<J, M>, Result<Done, Fault>)
+    requires { is_by_threads (view command) ≡ true }
     ensures done { IfOk result.1 (λ done. (ample : Bool)
         × Does board (view command.entry) (shown result.0 done) ample result.0) }
     ensures showable { IfOk result.1 (IsShowable result.0) }
@@ -43,16 +58,12 @@ pub fn carry_out<J: Naming + Send + Sync, M: Publisher<J> + Send, R: Threads + W
                 Err(memory) => (board, Err(Fault::from(memory))),
             }
         }
-        command => {
-            let mut board = board;
-            let done = change(&mut board, rt, alloc, command);
-            (board, done)
-        }
+        _ => unreachable!(),
     }
 }
 
-// Carries out a command that takes no threads of the ranks.
-fn change<J: Naming, M: Publisher<J>, R: Threads>(
+/// Carries out a command that takes no threads of the ranks.
+pub fn change<J: Naming, M: Publisher<J>, R: Threads>(
     board: &mut ScriptBoard<J, M>,
     rt: &R,
     alloc: Global,

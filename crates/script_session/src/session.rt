@@ -4,7 +4,7 @@ ghost use Rattle.std.specs.Prelude.{OnErr, OnOk, Some, None, [], length, take, t
 ghost use Rattle.script_commands.specs.Commands.{Ranks, asked};
 ghost use Rattle.script_commands.specs.Commands as words;
 ghost use Rattle.script_commands.specs.View.{asked_view, view};
-ghost use Rattle.script_session.specs.Does.{IsCaused};
+ghost use Rattle.script_session.specs.Does.{IsCaused, is_by_threads};
 ghost use Rattle.script_session.specs.Done.{IsShowable, IsShowableAt, shown, shown_at};
 ghost use Rattle.script_replies.specs.Printed.{joined};
 ghost use Rattle.script_engine.specs.Known.{AppendsFront};
@@ -17,7 +17,7 @@ ghost use Rattle.script_engine.specs.Telling.{Tells};
 ghost use Rattle.script_session.specs.Session.{DoesAt, IsCausedOrNoRoom, IsDone, IsTold, answers};
 ghost use Rattle.script_session.specs.Session.{asked_cause, beginning, cause_at, published};
 
-use crate::carry_out::carry_out;
+use crate::carry_out::{carry_out_by_threads, change, is_by_threads};
 use crate::done::Done;
 use crate::report::{write_fault, write_refused};
 use authority_map::Publisher;
@@ -231,15 +231,33 @@ impl<'r, J: Naming + Send + Sync, M: Publisher<J> + Send, R: Threads + Wait + Sy
         ensures fault { IfErr result (IsCaused (cause_at self.old.board (view command.entry))) }
         ensures unchanged { OnErr result (self.new ≡ self.old) }
     {
-        if let Some(board) = self.board.take() {
-            let (board, done) = carry_out(board, self.rt, alloc, command);
-            fill(&mut self.board, board);
-            return done;
+        if is_by_threads(&command) {
+            return self.carry_out_by_threads(alloc, command);
         }
-        match command {
-            Command::Ranks(active) => self.begin(alloc, active),
-            _ => Err(Fault::NoRanks),
+        match &mut self.board {
+            Some(board) => change(board, self.rt, alloc, command),
+            None => match command {
+                Command::Ranks(active) => self.begin(alloc, active),
+                _ => Err(Fault::NoRanks),
+            },
         }
+    }
+
+    // Carries out a command for which the threads of the ranks take the board.
+    fn carry_out_by_threads(&mut self, alloc: Global, command: Command<'_>) -> Result<Done, Fault>
+        requires { is_by_threads (view command) ≡ true }
+        ensures done { IfOk result (λ done. (ample : Bool)
+            × IsDone self.old (words.Asks (view command.entry)) (shown_at self.new.board done) ample self.new) }
+        ensures showable { IfOk result (IsShowableAt self.new.board) }
+        ensures fault { IfErr result (IsCaused (cause_at self.old.board (view command.entry))) }
+        ensures unchanged { OnErr result (self.new ≡ self.old) }
+    {
+        let Some(board) = self.board.take() else {
+            return Err(Fault::NoRanks);
+        };
+        let (board, done) = carry_out_by_threads(board, self.rt, alloc, command);
+        fill(&mut self.board, board);
+        done
     }
 
     // Carries out what a line asks for, and answers what it prints.
@@ -257,8 +275,8 @@ impl<'r, J: Naming + Send + Sync, M: Publisher<J> + Send, R: Threads + Wait + Sy
         }
     }
 
-    // Reads a line, carries out what it asks for, and answers what it prints. Where the line's fields find no room, it
-    // is refused whatever it says.
+    // Reads a line, carries out what it asks for, and answers what it prints. Where the fields of a line that asks for
+    // a cost find no room, it is refused whatever they say.
     fn take_line(&mut self, alloc: Global, line: &[u8]) -> Result<Done, Fault>
         ensures done { IfOk result (λ done. (ample : Bool)
             × IsDone self.old (asked line.now) (shown_at self.new.board done) ample self.new) }

@@ -2,7 +2,7 @@ use Rattle.std.proofs.Common.{refl, sym, true}
 use Rattle.export_rounds.proofs.Asking.{each_long}
 use Rattle.script_board.specs.Move.{IsMoved}
 use Rattle.script_board.specs.Serve.{IsGone, is_ample}
-use Rattle.script_session.proofs.carry_out.carry_out.Goals as goal
+use Rattle.script_session.proofs.carry_out.carry_out_by_threads.Goals as goal
 
 pub returns-in-Ok-clause-done : goal.returns-in-Ok-clause-done
 returns-in-Ok-clause-done g c =
