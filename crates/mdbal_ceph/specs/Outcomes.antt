@@ -49,9 +49,11 @@ pub record IsDecision (directories : List Directory) (spread : List ℕ) (ranks 
       (λ r. inodes_from directories decision.holds.items decision.goals.items r (length directories))
 
 -- what was collected of directories, with this heat by rank of what is spread, and what came of it: at most as many
--- directories as the planner takes, with all their heat and inodes, and what is decided for these
+-- directories as the planner takes, all that were collected where they are no more than that, with all their heat and
+-- inodes, and what is decided for these
 pub record IsOutcome (collected : List Directory) (spread : List ℕ) (parts : Parts) (outcome : Outcome) : Type 0 where
   pub few : length outcome.directories.items ≤ DIR_LIMIT
+  pub same : length collected ≤ DIR_LIMIT → outcome.directories.items ≡ collected
   pub folded : IsFolded collected outcome.directories.items
   pub count : length outcome.directories.items + outcome.folded ≡ length collected
   pub decided : IsDecision outcome.directories.items spread outcome.ranks parts outcome.decision

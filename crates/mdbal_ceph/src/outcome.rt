@@ -1,8 +1,9 @@
 //! Plans, and writes what came of it.
-ghost use Rattle.std.specs.Prelude.{◌≡◌, ◌<◌, ◌≤◌, ◌-◌, ◌*◌, ◌↔◌, ◌&&◌, ℕ, IfOk};
+ghost use Rattle.std.specs.Prelude.{◌≡◌, ◌<◌, ◌≤◌, ◌+◌, ◌-◌, ◌*◌, ◌↔◌, ◌&&◌, ℕ, IfOk, IsOkAnd};
 ghost use Rattle.std.specs.Prelude.{IsTrue, Some, length, nat_lt, slice_index};
 ghost use Rattle.mds_types.specs.Sums.{max_below};
 ghost use Rattle.mds_types.specs.RankSet.{has_rank};
+ghost use Rattle.ceph_snapshot.specs.Folding.{IsFolded};
 ghost use Rattle.mdbal_ceph.specs.Outcomes.{IsDecision, IsOutcome};
 
 use crate::collected::{Collected, read_collected};
@@ -15,7 +16,7 @@ use ceph_report::{
     Facts, Move, Sums, goals_of, greatest_now, make_json, make_own_list, make_picture,
     make_pins_script, make_report, make_script, moves_of, own_pins, standing_pins, sums_of,
 };
-use ceph_snapshot::{Directory, Held, fold, held_heat, holds, rows_of};
+use ceph_snapshot::{Directory, Held, SnapshotError, fold, held_heat, holds, rows_of};
 use mds_types::limits::{DIR_LIMIT, RANK_LIMIT};
 use mds_types::{Rank, RankSet};
 use std::alloc::Global;
@@ -117,6 +118,21 @@ fn decided(
     })
 }
 
+/// At most as many directories as the planner takes, with the coldest folded into those above them, and how many were
+/// folded.
+fn folded(
+    alloc: Global,
+    directories: Vec<Directory>,
+) -> Result<(Vec<Directory>, usize), SnapshotError>
+    ensures few { IfOk result (λ found. length found.0.items ≤ DIR_LIMIT) }
+    ensures folded { IfOk result (λ found. IsFolded directories.items found.0.items) }
+    ensures same { length directories.items ≤ DIR_LIMIT
+        → IsOkAnd result (λ found. found.0.items ≡ directories.items) }
+    ensures count { IfOk result (λ found. length found.0.items + found.1 ≡ length directories.items) }
+{
+    fold(alloc, directories, DIR_LIMIT as usize)
+}
+
 /// Plans what was collected.
 fn planned(alloc: Global, settings: &Settings, collected: Collected) -> Result<Outcome, Error>
     ensures outcome { IfOk result (IsOutcome collected.snapshot.directories.items collected.snapshot.spread.items
@@ -129,7 +145,7 @@ fn planned(alloc: Global, settings: &Settings, collected: Collected) -> Result<O
     let ranks = usable(settings, &collected)?;
     let (size, samples) = (collected.size, collected.samples);
     let spread = collected.snapshot.spread;
-    let (directories, folded) = fold(alloc, collected.snapshot.directories, DIR_LIMIT as usize)?;
+    let (directories, folded) = folded(alloc, collected.snapshot.directories)?;
     if spread.len() != usize::from(RANK_LIMIT) {
         bail!("there aren't 64 ranks");
     }
