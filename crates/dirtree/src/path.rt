@@ -1,6 +1,6 @@
 //! Paths of directories, and where they lead.
 ghost use Rattle.std.specs.Prelude.{◌≡◌, ◌≢◌, ◌↔◌, ◌<◌, ◌==◌, ◌++◌, ◌∷◌, [], ℕ, List, Ok, Err, IfOk, IsOkUnless};
-ghost use Rattle.std.specs.Prelude.{IsTrue, MatchOption, OnOk, map, reverse, string_bytes, true, false};
+ghost use Rattle.std.specs.Prelude.{IsTrue, MatchOption, OnErr, OnOk, map, reverse, string_bytes, true, false};
 ghost use Rattle.std.specs.List.{flat_map, slice_split};
 ghost use Rattle.dirtree.specs.Path.{find, names_up, path_of, walk};
 ghost use Rattle.dirtree.specs.Tree.{is_there};
@@ -10,6 +10,9 @@ use crate::tree::Tree;
 use crate::tree_error::TreeError;
 use mds_types::Dir;
 use std::alloc::{AllocError, Global};
+
+/// For how many names a path takes room at first.
+const USUAL_DEPTH: usize = 16;
 
 impl Tree {
     /// The directory that a path names: `/` alone, or names that each stand behind a `/`.
@@ -100,11 +103,39 @@ impl Tree {
         ensures gone { is_there self.now.entries dir ≡ false → result ≡ Err TreeError.NoDir }
         ensures there { is_there self.now.entries dir ≡ true → IsOkUnless result TreeError.Memory }
     {
+        let mut path = String::new(alloc);
+        self.write_path(alloc, dir, &mut path)?;
+        Ok(path)
+    }
+
+    /// Writes the path of a directory to a text, in place of what stood there. A text that is used again asks for no
+    /// memory once it had room for the longest path.
+    pub fn write_path(&self, alloc: Global, dir: Dir, path: &mut String) -> Result<(), TreeError>
+        ensures path { OnOk result (string_bytes path.new ≡ path_of self.now.entries dir) }
+        ensures gone { is_there self.now.entries dir ≡ false → result ≡ Err TreeError.NoDir }
+        ensures there { is_there self.now.entries dir ≡ true → IsOkUnless result TreeError.Memory }
+        ensures empty { OnErr result (string_bytes path.new ≡ []) }
+    {
+        path.clear();
         if !self.contains(dir) {
             return Err(TreeError::NoDir);
         }
+        match self.add_names(alloc, dir, path) {
+            Ok(()) => Ok(()),
+            Err(_) => {
+                path.clear();
+                Err(TreeError::Memory)
+            }
+        }
+    }
+
+    // Writes the path of a directory to an empty text.
+    fn add_names(&self, alloc: Global, dir: Dir, path: &mut String) -> Result<(), AllocError>
+        requires there { is_there self.now.entries dir ≡ true }
+        requires empty { string_bytes path.old ≡ [] }
+        ensures { OnOk result (string_bytes path.new ≡ path_of self.now.entries dir) }
+    {
         let mut names = self.names_up(alloc, dir)?;
-        let mut path = String::new(alloc);
         if names.is_empty() {
             path.push_str("/")?;
         }
@@ -112,7 +143,7 @@ impl Tree {
             path.push_str("/")?;
             path.push_str(name)?;
         }
-        Ok(path)
+        Ok(())
     }
 
     /// The names from a directory up to the root, whose own name is left out.
@@ -120,7 +151,7 @@ impl Tree {
         requires { is_there self.now.entries dir ≡ true }
         ensures { IfOk result (λ names. map (λ name. name.now) names.items ≡ names_up self.now.entries dir) }
     {
-        let mut names = Vec::new(alloc);
+        let mut names = Vec::with_capacity(alloc, USUAL_DEPTH)?;
         let mut at = dir;
         while at != Dir::ROOT {
             let Some(node) = self.node(at) else {

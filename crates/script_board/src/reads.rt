@@ -1,5 +1,5 @@
 //! What a report and a plan read of the board.
-ghost use Rattle.std.specs.Prelude.{◌≡◌, ◌<◌, ◌≤◌, IfOk, IsTrue, length, slice_index};
+ghost use Rattle.std.specs.Prelude.{◌≡◌, ◌<◌, ◌≤◌, [], IsTrue, OnErr, OnOk, length, slice_index};
 ghost use Rattle.std.specs.Prelude.{slice_index_or, string_bytes, true};
 ghost use Rattle.authority_map.specs.Operations.{rank_after};
 ghost use Rattle.dirtree.specs.Path.{path_of};
@@ -38,13 +38,15 @@ impl<J: Naming, M: Publisher<J>> ScriptBoard<J, M> {
         self.board.tree().contains(dir)
     }
 
-    /// The path of a directory that is there.
-    pub fn path(&self, alloc: Global, dir: Dir) -> Result<String, AllocError>
+    /// Writes the path of a directory that is there to a text, in place of what stood there; the text is empty where
+    /// memory is refused.
+    pub fn write_path(&self, alloc: Global, dir: Dir, path: &mut String) -> Result<(), AllocError>
         requires { is_there self.now.world.state.directories.entries dir ≡ true }
-        ensures { IfOk result (λ path. string_bytes path ≡ path_of self.now.world.state.directories.entries dir) }
+        ensures path { OnOk result (string_bytes path.new ≡ path_of self.now.world.state.directories.entries dir) }
+        ensures empty { OnErr result (string_bytes path.new ≡ []) }
     {
-        match self.board.tree().path(alloc, dir) {
-            Ok(path) => Ok(path),
+        match self.board.tree().write_path(alloc, dir, path) {
+            Ok(()) => Ok(()),
             Err(_) => Err(AllocError),
         }
     }

@@ -1,5 +1,5 @@
-//! The lines of `cost`.
-ghost use Rattle.std.specs.Prelude.{◌≡◌, IfOk, string_bytes, true};
+//! The lines of `cost`. Each is made in a text, in place of what stood there.
+ghost use Rattle.std.specs.Prelude.{◌≡◌, OnOk, string_bytes, true};
 ghost use Rattle.dirtree.specs.Tree.{is_there};
 ghost use Rattle.script_replies.specs.Cost.{cost_line, part_line};
 
@@ -9,24 +9,29 @@ use naming::Naming;
 use script_board::ScriptBoard;
 use std::alloc::{AllocError, Global};
 
-pub(crate) fn cost_line(alloc: Global, parts: &[Part]) -> Result<String, AllocError>
-    ensures { IfOk result (λ line. string_bytes line ≡ cost_line parts.now) }
+pub(crate) fn cost_line(parts: &[Part], line: &mut String) -> Result<(), AllocError>
+    ensures { OnOk result (string_bytes line.new ≡ cost_line parts.now) }
 {
     let greatest = greatest_heat(parts);
     let count = parts.len();
-    format!(in alloc; "cost greatest {greatest} parts {count}\n")
+    line.clear();
+    write!(line, "cost greatest {greatest} parts {count}\n")
 }
 
 pub(crate) fn part_line<J: Naming, M: Publisher<J>>(
     alloc: Global,
     board: &ScriptBoard<J, M>,
     part: Part,
-) -> Result<String, AllocError>
+    field: &mut String,
+    line: &mut String,
+) -> Result<(), AllocError>
     requires { is_there board.now.world.state.directories.entries part.top ≡ true }
-    ensures { IfOk result (λ line. string_bytes line ≡ part_line board.now part) }
+    ensures { OnOk result (string_bytes line.new ≡ part_line board.now part) }
 {
-    let path = board.path(alloc, part.top)?;
+    board.write_path(alloc, part.top, field)?;
+    let path = field.as_str();
     let heat = part.heat;
     let inodes = part.inodes;
-    format!(in alloc; "part {path} heat {heat} inodes {inodes}\n")
+    line.clear();
+    write!(line, "part {path} heat {heat} inodes {inodes}\n")
 }

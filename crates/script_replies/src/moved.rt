@@ -1,5 +1,5 @@
-//! The lines of `move`.
-ghost use Rattle.std.specs.Prelude.{◌≡◌, IfOk, string_bytes};
+//! The lines of `move`. Each is made in a text, in place of what stood there.
+ghost use Rattle.std.specs.Prelude.{◌≡◌, OnOk, string_bytes};
 ghost use Rattle.script_replies.specs.Move.{all_inodes, export_line, export_text, move_line};
 ghost use Rattle.script_replies.specs.Move.{order_word, top_of, top_path, way_text, word};
 
@@ -12,29 +12,34 @@ use naming::Naming;
 use script_board::ScriptBoard;
 use std::alloc::{AllocError, Global};
 
-pub(crate) fn move_line(alloc: Global, count: usize) -> Result<String, AllocError>
-    ensures { IfOk result (λ line. string_bytes line ≡ move_line count) }
+pub(crate) fn move_line(count: usize, line: &mut String) -> Result<(), AllocError>
+    ensures { OnOk result (string_bytes line.new ≡ move_line count) }
 {
-    format!(in alloc; "move {count}\n")
+    line.clear();
+    write!(line, "move {count}\n")
 }
 
-fn word(alloc: Global, outcome: Outcome) -> Result<String, AllocError>
-    ensures { IfOk result (λ text. string_bytes text ≡ word outcome) }
+fn word(outcome: Outcome, text: &mut String) -> Result<(), AllocError>
+    ensures { OnOk result (string_bytes text.new ≡ word outcome) }
 {
+    text.clear();
     match outcome {
-        Outcome::Done(_) => String::from_str(alloc, "done"),
-        Outcome::Aborted(_) => String::from_str(alloc, "aborted"),
-        Outcome::Open(_) => String::from_str(alloc, "open"),
-        Outcome::Refused(error) => format!(in alloc; "refused {error}"),
+        Outcome::Done(_) => text.push_str("done"),
+        Outcome::Aborted(_) => text.push_str("aborted"),
+        Outcome::Open(_) => text.push_str("open"),
+        Outcome::Refused(error) => write!(text, "refused {error}"),
     }
 }
 
-fn order_word(alloc: Global, outcome: OrderOutcome) -> Result<String, AllocError>
-    ensures { IfOk result (λ text. string_bytes text ≡ order_word outcome) }
+fn order_word(outcome: OrderOutcome, text: &mut String) -> Result<(), AllocError>
+    ensures { OnOk result (string_bytes text.new ≡ order_word outcome) }
 {
     match outcome {
-        OrderOutcome::TakenUp(outcome) => word(alloc, outcome),
-        OrderOutcome::NoThread => format!(in alloc; "refused {}", Refusal::NoThread),
+        OrderOutcome::TakenUp(outcome) => word(outcome, text),
+        OrderOutcome::NoThread => {
+            text.clear();
+            write!(text, "refused {}", Refusal::NoThread)
+        }
     }
 }
 
@@ -66,14 +71,16 @@ fn top_path<J: Naming, M: Publisher<J>>(
     alloc: Global,
     board: &ScriptBoard<J, M>,
     order: &Order,
-) -> Result<String, AllocError>
-    ensures { IfOk result (λ path. string_bytes path ≡ top_path board.now order.now) }
+    text: &mut String,
+) -> Result<(), AllocError>
+    ensures { OnOk result (string_bytes text.new ≡ top_path board.now order.now) }
 {
     let top = top_of(order);
     if board.contains(top) {
-        board.path(alloc, top)
+        board.write_path(alloc, top, text)
     } else {
-        String::from_str(alloc, "-")
+        text.clear();
+        text.push_str("-")
     }
 }
 
@@ -82,35 +89,32 @@ pub(crate) fn export_line<J: Naming, M: Publisher<J>>(
     board: &ScriptBoard<J, M>,
     order: &Order,
     outcome: OrderOutcome,
-) -> Result<String, AllocError>
-    ensures { IfOk result (λ line. string_bytes line ≡ export_line board.now (order.now, outcome)) }
+    field: &mut String,
+    line: &mut String,
+) -> Result<(), AllocError>
+    ensures { OnOk result (string_bytes line.new ≡ export_line board.now (order.now, outcome)) }
 {
-    let path = top_path(alloc, board, order)?;
-    let way = way_text(alloc, path.as_str(), order.from, order.to)?;
+    top_path(alloc, board, order, field)?;
+    way_text(field.as_str(), order.from, order.to, line)?;
     let dirs = order.dirs.as_slice();
     let inodes = all_inodes(board.board().tree(), dirs);
-    let word = order_word(alloc, outcome)?;
-    export_text(alloc, way.as_str(), dirs.len(), inodes, word.as_str())
+    order_word(outcome, field)?;
+    add_told(dirs.len(), inodes, field.as_str(), line)
 }
 
 // Whence and where the directories below a path go.
-fn way_text(alloc: Global, path: &str, from: Rank, to: Rank) -> Result<String, AllocError>
-    ensures { IfOk result (λ text. string_bytes text ≡ way_text path.now from to) }
+fn way_text(path: &str, from: Rank, to: Rank, line: &mut String) -> Result<(), AllocError>
+    ensures { OnOk result (string_bytes line.new ≡ way_text path.now from to) }
 {
     let from = from.number();
     let to = to.number();
-    format!(in alloc; "export {path} from {from} to {to}")
+    line.clear();
+    write!(line, "export {path} from {from} to {to}")
 }
 
-// What goes that way, and what became of it.
-fn export_text(
-    alloc: Global,
-    way: &str,
-    count: usize,
-    inodes: u128,
-    word: &str,
-) -> Result<String, AllocError>
-    ensures { IfOk result (λ line. string_bytes line ≡ export_text way.now count inodes word.now) }
+// Adds to the way what goes it, and what became of it.
+fn add_told(count: usize, inodes: u128, word: &str, line: &mut String) -> Result<(), AllocError>
+    ensures { OnOk result (string_bytes line.new ≡ export_text (string_bytes line.old) count inodes word.now) }
 {
-    format!(in alloc; "{way} dirs {count} inodes {inodes} {word}\n")
+    write!(line, " dirs {count} inodes {inodes} {word}\n")
 }

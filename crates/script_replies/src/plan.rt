@@ -1,5 +1,5 @@
-//! The lines of `plan`.
-ghost use Rattle.std.specs.Prelude.{◌≡◌, All, IfOk, Some, string_bytes, true};
+//! The lines of `plan`. Each is made in a text, in place of what stood there.
+ghost use Rattle.std.specs.Prelude.{◌≡◌, All, IfOk, OnOk, Some, string_bytes, true};
 ghost use Rattle.dirtree.specs.Tree.{is_there};
 ghost use Rattle.mds_types.specs.declared.plan.Plan.{Plan as ThePlan};
 ghost use Rattle.mds_board.specs.InForce.{plan_in_force};
@@ -18,27 +18,38 @@ pub(crate) fn plan_part_line<J: Naming, M: Publisher<J>>(
     alloc: Global,
     board: &ScriptBoard<J, M>,
     part: PlanPart,
-) -> Result<String, AllocError>
+    field: &mut String,
+    line: &mut String,
+) -> Result<(), AllocError>
     requires { is_there board.now.world.state.directories.entries part.top ≡ true }
-    ensures { IfOk result (λ line. string_bytes line ≡ plan_part_line board.now part) }
+    ensures { OnOk result (string_bytes line.new ≡ plan_part_line board.now part) }
 {
-    let path = board.path(alloc, part.top)?;
+    board.write_path(alloc, part.top, field)?;
+    let path = field.as_str();
     let rank = part.rank.number();
     let heat = part.heat;
     let inodes = part.inodes;
-    format!(in alloc; "part {path} rank {rank} heat {heat} inodes {inodes}\n")
+    line.clear();
+    write!(
+        line,
+        "part {path} rank {rank} heat {heat} inodes {inodes}\n"
+    )
 }
 
-fn first_line(alloc: Global, greatest: u64, moved: u64, proof: &str) -> Result<String, AllocError>
-    ensures { IfOk result (λ line. string_bytes line ≡ first_line greatest moved proof.now) }
+fn first_line(greatest: u64, moved: u64, proof: &str, line: &mut String) -> Result<(), AllocError>
+    ensures { OnOk result (string_bytes line.new ≡ first_line greatest moved proof.now) }
 {
-    format!(in alloc; "plan greatest {greatest} moved {moved} proof {proof}\n")
+    line.clear();
+    write!(
+        line,
+        "plan greatest {greatest} moved {moved} proof {proof}\n"
+    )
 }
 
-pub(crate) fn plan_line(alloc: Global, plan: &Plan) -> Result<String, AllocError>
-    ensures { IfOk result (λ line. string_bytes line ≡ plan_line plan.now) }
+pub(crate) fn plan_line(plan: &Plan, line: &mut String) -> Result<(), AllocError>
+    ensures { OnOk result (string_bytes line.new ≡ plan_line plan.now) }
 {
-    first_line(alloc, plan.greatest, plan.moved, proof_word(&plan.cut))
+    first_line(plan.greatest, plan.moved, proof_word(&plan.cut), line)
 }
 
 fn proof_word(proof: &CutProof) -> &'static str

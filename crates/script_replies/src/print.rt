@@ -1,5 +1,5 @@
 //! Writing a reply, line by line.
-ghost use Rattle.std.specs.Prelude.{◌≡◌, ◌<◌, ℕ, IfOk, IsErrOf, IsSome, Some, OnErr, OnOk, ◌++◌};
+ghost use Rattle.std.specs.Prelude.{◌≡◌, ◌<◌, ℕ, IsErrOf, IsSome, Some, OnErr, OnOk, ◌++◌};
 ghost use Rattle.std.specs.Prelude.{[], length, slice_index_or, string_bytes, take};
 ghost use Rattle.std.specs.Io.KnownBytes.{Appends};
 ghost use Rattle.script_engine.specs.Known.{AppendsFront};
@@ -11,6 +11,7 @@ ghost use Rattle.script_replies.specs.Reply.{IsPrintable, reply_lines};
 
 use crate::cost::{cost_line, part_line};
 use crate::moved::{export_line, move_line};
+use crate::page::Page;
 use crate::plan::{plan_line, plan_part_line};
 use crate::reply::Reply;
 use crate::stat::{cluster_line, dir_line};
@@ -44,11 +45,12 @@ impl From<WriteFailed> for Unprinted {
     }
 }
 
-/// Writes the lines of a reply, in pieces of 64 KB or a little more.
+/// Writes the lines of a reply, in pieces of 64 KB or a little more. They are made on the page, whatever stands there.
 pub fn print_reply<J: Naming, M: Publisher<J>, W: Write>(
     board: &mut ScriptBoard<J, M>,
     alloc: Global,
     reply: &Reply,
+    page: &mut Page,
     writer: &mut W,
 ) -> Result<(), Unprinted>
     requires { IsPrintable board.old reply.now }
@@ -62,87 +64,97 @@ pub fn print_reply<J: Naming, M: Publisher<J>, W: Write>(
         → AppendsFront (W.contents writer.old) (W.contents writer.new) (joined (reply_lines board.old reply.now)) }
     ensures same { board.new ≡ board.old }
 {
-    let mut chunk = String::new(alloc);
+    page.chunk.clear();
     for index in 0..reply.line_count() {
-        match push_line(board, alloc, reply, index, &mut chunk) {
+        match push_line(board, alloc, reply, index, page) {
             Ok(()) => {}
             Err(_) => {
-                write_whole(writer, chunk.as_bytes())?;
+                write_whole(writer, page.chunk.as_bytes())?;
                 return Err(Unprinted::Memory);
             }
         }
-        if chunk.len() >= CHUNK_SIZE {
-            write_whole(writer, chunk.as_bytes())?;
-            chunk.clear();
+        if page.chunk.len() >= CHUNK_SIZE {
+            write_whole(writer, page.chunk.as_bytes())?;
+            page.chunk.clear();
         }
     }
-    write_whole(writer, chunk.as_bytes())?;
+    write_whole(writer, page.chunk.as_bytes())?;
     Ok(())
 }
 
-// One line more in a chunk.
+// One line more in the chunk.
 fn push_line<J: Naming, M: Publisher<J>>(
     board: &mut ScriptBoard<J, M>,
     alloc: Global,
     reply: &Reply,
     index: usize,
-    chunk: &mut String,
+    page: &mut Page,
 ) -> Result<(), AllocError>
     requires there { IsPrintable board.old reply.now }
     requires inside { index < length (reply_lines board.old reply.now) }
-    ensures more { OnOk result (string_bytes chunk.new
-        ≡ string_bytes chunk.old ++ slice_index_or (reply_lines board.old reply.now) index []) }
-    ensures unchanged { OnErr result (string_bytes chunk.new ≡ string_bytes chunk.old) }
+    ensures more { OnOk result (string_bytes page.new.chunk
+        ≡ string_bytes page.old.chunk ++ slice_index_or (reply_lines board.old reply.now) index []) }
+    ensures unchanged { OnErr result (string_bytes page.new.chunk ≡ string_bytes page.old.chunk) }
     ensures same { board.new ≡ board.old }
 {
-    let line = line(board, alloc, reply, index)?;
-    chunk.push_str(&line)
+    let Page { chunk, line, field } = page;
+    make_line(board, alloc, reply, index, field, line)?;
+    chunk.push_str(line.as_str())
 }
 
-// One line of a reply.
-fn line<J: Naming, M: Publisher<J>>(
+// Makes one line of a reply, in place of what stood in the text.
+fn make_line<J: Naming, M: Publisher<J>>(
     board: &mut ScriptBoard<J, M>,
     alloc: Global,
     reply: &Reply,
     index: usize,
-) -> Result<String, AllocError>
+    field: &mut String,
+    line: &mut String,
+) -> Result<(), AllocError>
     requires there { IsPrintable board.old reply.now }
     requires inside { index < length (reply_lines board.old reply.now) }
-    ensures line { IfOk result (λ line. string_bytes line ≡ slice_index_or (reply_lines board.old reply.now) index []) }
+    ensures line { OnOk result (string_bytes line.new ≡ slice_index_or (reply_lines board.old reply.now) index []) }
     ensures same { board.new ≡ board.old }
 {
     match reply {
         Reply::Nothing => unreachable!(),
         Reply::Cost(parts) => match index {
-            0 => cost_line(alloc, parts),
-            _ => part_line(alloc, board, parts[index - 1]),
+            0 => cost_line(parts, line),
+            _ => part_line(alloc, board, parts[index - 1], field, line),
         },
         Reply::Plan(parts) => match index {
-            0 => line_in_force(alloc, board),
-            _ => plan_part_line(alloc, board, parts[index - 1]),
+            0 => line_in_force(board, line),
+            _ => plan_part_line(alloc, board, parts[index - 1], field, line),
         },
         Reply::Move(orders, outcomes) => match index {
-            0 => move_line(alloc, orders.len()),
-            _ => export_line(alloc, board, &orders[index - 1], outcomes[index - 1]),
+            0 => move_line(orders.len(), line),
+            _ => export_line(
+                alloc,
+                board,
+                &orders[index - 1],
+                outcomes[index - 1],
+                field,
+                line,
+            ),
         },
         Reply::Stat(dirs) => match index {
-            0 => cluster_line(alloc, board, dirs.len()),
-            _ => dir_line(alloc, board, dirs[index - 1]),
+            0 => cluster_line(board, dirs.len(), line),
+            _ => dir_line(alloc, board, dirs[index - 1], field, line),
         },
     }
 }
 
 // The line on the plan in force.
 fn line_in_force<J: Naming, M: Publisher<J>>(
-    alloc: Global,
     board: &ScriptBoard<J, M>,
-) -> Result<String, AllocError>
+    line: &mut String,
+) -> Result<(), AllocError>
     requires { IsSome (plan_in_force board.now.world) }
     ensures { (plan : ThePlan) → plan_in_force board.now.world ≡ Some plan
-        → IfOk result (λ line. string_bytes line ≡ plan_line plan) }
+        → OnOk result (string_bytes line.new ≡ plan_line plan) }
 {
     match board.board().plan_in_force() {
-        Some(plan) => plan_line(alloc, plan),
+        Some(plan) => plan_line(plan, line),
         None => unreachable!(),
     }
 }

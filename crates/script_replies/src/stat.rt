@@ -1,5 +1,5 @@
-//! The lines of `stat`.
-ghost use Rattle.std.specs.Prelude.{◌≡◌, ◌<◌, IfOk, length, string_bytes, true};
+//! The lines of `stat`. Each is made in a text, in place of what stood there.
+ghost use Rattle.std.specs.Prelude.{◌≡◌, ◌<◌, OnOk, length, string_bytes, true};
 ghost use Rattle.dirtree.specs.Tree.{is_there};
 ghost use Rattle.script_board.specs.Stat.{directories};
 ghost use Rattle.script_replies.specs.Stat.{cluster_line, dir_line, rank_text};
@@ -12,36 +12,46 @@ use script_board::ScriptBoard;
 use std::alloc::{AllocError, Global};
 
 pub(crate) fn cluster_line<J: Naming, M: Publisher<J>>(
-    alloc: Global,
     board: &ScriptBoard<J, M>,
     count: usize,
-) -> Result<String, AllocError>
+    line: &mut String,
+) -> Result<(), AllocError>
     requires { count ≡ length (directories board.now.world.state.directories.entries) }
-    ensures { IfOk result (λ line. string_bytes line ≡ cluster_line board.now) }
+    ensures { OnOk result (string_bytes line.new ≡ cluster_line board.now) }
 {
     let active = board.active();
     let usable = board.usable().len();
-    format!(in alloc; "stat ranks {active} usable {usable} directories {count}\n")
+    line.clear();
+    write!(
+        line,
+        "stat ranks {active} usable {usable} directories {count}\n"
+    )
 }
 
 pub(crate) fn dir_line<J: Naming, M: Publisher<J>>(
     alloc: Global,
     board: &mut ScriptBoard<J, M>,
     dir: Dir,
-) -> Result<String, AllocError>
+    field: &mut String,
+    line: &mut String,
+) -> Result<(), AllocError>
     requires there { is_there board.old.world.state.directories.entries dir ≡ true }
     requires below { dir < board.old.world.state.directories.limit }
-    ensures line { IfOk result (λ line. string_bytes line ≡ dir_line board.old dir) }
+    ensures line { OnOk result (string_bytes line.new ≡ dir_line board.old dir) }
     ensures same { board.new ≡ board.old }
 {
-    let number = dir.number();
-    let path = board.path(alloc, dir)?;
+    board.write_path(alloc, dir, field)?;
+    let (number, path) = (dir.number(), field.as_str());
     let (mut pin_buffer, mut rank_buffer) = (Buffer::new(), Buffer::new());
     let pin = rank_text(&mut pin_buffer, board.pin_of(dir));
     let rank = rank_text(&mut rank_buffer, board.rank_of(dir));
     let heat = board.heat_of(dir);
     let hits = board.hits_of(dir);
-    format!(in alloc; "dir {number} {path} pin {pin} rank {rank} heat {heat} hits {hits}\n")
+    line.clear();
+    write!(
+        line,
+        "dir {number} {path} pin {pin} rank {rank} heat {heat} hits {hits}\n"
+    )
 }
 
 // A rank, or `-` where there is none.

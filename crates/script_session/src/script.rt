@@ -161,7 +161,7 @@ fn run_named<
     let Some(parts) = open_parts(rt, alloc, book, map, key, limit) else {
         return Ended::without_memory();
     };
-    let session = Session::<J, MapWriter<J, &T>, T>::new(rt, limit, parts);
+    let session = Session::<J, MapWriter<J, &T>, T>::new(rt, alloc, limit, parts);
     let mut hinted = Hinted { session, hints };
     let answer = |hinted: &mut Hinted<
         '_,

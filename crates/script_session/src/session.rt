@@ -26,7 +26,7 @@ use naming::Naming;
 use script_board::{Fault, Parts, ScriptBoard};
 use script_commands::{Asked, Command, RankCount, read_line};
 use script_engine::{Interpreter, WriteFailed};
-use script_replies::{Reply, Unprinted, parts_in_force, print_reply};
+use script_replies::{Page, Reply, Unprinted, parts_in_force, print_reply};
 use std::alloc::{AllocError, Global};
 use std::io::Write;
 use std::marker::{Model, Send, Sync};
@@ -42,6 +42,7 @@ pub struct Session<'r, J: Naming, M: Publisher<J>, R: Threads> {
     limit: u32,
     parts: Option<Parts<J, M>>,
     board: Option<ScriptBoard<J, M>>,
+    page: Page,
 }
 
 impl<'r, J: Naming, M: Publisher<J>, R: Threads> Model for Session<'r, J, M, R> {
@@ -71,7 +72,7 @@ impl<'r, J: Naming, M: Publisher<J>, R: Threads> Session<'r, J, M, R> {
     ghost use Rattle.script_engine.specs.Answers.{Answer};
 
     /// The session at the beginning of a script. Its tree is to give at most `limit` numbers.
-    pub fn new(rt: &'r R, limit: u32, parts: Parts<J, M>) -> Session<'r, J, M, R>
+    pub fn new(rt: &'r R, alloc: Global, limit: u32, parts: Parts<J, M>) -> Session<'r, J, M, R>
         requires limit { limit ≡ J.limit }
         requires some { 1 ≤ limit }
         requires few { limit ≤ 65536 }
@@ -82,6 +83,7 @@ impl<'r, J: Naming, M: Publisher<J>, R: Threads> Session<'r, J, M, R> {
             limit,
             parts: Some(parts),
             board: None,
+            page: Page::new(alloc),
         }
     }
 
@@ -92,6 +94,7 @@ impl<'r, J: Naming, M: Publisher<J>, R: Threads> Session<'r, J, M, R> {
             limit: _limit,
             parts,
             board,
+            page: _page,
         } = self;
         if let Some(parts) = parts {
             parts.end();
@@ -178,7 +181,7 @@ impl<'r, J: Naming, M: Publisher<J>, R: Threads> Session<'r, J, M, R> {
         ensures same { self.new ≡ self.old }
     {
         match &mut self.board {
-            Some(board) => print(board, alloc, done, writer),
+            Some(board) => print(board, alloc, done, &mut self.page, writer),
             None => Ok(()),
         }
     }
@@ -314,6 +317,7 @@ fn print<J: Naming, M: Publisher<J>, W: Write>(
     board: &mut ScriptBoard<J, M>,
     alloc: Global,
     done: &Done,
+    page: &mut Page,
     writer: &mut W,
 ) -> Result<(), Unprinted>
     requires { IsShowable board.old done.now }
@@ -330,10 +334,10 @@ fn print<J: Naming, M: Publisher<J>, W: Write>(
     match done {
         Done::Served(_) => Ok(()),
         Done::Planned => match parts_in_force(alloc, board) {
-            Ok(parts) => print_reply(board, alloc, &Reply::Plan(parts), writer),
+            Ok(parts) => print_reply(board, alloc, &Reply::Plan(parts), page, writer),
             Err(_) => Err(Unprinted::Memory),
         },
-        Done::Lines(reply) => print_reply(board, alloc, reply, writer),
+        Done::Lines(reply) => print_reply(board, alloc, reply, page, writer),
     }
 }
 

@@ -1,6 +1,6 @@
 use Rattle.std.proofs.Common.{◌∙◌, append_assoc}
-use Rattle.std.proofs.lemmas.Result.{IfOk-weaker}
+use Rattle.std.proofs.lemmas.Result.{on_ok_weaker}
 use Rattle.script_replies.proofs.cost.cost_line.Goals as goal
 
 pub returns : goal.returns
-returns c = IfOk-weaker c.format.result _ _ (λ s e. e ∙ simp (append_assoc, c.greatest_heat-greatest.ensures)) c.format.ensures.ok
+returns c = on_ok_weaker c.write.result (λ e. e ∙ simp (append_assoc, c.clear.ensures.bytes, c.greatest_heat-greatest.ensures)) c.write.ensures.bytes

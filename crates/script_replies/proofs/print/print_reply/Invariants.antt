@@ -9,6 +9,6 @@ abbrev pub invariant-loop-index : goal.invariant-loop-index
 invariant-loop-index g l = record {
   front : List ℕ;
   written : Appends (g.W.Write.contents l.initial.writer) (g.W.Write.contents l.writer) front;
-  whole : front ++ string_bytes l.chunk ≡ joined (take l.index (reply_lines l.initial.board l.reply));
+  whole : front ++ string_bytes l.page.chunk ≡ joined (take l.index (reply_lines l.initial.board l.reply));
   same : l.board ≡ l.initial.board;
 }

@@ -8,7 +8,7 @@ use Rattle.script_replies.specs.Plan.{plan_line, plan_part_line}
 use Rattle.script_replies.specs.Stat.{cluster_line, dir_line}
 use Rattle.script_replies.proofs.LineLemmas.{nth_line}
 use Rattle.script_replies.proofs.MoveLemmas.{length-pairs, pairs_at}
-use Rattle.script_replies.proofs.print.line.Goals as goal
+use Rattle.script_replies.proofs.print.make_line.Goals as goal
 
 pub index-requires-in_default-index-2 : goal.index-requires-in_default-index-2
 index-requires-in_default-index-2 g c =
