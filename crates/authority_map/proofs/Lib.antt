@@ -5,3 +5,4 @@ pub mod Shifts
 pub mod CellLemmas
 pub mod HistoryLemmas
 pub mod WriterLemmas
+pub mod Extending

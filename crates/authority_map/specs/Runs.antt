@@ -1,5 +1,6 @@
 -- Runs of neighbouring directories that have the same cell.
-use Rattle.std.specs.Prelude.{◌≡◌, ◌≢◌, ℕ, ◌+◌, ◌*◌, ◌/◌, ◌<◌, ◌≤◌, List, length, slice_index}
+use Rattle.std.specs.Prelude.{◌≡◌, ◌≢◌, ℕ, Bool, false, ◌+◌, ◌*◌, ◌/◌, ◌<◌, ◌≤◌, List, length, slice_index, slice_index_or}
+use Rattle.authority_map.specs.Operations.{names}
 
 -- the directory is in this run, which goes on until the next one starts
 pub record IsIn (starts : List ℕ) (run dir : ℕ) : Type 0 where
@@ -49,3 +50,17 @@ pub record IsOneMore (first : ℕ) (old new : List ℕ) : Type 0 where
   pub sized : length new ≡ length old
   pub before : (k : ℕ) → k < first → slice_index new k ≡ slice_index old k
   pub after : (k : ℕ) → first ≤ k → k < length old → slice_index new k ≡ slice_index old k + 1
+
+-- all runs start before this directory
+abbrev pub AreBefore : ℕ → List ℕ → Type 0
+AreBefore dir starts = (run : ℕ) → run < length starts → slice_index starts run < dir
+
+-- The first directories, so many of them, have the cells of their runs, and no two neighbouring runs are alike.
+pub record HasFirst (count : ℕ) (starts cells : List ℕ) (cell : ℕ → ℕ) : Type 0 where
+  pub each : (run dir : ℕ) → dir < count → IsIn starts run dir → slice_index cells run ≡ cell dir
+  pub apart : (run : ℕ) → run + 1 < length starts → slice_index cells run ≢ slice_index cells (run + 1)
+
+-- each directory below the limit is marked exactly if it is among these
+pub record AreMarks (limit : ℕ) (dirs : List ℕ) (marks : List Bool) : Type 0 where
+  pub sized : length marks ≡ limit
+  pub each : (dir : ℕ) → dir < limit → slice_index_or marks dir false ≡ names dirs dir

@@ -18,6 +18,7 @@ mod map_writer;
 mod operation;
 mod publisher;
 mod queue;
+mod rewriting;
 mod runs;
 mod table;
 

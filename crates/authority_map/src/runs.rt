@@ -12,10 +12,14 @@ ghost use Rattle.std.specs.Prelude.{slice_index, if◌then◌else◌, vec_capaci
 ghost use Rattle.authority_map.specs.Operations.{names};
 ghost use Rattle.authority_map.specs.Runs.{IsIn, IsAmong, IsIndex, IsOneMore, AreStarts, AreRuns, StartsAt, HasCells};
 
+use crate::rewriting::rewrite_all;
 use mds_types::Dir;
 
 /// How many directories a block has.
 pub(crate) const BLOCK: usize = 256;
+
+/// How many runs are moved in the time that a pass over all directories takes for one of them.
+const MOVED_IN_A_STEP: usize = 16;
 
 // 1 where this start isn't past the directory, and else 0. It takes no branch, which would be guessed
 // wrong every other time.
@@ -301,8 +305,8 @@ pub(crate) fn write(
     }
 }
 
-/// Writes the cell of each of these directories.
-pub(crate) fn write_all(
+// Writes the cell of each of these directories, one after the other.
+fn write_each(
     starts: &mut Vec<u32>,
     cells: &mut Vec<u8>,
     index: &mut Vec<u32>,
@@ -323,5 +327,33 @@ pub(crate) fn write_all(
 {
     for dir in dirs {
         write(starts, cells, index, limit, dir.number(), cell);
+    }
+}
+
+/// Writes the cell of each of these directories: in one pass over all directories where that is less work and there is
+/// memory for it, else one after the other.
+pub(crate) fn write_all(
+    starts: &mut Vec<u32>,
+    cells: &mut Vec<u8>,
+    index: &mut Vec<u32>,
+    limit: u32,
+    dirs: &[Dir],
+    cell: u8,
+)
+    requires runs { AreRuns limit starts.old.items cells.old.items }
+    requires index { IsIndex limit starts.old.items index.old.items }
+    requires room { (limit ≤ vec_capacity starts.old) × (limit ≤ vec_capacity cells.old) }
+    requires inside { All (λ dir. dir < limit) dirs.now }
+    requires small { cell ≤ 64 }
+    ensures runs { AreRuns limit starts.new.items cells.new.items }
+    ensures index { IsIndex limit starts.new.items index.new.items }
+    ensures room { (limit ≤ vec_capacity starts.new) × (limit ≤ vec_capacity cells.new) }
+    ensures cells { (old : ℕ → ℕ) → HasCells limit starts.old.items cells.old.items old 0 0
+        → HasCells limit starts.new.items cells.new.items (λ d. if names dirs.now d then cell else old d) 0 0 }
+{
+    // a directory that is written alone moves about half of the runs, many at a time
+    let moved = dirs.len().saturating_mul(starts.len()) / MOVED_IN_A_STEP;
+    if moved < limit as usize || rewrite_all(starts, cells, index, limit, dirs, cell).is_err() {
+        write_each(starts, cells, index, limit, dirs, cell);
     }
 }
