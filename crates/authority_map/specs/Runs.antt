@@ -1,5 +1,6 @@
 -- Runs of neighbouring directories that have the same cell.
-use Rattle.std.specs.Prelude.{◌≡◌, ◌≢◌, ℕ, Bool, false, ◌+◌, ◌*◌, ◌/◌, ◌<◌, ◌≤◌, List, length, slice_index, slice_index_or}
+use Rattle.std.specs.Prelude.{◌≡◌, ◌≢◌, ℕ, Bool, false, ◌+◌, ◌*◌, ◌/◌, ◌<◌, ◌≤◌, List, length}
+use Rattle.std.specs.Prelude.{slice_index, slice_index_or}
 use Rattle.authority_map.specs.Operations.{names}
 
 -- the directory is in this run, which goes on until the next one starts
