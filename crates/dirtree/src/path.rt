@@ -108,8 +108,8 @@ impl Tree {
         Ok(path)
     }
 
-    /// Writes the path of a directory to a text, in place of what stood there. A text that is used again asks for no
-    /// memory once it had room for the longest path.
+    /// Writes the path of a directory to a text, in place of what stood there. A text that is used again grows no more
+    /// once it had room for the longest path; the list of the names on the way takes memory in each call.
     pub fn write_path(&self, alloc: Global, dir: Dir, path: &mut String) -> Result<(), TreeError>
         ensures path { OnOk result (string_bytes path.new ≡ path_of self.now.entries dir) }
         ensures gone { is_there self.now.entries dir ≡ false → result ≡ Err TreeError.NoDir }

@@ -2,7 +2,7 @@
 
 use std::alloc::Global;
 
-/// Texts that are used again from line to line and from reply to reply, so that lines take no memory of their own.
+/// Texts that are used again from line to line and from reply to reply, so that no line is a text of its own.
 #[derive(Drop)]
 pub struct Page {
     /// Lines that are still to be written.
