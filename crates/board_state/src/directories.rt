@@ -53,7 +53,7 @@ impl<J: Naming, M: Publisher<J>> BoardState<J, M> {
         ) else {
             return Err(BoardError::Memory);
         };
-        let Ok(dir) = self.tree.make(alloc, parent, name, inodes) else {
+        let Ok(dir) = self.tree.add(alloc, parent, name, inodes) else {
             return Err(BoardError::Memory);
         };
         self.heat.clear(dir);

@@ -171,7 +171,7 @@ impl Tree {
         Ok(())
     }
 
-    /// Makes a directory with the next number. Its growths come before its first change.
+    /// Makes a directory with the next number.
     pub fn make(
         &mut self,
         alloc: Global,
@@ -187,6 +187,23 @@ impl Tree {
         ensures memory { make_refusal self.old parent name.now ≡ None → IsOkUnless result TreeError.Memory }
     {
         self.can_make(parent, name)?;
+        Ok(self.add(alloc, parent, name, inodes)?)
+    }
+
+    /// Makes a directory that `can_make` allows, with the next number. Its growths come before its first change.
+    pub fn add(
+        &mut self,
+        alloc: Global,
+        parent: Dir,
+        name: &str,
+        inodes: u32,
+    ) -> Result<Dir, AllocError>
+        requires { make_refusal self.old parent name.now ≡ None }
+        ensures made { OnOk result (self.new ≡ with_child self.old parent name.now inodes) }
+        ensures number { IfOk result (λ dir. dir ≡ length self.old.entries) }
+        ensures below { IfOk result (λ dir. dir < self.old.limit) }
+        ensures unchanged { OnErr result (self.new ≡ self.old) }
+    {
         let number = self.nodes.len() as u32;
         let chain = chain(self.hasher, parent.number(), name);
         let node = Node {

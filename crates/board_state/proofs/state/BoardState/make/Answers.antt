@@ -1,6 +1,6 @@
 use Rattle.std.proofs.Common.{◌≡◌, ◌∙◌, ◌++◌, ◌∷◌, [], None, Some, refl, sym, ap, subst, arith, append_assoc}
 use Rattle.authority_map.specs.Operations.{rank_after}
-use Rattle.dirtree.specs.Tree.{Directories}
+use Rattle.dirtree.specs.Tree.{Directories, make_refusal}
 use Rattle.export_machine.specs.Authority.{authority, named_of}
 use Rattle.export_machine.specs.Cluster.{World}
 use Rattle.export_machine.specs.declared.event.Event.TheVariants.{Made}
@@ -24,6 +24,11 @@ happen-requires-clause-accepted g c =
     let may = (may_make _ _ _ 0 (sym (c.in_default.ensures 0))).1 in
     let here = subst (λ (p : Present). machine.refusal p.state.cluster (Made c.args.parent) ≡ None) (sym c.self.view_is) may in
     subst (λ (w : World). machine.refusal w (Made c.args.parent) ≡ None) (sym c.reserve-2.ensures.world) here
+
+pub add-requires : goal.add-requires
+add-requires g c =
+    let may = (may_make _ _ _ 0 (sym (c.in_default.ensures 0))).0 in
+    subst (λ (p : Present). make_refusal p.state.directories c.args.parent c.args.name.now ≡ None) (sym c.self.view_is) may
 
 pub happen-requires-clause-room : goal.happen-requires-clause-room
 happen-requires-clause-room g c = c.in-Ok-Ok-Ok.ensures''.room (happen-requires-clause-accepted g c)

@@ -3,7 +3,7 @@ use Rattle.std.proofs.lemmas.List.{get_or_read}
 use Rattle.dirtree.specs.declared.node.Node.{Node}
 use Rattle.dirtree.specs.Keeps.{chain_of, head_at}
 use Rattle.dirtree.proofs.Made.{sound_made}
-use Rattle.dirtree.proofs.tree.Tree.make.Goals as goal
+use Rattle.dirtree.proofs.tree.Tree.add.Goals as goal
 
 pub invariant_of-self : goal.invariant_of-self
 invariant_of-self c = rw c.in_err-reserve.ensures.items c.self.invariant
@@ -16,5 +16,5 @@ invariant_of-self-2 c =
     let chain : c.chain-chain.result ≡ chain_of c.self.inside.hasher c.args.parent c.args.name.now = rw c.number.ensures at c.chain-chain.ensures.value in
     sound_made c.self.inside.limit c.self.inside.hasher c.self.inside.nodes.items c.reserve.new.self.items c.count_child.new.nodes.items c.push_reserved.new.self.items c.self.inside.heads.items n
     c.args.self.now c.args.parent c.number-3.result c.chain-chain.result c.len-number.result c.args.name.now
-    c.self.invariant c.self.view_is c.in_ok-can_make.ensures.allowed c.number-2.ensures c.in_ok-from_str.ensures.ok refl leads chain c.chain-chain.ensures.below
+    c.self.invariant c.self.view_is c.requires c.number-2.ensures c.in_ok-from_str.ensures.ok refl leads chain c.chain-chain.ensures.below
     count c.in_ok-reserve.ensures.items c.number-3.ensures c.count_child.ensures.entries c.count_child.ensures.children c.count_child.ensures.nexts c.push_reserved.ensures.items
