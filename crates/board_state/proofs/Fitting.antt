@@ -1,5 +1,5 @@
 -- The parts fit together after each change.
-use Rattle.std.proofs.Common.{◌≡◌, ℕ, zero, suc, ◌+◌, ◌≤◌, Bool, List, [], ◌∷◌, ◌++◌, length, map, replicate, Option, Some, None, refl, ap, ◌∙◌, arith, slice_set, slice_index_or}
+use Rattle.std.proofs.Common.{◌≡◌, ℕ, zero, suc, ◌+◌, ◌≤◌, ◌<◌, Bool, true, List, [], ◌∷◌, ◌++◌, length, map, replicate, Option, Some, None, refl, ap, ◌∙◌, arith, slice_set, slice_index_or}
 use Rattle.std.specs.Option.{option_map}
 use Rattle.std.proofs.lemmas.List.{length-map}
 use Rattle.dirtree.specs.Tree.{Entry, is_there}
@@ -29,6 +29,15 @@ pub as_many : (entries : List (Option Entry)) (parents : List (Option ℕ)) → 
 as_many entries parents is = ap (λ ps. length ps) is ∙ length-map entries (option_map (λ (e : Entry). e.parent))
 
 -- what is there in the cluster is there in the tree
+-- a directory of the cluster has a number that was given
+pub near : (w : World) (d : ℕ) → is_present w d ≡ true → d < length w.parents
+near w d h = on w.parents d h
+  where
+    on : (ps : List (Option ℕ)) (d : ℕ) → Rattle.std.specs.Prelude.is_some (slice_index_or ps d None) ≡ true → d < length ps
+    on [] d h = absurd (cc)
+    on (p ∷ ps) zero h = omega arith
+    on (p ∷ ps) (suc d) h = let k = on ps d h in omega (arith, k)
+
 pub there : (w : World) (entries : List (Option Entry)) (d : ℕ) → w.parents ≡ parents_of entries → is_present w d ≡ is_there entries d
 there w entries d is = ap (λ (ps : List (Option ℕ)). is_some_at ps d) is ∙ on entries d
   where

@@ -75,17 +75,16 @@ impl<J: Naming, M: Publisher<J>> BoardState<J, M> {
         ensures share { OnOk result (share.new ≡ record share.old { begun = raised share.old.begun dir }) }
         ensures unchanged { OnErr result (share.new ≡ share.old) }
     {
-        if let Some(error) = self.begin_refusal(rank, dir) {
-            return Err(error);
+        recorded();
+        if self.is_full() {
+            return Err(BoardError::HistoryFull);
         }
         let begin = Event::Begin(rank, dir);
-        let Ok(()) = self.cluster.reserve(&begin) else {
-            return Err(BoardError::Memory);
-        };
-        // the tree says that the directory's number is below the limit
-        let _is_there = self.tree.contains(dir);
+        match self.cluster.prepare(&begin) {
+            Ok(()) => {}
+            Err(error) => return Err(BoardError::from(error)),
+        }
         self.cluster.reached();
-        recorded();
         let reply = self.cluster.happen(begin);
         self.book.begin(share, dir);
         self.events += 1;

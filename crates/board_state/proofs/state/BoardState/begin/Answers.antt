@@ -1,44 +1,58 @@
-use Rattle.std.proofs.Common.{◌≡◌, ◌∙◌, ◌++◌, None, ℕ, ◌<◌, refl, sym, ap, subst, arith, append-nil}
+use Rattle.std.proofs.Common.{◌≡◌, ◌∙◌, ◌++◌, None, ℕ, ◌<◌, ◌≤◌, length, inl, refl, sym, ap, subst, arith, append-nil}
 use Rattle.authority_map.specs.Operations.{rank_after}
 use Rattle.export_machine.specs.Authority.{named_of}
 use Rattle.export_machine.specs.Cluster.{World}
 use Rattle.export_machine.specs.declared.event.Event.TheVariants.{Begin}
 use Rattle.export_machine.specs.View.{IsReached}
+use Rattle.export_machine.specs.Room.{IsRefusal}
 use Rattle.export_machine.specs.Step as machine
-use Rattle.board_state.specs.Steps.{Present}
-use Rattle.board_state.proofs.Accepted.{has_place, may_step}
-use Rattle.board_state.proofs.Fitting.{few_raised, there}
+use Rattle.board_state.specs.declared.board_error.BoardError.{BoardError}
+use Rattle.board_state.specs.declared.change.Change.TheVariants.{Step}
+use Rattle.board_state.specs.Steps.{IsDue, Present}
+use Rattle.board_state.proofs.Accepted.{few_due, full_due, is_place, step_due}
+use Rattle.board_state.proofs.Fitting.{few_raised, near}
 use Rattle.board_state.proofs.Mapping.{begin_present, begins_there, limit_stays, map_follows, parents_follow, ranks_stay, step_reply}
 use Rattle.board_state.proofs.state.BoardState.begin.Goals as goal
 
-pub happen-reply-requires-clause-accepted : goal.happen-reply-requires-clause-accepted
-happen-reply-requires-clause-accepted g c =
-    let may = may_step _ _ (sym c.in_default.ensures) in
-    let here = subst (λ (p : Present). machine.refusal p.state.cluster (Begin c.args.rank c.args.dir) ≡ None) (sym c.self.view_is) may in
-    subst (λ (w : World). machine.refusal w (Begin c.args.rank c.args.dir) ≡ None) (sym c.reserve.ensures.world) here
+pub returns-then-is_full : goal.returns-then-is_full
+returns-then-is_full g c = record {
+  step = (inl (full_due _ _ (sym c.is_full.ensures ∙ c.if-is_full.true)), refl);
+  share = tt;
+  unchanged = refl;
+}
 
-pub happen-reply-requires-clause-room : goal.happen-reply-requires-clause-room
-happen-reply-requires-clause-room g c = c.in-Ok.ensures.room (happen-reply-requires-clause-accepted g c)
+pub returns-in-Err : goal.returns-in-Err
+returns-in-Err g c =
+    let refused = subst (λ (p : Present). IsRefusal p.state.cluster (Begin c.args.rank c.args.dir) c.in-Err.error) c.self.view_is c.in-Err.ensures.err in
+    record {
+      step = (
+        subst (λ (e : BoardError). IsDue c.args.self.now.state (Step (Begin c.args.rank c.args.dir)) e) (sym c.from.ensures)
+            (step_due _ _ _ (sym c.is_full.ensures ∙ c.if-is_full.false) (c.recorded.ensures.never_memory _ _) refused),
+        rw c.prepare.ensures.world c.self.view_is,
+      );
+      share = tt;
+      unchanged = refl;
+    }
 
 pub begin-requires-clause-inside : goal.begin-requires-clause-inside
 begin-requires-clause-inside g c =
     let i = c.self.invariant.0 in
     let w = c.self.inside.cluster.world in
-    let may = may_step _ _ (sym c.in_default.ensures) in
-    let here = subst (λ (p : Present). machine.refusal p.state.cluster (Begin c.args.rank c.args.dir) ≡ None) (sym c.self.view_is) may in
-    let is = sym (there w c.self.inside.tree.entries c.args.dir i.parents) ∙ begins_there w c.args.rank c.args.dir here in
-    subst (λ (l : ℕ). c.args.dir < l) c.self.invariant.1 (c.contains-is_there.ensures.below (c.contains-is_there.ensures.there ∙ is))
+    let k = near w c.args.dir (begins_there w c.args.rank c.args.dir c.in-Ok.ensures.accepted) in
+    let few : length w.parents ≤ w.limit = subst (λ (v : World). length v.parents ≤ v.limit) c.prepare.ensures.world c.reached.ensures.numbers in
+    let below : c.args.dir < w.limit = omega (arith, k, few) in
+    subst (λ (l : ℕ). c.args.dir < l) (i.cluster_limit ∙ c.self.invariant.1) below
 
 pub begin-requires-clause-room : goal.begin-requires-clause-room
 begin-requires-clause-room g c =
     let few = c.self.invariant.0.few_begun c.args.dir in
-    let place = has_place _ _ (sym c.in_default.ensures) in
+    let place = is_place c.args.self.now.state (sym c.is_full.ensures ∙ c.if-is_full.false) in
     let same = ap (λ (p : Present). p.state.events) c.self.view_is in
     omega (arith, few, place, same)
 
 pub overflow_add-self : goal.overflow_add-self
 overflow_add-self g c =
-    let place = has_place _ _ (sym c.in_default.ensures) in
+    let place = is_place c.args.self.now.state (sym c.is_full.ensures ∙ c.if-is_full.false) in
     let same = ap (λ (p : Present). p.state.events) c.self.view_is in
     omega (arith, place, same)
 
@@ -49,10 +63,9 @@ invariant_of-self-2 g c =
     let w = b.cluster.world in
     let e = Begin c.args.rank c.args.dir in
     let ops = g.M.Publisher.published b.map ++ g.M.Publisher.pending b.map in
-    let may = may_step _ _ (sym c.in_default.ensures) in
-    let ok = subst (λ (p : Present). machine.refusal p.state.cluster e ≡ None) (sym c.self.view_is) may in
-    let is = c.happen-reply.ensures.world ∙ ap (λ v. machine.counted (machine.happens v e).world) c.reserve.ensures.world in
-    let written = c.recorded.ensures.recorded w e (subst (λ v. IsReached v) c.reserve.ensures.world c.reached.ensures.reached) in (
+    let ok = c.in-Ok.ensures.accepted in
+    let is = c.happen-reply.ensures.world ∙ ap (λ v. machine.counted (machine.happens v e).world) c.prepare.ensures.world in
+    let written = c.recorded.ensures.recorded w e (subst (λ v. IsReached v) c.prepare.ensures.world c.reached.ensures.reached) in (
       record {
         few_ticks = omega (arith, i.few_ticks);
         pins_limit = i.pins_limit;
@@ -67,10 +80,11 @@ invariant_of-self-2 g c =
     )
 
 pub returns-clause-step : goal.returns-clause-step
-returns-clause-step g c = (
-  sym c.in_default.ensures,
-  tt,
-  rw (c.happen-reply.ensures.reply, c.reserve.ensures.world, ← c.self.view_is) (sym (step_reply _ _)),
-  begin_present c.args.self.now _ c.args.rank c.args.dir
-      (rw (c.happen-reply.ensures.world, c.reserve.ensures.world, c.begin.ensures.book, ← c.self.view_is) refl),
-)
+returns-clause-step g c =
+    let ok = subst (λ (p : Present). machine.refusal p.state.cluster (Begin c.args.rank c.args.dir) ≡ None) c.self.view_is c.in-Ok.ensures.accepted in (
+      few_due _ _ (sym c.is_full.ensures ∙ c.if-is_full.false) ok,
+      tt,
+      rw (c.happen-reply.ensures.reply, c.prepare.ensures.world, ← c.self.view_is) (sym (step_reply _ _)),
+      begin_present c.args.self.now _ c.args.rank c.args.dir
+          (rw (c.happen-reply.ensures.world, c.prepare.ensures.world, c.begin.ensures.book, ← c.self.view_is) refl),
+    )
