@@ -236,27 +236,47 @@ fn time_stop(rt: &HostRuntime) -> io::Result<()> {
     println!(rt; "stop events {RUNNING} accepted {accepted} nanos {least}")
 }
 
-fn print_event(out: &mut impl Write, event: &Event) -> io::Result<()> {
+/// The word of an event, and its numbers but for a list of directories.
+fn words_of(event: &Event) -> (&'static str, u32, Option<u32>) {
     match event {
-        Event::Made(parent) => writeln!(out, "made {}", parent.number()),
-        Event::Gone(dir) => writeln!(out, "gone {}", dir.number()),
-        Event::Begin(rank, dir) => writeln!(out, "begin {} {}", rank.number(), dir.number()),
-        Event::End(ticket) => writeln!(out, "end {ticket}"),
-        Event::Start(from, to, dirs) => {
-            write!(out, "start {} {}", from.number(), to.number())?;
-            for dir in dirs.as_slice() {
-                write!(out, " {}", dir.number())?;
-            }
-            writeln!(out)
+        Event::Made(parent) => ("made", parent.number(), None),
+        Event::Gone(dir) => ("gone", dir.number(), None),
+        Event::Begin(rank, dir) => ("begin", u32::from(rank.number()), Some(dir.number())),
+        Event::End(ticket) => ("end", *ticket, None),
+        Event::Start(from, to, _) => {
+            (
+                "start",
+                u32::from(from.number()),
+                Some(u32::from(to.number())),
+            )
         }
-        Event::Deliver(message) => writeln!(out, "deliver {message}"),
-        Event::Froze(export) => writeln!(out, "froze {export}"),
-        Event::Notify(export) => writeln!(out, "notify {export}"),
-        Event::Abort(export) => writeln!(out, "abort {export}"),
-        Event::Stop(rank) => writeln!(out, "stop {}", rank.number()),
-        Event::Restart(rank) => writeln!(out, "restart {}", rank.number()),
-        Event::Ask(export) => writeln!(out, "ask {export}"),
+        Event::Deliver(message) => ("deliver", *message, None),
+        Event::Froze(export) => ("froze", *export, None),
+        Event::Notify(export) => ("notify", *export, None),
+        Event::Abort(export) => ("abort", *export, None),
+        Event::Stop(rank) => ("stop", u32::from(rank.number()), None),
+        Event::Restart(rank) => ("restart", u32::from(rank.number()), None),
+        Event::Ask(export) => ("ask", *export, None),
     }
+}
+
+fn print_number(out: &mut impl Write, number: u32) -> io::Result<()> {
+    write!(out, " {number}")
+}
+
+fn print_event(out: &mut impl Write, event: &Event) -> io::Result<()> {
+    let (word, first, second) = words_of(event);
+    out.write_all(word.as_bytes())?;
+    print_number(out, first)?;
+    if let Some(second) = second {
+        print_number(out, second)?;
+    }
+    if let Event::Start(_, _, dirs) = event {
+        for dir in dirs.as_slice() {
+            print_number(out, dir.number())?;
+        }
+    }
+    out.write_all(b"\n")
 }
 
 fn print_list(rt: &HostRuntime, kind: Kind) -> io::Result<()> {

@@ -4,6 +4,7 @@
 //! growth refused.
 ghost use Rattle.std.specs.Prelude.{◌≤◌, ◌^◌};
 
+use crate::same::{same, same_in};
 use exhaustive::Random;
 use heat_decay::{Heat, TICK_LIMIT, TicksFull};
 use mds_types::Dir;
@@ -98,10 +99,11 @@ fn deposits_and_ticks(rt: HostRuntime) -> Result<(), Fail> {
         ),
     ];
     for ((first, second), heats) in table {
-        assert_eq!(rt;
-            heats_after(rt.alloc(), first, second)?,
-            heats,
-            "{first} and {second}"
+        same_in(
+            &rt,
+            &heats_after(rt.alloc(), first, second)?,
+            &heats,
+            &(first, second),
         );
     }
     Ok(())
@@ -112,12 +114,12 @@ fn is_cold_after_41_ticks(rt: HostRuntime) -> Result<(), Fail> {
     let mut heat = cold(rt.alloc())?;
     add(&mut heat, 1, HEAT_LIMIT);
     tick(&mut heat, 40)?;
-    assert_eq!(rt; heat_of(&heat, 1), 1);
+    same(&rt, &heat_of(&heat, 1), &1);
     tick(&mut heat, 1)?;
-    assert_eq!(rt; heat_of(&heat, 1), 0);
+    same(&rt, &heat_of(&heat, 1), &0);
     tick(&mut heat, 100)?;
-    assert_eq!(rt; heat_of(&heat, 1), 0);
-    assert_eq!(rt; kept(&heat, 1), (HEAT_LIMIT, 0));
+    same(&rt, &heat_of(&heat, 1), &0);
+    same(&rt, &kept(&heat, 1), &(HEAT_LIMIT, 0));
     Ok(())
 }
 
@@ -127,26 +129,26 @@ fn keeps_the_last_touch(rt: HostRuntime) -> Result<(), Fail> {
     add(&mut heat, 1, 5);
     tick(&mut heat, 1)?;
     add(&mut heat, 1, 3);
-    assert_eq!(rt; heat_of(&heat, 1), 5);
+    same(&rt, &heat_of(&heat, 1), &5);
     tick(&mut heat, 1)?;
-    assert_eq!(rt; heat_of(&heat, 1), 2);
-    assert_eq!(rt; kept(&heat, 1), (5, 1));
-    assert_eq!(rt; kept(&heat, 2), (0, 0));
+    same(&rt, &heat_of(&heat, 1), &2);
+    same(&rt, &kept(&heat, 1), &(5, 1));
+    same(&rt, &kept(&heat, 2), &(0, 0));
     clear(&mut heat, 1);
-    assert_eq!(rt; kept(&heat, 1), (0, 2));
-    assert_eq!(rt; heat_of(&heat, 1), 0);
+    same(&rt, &kept(&heat, 1), &(0, 2));
+    same(&rt, &heat_of(&heat, 1), &0);
     Ok(())
 }
 
 #[test]
 fn goes_on_after_many_ticks(rt: HostRuntime) -> Result<(), Fail> {
     let mut heat = resumed(rt.alloc(), TICK_LIMIT - 1)?;
-    assert_eq!(rt; kept(&heat, 3), (0, TICK_LIMIT - 1));
+    same(&rt, &kept(&heat, 3), &((0, TICK_LIMIT - 1)));
     add(&mut heat, 3, 9);
     assert!(rt; heat.tick().is_ok());
     assert!(rt; heat.tick().is_err());
-    assert_eq!(rt; heat_of(&heat, 3), 4);
-    assert_eq!(rt; kept(&heat, 3), (9, TICK_LIMIT - 1));
+    same(&rt, &heat_of(&heat, 3), &4);
+    same(&rt, &kept(&heat, 3), &((9, TICK_LIMIT - 1)));
     Ok(())
 }
 
@@ -154,18 +156,18 @@ fn goes_on_after_many_ticks(rt: HostRuntime) -> Result<(), Fail> {
 fn a_refused_growth_is_asked_for_again(rt: HostRuntime) -> Result<(), Fail> {
     let mut heat = cold(rt.alloc())?;
     add(&mut heat, 1, 5);
-    assert_eq!(rt; kept(&heat, 1), (5, 0));
+    same(&rt, &kept(&heat, 1), &(5, 0));
     let mut later = resumed(rt.alloc(), 7)?;
     add(&mut later, 1, 5);
-    assert_eq!(rt; kept(&later, 1), (5, 7));
-    assert_eq!(rt; kept(&later, 3), (0, 7));
+    same(&rt, &kept(&later, 1), &(5, 7));
+    same(&rt, &kept(&later, 3), &(0, 7));
     Ok(())
 }
 
 #[test]
 fn prints_its_refusal(rt: HostRuntime) -> Result<(), Fail> {
     let text = format!(in rt.alloc(); "{TicksFull}")?;
-    assert_eq!(rt; text.as_str(), "15 TicksFull");
+    same(&rt, &text.as_str(), &"15 TicksFull");
     Ok(())
 }
 
@@ -221,7 +223,7 @@ fn halves_like_a_plain_list(rt: HostRuntime) -> Result<(), Fail> {
     let mut plain = [0; 4];
     for round in 0..2000 {
         step(&mut random, &mut heat, &mut plain)?;
-        assert_eq!(rt; heats(&heat), plain, "round {round}");
+        same_in(&rt, &heats(&heat), &plain, &round);
     }
     Ok(())
 }

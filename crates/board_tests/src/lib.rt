@@ -18,4 +18,6 @@ mod random_boards;
 #[cfg(test)]
 mod refused_boards;
 #[cfg(test)]
+mod same;
+#[cfg(test)]
 mod trees;

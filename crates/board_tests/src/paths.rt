@@ -1,5 +1,6 @@
 //! Where paths lead: walks up from a directory, and guesses that were told, true or not.
 
+use crate::same::{same, same_in};
 use dirtree::{PathGuesses, Tree, TreeError};
 use mds_types::Dir;
 use std::alloc::Global;
@@ -48,10 +49,11 @@ fn leads_to_the_directory_of_the_whole_path(rt: HostRuntime) -> Result<(), Fail>
         ("/a/b/a", 6, false),
     ];
     for (path, number, leads) in table {
-        assert_eq!(rt;
-            tree.leads_to(path, Dir::new(number)),
-            leads,
-            "{path} {number}"
+        same_in(
+            &rt,
+            &tree.leads_to(path, Dir::new(number)),
+            &leads,
+            &(path, number),
         );
     }
     Ok(())
@@ -62,7 +64,11 @@ fn leads_to_no_removed_directory(rt: HostRuntime) -> Result<(), Fail> {
     let mut tree = small_tree(rt.alloc())?;
     tree.remove(Dir::new(3))?;
     assert!(rt; !tree.leads_to("/a/b/c", Dir::new(3)));
-    assert_eq!(rt; tree.make(rt.alloc(), Dir::new(2), "c", 1), Ok(Dir::new(6)));
+    same(
+        &rt,
+        &tree.make(rt.alloc(), Dir::new(2), "c", 1),
+        &Ok(Dir::new(6)),
+    );
     assert!(rt; !tree.leads_to("/a/b/c", Dir::new(3)));
     assert!(rt; tree.leads_to("/a/b/c", Dir::new(6)));
     Ok(())
@@ -70,7 +76,7 @@ fn leads_to_no_removed_directory(rt: HostRuntime) -> Result<(), Fail> {
 
 fn finds_as_the_tree(rt: &impl Abort, tree: &Tree, guesses: &PathGuesses) {
     for path in PATHS {
-        assert_eq!(rt; guesses.find(tree, path), tree.find(path), "{path}");
+        same_in(rt, &guesses.find(tree, path), &tree.find(path), &path);
     }
 }
 
@@ -87,10 +93,10 @@ fn guesses_answer_as_the_tree_does(rt: HostRuntime) -> Result<(), Fail> {
         finds_as_the_tree(&rt, &tree, &guesses);
     }
     tree.remove(Dir::new(3))?;
-    assert_eq!(rt; guesses.find(&tree, "/a/b/c"), Err(TreeError::NoDir));
+    same(&rt, &guesses.find(&tree, "/a/b/c"), &Err(TreeError::NoDir));
     finds_as_the_tree(&rt, &tree, &guesses);
     tree.make(rt.alloc(), Dir::new(2), "c", 1)?;
-    assert_eq!(rt; guesses.find(&tree, "/a/b/c"), Ok(Dir::new(6)));
+    same(&rt, &guesses.find(&tree, "/a/b/c"), &Ok(Dir::new(6)));
     guesses.tell("/a/b/c", Dir::new(6));
     finds_as_the_tree(&rt, &tree, &guesses);
     Ok(())

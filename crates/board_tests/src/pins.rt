@@ -1,6 +1,7 @@
 //! Pins: which pin holds a directory, which directories none holds, and what is refused.
 ghost use Rattle.std.specs.Prelude.{◌≡◌, ◌≤◌, IfOk, length};
 
+use crate::same::{holds_in, same, same_in};
 use dir_pins::{PinError, Pins};
 use dirtree::Tree;
 use mds_types::{Dir, Rank};
@@ -123,7 +124,7 @@ fn the_nearest_pin_holds(rt: HostRuntime) -> Result<(), Fail> {
     ];
     for (own, ranks, free) in table {
         let is_as_said = holds_so(rt.alloc(), own, ranks, free)?;
-        assert!(rt; is_as_said, "{own:?}");
+        holds_in(&rt, is_as_said, &own);
     }
     Ok(())
 }
@@ -183,7 +184,7 @@ fn refuses_what_is_not_there(rt: HostRuntime) -> Result<(), Fail> {
     ];
     for (dir, pin, refusal) in table {
         let told = refusal_of(rt.alloc(), dir, pin)?;
-        assert_eq!(rt; told, Some(refusal), "{dir} on {pin}");
+        same_in(&rt, &told, &Some(refusal), &(dir, pin));
     }
     Ok(())
 }
@@ -192,9 +193,9 @@ fn refuses_what_is_not_there(rt: HostRuntime) -> Result<(), Fail> {
 fn what_can_be_set_is_told(rt: HostRuntime) -> Result<(), Fail> {
     let tree = small_tree(rt.alloc())?;
     let pins = no_pins(rt.alloc(), 2)?;
-    assert_eq!(rt; pins.limit(), 8);
-    assert_eq!(rt; pins.active(), 2);
-    assert_eq!(rt; pins.can_set(&tree, Dir::new(4), 1), Ok(()));
-    assert_eq!(rt; pins.can_set(&tree, Dir::new(4), -1), Ok(()));
+    same(&rt, &pins.limit(), &8);
+    same(&rt, &pins.active(), &2);
+    same(&rt, &pins.can_set(&tree, Dir::new(4), 1), &Ok(()));
+    same(&rt, &pins.can_set(&tree, Dir::new(4), -1), &Ok(()));
     Ok(())
 }

@@ -2,6 +2,7 @@
 ghost use Rattle.std.specs.Prelude.{◌≡◌, length, IfOk};
 
 use crate::boards::{Board, child, empty, pin, remove, two_directories};
+use crate::same::same;
 use arrayvec::ArrayVec;
 use board_problem::{OpenError, Opened, open, parts};
 use mds_types::{CutProof, Dir, DualProof, Plan, Problem, ProblemRow, Rank, RankSet};
@@ -69,7 +70,7 @@ fn opens_two_directories(rt: HostRuntime) -> Result<(), Fail> {
     let opened = open_at(rt.alloc(), &board, 2, 3)?;
     let rows = [(0, 0, 1, 0), (0, 4, 10, 0), (0, 6, 20, 1)];
     assert!(rt; is_opened(&opened, &rows, &[0, 1, 2]));
-    assert_eq!(rt; opened.problem.ranks(), RankSet::from_bits(3));
+    same(&rt, &opened.problem.ranks(), &RankSet::from_bits(3));
     Ok(())
 }
 
@@ -79,7 +80,7 @@ fn opens_what_no_pin_holds(rt: HostRuntime) -> Result<(), Fail> {
     pin(&mut board, Dir::new(1), 1)?;
     let opened = open_at(rt.alloc(), &board, 2, 2)?;
     assert!(rt; is_opened(&opened, &[(0, 0, 1, 0), (0, 6, 20, 1)], &[0, 2]));
-    assert_eq!(rt; opened.problem.ranks(), RankSet::from_bits(2));
+    same(&rt, &opened.problem.ranks(), &RankSet::from_bits(2));
     Ok(())
 }
 
@@ -212,7 +213,7 @@ fn names_the_parts(rt: HostRuntime) -> Result<(), Fail> {
         let problem = problem(rt.alloc(), given)?;
         let plan = plan(rt.alloc(), part, rank)?;
         let found = shown_parts(rt.alloc(), &problem, &plan)?;
-        assert_eq!(rt; found.as_slice(), wanted);
+        same(&rt, &found.as_slice(), &wanted);
     }
     Ok(())
 }
@@ -220,6 +221,6 @@ fn names_the_parts(rt: HostRuntime) -> Result<(), Fail> {
 #[test]
 fn prints_its_refusals(rt: HostRuntime) -> Result<(), Fail> {
     let text = format!(in rt.alloc(); "{} {}", OpenError::Memory, OpenError::BalancerOff)?;
-    assert_eq!(rt; text.as_str(), "0 Memory 29 BalancerOff");
+    same(&rt, &text.as_str(), &"0 Memory 29 BalancerOff");
     Ok(())
 }

@@ -2,6 +2,7 @@
 
 ghost use Rattle.std.specs.Prelude.{◌≡◌, ◌≤◌, IfOk, length};
 
+use crate::same::{same, same_in};
 use arrayvec::ArrayVec;
 use board_problem::{PlanPart, open, parts};
 use dir_pins::Pins;
@@ -176,8 +177,8 @@ fn a_slow_program_reads_the_same(rt: HostRuntime) -> Result<(), Fail> {
         let opened = open(alloc, &tree, &pins, &heat, &now, RankSet::from_bits(15))?;
         let dirs = slow_dirs(alloc, &tree, &pins)?;
         let rows = slow_rows(alloc, &tree, &heat, &now, &dirs)?;
-        assert_eq!(rt; opened.dirs, dirs, "round {round}");
-        assert_eq!(rt; opened.problem.rows(), rows.as_slice(), "round {round}");
+        same_in(&rt, &opened.dirs, &dirs, &round);
+        same_in(&rt, &opened.problem.rows(), &rows.as_slice(), &round);
 
         let plan = random_plan(alloc, &mut random, &rows)?;
         assert!(rt; plan.rank.len() == 4);
@@ -185,13 +186,14 @@ fn a_slow_program_reads_the_same(rt: HostRuntime) -> Result<(), Fail> {
         assert!(rt; opened.dirs.len() == plan.part.len());
         assert!(rt; plan.part.iter().all(|&label| label < 4));
         let found = parts(alloc, &opened.problem, &opened.dirs, &plan)?;
-        assert_eq!(rt;
-            found,
-            slow_parts(alloc, &rows, &dirs, &plan)?,
-            "round {round}"
+        same_in(
+            &rt,
+            &found,
+            &slow_parts(alloc, &rows, &dirs, &plan)?,
+            &round,
         );
         most = found.len().max(most);
     }
-    assert_eq!(rt; most, 4);
+    same(&rt, &most, &4);
     Ok(())
 }

@@ -4,6 +4,7 @@
 
 ghost use Rattle.std.specs.Prelude.{◌≡◌, ◌≤◌, IfOk, length};
 
+use crate::same::same;
 use arrayvec::ArrayVec;
 use board_problem::{OpenError, Opened, PlanPart, open, parts};
 use dir_pins::Pins;
@@ -81,14 +82,14 @@ fn opened_at_last(rt: &impl Abort, alloc: Global, board: &Board) -> Result<Opene
     requires pins { length board.now.pins.own ≡ 16 }
     requires heat { board.now.heat.limit ≡ 16 }
 {
-    assert_eq!(rt; board.tree.numbers(), 9);
+    same(rt, &board.tree.numbers(), &9);
     let now = [Rank::default(); 16];
     let ranks = RankSet::from_bits(31);
     let (tree, pins, heat) = (&board.tree, &board.pins, &board.heat);
     match open(alloc, tree, pins, heat, &now, ranks) {
         Ok(opened) => Ok(opened),
         Err(refusal) => {
-            assert_eq!(rt; refusal, OpenError::Memory);
+            same(rt, &refusal, &OpenError::Memory);
             assert!(rt; is_same(board, &new_board(alloc)?));
             Ok(open(alloc, tree, pins, heat, &now, ranks)?)
         }
@@ -190,8 +191,8 @@ fn a_refused_growth_changes_nothing(rt: HostRuntime) -> Result<(), Fail> {
         Err(_) => {
             assert!(rt; is_the_board(&opened));
             let fresh = new_plan(alloc)?;
-            assert_eq!(rt; plan.part, fresh.part);
-            assert_eq!(rt; plan.rank.as_slice(), fresh.rank.as_slice());
+            same(&rt, &plan.part, &fresh.part);
+            same(&rt, &plan.rank.as_slice(), &fresh.rank.as_slice());
             parts(alloc, &opened.problem, &opened.dirs, &plan)?
         }
     };
@@ -230,11 +231,12 @@ fn a_refused_growth_divides_nothing(rt: HostRuntime) -> Result<(), Fail> {
     let found = divided_at_last(&rt, alloc, &board, &is_top)?;
     // (top, heat, inodes)
     let table = [(0, 3, 11), (2, 9, 70), (4, 14, 120)];
-    assert_eq!(rt; found.len(), table.len());
+    same(&rt, &found.len(), &table.len());
     for (part, (top, heat, inodes)) in found.iter().zip(&table) {
-        assert_eq!(rt;
-            (part.top, part.heat, part.inodes),
-            (Dir::new(*top), *heat, *inodes)
+        same(
+            &rt,
+            &(part.top, part.heat, part.inodes),
+            &(Dir::new(*top), *heat, *inodes),
         );
     }
     Ok(())

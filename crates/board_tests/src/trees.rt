@@ -1,6 +1,7 @@
 //! Trees: paths, names, the order of refusals, numbers that are never given again, and refused growths.
 ghost use Rattle.std.specs.Prelude.{◌≤◌};
 
+use crate::same::{holds_in, same, same_in};
 use dirtree::{Tree, TreeError, TreeRow};
 use mds_types::Dir;
 use std::alloc::Global;
@@ -29,8 +30,8 @@ fn has_path(tree: &Tree, alloc: Global, number: u32, path: &str) -> Result<bool,
 #[test]
 fn finds_each_directory_by_its_path(rt: HostRuntime) -> Result<(), Fail> {
     let tree = tree_with(rt.alloc(), 16, &NAMES)?;
-    assert_eq!(rt; tree.numbers(), 6);
-    assert_eq!(rt; tree.limit(), 16);
+    same(&rt, &tree.numbers(), &6);
+    same(&rt, &tree.limit(), &16);
     // (number, path)
     let table = [
         (0, "/"),
@@ -41,9 +42,9 @@ fn finds_each_directory_by_its_path(rt: HostRuntime) -> Result<(), Fail> {
         (5, "/e"),
     ];
     for (number, path) in table {
-        assert_eq!(rt; tree.find(path), Ok(Dir::new(number)), "{path}");
-        assert!(rt; has_path(&tree, rt.alloc(), number, path)?, "{path}");
-        assert!(rt; tree.contains(Dir::new(number)), "{path}");
+        same_in(&rt, &tree.find(path), &Ok(Dir::new(number)), &path);
+        holds_in(&rt, has_path(&tree, rt.alloc(), number, path)?, &path);
+        holds_in(&rt, tree.contains(Dir::new(number)), &path);
     }
     assert!(rt; !tree.contains(Dir::new(6)));
     Ok(())
@@ -69,11 +70,12 @@ fn the_first_component_that_fails_decides(rt: HostRuntime) -> Result<(), Fail> {
         ("/../zz", TreeError::BadName),
     ];
     for (path, refusal) in table {
-        assert_eq!(rt; tree.find(path), Err(refusal), "{path}");
+        same_in(&rt, &tree.find(path), &Err(refusal), &path);
     }
-    assert_eq!(rt;
-        tree.path(rt.alloc(), Dir::new(6)).err(),
-        Some(TreeError::NoDir)
+    same(
+        &rt,
+        &tree.path(rt.alloc(), Dir::new(6)).err(),
+        &Some(TreeError::NoDir),
     );
     Ok(())
 }
@@ -91,8 +93,8 @@ fn refusals_print_their_number_and_name(rt: HostRuntime) -> Result<(), Fail> {
         (TreeError::TreeFull, "11 TreeFull"),
     ];
     for (refusal, text) in table {
-        assert_eq!(rt; refusal.text(), text);
-        assert_eq!(rt; format!(in rt.alloc(); "{refusal}")?.as_str(), text);
+        same(&rt, &refusal.text(), &text);
+        same(&rt, &format!(in rt.alloc(); "{refusal}")?.as_str(), &text);
     }
     Ok(())
 }
@@ -115,10 +117,15 @@ fn making_refuses_in_order(rt: HostRuntime) -> Result<(), Fail> {
     ];
     for (parent, name, answer) in table {
         let parent = Dir::new(parent);
-        assert_eq!(rt; tree.can_make(parent, name).err(), answer.err(), "{name}");
-        assert_eq!(rt; tree.make(rt.alloc(), parent, name, 1), answer, "{name}");
+        same_in(
+            &rt,
+            &tree.can_make(parent, name).err(),
+            &answer.err(),
+            &name,
+        );
+        same_in(&rt, &tree.make(rt.alloc(), parent, name, 1), &answer, &name);
     }
-    assert_eq!(rt; tree.numbers(), 3);
+    same(&rt, &tree.numbers(), &3);
     Ok(())
 }
 
@@ -141,10 +148,10 @@ fn removing_refuses_in_order(rt: HostRuntime) -> Result<(), Fail> {
         (0, Err(TreeError::IsRoot)),
     ];
     for (number, answer) in table {
-        assert_eq!(rt; tree.can_remove(Dir::new(number)), answer, "{number}");
-        assert_eq!(rt; tree.remove(Dir::new(number)), answer, "{number}");
+        same_in(&rt, &tree.can_remove(Dir::new(number)), &answer, &number);
+        same_in(&rt, &tree.remove(Dir::new(number)), &answer, &number);
     }
-    assert_eq!(rt; tree.numbers(), 6);
+    same(&rt, &tree.numbers(), &6);
     Ok(())
 }
 
@@ -152,20 +159,22 @@ fn removing_refuses_in_order(rt: HostRuntime) -> Result<(), Fail> {
 fn numbers_are_never_given_again(rt: HostRuntime) -> Result<(), Fail> {
     let mut tree = tree_with(rt.alloc(), 4, &[(0, "a")])?;
     for number in [2, 3] {
-        assert_eq!(rt; tree.remove(Dir::new(number - 1)), Ok(()));
-        assert_eq!(rt; tree.find("/a"), Err(TreeError::NoDir));
-        assert_eq!(rt;
-            tree.make(rt.alloc(), Dir::ROOT, "a", 1),
-            Ok(Dir::new(number))
+        same(&rt, &(tree.remove(Dir::new(number - 1))), &Ok(()));
+        same(&rt, &tree.find("/a"), &Err(TreeError::NoDir));
+        same(
+            &rt,
+            &tree.make(rt.alloc(), Dir::ROOT, "a", 1),
+            &Ok(Dir::new(number)),
         );
-        assert_eq!(rt; tree.find("/a"), Ok(Dir::new(number)));
+        same(&rt, &tree.find("/a"), &Ok(Dir::new(number)));
     }
-    assert_eq!(rt; tree.remove(Dir::new(3)), Ok(()));
-    assert_eq!(rt;
-        tree.make(rt.alloc(), Dir::ROOT, "a", 1),
-        Err(TreeError::TreeFull)
+    same(&rt, &tree.remove(Dir::new(3)), &Ok(()));
+    same(
+        &rt,
+        &tree.make(rt.alloc(), Dir::ROOT, "a", 1),
+        &Err(TreeError::TreeFull),
     );
-    assert_eq!(rt; tree.numbers(), 4);
+    same(&rt, &tree.numbers(), &4);
     Ok(())
 }
 
@@ -180,17 +189,17 @@ fn rows_leave_out_what_was_removed(rt: HostRuntime) -> Result<(), Fail> {
     // (number, parent, inodes)
     let table = [(0, 0, 1), (1, 0, 5), (3, 0, 4294967295), (4, 3, 0)];
     let rows = tree.rows(rt.alloc())?;
-    assert_eq!(rt; rows.len(), table.len());
+    same(&rt, &rows.len(), &table.len());
     for (row, (number, parent, inodes)) in rows.iter().zip(table) {
         let wanted = TreeRow {
             dir: Dir::new(number),
             parent: Dir::new(parent),
             inodes,
         };
-        assert_eq!(rt; *row, wanted);
-        assert_eq!(rt; tree.row(row.dir), Some(wanted));
+        same(&rt, row, &wanted);
+        same(&rt, &tree.row(row.dir), &Some(wanted));
     }
-    assert_eq!(rt; tree.row(Dir::new(2)), None);
+    same(&rt, &tree.row(Dir::new(2)), &None);
     Ok(())
 }
 
@@ -221,7 +230,7 @@ fn names_end_at_the_limits(rt: HostRuntime) -> Result<(), Fail> {
         (longer.as_str(), false),
     ];
     for (text, named) in table {
-        assert_eq!(rt; dirtree::is_name(text), named, "{text}");
+        same_in(&rt, &dirtree::is_name(text), &named, &text);
     }
     Ok(())
 }
@@ -231,19 +240,21 @@ fn a_long_chain_is_found_by_its_path(rt: HostRuntime) -> Result<(), Fail> {
     let mut tree = Tree::new(rt.alloc(), 65536)?;
     let mut path = String::new(rt.alloc());
     for parent in 0..3000 {
-        assert_eq!(rt;
-            tree.make(rt.alloc(), Dir::new(parent), "a", 1),
-            Ok(Dir::new(parent + 1))
+        same(
+            &rt,
+            &tree.make(rt.alloc(), Dir::new(parent), "a", 1),
+            &(Ok(Dir::new(parent + 1))),
         );
         path.push_str("/a")?;
     }
-    assert_eq!(rt; tree.find(path.as_str()), Ok(Dir::new(3000)));
-    assert_eq!(rt;
-        tree.path(rt.alloc(), Dir::new(3000))?.as_str(),
-        path.as_str()
+    same(&rt, &tree.find(path.as_str()), &Ok(Dir::new(3000)));
+    same(
+        &rt,
+        &tree.path(rt.alloc(), Dir::new(3000))?.as_str(),
+        &path.as_str(),
     );
     path.push_str("/a")?;
-    assert_eq!(rt; tree.find(path.as_str()), Err(TreeError::NoDir));
+    same(&rt, &tree.find(path.as_str()), &Err(TreeError::NoDir));
     Ok(())
 }
 
@@ -252,20 +263,22 @@ fn a_wide_star_is_found_name_by_name(rt: HostRuntime) -> Result<(), Fail> {
     let mut tree = Tree::new(rt.alloc(), 65536)?;
     for number in 1..3001 {
         let name = format!(in rt.alloc(); "d{number}")?;
-        assert_eq!(rt;
-            tree.make(rt.alloc(), Dir::ROOT, name.as_str(), 1),
-            Ok(Dir::new(number))
+        same(
+            &rt,
+            &tree.make(rt.alloc(), Dir::ROOT, name.as_str(), 1),
+            &Ok(Dir::new(number)),
         );
     }
     for number in 1..3001 {
         let path = format!(in rt.alloc(); "/d{number}")?;
-        assert_eq!(rt; tree.find(path.as_str()), Ok(Dir::new(number)));
-        assert_eq!(rt;
-            tree.path(rt.alloc(), Dir::new(number))?.as_str(),
-            path.as_str()
+        same(&rt, &tree.find(path.as_str()), &Ok(Dir::new(number)));
+        same(
+            &rt,
+            &tree.path(rt.alloc(), Dir::new(number))?.as_str(),
+            &path.as_str(),
         );
     }
-    assert_eq!(rt; tree.find("/d3001"), Err(TreeError::NoDir));
+    same(&rt, &tree.find("/d3001"), &Err(TreeError::NoDir));
     Ok(())
 }
 
@@ -281,8 +294,8 @@ fn made_at_last(
     if first != Err(TreeError::Memory) {
         return first;
     }
-    assert_eq!(rt; tree.numbers(), before, "{name}");
-    assert_eq!(rt; tree.can_make(Dir::ROOT, name), Ok(()), "{name}");
+    same_in(rt, &tree.numbers(), &before, &name);
+    same_in(rt, &tree.can_make(Dir::ROOT, name), &Ok(()), &name);
     tree.make(alloc, Dir::ROOT, name, 1)
 }
 
@@ -293,23 +306,24 @@ fn a_refused_growth_changes_nothing(rt: HostRuntime) -> Result<(), Fail> {
         Err(_) => Tree::new(rt.alloc(), 8)?,
     };
     for (number, name) in [(1, "a"), (2, "b"), (3, "c"), (4, "d"), (5, "e")] {
-        assert_eq!(rt;
-            made_at_last(&rt, rt.alloc(), &mut tree, name),
-            Ok(Dir::new(number))
+        same(
+            &rt,
+            &made_at_last(&rt, rt.alloc(), &mut tree, name),
+            &Ok(Dir::new(number)),
         );
     }
     let rows = match tree.rows(rt.alloc()) {
         Ok(rows) => rows,
         Err(_) => tree.rows(rt.alloc())?,
     };
-    assert_eq!(rt; rows.len(), 6);
+    same(&rt, &rows.len(), &6);
     let path = match tree.path(rt.alloc(), Dir::new(5)) {
         Ok(path) => path,
         Err(refusal) => {
-            assert_eq!(rt; refusal, TreeError::Memory);
+            same(&rt, &refusal, &TreeError::Memory);
             tree.path(rt.alloc(), Dir::new(5))?
         }
     };
-    assert_eq!(rt; path.as_str(), "/e");
+    same(&rt, &path.as_str(), &"/e");
     Ok(())
 }

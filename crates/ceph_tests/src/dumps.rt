@@ -1,5 +1,6 @@
 //! Dumps as Ceph prints them, whole, cut and broken.
 
+use crate::same::{holds_in, same, same_in};
 use ceph_dumps::{read_cluster, read_listing, read_loads, read_own_list, read_subtrees};
 use std::test::Fail;
 
@@ -17,10 +18,10 @@ fn reads_loads(rt: HostRuntime) -> Result<(), Fail> {
         (b"/h/bad-\xff\xc3", 1000),
         (b"/h/new\nline \"-inf\"", 0),
     ];
-    assert_eq!(rt; found.len(), table.len());
+    same(&rt, &found.len(), &table.len());
     for (fragment, (path, heat)) in found.as_slice().iter().zip(table.as_slice()) {
-        assert_eq!(rt; fragment.path.as_slice(), *path);
-        assert_eq!(rt; fragment.heat, *heat);
+        same(&rt, &fragment.path.as_slice(), path);
+        same(&rt, &fragment.heat, heat);
     }
     Ok(())
 }
@@ -28,10 +29,7 @@ fn reads_loads(rt: HostRuntime) -> Result<(), Fail> {
 #[test]
 fn refuses_loads_that_are_cut(rt: HostRuntime) -> Result<(), Fail> {
     for end in 0..LOADS.len() {
-        assert!(rt;
-            read_loads(rt.alloc(), &LOADS[..end]).is_err(),
-            "cut at {end}"
-        );
+        holds_in(&rt, read_loads(rt.alloc(), &LOADS[..end]).is_err(), &end);
     }
     Ok(())
 }
@@ -47,15 +45,17 @@ const CLUSTER: &[u8] =
 #[test]
 fn refuses_other_dumps_that_are_cut(rt: HostRuntime) -> Result<(), Fail> {
     for end in 0..SUBTREES.len() {
-        assert!(rt;
+        holds_in(
+            &rt,
             read_subtrees(rt.alloc(), &SUBTREES[..end]).is_err(),
-            "cut at {end}"
+            &end,
         );
     }
     for end in 0..CLUSTER.len() {
-        assert!(rt;
+        holds_in(
+            &rt,
             read_cluster(rt.alloc(), &CLUSTER[..end]).is_err(),
-            "cut at {end}"
+            &end,
         );
     }
     Ok(())
@@ -71,7 +71,7 @@ fn names_no_other_path_where_a_byte_is_broken(rt: HostRuntime) -> Result<(), Fai
                 *place = byte;
             }
             if let Ok(found) = read_loads(rt.alloc(), text.as_slice()) {
-                assert!(rt; found.len() <= 3, "{byte} at {at}");
+                holds_in(&rt, found.len() <= 3, &(byte, at));
             }
         }
     }
@@ -95,8 +95,8 @@ fn reads_long_names_of_any_bytes(rt: HostRuntime) -> Result<(), Fail> {
         let [fragment] = found.as_slice() else {
             return Err(Fail::from("not one"));
         };
-        assert_eq!(rt; fragment.path.get(1..), Some(name.as_slice()), "{at}");
-        assert_eq!(rt; fragment.heat, 3000);
+        same_in(&rt, &fragment.path.get(1..), &Some(name.as_slice()), &at);
+        same(&rt, &fragment.heat, &3000);
     }
     Ok(())
 }
@@ -106,7 +106,7 @@ fn tells_where_a_dump_is_broken(rt: HostRuntime) -> Result<(), Fail> {
     let text = b"{\"dirfrags\":[\n{\"path\":\"\xff\",\"pop_me\":1}]}";
     let refused = read_loads(rt.alloc(), text.as_slice()).err().ok_or("read")?;
     let told = format!(in rt.alloc(); "{refused}")?;
-    assert!(rt; told.starts_with("line 2, column 2"), "{told}");
+    holds_in(&rt, told.starts_with("line 2, column 2"), &told);
     Ok(())
 }
 
@@ -119,7 +119,7 @@ fn reads_subtrees(rt: HostRuntime) -> Result<(), Fail> {
     let [first, second] = found.as_slice() else {
         return Err(Fail::from("not two"));
     };
-    assert_eq!(rt; first.path.as_slice(), b"/u".as_slice());
+    same(&rt, &first.path.as_slice(), &b"/u".as_slice());
     assert!(rt; first.is_here && first.is_spread && first.pin == Some(2));
     assert!(rt; !second.is_here && !second.is_spread && second.pin.is_none());
     Ok(())
@@ -129,8 +129,8 @@ fn reads_subtrees(rt: HostRuntime) -> Result<(), Fail> {
 fn reads_ranks(rt: HostRuntime) -> Result<(), Fail> {
     let text = b"\n{\"mdsmap\":{\"max_mds\":3,\"in\":[0,2],\"bal_rank_mask\":\"0x5\"},\"id\":1}";
     let found = read_cluster(rt.alloc(), text.as_slice())?;
-    assert_eq!(rt; found.size, 3);
-    assert_eq!(rt; found.ranks.as_slice(), [0, 2].as_slice());
+    same(&rt, &found.size, &3);
+    same(&rt, &found.ranks.as_slice(), &[0, 2].as_slice());
     assert!(rt;
         found
             .mask
@@ -151,11 +151,11 @@ fn reads_listings(rt: HostRuntime) -> Result<(), Fail> {
         (b"/h", None, Some(2)),
         (b"/w", None, None),
     ];
-    assert_eq!(rt; found.len(), table.len());
+    same(&rt, &found.len(), &table.len());
     for (listed, (path, entries, pin)) in found.as_slice().iter().zip(table.as_slice()) {
-        assert_eq!(rt; listed.path.as_slice(), *path);
-        assert_eq!(rt; listed.entries, *entries);
-        assert_eq!(rt; listed.pin, *pin);
+        same(&rt, &listed.path.as_slice(), path);
+        same(&rt, &listed.entries, entries);
+        same(&rt, &listed.pin, pin);
     }
     assert!(rt; read_listing(rt.alloc(), b"ceph.dir.pin=\"2\"\n").is_err());
     assert!(rt; read_listing(rt.alloc(), b"# file: h\nceph.dir.pin=\"x\"\n").is_err());
@@ -168,8 +168,8 @@ fn reads_lists_of_own_pins(rt: HostRuntime) -> Result<(), Fail> {
     let [first, second] = found.as_slice() else {
         return Err(Fail::from("not two"));
     };
-    assert_eq!(rt; first.as_slice(), b"/a b".as_slice());
-    assert_eq!(rt; second.as_slice(), b"/x\ny".as_slice());
+    same(&rt, &first.as_slice(), &b"/a b".as_slice());
+    same(&rt, &second.as_slice(), &b"/x\ny".as_slice());
     assert!(rt; read_own_list(rt.alloc(), b"1\n").is_err());
     Ok(())
 }

@@ -16,4 +16,6 @@ mod random_pins;
 #[cfg(test)]
 mod refused;
 #[cfg(test)]
+mod same;
+#[cfg(test)]
 mod snapshots;

@@ -1,5 +1,6 @@
 //! Parts that are packed on ranks, and what that comes to.
 
+use crate::same::same;
 use ceph_packing::{Packing, are_parts, are_pinned, pack};
 use mds_types::{Problem, ProblemRow, Rank, RankSet};
 use std::alloc::Global;
@@ -93,12 +94,12 @@ fn packs_the_hottest_first(rt: HostRuntime) -> Result<(), Fail> {
         for rank in packing.rank.as_slice().iter().take(given.len()) {
             found.push(rank.number())?;
         }
-        assert_eq!(rt; found.as_slice(), ranks);
+        same(&rt, &found.as_slice(), &ranks);
         for (rank, load) in loads.iter().enumerate() {
-            assert_eq!(rt; packing.load.get(rank), Some(load));
+            same(&rt, &packing.load.get(rank), &Some(load));
         }
-        assert_eq!(rt; packing.greatest, greatest);
-        assert_eq!(rt; packing.bound, bound);
+        same(&rt, &packing.greatest, &greatest);
+        same(&rt, &packing.bound, &bound);
     }
     Ok(())
 }

@@ -1,5 +1,6 @@
 //! Pins and changes of pins on small trees.
 
+use crate::same::same;
 use ceph_pins::{Pin, PinRow, are_rows, changes_for, pins_for};
 use mds_types::Rank;
 use std::alloc::Global;
@@ -57,7 +58,7 @@ fn pins_where_a_rank_changes(rt: HostRuntime) -> Result<(), Fail> {
         for pin in pins.as_slice() {
             found.push((pin.row, pin.rank.number()))?;
         }
-        assert_eq!(rt; found.as_slice(), expected);
+        same(&rt, &found.as_slice(), &expected);
     }
     Ok(())
 }
@@ -99,6 +100,10 @@ fn changes_earlier_pins(rt: HostRuntime) -> Result<(), Fail> {
     for change in changes_for(rt.alloc(), rows.as_slice())? {
         found.push((change.row, change.pin.map(Rank::number)))?;
     }
-    assert_eq!(rt; found.as_slice(), [(1, Some(2)), (3, None)].as_slice());
+    same(
+        &rt,
+        &found.as_slice(),
+        &[(1, Some(2)), (3, None)].as_slice(),
+    );
     Ok(())
 }

@@ -1,5 +1,6 @@
 //! Plans and proposals of small trees.
 
+use crate::same::{same, same_in};
 use ceph_plan::{OwnPins, Parts, PlanError, Proposal, choose_plan, propose};
 use mds_types::{ProblemRow, Rank, RankSet};
 use std::alloc::Global;
@@ -55,12 +56,13 @@ fn plans_as_cool_as_can_be(rt: HostRuntime) -> Result<(), Fail> {
     for (heats, pinned, greatest, bound, moved) in table {
         let found = proposed(rt.alloc(), heats, pinned, RankSet::from_bits(7))?;
         let plan = &found.plan;
-        assert_eq!(rt;
-            (plan.packing.greatest, plan.packing.bound),
-            (greatest, bound),
-            "{heats:?}"
+        same_in(
+            &rt,
+            &(plan.packing.greatest, plan.packing.bound),
+            &(greatest, bound),
+            &heats,
         );
-        assert_eq!(rt; plan.moved, moved, "{heats:?}");
+        same_in(&rt, &plan.moved, &moved, &heats);
     }
     Ok(())
 }
@@ -86,7 +88,7 @@ fn refuses_what_it_cant_plan(rt: HostRuntime) -> Result<(), Fail> {
             RankSet::from_bits(bits),
             0,
         );
-        assert_eq!(rt; found.err(), Some(error));
+        same(&rt, &found.err(), &Some(error));
     }
     Ok(())
 }

@@ -1,5 +1,6 @@
 //! Words that are quoted for sh.
 
+use crate::same::same;
 use sh_quote::quoted;
 use std::test::Fail;
 
@@ -15,7 +16,7 @@ fn quotes(rt: HostRuntime) -> Result<(), Fail> {
     for (bytes, word) in table {
         if bytes.iter().all(|byte| *byte > 0) {
             let found = quoted(rt.alloc(), bytes)?;
-            assert_eq!(rt; found.as_slice(), word);
+            same(&rt, &found.as_slice(), &word);
         }
     }
     Ok(())

@@ -1,5 +1,6 @@
 //! Snapshots from dumps, and what pins hold in them.
 
+use crate::same::{same, same_in};
 use ceph_dumps::{FragmentHeat, Listed, SubtreeRoot};
 use ceph_snapshot::{Directory, Gathering, Held, Snapshot, fold, held_heat, holds};
 use mds_types::Rank;
@@ -71,14 +72,15 @@ fn heat_counts_at_the_rank_with_authority(rt: HostRuntime) -> Result<(), Fail> {
         (b"/b", 300, 12, 0, false),
         (b"/a/x", 200, 1, 1, false),
     ];
-    assert_eq!(rt; snapshot.directories.len(), table.len());
+    same(&rt, &snapshot.directories.len(), &table.len());
     for (found, (path, heat, inodes, now, spread)) in snapshot.directories.iter().zip(table) {
-        assert_eq!(rt; found.path.as_slice(), path);
-        assert_eq!(rt;
-            (found.heat, found.inodes, found.is_spread),
-            (heat, inodes, spread)
+        same(&rt, &found.path.as_slice(), &path);
+        same(
+            &rt,
+            &(found.heat, found.inodes, found.is_spread),
+            &(heat, inodes, spread),
         );
-        assert_eq!(rt; found.now.number(), now);
+        same(&rt, &found.now.number(), &now);
     }
     Ok(())
 }
@@ -94,13 +96,13 @@ fn pinned_and_spread_heat_is_held(rt: HostRuntime) -> Result<(), Fail> {
         Held::Free,
         Held::Pinned(rank(1)),
     ];
-    assert_eq!(rt; holds.as_slice(), table.as_slice());
+    same(&rt, &holds.as_slice(), &table.as_slice());
     if snapshot.spread.len() != 64 {
         return Err(Fail::from("lengths"));
     }
     let heat = held_heat(rt.alloc(), &snapshot.directories, &holds, &snapshot.spread)?;
-    assert_eq!(rt; heat.first(), Some(&40));
-    assert_eq!(rt; heat.get(1), Some(&960));
+    same(&rt, &heat.first(), &Some(&40));
+    same(&rt, &heat.get(1), &Some(&960));
     Ok(())
 }
 
@@ -111,14 +113,15 @@ fn cold_leaves_are_folded(rt: HostRuntime) -> Result<(), Fail> {
     all.add_loads(rank(0), &loads(rt.alloc(), given.as_slice())?)?;
     let snapshot = all.snapshot(1, 1)?;
     let (kept, folded) = fold(rt.alloc(), snapshot.directories, 3)?;
-    assert_eq!(rt; folded, 2);
+    same(&rt, &folded, &2);
     let table: [(&[u8], u64, u64, u32); 3] = [(b"", 4, 2, 0), (b"/a", 12, 2, 0), (b"/d", 9, 1, 0)];
-    assert_eq!(rt; kept.len(), table.len());
+    same(&rt, &kept.len(), &table.len());
     for (found, (path, heat, inodes, parent)) in kept.iter().zip(table) {
-        assert_eq!(rt; found.path.as_slice(), path);
-        assert_eq!(rt;
-            (found.heat, found.inodes, found.parent),
-            (heat, inodes, parent)
+        same(&rt, &found.path.as_slice(), &path);
+        same(
+            &rt,
+            &(found.heat, found.inodes, found.parent),
+            &(heat, inodes, parent),
         );
     }
     Ok(())
@@ -148,9 +151,9 @@ fn folding_keeps_heat_and_inodes(rt: HostRuntime) -> Result<(), Fail> {
         let before = sums(directories.as_slice());
         let count = directories.len();
         let (kept, folded) = fold(rt.alloc(), directories, limit)?;
-        assert_eq!(rt; sums(kept.as_slice()), before, "{limit}");
-        assert_eq!(rt; kept.len().saturating_add(folded), count);
-        assert_eq!(rt; kept.len(), limit.min(count));
+        same_in(&rt, &sums(kept.as_slice()), &before, &limit);
+        same(&rt, &kept.len().saturating_add(folded), &count);
+        same(&rt, &kept.len(), &limit.min(count));
     }
     Ok(())
 }

@@ -2,6 +2,7 @@
 ghost use Rattle.std.specs.Prelude.{◌≡◌};
 
 use crate::boards::{open, rank};
+use crate::same::same;
 use arrayvec::ArrayVec;
 use authority_map::Publisher;
 use board_state::{Answer, BoardError};
@@ -41,13 +42,13 @@ fn set_up<J: Naming, M: Publisher<J>>(
     share: &mut Share<J>,
 ) -> Result<(), Fail> {
     let a = Dir::new(1);
-    assert_eq!(rt; board.make(alloc, Dir::ROOT, "a", 10), Ok(a));
+    same(rt, &board.make(alloc, Dir::ROOT, "a", 10), &Ok(a));
     for _ in 0..5 {
-        assert_eq!(rt; share.hit(a), Ok(()));
+        same(rt, &share.hit(a), &Ok(()));
     }
-    assert_eq!(rt; board.deposit(alloc, share), Ok(()));
-    assert_eq!(rt; board.counted(a), 5);
-    assert_eq!(rt; board.set_mask(RankSet::from_bits(2)), Ok(()));
+    same(rt, &board.deposit(alloc, share), &Ok(()));
+    same(rt, &board.counted(a), &5);
+    same(rt, &board.set_mask(RankSet::from_bits(2)), &Ok(()));
     Ok(())
 }
 
@@ -58,16 +59,16 @@ fn refuse<J: Naming, M: Publisher<J>>(
     board: &mut Board<J, M>,
 ) -> Result<(), Fail> {
     let unasked = board.adopt(alloc, plan(alloc, 5)?);
-    assert_eq!(rt; unasked.err(), Some(BoardError::NoProblem));
+    same(rt, &unasked.err(), &Some(BoardError::NoProblem));
     assert!(rt; board.open_problem(alloc).is_ok());
-    assert_eq!(rt; board.set_pin(Dir::new(1), -1), Ok(()));
+    same(rt, &board.set_pin(Dir::new(1), -1), &Ok(()));
     let late = board.adopt(alloc, plan(alloc, 5)?);
-    assert_eq!(rt; late.err(), Some(BoardError::Changed(4)));
+    same(rt, &late.err(), &Some(BoardError::Changed(4)));
     assert!(rt; board.open_problem(alloc).is_ok());
     let forged = board.adopt(alloc, plan(alloc, 4)?);
-    assert_eq!(rt; forged.err(), Some(BoardError::NotBest));
+    same(rt, &forged.err(), &Some(BoardError::NotBest));
     assert!(rt; board.plan_in_force().is_none());
-    assert_eq!(rt; board.history().len(), 6);
+    same(rt, &board.history().len(), &6);
     Ok(())
 }
 
@@ -78,15 +79,19 @@ fn adopt<J: Naming, M: Publisher<J>>(
     board: &mut Board<J, M>,
 ) -> Result<(), Fail> {
     let orders = board.adopt(alloc, plan(alloc, 5)?)?;
-    assert_eq!(rt; orders.len(), 1);
-    assert_eq!(rt; board.plan_in_force().map(|plan| plan.greatest), Some(5));
+    same(rt, &orders.len(), &1);
+    same(
+        rt,
+        &board.plan_in_force().map(|plan| plan.greatest),
+        &Some(5),
+    );
     kept(rt, board, &orders)?;
     for order in orders {
         let Order { from, to, dirs } = order;
-        assert_eq!(rt; (from, to), (rank(0)?, rank(1)?));
-        assert_eq!(rt; dirs.as_slice(), [Dir::new(0), Dir::new(1)].as_slice());
+        same(rt, &(from, to), &(rank(0)?, rank(1)?));
+        same(rt, &dirs.as_slice(), &[Dir::new(0), Dir::new(1)].as_slice());
         let started = board.step(alloc, Event::Start(from, to, dirs));
-        assert_eq!(rt; started, Ok(Reply::Export(0, 0)));
+        same(rt, &started, &Ok(Reply::Export(0, 0)));
     }
     Ok(())
 }
@@ -116,13 +121,13 @@ fn pin<J: Naming, M: Publisher<J>>(
     board: &mut Board<J, M>,
 ) -> Result<(), Fail> {
     assert!(rt; board.pin_orders(alloc)?.is_empty());
-    assert_eq!(rt; board.set_pin(Dir::new(1), 1), Ok(()));
+    same(rt, &board.set_pin(Dir::new(1), 1), &Ok(()));
     let orders = board.pin_orders(alloc)?;
-    assert_eq!(rt; orders.len(), 1);
+    same(rt, &orders.len(), &1);
     for order in &orders {
-        assert_eq!(rt; order.dirs.as_slice(), [Dir::new(1)].as_slice());
+        same(rt, &order.dirs.as_slice(), &[Dir::new(1)].as_slice());
     }
-    assert_eq!(rt; board.set_pin(Dir::new(1), 0), Ok(()));
+    same(rt, &board.set_pin(Dir::new(1), 0), &Ok(()));
     assert!(rt; board.pin_orders(alloc)?.is_empty());
     Ok(())
 }

@@ -1,6 +1,7 @@
 //! What a board says, beside the plain board.
 
 use crate::plain::{LIMIT, Plain, RANKS, counted, rank};
+use crate::same::same;
 use authority_map::Publisher;
 use export_machine::Cluster;
 use mds_board::Board;
@@ -14,10 +15,11 @@ use std::test::Fail;
 pub(crate) fn agree_on_cluster(rt: &impl Abort, cluster: &Cluster, plain: &Plain) {
     for number in 0..plain.numbers().saturating_add(1) {
         let dir = Dir::new(number);
-        assert_eq!(rt; cluster.authority(dir), plain.authority(dir));
-        assert_eq!(rt;
-            cluster.named(dir),
-            plain.named.get(number as usize).copied().flatten()
+        same(rt, &cluster.authority(dir), &plain.authority(dir));
+        same(
+            rt,
+            &cluster.named(dir),
+            &(plain.named.get(number as usize).copied().flatten()),
         );
         for at in 0..RANKS {
             assert!(rt; cluster.serves(rank(at), dir) == plain.serves(rank(at), dir));
@@ -26,7 +28,7 @@ pub(crate) fn agree_on_cluster(rt: &impl Abort, cluster: &Cluster, plain: &Plain
     for (at, journal) in plain.journals.iter().enumerate() {
         assert!(rt; cluster.journal(rank(u8::try_from(at).unwrap_or(0))) == journal.as_slice());
     }
-    assert_eq!(rt; cluster.sent() as usize, plain.sent.len());
+    same(rt, &(cluster.sent() as usize), &plain.sent.len());
     for (number, export) in plain.exports.iter().enumerate() {
         assert!(rt; cluster.states(counted(number)) == Some((export.exporter, export.importer)));
     }
@@ -42,34 +44,42 @@ fn agree_on_directories<J: Naming, M: Publisher<J>>(
         let dir = Dir::new(number);
         let node = plain.node(dir);
         let row = number as usize;
-        assert_eq!(rt; board.tree().contains(dir), node.is_some());
-        assert_eq!(rt; Some(board.counted(dir)), plain.counted.get(row).copied());
-        assert_eq!(rt; Some(board.begun(dir)), plain.begun.get(row).copied());
+        same(rt, &board.tree().contains(dir), &node.is_some());
+        same(
+            rt,
+            &Some(board.counted(dir)),
+            &plain.counted.get(row).copied(),
+        );
+        same(rt, &Some(board.begun(dir)), &plain.begun.get(row).copied());
         if let Some(node) = node {
-            assert_eq!(rt; board.heat_of(dir), node.heat);
+            same(rt, &board.heat_of(dir), &node.heat);
         }
         if board.tree().contains(dir) {
-            assert_eq!(rt; board.pin_of(dir), plain.pin_of(dir));
+            same(rt, &board.pin_of(dir), &plain.pin_of(dir));
         }
     }
 }
 
 // The open problem and the plan in force are the plain board's.
 fn agree_on_plans<J: Naming, M: Publisher<J>>(rt: &impl Abort, board: &Board<J, M>, plain: &Plain) {
-    assert_eq!(rt; board.usable(), RankSet::from_bits(plain.mask).among(RANKS));
-    assert_eq!(rt; board.history().len(), plain.events as usize);
+    same(
+        rt,
+        &board.usable(),
+        &RankSet::from_bits(plain.mask).among(RANKS),
+    );
+    same(rt, &board.history().len(), &(plain.events as usize));
     match (board.opened(), &plain.posed) {
         (None, None) => {}
         (Some(open), Some(posed)) => {
             assert!(rt; open.dirs() == posed.dirs.as_slice());
             assert!(rt; open.problem().rows() == posed.rows.as_slice());
-            assert_eq!(rt; open.changed(), posed.changed);
+            same(rt, &open.changed(), &posed.changed);
         }
         _ => panic!(rt; "an open problem"),
     }
     match (board.in_force(), plain.in_force) {
         (None, None) => {}
-        (Some(force), Some(event)) => assert_eq!(rt; force.event(), event),
+        (Some(force), Some(event)) => same(rt, &force.event(), &event),
         _ => panic!(rt; "a plan in force"),
     }
 }

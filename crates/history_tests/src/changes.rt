@@ -2,6 +2,7 @@
 ghost use Rattle.std.specs.Prelude.{◌≡◌};
 
 use crate::boards::{open, rank};
+use crate::same::same;
 use authority_map::Publisher;
 use board_state::{Answer, BoardError, Change};
 use dir_pins::PinError;
@@ -24,25 +25,32 @@ fn set_up<J: Naming, M: Publisher<J>>(
     board: &mut Board<J, M>,
 ) -> Result<(), Fail> {
     let a = Dir::new(1);
-    assert_eq!(rt; board.make(alloc, Dir::ROOT, "a", 10), Ok(a));
+    same(rt, &board.make(alloc, Dir::ROOT, "a", 10), &Ok(a));
     let again = board.make(alloc, Dir::ROOT, "a", 10);
-    assert_eq!(rt; again, Err(BoardError::Tree(TreeError::Exists)));
-    assert_eq!(rt; board.set_pin(a, 1), Ok(()));
-    assert_eq!(rt; board.set_pin(a, 2), Err(BoardError::Pin(PinError::NoRank)));
-    assert_eq!(rt;
-        board.set_pin(Dir::new(9), 0),
-        Err(BoardError::Pin(PinError::NoDir))
+    same(rt, &again, &Err(BoardError::Tree(TreeError::Exists)));
+    same(rt, &board.set_pin(a, 1), &Ok(()));
+    same(
+        rt,
+        &board.set_pin(a, 2),
+        &Err(BoardError::Pin(PinError::NoRank)),
     );
-    assert_eq!(rt;
-        board.remove(Dir::ROOT),
-        Err(BoardError::Tree(TreeError::IsRoot))
+    same(
+        rt,
+        &board.set_pin(Dir::new(9), 0),
+        &Err(BoardError::Pin(PinError::NoDir)),
     );
-    assert_eq!(rt;
-        board.open_problem(alloc).err(),
-        Some(BoardError::BalancerOff)
+    same(
+        rt,
+        &board.remove(Dir::ROOT),
+        &Err(BoardError::Tree(TreeError::IsRoot)),
     );
-    assert_eq!(rt; board.set_mask(RankSet::from_bits(3)), Ok(()));
-    assert_eq!(rt; board.usable().len(), 2);
+    same(
+        rt,
+        &board.open_problem(alloc).err(),
+        &Some(BoardError::BalancerOff),
+    );
+    same(rt, &board.set_mask(RankSet::from_bits(3)), &Ok(()));
+    same(rt, &board.usable().len(), &2);
     Ok(())
 }
 
@@ -55,22 +63,24 @@ fn use_it<J: Naming, M: Publisher<J>>(
 ) -> Result<(), Fail> {
     let a = Dir::new(1);
     for _ in 0..5 {
-        assert_eq!(rt; share.hit(a), Ok(()));
+        same(rt, &share.hit(a), &Ok(()));
     }
-    assert_eq!(rt; board.deposit(alloc, share), Ok(()));
-    assert_eq!(rt; share.pending(a), 0);
-    assert_eq!(rt; board.tick(), Ok(()));
+    same(rt, &board.deposit(alloc, share), &Ok(()));
+    same(rt, &share.pending(a), &0);
+    same(rt, &board.tick(), &Ok(()));
     let begun = board.begin(share, rank(0)?, a);
-    assert_eq!(rt; begun, Ok(Reply::Ticket(0)));
-    assert_eq!(rt; share.begun(a), 1);
+    same(rt, &begun, &Ok(Reply::Ticket(0)));
+    same(rt, &share.begun(a), &1);
     let elsewhere = board.begin(share, rank(1)?, a);
-    assert_eq!(rt;
-        elsewhere,
-        Err(BoardError::Step(StepError::Elsewhere(rank(0)?)))
+    same(
+        rt,
+        &elsewhere,
+        &Err(BoardError::Step(StepError::Elsewhere(rank(0)?))),
     );
-    assert_eq!(rt;
-        board.remove(a),
-        Err(BoardError::Step(StepError::NotYet(1)))
+    same(
+        rt,
+        &board.remove(a),
+        &Err(BoardError::Step(StepError::NotYet(1))),
     );
     Ok(())
 }
@@ -92,17 +102,17 @@ fn word(change: &Change) -> &'static str {
 // The accepted changes are in the history, and no others.
 fn look_back<J: Naming, M: Publisher<J>>(rt: &impl Abort, board: &Board<J, M>) -> Result<(), Fail> {
     let wanted = ["make", "pin", "mask", "deposit", "tick", "step"];
-    assert_eq!(rt; board.history().len(), 6);
+    same(rt, &board.history().len(), &6);
     for (entry, want) in board.history().iter().zip(&wanted) {
-        assert_eq!(rt; word(&entry.change), *want);
+        same(rt, &word(&entry.change), want);
     }
     match board.history().first() {
         Some(entry) => match (&entry.change, &entry.reply) {
             (Change::Make(parent, name, inodes), Answer::Dir(dir)) => {
-                assert_eq!(rt; *parent, Dir::ROOT);
-                assert_eq!(rt; name.as_str(), "a");
-                assert_eq!(rt; *inodes, 10);
-                assert_eq!(rt; *dir, Dir::new(1));
+                same(rt, parent, &Dir::ROOT);
+                same(rt, &name.as_str(), &"a");
+                same(rt, inodes, &10);
+                same(rt, dir, &Dir::new(1));
                 Ok(())
             }
             _ => Err("another entry".into()),

@@ -5,6 +5,7 @@ use crate::adopting::plan;
 use crate::boards::open;
 use crate::lists::Idle;
 use crate::said::said;
+use crate::same::same;
 use authority_map::{MapReader, Publisher};
 use board_state::BoardError;
 use export_machine::Event;
@@ -22,7 +23,7 @@ const FULL: BoardError = BoardError::HistoryFull;
 
 fn fill<J: Naming, M: Publisher<J>>(rt: &impl Abort, board: &mut Board<J, M>) {
     for _ in 0..1_048_576 {
-        assert_eq!(rt; board.tick(), Ok(()));
+        same(rt, &board.tick(), &Ok(()));
     }
 }
 
@@ -33,11 +34,11 @@ fn refuse_settings<J: Naming, M: Publisher<J>>(
     board: &mut Board<J, M>,
 ) {
     let none = Dir::new(7);
-    assert_eq!(rt; board.tick(), Err(FULL));
-    assert_eq!(rt; board.make(alloc, none, "", 1), Err(FULL));
-    assert_eq!(rt; board.remove(none), Err(FULL));
-    assert_eq!(rt; board.set_pin(none, 9), Err(FULL));
-    assert_eq!(rt; board.set_mask(RankSet::from_bits(3)), Err(FULL));
+    same(rt, &board.tick(), &Err(FULL));
+    same(rt, &board.make(alloc, none, "", 1), &Err(FULL));
+    same(rt, &board.remove(none), &Err(FULL));
+    same(rt, &board.set_pin(none, 9), &Err(FULL));
+    same(rt, &board.set_mask(RankSet::from_bits(3)), &Err(FULL));
 }
 
 fn refuse_events<J: Naming, M: Publisher<J>>(
@@ -46,9 +47,13 @@ fn refuse_events<J: Naming, M: Publisher<J>>(
     board: &mut Board<J, M>,
     share: &mut Share<J>,
 ) {
-    assert_eq!(rt; board.deposit(alloc, share), Err(FULL));
-    assert_eq!(rt; board.begin(share, Rank::default(), Dir::new(7)), Err(FULL));
-    assert_eq!(rt; board.step(alloc, Event::Deliver(7)), Err(FULL));
+    same(rt, &board.deposit(alloc, share), &Err(FULL));
+    same(
+        rt,
+        &board.begin(share, Rank::default(), Dir::new(7)),
+        &Err(FULL),
+    );
+    same(rt, &board.step(alloc, Event::Deliver(7)), &Err(FULL));
 }
 
 fn refuse_plans<J: Naming, M: Publisher<J>>(
@@ -56,9 +61,9 @@ fn refuse_plans<J: Naming, M: Publisher<J>>(
     alloc: Global,
     board: &mut Board<J, M>,
 ) -> Result<(), Fail> {
-    assert_eq!(rt; board.open_problem(alloc).err(), Some(FULL));
-    assert_eq!(rt; board.adopt(alloc, plan(alloc, 5)?).err(), Some(FULL));
-    assert_eq!(rt; board.balance(alloc, &Idle).err(), Some(FULL));
+    same(rt, &board.open_problem(alloc).err(), &Some(FULL));
+    same(rt, &board.adopt(alloc, plan(alloc, 5)?).err(), &Some(FULL));
+    same(rt, &board.balance(alloc, &Idle).err(), &Some(FULL));
     Ok(())
 }
 

@@ -29,3 +29,5 @@ mod random_changes;
 mod refused;
 #[cfg(test)]
 mod said;
+#[cfg(test)]
+mod same;

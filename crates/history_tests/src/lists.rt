@@ -6,6 +6,7 @@ ghost use Rattle.mds_board.specs.Commands.{is_fit};
 
 use crate::boards::open;
 use crate::said::{Reading, said};
+use crate::same::{holds_in, same};
 use authority_map::{MapReader, Publisher};
 use board_state::{Answer, BoardError, Name, Solver};
 use export_machine::Event;
@@ -187,14 +188,14 @@ fn answered<R: Wait + Drop>(
 fn a_list_of_commands_answers_as_single_calls(rt: HostRuntime) -> Result<(), Fail> {
     let (listed, after_list) = answered(&rt, rt.alloc(), true)?;
     let (single, after_calls) = answered(&rt, rt.alloc(), false)?;
-    assert_eq!(rt; (listed.len(), single.len()), (14, 14));
+    same(&rt, &(listed.len(), single.len()), &(14, 14));
     for (at, (one, other)) in listed.iter().zip(single.iter()).enumerate() {
-        assert!(rt; is_same(one, other), "command {at}");
+        holds_in(&rt, is_same(one, other), &at);
     }
     let refused = listed.iter().filter(|answer| answer.is_err()).count();
-    assert_eq!(rt; refused, 6);
+    same(&rt, &refused, &6);
     assert!(rt; after_list == after_calls);
-    assert_eq!(rt; after_list.history, 8);
+    same(&rt, &after_list.history, &8);
     Ok(())
 }
 
@@ -239,9 +240,13 @@ fn miss_both<J: Naming, M: Publisher<J>>(
 /// What needs no share goes on.
 fn go_on<J: Naming, M: Publisher<J>>(rt: &impl Abort, alloc: Global, board: &mut Board<J, M>) {
     let before = board.history().len();
-    assert_eq!(rt; board.tick(), Ok(()));
-    assert_eq!(rt; board.make(alloc, Dir::new(1), "b", 1), Ok(Dir::new(2)));
-    assert_eq!(rt; board.history().len().checked_sub(before), Some(2));
+    same(rt, &board.tick(), &Ok(()));
+    same(
+        rt,
+        &board.make(alloc, Dir::new(1), "b", 1),
+        &Ok(Dir::new(2)),
+    );
+    same(rt, &board.history().len().checked_sub(before), &Some(2));
 }
 
 /// The ledger closes over both shares, once, and the reads stay.
@@ -258,8 +263,8 @@ fn close<J: Naming, M: Publisher<J>>(
     miss_both(alloc, board)?;
     assert!(rt; board.close(shares).is_ok());
     miss_both(alloc, board)?;
-    assert_eq!(rt; board.history().len(), before);
-    assert_eq!(rt; (board.counted(a), board.begun(a)), (3, 1));
+    same(rt, &board.history().len(), &before);
+    same(rt, &(board.counted(a), board.begun(a)), &(3, 1));
     go_on(rt, alloc, board);
     Ok(())
 }
@@ -274,10 +279,10 @@ fn use_it<J: Naming, M: Publisher<J>>(
     requires limit { J.limit ≡ 8 }
 {
     let a = Dir::new(1);
-    assert_eq!(rt; board.make(alloc, Dir::ROOT, "a", 10), Ok(a));
-    assert_eq!(rt; share.count(a, 3), 3);
+    same(rt, &board.make(alloc, Dir::ROOT, "a", 10), &Ok(a));
+    same(rt, &share.count(a, 3), &3);
     assert!(rt; board.begin(share, Rank::default(), a).is_ok());
-    assert_eq!(rt; board.deposit(alloc, share), Ok(()));
+    same(rt, &board.deposit(alloc, share), &Ok(()));
 }
 
 fn closed<J: Naming, R: Wait + Drop>(

@@ -8,6 +8,7 @@ use crate::choices::Random;
 use crate::lists::Idle;
 use crate::plain::{LIMIT, NAMES, Plain, RANKS, counted};
 use crate::plain_solver::solve;
+use crate::same::same;
 use authority_map::{MapReader, Publisher};
 use board_state::{BoardError, Change};
 use export_machine::{Event, ExporterState, ImporterState};
@@ -41,7 +42,7 @@ fn make<J: Naming, M: Publisher<J>>(
     let text = NAMES.get(name).copied().unwrap_or("");
     let inodes = random.below(100);
     let made = board.make(alloc, parent, text, inodes);
-    assert_eq!(rt; made, plain.make(parent, name, inodes)?);
+    same(rt, &made, &plain.make(parent, name, inodes)?);
     Ok(())
 }
 
@@ -52,7 +53,7 @@ fn remove<J: Naming, M: Publisher<J>>(
     random: &mut Random,
 ) -> Result<(), Fail> {
     let dir = random.dir(plain);
-    assert_eq!(rt; board.remove(dir), plain.remove(dir)?);
+    same(rt, &board.remove(dir), &plain.remove(dir)?);
     Ok(())
 }
 
@@ -64,7 +65,7 @@ fn set_pin<J: Naming, M: Publisher<J>>(
 ) {
     let dir = random.dir(plain);
     let pin = PINS.get(random.below(7) as usize).copied().unwrap_or(-1);
-    assert_eq!(rt; board.set_pin(dir, pin), plain.set_pin(dir, pin));
+    same(rt, &board.set_pin(dir, pin), &plain.set_pin(dir, pin));
 }
 
 fn set_mask<J: Naming, M: Publisher<J>>(
@@ -74,12 +75,12 @@ fn set_mask<J: Naming, M: Publisher<J>>(
     random: &mut Random,
 ) {
     let mask = u64::from(random.below(32));
-    assert_eq!(rt; board.set_mask(RankSet::from_bits(mask)), Ok(()));
+    same(rt, &board.set_mask(RankSet::from_bits(mask)), &Ok(()));
     plain.set_mask(mask);
 }
 
 fn tick<J: Naming, M: Publisher<J>>(rt: &impl Abort, board: &mut Board<J, M>, plain: &mut Plain) {
-    assert_eq!(rt; board.tick(), Ok(()));
+    same(rt, &board.tick(), &Ok(()));
     plain.tick();
 }
 
@@ -94,12 +95,12 @@ fn deposit<J: Naming, M: Publisher<J>>(
     let mut hits: Vec<u64> = vec![in alloc; 0; LIMIT as usize]?;
     for _ in 0..random.below(40) {
         let dir = random.dir(plain);
-        assert_eq!(rt; share.hit(dir), Ok(()));
+        same(rt, &share.hit(dir), &Ok(()));
         if let Some(count) = hits.get_mut(dir.number() as usize) {
             *count = count.wrapping_add(1);
         }
     }
-    assert_eq!(rt; board.deposit(alloc, share), Ok(()));
+    same(rt, &board.deposit(alloc, share), &Ok(()));
     plain.deposit(&hits);
     Ok(())
 }
@@ -114,7 +115,7 @@ fn begin<J: Naming, M: Publisher<J>>(
     let dir = random.dir(plain);
     let at = random.rank_for(plain, dir);
     let begun = board.begin(share, at, dir);
-    assert_eq!(rt; begun, plain.step(&Event::Begin(at, dir))?);
+    same(rt, &begun, &plain.step(&Event::Begin(at, dir))?);
     Ok(())
 }
 
@@ -128,7 +129,7 @@ fn step<J: Naming, M: Publisher<J>>(
     requires { is_inner event ≡ true }
 {
     let wanted = plain.step(&event)?;
-    assert_eq!(rt; board.step(alloc, event), wanted);
+    same(rt, &board.step(alloc, event), &wanted);
     Ok(())
 }
 
@@ -165,7 +166,7 @@ fn open_problem<J: Naming, M: Publisher<J>>(
             _ => panic!(rt; "opened"),
         },
         Err(error) => {
-            assert_eq!(rt; error, BoardError::BalancerOff);
+            same(rt, &error, &BoardError::BalancerOff);
             assert!(rt; !is_open);
         }
     }
@@ -231,7 +232,7 @@ fn balance<J: Naming, M: Publisher<J>>(
     } else {
         BoardError::Memory
     };
-    assert_eq!(rt; refused, Some(cause));
+    same(rt, &refused, &Some(cause));
     Ok(())
 }
 
@@ -405,7 +406,7 @@ fn publish<J: Naming, M: Publisher<J>>(
     for number in 0..LIMIT {
         let dir = Dir::new(number);
         let named = plain.named.get(number as usize).copied().flatten();
-        assert_eq!(rt; board.find_published(reader, dir), named);
+        same(rt, &board.find_published(reader, dir), &named);
     }
 }
 

@@ -7,6 +7,7 @@ ghost use Rattle.board_state.specs.Steps.{is_inner};
 use crate::adopting::plan;
 use crate::boards::open_at_last;
 use crate::said::said;
+use crate::same::{holds_in, same, same_in};
 use authority_map::{MapReader, Publisher};
 use board_state::BoardError;
 use export_machine::Event;
@@ -21,7 +22,7 @@ use std::sync::Wait;
 use std::test::Fail;
 
 /// What is done to a board, by the numbers of directories, ranks, exports and messages.
-#[derive(Clone, Copy, Debug)]
+#[derive(Clone, Copy)]
 enum Do {
     Make(u32, &'static str),
     Remove(u32),
@@ -38,7 +39,7 @@ enum Do {
 }
 
 /// An event of the cluster.
-#[derive(Clone, Copy, Debug)]
+#[derive(Clone, Copy)]
 enum Step {
     End(u32),
     Start(u8, u8, &'static [u32]),
@@ -225,15 +226,16 @@ fn change_at_last<J: Naming, M: Publisher<J>>(
     reader: &mut MapReader<J>,
     change: Do,
 ) -> Result<bool, Fail> {
+    let at = board.history().len();
     let before = said(board, share, reader);
     let first = change_once(alloc, board, share, change)?;
     if first.is_ok() {
         return Ok(false);
     }
-    assert_eq!(rt; first, Err(BoardError::Memory), "{change:?}");
-    assert!(rt; said(board, share, reader) == before, "{change:?}");
+    same_in(rt, &first, &Err(BoardError::Memory), &at);
+    holds_in(rt, said(board, share, reader) == before, &at);
     let again = change_once(alloc, board, share, change)?;
-    assert_eq!(rt; again, Ok(()), "{change:?}");
+    same_in(rt, &again, &Ok(()), &at);
     Ok(true)
 }
 
@@ -248,7 +250,7 @@ fn change_all<J: Naming, M: Publisher<J>>(
     let mut refused = false;
     for change in CHANGES {
         if change_at_last(rt, alloc, board, share, reader, change)? {
-            assert!(rt; !refused, "{change:?}");
+            assert!(rt; !refused);
             refused = true;
         }
     }
@@ -258,12 +260,16 @@ fn change_all<J: Naming, M: Publisher<J>>(
 /// The board is as without a refused growth.
 fn look_back<J: Naming, M: Publisher<J>>(rt: &impl Abort, board: &Board<J, M>) {
     let a = Dir::new(1);
-    assert_eq!(rt; board.history().len(), 40);
-    assert_eq!(rt; board.tree().numbers(), 4);
-    assert_eq!(rt; (board.counted(a), board.begun(a)), (6, 1));
-    assert_eq!(rt; board.cluster().authority(a), Some(rank(1)));
-    assert_eq!(rt; board.cluster().sent(), 17);
-    assert_eq!(rt; board.plan_in_force().map(|plan| plan.greatest), Some(5));
+    same(rt, &board.history().len(), &40);
+    same(rt, &board.tree().numbers(), &4);
+    same(rt, &(board.counted(a), board.begun(a)), &(6, 1));
+    same(rt, &board.cluster().authority(a), &Some(rank(1)));
+    same(rt, &board.cluster().sent(), &17);
+    same(
+        rt,
+        &board.plan_in_force().map(|plan| plan.greatest),
+        &Some(5),
+    );
 }
 
 fn changed<J: Naming, R: Wait + Drop + Copy>(

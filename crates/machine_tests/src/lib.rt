@@ -6,6 +6,8 @@ mod limits;
 #[cfg(test)]
 mod refused;
 #[cfg(test)]
+mod same;
+#[cfg(test)]
 mod schedules;
 #[cfg(test)]
 mod starts;

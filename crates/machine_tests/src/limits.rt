@@ -1,5 +1,6 @@
 //! How many events and exports there can be.
 
+use crate::same::same;
 use crate::steps::{Do, answer, played, rank, run_rows, to_the_log};
 use export_machine::{Event, Reply, StepError};
 use mds_types::Dir;
@@ -9,7 +10,7 @@ use std::test::Fail;
 fn history_is_full_after_its_limit(rt: HostRuntime) -> Result<(), Fail> {
     let mut cluster = played(&rt, rt.alloc(), &to_the_log())?;
     for _ in 9..1_048_576 {
-        assert_eq!(rt; cluster.apply(Event::Deliver(0)), Ok(Reply::Ignored));
+        same(&rt, &cluster.apply(Event::Deliver(0)), &Ok(Reply::Ignored));
     }
     run_rows(
         &rt,
@@ -34,9 +35,9 @@ fn exports_are_full_after_their_limit(rt: HostRuntime) -> Result<(), Fail> {
     )?;
     for export in 0..65_536 {
         let started = answer(rt.alloc(), &mut cluster, Do::Start(0, 1, &[1]))?;
-        assert_eq!(rt; started, Ok(Reply::Export(export, 2 * export)));
+        same(&rt, &started, &(Ok(Reply::Export(export, 2 * export))));
         let aborted = answer(rt.alloc(), &mut cluster, Do::Abort(export))?;
-        assert_eq!(rt; aborted, Ok(Reply::Sent(2 * export + 1)));
+        same(&rt, &aborted, &(Ok(Reply::Sent(2 * export + 1))));
     }
     let rows = [
         (Do::Start(1, 0, &[1]), Err(StepError::Elsewhere(rank(0)))),

@@ -1,5 +1,6 @@
 //! The order of refusals, and what they print.
 
+use crate::same::same;
 use crate::steps::{Do, rank, run_rows};
 use export_machine::{Cluster, ExporterState, Reply, StepError};
 use mds_types::Dir;
@@ -81,7 +82,7 @@ fn prints_number_name_and_value(rt: HostRuntime) -> Result<(), Fail> {
     ];
     for (error, want) in table {
         let printed = printed(rt.alloc(), error)?;
-        assert_eq!(rt; printed.as_str(), want);
+        same(&rt, &printed.as_str(), &want);
     }
     Ok(())
 }
@@ -100,7 +101,7 @@ const LATE: [(ExporterState, &str); 7] = [
 fn prints_the_state_of_a_late_export(rt: HostRuntime) -> Result<(), Fail> {
     for (state, want) in LATE {
         let printed = printed(rt.alloc(), StepError::Late(state))?;
-        assert_eq!(rt; printed.as_str(), want);
+        same(&rt, &printed.as_str(), &want);
     }
     Ok(())
 }

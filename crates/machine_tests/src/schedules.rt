@@ -1,5 +1,6 @@
 //! Whole exports, aborts, and messages that come late or twice.
 
+use crate::same::{same, same_in};
 use crate::starts::run_prepared;
 use crate::steps::{Do, Row, cluster, event, played, rank, run_rows, to_the_log};
 use export_machine::{Cluster, ExporterState, ImporterState, JournalEntry, Reply, StepError};
@@ -16,25 +17,26 @@ fn moves_a_directory(rt: HostRuntime) -> Result<(), Fail> {
         (Do::Begin(1, 1), Err(StepError::Frozen(0))),
     ];
     run_rows(&rt, rt.alloc(), &mut cluster, &rows)?;
-    assert_eq!(rt; cluster.named(Dir::new(1)), Some(rank(0)));
+    same(&rt, &cluster.named(Dir::new(1)), &Some(rank(0)));
     let rows = [
         (Do::Notify(0), Ok(Reply::Sent(6))),
         (Do::Deliver(6), Ok(Reply::Changed)),
         (Do::Begin(1, 1), Ok(Reply::Ticket(0))),
     ];
     run_rows(&rt, rt.alloc(), &mut cluster, &rows)?;
-    assert_eq!(rt; cluster.named(Dir::new(1)), Some(rank(1)));
-    assert_eq!(rt; cluster.authority(Dir::new(1)), Some(rank(1)));
+    same(&rt, &cluster.named(Dir::new(1)), &Some(rank(1)));
+    same(&rt, &cluster.authority(Dir::new(1)), &Some(rank(1)));
     assert!(rt; cluster.serves(rank(1), Dir::new(1)));
     assert!(rt; !cluster.serves(rank(0), Dir::new(1)));
-    assert_eq!(rt; cluster.sent(), 7);
-    assert_eq!(rt; cluster.to(6), Some((0, rank(1))));
-    assert_eq!(rt; cluster.to(7), None);
-    assert_eq!(rt;
-        cluster.states(0),
-        Some((ExporterState::Done, ImporterState::Imported))
+    same(&rt, &cluster.sent(), &7);
+    same(&rt, &cluster.to(6), &Some((0, rank(1))));
+    same(&rt, &cluster.to(7), &None);
+    same(
+        &rt,
+        &cluster.states(0),
+        &Some((ExporterState::Done, ImporterState::Imported)),
     );
-    assert_eq!(rt; cluster.states(1), None);
+    same(&rt, &cluster.states(1), &None);
     let exporter = [
         JournalEntry::Made(Dir::ROOT),
         JournalEntry::Made(Dir::new(1)),
@@ -57,7 +59,7 @@ fn late_ack_after_an_abort_is_ignored(rt: HostRuntime) -> Result<(), Fail> {
         (Do::Abort(0), Err(StepError::Late(ExporterState::Aborted))),
     ];
     run_rows(&rt, rt.alloc(), &mut cluster, &rows)?;
-    assert_eq!(rt; cluster.authority(Dir::new(1)), Some(rank(0)));
+    same(&rt, &cluster.authority(Dir::new(1)), &Some(rank(0)));
     let importer = [JournalEntry::Started(0), JournalEntry::Dropped(0)];
     assert!(rt; cluster.journal(rank(1)) == importer.as_slice());
     Ok(())
@@ -84,7 +86,7 @@ fn repeated_messages_act_once(rt: HostRuntime) -> Result<(), Fail> {
         (Do::Deliver(6), Ok(Reply::Ignored)),
     ];
     run_rows(&rt, rt.alloc(), &mut cluster, &rows)?;
-    assert_eq!(rt; cluster.authority(Dir::new(1)), Some(rank(0)));
+    same(&rt, &cluster.authority(Dir::new(1)), &Some(rank(0)));
     assert!(rt; cluster.serves(rank(0), Dir::new(1)));
     Ok(())
 }
@@ -171,9 +173,9 @@ fn aborts_before_the_log_entry_only(rt: HostRuntime) -> Result<(), Fail> {
         let mut cluster = aborted(&rt, rt.alloc(), done, answer)?;
         match cancel {
             Some(message) => cancelled(&rt, rt.alloc(), &mut cluster, message)?,
-            None => assert_eq!(rt; cluster.authority(Dir::new(1)), Some(rank(1))),
+            None => same(&rt, &cluster.authority(Dir::new(1)), &Some(rank(1))),
         }
-        assert_eq!(rt; cluster.journal(rank(1)).len(), entries, "{done}");
+        same_in(&rt, &cluster.journal(rank(1)).len(), &entries, &done);
     }
     Ok(())
 }
@@ -208,9 +210,9 @@ fn twice_delivered_messages_change_nothing(rt: HostRuntime) -> Result<(), Fail> 
     for message in 0..7 {
         repeat(&rt, rt.alloc(), &mut cluster, message)?;
     }
-    assert_eq!(rt; cluster.authority(Dir::new(1)), Some(rank(1)));
-    assert_eq!(rt; cluster.journal(rank(0)).len(), 4);
-    assert_eq!(rt; cluster.journal(rank(1)).len(), 2);
+    same(&rt, &cluster.authority(Dir::new(1)), &Some(rank(1)));
+    same(&rt, &cluster.journal(rank(0)).len(), &4);
+    same(&rt, &cluster.journal(rank(1)).len(), &2);
     Ok(())
 }
 
@@ -223,9 +225,9 @@ fn runs_a_list_of_events(rt: HostRuntime) -> Result<(), Fail> {
     }
     let answers = cluster.run(rt.alloc(), &events)?;
     for ((_, want), answer) in to_the_log().iter().zip(answers.iter()) {
-        assert_eq!(rt; *answer, *want);
+        same(&rt, answer, want);
     }
-    assert_eq!(rt; answers.len(), 9);
+    same(&rt, &answers.len(), &9);
     Ok(())
 }
 
@@ -234,7 +236,7 @@ fn only_the_log_entry_logs(rt: HostRuntime) -> Result<(), Fail> {
     let mut cluster = cluster(rt.alloc())?;
     for (at, (step, want)) in to_the_log().iter().enumerate() {
         let next = event(rt.alloc(), *step)?;
-        assert_eq!(rt; cluster.logs_export(&next), at == 8, "{step:?}");
+        same_in(&rt, &cluster.logs_export(&next), &(at == 8), &at);
         run_rows(&rt, rt.alloc(), &mut cluster, &[(*step, *want)])?;
         assert!(rt; !cluster.logs_export(&next));
     }
@@ -265,12 +267,12 @@ fn roots_follow_the_log_entry(rt: HostRuntime) -> Result<(), Fail> {
             (Do::Start(0, 1, dirs), Ok(Reply::Export(0, 0))),
         ];
         let mut cluster = played(&rt, rt.alloc(), &rows)?;
-        assert_eq!(rt; roots(rt.alloc(), &cluster)?.len(), 1);
+        same(&rt, &roots(rt.alloc(), &cluster)?.len(), &1);
         run_rows(&rt, rt.alloc(), &mut cluster, &steps[2..])?;
         let found = roots(rt.alloc(), &cluster)?;
-        assert_eq!(rt; found.len(), want.len());
+        same(&rt, &found.len(), &want.len());
         for ((dir, at), (number, owner)) in found.iter().zip(want.iter()) {
-            assert_eq!(rt; (*dir, *at), (Dir::new(*number), rank(*owner)));
+            same(&rt, &(*dir, *at), &(Dir::new(*number), rank(*owner)));
         }
     }
     Ok(())
@@ -308,9 +310,9 @@ fn further() -> [Row; 21] {
 fn a_refused_growth_changes_nothing(rt: HostRuntime) -> Result<(), Fail> {
     let mut cluster = played(&rt, rt.alloc(), &to_the_log())?;
     run_rows(&rt, rt.alloc(), &mut cluster, &further())?;
-    assert_eq!(rt; roots(rt.alloc(), &cluster)?.len(), 2);
-    assert_eq!(rt; cluster.authority(Dir::new(3)), Some(rank(1)));
-    assert_eq!(rt; cluster.sent(), 17);
+    same(&rt, &roots(rt.alloc(), &cluster)?.len(), &2);
+    same(&rt, &cluster.authority(Dir::new(3)), &Some(rank(1)));
+    same(&rt, &cluster.sent(), &17);
     Ok(())
 }
 
@@ -320,6 +322,6 @@ fn a_refused_growth_leaves_what_is_prepared(rt: HostRuntime) -> Result<(), Fail>
     let mut cluster = cluster(rt.alloc())?;
     run_prepared(&rt, rt.alloc(), &mut cluster, &to_the_log())?;
     run_prepared(&rt, rt.alloc(), &mut cluster, &further())?;
-    assert_eq!(rt; cluster.authority(Dir::new(3)), Some(rank(1)));
+    same(&rt, &cluster.authority(Dir::new(3)), &Some(rank(1)));
     Ok(())
 }

@@ -1,5 +1,6 @@
 //! Which lists of directories can be exported, and events that are prepared.
 
+use crate::same::{same, same_in};
 use crate::steps::{Do, Row, answer, cluster, event, rank, to_the_log, written};
 use export_machine::{Cluster, Event, ExporterState, Reply, StepError};
 use mds_types::Dir;
@@ -12,7 +13,7 @@ fn with_two_children_each(rt: &impl Abort, alloc: Global) -> Result<Cluster, Fai
     let mut cluster = cluster(alloc)?;
     for number in 1u32..15 {
         let made = answer(alloc, &mut cluster, Do::Make((number - 1) / 2))?;
-        assert_eq!(rt; made, Ok(Reply::Dir(Dir::new(number))));
+        same(rt, &made, &Ok(Reply::Dir(Dir::new(number))));
     }
     Ok(cluster)
 }
@@ -53,9 +54,9 @@ fn can_apply_names_the_refusal_of_a_start(rt: HostRuntime) -> Result<(), Fail> {
     for (dirs, want) in table {
         let mut cluster = with_two_children_each(&rt, rt.alloc())?;
         let start = event(rt.alloc(), Do::Start(0, 1, dirs))?;
-        assert_eq!(rt; cluster.can_apply(&start).err(), want, "{dirs:?}");
-        assert_eq!(rt; prepared(&mut cluster, &start).err(), want, "{dirs:?}");
-        assert_eq!(rt; cluster.apply(start).err(), want, "{dirs:?}");
+        same_in(&rt, &cluster.can_apply(&start).err(), &want, &dirs);
+        same_in(&rt, &prepared(&mut cluster, &start).err(), &want, &dirs);
+        same_in(&rt, &cluster.apply(start).err(), &want, &dirs);
     }
     Ok(())
 }
@@ -81,9 +82,9 @@ pub(crate) fn run_prepared(
     cluster: &mut Cluster,
     rows: &[Row],
 ) -> Result<(), Fail> {
-    for (step, want) in rows {
+    for (at, (step, want)) in rows.iter().enumerate() {
         let next = event(alloc, *step)?;
-        assert_eq!(rt; happened(cluster, next), *want, "{step:?}");
+        same_in(rt, &happened(cluster, next), want, &at);
     }
     Ok(())
 }
@@ -94,8 +95,8 @@ fn prepared_events_happen(rt: HostRuntime) -> Result<(), Fail> {
     run_prepared(&rt, rt.alloc(), &mut cluster, &to_the_log())?;
     let refused = event(rt.alloc(), Do::Abort(0))?;
     let late = Err(StepError::Late(ExporterState::Logged));
-    assert_eq!(rt; happened(&mut cluster, refused), late);
-    assert_eq!(rt; cluster.authority(Dir::new(1)), Some(rank(1)));
+    same(&rt, &happened(&mut cluster, refused), &late);
+    same(&rt, &cluster.authority(Dir::new(1)), &Some(rank(1)));
     Ok(())
 }
 
@@ -105,7 +106,7 @@ fn refused_events_leave_room(rt: HostRuntime) -> Result<(), Fail> {
     let make = event(rt.alloc(), Do::Make(3))?;
     prepared(&mut cluster, &make)?;
     let refused = event(rt.alloc(), Do::Start(0, 1, &[14, 9]))?;
-    assert_eq!(rt; cluster.apply(refused), Err(StepError::NotConnected));
-    assert_eq!(rt; cluster.apply(make), Ok(Reply::Dir(Dir::new(15))));
+    same(&rt, &cluster.apply(refused), &Err(StepError::NotConnected));
+    same(&rt, &cluster.apply(make), &Ok(Reply::Dir(Dir::new(15))));
     Ok(())
 }

@@ -3,6 +3,7 @@
 //! What asks for memory is asked again where a growth was refused, and must have changed nothing by then. So the tests
 //! hold with any one growth refused.
 
+use crate::same::same_in;
 use export_machine::{Cluster, Event, ExporterState, ImporterState, Reply, StepError};
 use mds_types::{Dir, Dirs, Rank};
 use std::alloc::{AllocError, Global};
@@ -17,7 +18,7 @@ pub(crate) fn rank(number: u8) -> Rank {
 }
 
 /// The events of a schedule, with their numbers.
-#[derive(Clone, Copy, Debug)]
+#[derive(Clone, Copy)]
 pub(crate) enum Do {
     Make(u32),
     Remove(u32),
@@ -131,11 +132,11 @@ pub(crate) fn run_rows(
     cluster: &mut Cluster,
     rows: &[Row],
 ) -> Result<(), Fail> {
-    for (step, want) in rows {
+    for (at, (step, want)) in rows.iter().enumerate() {
         let able = cluster.can_apply(&event(alloc, *step)?);
-        assert_eq!(rt; able.err(), want.err(), "{step:?}");
+        same_in(rt, &able.err(), &want.err(), &at);
         let got = answer(alloc, cluster, *step)?;
-        assert_eq!(rt; got, *want, "{step:?}");
+        same_in(rt, &got, want, &at);
     }
     Ok(())
 }

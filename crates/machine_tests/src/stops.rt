@@ -1,5 +1,6 @@
 //! Ranks that stop and run again.
 
+use crate::same::same;
 use crate::steps::{Do, cluster, played, rank, run_rows, to_the_log};
 use export_machine::{ExporterState, ImporterState, JournalEntry, Reply, StepError};
 use mds_types::Dir;
@@ -45,9 +46,10 @@ fn importer_asks_what_a_stop_aborted(rt: HostRuntime) -> Result<(), Fail> {
         (Do::Start(0, 1, &[1]), Ok(Reply::Export(1, 8))),
     ];
     run_rows(&rt, rt.alloc(), &mut cluster, &rows)?;
-    assert_eq!(rt;
-        cluster.states(0),
-        Some((ExporterState::Aborted, ImporterState::Dropped))
+    same(
+        &rt,
+        &cluster.states(0),
+        &Some((ExporterState::Aborted, ImporterState::Dropped)),
     );
     Ok(())
 }
@@ -67,7 +69,7 @@ fn stopped_importer_asks_for_its_end(rt: HostRuntime) -> Result<(), Fail> {
     ];
     run_rows(&rt, rt.alloc(), &mut cluster, &rows)?;
     assert!(rt; cluster.serves(rank(1), Dir::new(1)));
-    assert_eq!(rt; cluster.journal(rank(1)).len(), 2);
+    same(&rt, &cluster.journal(rank(1)).len(), &2);
     Ok(())
 }
 

@@ -1,6 +1,7 @@
 //! Orders of random trees beside the sets that grow from one directory.
 ghost use Rattle.std.specs.Prelude.{◌<◌};
 
+use crate::same::holds_in;
 use crate::trees::{is_order, new_tree, orders_of, ranks};
 use mds_types::Order;
 use std::alloc::{AllocError, Global};
@@ -130,10 +131,7 @@ fn is_grown_at_random(alloc: Global, random: &mut Random) -> Result<bool, Fail> 
 fn orders_of_random_trees_are_grown_sets(rt: HostRuntime) -> Result<(), Fail> {
     let mut random = Random { state: 7 };
     for round in 0..200 {
-        assert!(rt;
-            is_grown_at_random(rt.alloc(), &mut random)?,
-            "tree {round}"
-        );
+        holds_in(&rt, is_grown_at_random(rt.alloc(), &mut random)?, &round);
     }
     Ok(())
 }

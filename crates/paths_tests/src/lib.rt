@@ -12,6 +12,8 @@ mod published;
 #[cfg(test)]
 mod refused_maps;
 #[cfg(test)]
+mod same;
+#[cfg(test)]
 mod shares;
 #[cfg(test)]
 mod trees;

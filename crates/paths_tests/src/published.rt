@@ -2,6 +2,7 @@
 ghost use Rattle.std.specs.Prelude.{◌≡◌};
 
 use crate::maps::{all_found, clear, give, give_often, give_two, hear, look, rank, show};
+use crate::same::same;
 use authority_map::{Found, MapError, MapReader, MapWriter, NewMap, Publisher};
 use mds_types::{Dir, Rank};
 use naming::Naming;
@@ -226,8 +227,8 @@ fn long_lists_change_their_directories_alone(rt: HostRuntime) -> Result<(), Fail
 #[test]
 fn refusals_of_maps_are_printed(rt: HostRuntime) -> Result<(), Fail> {
     let memory = format!(in rt.alloc(); "{}", MapError::Memory)?;
-    assert_eq!(rt; memory.as_str(), "0 Memory");
+    same(&rt, &memory.as_str(), &"0 Memory");
     let no_reader = format!(in rt.alloc(); "{}", MapError::NoReader)?;
-    assert_eq!(rt; no_reader.as_str(), "34 NoReader");
+    same(&rt, &no_reader.as_str(), &"34 NoReader");
     Ok(())
 }

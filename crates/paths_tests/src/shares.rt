@@ -2,6 +2,7 @@
 ghost use Rattle.std.specs.Prelude.{◌≡◌, ◌<◌, ◌≤◌, All, IfOk};
 ghost use Rattle.heat_ledger.specs.Ledger.{IsClean, weight_of};
 
+use crate::same::same;
 use heat_ledger::{Book, HitError, Missing, NewBook, Share};
 use mds_types::Dir;
 use naming::Naming;
@@ -160,7 +161,7 @@ fn count_seven<J: Naming + Send + Sync + 'static, R: Threads + Abort + Sync>(
     deposit(&mut book, &mut first);
     deposit(&mut book, &mut second);
     assert!(rt; close_clean(alloc, &mut book, first, second, third)?);
-    assert_eq!(rt; book.counted(dir), 7);
+    same(rt, &book.counted(dir), &7);
     Ok(())
 }
 
@@ -191,13 +192,17 @@ fn close_joined<J: Naming, R: Abort>(
     let other = worked(taken(rt, &mut shares), dir, 3);
     let share = worked(taken(rt, &mut shares), dir, 2);
     let (mut share, is_first) = joined(&mut book, share, other);
-    assert_eq!(rt; (is_first, share.weight(), share.limit()), (true, 2, 4));
-    assert_eq!(rt; said(&book, &share, dir), [5, 5, 1, 0, 1]);
+    same(
+        rt,
+        &(is_first, share.weight(), share.limit()),
+        &(true, 2, 4),
+    );
+    same(rt, &said(&book, &share, dir), &[5, 5, 1, 0, 1]);
     deposit(&mut book, &mut share);
-    assert_eq!(rt; said(&book, &share, dir), [5, 0, 1, 5, 1]);
-    assert_eq!(rt; share.hit(Dir::new(4)), Err(HitError::NoDir));
+    same(rt, &said(&book, &share, dir), &[5, 0, 1, 5, 1]);
+    same(rt, &share.hit(Dir::new(4)), &Err(HitError::NoDir));
     assert!(rt; close_over(alloc, &mut book, share)?);
-    assert_eq!(rt; (book.counted(dir), book.begun(dir)), (5, 1));
+    same(rt, &(book.counted(dir), book.begun(dir)), &(5, 1));
     Ok(())
 }
 
@@ -228,17 +233,21 @@ fn count_surely<J: Naming, R: Abort>(
     let (mut book, mut shares) = open::<J>(alloc, opened, 2)?;
     book.audit(&mut shares);
     let mut share = worked(worked(taken(rt, &mut shares), last, 3), first, 1);
-    assert_eq!(rt; said(&book, &share, first), [1, 1, 0, 0, 0]);
-    assert_eq!(rt; said(&book, &share, last), [3, 3, 0, 0, 0]);
+    same(rt, &said(&book, &share, first), &[1, 1, 0, 0, 0]);
+    same(rt, &said(&book, &share, last), &[3, 3, 0, 0, 0]);
     assert!(rt; begun_first(&mut book, &mut share, last));
-    assert_eq!(rt; said(&book, &share, last), [3, 3, 1, 0, 1]);
+    same(rt, &said(&book, &share, last), &[3, 3, 1, 0, 1]);
     deposit(&mut book, &mut share);
-    assert_eq!(rt; said(&book, &share, first), [1, 0, 0, 1, 0]);
-    assert_eq!(rt; said(&book, &share, last), [3, 0, 1, 3, 1]);
-    assert_eq!(rt; said(&book, &share, past), [0, 0, 0, 0, 0]);
-    assert_eq!(rt; (book.limit(), share.weight()), (4, 1));
-    assert_eq!(rt; share.count(last, 1_000_000), 1_000_000);
-    assert_eq!(rt; said(&book, &share, last), [1_000_003, 1_000_000, 1, 3, 1]);
+    same(rt, &said(&book, &share, first), &[1, 0, 0, 1, 0]);
+    same(rt, &said(&book, &share, last), &[3, 0, 1, 3, 1]);
+    same(rt, &said(&book, &share, past), &[0, 0, 0, 0, 0]);
+    same(rt, &(book.limit(), share.weight()), &(4, 1));
+    same(rt, &share.count(last, 1_000_000), &1_000_000);
+    same(
+        rt,
+        &said(&book, &share, last),
+        &[1_000_003, 1_000_000, 1, 3, 1],
+    );
     Ok(())
 }
 
@@ -265,7 +274,7 @@ fn refusals_of_shares_are_printed(rt: HostRuntime) -> Result<(), Fail> {
         (format!(in rt.alloc(); "{}", Missing(2))?, "14 Missing 2"),
     ];
     for (text, wanted) in &table {
-        assert_eq!(rt; text.as_str(), *wanted);
+        same(&rt, &text.as_str(), wanted);
     }
     Ok(())
 }

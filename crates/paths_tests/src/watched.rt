@@ -2,6 +2,7 @@
 ghost use Rattle.std.specs.Prelude.{◌≡◌};
 
 use crate::maps::{give, hear, look, rank, show};
+use crate::same::same;
 use authority_map::{Found, MapError, MapReader, MapWriter, NewMap, Publisher};
 use mds_types::Dir;
 use naming::Naming;
@@ -136,7 +137,7 @@ fn answers_never_go_back(rt: HostRuntime) -> Result<(), Fail> {
     let seen = raise_and_watch::<Brand, HostRuntime>(&rt, rt.alloc(), NewMap::new()).ok_or("open")?;
     let (forward, last, raised) = seen;
     assert!(rt; raised);
-    assert_eq!(rt; forward, [true, true, true]);
-    assert_eq!(rt; last, [Found::Rank(rank(63)); 3]);
+    same(&rt, &forward, &[true, true, true]);
+    same(&rt, &last, &[Found::Rank(rank(63)); 3]);
     Ok(())
 }

@@ -6,6 +6,7 @@ ghost use Rattle.std.specs.Prelude.{◌<◌, ◌≤◌, length};
 
 use crate::cuts::chain;
 use crate::given::{at_last, first_ranks, hot_rows, over};
+use crate::same::{holds_in, same};
 use exhaustive::{Random, least_greatest_heat};
 use mds_types::{CutProof, Problem, ProblemRow, Row};
 use minmax_search::{Found, search};
@@ -45,8 +46,8 @@ const STAR: [(u32, u64); 4] = [(0, 2), (0, 5), (0, 4), (0, 3)];
 #[test]
 fn finds_the_least_greatest_heat(rt: HostRuntime) -> Result<(), Fail> {
     let two = found_in(rt.alloc(), &STAR, 2)?;
-    assert_eq!(rt; two.greatest, 9);
-    assert_eq!(rt; two.cut.part.as_slice(), [0, 1, 0, 0].as_slice());
+    same(&rt, &two.greatest, &9);
+    same(&rt, &two.cut.part.as_slice(), &[0, 1, 0, 0].as_slice());
     let table = [
         entry(2, 5, 4, false),
         entry(0, 5, 0, true),
@@ -60,10 +61,10 @@ fn finds_the_least_greatest_heat(rt: HostRuntime) -> Result<(), Fail> {
 #[test]
 fn the_least_heavy_row_is_told(rt: HostRuntime) -> Result<(), Fail> {
     let three = found_in(rt.alloc(), &STAR, 3)?;
-    assert_eq!(rt; three.greatest, 5);
+    same(&rt, &three.greatest, &5);
     assert!(rt; is_heavy(&three.proof, 1));
     let twice = found_in(rt.alloc(), &[(0, 2), (0, 7), (0, 7), (1, 7)], 4)?;
-    assert_eq!(rt; twice.greatest, 7);
+    same(&rt, &twice.greatest, &7);
     assert!(rt; is_heavy(&twice.proof, 1));
     Ok(())
 }
@@ -71,10 +72,14 @@ fn the_least_heavy_row_is_told(rt: HostRuntime) -> Result<(), Fail> {
 #[test]
 fn searches_no_rows_and_no_heat(rt: HostRuntime) -> Result<(), Fail> {
     let none = found_in(rt.alloc(), &[], 2)?;
-    assert_eq!(rt; (none.greatest, none.cut.count, none.passes), (0, 0, 1));
+    same(
+        &rt,
+        &(none.greatest, none.cut.count, none.passes),
+        &(0, 0, 1),
+    );
     assert!(rt; matches!(&none.proof, CutProof::Zero));
     let cold = found_in(rt.alloc(), &[(0, 0), (0, 0)], 2)?;
-    assert_eq!(rt; (cold.greatest, cold.cut.count), (0, 1));
+    same(&rt, &(cold.greatest, cold.cut.count), &(0, 1));
     assert!(rt; matches!(&cold.proof, CutProof::Zero));
     Ok(())
 }
@@ -83,13 +88,13 @@ fn searches_no_rows_and_no_heat(rt: HostRuntime) -> Result<(), Fail> {
 fn searches_a_chain(rt: HostRuntime) -> Result<(), Fail> {
     let problem = over(chain(rt.alloc(), 65536)?, u64::MAX)?;
     let long = found(rt.alloc(), &problem)?;
-    assert_eq!(rt; (long.greatest, long.cut.count), (1024, 64));
+    same(&rt, &(long.greatest, long.cut.count), &(1024, 64));
     // at least the cut, the table below it and one walk that failed
-    assert!(rt; (3..=60).contains(&long.passes), "{} passes", long.passes);
+    holds_in(&rt, (3..=60).contains(&long.passes), &long.passes);
     let CutProof::Table(table) = &long.proof else {
         return Err("a chain needs a table")?;
     };
-    assert_eq!(rt; table.rows().first().map(|row| row.cuts), Some(64));
+    same(&rt, &table.rows().first().map(|row| row.cuts), &Some(64));
     Ok(())
 }
 
@@ -100,8 +105,8 @@ fn searches_a_star(rt: HostRuntime) -> Result<(), Fail> {
         star.push((0, if i == 0 { 0 } else { 1 << 40 }))?;
     }
     let wide = found_in(rt.alloc(), &star, 64)?;
-    assert_eq!(rt; wide.greatest, 71987225293750272);
-    assert!(rt; (3..=60).contains(&wide.passes), "{} passes", wide.passes);
+    same(&rt, &wide.greatest, &71987225293750272);
+    holds_in(&rt, (3..=60).contains(&wide.passes), &wide.passes);
     assert!(rt; matches!(&wide.proof, CutProof::Table(_)));
     Ok(())
 }
@@ -135,7 +140,7 @@ fn no_division_of_small_trees_is_cooler(rt: HostRuntime) -> Result<(), Fail> {
         let ranks = 1 + random.below(4) as u8;
         let rows = random_rows(rt.alloc(), &mut random, count)?;
         assert!(rt; rows.len() <= 8);
-        assert!(rt; is_least(rt.alloc(), rows, ranks)?, "round {round}");
+        holds_in(&rt, is_least(rt.alloc(), rows, ranks)?, &round);
     }
     Ok(())
 }
@@ -172,7 +177,7 @@ fn cut_and_table_are_those_at_the_bound(rt: HostRuntime) -> Result<(), Fail> {
         let count = 1 + random.below(40) as u32;
         let ranks = 1 + random.below(9) as u8;
         let rows = random_rows(rt.alloc(), &mut random, count)?;
-        assert!(rt; is_cut_there(rt.alloc(), rows, ranks)?, "round {round}");
+        holds_in(&rt, is_cut_there(rt.alloc(), rows, ranks)?, &round);
     }
     Ok(())
 }

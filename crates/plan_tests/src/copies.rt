@@ -1,6 +1,7 @@
 //! Copies of what plans are made of, with ample memory.
 
 use crate::given::{hot_rows, list_of, over, table};
+use crate::same::same;
 use arrayvec::ArrayVec;
 use mds_types::{CutProof, Dir, Dirs, DualProof, Order, Plan, Rank};
 use std::alloc::Global;
@@ -66,7 +67,7 @@ fn copies_orders(rt: HostRuntime) -> Result<(), Fail> {
         dirs: Dirs::new(list_of(rt.alloc(), &[Dir::ROOT, Dir::new(5)])?),
     };
     let copy = order.copied(rt.alloc())?;
-    assert_eq!(rt; copy, order);
+    same(&rt, &copy, &order);
     Ok(())
 }
 
@@ -74,7 +75,7 @@ fn copies_orders(rt: HostRuntime) -> Result<(), Fail> {
 fn copies_problems(rt: HostRuntime) -> Result<(), Fail> {
     let problem = over(hot_rows(rt.alloc(), &[(0, 5), (0, 7)])?, 6)?;
     let copy = problem.copied(rt.alloc())?;
-    assert_eq!(rt; copy.rows(), problem.rows());
-    assert_eq!(rt; copy.ranks(), problem.ranks());
+    same(&rt, &copy.rows(), &problem.rows());
+    same(&rt, &copy.ranks(), &problem.ranks());
     Ok(())
 }

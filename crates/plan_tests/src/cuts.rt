@@ -5,6 +5,7 @@
 ghost use Rattle.std.specs.Prelude.{◌<◌, ◌≤◌, ◌-◌, ◌^◌, length};
 
 use crate::given::{at_last, hot_rows, over};
+use crate::same::{holds_in, same, same_in};
 use exhaustive::{Random, fewest_parts};
 use mds_types::{Problem, ProblemRow, Rank, Row};
 use residual_cut::{Cut, CutError, cut_at};
@@ -54,27 +55,27 @@ const STAR: [(u32, u64); 4] = [(0, 2), (0, 5), (0, 4), (0, 3)];
 #[test]
 fn cuts_the_hottest_pieces(rt: HostRuntime) -> Result<(), Fail> {
     let cut = cut_of(rt.alloc(), &STAR, 7)?;
-    assert_eq!(rt; cut.count, 3);
-    assert_eq!(rt; cut.part.as_slice(), [0, 1, 2, 0].as_slice());
+    same(&rt, &cut.count, &3);
+    same(&rt, &cut.part.as_slice(), &[0, 1, 2, 0].as_slice());
     let root = Row {
         cuts: 2,
         rest: 5,
         price: 4,
         cut: false,
     };
-    assert_eq!(rt; cut.rows.first(), Some(&root));
+    same(&rt, &cut.rows.first(), &Some(&root));
     Ok(())
 }
 
 #[test]
 fn refuses_the_least_heavy_row(rt: HostRuntime) -> Result<(), Fail> {
     let (error, passes) = no_cut(rt.alloc(), hot_rows(rt.alloc(), &STAR)?, 4)?;
-    assert_eq!(rt; error, CutError::Heavy(1));
-    assert_eq!(rt; passes, 8);
+    same(&rt, &error, &CutError::Heavy(1));
+    same(&rt, &passes, &8);
     let text = at_last(|| error.to_string(rt.alloc()))?;
-    assert_eq!(rt; text.as_str(), "16 Heavy 1");
+    same(&rt, &text.as_str(), &"16 Heavy 1");
     let text = at_last(|| CutError::Memory.to_string(rt.alloc()))?;
-    assert_eq!(rt; text.as_str(), "0 Memory");
+    same(&rt, &text.as_str(), &"0 Memory");
     Ok(())
 }
 
@@ -82,9 +83,9 @@ fn refuses_the_least_heavy_row(rt: HostRuntime) -> Result<(), Fail> {
 fn cuts_the_smaller_row_among_equals(rt: HostRuntime) -> Result<(), Fail> {
     let rows = [(0, 1), (0, 3), (0, 5), (0, 5), (0, 4)];
     let one = cut_of(rt.alloc(), &rows, 13)?;
-    assert_eq!(rt; one.part.as_slice(), [0, 0, 1, 0, 0].as_slice());
+    same(&rt, &one.part.as_slice(), &[0, 0, 1, 0, 0].as_slice());
     let two = cut_of(rt.alloc(), &rows, 8)?;
-    assert_eq!(rt; two.part.as_slice(), [0, 0, 1, 2, 0].as_slice());
+    same(&rt, &two.part.as_slice(), &[0, 0, 1, 2, 0].as_slice());
     Ok(())
 }
 
@@ -126,10 +127,7 @@ fn cuts_many_children_of_one_row(rt: HostRuntime) -> Result<(), Fail> {
     ] {
         let rows = wide_rows(rt.alloc(), first, more, less)?;
         let (cut, _) = counted_cut(rt.alloc(), rows, bound)?;
-        assert!(rt;
-            are_cut(&cut.part, low, high),
-            "{low} to {high} within {bound}"
-        );
+        holds_in(&rt, are_cut(&cut.part, low, high), &(low, high, bound));
     }
     Ok(())
 }
@@ -137,8 +135,8 @@ fn cuts_many_children_of_one_row(rt: HostRuntime) -> Result<(), Fail> {
 #[test]
 fn cuts_no_rows(rt: HostRuntime) -> Result<(), Fail> {
     let (cut, passes) = counted_cut(rt.alloc(), Vec::new(rt.alloc()), 0)?;
-    assert_eq!(rt; cut.count, 0);
-    assert_eq!(rt; passes, 8);
+    same(&rt, &cut.count, &0);
+    same(&rt, &passes, &8);
     Ok(())
 }
 
@@ -167,7 +165,7 @@ fn cuts_a_long_chain(rt: HostRuntime) -> Result<(), Fail> {
         (u64::MAX, 1),
     ] {
         let (cut, _) = counted_cut(rt.alloc(), chain(rt.alloc(), 65536)?, bound)?;
-        assert_eq!(rt; cut.count, count, "within {bound}");
+        same_in(&rt, &cut.count, &count, &bound);
     }
     Ok(())
 }
@@ -198,7 +196,7 @@ fn no_division_of_small_trees_has_fewer_parts(rt: HostRuntime) -> Result<(), Fai
         };
         let bound = random.below(20);
         assert!(rt; rows.len() <= 8);
-        assert!(rt; is_fewest(rt.alloc(), rows, bound)?, "round {round}");
+        holds_in(&rt, is_fewest(rt.alloc(), rows, bound)?, &round);
     }
     Ok(())
 }

@@ -18,4 +18,6 @@ mod placings;
 #[cfg(test)]
 mod refused_rows;
 #[cfg(test)]
+mod same;
+#[cfg(test)]
 mod solving;

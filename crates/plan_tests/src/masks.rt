@@ -1,5 +1,6 @@
 //! Masks, and the ranks that are usable.
 
+use crate::same::{same, same_in};
 use mds_types::{BadMask, Rank, RankSet};
 use std::test::Fail;
 
@@ -25,7 +26,7 @@ fn reads_masks(rt: HostRuntime) {
     ];
     for (mask, bits) in table {
         let read = RankSet::parse(mask).ok();
-        assert_eq!(rt; read, bits.map(RankSet::from_bits), "{mask}");
+        same_in(&rt, &read, &bits.map(RankSet::from_bits), &mask);
     }
 }
 
@@ -42,12 +43,12 @@ fn keeps_active_ranks(rt: HostRuntime) -> Result<(), Fail> {
     ];
     for (active, bits, count) in table {
         let kept = set.among(active);
-        assert_eq!(rt; kept, RankSet::from_bits(bits), "{active} active");
-        assert_eq!(rt; kept.len(), count, "{active} active");
-        assert_eq!(rt; kept.is_empty(), count == 0, "{active} active");
+        same_in(&rt, &kept, &RankSet::from_bits(bits), &active);
+        same_in(&rt, &kept.len(), &count, &active);
+        same_in(&rt, &kept.is_empty(), &(count == 0), &active);
     }
     assert!(rt; set.has(Rank::new(63).ok_or("rank 63")?));
     assert!(rt; !set.has(Rank::new(1).ok_or("rank 1")?));
-    assert_eq!(rt; BadMask.to_string(rt.alloc())?.as_str(), "1 BadMask");
+    same(&rt, &BadMask.to_string(rt.alloc())?.as_str(), &"1 BadMask");
     Ok(())
 }

@@ -5,6 +5,7 @@
 ghost use Rattle.std.specs.Prelude.{◌≡◌, ◌<◌, ◌≤◌, ℕ, true, length, slice_index};
 ghost use Rattle.mds_types.specs.RankSet.{rank_count};
 
+use crate::same::{holds_in, same_in};
 use cost_table::place_of;
 use exhaustive::{Random, fewest_moved};
 use mds_types::{Problem, ProblemRow, Rank, RankSet};
@@ -268,9 +269,10 @@ fn costs_what_moves(rt: HostRuntime) -> Result<(), Fail> {
         (4, [0, 0, 0, 0, 0], 1, &[4294967303]),
     ];
     for (bits, part, count, cells) in tables {
-        assert!(rt;
+        holds_in(
+            &rt,
             five_rows_cost(&rt, rt.alloc(), bits, &part, count, cells)?,
-            "ranks {bits:#x}"
+            &bits,
         );
     }
     Ok(())
@@ -280,7 +282,7 @@ fn costs_what_moves(rt: HostRuntime) -> Result<(), Fail> {
 fn counts_the_smaller_ranks(rt: HostRuntime) -> Result<(), Fail> {
     let ranks = RankSet::from_bits(0x8000_0000_0000_000d);
     for (number, place) in [(0, 0), (1, 1), (2, 1), (3, 2), (4, 3), (63, 3)] {
-        assert_eq!(rt; place_of(ranks, rank(number)?), place, "rank {number}");
+        same_in(&rt, &place_of(ranks, rank(number)?), &place, &number);
     }
     Ok(())
 }
@@ -335,9 +337,10 @@ fn hands_ranks_on_where_that_costs_less(rt: HostRuntime) -> Result<(), Fail> {
         ),
     ];
     for (count, ranks, cells, least, numbers) in tables {
-        assert!(rt;
+        holds_in(
+            &rt,
             places_so(rt.alloc(), count, ranks, cells, least, numbers)?,
-            "{count} parts"
+            &count,
         );
     }
     Ok(())
@@ -357,7 +360,7 @@ fn takes_cells_that_fit(rt: HostRuntime) -> Result<(), Fail> {
     ];
     for (count, ranks, cells, taken) in tables {
         let costs = given_costs(rt.alloc(), count, ranks, cells)?;
-        assert_eq!(rt; costs.is_some(), taken, "{count} parts");
+        same_in(&rt, &costs.is_some(), &taken, &count);
     }
     Ok(())
 }
@@ -395,7 +398,7 @@ fn no_choice_costs_less(rt: HostRuntime) -> Result<(), Fail> {
         let cells = random_cells(&mut random, round / 10 + 2);
         let costs = given_costs(rt.alloc(), 3, 0x8000_0000_0000_1011, &cells)?.ok_or("no costs")?;
         let moved = assigned(rt.alloc(), &costs)?.moved;
-        assert_eq!(rt; moved, least_of(&cells), "round {round}");
+        same_in(&rt, &moved, &least_of(&cells), &round);
     }
     Ok(())
 }
@@ -443,7 +446,7 @@ fn no_placing_moves_less(rt: HostRuntime) -> Result<(), Fail> {
         let (problem, part) = random_star(&mut random, alloc, 8, 3)?;
         let costs = table(&rt, alloc, &problem, &part, 3)?;
         let moved = assigned(alloc, &costs)?.moved;
-        assert_eq!(rt; Some(moved), fewest(&problem, &part), "round {round}");
+        same_in(&rt, &Some(moved), &fewest(&problem, &part), &round);
     }
     Ok(())
 }
@@ -456,7 +459,7 @@ fn chunks_cost_what_all_rows_do(rt: HostRuntime) -> Result<(), Fail> {
         let (problem, part) = random_star(&mut random, alloc, size, 4)?;
         let costs = table(&rt, alloc, &problem, &part, 4)?;
         let is_same = chunks_give(&rt, alloc, &problem, &part, 4, costs.cells())?;
-        assert!(rt; is_same, "{size} rows");
+        holds_in(&rt, is_same, &size);
     }
     Ok(())
 }

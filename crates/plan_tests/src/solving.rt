@@ -5,6 +5,7 @@
 ghost use Rattle.std.specs.Prelude.{◌<◌};
 
 use crate::given::{Given, at_last, problem};
+use crate::same::{holds_in, same, same_in};
 use exhaustive::{Random, fewest_moved, least_greatest_heat};
 use mds_types::{CutProof, Plan, Problem, RankSet};
 use plan_checker::check;
@@ -89,12 +90,12 @@ fn solves_small_trees(rt: HostRuntime) -> Result<(), Fail> {
     for (rows, ranks, greatest, moved, proof, part, rank) in SMALL_TREES {
         let problem = problem(alloc, rows, ranks)?;
         let plan = solved(&rt, alloc, &problem)?;
-        assert_eq!(rt; plan.greatest, greatest, "{rows:?}");
-        assert_eq!(rt; plan.moved, moved, "{rows:?}");
-        assert_eq!(rt; word(&plan.cut), proof, "{rows:?}");
-        assert_eq!(rt; plan.part.as_slice(), part, "{rows:?}");
-        assert_eq!(rt; numbers(alloc, &plan)?.as_slice(), rank, "{rows:?}");
-        assert!(rt; judged(alloc, &problem, &plan)?, "{rows:?}");
+        same_in(&rt, &plan.greatest, &greatest, &rows);
+        same_in(&rt, &plan.moved, &moved, &rows);
+        same_in(&rt, &word(&plan.cut), &proof, &rows);
+        same_in(&rt, &plan.part.as_slice(), &part, &rows);
+        same_in(&rt, &numbers(alloc, &plan)?.as_slice(), &rank, &rows);
+        holds_in(&rt, judged(alloc, &problem, &plan)?, &rows);
     }
     Ok(())
 }
@@ -111,13 +112,13 @@ fn compare<R: Abort + AllocGlobal + Threads + Sync>(
     let plan = solved(rt, alloc, problem)?;
     let rows = problem.rows();
     assert!(rt; rows.len() <= 8);
-    assert_eq!(rt; plan.part.len(), rows.len());
+    same(rt, &plan.part.len(), &rows.len());
     let parts = plan.rank.len() as u32;
     assert!(rt; parts <= 3);
-    assert_eq!(rt; plan.greatest, least_greatest_heat(rows, ranks), "{rows:?}");
+    same_in(rt, &plan.greatest, &least_greatest_heat(rows, ranks), &rows);
     let trial = fewest_moved(rows, &plan.part, parts, problem.ranks());
-    assert_eq!(rt; Some(plan.moved), trial, "{rows:?}");
-    assert!(rt; judged(alloc, problem, &plan)?, "{rows:?}");
+    same_in(rt, &Some(plan.moved), &trial, &rows);
+    holds_in(rt, judged(alloc, problem, &plan)?, &rows);
     Ok(())
 }
 
@@ -176,7 +177,7 @@ fn change(plan: &mut Plan, random: &mut Random) {
 fn is_best_by_trial<R: Abort>(rt: &R, problem: &Problem, plan: &Plan) -> bool {
     let rows = problem.rows();
     assert!(rt; rows.len() <= 8);
-    assert_eq!(rt; plan.part.len(), rows.len());
+    same(rt, &plan.part.len(), &rows.len());
     let parts = plan.rank.len() as u32;
     assert!(rt; parts <= 2);
     plan.greatest == least_greatest_heat(rows, 2)
@@ -200,9 +201,9 @@ fn what_passes_is_best(rt: HostRuntime) -> Result<(), Fail> {
         change(&mut plan, &mut random);
         if judged(alloc, &problem, &plan)? {
             passed = passed.saturating_add(1);
-            assert!(rt; is_best_by_trial(&rt, &problem, &plan), "{plan:?}");
+            holds_in(&rt, is_best_by_trial(&rt, &problem, &plan), &plan);
         }
     }
-    assert!(rt; passed > 20 && passed < 100, "{passed} passed");
+    holds_in(&rt, passed > 20 && passed < 100, &passed);
     Ok(())
 }

@@ -3,6 +3,7 @@ ghost use Rattle.std.specs.Prelude.{◌≡◌};
 
 use crate::boards::{done, orders, rank};
 use crate::gates::JitterGate;
+use crate::same::same;
 use authority_map::MapWriter;
 use board_state::{BoardError, BoardParts};
 use export_machine::{Event, StepError};
@@ -99,7 +100,7 @@ fn ranks_carry_out_orders(rt: HostRuntime) -> Result<(), Fail> {
         let map = authority_map::NewMap::new();
         let seen = carry_out::<Brand, _>(&rt, rt.alloc(), (book, map))?;
         let there = [done(0), done(1)];
-        assert_eq!(rt; seen.there.as_slice(), there.as_slice());
+        same(&rt, &seen.there.as_slice(), &there.as_slice());
         let back = [done(2), done(3)];
         let crossed = [done(3), done(2)];
         assert!(rt;
@@ -110,8 +111,8 @@ fn ranks_carry_out_orders(rt: HostRuntime) -> Result<(), Fail> {
             done(4),
             OrderOutcome::TakenUp(Outcome::Aborted(5)),
         ];
-        assert_eq!(rt; seen.late.as_slice(), late.as_slice());
-        assert_eq!(rt; seen.authorities, (Some(rank(1)), Some(rank(0))));
+        same(&rt, &seen.late.as_slice(), &late.as_slice());
+        same(&rt, &seen.authorities, &(Some(rank(1)), Some(rank(0))));
     }
     Ok(())
 }
@@ -120,9 +121,9 @@ fn ranks_carry_out_orders(rt: HostRuntime) -> Result<(), Fail> {
 #[test]
 fn no_thread_is_printed_by_its_number(rt: HostRuntime) -> Result<(), Fail> {
     let text = format!(in rt.alloc(); "{}", WorkError::NoThread)?;
-    assert_eq!(rt; text.as_str(), "36 NoThread");
+    same(&rt, &text.as_str(), &"36 NoThread");
     let refused = WorkError::Board(BoardError::Step(StepError::Stopped(rank(3))));
     let text = format!(in rt.alloc(); "{refused}")?;
-    assert_eq!(rt; text.as_str(), "28 Stopped 3");
+    same(&rt, &text.as_str(), &"28 Stopped 3");
     Ok(())
 }

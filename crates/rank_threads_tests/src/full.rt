@@ -2,6 +2,7 @@
 ghost use Rattle.std.specs.Prelude.{◌≡◌, length};
 
 use crate::requests::{names, open, scripts, served, work};
+use crate::same::same;
 use authority_map::Publisher;
 use board_state::BoardError;
 use mds_board::Board;
@@ -73,10 +74,10 @@ fn an_end_without_room_is_told(rt: HostRuntime) -> Result<(), Fail> {
     let given = names(rt.alloc())?;
     let left = serve::<Brand, _>(&rt, rt.alloc(), given, &all, 1_048_574)?;
     let first = left.answers.get(0).ok_or("no answers")?;
-    assert_eq!(rt; first.as_slice(), [served(0, 3)].as_slice());
-    assert_eq!(rt; left.ended, Err(BoardError::HistoryFull));
-    assert_eq!(rt; left.deposited, Err(BoardError::HistoryFull));
-    assert_eq!(rt; left.entries, 1_048_576);
+    same(&rt, &first.as_slice(), &[served(0, 3)].as_slice());
+    same(&rt, &left.ended, &Err(BoardError::HistoryFull));
+    same(&rt, &left.deposited, &Err(BoardError::HistoryFull));
+    same(&rt, &left.entries, &1_048_576);
     Ok(())
 }
 
@@ -86,13 +87,13 @@ fn ranks_without_requests_keep_their_shares(rt: HostRuntime) -> Result<(), Fail>
     let all = scripts(rt.alloc(), &[], &[])?;
     let given = names(rt.alloc())?;
     let left = serve::<Brand, _>(&rt, rt.alloc(), given, &all, 0)?;
-    assert_eq!(rt; left.shares, 2);
-    assert_eq!(rt; left.answers.len(), 2);
+    same(&rt, &left.shares, &2);
+    same(&rt, &left.answers.len(), &2);
     for answers in left.answers.iter() {
         assert!(rt; answers.is_empty());
     }
-    assert_eq!(rt; left.deposited, Ok(()));
-    assert_eq!(rt; left.ended, Ok(()));
-    assert_eq!(rt; left.entries, 3);
+    same(&rt, &left.deposited, &Ok(()));
+    same(&rt, &left.ended, &Ok(()));
+    same(&rt, &left.entries, &3);
     Ok(())
 }

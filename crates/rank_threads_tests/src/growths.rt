@@ -3,6 +3,7 @@ ghost use Rattle.std.specs.Prelude.{◌≡◌};
 
 use crate::boards::{open, orders, rank, running};
 use crate::requests::{names, refused, scripts, work};
+use crate::same::{holds_in, same};
 use authority_map::Publisher;
 use board_state::BoardError;
 use export_machine::StepError;
@@ -125,7 +126,7 @@ fn a_refused_growth_of_answers_changes_nothing(rt: HostRuntime) -> Result<(), Fa
         Err(_) => serve_named(&rt, rt.alloc())?,
     };
     assert!(rt; seen.unchanged);
-    assert_eq!(rt; seen.running, 0);
+    same(&rt, &seen.running, &0);
     let mut hits: u64 = 0;
     let mut refusals: u32 = 0;
     for (answers, wanted) in seen.answers.iter().zip([[3, 4], [0, 0]]) {
@@ -133,16 +134,16 @@ fn a_refused_growth_of_answers_changes_nothing(rt: HostRuntime) -> Result<(), Fa
             if is_memory(answer) {
                 refusals = refusals.wrapping_add(1);
             } else if all > 0 {
-                assert_eq!(rt; (answer.hits, answer.refused), (all, None));
+                same(&rt, &(answer.hits, answer.refused), &(all, None));
                 hits = hits.wrapping_add(u64::from(all));
             } else {
-                assert_eq!(rt; *answer, refused(StepError::NoDir));
+                same(&rt, answer, &refused(StepError::NoDir));
             }
         }
     }
     assert!(rt; refusals <= 1);
-    assert_eq!(rt; seen.hits, hits);
-    assert_eq!(rt; seen.heat.wrapping_add(seen.pending), hits);
+    same(&rt, &seen.hits, &hits);
+    same(&rt, &seen.heat.wrapping_add(seen.pending), &hits);
     Ok(())
 }
 
@@ -248,12 +249,13 @@ fn a_refused_growth_of_outcomes_changes_nothing(rt: HostRuntime) -> Result<(), F
     let (first_one, first_two) = authorities;
     let (later_one, later_two) = later;
     assert!(rt; unchanged);
-    assert_eq!(rt; outcomes.len(), 2);
+    same(&rt, &outcomes.len(), &2);
     let stood = [(1, first_one, later_one), (2, first_two, later_two)];
     for (outcome, (to, first, later)) in outcomes.iter().zip(stood) {
-        assert!(rt;
+        holds_in(
+            &rt,
             stands(outcome, to, first, later),
-            "{outcome:?} {first:?} {later:?}"
+            &(outcome, first, later),
         );
     }
     Ok(())

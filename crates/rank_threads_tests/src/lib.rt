@@ -19,6 +19,8 @@ mod requests;
 #[cfg(test)]
 mod rows;
 #[cfg(test)]
+mod same;
+#[cfg(test)]
 mod threads;
 #[cfg(test)]
 mod whole;

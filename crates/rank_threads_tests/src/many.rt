@@ -4,6 +4,7 @@ ghost use Rattle.std.specs.Prelude.{◌≡◌};
 use crate::boards::{open, orders, running, serve};
 use crate::gates::JitterGate;
 use crate::requests::{names, work};
+use crate::same::{same, same_in};
 use mds_types::Dir;
 use naming::Naming;
 use rank_threads::{Work, WorkAnswer, export_phase};
@@ -87,17 +88,17 @@ fn many_requests_are_served(rt: HostRuntime) -> Result<(), Fail> {
     let seen = serve_many::<Brand, _>(&rt, rt.alloc(), given)?;
     let mut tickets = Vec::new(rt.alloc());
     for answer in seen.answers.iter() {
-        assert_eq!(rt; (answer.hits, answer.refused), (HITS, None));
+        same(&rt, &(answer.hits, answer.refused), &(HITS, None));
         tickets.push(answer.ticket)?;
     }
     tickets.sort_unstable();
-    assert_eq!(rt; tickets.len(), REQUESTS as usize);
+    same(&rt, &tickets.len(), &(REQUESTS as usize));
     for (number, ticket) in (0..REQUESTS).zip(tickets.iter()) {
-        assert_eq!(rt; *ticket, Some(number));
+        same(&rt, ticket, &Some(number));
     }
     for (rank, heat) in (0..RANKS).zip(seen.heats.iter()) {
-        assert_eq!(rt; *heat, u64::from(share_of(rank)) * 3, "{rank}");
+        same_in(&rt, heat, &(u64::from(share_of(rank)) * 3), &rank);
     }
-    assert_eq!(rt; seen.running, 0);
+    same(&rt, &seen.running, &0);
     Ok(())
 }

@@ -3,6 +3,7 @@ ghost use Rattle.std.specs.Prelude.{◌≡◌, IfOk, length, vec_len};
 ghost use Rattle.heat_ledger.specs.Ledger.{weight_of};
 
 use crate::gates::{JitterGate, MeetingGate};
+use crate::same::same;
 use authority_map::MapWriter;
 use board_state::{BoardError, BoardParts};
 use export_machine::{Event, StepError};
@@ -159,11 +160,19 @@ fn ranks_answer_their_requests(rt: HostRuntime) -> Result<(), Fail> {
         let seen = serve::<Brand, _, _>(&rt, rt.alloc(), given, &JitterGate, &all, None)?;
         let first = seen.first.as_slice();
         let no_dir = refused(StepError::NoDir);
-        assert_eq!(rt; first, [served(0, 3), served(1, 5), no_dir].as_slice());
+        same(
+            &rt,
+            &first,
+            &[served(0, 3), served(1, 5), no_dir].as_slice(),
+        );
         let elsewhere = refused(StepError::Elsewhere(rank(0)?));
-        assert_eq!(rt; seen.second.as_slice(), [elsewhere, no_dir].as_slice());
-        assert_eq!(rt; seen.heat, 5);
-        assert_eq!(rt; seen.entries, 7);
+        same(
+            &rt,
+            &seen.second.as_slice(),
+            &[elsewhere, no_dir].as_slice(),
+        );
+        same(&rt, &seen.heat, &5);
+        same(&rt, &seen.entries, &7);
     }
     Ok(())
 }
@@ -176,9 +185,9 @@ fn a_stopped_rank_refuses(rt: HostRuntime) -> Result<(), Fail> {
     let stop = Some(rank(0)?);
     let seen = serve::<Brand, _, _>(&rt, rt.alloc(), given, &JitterGate, &all, stop)?;
     let stopped = refused(StepError::Stopped(rank(0)?));
-    assert_eq!(rt; seen.first.as_slice(), [stopped].as_slice());
-    assert_eq!(rt; seen.heat, 0);
-    assert_eq!(rt; seen.entries, 4);
+    same(&rt, &seen.first.as_slice(), &[stopped].as_slice());
+    same(&rt, &seen.heat, &0);
+    same(&rt, &seen.entries, &4);
     Ok(())
 }
 
@@ -189,7 +198,7 @@ fn requests_of_two_ranks_meet(rt: HostRuntime) -> Result<(), Fail> {
     let gate = MeetingGate::new();
     let given = names(rt.alloc())?;
     let seen = serve::<Brand, _, _>(&rt, rt.alloc(), given, &gate, &all, None)?;
-    assert_eq!(rt; gate.met(), 2);
-    assert_eq!(rt; seen.heat, 5);
+    same(&rt, &gate.met(), &2);
+    same(&rt, &seen.heat, &5);
     Ok(())
 }

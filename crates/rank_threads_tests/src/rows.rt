@@ -4,6 +4,7 @@ ghost use Rattle.std.specs.Prelude.{◌≡◌};
 use crate::boards::{open, orders, rank, serve};
 use crate::gates::JitterGate;
 use crate::requests::{names, refused, scripts, served, work};
+use crate::same::same;
 use authority_map::Publisher;
 use export_machine::{Event, StepError};
 use heat_ledger::Share;
@@ -101,7 +102,7 @@ fn answers_are<R: Threads + Wait + Sync>(
     for _ in 0..100u32 {
         let given = names(alloc)?;
         let told = play::<Brand, R>(threads, alloc, given, steps)?;
-        assert_eq!(rt; told.as_slice(), answers);
+        same(rt, &told.as_slice(), &answers);
     }
     Ok(())
 }

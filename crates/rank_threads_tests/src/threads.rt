@@ -3,6 +3,7 @@ ghost use Rattle.std.specs.Prelude.{◌≡◌};
 
 use crate::boards::{done, open, orders, rank, running, serve};
 use crate::requests::{names, refused, scripts, served, work};
+use crate::same::same;
 use export_machine::StepError;
 use mds_types::{Dir, Rank};
 use naming::Naming;
@@ -51,13 +52,13 @@ fn a_rank_without_a_thread_is_told(rt: HostRuntime) -> Result<(), Fail> {
     let seen = serve_three::<Brand, _>(&rt, rt.alloc(), given)?;
     let none = WorkAnswer::no_thread();
     let all = seen.answers.as_slice();
-    assert_eq!(rt; all.len(), 3);
+    same(&rt, &all.len(), &3);
     let first = all.get(..2).unwrap_or(&[]);
     let is_served = first == [served(0, 3), served(1, 5)].as_slice();
     assert!(rt; is_served || first == [none, none].as_slice());
     assert!(rt; all.get(2) == Some(&none) || all.get(2) == Some(&refused(StepError::NoDir)));
-    assert_eq!(rt; seen.heat, if is_served { 8 } else { 0 });
-    assert_eq!(rt; seen.running, 0);
+    same(&rt, &seen.heat, &if is_served { 8 } else { 0 });
+    same(&rt, &seen.running, &0);
     Ok(())
 }
 
@@ -102,10 +103,10 @@ fn an_exporter_without_a_thread_is_told(rt: HostRuntime) -> Result<(), Fail> {
     let done = [done(0), done(1)];
     let none = [OrderOutcome::NoThread, OrderOutcome::NoThread];
     if seen.outcomes.as_slice() == done.as_slice() {
-        assert_eq!(rt; seen.authorities, (Some(rank(1)), Some(rank(2))));
+        same(&rt, &seen.authorities, &(Some(rank(1)), Some(rank(2))));
     } else {
-        assert_eq!(rt; seen.outcomes.as_slice(), none.as_slice());
-        assert_eq!(rt; seen.authorities, (Some(rank(0)), Some(rank(0))));
+        same(&rt, &seen.outcomes.as_slice(), &none.as_slice());
+        same(&rt, &seen.authorities, &(Some(rank(0)), Some(rank(0))));
         assert!(rt; !seen.has_export);
     }
     Ok(())

@@ -3,6 +3,7 @@ ghost use Rattle.std.specs.Prelude.{◌≡◌, length};
 
 use crate::gates::JitterGate;
 use crate::requests::{names, open, scripts, work};
+use crate::same::same;
 use mds_types::Dir;
 use naming::Naming;
 use rank_threads::{Work, serve_with_totals};
@@ -41,6 +42,6 @@ fn totals_rise(rt: HostRuntime) -> Result<(), Fail> {
     let all = scripts(rt.alloc(), &[work(1, 5), work(1, 2)], &[work(1, 9)])?;
     let given = names(rt.alloc())?;
     let totals = serve_audited::<Brand, _>(&rt, rt.alloc(), given, &all)?;
-    assert_eq!(rt; totals, (2, 7));
+    same(&rt, &totals, &(2, 7));
     Ok(())
 }

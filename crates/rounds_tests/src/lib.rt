@@ -10,4 +10,6 @@ mod moves;
 #[cfg(test)]
 mod refused;
 #[cfg(test)]
+mod same;
+#[cfg(test)]
 mod steps;

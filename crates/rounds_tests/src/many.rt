@@ -2,6 +2,7 @@
 ghost use Rattle.std.specs.Prelude.{◌≡◌};
 
 use crate::boards::open;
+use crate::same::{holds_in, same, same_in};
 use crate::steps::{moved, rank};
 use authority_map::Publisher;
 use export_rounds::Outcome;
@@ -26,7 +27,7 @@ fn fill<J: Naming, M: Publisher<J>>(
     for number in 0..MANY {
         let name = format!(in alloc; "d{number}")?;
         let made = board.make(alloc, Dir::new(number / 8), name.as_str(), 1);
-        assert!(rt; made.is_ok(), "{number}");
+        holds_in(rt, made.is_ok(), &number);
     }
     Ok(())
 }
@@ -42,9 +43,9 @@ fn move_all<J: Naming, M: Publisher<J>>(
         rows.push((0, 1, number + 1))?;
     }
     let outcomes = moved(alloc, board, &rows)?;
-    assert_eq!(rt; outcomes.len(), MANY as usize);
+    same(rt, &outcomes.len(), &(MANY as usize));
     for (number, outcome) in (0..MANY).zip(outcomes.iter()) {
-        assert_eq!(rt; *outcome, Outcome::Done(number));
+        same(rt, outcome, &Outcome::Done(number));
     }
     all_stand(rt, board);
     Ok(())
@@ -53,7 +54,7 @@ fn move_all<J: Naming, M: Publisher<J>>(
 fn all_stand<J: Naming, M: Publisher<J>>(rt: &impl Abort, board: &Board<J, M>) {
     for number in 0..MANY {
         let authority = board.cluster().authority(Dir::new(number + 1));
-        assert_eq!(rt; authority, Some(rank(1)), "{number}");
+        same_in(rt, &authority, &Some(rank(1)), &number);
     }
 }
 

@@ -2,6 +2,7 @@
 ghost use Rattle.std.specs.Prelude.{◌≡◌, ◌≤◌};
 
 use crate::boards::open;
+use crate::same::same;
 use crate::steps::{Do, make, moved, play, rank, stand};
 use authority_map::Publisher;
 use board_state::BoardError;
@@ -57,9 +58,10 @@ fn two_ranks<J: Naming, M: Publisher<J>>(
     board: &mut Board<J, M>,
 ) -> Result<(), Fail> {
     let outcomes = moved(alloc, board, &[(0, 1, 1), (0, 2, 2)])?;
-    assert_eq!(rt;
-        outcomes.as_slice(),
-        [Outcome::Done(0), Outcome::Done(1)].as_slice()
+    same(
+        rt,
+        &outcomes.as_slice(),
+        &[Outcome::Done(0), Outcome::Done(1)].as_slice(),
     );
     stand(rt, board, &[(0, 0), (1, 1), (2, 2)]);
     Ok(())
@@ -72,7 +74,7 @@ fn stopped_importer<J: Naming, M: Publisher<J>>(
 ) -> Result<(), Fail> {
     play(rt, alloc, board, &[Do::Stop(1)])?;
     let outcomes = moved(alloc, board, &[(0, 1, 0)])?;
-    assert_eq!(rt; outcomes.as_slice(), [Outcome::Aborted(0)].as_slice());
+    same(rt, &outcomes.as_slice(), &[Outcome::Aborted(0)].as_slice());
     stand(rt, board, &[(0, 0)]);
     Ok(())
 }
@@ -85,7 +87,7 @@ fn stopped_exporter<J: Naming, M: Publisher<J>>(
     play(rt, alloc, board, &[Do::Stop(0)])?;
     let outcomes = moved(alloc, board, &[(0, 1, 0)])?;
     let wanted = [refused(StepError::Stopped(rank(0)))];
-    assert_eq!(rt; outcomes.as_slice(), wanted.as_slice());
+    same(rt, &outcomes.as_slice(), &wanted.as_slice());
     Ok(())
 }
 
@@ -102,7 +104,7 @@ fn no_rank<J: Naming, M: Publisher<J>>(
         Outcome::Done(0),
         refused(StepError::Busy(0)),
     ];
-    assert_eq!(rt; outcomes.as_slice(), wanted.as_slice());
+    same(rt, &outcomes.as_slice(), &wanted.as_slice());
     stand(rt, board, &[(1, 1)]);
     Ok(())
 }
@@ -126,10 +128,10 @@ fn gives_up_what_was_started<J: Naming, M: Publisher<J>>(
     ];
     play(rt, alloc, board, &steps)?;
     let left = Some((ExporterState::Aborted, ImporterState::Started));
-    assert_eq!(rt; board.cluster().states(0), left);
-    assert_eq!(rt; moved(alloc, board, &[])?.len(), 0);
+    same(rt, &board.cluster().states(0), &left);
+    same(rt, &moved(alloc, board, &[])?.len(), &0);
     let over = Some((ExporterState::Aborted, ImporterState::Dropped));
-    assert_eq!(rt; board.cluster().states(0), over);
+    same(rt, &board.cluster().states(0), &over);
     stand(rt, board, &[(1, 0)]);
     Ok(())
 }
@@ -155,11 +157,11 @@ fn takes_over_what_was_notified<J: Naming, M: Publisher<J>>(
     ];
     play(rt, alloc, board, &steps)?;
     let left = Some((ExporterState::Done, ImporterState::Started));
-    assert_eq!(rt; board.cluster().states(0), left);
+    same(rt, &board.cluster().states(0), &left);
     let outcomes = moved(alloc, board, &[(0, 2, 2)])?;
-    assert_eq!(rt; outcomes.as_slice(), [Outcome::Done(1)].as_slice());
+    same(rt, &outcomes.as_slice(), &[Outcome::Done(1)].as_slice());
     let over = Some((ExporterState::Done, ImporterState::Imported));
-    assert_eq!(rt; board.cluster().states(0), over);
+    same(rt, &board.cluster().states(0), &over);
     stand(rt, board, &[(1, 1), (2, 2)]);
     Ok(())
 }
@@ -173,13 +175,13 @@ fn earlier_stays<J: Naming, M: Publisher<J>>(
     play(rt, alloc, board, &[Do::Start(0, 1, 1), Do::Stop(1)])?;
     let outcomes = moved(alloc, board, &[(0, 1, 2), (0, 2, 1)])?;
     let wanted = [Outcome::Aborted(1), refused(StepError::Busy(0))];
-    assert_eq!(rt; outcomes.as_slice(), wanted.as_slice());
+    same(rt, &outcomes.as_slice(), &wanted.as_slice());
     let earlier = Some((ExporterState::Discovering, ImporterState::Unknown));
-    assert_eq!(rt; board.cluster().states(0), earlier);
+    same(rt, &board.cluster().states(0), &earlier);
     play(rt, alloc, board, &[Do::Restart(1)])?;
-    assert_eq!(rt; moved(alloc, board, &[])?.len(), 0);
+    same(rt, &moved(alloc, board, &[])?.len(), &0);
     let done = Some((ExporterState::Done, ImporterState::Imported));
-    assert_eq!(rt; board.cluster().states(0), done);
+    same(rt, &board.cluster().states(0), &done);
     stand(rt, board, &[(1, 1), (2, 0)]);
     Ok(())
 }
@@ -192,15 +194,17 @@ fn there_and_back<J: Naming, M: Publisher<J>>(
     for turn in 0..3 {
         let there = moved(alloc, board, &[(0, 1, 1), (0, 1, 2)])?;
         let first = 4 * turn;
-        assert_eq!(rt;
-            there.as_slice(),
-            [Outcome::Done(first), Outcome::Done(first + 1)].as_slice()
+        same(
+            rt,
+            &there.as_slice(),
+            &([Outcome::Done(first), Outcome::Done(first + 1)].as_slice()),
         );
         stand(rt, board, &[(1, 1), (2, 1)]);
         let back = moved(alloc, board, &[(1, 0, 2), (1, 0, 1)])?;
-        assert_eq!(rt;
-            back.as_slice(),
-            [Outcome::Done(first + 2), Outcome::Done(first + 3)].as_slice()
+        same(
+            rt,
+            &back.as_slice(),
+            &([Outcome::Done(first + 2), Outcome::Done(first + 3)].as_slice()),
         );
         stand(rt, board, &[(1, 0), (2, 0)]);
     }

@@ -4,6 +4,7 @@
 ghost use Rattle.std.specs.Prelude.{◌≡◌};
 
 use crate::boards::open_at_last;
+use crate::same::{holds_in, same, same_in};
 use crate::steps::{rank, stand};
 use authority_map::Publisher;
 use board_state::BoardError;
@@ -74,9 +75,9 @@ fn made_at_last<J: Naming, M: Publisher<J>>(
     let before = read(board);
     let first = board.make(alloc, Dir::ROOT, name, 1);
     if first.is_err() {
-        assert_eq!(rt; first, Err(BoardError::Memory), "{name}");
-        assert!(rt; read(board) == before, "{name}");
-        assert!(rt; board.make(alloc, Dir::ROOT, name, 1).is_ok(), "{name}");
+        same_in(rt, &first, &Err(BoardError::Memory), &name);
+        holds_in(rt, read(board) == before, &name);
+        holds_in(rt, board.make(alloc, Dir::ROOT, name, 1).is_ok(), &name);
     }
 }
 
@@ -109,9 +110,9 @@ fn first_phase<J: Naming, M: Publisher<J>>(
     match carry_out_orders(board, alloc, orders) {
         Err(AllocError) => assert!(rt; read(board) == before),
         Ok(outcomes) => {
-            assert_eq!(rt; outcomes.len(), 2);
+            same(rt, &outcomes.len(), &2);
             for (dir, outcome) in (1..3).zip(outcomes.iter()) {
-                assert!(rt; is_told(board, dir, *outcome), "{dir}: {outcome:?}");
+                holds_in(rt, is_told(board, dir, *outcome), &(dir, outcome));
             }
         }
     }

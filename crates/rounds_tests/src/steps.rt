@@ -1,5 +1,6 @@
 //! What is done to a board in a test, and what is read of it.
 
+use crate::same::{holds_in, same_in};
 use authority_map::Publisher;
 use export_machine::Event;
 use export_rounds::{Outcome, carry_out_orders};
@@ -11,7 +12,7 @@ use std::process::Abort;
 use std::test::Fail;
 
 /// A step of a test.
-#[derive(Clone, Copy, Debug)]
+#[derive(Clone, Copy)]
 pub(crate) enum Do {
     /// An export of a directory starts.
     Start(u8, u8, u32),
@@ -45,7 +46,7 @@ pub(crate) fn play<J: Naming, M: Publisher<J>>(
     board: &mut Board<J, M>,
     steps: &[Do],
 ) -> Result<(), Fail> {
-    for step in steps {
+    for (at, step) in steps.iter().enumerate() {
         let made = match *step {
             Do::Start(from, to, dir) => {
                 board.step(alloc, Event::Start(rank(from), rank(to), dirs(alloc, dir)?))
@@ -56,7 +57,7 @@ pub(crate) fn play<J: Naming, M: Publisher<J>>(
             Do::Stop(at) => board.step(alloc, Event::Stop(rank(at))),
             Do::Restart(at) => board.step(alloc, Event::Restart(rank(at))),
         };
-        assert!(rt; made.is_ok(), "{step:?}: {made:?}");
+        same_in(rt, &made.err(), &None, &at);
     }
     Ok(())
 }
@@ -87,7 +88,7 @@ pub(crate) fn make<J: Naming, M: Publisher<J>>(
 ) {
     for name in names {
         let made = board.make(alloc, Dir::ROOT, name, 1);
-        assert!(rt; made.is_ok(), "{name}");
+        holds_in(rt, made.is_ok(), &name);
     }
 }
 
@@ -98,15 +99,17 @@ pub(crate) fn stand<J: Naming, M: Publisher<J>>(
     rows: &[(u32, u8)],
 ) {
     for (dir, at) in rows {
-        assert_eq!(rt;
-            board.cluster().authority(Dir::new(*dir)),
-            Some(rank(*at)),
-            "{dir}"
+        same_in(
+            rt,
+            &board.cluster().authority(Dir::new(*dir)),
+            &Some(rank(*at)),
+            &dir,
         );
-        assert_eq!(rt;
-            board.cluster().named(Dir::new(*dir)),
-            Some(rank(*at)),
-            "{dir}"
+        same_in(
+            rt,
+            &board.cluster().named(Dir::new(*dir)),
+            &Some(rank(*at)),
+            &dir,
         );
     }
 }

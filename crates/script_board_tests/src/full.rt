@@ -2,6 +2,7 @@
 ghost use Rattle.std.specs.Prelude.{◌≡◌};
 
 use crate::boards::{gone, open};
+use crate::same::same;
 use authority_map::Publisher;
 use board_state::BoardError;
 use naming::Naming;
@@ -27,11 +28,11 @@ fn served_last<J: Naming + Send + Sync, M: Publisher<J> + Send, R: Abort + Threa
 ) -> ScriptBoard<J, M> {
     let mut board = board;
     tick_often(&mut board, 1_048_575);
-    assert_eq!(rt; board.load("/", 3), Ok(()));
+    same(rt, &board.load("/", 3), &Ok(()));
     let (board, refused) = gone(rt, alloc, board);
-    assert_eq!(rt; refused.len(), 2);
+    same(rt, &refused.len(), &2);
     for fault in &refused {
-        assert_eq!(rt; *fault, Fault::Refused(BoardError::HistoryFull));
+        same(rt, fault, &Fault::Refused(BoardError::HistoryFull));
     }
     board
 }

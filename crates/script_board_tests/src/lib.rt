@@ -11,3 +11,5 @@ mod moves;
 mod refused;
 #[cfg(test)]
 mod requests;
+#[cfg(test)]
+mod same;

@@ -2,6 +2,7 @@
 ghost use Rattle.std.specs.Prelude.{◌≡◌};
 
 use crate::boards::open;
+use crate::same::{holds_in, same};
 use authority_map::Publisher;
 use board_state::BoardError;
 use export_rounds::Outcome;
@@ -33,10 +34,10 @@ fn moved<J: Naming + Send + Sync, M: Publisher<J> + Send, R: Threads + Wait + Sy
 ) -> ScriptBoard<J, M> {
     let (board, told) = board.carry_out_moves(threads, alloc);
     let Ok((orders, outcomes)) = told else {
-        assert!(rt; false, "no memory");
+        holds_in(rt, false, &"no memory");
         return board;
     };
-    assert_eq!(rt; (orders.len(), outcomes.len()), (count, count));
+    same(rt, &(orders.len(), outcomes.len()), &(count, count));
     for outcome in &outcomes {
         assert!(rt; is_done(outcome));
     }
@@ -45,9 +46,9 @@ fn moved<J: Naming + Send + Sync, M: Publisher<J> + Send, R: Threads + Wait + Sy
 
 // Two hot directories below the root, of which a pin is to bring one to rank 1.
 fn pin<J: Naming, M: Publisher<J>>(rt: &impl Abort, alloc: Global, board: &mut ScriptBoard<J, M>) {
-    assert_eq!(rt; board.make_dir(alloc, "/a", 1), Ok(()));
-    assert_eq!(rt; board.make_dir(alloc, "/b", 1), Ok(()));
-    assert_eq!(rt; board.set_pin("/a", 1), Ok(()));
+    same(rt, &board.make_dir(alloc, "/a", 1), &Ok(()));
+    same(rt, &board.make_dir(alloc, "/b", 1), &Ok(()));
+    same(rt, &board.set_pin("/a", 1), &Ok(()));
 }
 
 // The map has the pinned directory at rank 1. A plan needs a mask.
@@ -58,16 +59,18 @@ fn plan<J: Naming, M: Publisher<J>>(
     board: &mut ScriptBoard<J, M>,
 ) {
     assert!(rt; board.publish());
-    assert_eq!(rt;
-        board.rank_of(Dir::new(1)).map(|rank| rank.number()),
-        Some(1)
+    same(
+        rt,
+        &board.rank_of(Dir::new(1)).map(|rank| rank.number()),
+        &Some(1),
     );
-    assert_eq!(rt;
-        board.plan(threads, alloc),
-        Err(Fault::Refused(BoardError::BalancerOff))
+    same(
+        rt,
+        &board.plan(threads, alloc),
+        &Err(Fault::Refused(BoardError::BalancerOff)),
     );
-    assert_eq!(rt; board.set_mask("0x2"), Ok(()));
-    assert_eq!(rt; board.plan(threads, alloc), Ok(()));
+    same(rt, &board.set_mask("0x2"), &Ok(()));
+    same(rt, &board.plan(threads, alloc), &Ok(()));
 }
 
 // The orders of a plan are carried out once.

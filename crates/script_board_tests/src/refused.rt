@@ -4,6 +4,7 @@
 ghost use Rattle.std.specs.Prelude.{◌≡◌};
 
 use crate::boards::{number, open_at_last};
+use crate::same::{holds_in, same, same_in};
 use authority_map::Publisher;
 use mds_types::{Dir, Rank, RankSet};
 use naming::Naming;
@@ -52,7 +53,7 @@ fn read<J: Naming, M: Publisher<J>>(board: &mut ScriptBoard<J, M>) -> Reading {
 }
 
 /// A command that gives nothing but its acceptance.
-#[derive(Clone, Copy, Debug)]
+#[derive(Clone, Copy)]
 enum Do {
     Make(&'static str),
     Remove(&'static str),
@@ -96,13 +97,13 @@ fn commands<J: Naming, M: Publisher<J>>(
     board: &mut ScriptBoard<J, M>,
     all: &[Do],
 ) {
-    for next in all {
+    for (at, next) in all.iter().enumerate() {
         let before = read(board);
         let first = command(alloc, board, *next);
         if first.is_err() {
-            assert_eq!(rt; first, Err(Fault::Memory), "{next:?}");
-            assert!(rt; read(board) == before, "{next:?}");
-            assert_eq!(rt; command(alloc, board, *next), Ok(()), "{next:?}");
+            same_in(rt, &first, &Err(Fault::Memory), &at);
+            holds_in(rt, read(board) == before, &at);
+            same_in(rt, &command(alloc, board, *next), &Ok(()), &at);
         }
     }
 }
@@ -117,9 +118,9 @@ fn planned<J: Naming, M: Publisher<J>>(
     let before = read(board);
     let first = board.plan(threads, alloc);
     if first.is_err() {
-        assert_eq!(rt; first, Err(Fault::Memory));
+        same(rt, &first, &Err(Fault::Memory));
         assert!(rt; read(board) == before);
-        assert_eq!(rt; board.plan(threads, alloc), Ok(()));
+        same(rt, &board.plan(threads, alloc), &Ok(()));
     }
 }
 
@@ -173,12 +174,12 @@ fn served<J: Naming + Send + Sync, M: Publisher<J> + Send, R: Threads + Wait + S
     let refused = refused.unwrap_or(Vec::new(alloc));
     if !refused.is_empty() {
         assert!(rt; refused.iter().all(|fault| *fault == Fault::Memory));
-        assert_eq!(rt; (refused.len(), board.hits_of(Dir::new(2))), (1, 0));
-        assert_eq!(rt; board.load("/b", 5), Ok(()));
+        same(rt, &(refused.len(), board.hits_of(Dir::new(2))), &(1, 0));
+        same(rt, &board.load("/b", 5), &Ok(()));
     }
     let (board, again) = gone(rt, threads, alloc, board);
     assert!(rt; again.is_ok_and(|refused| refused.is_empty()));
-    assert_eq!(rt; board.hits_of(Dir::new(2)), 5);
+    same(rt, &board.hits_of(Dir::new(2)), &5);
     board
 }
 
@@ -196,7 +197,7 @@ fn moved_away<J: Naming + Send + Sync, M: Publisher<J> + Send, R: Threads + Wait
     }
     for dir in 0..3 {
         let authority = board.board().cluster().authority(Dir::new(dir));
-        assert_eq!(rt; authority, Some(number(1)), "{dir}");
+        same_in(rt, &authority, &Some(number(1)), &dir);
     }
     board
 }
@@ -210,13 +211,13 @@ fn costs<J: Naming, M: Publisher<J>>(
     let before = read(board);
     let first = board.cost(alloc, &["/", "/b"]);
     if first.is_err() {
-        assert_eq!(rt; first.err(), Some(Fault::Memory));
+        same(rt, &first.err(), &Some(Fault::Memory));
         assert!(rt; read(board) == before);
     }
     let Ok(parts) = board.cost(alloc, &["/", "/b"]) else {
         return Err("no parts".into());
     };
-    assert_eq!(rt; parts.len(), 2);
+    same(rt, &parts.len(), &2);
     Ok(())
 }
 
@@ -247,7 +248,7 @@ fn go_on<J: Naming, M: Publisher<J>>(
 ) -> Result<(), Fail> {
     costs(rt, alloc, board)?;
     commands(rt, alloc, board, &[Do::Tick, Do::Publish]);
-    assert_eq!(rt; board.rank_of(Dir::new(2)), Some(number(1)));
+    same(rt, &board.rank_of(Dir::new(2)), &Some(number(1)));
     Ok(())
 }
 

@@ -2,6 +2,7 @@
 ghost use Rattle.std.specs.Prelude.{◌≡◌};
 
 use crate::boards::{gone, number, open};
+use crate::same::same;
 use authority_map::Publisher;
 use board_state::BoardError;
 use dirtree::TreeError;
@@ -24,16 +25,16 @@ fn served<J: Naming + Send + Sync, M: Publisher<J> + Send, R: Abort + Threads + 
 ) -> ScriptBoard<J, M> {
     let mut board = board;
     let absent = Fault::Refused(BoardError::Tree(TreeError::NoDir));
-    assert_eq!(rt; board.make_dir(alloc, "/a", 1), Ok(()));
+    same(rt, &board.make_dir(alloc, "/a", 1), &Ok(()));
     assert!(rt; board.publish());
-    assert_eq!(rt; board.load("/a", 5), Ok(()));
-    assert_eq!(rt; board.load("/b", 5), Err(absent));
+    same(rt, &board.load("/a", 5), &Ok(()));
+    same(rt, &board.load("/b", 5), &Err(absent));
     let (board, refused) = gone(rt, alloc, board);
     assert!(rt; refused.is_empty());
-    assert_eq!(rt; board.hits_of(Dir::new(1)), 5);
+    same(rt, &board.hits_of(Dir::new(1)), &5);
     let (board, again) = gone(rt, alloc, board);
     assert!(rt; again.is_empty());
-    assert_eq!(rt; board.hits_of(Dir::new(1)), 5);
+    same(rt, &board.hits_of(Dir::new(1)), &5);
     board
 }
 
@@ -44,16 +45,16 @@ fn stopped<J: Naming + Send + Sync, M: Publisher<J> + Send, R: Abort + Threads +
     board: ScriptBoard<J, M>,
 ) -> ScriptBoard<J, M> {
     let mut board = board;
-    assert_eq!(rt; board.stop(alloc, number(0)), Ok(()));
-    assert_eq!(rt; board.load("/a", 2), Ok(()));
+    same(rt, &board.stop(alloc, number(0)), &Ok(()));
+    same(rt, &board.load("/a", 2), &Ok(()));
     let (mut board, refused) = gone(rt, alloc, board);
     let stopped = Fault::Refused(BoardError::Step(StepError::Stopped(number(0))));
-    assert_eq!(rt; refused.as_slice(), [stopped].as_slice());
-    assert_eq!(rt; board.restart(alloc, number(0)), Ok(()));
-    assert_eq!(rt; board.load("/a", 2), Ok(()));
+    same(rt, &refused.as_slice(), &[stopped].as_slice());
+    same(rt, &board.restart(alloc, number(0)), &Ok(()));
+    same(rt, &board.load("/a", 2), &Ok(()));
     let (board, none) = gone(rt, alloc, board);
     assert!(rt; none.is_empty());
-    assert_eq!(rt; board.hits_of(Dir::new(1)), 7);
+    same(rt, &board.hits_of(Dir::new(1)), &7);
     board
 }
 

@@ -1,5 +1,6 @@
 //! The certificates of the plans that a script adopts.
 use crate::devices::{ENOUGH, Sink, sink_of, source_of};
+use crate::same::same;
 use board_certificates::Unwritten;
 use dirtree::NameKey;
 use plan_checker::check;
@@ -57,11 +58,11 @@ fn certificates_hold(rt: HostRuntime) -> Result<(), Fail> {
     let Ok(certificates) = read(rt.alloc(), bytes.as_slice()) else {
         panic!(rt; "they are certificates")
     };
-    assert_eq!(rt; certificates.len(), 3);
+    same(&rt, &certificates.len(), &3);
     for (certificate, greatest) in certificates.iter().zip([4, 4, 94]) {
         let (problem, plan) = (&certificate.problem, &certificate.plan);
         assert!(rt; check(rt.alloc(), problem, plan) == Ok(true));
-        assert_eq!(rt; plan.greatest, greatest);
+        same(&rt, &plan.greatest, &greatest);
     }
     Ok(())
 }

@@ -1,5 +1,6 @@
 //! What is said of lines that spell no command.
 use crate::devices::{ENOUGH, Sink, sink_of, source_of};
+use crate::same::{holds_in, same};
 use dirtree::NameKey;
 use script_commands::{LineFault, explain};
 use script_engine::Input;
@@ -79,7 +80,7 @@ fn says_what_is_wrong(rt: HostRuntime) -> Result<(), Fail> {
         match explain(rt.alloc(), line)? {
             Some(fault) => {
                 let text = format!(in rt.alloc(); "{fault}")?;
-                assert_eq!(rt; text.as_str(), wanted);
+                same(&rt, &text.as_str(), &wanted);
             }
             None => assert!(rt; false),
         }
@@ -101,7 +102,7 @@ fn says_nothing_of_other_lines(rt: HostRuntime) -> Result<(), Fail> {
     ];
     for line in table {
         let fault = explain(rt.alloc(), line)?;
-        assert!(rt; fault.is_none(), "{fault:?}");
+        holds_in(&rt, fault.is_none(), &fault);
     }
     Ok(())
 }
@@ -142,12 +143,8 @@ fn a_run_tells_each_line_that_spells_no_command(rt: HostRuntime) -> Result<(), F
             64,
             strict,
         );
-        assert_eq!(rt; ended.answered, Ok(false));
-        assert!(rt;
-            heard.lines.as_slice() == wanted,
-            "{heard:?}",
-            heard = heard.lines
-        );
+        same(&rt, &ended.answered, &Ok(false));
+        same(&rt, &heard.lines.as_slice(), &wanted);
     }
     Ok(())
 }

@@ -10,6 +10,8 @@ mod hints;
 #[cfg(test)]
 mod pieces;
 #[cfg(test)]
+mod same;
+#[cfg(test)]
 mod scripts;
 #[cfg(test)]
 mod words;

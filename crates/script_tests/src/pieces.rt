@@ -3,6 +3,7 @@ ghost use Rattle.std.specs.Prelude.{◌≡◌};
 ghost use Rattle.script_engine.specs.Telling.{Tells};
 
 use crate::devices::{ENOUGH, Sink, Source, sink_of, source_of};
+use crate::same::{holds_in, same, same_in};
 use script_engine::{
     Input, Interpreter, RunError, WriteFailed, run_script, write_fault, write_whole,
 };
@@ -91,10 +92,11 @@ fn answers_each_line(rt: HostRuntime) -> Result<(), Fail> {
             let mut sink = sink_of(rt.alloc(), step);
             let source = source_of(script.as_bytes(), step);
             let result = repeated(rt.alloc(), source, &mut sink, strict);
-            assert_eq!(rt; result, Ok(accepted), "{script} by {step}");
-            assert!(rt;
+            same_in(&rt, &result, &Ok(accepted), &(script, step));
+            holds_in(
+                &rt,
                 sink.bytes.as_slice() == text.as_bytes(),
-                "{script} by {step}"
+                &(script, step),
             );
         }
     }
@@ -107,7 +109,7 @@ fn answers_a_long_line(rt: HostRuntime) -> Result<(), Fail> {
     script.extend_from_slice(b"\n!\nz\n")?;
     let mut sink = sink_of(rt.alloc(), ENOUGH);
     let result = repeated(rt.alloc(), source_of(&script, ENOUGH), &mut sink, false);
-    assert_eq!(rt; result, Ok(false));
+    same(&rt, &result, &Ok(false));
     assert!(rt; sink.bytes.get(..100_001) == script.get(..100_001));
     assert!(rt; sink.bytes.get(100_001..) == Some(b"line 2: bad\nz\n".as_slice()));
     Ok(())
@@ -128,12 +130,13 @@ fn ends_at_a_failed_read(rt: HostRuntime) -> Result<(), Fail> {
         source.reads = reads;
         let mut sink = sink_of(rt.alloc(), ENOUGH);
         let result = repeated(rt.alloc(), source, &mut sink, false);
-        assert_eq!(rt; result, Err(RunError::Read), "after {reads}");
-        assert!(rt; sink.bytes.as_slice() == text.as_bytes(), "after {reads}");
+        same_in(&rt, &result, &Err(RunError::Read), &reads);
+        holds_in(&rt, sink.bytes.as_slice() == text.as_bytes(), &reads);
     }
-    assert_eq!(rt;
-        RunError::Read.to_string(rt.alloc())?.as_str(),
-        "read failed"
+    same(
+        &rt,
+        &RunError::Read.to_string(rt.alloc())?.as_str(),
+        &"read failed",
     );
     Ok(())
 }
@@ -146,15 +149,17 @@ fn ends_at_a_failed_write(rt: HostRuntime) -> Result<(), Fail> {
         let mut sink = sink_of(rt.alloc(), 1);
         sink.writes = writes;
         let result = repeated(rt.alloc(), source, &mut sink, false);
-        assert_eq!(rt; result, Err(RunError::Write), "after {writes}");
-        assert!(rt;
+        same_in(&rt, &result, &Err(RunError::Write), &writes);
+        holds_in(
+            &rt,
             text.get(..writes) == Some(sink.bytes.as_slice()),
-            "after {writes}"
+            &writes,
         );
     }
-    assert_eq!(rt;
-        RunError::Write.to_string(rt.alloc())?.as_str(),
-        "write failed"
+    same(
+        &rt,
+        &RunError::Write.to_string(rt.alloc())?.as_str(),
+        &"write failed",
     );
     Ok(())
 }
@@ -163,12 +168,16 @@ fn ends_at_a_failed_write(rt: HostRuntime) -> Result<(), Fail> {
 fn fails_where_a_write_takes_nothing(rt: HostRuntime) -> Result<(), Fail> {
     let mut sink = sink_of(rt.alloc(), 0);
     let result = repeated(rt.alloc(), source_of(b"a\n", 2), &mut sink, false);
-    assert_eq!(rt; result, Err(RunError::Write));
+    same(&rt, &result, &Err(RunError::Write));
     assert!(rt; sink.bytes.is_empty());
-    assert_eq!(rt; write_whole(&mut sink, b"a"), Err(WriteFailed));
-    assert_eq!(rt; write_whole(&mut sink, b""), Ok(()));
-    assert_eq!(rt; write_fault(&mut sink, 1, "bad"), Err(WriteFailed));
-    assert_eq!(rt; WriteFailed.to_string(rt.alloc())?.as_str(), "write failed");
+    same(&rt, &write_whole(&mut sink, b"a"), &Err(WriteFailed));
+    same(&rt, &write_whole(&mut sink, b""), &Ok(()));
+    same(&rt, &write_fault(&mut sink, 1, "bad"), &Err(WriteFailed));
+    same(
+        &rt,
+        &WriteFailed.to_string(rt.alloc())?.as_str(),
+        &"write failed",
+    );
     Ok(())
 }
 
@@ -226,6 +235,6 @@ fn written_before_reads(alloc: Global, script: &[u8]) -> Vec<usize> {
 fn answers_before_it_reads_on(rt: HostRuntime) -> Result<(), Fail> {
     let noted = written_before_reads(rt.alloc(), b"a\nbc\n!\nd");
     let wanted: [usize; 5] = [0, 2, 2, 5, 17];
-    assert!(rt; noted.as_slice() == wanted.as_slice(), "{noted:?}");
+    holds_in(&rt, noted.as_slice() == wanted.as_slice(), &noted);
     Ok(())
 }

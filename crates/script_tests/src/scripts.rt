@@ -2,6 +2,7 @@
 ghost use Rattle.std.specs.Prelude.{◌≤◌};
 
 use crate::devices::{ENOUGH, Sink, Source, sink_of, source_of};
+use crate::same::{holds_in, same};
 use dirtree::NameKey;
 use script_engine::{Input, RunError};
 use script_session::{Silence, run};
@@ -141,7 +142,7 @@ fn answers_scripts(rt: HostRuntime) -> Result<(), Fail> {
     for (script, accepted, text) in ANSWERS {
         for step in [1, 7, 4096] {
             let is_as_said = answers_so(&rt, rt.alloc(), script, step, 4, accepted, text);
-            assert!(rt; is_as_said, "{script} by {step}");
+            holds_in(&rt, is_as_said, &(script, step));
         }
     }
     Ok(())
@@ -173,7 +174,7 @@ fn plans(rt: HostRuntime) -> Result<(), Fail> {
     for (script, text) in PLANS {
         let whole = format!(in rt.alloc(); "ranks 2\nmask 0x3\n{script}plan\n")?;
         let is_as_said = answers_so(&rt, rt.alloc(), &whole, 5, 65536, true, text);
-        assert!(rt; is_as_said, "{whole}");
+        holds_in(&rt, is_as_said, &whole);
     }
     Ok(())
 }
@@ -206,7 +207,7 @@ fn plans_for_usable_ranks_alone(rt: HostRuntime) -> Result<(), Fail> {
     ];
     for (script, accepted, text) in table {
         let is_as_said = answers_so(&rt, rt.alloc(), script, ENOUGH, 65536, accepted, text);
-        assert!(rt; is_as_said, "{script}");
+        holds_in(&rt, is_as_said, &script);
     }
     Ok(())
 }
@@ -218,9 +219,9 @@ fn a_strict_run_ends_at_the_first_fault(rt: HostRuntime) -> Result<(), Fail> {
     let mut sink = sink_of(rt.alloc(), ENOUGH);
     let source = source_of(script.as_bytes(), 3);
     let (result, left) = carried_out(&rt, rt.alloc(), source, &mut sink, 65536, true);
-    assert_eq!(rt; result, Ok(false));
+    same(&rt, &result, &Ok(false));
     assert!(rt; sink.bytes.as_slice() == b"line 2: syntax\n".as_slice());
-    assert_eq!(rt; ENOUGH.saturating_sub(left), 6);
+    same(&rt, &ENOUGH.saturating_sub(left), &6);
     Ok(())
 }
 
@@ -237,7 +238,7 @@ fn stops_at_read<T: Threads + Wait + Sync>(rt: &T, alloc: Global, reads: usize) 
 fn each_failed_read_ends_a_run(rt: HostRuntime) -> Result<(), Fail> {
     for reads in 0..11usize {
         let is_as_said = stops_at_read(&rt, rt.alloc(), reads);
-        assert!(rt; is_as_said, "after {reads}");
+        holds_in(&rt, is_as_said, &reads);
     }
     Ok(())
 }
@@ -255,7 +256,7 @@ fn stops_at_write<T: Threads + Wait + Sync>(rt: &T, alloc: Global, writes: usize
 fn each_failed_write_ends_a_run(rt: HostRuntime) -> Result<(), Fail> {
     for (writes, _) in TWO_PARTS_COST.as_bytes().iter().enumerate() {
         let is_as_said = stops_at_write(&rt, rt.alloc(), writes);
-        assert!(rt; is_as_said, "after {writes}");
+        holds_in(&rt, is_as_said, &writes);
     }
     Ok(())
 }
@@ -269,15 +270,17 @@ fn a_refused_ranks_is_tried_again(rt: HostRuntime) -> Result<(), Fail> {
     let (result, _left) = carried_out(&rt, rt.alloc(), source, &mut sink, 4, false);
     let text = str::from_utf8(&sink.bytes).unwrap_or("");
     let says = text.matches("refused 0 Memory").count();
-    assert!(rt; says <= 1, "{text}");
-    assert!(rt;
+    holds_in(&rt, says <= 1, &text);
+    holds_in(
+        &rt,
         result == Ok(false) || (result == Err(RunError::Memory) && text.is_empty()),
-        "{text}"
+        &text,
     );
     if text.starts_with("line 1: refused 0 Memory\n") {
-        assert!(rt;
+        holds_in(
+            &rt,
             text.contains("stat ranks 1") && !text.contains("line 2:"),
-            "{text}"
+            &text,
         );
     }
     Ok(())

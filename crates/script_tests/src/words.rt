@@ -1,5 +1,6 @@
 //! Command lines and what they come to.
 
+use crate::same::{holds_in, same, same_in};
 use command_line::{OptionsError, Settings, options};
 use std::test::Fail;
 
@@ -45,7 +46,7 @@ fn reads_settings(rt: HostRuntime) -> Result<(), Fail> {
             quiet,
         };
         match options(rt.alloc(), words) {
-            Ok(settings) => assert_eq!(rt; settings, wanted, "{words:?}"),
+            Ok(settings) => same_in(&rt, &settings, &wanted, &words),
             Err(error) => return Err(Fail::from(error)),
         }
     }
@@ -74,10 +75,10 @@ fn refuses_other_lines(rt: HostRuntime) -> Result<(), Fail> {
         match options(rt.alloc(), words) {
             Err(OptionsError::Refused(error)) => {
                 let text = format!(in rt.alloc(); "{error}")?;
-                assert!(rt; text.starts_with("error: "), "{words:?}");
-                assert_eq!(rt; OptionsError::Refused(error).status(), 2, "{words:?}");
+                holds_in(&rt, text.starts_with("error: "), &words);
+                same_in(&rt, &OptionsError::Refused(error).status(), &2, &words);
             }
-            other => assert!(rt; false, "{words:?} gave {other:?}"),
+            other => holds_in(&rt, false, &(words, other)),
         }
     }
     Ok(())
@@ -93,14 +94,14 @@ fn tells_help_apart(rt: HostRuntime) -> Result<(), Fail> {
     for words in table {
         match options(rt.alloc(), words) {
             Err(help) => {
-                assert_eq!(rt; help.status(), 0, "{words:?}");
+                same_in(&rt, &help.status(), &0, &words);
                 let text = format!(in rt.alloc(); "{help}")?;
-                assert!(rt; text.contains("Usage: mdbal [OPTIONS]"), "{words:?}");
-                assert!(rt; text.contains("--limit <N>"), "{words:?}");
-                assert!(rt; text.contains("--strict"), "{words:?}");
-                assert!(rt; text.contains("--quiet"), "{words:?}");
+                holds_in(&rt, text.contains("Usage: mdbal [OPTIONS]"), &words);
+                holds_in(&rt, text.contains("--limit <N>"), &words);
+                holds_in(&rt, text.contains("--strict"), &words);
+                holds_in(&rt, text.contains("--quiet"), &words);
             }
-            Ok(settings) => assert!(rt; false, "{words:?} gave {settings:?}"),
+            Ok(settings) => holds_in(&rt, false, &(words, settings)),
         }
     }
     Ok(())
@@ -113,10 +114,10 @@ fn tells_the_version_apart(rt: HostRuntime) -> Result<(), Fail> {
         match options(rt.alloc(), words) {
             Err(OptionsError::Version(error)) => {
                 let text = format!(in rt.alloc(); "{error}")?;
-                assert_eq!(rt; text.as_str(), "mdbal 0.1.0\n", "{words:?}");
-                assert_eq!(rt; OptionsError::Version(error).status(), 0, "{words:?}");
+                same_in(&rt, &text.as_str(), &"mdbal 0.1.0\n", &words);
+                same_in(&rt, &OptionsError::Version(error).status(), &0, &words);
             }
-            other => assert!(rt; false, "{words:?} gave {other:?}"),
+            other => holds_in(&rt, false, &(words, other)),
         }
     }
     Ok(())
@@ -125,8 +126,8 @@ fn tells_the_version_apart(rt: HostRuntime) -> Result<(), Fail> {
 #[test]
 fn prints_want_of_memory(rt: HostRuntime) -> Result<(), Fail> {
     let text = format!(in rt.alloc(); "{}", OptionsError::Memory)?;
-    assert_eq!(rt; text.as_str(), "mdbal: 0 Memory\n");
-    assert_eq!(rt; OptionsError::Memory.status(), 2);
+    same(&rt, &text.as_str(), &"mdbal: 0 Memory\n");
+    same(&rt, &OptionsError::Memory.status(), &2);
     Ok(())
 }
 
@@ -145,14 +146,14 @@ fn a_refused_growth_is_told(rt: HostRuntime) -> Result<(), Fail> {
     let mut without_memory: [bool; 4] = [false; 4];
     for turn in &mut without_memory {
         match options(rt.alloc(), &accepted) {
-            Ok(settings) => assert_eq!(rt; settings, wanted),
+            Ok(settings) => same(&rt, &settings, &wanted),
             Err(OptionsError::Memory) => *turn = true,
-            Err(_) => assert!(rt; false, "accepted words are refused"),
+            Err(_) => holds_in(&rt, false, &"accepted words are refused"),
         }
         match options(rt.alloc(), &refused) {
             Err(OptionsError::Refused(_)) => {}
             Err(OptionsError::Memory) => *turn = true,
-            _ => assert!(rt; false, "refused words are accepted"),
+            _ => holds_in(&rt, false, &"refused words are accepted"),
         }
     }
     assert!(rt; without_memory.iter().filter(|turn| **turn).count() <= 1);

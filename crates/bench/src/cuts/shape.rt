@@ -10,7 +10,7 @@ use std::{fmt, io};
 const ROWS: u32 = 65536;
 
 /// How a tree's rows get their parents.
-#[derive(Clone, Copy, Debug, PartialEq, Eq)]
+#[derive(Clone, Copy)]
 pub enum Shape {
     /// A parent among the first quarter of the rows before: broad and shallow.
     Fs,

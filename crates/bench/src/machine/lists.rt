@@ -18,7 +18,7 @@ const ROUNDS: u32 = 60_000;
 const TURNS: u8 = 8;
 
 /// Which events a list has.
-#[derive(Clone, Copy, Debug, PartialEq, Eq)]
+#[derive(Clone, Copy)]
 pub enum Kind {
     /// Directories are made.
     Made,

@@ -9,7 +9,7 @@ use std::thread::Threads;
 use std::{fmt, io};
 
 /// A call of the planner or the judge.
-#[derive(Clone, Copy, Debug, PartialEq, Eq)]
+#[derive(Clone, Copy)]
 pub enum Call {
     /// `search`
     Search,
@@ -27,14 +27,14 @@ pub enum Call {
 
 impl fmt::Display for Call {
     fn fmt<W: fmt::Write>(&self, f: &mut fmt::Formatter<W>) -> fmt::Result {
-        match self {
-            Call::Search => write!(f, "search"),
-            Call::Costs => write!(f, "costs"),
-            Call::Assign => write!(f, "assign"),
-            Call::Solve => write!(f, "solve"),
-            Call::CheckCut => write!(f, "check_cut"),
-            Call::Check => write!(f, "check"),
-        }
+        f.write_str(match self {
+            Call::Search => "search",
+            Call::Costs => "costs",
+            Call::Assign => "assign",
+            Call::Solve => "solve",
+            Call::CheckCut => "check_cut",
+            Call::Check => "check",
+        })
     }
 }
 

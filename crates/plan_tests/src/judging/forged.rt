@@ -2,6 +2,7 @@
 
 use super::{CHAIN, judged};
 use crate::given::{InTable, at_last, list_of, problem, table};
+use crate::same::{holds_in, same, same_in};
 use arrayvec::ArrayVec;
 use mds_types::{CutProof, DualProof, Plan, Problem, Rank};
 use std::alloc::Global;
@@ -85,14 +86,18 @@ fn judges_forged_tables(rt: HostRuntime) -> Result<(), Fail> {
     assert!(rt; accepts(alloc, &chain, &TRUE_CLAIM)?);
     for (row, changed, accepted) in FORGED_ROWS {
         let says = accepts(alloc, &chain, &with_row(row, changed))?;
-        assert_eq!(rt; says, accepted, "row {row} as {changed:?}");
+        same_in(&rt, &says, &accepted, &(row, changed));
     }
     let mut claim = TRUE_CLAIM;
     claim.table[0].0 = 3;
     claim.table[1].0 = 3;
-    assert!(rt; !accepts(alloc, &chain, &claim)?, "a cut too many");
+    holds_in(&rt, !accepts(alloc, &chain, &claim)?, &"a cut too many");
     claim.table = [(u32::MAX, u64::MAX, u64::MAX, false); 4];
-    assert!(rt; !accepts(alloc, &chain, &claim)?, "the greatest numbers");
+    holds_in(
+        &rt,
+        !accepts(alloc, &chain, &claim)?,
+        &"the greatest numbers",
+    );
     Ok(())
 }
 
@@ -196,13 +201,13 @@ fn judges_forged_placings(rt: HostRuntime) -> Result<(), Fail> {
     let alloc = rt.alloc();
     let chain = problem(alloc, &CHAIN, 3)?;
     for (what, claim) in FORGED_PLACINGS {
-        assert!(rt; !accepts(alloc, &chain, &claim)?, "{what}");
+        holds_in(&rt, !accepts(alloc, &chain, &claim)?, &what);
     }
     Ok(())
 }
 
 /// A list of a plan.
-#[derive(Clone, Copy, Debug)]
+#[derive(Clone, Copy)]
 enum List {
     Part,
     Table,
@@ -254,19 +259,21 @@ fn with_list(alloc: Global, list: List, longer: bool) -> Result<Plan, Fail> {
 fn judges_lists_of_other_lengths(rt: HostRuntime) -> Result<(), Fail> {
     let alloc = rt.alloc();
     let chain = problem(alloc, &CHAIN, 3)?;
-    for list in [List::Part, List::Table, List::PartPrice, List::RankPrice] {
+    let lists = [List::Part, List::Table, List::PartPrice, List::RankPrice];
+    for (at, list) in lists.iter().enumerate() {
         for longer in [false, true] {
-            let plan = with_list(alloc, list, longer)?;
-            assert!(rt;
-                !judged(alloc, &chain, &plan)?,
-                "{list:?}, longer: {longer}"
-            );
+            let plan = with_list(alloc, *list, longer)?;
+            holds_in(&rt, !judged(alloc, &chain, &plan)?, &(at, longer));
         }
     }
     let mut more = plan_of(alloc, &TRUE_CLAIM)?;
-    assert_eq!(rt; more.rank.len(), 2);
+    same(&rt, &more.rank.len(), &2);
     more.rank.push(Rank::new(2).ok_or("no rank")?);
-    assert!(rt; !judged(alloc, &chain, &more)?, "a rank without a part");
+    holds_in(
+        &rt,
+        !judged(alloc, &chain, &more)?,
+        &"a rank without a part",
+    );
     Ok(())
 }
 
@@ -279,7 +286,7 @@ fn judges_other_proofs(rt: HostRuntime) -> Result<(), Fail> {
             cut: proof,
             ..plan_of(alloc, &TRUE_CLAIM)?
         };
-        assert!(rt; !judged(alloc, &chain, &plan)?, "{:?}", plan.cut);
+        holds_in(&rt, !judged(alloc, &chain, &plan)?, &plan.cut);
     }
     Ok(())
 }

@@ -2,6 +2,7 @@
 
 use super::{CHAIN, judged};
 use crate::given::{list_of, problem, table};
+use crate::same::holds_in;
 use arrayvec::ArrayVec;
 use mds_types::{CutProof, DualProof, Plan, Rank};
 use std::alloc::Global;
@@ -36,12 +37,17 @@ fn judges_one_part(rt: HostRuntime) -> Result<(), Fail> {
     let chain = problem(alloc, &CHAIN, 3)?;
     let one_rank = problem(alloc, &CHAIN, 1)?;
     let two_prices = one_part(alloc, &[0, 0])?;
-    assert!(rt;
+    holds_in(
+        &rt,
         !judged(alloc, &chain, &two_prices)?,
-        "two parts are cooler"
+        &"two parts are cooler",
     );
     let one_price = one_part(alloc, &[0])?;
-    assert!(rt; judged(alloc, &one_rank, &one_price)?, "one rank alone");
+    holds_in(
+        &rt,
+        judged(alloc, &one_rank, &one_price)?,
+        &"one rank alone",
+    );
     Ok(())
 }
 
@@ -92,19 +98,30 @@ fn accepts_prices(alloc: Global, rank_price: &[i64], moved: u64) -> Result<bool,
 fn judges_prices(rt: HostRuntime) -> Result<(), Fail> {
     let alloc = rt.alloc();
     assert!(rt; accepts_prices(alloc, &[-1, -3, 0], 4)?);
-    assert!(rt; !accepts_prices(alloc, &[-1, -3, 1], 4)?, "a price above 0");
-    assert!(rt;
+    holds_in(
+        &rt,
+        !accepts_prices(alloc, &[-1, -3, 1], 4)?,
+        &"a price above 0",
+    );
+    holds_in(
+        &rt,
         !accepts_prices(alloc, &[-1, -3, -1], 4)?,
-        "a price below 0 of a rank without a part"
+        &"a price below 0 of a rank without a part",
     );
-    assert!(rt;
+    holds_in(
+        &rt,
         !accepts_prices(alloc, &[-1, -3, 0], 5)?,
-        "not the inodes that move"
+        &"not the inodes that move",
     );
-    assert!(rt; !accepts_prices(alloc, &[-1, -3], 4)?, "a price too few");
-    assert!(rt;
+    holds_in(
+        &rt,
+        !accepts_prices(alloc, &[-1, -3], 4)?,
+        &"a price too few",
+    );
+    holds_in(
+        &rt,
         !accepts_prices(alloc, &[-1, -3, 0, 0], 4)?,
-        "a price too many"
+        &"a price too many",
     );
     Ok(())
 }

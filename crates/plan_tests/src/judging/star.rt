@@ -2,6 +2,7 @@
 
 use super::cut_judged;
 use crate::given::{Given, InTable, problem, table};
+use crate::same::{holds_in, same_in};
 use mds_types::CutProof;
 use std::test::Fail;
 
@@ -32,19 +33,17 @@ fn judges_the_parts_of_a_star(rt: HostRuntime) -> Result<(), Fail> {
     ];
     for (part, count, greatest, accepted) in cuts {
         let says = cut_judged(alloc, &star, &part, count, greatest, &proof)?;
-        assert_eq!(rt;
-            says,
-            accepted,
-            "{part:?} in {count} parts, greatest {greatest}"
-        );
+        same_in(&rt, &says, &accepted, &(part, count, greatest));
     }
-    assert!(rt;
+    holds_in(
+        &rt,
         !cut_judged(alloc, &star, &[0, 1, 0], 2, 9, &proof)?,
-        "a row without a part"
+        &"a row without a part",
     );
-    assert!(rt;
+    holds_in(
+        &rt,
         !cut_judged(alloc, &star, &[0, 1, 0, 0, 0], 2, 9, &proof)?,
-        "a part without a row"
+        &"a part without a row",
     );
     Ok(())
 }
@@ -57,15 +56,20 @@ fn judges_the_proofs_of_a_star(rt: HostRuntime) -> Result<(), Fail> {
     let short = table(alloc, &[(2, 5, 4, false), (0, 5, 0, true), (0, 4, 0, true)])?;
     let at = |proof: &CutProof| cut_judged(alloc, &star, &[0, 1, 0, 0], 2, 9, proof);
     assert!(rt; at(&table(alloc, &STAR_TABLE)?)?);
-    assert!(rt; !at(&short)?, "a table without the last row");
+    holds_in(&rt, !at(&short)?, &"a table without the last row");
     assert!(rt; !at(&CutProof::Zero)?);
-    assert!(rt; !at(&CutProof::Heavy(1))?, "a row that is cooler");
-    assert!(rt; !at(&CutProof::Heavy(u32::MAX))?, "a row that isn't there");
+    holds_in(&rt, !at(&CutProof::Heavy(1))?, &"a row that is cooler");
+    holds_in(
+        &rt,
+        !at(&CutProof::Heavy(u32::MAX))?,
+        &"a row that isn't there",
+    );
     let heavy = CutProof::Heavy(1);
     assert!(rt; cut_judged(alloc, &three, &[0, 1, 2, 0], 3, 5, &heavy)?);
-    assert!(rt;
+    holds_in(
+        &rt,
         !cut_judged(alloc, &star, &[0, 1, 2, 0], 3, 5, &heavy)?,
-        "more parts than ranks"
+        &"more parts than ranks",
     );
     Ok(())
 }

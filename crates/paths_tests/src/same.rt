@@ -1,0 +1,14 @@
+//! Comparisons, each behind one call: what a failed one prints costs the proof of its caller nothing.
+
+use std::fmt::Debug;
+use std::process::Abort;
+
+/// Both are the same.
+pub(crate) fn same<T: PartialEq + Debug>(rt: &impl Abort, found: &T, wanted: &T) {
+    assert!(rt; found == wanted, "{found:?} is not {wanted:?}");
+}
+
+/// It is so, in this row of a table.
+pub(crate) fn holds_in<R: Debug>(rt: &impl Abort, is_so: bool, row: &R) {
+    assert!(rt; is_so, "it is not so in row {row:?}");
+}

@@ -1,0 +1,27 @@
+//! Comparisons, each behind one call: what a failed one prints costs the proof of its caller nothing.
+
+use std::fmt::Debug;
+use std::process::Abort;
+
+/// Both are the same.
+pub(crate) fn same<T: PartialEq + Debug>(rt: &impl Abort, found: &T, wanted: &T) {
+    assert!(rt; found == wanted, "{found:?} is not {wanted:?}");
+}
+
+/// Both are the same, in this row of a table.
+pub(crate) fn same_in<T: PartialEq + Debug, R: Debug>(
+    rt: &impl Abort,
+    found: &T,
+    wanted: &T,
+    row: &R,
+) {
+    assert!(rt;
+        found == wanted,
+        "{found:?} is not {wanted:?} in row {row:?}"
+    );
+}
+
+/// It is so, in this row of a table.
+pub(crate) fn holds_in<R: Debug>(rt: &impl Abort, is_so: bool, row: &R) {
+    assert!(rt; is_so, "it is not so in row {row:?}");
+}
