@@ -1,4 +1,5 @@
 pub mod Owning
+pub mod Columns
 pub mod Tables
 pub mod Views
 pub mod Safe

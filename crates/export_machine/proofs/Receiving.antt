@@ -42,10 +42,10 @@ module _ (r : Records) (m : Message) (can : CanReceive r m) where
   here_list = let k : receiver (world_of r) m < length r.journals.items = here_journal in omega (arith, as_lists)
 
   -- each of the export's directories has its places
-  pub inside_owned : (d : ℕ) → is_inside (world_of r) (about m) d ≡ true → d < length r.owners.items
+  pub inside_owned : (d : ℕ) → is_inside (world_of r) (about m) d ≡ true → d < length r.dirs.owners
   inside_owned d h = rw can.kept.indexed.owner_places (are_made (world_of r) can.kept.reached (about m) d h)
 
-  pub inside_opened : (d : ℕ) → is_inside (world_of r) (about m) d ≡ true → d < length r.opened.items
+  pub inside_opened : (d : ℕ) → is_inside (world_of r) (about m) d ≡ true → d < length r.dirs.opened
   inside_opened d h = rw can.kept.indexed.opened_places (are_made (world_of r) can.kept.reached (about m) d h)
 
   pub to_listed : to_of (world_of r) (about m) < length (indexes_of r).open_at

@@ -1,9 +1,10 @@
 -- What the tables of a cluster stand for, and what always holds of them.
 use Rattle.std.specs.Prelude.{◌≡◌, ◌≤◌, ◌<◌, ℕ, ◌+◌, suc, Bool, true, ◌&&◌, nat_lt, List, [], ◌∷◌, map, length}
-use Rattle.std.specs.Prelude.{Option, None, Some, Result, Ok, Err, slice_get, slice_index_or, vec_len, vec_capacity}
+use Rattle.std.specs.Prelude.{Option, None, Some, Result, Ok, Err, slice_get, slice_index_or}
 use Rattle.std.specs.Prelude.{Vec, if◌then◌else◌, replicate, false, not, ◌==◌, ◌||◌, is_some}
 use Rattle.std.specs.List.{list_all}
 use Rattle.export_machine.specs.Cluster.{World}
+use Rattle.export_machine.specs.Columns.{has_spare}
 use Rattle.export_machine.specs.Authority.{authority, open_export, is_among, order_in, from_of}
 use Rattle.export_machine.specs.Authority.{exporter_of, importer_of, has_entry}
 use Rattle.export_machine.specs.Step.{running_on, is_child, about, receiver, repeats, comes, is_before_log}
@@ -26,14 +27,14 @@ abbrev pub world_of : Records → World
 world_of r = record {
   limit = r.limit;
   ranks = r.ranks;
-  parents = r.parents.items;
+  parents = r.dirs.parents;
   journals = map (λ journal. journal.items) r.journals.items;
   orders = r.orders.items;
   exporters = r.exporters.items;
   importers = r.importers.items;
   sent = r.sent.items;
   tickets = r.tickets.items;
-  named = r.named.items;
+  named = r.dirs.named;
   stopped = r.stopped.items;
   events = r.events;
 }
@@ -53,10 +54,10 @@ pub record Indexes : Type 0 where
 abbrev pub indexes_of : Records → Indexes
 indexes_of r =
     record {
-      owners = r.owners.items;
-      opened = r.opened.items;
-      running = r.running.items;
-      children = r.children.items;
+      owners = r.dirs.owners;
+      opened = r.dirs.opened;
+      running = r.dirs.running;
+      children = r.dirs.children;
       marks = r.marks.items;
       tickets_at = map (λ list. list.items) r.tickets_at.items;
       open_at = map (λ list. list.items) r.open_at.items;
@@ -136,7 +137,7 @@ pub record IsKept (r : Records) : Type 0 where
   pub sent : length r.sent.items ≤ r.events
   pub tickets : length r.tickets.items ≤ r.events
   pub counted : r.events ≤ 1048576
-  pub within : length r.parents.items ≤ r.limit
+  pub within : length r.dirs.parents ≤ r.limit
   pub few_dirs : r.limit ≤ 65536
   pub few_ranks : r.ranks ≤ 64
 
@@ -150,9 +151,6 @@ lesser None dir = dir
 lesser (Some other) dir = if nat_lt other dir then other else dir
 
 -- Room: where the lists of an event have a place each, the event asks for no memory.
-
-abbrev pub has_spare : {T A : Type 0} → Vec T A → Bool
-has_spare v = nat_lt (vec_len v) (vec_capacity v)
 
 abbrev pub is_spare : {T A : Type 0} → Option (Vec T A) → Bool
 is_spare None = true
@@ -180,8 +178,7 @@ entered_at w (Event.Notify export) = Some (from_of w export)
 entered_at w _ = None
 
 abbrev pub has_dir_places : Records → Bool
-has_dir_places r =
-    has_spare r.parents && has_spare r.named && has_spare r.owners && has_spare r.opened && has_spare r.running && has_spare r.children && has_spare r.marks
+has_dir_places r = r.dirs.spare && has_spare r.marks
 
 abbrev pub has_export_places : Records → Bool
 has_export_places r =

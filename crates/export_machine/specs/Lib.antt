@@ -1,4 +1,5 @@
 pub mod Cluster
+pub mod Columns
 pub mod Authority
 pub mod Step
 pub mod Promises

@@ -9,7 +9,7 @@ ghost use Rattle.export_machine.specs.declared.event.Reply.TheVariants.{Sent};
 
 use crate::event::Reply;
 use crate::message::Message;
-use mds_types::{Dir, Rank};
+use mds_types::Rank;
 
 /// Appends a message, and answers its number.
 pub(crate) fn send(sent: &mut Vec<Message>, message: Message) -> Reply
@@ -40,15 +40,5 @@ pub(crate) fn put<T: Copy>(table: &mut Vec<T>, index: usize, value: T)
 {
     if index < table.len() {
         table[index] = value;
-    }
-}
-
-/// Writes the same into the table at each of the directories.
-pub(crate) fn mark<T: Copy>(table: &mut Vec<Option<T>>, dirs: &[Dir], value: Option<T>)
-    requires near { (d : ℕ) → is_among dirs.now d ≡ true → d < length table.old.items }
-    ensures { table.new.items ≡ map_at (λ d old. if is_among dirs.now d then value else old) table.old.items }
-{
-    for dir in dirs {
-        table[dir.number() as usize] = value;
     }
 }

@@ -80,12 +80,9 @@ impl Records {
     }
 
     pub(crate) fn check_room(&self) -> Result<(), StepError>
-        ensures { cause_of result ≡ when (nat_le self.now.limit (length self.now.parents.items)) TreeFull }
+        ensures { cause_of result ≡ when (nat_le self.now.limit (length self.now.dirs.parents)) TreeFull }
     {
-        refuse_if(
-            self.parents.len() >= self.limit as usize,
-            StepError::TreeFull,
-        )
+        refuse_if(self.dirs.len() >= self.limit as usize, StepError::TreeFull)
     }
 
     pub(crate) fn check_exports(&self) -> Result<(), StepError>
@@ -106,7 +103,7 @@ impl Records {
 
     pub(crate) fn check_empty(&self, dir: Dir) -> Result<(), StepError>
         requires kept { IsKept self.now }
-        ensures { cause_of result ≡ when (any_at (is_child dir) self.now.parents.items) NotEmpty }
+        ensures { cause_of result ≡ when (any_at (is_child dir) self.now.dirs.parents) NotEmpty }
     {
         refuse_if(self.children(dir) != 0, StepError::NotEmpty)
     }
@@ -127,7 +124,7 @@ impl Records {
     pub(crate) fn check_leaving(&self, from: Rank, dirs: &[Dir]) -> Result<(), StepError>
         requires kept { IsKept self.now }
         requires present { list_all (is_present (world_of self.now)) dirs.now ≡ true }
-        ensures { cause_of result ≡ least_fault (world_of self.now) from dirs.now (length self.now.parents.items) }
+        ensures { cause_of result ≡ least_fault (world_of self.now) from dirs.now (length self.now.dirs.parents) }
     {
         let mut least: Option<Dir> = None;
         for dir in dirs {

@@ -12,7 +12,7 @@ ghost use Rattle.export_machine.specs.Kept.{world_of, indexes_of, has_place, has
 ghost use Rattle.export_machine.specs.Kept.{IsKept, IsIndexed, CanReceive, IsReceived};
 ghost use Rattle.export_machine.specs.Moving.{heard, indexes_noted};
 
-use crate::changes::{enter, mark, put, send};
+use crate::changes::{enter, put, send};
 use crate::event::{Event, Reply};
 use crate::exporter::ExporterState;
 use crate::importer::ImporterState;
@@ -60,11 +60,10 @@ impl Records {
     /// commitment.
     fn follow(&mut self, export: u32, entry: &JournalEntry)
         requires known { export < length self.old.orders.items }
-        requires owned { (d : ℕ) → is_inside (world_of self.old) export d ≡ true → d < length self.old.owners.items }
-        requires open { (d : ℕ) → is_inside (world_of self.old) export d ≡ true → d < length self.old.opened.items }
+        requires owned { (d : ℕ) → is_inside (world_of self.old) export d ≡ true → d < length self.old.dirs.owners }
+        requires open { (d : ℕ) → is_inside (world_of self.old) export d ≡ true → d < length self.old.dirs.opened }
         ensures others { self.new ≡ record self.old {
-          owners = self.new.owners;
-          opened = self.new.opened;
+          dirs = record self.old.dirs { owners = self.new.dirs.owners; opened = self.new.dirs.opened };
           dropped = self.new.dropped;
         } }
         ensures indexes { indexes_of self.new
@@ -72,10 +71,8 @@ impl Records {
     {
         let order = &self.orders[export as usize];
         match entry {
-            JournalEntry::Exported(_) => {
-                mark(&mut self.owners, order.dirs.as_slice(), Some(order.to))
-            }
-            JournalEntry::Imported(_) => mark(&mut self.opened, order.dirs.as_slice(), None),
+            JournalEntry::Exported(_) => { self.dirs.mark_owner(order.dirs.as_slice(), order.to) }
+            JournalEntry::Imported(_) => self.dirs.mark_opened(order.dirs.as_slice(), None),
             JournalEntry::Dropped(_) => put(&mut self.dropped, export as usize, true),
             _ => {}
         }
@@ -86,12 +83,11 @@ impl Records {
         requires near { rank < length self.old.journals.items }
         requires room { has_place self.old.journals.items rank ≡ true }
         requires known { export < length self.old.orders.items }
-        requires owned { (d : ℕ) → is_inside (world_of self.old) export d ≡ true → d < length self.old.owners.items }
-        requires open { (d : ℕ) → is_inside (world_of self.old) export d ≡ true → d < length self.old.opened.items }
+        requires owned { (d : ℕ) → is_inside (world_of self.old) export d ≡ true → d < length self.old.dirs.owners }
+        requires open { (d : ℕ) → is_inside (world_of self.old) export d ≡ true → d < length self.old.dirs.opened }
         ensures others { self.new ≡ record self.old {
           journals = self.new.journals;
-          owners = self.new.owners;
-          opened = self.new.opened;
+          dirs = record self.old.dirs { owners = self.new.dirs.owners; opened = self.new.dirs.opened };
           dropped = self.new.dropped;
         } }
         ensures world { world_of self.new ≡ notes (world_of self.old) rank entry.now }

@@ -10,6 +10,7 @@ mod checks;
 pub mod cluster;
 mod connecting;
 mod deliveries;
+mod dir_table;
 mod effects;
 pub mod event;
 pub mod exporter;

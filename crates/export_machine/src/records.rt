@@ -1,10 +1,10 @@
 //! What a cluster keeps, and the reads of it.
 //!
-//! Beside the journals, states, messages and map there are four tables by directory, which the rest determines: its
-//! authority, the open export that it is in, how many requests run on it and how many children it has. So no read
-//! folds a journal and no event searches the exports. A fifth, of marks, is for the test of a list of directories. By
-//! rank there are the tickets of its requests and the exports that are open there, so that a stop needn't look through
-//! all requests and exports that ever were.
+//! A directory's row has its parent and the rank that the map names for it and, beside them, what the journals, states
+//! and requests determine: its authority, the open export that it is in, how many requests run on it and how many
+//! children it has. So no read folds a journal and no event searches the exports. A table of marks is for the test of a
+//! list of directories. By rank there are the tickets of its requests and the exports that are open there, so that a
+//! stop needn't look through all requests and exports that ever were.
 
 ghost use Rattle.std.specs.Prelude.{◌≡◌, ℕ, ◌<◌, ◌≤◌, IfOk, map, replicate, slice_set};
 ghost use Rattle.std.specs.Prelude.{false, ◌∷◌, [], length, Some, slice_index_or};
@@ -16,6 +16,7 @@ ghost use Rattle.std.specs.List.{list_all};
 ghost use Rattle.export_machine.specs.Roots.{parent_of, root_rank};
 ghost use Rattle.export_machine.specs.Kept.{world_of, indexes_of, first_indexes, children_of, IsKept};
 
+use crate::dir_table::DirTable;
 use crate::event::Request;
 use crate::exporter::ExporterState;
 use crate::importer::ImporterState;
@@ -29,24 +30,16 @@ use std::alloc::{AllocError, Global};
 pub struct Records {
     pub(crate) limit: u32,
     pub(crate) ranks: u8,
-    pub(crate) parents: Vec<Option<Dir>>,
+    /// A row for each directory: its parent, the rank that the map names, and what is kept beside.
+    pub(crate) dirs: DirTable,
     pub(crate) journals: Vec<Vec<JournalEntry>>,
     pub(crate) orders: Vec<Order>,
     pub(crate) exporters: Vec<ExporterState>,
     pub(crate) importers: Vec<ImporterState>,
     pub(crate) sent: Vec<Message>,
     pub(crate) tickets: Vec<Option<Request>>,
-    pub(crate) named: Vec<Option<Rank>>,
     pub(crate) stopped: Vec<bool>,
     pub(crate) events: u32,
-    /// By directory: its authority.
-    pub(crate) owners: Vec<Option<Rank>>,
-    /// By directory: the open export that it is in.
-    pub(crate) opened: Vec<Option<u32>>,
-    /// By directory: how many requests run on it.
-    pub(crate) running: Vec<u32>,
-    /// By directory: how many children it has.
-    pub(crate) children: Vec<u32>,
     /// By directory: whether the test of a list has come across it. Between tests none has its mark.
     pub(crate) marks: Vec<bool>,
     /// By rank: the tickets of the requests that run there, and some of requests that ended.
@@ -114,20 +107,15 @@ impl Records {
         Ok(Records {
             limit,
             ranks,
-            parents: vec![in alloc; Some(Dir::ROOT)]?,
+            dirs: DirTable::new(alloc, first_rank())?,
             journals,
             orders: Vec::new(alloc),
             exporters: Vec::new(alloc),
             importers: Vec::new(alloc),
             sent: Vec::new(alloc),
             tickets: Vec::new(alloc),
-            named: vec![in alloc; Some(first_rank())]?,
             stopped: vec![in alloc; false; ranks as usize]?,
             events: 0,
-            owners: vec![in alloc; Some(first_rank())]?,
-            opened: vec![in alloc; None]?,
-            running: vec![in alloc; 0]?,
-            children: vec![in alloc; 0]?,
             marks: vec![in alloc; false]?,
             tickets_at: empty_lists(alloc, ranks)?,
             ended_at: vec![in alloc; 0; ranks as usize]?,
@@ -140,7 +128,7 @@ impl Records {
     pub(crate) fn is_present(&self, dir: Dir) -> bool
         ensures { result ≡ is_present (world_of self.now) dir }
     {
-        value_at(&self.parents, dir.number() as usize, None).is_some()
+        self.dirs.parent(dir).is_some()
     }
 
     pub(crate) fn are_present(&self, dirs: &[Dir]) -> bool
@@ -153,13 +141,13 @@ impl Records {
         requires { IsKept self.now }
         ensures { result ≡ authority (world_of self.now) dir }
     {
-        value_at(&self.owners, dir.number() as usize, None)
+        self.dirs.owner(dir)
     }
 
     pub(crate) fn parent(&self, dir: Dir) -> Option<Dir>
         ensures { result ≡ parent_of (world_of self.now) dir }
     {
-        value_at(&self.parents, dir.number() as usize, None)
+        self.dirs.parent(dir)
     }
 
     /// The authority of a directory that is the root of a subtree.
@@ -179,27 +167,27 @@ impl Records {
         requires { IsKept self.now }
         ensures { result ≡ open_export (world_of self.now) dir }
     {
-        value_at(&self.opened, dir.number() as usize, None)
+        self.dirs.opened(dir)
     }
 
     pub(crate) fn running_on(&self, dir: Dir) -> u32
         requires { IsKept self.now }
         ensures { result ≡ running_on (world_of self.now) (dir ∷ []) }
     {
-        value_at(&self.running, dir.number() as usize, 0)
+        self.dirs.running(dir)
     }
 
     pub(crate) fn children(&self, dir: Dir) -> u32
         requires { IsKept self.now }
         ensures { result ≡ children_of (world_of self.now) dir }
     {
-        value_at(&self.children, dir.number() as usize, 0)
+        self.dirs.children(dir)
     }
 
     pub(crate) fn named(&self, dir: Dir) -> Option<Rank>
         ensures { result ≡ named_of (world_of self.now) dir }
     {
-        value_at(&self.named, dir.number() as usize, None)
+        self.dirs.named(dir)
     }
 
     pub(crate) fn journal(&self, rank: Rank) -> &[JournalEntry]

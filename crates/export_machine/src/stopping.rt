@@ -9,7 +9,7 @@ ghost use Rattle.export_machine.specs.Kept.{world_of, indexes_of, is_passing, is
 ghost use Rattle.export_machine.specs.Kept.{IsIndexed, exporter_at_stop, importer_at_stop};
 ghost use Rattle.export_machine.specs.declared.event.Request.{Request};
 
-use crate::changes::{mark, put};
+use crate::changes::put;
 use crate::event::{Reply, Request};
 use crate::exporter::ExporterState;
 use crate::importer::ImporterState;
@@ -129,7 +129,10 @@ impl Records {
     fn halt_exports(&mut self, rank: Rank)
         requires kept { IsKept self.old }
         requires ranked { rank < length self.old.open_at.items }
-        ensures others { self.new ≡ record self.old { exporters = self.new.exporters; opened = self.new.opened } }
+        ensures others { self.new ≡ record self.old {
+          exporters = self.new.exporters;
+          dirs = record self.old.dirs { opened = self.new.dirs.opened };
+        } }
         ensures exporters { self.new.exporters.items
             ≡ map_at (λ x state. if from_of (world_of self.old) x == rank then exporter_at_stop state else state)
             self.old.exporters.items }
@@ -140,7 +143,8 @@ impl Records {
             let export = self.open_at[index][at] as usize;
             if self.is_halted(rank, export) {
                 self.exporters[export] = ExporterState::Aborted;
-                mark(&mut self.opened, self.orders[export].dirs.as_slice(), None);
+                self.dirs
+                    .mark_opened(self.orders[export].dirs.as_slice(), None);
             }
         }
     }
@@ -239,8 +243,11 @@ impl Records {
     fn end_at(&mut self, rank: Rank, ticket: usize)
         requires indexed { IsIndexed (world_of self.old) (indexes_of self.old) }
         requires there { (q : Request) → request_of (world_of self.old) ticket ≡ Some q
-            → q.dir < length self.old.parents.items }
-        ensures others { self.new ≡ record self.old { tickets = self.new.tickets; running = self.new.running } }
+            → q.dir < length self.old.dirs.parents }
+        ensures others { self.new ≡ record self.old {
+          tickets = self.new.tickets;
+          dirs = record self.old.dirs { running = self.new.dirs.running };
+        } }
         ensures tickets { self.new.tickets.items ≡ slice_set self.old.tickets.items ticket
             (ends_at rank (slice_index_or self.old.tickets.items ticket None)) }
         ensures indexed { IsIndexed (world_of self.new) (indexes_of self.new) }
@@ -251,7 +258,7 @@ impl Records {
         if request.rank != rank {
             return;
         }
-        self.running[request.dir.number() as usize] -= 1;
+        self.dirs.end(request.dir);
         put(&mut self.tickets, ticket, None);
     }
 
@@ -260,8 +267,11 @@ impl Records {
         requires near { rank < length self.old.tickets_at.items }
         requires indexed { IsIndexed (world_of self.old) (indexes_of self.old) }
         requires there { (t : ℕ) (q : Request) → request_of (world_of self.old) t ≡ Some q
-            → q.dir < length self.old.parents.items }
-        ensures others { self.new ≡ record self.old { tickets = self.new.tickets; running = self.new.running } }
+            → q.dir < length self.old.dirs.parents }
+        ensures others { self.new ≡ record self.old {
+          tickets = self.new.tickets;
+          dirs = record self.old.dirs { running = self.new.dirs.running };
+        } }
         ensures tickets { self.new.tickets.items ≡ map_at (λ t request. ends_at rank request) self.old.tickets.items }
         ensures indexed { IsIndexed (world_of self.new) (indexes_of self.new) }
     {
@@ -277,10 +287,10 @@ impl Records {
         requires near { rank < length self.old.tickets_at.items }
         requires indexed { IsIndexed (world_of self.old) (indexes_of self.old) }
         requires there { (t : ℕ) (q : Request) → request_of (world_of self.old) t ≡ Some q
-            → q.dir < length self.old.parents.items }
+            → q.dir < length self.old.dirs.parents }
         ensures others { self.new ≡ record self.old {
           tickets = self.new.tickets;
-          running = self.new.running;
+          dirs = record self.old.dirs { running = self.new.dirs.running };
           tickets_at = self.new.tickets_at;
           ended_at = self.new.ended_at;
         } }

@@ -1,11 +1,11 @@
-use Rattle.std.proofs.Common.{◌≡◌, ◌<◌, ℕ, cond, length, Option, None, List, sym, ap, ◌∙◌, subst, refl, arith}
+use Rattle.std.proofs.Common.{◌≡◌, ◌<◌, ℕ, cond, length, None, List, sym, ap, ◌∙◌, refl, arith}
 use Rattle.std.proofs.lemmas.Bool.{and_parts, ltb-true}
 use Rattle.export_machine.specs.Authority.{is_among, is_inside, order_in, from_of}
 use Rattle.export_machine.specs.Step.{happens, map_at}
 use Rattle.export_machine.specs.declared.event.Event.TheVariants.{Abort}
-use Rattle.export_machine.specs.Kept.{world_of, indexes_of, has_room, IsIndexed}
+use Rattle.export_machine.specs.Kept.{world_of, indexes_of, has_room}
 use Rattle.std.proofs.lemmas.List.{length-map, length-set}
-use Rattle.export_machine.proofs.Indexing.{abort_there, abort_indexed, aborted}
+use Rattle.export_machine.proofs.Indexing.{abort_there, abort_indexed}
 use Rattle.export_machine.proofs.Reached.{by_safe}
 use Rattle.export_machine.proofs.Accepted.{numbers_by, exporter_rank, from_here, room_left, as_exporter, dirs_here, abort_order, abort_state}
 use Rattle.export_machine.proofs.records.Records.abort.Goals as goal
@@ -20,8 +20,8 @@ index-order-requires c =
     let near : c.args.export < length c.args.self.now.orders.items = abort_order (world_of c.args.self.now) c.args.export c.requires.accepted in
     omega arith
 
-pub mark-requires : goal.mark-requires
-mark-requires c =
+pub mark_opened-requires : goal.mark_opened-requires
+mark_opened-requires c =
     let near : c.args.export < length c.args.self.now.orders.items = abort_order (world_of c.args.self.now) c.args.export c.requires.accepted in
     let e : (order_in c.args.self.now.orders.items c.args.export).dirs ≡ c.as_slice.result.now = dirs_here c.args.self.now.orders.items c.args.export c.index-order.result.now near c.index-order.ensures ∙ sym c.as_slice.ensures in
     record {
@@ -59,15 +59,16 @@ note_told-requires-clause-indexed c =
     let order = abort_order (world_of c.args.self.now) c.args.export c.requires.accepted in
     let near : c.args.export < length c.args.self.now.orders.items = order in
     let e : (order_in c.args.self.now.orders.items c.args.export).dirs ≡ c.as_slice.result.now = dirs_here c.args.self.now.orders.items c.args.export c.index-order.result.now near c.index-order.ensures ∙ sym c.as_slice.ensures in
-    let marked : map_at (λ k old. cond (is_inside (world_of c.args.self.now) c.args.export k) None old) c.args.self.now.opened.items ≡ c.mark.new.table.items =
-    ap (λ (ds : List ℕ). map_at (λ k old. cond (is_among ds k) None old) c.args.self.now.opened.items) e ∙ sym c.mark.ensures in
-    subst (λ (xs : List (Option ℕ)). IsIndexed (aborted (world_of c.args.self.now) c.args.export (as_exporter (world_of c.args.self.now) c.requires.kept.reached c.args.export order) c.send-reply.new.sent.items) (record (indexes_of c.args.self.now) { opened = xs })) marked
+    let dirs = c.args.self.now.dirs in
+    let marked : record dirs { opened = map_at (λ k old. cond (is_inside (world_of c.args.self.now) c.args.export k) None old) dirs.opened } ≡ c.mark_opened.new.self =
+    ap (λ (ds : List ℕ). record dirs { opened = map_at (λ k old. cond (is_among ds k) None old) dirs.opened }) e ∙ sym c.mark_opened.ensures in
+    rw (← marked)
     (abort_indexed (world_of c.args.self.now) c.args.export (as_exporter (world_of c.args.self.now) c.requires.kept.reached c.args.export order) c.send-reply.new.sent.items (by_safe (world_of c.args.self.now) c.requires.kept.reached) (indexes_of c.args.self.now)
     c.requires.kept.indexed (abort_state (world_of c.args.self.now) c.args.export c.requires.accepted))
 
 pub returns-clause-effect : goal.returns-clause-effect
 unfolding happens
-returns-clause-effect c = rw (c.note_told.ensures.others, c.send-reply.ensures.items, c.send-reply.ensures.reply) refl
+returns-clause-effect c = rw (c.note_told.ensures.others, c.send-reply.ensures.items, c.send-reply.ensures.reply, c.mark_opened.ensures) refl
 
 pub returns-clause-indexed : goal.returns-clause-indexed
 returns-clause-indexed c = c.note_told.ensures.indexed

@@ -26,8 +26,8 @@ loop-at-init c = record {
   safely = by_safe (world_of c.args.self.now) c.requires.kept.reached;
 }
 
-pub mark-requires : goal.mark-requires
-mark-requires c =
+pub mark_opened-requires : goal.mark_opened-requires
+mark_opened-requires c =
     let self = c.loop-at.self in
     let n = c.index-in-loop-at-2.result.now in
     let halted : (eqb (from_of (world_of self) n) c.args.rank && is_before_log (exporter_of (world_of self) n)) ≡ true = sym c.is_halted.ensures ∙ c.if-is_halted.true in
@@ -76,10 +76,11 @@ loop-at-preserved c =
           let value : Aborted ≡ g n (get_or self.exporters.items n Aborted) =
           is_halted (eqb (from_of (world_of self) n) c.args.rank) (exporter_of (world_of self) n) halted ∙ ap (λ k. cond (eqb k c.args.rank) (exporter_at_stop (exporter_of (world_of self) n)) (exporter_of (world_of self) n)) from in
           let e : (order_in self.orders.items n).dirs ≡ w.as_slice.result.now = dirs_here self.orders.items n w.index-then-is_halted.result.now ordered w.index-then-is_halted.ensures ∙ sym w.as_slice.ensures in
-          let marked : map_at (λ k old. cond (is_inside (world_of self) n k) None old) self.opened.items ≡ w.mark.new.table.items =
-          ap (λ (ds : List ℕ). map_at (λ k old. cond (is_among ds k) None old) self.opened.items) e ∙ sym w.mark.ensures in
-          rw w.self-is (record {
-            others = ap (λ (r : Records). record r { exporters = with_item self.exporters n Aborted; opened = w.mark.new.table }) c.loop-at.invariant.others;
+          let marks : List (Option ℕ) = map_at (λ k old. cond (is_among w.as_slice.result.now k) None old) self.dirs.opened in
+          let marked : map_at (λ k old. cond (is_inside (world_of self) n k) None old) self.dirs.opened ≡ marks =
+          ap (λ (ds : List ℕ). map_at (λ k old. cond (is_among ds k) None old) self.dirs.opened) e in
+          rw (w.self-is, w.mark_opened.ensures) (record {
+            others = ap (λ (r : Records). record r { exporters = with_item self.exporters n Aborted; dirs = record r.dirs { opened = marks } }) c.loop-at.invariant.others;
             exporters = change_among_next g twice listed c.loop-at.at n xs self.exporters.items Aborted Aborted near read c.loop-at.invariant.exporters value;
             indexed = subst (λ (os : List (Option ℕ)). IsIndexed (aborted (world_of self) n placed self.sent.items) (record (indexes_of self) { opened = os })) marked
                 (abort_indexed (world_of self) n placed self.sent.items c.loop-at.invariant.safely (indexes_of self) c.loop-at.invariant.indexed before);

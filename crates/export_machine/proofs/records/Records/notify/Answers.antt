@@ -35,8 +35,8 @@ enter-requires-clause-room c =
     let t : from_of (world_of c.args.self.now) c.args.export ≡ c.index-order.result.now.from = from_here c.args.self.now.orders.items c.args.export c.index-order.result.now near c.index-order.ensures in
     rw (← t) (and_parts _ _ (and_parts _ _ c.requires.room).0).0
 
-pub mark-requires : goal.mark-requires
-mark-requires c =
+pub mark_named-requires : goal.mark_named-requires
+mark_named-requires c =
     let order = notify_order (world_of c.args.self.now) c.args.export c.requires.accepted in
     let near : c.args.export < length c.args.self.now.orders.items = order in
     let f : (order_in c.args.self.now.orders.items c.args.export).dirs ≡ c.as_slice.result.now =
@@ -61,9 +61,10 @@ returns-clause-effect c =
     let u : to_of (world_of c.args.self.now) c.args.export ≡ c.index-order.result.now.to = to_here c.args.self.now.orders.items c.args.export c.index-order.result.now near c.index-order.ensures in
     let f : (order_in c.args.self.now.orders.items c.args.export).dirs ≡ c.as_slice.result.now =
     dirs_here c.args.self.now.orders.items c.args.export c.index-order.result.now near c.index-order.ensures ∙ sym c.as_slice.ensures in
-    let m : map_at (λ k old. cond (is_among (order_in c.args.self.now.orders.items c.args.export).dirs k) (Some (to_of (world_of c.args.self.now) c.args.export)) old) c.args.self.now.named.items ≡ c.mark.new.table.items =
-    ap (λ (ds : List ℕ). map_at (λ k old. cond (is_among ds k) (Some (to_of (world_of c.args.self.now) c.args.export)) old) c.args.self.now.named.items) f
-    ∙ (ap (λ (s : ℕ). map_at (λ k old. cond (is_among c.as_slice.result.now k) (Some s) old) c.args.self.now.named.items) u ∙ sym c.mark.ensures) in
+    let dirs = c.args.self.now.dirs in
+    let m : record dirs { named = map_at (λ k old. cond (is_among (order_in c.args.self.now.orders.items c.args.export).dirs k) (Some (to_of (world_of c.args.self.now) c.args.export)) old) dirs.named } ≡ c.mark_named.new.self =
+    ap (λ (ds : List ℕ). record dirs { named = map_at (λ k old. cond (is_among ds k) (Some (to_of (world_of c.args.self.now) c.args.export)) old) dirs.named }) f
+    ∙ (ap (λ (s : ℕ). record dirs { named = map_at (λ k old. cond (is_among c.as_slice.result.now k) (Some s) old) dirs.named }) u ∙ sym c.mark_named.ensures) in
     rw (c.send.ensures.items, c.send.ensures.reply, c.enter.ensures.entered, ← t, ← m) refl
 
 pub returns-clause-indexed : goal.returns-clause-indexed
@@ -74,8 +75,9 @@ returns-clause-indexed c =
     let u : to_of (world_of c.args.self.now) c.args.export ≡ c.index-order.result.now.to = to_here c.args.self.now.orders.items c.args.export c.index-order.result.now near c.index-order.ensures in
     let f : (order_in c.args.self.now.orders.items c.args.export).dirs ≡ c.as_slice.result.now =
     dirs_here c.args.self.now.orders.items c.args.export c.index-order.result.now near c.index-order.ensures ∙ sym c.as_slice.ensures in
-    let m : map_at (λ k old. cond (is_among (order_in c.args.self.now.orders.items c.args.export).dirs k) (Some (to_of (world_of c.args.self.now) c.args.export)) old) c.args.self.now.named.items ≡ c.mark.new.table.items =
-    ap (λ (ds : List ℕ). map_at (λ k old. cond (is_among ds k) (Some (to_of (world_of c.args.self.now) c.args.export)) old) c.args.self.now.named.items) f
-    ∙ (ap (λ (s : ℕ). map_at (λ k old. cond (is_among c.as_slice.result.now k) (Some s) old) c.args.self.now.named.items) u ∙ sym c.mark.ensures) in
+    let dirs = c.args.self.now.dirs in
+    let m : record dirs { named = map_at (λ k old. cond (is_among (order_in c.args.self.now.orders.items c.args.export).dirs k) (Some (to_of (world_of c.args.self.now) c.args.export)) old) dirs.named } ≡ c.mark_named.new.self =
+    ap (λ (ds : List ℕ). record dirs { named = map_at (λ k old. cond (is_among ds k) (Some (to_of (world_of c.args.self.now) c.args.export)) old) dirs.named }) f
+    ∙ (ap (λ (s : ℕ). record dirs { named = map_at (λ k old. cond (is_among c.as_slice.result.now k) (Some s) old) dirs.named }) u ∙ sym c.mark_named.ensures) in
     rw (c.enter.ensures.entered, ← t, ← m) (notify_indexed (world_of c.args.self.now) c.args.export (notify_state (world_of c.args.self.now) c.args.export c.requires.accepted)
     (exporter_rank (world_of c.args.self.now) c.requires.kept.reached c.args.export order) c.send.new.sent.items c.requires.kept.reached (indexes_of c.args.self.now) c.requires.kept.indexed)

@@ -13,8 +13,8 @@ overflow_cast-export c =
     let few : length (world_of c.args.self.now).orders < 65536 = start_few (world_of c.args.self.now) c.args.from c.args.to c.args.dirs c.requires.accepted in
     omega arith
 
-pub mark-requires : goal.mark-requires
-mark-requires c =
+pub mark_opened-requires : goal.mark_opened-requires
+mark_opened-requires c =
     record {
       near = λ d h. rw c.requires.kept.indexed.opened_places
           (start_there (world_of c.args.self.now) c.args.from c.args.to c.args.dirs c.requires.accepted d (ap (λ (ds : List ℕ). is_among ds d) (sym c.as_slice.ensures) ∙ h));
@@ -61,6 +61,7 @@ returns-clause-effect c =
       c.push_reserved-2.ensures.items,
       c.push_reserved-3.ensures.items,
       c.push_reserved-4.ensures.items,
+      c.mark_opened.ensures,
     ) refl
 
 pub returns-clause-indexed : goal.returns-clause-indexed
@@ -73,7 +74,7 @@ returns-clause-indexed c =
       c.push_reserved-4.ensures.items,
       c.push_reserved-5.ensures.items,
       c.enter.ensures.entered,
-      c.mark.ensures,
+      c.mark_opened.ensures,
       c.as_slice.ensures,
       n,
     )
