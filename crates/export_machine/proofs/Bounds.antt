@@ -315,7 +315,7 @@ module _ (old new : Records) (roomy : IsAsRoomy old new) (world : world_of new �
   dir_places = and_keeps _ _ _ _ roomy.dirs roomy.marks
 
   export_places : has_export_places old ≡ true → has_export_places new ≡ true
-  export_places = and_keeps _ _ _ _ (and_keeps _ _ _ _ (and_keeps _ _ _ _ (and_keeps _ _ _ _ (and_keeps _ _ _ _ roomy.orders roomy.exporters) roomy.importers) roomy.sent) roomy.dropped) roomy.all_open
+  export_places = and_keeps _ _ _ _ (and_keeps _ _ _ _ roomy.exports roomy.sent) roomy.all_open
 
   pub lists_kept : (e : Event) → has_list_places old e ≡ true → has_list_places new e ≡ true
   lists_kept (Event.Made p) h = dir_places h

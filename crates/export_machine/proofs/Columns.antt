@@ -6,7 +6,7 @@ use Rattle.export_machine.specs.declared.dir_table.DirRow.{DirRow}
 use Rattle.export_machine.specs.Columns.{DirColumns, columns_of}
 
 -- what is written is what was there
-set_same : {A : Type 0} (f : DirRow → A) (rows : List DirRow) (i : ℕ) (row : DirRow) → row ≡ get_or rows i row → set (map f rows) i (f row) ≡ map f rows
+pub set_same : {R A : Type 0} (f : R → A) (rows : List R) (i : ℕ) (row : R) → row ≡ get_or rows i row → set (map f rows) i (f row) ≡ map f rows
 set_same f [] zero row h = refl
 set_same f [] (suc i) row h = refl
 set_same f (r ∷ rows) zero row h = ap (λ a. f a ∷ map f rows) h

@@ -29,9 +29,9 @@ world_of r = record {
   ranks = r.ranks;
   parents = r.dirs.parents;
   journals = map (λ journal. journal.items) r.journals.items;
-  orders = r.orders.items;
-  exporters = r.exporters.items;
-  importers = r.importers.items;
+  orders = r.exports.orders;
+  exporters = r.exports.exporters;
+  importers = r.exports.importers;
   sent = r.sent.items;
   tickets = r.tickets.items;
   named = r.dirs.named;
@@ -61,7 +61,7 @@ indexes_of r =
       marks = r.marks.items;
       tickets_at = map (λ list. list.items) r.tickets_at.items;
       open_at = map (λ list. list.items) r.open_at.items;
-      dropped = r.dropped.items;
+      dropped = r.exports.dropped;
     }
 
 -- how many places of a list pass the test
@@ -182,8 +182,7 @@ has_dir_places r = r.dirs.spare && has_spare r.marks
 
 abbrev pub has_export_places : Records → Bool
 has_export_places r =
-    has_spare r.orders && has_spare r.exporters && has_spare r.importers && has_spare r.sent && has_spare r.dropped
-    && list_all (λ list. has_spare list) r.open_at.items
+    r.exports.spare && has_spare r.sent && list_all (λ list. has_spare list) r.open_at.items
 
 abbrev pub has_ticket_places : Records → ℕ → Bool
 has_ticket_places r rank = has_spare r.tickets && has_place r.tickets_at.items rank

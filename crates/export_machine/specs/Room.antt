@@ -18,13 +18,10 @@ KeepsRoom old new = (e : Event) → is_ready old e ≡ true → is_ready new e �
 pub record IsAsRoomy (old new : Records) : Type 0 where
   pub dirs : old.dirs.spare ≡ true → new.dirs.spare ≡ true
   pub marks : has_spare old.marks ≡ true → has_spare new.marks ≡ true
-  pub orders : has_spare old.orders ≡ true → has_spare new.orders ≡ true
-  pub exporters : has_spare old.exporters ≡ true → has_spare new.exporters ≡ true
-  pub importers : has_spare old.importers ≡ true → has_spare new.importers ≡ true
+  pub exports : old.exports.spare ≡ true → new.exports.spare ≡ true
   pub sent : has_spare old.sent ≡ true → has_spare new.sent ≡ true
   pub tickets : has_spare old.tickets ≡ true → has_spare new.tickets ≡ true
   pub tickets_at : (rank : ℕ) → has_place old.tickets_at.items rank ≡ true → has_place new.tickets_at.items rank ≡ true
-  pub dropped : has_spare old.dropped ≡ true → has_spare new.dropped ≡ true
   pub open_at : (rank : ℕ) → has_place old.open_at.items rank ≡ true → has_place new.open_at.items rank ≡ true
   pub all_open : list_all (λ list. has_spare list) old.open_at.items ≡ true
       → list_all (λ list. has_spare list) new.open_at.items ≡ true

@@ -66,11 +66,8 @@ impl Records {
         ensures ready { has_export_places self.old ≡ true → IsOk result }
         ensures spare { IsAsRoomy self.old self.new }
     {
-        self.orders.reserve(1)?;
-        self.exporters.reserve(1)?;
-        self.importers.reserve(1)?;
+        self.exports.reserve()?;
         self.sent.reserve(1)?;
-        self.dropped.reserve(1)?;
         grow_all(&mut self.open_at)
     }
 

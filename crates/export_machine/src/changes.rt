@@ -1,9 +1,7 @@
 //! Changes of the lists that a cluster keeps. All growths come before the first change.
 
-ghost use Rattle.std.specs.Prelude.{◌≡◌, ◌<◌, ◌≤◌, ℕ, ◌+◌, ◌∷◌, [], ◌++◌, length, map, Some, None, true, OnOk};
-ghost use Rattle.std.specs.Prelude.{slice_get, slice_index_or, slice_set, vec_len, vec_capacity, if◌then◌else◌};
-ghost use Rattle.export_machine.specs.Authority.{is_among};
-ghost use Rattle.export_machine.specs.Step.{map_at};
+ghost use Rattle.std.specs.Prelude.{◌≡◌, ◌<◌, ◌∷◌, [], ◌++◌, length, map, true};
+ghost use Rattle.std.specs.Prelude.{slice_index_or, slice_set, vec_len, vec_capacity};
 ghost use Rattle.export_machine.specs.Kept.{has_place};
 ghost use Rattle.export_machine.specs.declared.event.Reply.TheVariants.{Sent};
 

@@ -74,9 +74,9 @@ impl Records {
 
     pub(crate) fn check_export(&self, export: u32) -> Result<(), StepError>
         ensures cause { cause_of result ≡ no_export (world_of self.now) export }
-        ensures near { OnOk result (export < length self.now.orders.items) }
+        ensures near { OnOk result (export < length self.now.exports.orders) }
     {
-        refuse_if(export as usize >= self.orders.len(), StepError::NoExport)
+        refuse_if(export as usize >= self.exports.len(), StepError::NoExport)
     }
 
     pub(crate) fn check_room(&self) -> Result<(), StepError>
@@ -86,10 +86,10 @@ impl Records {
     }
 
     pub(crate) fn check_exports(&self) -> Result<(), StepError>
-        ensures { cause_of result ≡ when (nat_le export_limit (length self.now.orders.items)) ExportsFull }
+        ensures { cause_of result ≡ when (nat_le export_limit (length self.now.exports.orders)) ExportsFull }
     {
         refuse_if(
-            self.orders.len() >= EXPORT_LIMIT as usize,
+            self.exports.len() >= EXPORT_LIMIT as usize,
             StepError::ExportsFull,
         )
     }

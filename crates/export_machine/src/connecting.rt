@@ -63,7 +63,8 @@ fn has_marked_parent(table: &DirTable, marks: &[bool], dir: Dir) -> bool
 
 /// How many of the directories have no parent with a mark.
 fn tops(table: &DirTable, marks: &[bool], dirs: &[Dir]) -> usize
-    ensures { result ≡ count_by (λ d. not (parent_marked marks.now d (slice_index_or table.now.parents d None))) dirs.now }
+    ensures { result
+        ≡ count_by (λ d. not (parent_marked marks.now d (slice_index_or table.now.parents d None))) dirs.now }
 {
     dirs.iter()
         .filter(|dir| !has_marked_parent(table, marks, **dir))

@@ -10,7 +10,6 @@ ghost use Rattle.export_machine.specs.Kept.{world_of, indexes_of, has_room, IsKe
 use crate::changes::{enter, send};
 use crate::event::{Reply, Request};
 use crate::exporter::ExporterState;
-use crate::importer::ImporterState;
 use crate::journal::JournalEntry;
 use crate::message::Message;
 use crate::records::Records;
@@ -59,7 +58,7 @@ impl Records {
             ≡ record { reply = result; world = world_of self.new } }
         ensures indexed { IsIndexed (world_of self.new) (indexes_of self.new) }
     {
-        self.exporters[export as usize] = ExporterState::Preparing;
+        self.exports.set_exporter(export, ExporterState::Preparing);
         send(&mut self.sent, Message::Prep(export))
     }
 
@@ -72,8 +71,8 @@ impl Records {
             ≡ record { reply = result; world = world_of self.new } }
         ensures indexed { IsIndexed (world_of self.new) (indexes_of self.new) }
     {
-        self.exporters[export as usize] = ExporterState::Aborted;
-        let order = &self.orders[export as usize];
+        self.exports.set_exporter(export, ExporterState::Aborted);
+        let order = self.exports.order(export);
         let from = order.from;
         self.dirs.mark_opened(order.dirs.as_slice(), None);
         let reply = send(&mut self.sent, Message::Cancel(export));
@@ -131,14 +130,11 @@ impl Records {
             ≡ record { reply = result; world = world_of self.new } }
         ensures indexed { IsIndexed (world_of self.new) (indexes_of self.new) }
     {
-        let export = self.orders.len() as u32;
+        let export = self.exports.len() as u32;
         let message = self.sent.len() as u32;
         self.dirs.mark_opened(dirs.as_slice(), Some(export));
-        self.orders.push_reserved(Order { from, to, dirs });
-        self.exporters.push_reserved(ExporterState::Discovering);
-        self.importers.push_reserved(ImporterState::Unknown);
+        self.exports.push_reserved(Order { from, to, dirs });
         self.sent.push_reserved(Message::Discover(export));
-        self.dropped.push_reserved(false);
         enter(&mut self.open_at, from, export);
         Reply::Export(export, message)
     }
@@ -152,8 +148,8 @@ impl Records {
             ≡ record { reply = result; world = world_of self.new } }
         ensures indexed { IsIndexed (world_of self.new) (indexes_of self.new) }
     {
-        self.exporters[export as usize] = ExporterState::Done;
-        let order = &self.orders[export as usize];
+        self.exports.set_exporter(export, ExporterState::Done);
+        let order = self.exports.order(export);
         enter(
             &mut self.journals,
             order.from,

@@ -13,6 +13,7 @@ mod deliveries;
 mod dir_table;
 mod effects;
 pub mod event;
+mod export_table;
 pub mod exporter;
 pub mod importer;
 pub mod journal;

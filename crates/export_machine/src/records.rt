@@ -2,7 +2,8 @@
 //!
 //! A directory's row has its parent and the rank that the map names for it and, beside them, what the journals, states
 //! and requests determine: its authority, the open export that it is in, how many requests run on it and how many
-//! children it has. So no read folds a journal and no event searches the exports. A table of marks is for the test of a
+//! children it has. So no read folds a journal and no event searches the exports. An export's row has what it moves,
+//! its states at both ranks and whether its importer's journal has it as dropped. A table of marks is for the test of a
 //! list of directories. By rank there are the tickets of its requests and the exports that are open there, so that a
 //! stop needn't look through all requests and exports that ever were.
 
@@ -18,11 +19,12 @@ ghost use Rattle.export_machine.specs.Kept.{world_of, indexes_of, first_indexes,
 
 use crate::dir_table::DirTable;
 use crate::event::Request;
+use crate::export_table::ExportTable;
 use crate::exporter::ExporterState;
 use crate::importer::ImporterState;
 use crate::journal::JournalEntry;
 use crate::message::Message;
-use mds_types::{Dir, Order, Rank};
+use mds_types::{Dir, Rank};
 use std::alloc::{AllocError, Global};
 
 /// Everything that a cluster knows. The lists of directories, ranks, exports, messages and tickets go by number.
@@ -33,9 +35,8 @@ pub struct Records {
     /// A row for each directory: its parent, the rank that the map names, and what is kept beside.
     pub(crate) dirs: DirTable,
     pub(crate) journals: Vec<Vec<JournalEntry>>,
-    pub(crate) orders: Vec<Order>,
-    pub(crate) exporters: Vec<ExporterState>,
-    pub(crate) importers: Vec<ImporterState>,
+    /// A row for each export: what it moves and its states.
+    pub(crate) exports: ExportTable,
     pub(crate) sent: Vec<Message>,
     pub(crate) tickets: Vec<Option<Request>>,
     pub(crate) stopped: Vec<bool>,
@@ -50,8 +51,6 @@ pub struct Records {
     pub(crate) open_at: Vec<Vec<u32>>,
     /// By rank: how many of those its journal tells.
     pub(crate) told_at: Vec<u32>,
-    /// By export: whether its importer's journal has it as dropped.
-    pub(crate) dropped: Vec<bool>,
 }
 
 /// An empty list for each rank.
@@ -109,9 +108,7 @@ impl Records {
             ranks,
             dirs: DirTable::new(alloc, first_rank())?,
             journals,
-            orders: Vec::new(alloc),
-            exporters: Vec::new(alloc),
-            importers: Vec::new(alloc),
+            exports: ExportTable::new(alloc),
             sent: Vec::new(alloc),
             tickets: Vec::new(alloc),
             stopped: vec![in alloc; false; ranks as usize]?,
@@ -121,7 +118,6 @@ impl Records {
             ended_at: vec![in alloc; 0; ranks as usize]?,
             open_at: empty_lists(alloc, ranks)?,
             told_at: vec![in alloc; 0; ranks as usize]?,
-            dropped: Vec::new(alloc),
         })
     }
 
@@ -208,34 +204,34 @@ impl Records {
     pub(crate) fn exporter(&self, export: u32) -> ExporterState
         ensures { result ≡ exporter_of (world_of self.now) export }
     {
-        value_at(&self.exporters, export as usize, ExporterState::Aborted)
+        self.exports.exporter(export)
     }
 
     pub(crate) fn importer(&self, export: u32) -> ImporterState
         ensures { result ≡ importer_of (world_of self.now) export }
     {
-        value_at(&self.importers, export as usize, ImporterState::Unknown)
+        self.exports.importer(export)
     }
 
     pub(crate) fn from(&self, export: u32) -> Rank
-        requires { export < length self.now.orders.items }
+        requires { export < length self.now.exports.orders }
         ensures { result ≡ from_of (world_of self.now) export }
     {
-        self.orders[export as usize].from
+        self.exports.order(export).from
     }
 
     pub(crate) fn to(&self, export: u32) -> Rank
-        requires { export < length self.now.orders.items }
+        requires { export < length self.now.exports.orders }
         ensures { result ≡ to_of (world_of self.now) export }
     {
-        self.orders[export as usize].to
+        self.exports.order(export).to
     }
 
     pub(crate) fn dirs(&self, export: u32) -> &[Dir]
-        requires { export < length self.now.orders.items }
+        requires { export < length self.now.exports.orders }
         ensures { result.now ≡ (order_in (world_of self.now).orders export).dirs }
     {
-        self.orders[export as usize].dirs.as_slice()
+        self.exports.order(export).dirs.as_slice()
     }
 
     /// The export because of which the authority of a directory doesn't serve it.
@@ -266,7 +262,7 @@ impl Records {
     /// How many requests run on the directories of an export.
     pub(crate) fn running_in(&self, export: u32) -> u32
         requires kept { IsKept self.now }
-        requires near { export < length self.now.orders.items }
+        requires near { export < length self.now.exports.orders }
         ensures { result ≡ running_on (world_of self.now) (order_in (world_of self.now).orders export).dirs }
     {
         let dirs = self.dirs(export);
