@@ -1,14 +1,14 @@
 -- What an accepted event can rely on.
-use Rattle.std.proofs.Common.{◌≡◌, ◌≢◌, ℕ, zero, suc, ◌<◌, true, false, not, eqb, List, [], ◌∷◌, length, get_or, Option, Some, None, sym, ap, ◌∙◌, inl, inr, arith}
+use Rattle.std.proofs.Common.{◌≡◌, ◌≢◌, ℕ, zero, suc, ◌<◌, true, false, not, eqb, List, [], ◌∷◌, length, get_or, Option, Some, None, sym, ap, inl, inr, arith}
 use Rattle.std.specs.List.{slice_get}
 use Rattle.std.proofs.lemmas.Bool.{cases_lt, cases_eq, leb-false, not-false}
-use Rattle.std.proofs.lemmas.List.{get_or_default, get_or_past}
+use Rattle.std.proofs.lemmas.List.{get_or_past}
 use Rattle.export_machine.specs.declared.exporter.ExporterState.TheVariants.{Freezing, Logged}
 use Rattle.export_machine.specs.declared.event.Request.{Request}
 use Rattle.export_machine.specs.declared.message.Message.{Message}
 use Rattle.export_machine.specs.declared.message.Message.TheVariants.{Discover, DiscoverAck, Prep, PrepAck, ExportAck, Finish, Cancel, Query}
 use Rattle.export_machine.specs.Cluster.{World}
-use Rattle.export_machine.specs.Authority.{order_in, no_order, from_of, to_of, exporter_of, authority, is_present, frozen_by, request_of, open_export}
+use Rattle.export_machine.specs.Authority.{from_of, to_of, exporter_of, authority, is_present, frozen_by, request_of, open_export}
 use Rattle.export_machine.specs.Step.{refusal, causes, about, receiver, is_before_log, is_freezing, is_logged, is_running, not_yet, running_on}
 use Rattle.export_machine.specs.declared.event.Event.{Event}
 use Rattle.export_machine.specs.declared.event.Event.TheVariants.{Begin, End, Deliver, Froze, Notify, Abort}
@@ -19,7 +19,6 @@ use Rattle.export_machine.proofs.Events.{not_refused, there_near, freezing_is, l
 use Rattle.export_machine.proofs.Theorem.{not_refused_causes}
 use Rattle.export_machine.proofs.Reached.{by_safe}
 use Rattle.export_machine.proofs.Found.{orders_by}
-use Rattle.mds_types.specs.declared.order.Order.{Order}
 
 pub numbers_by : (w : World) → IsReached w → (a b : ℕ) → (Safe w → a ≡ b) → a ≡ b
 numbers_by w r a b f = elim (cases_eq a b) [ inl e ↦ e | inr n ↦ absurd (by_safe w r (λ safe. n (f safe))) ]
@@ -27,18 +26,6 @@ numbers_by w r a b f = elim (cases_eq a b) [ inl e ↦ e | inr n ↦ absurd (by_
 pub room_left : (w : World) (e : Event) → refusal w e ≡ None → w.events < 1048576
 unfolding refusal
 room_left w e h = leb-false 1048576 w.events (not_refused _ _ (or_else_none _ _ h).0)
-
-pub order_here : (orders : List Order) (x : ℕ) (o : Order) → x < length orders → o ≡ get_or orders x o → order_in orders x ≡ o
-order_here orders x o h e = get_or_default orders x no_order o h ∙ sym e
-
-pub dirs_here : (orders : List Order) (x : ℕ) (o : Order) → x < length orders → o ≡ get_or orders x o → (order_in orders x).dirs ≡ o.dirs
-dirs_here orders x o h e = ap (λ r. r.dirs) (get_or_default orders x no_order o h) ∙ ap (λ (p : Order). p.dirs) (sym e)
-
-pub from_here : (orders : List Order) (x : ℕ) (o : Order) → x < length orders → o ≡ get_or orders x o → (order_in orders x).from ≡ o.from
-from_here orders x o h e = ap (λ r. r.from) (get_or_default orders x no_order o h) ∙ ap (λ (p : Order). p.from) (sym e)
-
-pub to_here : (orders : List Order) (x : ℕ) (o : Order) → x < length orders → o ≡ get_or orders x o → (order_in orders x).to ≡ o.to
-to_here orders x o h e = ap (λ r. r.to) (get_or_default orders x no_order o h) ∙ ap (λ (p : Order). p.to) (sym e)
 
 module _ (w : World) (reached : IsReached w) where
   pub as_exporter : (x : ℕ) → x < length w.orders → x < length w.exporters

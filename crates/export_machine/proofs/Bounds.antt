@@ -21,7 +21,8 @@ use Rattle.export_machine.specs.declared.event.Event.{Event}
 use Rattle.export_machine.specs.declared.event.Event.TheVariants.{Begin, End, Start, Deliver, Froze, Notify, Abort, Stop, Restart, Ask}
 use Rattle.export_machine.specs.View.{IsReached, IsAnswer}
 use Rattle.export_machine.specs.Room.{IsRefusal, IsAsRoomy, KeepsRoom}
-use Rattle.export_machine.specs.Kept.{world_of, indexes_of, IsKept, IsIndexed, has_room, has_entry_places, has_list_places, places_of, has_dir_places, has_export_places, has_spare, is_spare, entered_at, is_ready, is_ready_entry, is_ready_list, state_of}
+use Rattle.export_machine.specs.Columns.{has_spare}
+use Rattle.export_machine.specs.Kept.{world_of, indexes_of, IsKept, IsIndexed, has_room, has_entry_places, has_list_places, places_of, has_dir_places, has_export_places, is_spare, entered_at, is_ready, is_ready_entry, is_ready_list, state_of}
 use Rattle.export_machine.proofs.Views.{push_same, push_other, length_push, map_at_length}
 use Rattle.export_machine.proofs.Frame.{Framed, delivered_frame, happens_fixed}
 use Rattle.export_machine.proofs.Reached.{reached_step}
@@ -311,10 +312,10 @@ and_keeps a b c d h k i = (let p = and_parts a b i in rw (h p.0, k p.1) refl)
 
 module _ (old new : Records) (roomy : IsAsRoomy old new) (world : world_of new ≡ world_of old) where
   dir_places : has_dir_places old ≡ true → has_dir_places new ≡ true
-  dir_places = and_keeps _ _ _ _ (and_keeps _ _ _ _ (and_keeps _ _ _ _ (and_keeps _ _ _ _ (and_keeps _ _ _ _ (and_keeps _ _ _ _ roomy.parents roomy.named) roomy.owners) roomy.opened) roomy.running) roomy.children) roomy.marks
+  dir_places = and_keeps _ _ _ _ roomy.dirs roomy.marks
 
   export_places : has_export_places old ≡ true → has_export_places new ≡ true
-  export_places = and_keeps _ _ _ _ (and_keeps _ _ _ _ (and_keeps _ _ _ _ (and_keeps _ _ _ _ (and_keeps _ _ _ _ roomy.orders roomy.exporters) roomy.importers) roomy.sent) roomy.dropped) roomy.all_open
+  export_places = and_keeps _ _ _ _ (and_keeps _ _ _ _ roomy.exports roomy.sent) roomy.all_open
 
   pub lists_kept : (e : Event) → has_list_places old e ≡ true → has_list_places new e ≡ true
   lists_kept (Event.Made p) h = dir_places h

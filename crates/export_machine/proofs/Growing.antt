@@ -19,7 +19,7 @@ use Rattle.export_machine.proofs.Tidy.{Tidy, run_tidy, start_tidy}
 use Rattle.export_machine.proofs.Owners.{made_authority, made_others_authority, gone_authority, gone_others_authority}
 use Rattle.export_machine.proofs.Found.{options_by}
 use Rattle.export_machine.proofs.Listed.{entry_listed, entry_drops_none}
-use Rattle.export_machine.proofs.Indexing.{entry_open, default}
+use Rattle.export_machine.proofs.Indexing.{entry_open}
 
 pub replicate_push : {A : Type 0} (n : ℕ) (a : A) → replicate n a ++ a ∷ [] ≡ replicate (suc n) a
 replicate_push zero a = refl
@@ -97,9 +97,9 @@ module _ (w : World) (a p : ℕ) (near : a < length w.journals) where
       ∙ plus_none (children_of w d) (cond (eqb p d && not (eqb (length w.parents) d)) 1 0)
       (counts_none (eqb p d && not (eqb (length w.parents) d)) (unlike (eqb p d) (eqb (length w.parents) d) (ne_eqb p d (λ k. n (sym k)))))
 
-  pub made_indexed : IsReached w → (i : Indexes) → IsIndexed w i → p < length w.parents → (r : ℕ) → r ≡ get_or (i.children ++ 0 ∷ []) p r →
-      IsIndexed grown (record { owners = i.owners ++ Some a ∷ []; opened = i.opened ++ None ∷ []; running = i.running ++ 0 ∷ []; children = set (i.children ++ 0 ∷ []) p (r + 1); marks = i.marks ++ false ∷ []; tickets_at = i.tickets_at; open_at = i.open_at; dropped = i.dropped })
-  made_indexed reached i is l r h = record {
+  pub made_indexed : IsReached w → (i : Indexes) → IsIndexed w i → p < length w.parents →
+      IsIndexed grown (record { owners = i.owners ++ Some a ∷ []; opened = i.opened ++ None ∷ []; running = i.running ++ 0 ∷ []; children = set (i.children ++ 0 ∷ []) p (get_or (i.children ++ 0 ∷ []) p 0 + 1); marks = i.marks ++ false ∷ []; tickets_at = i.tickets_at; open_at = i.open_at; dropped = i.dropped })
+  made_indexed reached i is l = record {
     owners = λ d. options_by w reached (get_or (i.owners ++ Some a ∷ []) d None) (authority grown d) (λ safe. owner safe d);
     opened = λ d. opened d ∙ sym (grown_open d);
     running = λ d. running d;
@@ -107,7 +107,7 @@ module _ (w : World) (a p : ℕ) (near : a < length w.journals) where
     owner_places = longer i.owners w.parents (Some a) (Some p) is.owner_places;
     opened_places = longer i.opened w.parents None (Some p) is.opened_places;
     running_places = longer i.running w.parents 0 (Some p) is.running_places;
-    children_places = length-set (i.children ++ 0 ∷ []) p (r + 1) ∙ longer i.children w.parents 0 (Some p) is.children_places;
+    children_places = length-set (i.children ++ 0 ∷ []) p (get_or (i.children ++ 0 ∷ []) p 0 + 1) ∙ longer i.children w.parents 0 (Some p) is.children_places;
     unmarked = ap (λ ms. ms ++ false ∷ []) is.unmarked ∙ (replicate_push (length w.parents) false ∙ ap (λ n. replicate n false) (sym (length_push w.parents (Some p) ∙ succ (length w.parents))));
     requests = is.requests;
     listed = entry_listed w.ranks w.orders w.exporters w.importers w.journals i.open_at i.dropped is.listed (journals w a (JournalEntry.Made (length w.parents))).journals (entry_drops_none w a (JournalEntry.Made (length w.parents)) near (λ y. refl));
@@ -147,18 +147,16 @@ module _ (w : World) (a p : ℕ) (near : a < length w.journals) where
       place : p < length (i.children ++ 0 ∷ [])
       place = omega (arith, length_push i.children 0, is.children_places)
 
-      children : (d : ℕ) → get_or (set (i.children ++ 0 ∷ []) p (r + 1)) d 0 ≡ children_of grown d
+      children : (d : ℕ) → get_or (set (i.children ++ 0 ∷ []) p (get_or (i.children ++ 0 ∷ []) p 0 + 1)) d 0 ≡ children_of grown d
       children d = elim (cases_eq d p) [
         | inl e ↦
-            (let s : get_or (set (i.children ++ 0 ∷ []) p (r + 1)) p 0 ≡ r + 1 = get_or-set_same (i.children ++ 0 ∷ []) p (r + 1) 0 place in
-            let k : r ≡ children_of w p = h ∙ (default (i.children ++ 0 ∷ []) p r 0 place ∙ pushed p) in
-            ap (λ c. get_or (set (i.children ++ 0 ∷ []) p (r + 1)) c 0) e ∙ (s ∙ (ap (λ m. m + 1) k ∙ sym (child_of d e l))))
-        | inr n ↦ get_or-set_other (i.children ++ 0 ∷ []) p d (r + 1) 0 n ∙ (pushed d ∙ sym (no_child_of d n))
+            (let s : get_or (set (i.children ++ 0 ∷ []) p (get_or (i.children ++ 0 ∷ []) p 0 + 1)) p 0 ≡ get_or (i.children ++ 0 ∷ []) p 0 + 1 = get_or-set_same (i.children ++ 0 ∷ []) p (get_or (i.children ++ 0 ∷ []) p 0 + 1) 0 place in
+            ap (λ c. get_or (set (i.children ++ 0 ∷ []) p (get_or (i.children ++ 0 ∷ []) p 0 + 1)) c 0) e ∙ (s ∙ (ap (λ m. m + 1) (pushed p) ∙ sym (child_of d e l))))
+        | inr n ↦ get_or-set_other (i.children ++ 0 ∷ []) p d (get_or (i.children ++ 0 ∷ []) p 0 + 1) 0 n ∙ (pushed d ∙ sym (no_child_of d n))
       ]
 
-pub children_is : (w : World) (i : Indexes) (p r : ℕ) → IsIndexed w i → p < length w.parents → r ≡ get_or (i.children ++ 0 ∷ []) p r → r ≡ children_of w p
-children_is w i p r is l h =
-    h ∙ (push_other i.children 0 r p (λ e. absurd (omega (arith, is.children_places))) ∙ (default i.children p r 0 (omega (arith, is.children_places)) ∙ is.children p))
+pub children_are : (w : World) (i : Indexes) (p : ℕ) → IsIndexed w i → p < length w.parents → get_or (i.children ++ 0 ∷ []) p 0 ≡ children_of w p
+children_are w i p is l = push_other i.children 0 0 p (λ e. absurd (omega (arith, is.children_places))) ∙ is.children p
 
 -- a directory is removed
 
@@ -200,9 +198,9 @@ module _ (w : World) (a d p : ℕ) (near : a < length w.journals) (there : d < l
       same : (m k l : ℕ) → m + k ≡ l → k ≡ 0 → l ≡ m
       same m k l e f = omega arith
 
-  pub gone_indexed : IsReached w → (i : Indexes) → IsIndexed w i → authority w d ≡ Some a → open_export w d ≡ None → not_yet (running_on w (d ∷ [])) ≡ None → (r : ℕ) → r ≡ get_or i.children p r →
-      IsIndexed shrunk (record i { owners = set i.owners d None; children = set i.children p (r - 1) })
-  gone_indexed reached i is auth closed idle r h = record {
+  pub gone_indexed : IsReached w → (i : Indexes) → IsIndexed w i → authority w d ≡ Some a → open_export w d ≡ None → not_yet (running_on w (d ∷ [])) ≡ None →
+      IsIndexed shrunk (record i { owners = set i.owners d None; children = set i.children p (get_or i.children p 0 - 1) })
+  gone_indexed reached i is auth closed idle = record {
     owners = λ e. options_by w reached (get_or (set i.owners d None) e None) (authority shrunk e) (λ safe. owner safe e);
     opened = λ e. is.opened e ∙ sym (shrunk_open e);
     running = is.running;
@@ -210,7 +208,7 @@ module _ (w : World) (a d p : ℕ) (near : a < length w.journals) (there : d < l
     owner_places = length-set i.owners d None ∙ (is.owner_places ∙ sym (length-set w.parents d None));
     opened_places = is.opened_places ∙ sym (length-set w.parents d None);
     running_places = is.running_places ∙ sym (length-set w.parents d None);
-    children_places = length-set i.children p (r - 1) ∙ (is.children_places ∙ sym (length-set w.parents d None));
+    children_places = length-set i.children p (get_or i.children p 0 - 1) ∙ (is.children_places ∙ sym (length-set w.parents d None));
     unmarked = is.unmarked ∙ ap (λ n. replicate n false) (sym (length-set w.parents d None));
     requests = is.requests;
     listed = entry_listed w.ranks w.orders w.exporters w.importers w.journals i.open_at i.dropped is.listed (journals w a (JournalEntry.Gone d)).journals (entry_drops_none w a (JournalEntry.Gone d) near (λ y. refl));
@@ -232,10 +230,9 @@ module _ (w : World) (a d p : ℕ) (near : a < length w.journals) (there : d < l
       place : p < length i.children
       place = omega (arith, is.children_places)
 
-      children : (e : ℕ) → get_or (set i.children p (r - 1)) e 0 ≡ children_of shrunk e
+      children : (e : ℕ) → get_or (set i.children p (get_or i.children p 0 - 1)) e 0 ≡ children_of shrunk e
       children e = elim (cases_eq e p) [
         | inl s ↦
-            (let k : r ≡ children_of w p = h ∙ (default i.children p r 0 place ∙ is.children p) in
-            rw (s, get_or-set_same i.children p (r - 1) 0 place, k) one_fewer)
-        | inr n ↦ get_or-set_other i.children p e (r - 1) 0 n ∙ (is.children e ∙ as_many e n)
+            rw (s, get_or-set_same i.children p (get_or i.children p 0 - 1) 0 place, is.children p) one_fewer
+        | inr n ↦ get_or-set_other i.children p e (get_or i.children p 0 - 1) 0 n ∙ (is.children e ∙ as_many e n)
       ]

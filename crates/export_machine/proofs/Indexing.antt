@@ -1,5 +1,5 @@
 -- How the tables by directory follow each event.
-use Rattle.std.proofs.Common.{◌≡◌, ◌≢◌, ℕ, zero, suc, ◌+◌, ◌-◌, ◌<◌, ◌≤◌, Bool, true, false, ◌&&◌, ◌||◌, not, eqb, cond, List, [], ◌∷◌, ◌++◌, length, get_or, set, Option, Some, None, refl, sym, ap, ◌∙◌, inl, inr, ◌⊎◌, arith}
+use Rattle.std.proofs.Common.{◌≡◌, ◌≢◌, ℕ, ◌+◌, ◌-◌, ◌<◌, ◌≤◌, Bool, true, false, ◌&&◌, ◌||◌, not, eqb, cond, List, [], ◌∷◌, ◌++◌, length, get_or, set, Option, Some, None, refl, sym, ap, ◌∙◌, inl, inr, ◌⊎◌, arith}
 use Rattle.std.specs.Prelude.{count_by, replicate}
 use Rattle.std.proofs.lemmas.Bool.{cases_lt, and_parts, cases_Bool, cases_eq, eqb-true, not-true}
 use Rattle.std.proofs.lemmas.List.{get_or-set_same, get_or-set_other, get_or_past, length-set}
@@ -235,28 +235,22 @@ not_here d e n = go (eqb e d) refl
     go true h = absurd (n (eqb-true e d h))
     go false h = refl
 
-pub default : (xs : List ℕ) (k a b : ℕ) → k < length xs → get_or xs k a ≡ get_or xs k b
-default [] k a b l = absurd (omega arith)
-default (x ∷ xs) zero a b l = refl
-default (x ∷ xs) (suc k) a b l = default xs k a b (omega arith)
-
-pub begin_indexed : (w : World) (i : Indexes) (q : Request) → IsIndexed w i → q.dir < length w.parents → q.rank < length i.tickets_at → (r : ℕ) → r ≡ get_or i.running q.dir r → (ts : List (Option Request)) → ts ≡ w.tickets ++ Some q ∷ [] →
-    IsIndexed (record w { tickets = ts }) (record i { running = set i.running q.dir (r + 1); tickets_at = set i.tickets_at q.rank (get_or i.tickets_at q.rank [] ++ length w.tickets ∷ []) })
+pub begin_indexed : (w : World) (i : Indexes) (q : Request) → IsIndexed w i → q.dir < length w.parents → q.rank < length i.tickets_at → (ts : List (Option Request)) → ts ≡ w.tickets ++ Some q ∷ [] →
+    IsIndexed (record w { tickets = ts }) (record i { running = set i.running q.dir (get_or i.running q.dir 0 + 1); tickets_at = set i.tickets_at q.rank (get_or i.tickets_at q.rank [] ++ length w.tickets ∷ []) })
 unfolding authority open_export
-begin_indexed w i q is near ranked r h ts t = record {
+begin_indexed w i q is near ranked ts t = record {
   owners = is.owners;
   opened = is.opened;
   running = λ e. rw t (elim (cases_eq e q.dir) [
     | inl s ↦
-        (let n : get_or (set i.running q.dir (r + 1)) q.dir 0 ≡ r + 1 = get_or-set_same i.running q.dir (r + 1) 0 (rw is.running_places near) in
-        let k : r ≡ running_on w (q.dir ∷ []) = h ∙ (default i.running q.dir r 0 (rw is.running_places near) ∙ is.running q.dir) in
-        rw (s, n, k) (sym (running_begun w q q.dir ∙ ap (λ m. running_on w (q.dir ∷ []) + m) (here_now q.dir))))
-    | inr n ↦ get_or-set_other i.running q.dir e (r + 1) 0 n ∙ (is.running e ∙ sym (running_begun w q e ∙ (ap (λ m. running_on w (e ∷ []) + m) (not_here q.dir e n) ∙ plain (running_on w (e ∷ [])))))
+        (let n : get_or (set i.running q.dir (get_or i.running q.dir 0 + 1)) q.dir 0 ≡ get_or i.running q.dir 0 + 1 = get_or-set_same i.running q.dir (get_or i.running q.dir 0 + 1) 0 (rw is.running_places near) in
+        rw (s, n, is.running q.dir) (sym (running_begun w q q.dir ∙ ap (λ m. running_on w (q.dir ∷ []) + m) (here_now q.dir))))
+    | inr n ↦ get_or-set_other i.running q.dir e (get_or i.running q.dir 0 + 1) 0 n ∙ (is.running e ∙ sym (running_begun w q e ∙ (ap (λ m. running_on w (e ∷ []) + m) (not_here q.dir e n) ∙ plain (running_on w (e ∷ [])))))
   ]);
   children = is.children;
   owner_places = is.owner_places;
   opened_places = is.opened_places;
-  running_places = length-set i.running q.dir (r + 1) ∙ is.running_places;
+  running_places = length-set i.running q.dir (get_or i.running q.dir 0 + 1) ∙ is.running_places;
   children_places = is.children_places;
   unmarked = is.unmarked;
   requests = rw t (begin_filed w.ranks w.tickets i.tickets_at q is.requests ranked);
@@ -267,36 +261,31 @@ begin_indexed w i q is near ranked r h ts t = record {
     plain : (n : ℕ) → n + 0 ≡ n
     plain n = omega arith
 
-pub running_is : (w : World) (i : Indexes) (d r : ℕ) → IsIndexed w i → d < length w.parents → r ≡ get_or i.running d r → r ≡ running_on w (d ∷ [])
-running_is w i d r is near h = h ∙ (default i.running d r 0 (rw is.running_places near) ∙ is.running d)
-
-pub end_runs : (w : World) (i : Indexes) (t : ℕ) (q : Request) → IsIndexed w i → get_or w.tickets t None ≡ Some q → q.dir < length w.parents → (r : ℕ) → r ≡ get_or i.running q.dir r → 1 ≤ r
-end_runs w i t q is e near r h =
-    let k : r ≡ running_on w (q.dir ∷ []) = h ∙ (default i.running q.dir r 0 (rw is.running_places near) ∙ is.running q.dir) in
+pub end_runs : (w : World) (i : Indexes) (t : ℕ) (q : Request) → IsIndexed w i → get_or w.tickets t None ≡ Some q → 1 ≤ get_or i.running q.dir 0
+end_runs w i t q is e =
     let a : count_by (runs_on (q.dir ∷ [])) (set w.tickets t None) + runs_here q.dir q.dir ≡ running_on w (q.dir ∷ []) = running_ended w t q q.dir e in
     let b : runs_here q.dir q.dir ≡ 1 = here_now q.dir in
-    rw k (least (count_by (runs_on (q.dir ∷ [])) (set w.tickets t None)) (runs_here q.dir q.dir) (running_on w (q.dir ∷ [])) a b)
+    rw (is.running q.dir) (least (count_by (runs_on (q.dir ∷ [])) (set w.tickets t None)) (runs_here q.dir q.dir) (running_on w (q.dir ∷ [])) a b)
   where
     least : (m n k : ℕ) → m + n ≡ k → n ≡ 1 → 1 ≤ k
     least m n k e f = omega arith
 
-pub end_indexed : (w : World) (i : Indexes) (t : ℕ) (q : Request) → IsIndexed w i → get_or w.tickets t None ≡ Some q → q.dir < length w.parents → (r : ℕ) → r ≡ get_or i.running q.dir r →
-    IsIndexed (record w { tickets = set w.tickets t None }) (record i { running = set i.running q.dir (r - 1) })
+pub end_indexed : (w : World) (i : Indexes) (t : ℕ) (q : Request) → IsIndexed w i → get_or w.tickets t None ≡ Some q → q.dir < length w.parents →
+    IsIndexed (record w { tickets = set w.tickets t None }) (record i { running = set i.running q.dir (get_or i.running q.dir 0 - 1) })
 unfolding authority open_export
-end_indexed w i t q is e near r h = record {
+end_indexed w i t q is e near = record {
   owners = is.owners;
   opened = is.opened;
   running = λ d. elim (cases_eq d q.dir) [
     | inl s ↦
-        (let n : get_or (set i.running q.dir (r - 1)) q.dir 0 ≡ r - 1 = get_or-set_same i.running q.dir (r - 1) 0 (rw is.running_places near) in
-        let k : r ≡ running_on w (q.dir ∷ []) = h ∙ (default i.running q.dir r 0 (rw is.running_places near) ∙ is.running q.dir) in
-        rw (s, n, k) (less (count_by (runs_on (q.dir ∷ [])) (set w.tickets t None)) (runs_here q.dir q.dir) (running_on w (q.dir ∷ [])) (running_ended w t q q.dir e) (here_now q.dir)))
-    | inr n ↦ get_or-set_other i.running q.dir d (r - 1) 0 n ∙ (is.running d ∙ same (count_by (runs_on (d ∷ [])) (set w.tickets t None)) (runs_here d q.dir) (running_on w (d ∷ [])) (running_ended w t q d e) (not_here q.dir d n))
+        (let n : get_or (set i.running q.dir (get_or i.running q.dir 0 - 1)) q.dir 0 ≡ get_or i.running q.dir 0 - 1 = get_or-set_same i.running q.dir (get_or i.running q.dir 0 - 1) 0 (rw is.running_places near) in
+        rw (s, n, is.running q.dir) (less (count_by (runs_on (q.dir ∷ [])) (set w.tickets t None)) (runs_here q.dir q.dir) (running_on w (q.dir ∷ [])) (running_ended w t q q.dir e) (here_now q.dir)))
+    | inr n ↦ get_or-set_other i.running q.dir d (get_or i.running q.dir 0 - 1) 0 n ∙ (is.running d ∙ same (count_by (runs_on (d ∷ [])) (set w.tickets t None)) (runs_here d q.dir) (running_on w (d ∷ [])) (running_ended w t q d e) (not_here q.dir d n))
   ];
   children = is.children;
   owner_places = is.owner_places;
   opened_places = is.opened_places;
-  running_places = length-set i.running q.dir (r - 1) ∙ is.running_places;
+  running_places = length-set i.running q.dir (get_or i.running q.dir 0 - 1) ∙ is.running_places;
   children_places = is.children_places;
   unmarked = is.unmarked;
   requests = end_filed w.ranks w.tickets i.tickets_at t is.requests;

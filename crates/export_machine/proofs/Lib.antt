@@ -1,4 +1,6 @@
 pub mod Owning
+pub mod Columns
+pub mod ExportColumns
 pub mod Tables
 pub mod Views
 pub mod Safe

@@ -13,7 +13,8 @@ use Rattle.export_machine.specs.Cluster.{World}
 use Rattle.mds_types.specs.declared.order.Order.{Order}
 use Rattle.export_machine.specs.Authority.{is_among, order_in, no_order, has, has_entry, is_same}
 use Rattle.export_machine.specs.Step.{map_at, is_before_log, journals, importer_to}
-use Rattle.export_machine.specs.Kept.{AreListed, is_passing, is_open_at, has_dropped, has_spare, has_place}
+use Rattle.export_machine.specs.Columns.{has_spare}
+use Rattle.export_machine.specs.Kept.{AreListed, is_passing, is_open_at, has_dropped, has_place}
 use Rattle.export_machine.proofs.Lists.{among_push, take_next}
 use Rattle.export_machine.proofs.Lookups.{itself}
 use Rattle.export_machine.proofs.Marks.{map_at_same, unchanged}

@@ -14,10 +14,10 @@ module _ (r : Records) (m : Message) (can : CanReceive r m) where
   pub known_order : about m < length (world_of r).orders
   known_order = orders_by (world_of r) can.kept.reached (about m) (length (world_of r).orders) (λ safe. safe.tables.known can.sent.0 m can.sent.1)
 
-  pub known : about m < length r.orders.items
+  pub known : about m < length r.exports.orders
   known = known_order
 
-  pub known_importer : about m < length r.importers.items
+  pub known_importer : about m < length r.exports.importers
   known_importer = as_importer (world_of r) can.kept.reached (about m) known_order
 
   pub to_rank : to_of (world_of r) (about m) < length (world_of r).journals
@@ -42,17 +42,17 @@ module _ (r : Records) (m : Message) (can : CanReceive r m) where
   here_list = let k : receiver (world_of r) m < length r.journals.items = here_journal in omega (arith, as_lists)
 
   -- each of the export's directories has its places
-  pub inside_owned : (d : ℕ) → is_inside (world_of r) (about m) d ≡ true → d < length r.owners.items
+  pub inside_owned : (d : ℕ) → is_inside (world_of r) (about m) d ≡ true → d < length r.dirs.owners
   inside_owned d h = rw can.kept.indexed.owner_places (are_made (world_of r) can.kept.reached (about m) d h)
 
-  pub inside_opened : (d : ℕ) → is_inside (world_of r) (about m) d ≡ true → d < length r.opened.items
+  pub inside_opened : (d : ℕ) → is_inside (world_of r) (about m) d ≡ true → d < length r.dirs.opened
   inside_opened d h = rw can.kept.indexed.opened_places (are_made (world_of r) can.kept.reached (about m) d h)
 
   pub to_listed : to_of (world_of r) (about m) < length (indexes_of r).open_at
   to_listed = let k : to_of (world_of r) (about m) < length (world_of r).journals = to_rank in omega (arith, as_lists, length-map r.open_at.items (λ l. l.items), length-map r.journals.items (λ j. j.items))
 
-  pub as_exporters : length r.exporters.items ≡ length r.orders.items
-  as_exporters = numbers_by (world_of r) can.kept.reached (length r.exporters.items) (length r.orders.items) (λ safe. safe.exporting)
+  pub as_exporters : length r.exports.exporters ≡ length r.exports.orders
+  as_exporters = numbers_by (world_of r) can.kept.reached (length r.exports.exporters) (length r.exports.orders) (λ safe. safe.exporting)
 
-  pub as_importers : length r.importers.items ≡ length r.orders.items
-  as_importers = numbers_by (world_of r) can.kept.reached (length r.importers.items) (length r.orders.items) (λ safe. safe.importing)
+  pub as_importers : length r.exports.importers ≡ length r.exports.orders
+  as_importers = numbers_by (world_of r) can.kept.reached (length r.exports.importers) (length r.exports.orders) (λ safe. safe.importing)

@@ -1,9 +1,10 @@
 -- What the tables of a cluster stand for, and what always holds of them.
 use Rattle.std.specs.Prelude.{◌≡◌, ◌≤◌, ◌<◌, ℕ, ◌+◌, suc, Bool, true, ◌&&◌, nat_lt, List, [], ◌∷◌, map, length}
-use Rattle.std.specs.Prelude.{Option, None, Some, Result, Ok, Err, slice_get, slice_index_or, vec_len, vec_capacity}
+use Rattle.std.specs.Prelude.{Option, None, Some, Result, Ok, Err, slice_get, slice_index_or}
 use Rattle.std.specs.Prelude.{Vec, if◌then◌else◌, replicate, false, not, ◌==◌, ◌||◌, is_some}
 use Rattle.std.specs.List.{list_all}
 use Rattle.export_machine.specs.Cluster.{World}
+use Rattle.export_machine.specs.Columns.{has_spare}
 use Rattle.export_machine.specs.Authority.{authority, open_export, is_among, order_in, from_of}
 use Rattle.export_machine.specs.Authority.{exporter_of, importer_of, has_entry}
 use Rattle.export_machine.specs.Step.{running_on, is_child, about, receiver, repeats, comes, is_before_log}
@@ -26,14 +27,14 @@ abbrev pub world_of : Records → World
 world_of r = record {
   limit = r.limit;
   ranks = r.ranks;
-  parents = r.parents.items;
+  parents = r.dirs.parents;
   journals = map (λ journal. journal.items) r.journals.items;
-  orders = r.orders.items;
-  exporters = r.exporters.items;
-  importers = r.importers.items;
+  orders = r.exports.orders;
+  exporters = r.exports.exporters;
+  importers = r.exports.importers;
   sent = r.sent.items;
   tickets = r.tickets.items;
-  named = r.named.items;
+  named = r.dirs.named;
   stopped = r.stopped.items;
   events = r.events;
 }
@@ -53,14 +54,14 @@ pub record Indexes : Type 0 where
 abbrev pub indexes_of : Records → Indexes
 indexes_of r =
     record {
-      owners = r.owners.items;
-      opened = r.opened.items;
-      running = r.running.items;
-      children = r.children.items;
+      owners = r.dirs.owners;
+      opened = r.dirs.opened;
+      running = r.dirs.running;
+      children = r.dirs.children;
       marks = r.marks.items;
       tickets_at = map (λ list. list.items) r.tickets_at.items;
       open_at = map (λ list. list.items) r.open_at.items;
-      dropped = r.dropped.items;
+      dropped = r.exports.dropped;
     }
 
 -- how many places of a list pass the test
@@ -136,7 +137,7 @@ pub record IsKept (r : Records) : Type 0 where
   pub sent : length r.sent.items ≤ r.events
   pub tickets : length r.tickets.items ≤ r.events
   pub counted : r.events ≤ 1048576
-  pub within : length r.parents.items ≤ r.limit
+  pub within : length r.dirs.parents ≤ r.limit
   pub few_dirs : r.limit ≤ 65536
   pub few_ranks : r.ranks ≤ 64
 
@@ -150,9 +151,6 @@ lesser None dir = dir
 lesser (Some other) dir = if nat_lt other dir then other else dir
 
 -- Room: where the lists of an event have a place each, the event asks for no memory.
-
-abbrev pub has_spare : {T A : Type 0} → Vec T A → Bool
-has_spare v = nat_lt (vec_len v) (vec_capacity v)
 
 abbrev pub is_spare : {T A : Type 0} → Option (Vec T A) → Bool
 is_spare None = true
@@ -180,13 +178,11 @@ entered_at w (Event.Notify export) = Some (from_of w export)
 entered_at w _ = None
 
 abbrev pub has_dir_places : Records → Bool
-has_dir_places r =
-    has_spare r.parents && has_spare r.named && has_spare r.owners && has_spare r.opened && has_spare r.running && has_spare r.children && has_spare r.marks
+has_dir_places r = r.dirs.spare && has_spare r.marks
 
 abbrev pub has_export_places : Records → Bool
 has_export_places r =
-    has_spare r.orders && has_spare r.exporters && has_spare r.importers && has_spare r.sent && has_spare r.dropped
-    && list_all (λ list. has_spare list) r.open_at.items
+    r.exports.spare && has_spare r.sent && list_all (λ list. has_spare list) r.open_at.items
 
 abbrev pub has_ticket_places : Records → ℕ → Bool
 has_ticket_places r rank = has_spare r.tickets && has_place r.tickets_at.items rank

@@ -1,4 +1,6 @@
 pub mod Cluster
+pub mod Columns
+pub mod ExportColumns
 pub mod Authority
 pub mod Step
 pub mod Promises

@@ -7,7 +7,8 @@ use Rattle.export_machine.specs.declared.step_error.StepError.TheVariants.{Memor
 use Rattle.export_machine.specs.Cluster.{World}
 use Rattle.export_machine.specs.Step.{refusal}
 use Rattle.export_machine.specs.declared.event.Event.{Event}
-use Rattle.export_machine.specs.Kept.{State, is_ready, has_spare, has_place}
+use Rattle.export_machine.specs.Columns.{has_spare}
+use Rattle.export_machine.specs.Kept.{State, is_ready, has_place}
 
 -- where there was room for an event, there is
 abbrev pub KeepsRoom : State → State → Type 0
@@ -15,20 +16,12 @@ KeepsRoom old new = (e : Event) → is_ready old e ≡ true → is_ready new e �
 
 -- the same, list by list
 pub record IsAsRoomy (old new : Records) : Type 0 where
-  pub parents : has_spare old.parents ≡ true → has_spare new.parents ≡ true
-  pub named : has_spare old.named ≡ true → has_spare new.named ≡ true
-  pub owners : has_spare old.owners ≡ true → has_spare new.owners ≡ true
-  pub opened : has_spare old.opened ≡ true → has_spare new.opened ≡ true
-  pub running : has_spare old.running ≡ true → has_spare new.running ≡ true
-  pub children : has_spare old.children ≡ true → has_spare new.children ≡ true
+  pub dirs : old.dirs.spare ≡ true → new.dirs.spare ≡ true
   pub marks : has_spare old.marks ≡ true → has_spare new.marks ≡ true
-  pub orders : has_spare old.orders ≡ true → has_spare new.orders ≡ true
-  pub exporters : has_spare old.exporters ≡ true → has_spare new.exporters ≡ true
-  pub importers : has_spare old.importers ≡ true → has_spare new.importers ≡ true
+  pub exports : old.exports.spare ≡ true → new.exports.spare ≡ true
   pub sent : has_spare old.sent ≡ true → has_spare new.sent ≡ true
   pub tickets : has_spare old.tickets ≡ true → has_spare new.tickets ≡ true
   pub tickets_at : (rank : ℕ) → has_place old.tickets_at.items rank ≡ true → has_place new.tickets_at.items rank ≡ true
-  pub dropped : has_spare old.dropped ≡ true → has_spare new.dropped ≡ true
   pub open_at : (rank : ℕ) → has_place old.open_at.items rank ≡ true → has_place new.open_at.items rank ≡ true
   pub all_open : list_all (λ list. has_spare list) old.open_at.items ≡ true
       → list_all (λ list. has_spare list) new.open_at.items ≡ true

@@ -6,7 +6,8 @@ ghost use Rattle.export_machine.specs.Step.{refusal, happens, step};
 ghost use Rattle.export_machine.specs.declared.event.Event.{Event as StepEvent};
 ghost use Rattle.export_machine.specs.View.{IsAnswer};
 ghost use Rattle.export_machine.specs.Room.{IsAsRoomy, IsRefusal};
-ghost use Rattle.export_machine.specs.Kept.{world_of, indexes_of, has_room, has_place, has_spare, has_entry_places};
+ghost use Rattle.export_machine.specs.Columns.{has_spare};
+ghost use Rattle.export_machine.specs.Kept.{world_of, indexes_of, has_room, has_place, has_entry_places};
 ghost use Rattle.export_machine.specs.Kept.{has_list_places, has_ticket_places, has_dir_places, has_export_places};
 ghost use Rattle.export_machine.specs.Kept.{entered_at, IsKept, IsIndexed};
 
@@ -53,12 +54,7 @@ impl Records {
         ensures ready { has_dir_places self.old ≡ true → IsOk result }
         ensures spare { IsAsRoomy self.old self.new }
     {
-        self.parents.reserve(1)?;
-        self.named.reserve(1)?;
-        self.owners.reserve(1)?;
-        self.opened.reserve(1)?;
-        self.running.reserve(1)?;
-        self.children.reserve(1)?;
+        self.dirs.reserve()?;
         self.marks.reserve(1)
     }
 
@@ -70,11 +66,8 @@ impl Records {
         ensures ready { has_export_places self.old ≡ true → IsOk result }
         ensures spare { IsAsRoomy self.old self.new }
     {
-        self.orders.reserve(1)?;
-        self.exporters.reserve(1)?;
-        self.importers.reserve(1)?;
+        self.exports.reserve()?;
         self.sent.reserve(1)?;
-        self.dropped.reserve(1)?;
         grow_all(&mut self.open_at)
     }
 

@@ -1,15 +1,13 @@
 //! Changes of the lists that a cluster keeps. All growths come before the first change.
 
-ghost use Rattle.std.specs.Prelude.{◌≡◌, ◌<◌, ◌≤◌, ℕ, ◌+◌, ◌∷◌, [], ◌++◌, length, map, Some, None, true, OnOk};
-ghost use Rattle.std.specs.Prelude.{slice_get, slice_index_or, slice_set, vec_len, vec_capacity, if◌then◌else◌};
-ghost use Rattle.export_machine.specs.Authority.{is_among};
-ghost use Rattle.export_machine.specs.Step.{map_at};
+ghost use Rattle.std.specs.Prelude.{◌≡◌, ◌<◌, ◌∷◌, [], ◌++◌, length, map, true};
+ghost use Rattle.std.specs.Prelude.{slice_index_or, slice_set, vec_len, vec_capacity};
 ghost use Rattle.export_machine.specs.Kept.{has_place};
 ghost use Rattle.export_machine.specs.declared.event.Reply.TheVariants.{Sent};
 
 use crate::event::Reply;
 use crate::message::Message;
-use mds_types::{Dir, Rank};
+use mds_types::Rank;
 
 /// Appends a message, and answers its number.
 pub(crate) fn send(sent: &mut Vec<Message>, message: Message) -> Reply
@@ -40,15 +38,5 @@ pub(crate) fn put<T: Copy>(table: &mut Vec<T>, index: usize, value: T)
 {
     if index < table.len() {
         table[index] = value;
-    }
-}
-
-/// Writes the same into the table at each of the directories.
-pub(crate) fn mark<T: Copy>(table: &mut Vec<Option<T>>, dirs: &[Dir], value: Option<T>)
-    requires near { (d : ℕ) → is_among dirs.now d ≡ true → d < length table.old.items }
-    ensures { table.new.items ≡ map_at (λ d old. if is_among dirs.now d then value else old) table.old.items }
-{
-    for dir in dirs {
-        table[dir.number() as usize] = value;
     }
 }

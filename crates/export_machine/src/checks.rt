@@ -74,25 +74,22 @@ impl Records {
 
     pub(crate) fn check_export(&self, export: u32) -> Result<(), StepError>
         ensures cause { cause_of result ≡ no_export (world_of self.now) export }
-        ensures near { OnOk result (export < length self.now.orders.items) }
+        ensures near { OnOk result (export < length self.now.exports.orders) }
     {
-        refuse_if(export as usize >= self.orders.len(), StepError::NoExport)
+        refuse_if(export as usize >= self.exports.len(), StepError::NoExport)
     }
 
     pub(crate) fn check_room(&self) -> Result<(), StepError>
-        ensures { cause_of result ≡ when (nat_le self.now.limit (length self.now.parents.items)) TreeFull }
+        ensures { cause_of result ≡ when (nat_le self.now.limit (length self.now.dirs.parents)) TreeFull }
     {
-        refuse_if(
-            self.parents.len() >= self.limit as usize,
-            StepError::TreeFull,
-        )
+        refuse_if(self.dirs.len() >= self.limit as usize, StepError::TreeFull)
     }
 
     pub(crate) fn check_exports(&self) -> Result<(), StepError>
-        ensures { cause_of result ≡ when (nat_le export_limit (length self.now.orders.items)) ExportsFull }
+        ensures { cause_of result ≡ when (nat_le export_limit (length self.now.exports.orders)) ExportsFull }
     {
         refuse_if(
-            self.orders.len() >= EXPORT_LIMIT as usize,
+            self.exports.len() >= EXPORT_LIMIT as usize,
             StepError::ExportsFull,
         )
     }
@@ -106,7 +103,7 @@ impl Records {
 
     pub(crate) fn check_empty(&self, dir: Dir) -> Result<(), StepError>
         requires kept { IsKept self.now }
-        ensures { cause_of result ≡ when (any_at (is_child dir) self.now.parents.items) NotEmpty }
+        ensures { cause_of result ≡ when (any_at (is_child dir) self.now.dirs.parents) NotEmpty }
     {
         refuse_if(self.children(dir) != 0, StepError::NotEmpty)
     }
@@ -127,7 +124,7 @@ impl Records {
     pub(crate) fn check_leaving(&self, from: Rank, dirs: &[Dir]) -> Result<(), StepError>
         requires kept { IsKept self.now }
         requires present { list_all (is_present (world_of self.now)) dirs.now ≡ true }
-        ensures { cause_of result ≡ least_fault (world_of self.now) from dirs.now (length self.now.parents.items) }
+        ensures { cause_of result ≡ least_fault (world_of self.now) from dirs.now (length self.now.dirs.parents) }
     {
         let mut least: Option<Dir> = None;
         for dir in dirs {

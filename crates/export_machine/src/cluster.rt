@@ -240,14 +240,14 @@ impl Cluster {
         ensures order { IfSome result (λ order. order.now ≡ order_in self.now.world.orders export) }
         ensures near { IfSome result (λ order. All (λ d. d < self.now.world.limit) order.now.dirs) }
     {
-        self.records.orders.get(export as usize)
+        self.records.exports.get(export)
     }
 
     /// The states of an export at its exporter and at its importer.
     pub fn states(&self, export: u32) -> Option<(ExporterState, ImporterState)>
         ensures { result ≡ states_of self.now.world export }
     {
-        if export as usize >= self.records.orders.len() {
+        if export as usize >= self.records.exports.len() {
             return None;
         }
         Some((self.records.exporter(export), self.records.importer(export)))

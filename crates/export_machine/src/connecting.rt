@@ -8,28 +8,29 @@ ghost use Rattle.export_machine.specs.Step.{repeats, is_connected};
 ghost use Rattle.export_machine.specs.Kept.{world_of, is_listed, parent_marked, IsKept};
 
 use crate::changes::put;
+use crate::dir_table::DirTable;
 use crate::records::{Records, value_at};
 use mds_types::Dir;
 
-fn is_listed(parents: &[Option<Dir>], dir: Dir) -> bool
-    ensures { result ≡ is_listed parents.now dir }
+fn is_listed(table: &DirTable, dir: Dir) -> bool
+    ensures { result ≡ is_listed table.now.parents dir }
 {
-    value_at(parents, dir.number() as usize, None).is_some()
+    table.parent(dir).is_some()
 }
 
 /// Marks the directories, up to the first that isn't there or has its mark already.
-fn mark_once(marks: &mut Vec<bool>, parents: &[Option<Dir>], dirs: &[Dir]) -> bool
-    requires places { length marks.old.items ≡ length parents.now }
+fn mark_once(marks: &mut Vec<bool>, table: &DirTable, dirs: &[Dir]) -> bool
+    requires places { length marks.old.items ≡ length table.now.parents }
     requires unmarked { (d : ℕ) → slice_index_or marks.old.items d false ≡ false }
     ensures places { length marks.new.items ≡ length marks.old.items }
     ensures within { (d : ℕ) → slice_index_or marks.new.items d false ≡ true → is_among dirs.now d ≡ true }
     ensures all { IsTrue result → (d : ℕ) → slice_index_or marks.new.items d false ≡ is_among dirs.now d }
     ensures capacity { vec_capacity marks.new ≡ vec_capacity marks.old }
-    ensures once { list_all (is_listed parents.now) dirs.now ≡ true → result ≡ not (repeats dirs.now) }
+    ensures once { list_all (is_listed table.now.parents) dirs.now ≡ true → result ≡ not (repeats dirs.now) }
 {
     for dir in dirs {
         let index = dir.number() as usize;
-        if !is_listed(parents, *dir) || marks[index] {
+        if !is_listed(table, *dir) || marks[index] {
             return false;
         }
         marks[index] = true;
@@ -49,10 +50,10 @@ fn unmark(marks: &mut Vec<bool>, dirs: &[Dir])
     }
 }
 
-fn has_marked_parent(parents: &[Option<Dir>], marks: &[bool], dir: Dir) -> bool
-    ensures { result ≡ parent_marked marks.now dir (slice_index_or parents.now dir None) }
+fn has_marked_parent(table: &DirTable, marks: &[bool], dir: Dir) -> bool
+    ensures { result ≡ parent_marked marks.now dir (slice_index_or table.now.parents dir None) }
 {
-    match value_at(parents, dir.number() as usize, None) {
+    match table.parent(dir) {
         Some(parent) => {
             parent.number() != dir.number() && value_at(marks, parent.number() as usize, false)
         }
@@ -61,11 +62,12 @@ fn has_marked_parent(parents: &[Option<Dir>], marks: &[bool], dir: Dir) -> bool
 }
 
 /// How many of the directories have no parent with a mark.
-fn tops(parents: &[Option<Dir>], marks: &[bool], dirs: &[Dir]) -> usize
-    ensures { result ≡ count_by (λ d. not (parent_marked marks.now d (slice_index_or parents.now d None))) dirs.now }
+fn tops(table: &DirTable, marks: &[bool], dirs: &[Dir]) -> usize
+    ensures { result
+        ≡ count_by (λ d. not (parent_marked marks.now d (slice_index_or table.now.parents d None))) dirs.now }
 {
     dirs.iter()
-        .filter(|dir| !has_marked_parent(parents, marks, **dir))
+        .filter(|dir| !has_marked_parent(table, marks, **dir))
         .count()
 }
 
@@ -80,8 +82,8 @@ impl Records {
         ensures connected { list_all (is_present (world_of self.old)) dirs.now ≡ true
             → result ≡ is_connected (world_of self.old) dirs.now }
     {
-        let connected = mark_once(&mut self.marks, &self.parents, dirs)
-            && tops(&self.parents, &self.marks, dirs) == 1;
+        let connected = mark_once(&mut self.marks, &self.dirs, dirs)
+            && tops(&self.dirs, &self.marks, dirs) == 1;
         unmark(&mut self.marks, dirs);
         connected
     }

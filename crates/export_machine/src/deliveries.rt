@@ -12,7 +12,7 @@ ghost use Rattle.export_machine.specs.Kept.{world_of, indexes_of, has_place, has
 ghost use Rattle.export_machine.specs.Kept.{IsKept, IsIndexed, CanReceive, IsReceived};
 ghost use Rattle.export_machine.specs.Moving.{heard, indexes_noted};
 
-use crate::changes::{enter, mark, put, send};
+use crate::changes::{enter, send};
 use crate::event::{Event, Reply};
 use crate::exporter::ExporterState;
 use crate::importer::ImporterState;
@@ -25,11 +25,13 @@ use mds_types::Rank;
 impl Records {
     /// The exporter's next state.
     fn export_to(&mut self, export: u32, next: Option<ExporterState>)
-        ensures others { self.new ≡ record self.old { exporters = self.new.exporters } }
+        ensures others { self.new ≡ record self.old {
+          exports = record self.old.exports { exporters = self.new.exports.exporters };
+        } }
         ensures world { world_of self.new ≡ exporter_moves (world_of self.old) export next }
     {
         match next {
-            Some(state) => put(&mut self.exporters, export as usize, state),
+            Some(state) => self.exports.set_exporter(export, state),
             None => {}
         }
     }
@@ -38,7 +40,10 @@ impl Records {
     fn import_to(&mut self, rank: Rank, export: u32, next: Option<ImporterState>)
         requires near { rank < length self.old.open_at.items }
         requires room { has_place self.old.open_at.items rank ≡ true }
-        ensures others { self.new ≡ record self.old { importers = self.new.importers; open_at = self.new.open_at } }
+        ensures others { self.new ≡ record self.old {
+          exports = record self.old.exports { importers = self.new.exports.importers };
+          open_at = self.new.open_at;
+        } }
         ensures world { world_of self.new ≡ importer_moves (world_of self.old) export next }
         ensures listed { map (λ list. list.items) self.new.open_at.items
             ≡ heard rank export next (importer_of (world_of self.old) export)
@@ -49,34 +54,31 @@ impl Records {
         };
         match self.importer(export) {
             ImporterState::Unknown => {
-                put(&mut self.importers, export as usize, state);
+                self.exports.set_importer(export, state);
                 enter(&mut self.open_at, rank, export);
             }
-            _ => put(&mut self.importers, export as usize, state),
+            _ => self.exports.set_importer(export, state),
         }
     }
 
     /// The tables follow an entry of the export. By `Exported` its directories go to the importer: the point of
     /// commitment.
     fn follow(&mut self, export: u32, entry: &JournalEntry)
-        requires known { export < length self.old.orders.items }
-        requires owned { (d : ℕ) → is_inside (world_of self.old) export d ≡ true → d < length self.old.owners.items }
-        requires open { (d : ℕ) → is_inside (world_of self.old) export d ≡ true → d < length self.old.opened.items }
+        requires known { export < length self.old.exports.orders }
+        requires owned { (d : ℕ) → is_inside (world_of self.old) export d ≡ true → d < length self.old.dirs.owners }
+        requires open { (d : ℕ) → is_inside (world_of self.old) export d ≡ true → d < length self.old.dirs.opened }
         ensures others { self.new ≡ record self.old {
-          owners = self.new.owners;
-          opened = self.new.opened;
-          dropped = self.new.dropped;
+          dirs = record self.old.dirs { owners = self.new.dirs.owners; opened = self.new.dirs.opened };
+          exports = record self.old.exports { dropped = self.new.exports.dropped };
         } }
         ensures indexes { indexes_of self.new
             ≡ indexes_noted (order_in (world_of self.old).orders export) export (Some entry.now) (indexes_of self.old) }
     {
-        let order = &self.orders[export as usize];
+        let order = self.exports.order(export);
         match entry {
-            JournalEntry::Exported(_) => {
-                mark(&mut self.owners, order.dirs.as_slice(), Some(order.to))
-            }
-            JournalEntry::Imported(_) => mark(&mut self.opened, order.dirs.as_slice(), None),
-            JournalEntry::Dropped(_) => put(&mut self.dropped, export as usize, true),
+            JournalEntry::Exported(_) => { self.dirs.mark_owner(order.dirs.as_slice(), order.to) }
+            JournalEntry::Imported(_) => self.dirs.mark_opened(order.dirs.as_slice(), None),
+            JournalEntry::Dropped(_) => self.exports.set_dropped(export, true),
             _ => {}
         }
     }
@@ -85,14 +87,13 @@ impl Records {
     fn note(&mut self, rank: Rank, export: u32, entry: &Option<JournalEntry>)
         requires near { rank < length self.old.journals.items }
         requires room { has_place self.old.journals.items rank ≡ true }
-        requires known { export < length self.old.orders.items }
-        requires owned { (d : ℕ) → is_inside (world_of self.old) export d ≡ true → d < length self.old.owners.items }
-        requires open { (d : ℕ) → is_inside (world_of self.old) export d ≡ true → d < length self.old.opened.items }
+        requires known { export < length self.old.exports.orders }
+        requires owned { (d : ℕ) → is_inside (world_of self.old) export d ≡ true → d < length self.old.dirs.owners }
+        requires open { (d : ℕ) → is_inside (world_of self.old) export d ≡ true → d < length self.old.dirs.opened }
         ensures others { self.new ≡ record self.old {
           journals = self.new.journals;
-          owners = self.new.owners;
-          opened = self.new.opened;
-          dropped = self.new.dropped;
+          dirs = record self.old.dirs { owners = self.new.dirs.owners; opened = self.new.dirs.opened };
+          exports = record self.old.exports { dropped = self.new.exports.dropped };
         } }
         ensures world { world_of self.new ≡ notes (world_of self.old) rank entry.now }
         ensures indexes { indexes_of self.new
@@ -124,8 +125,8 @@ impl Records {
     fn tell(&mut self, rank: Rank, entry: &Option<JournalEntry>)
         requires near { rank < length self.old.open_at.items }
         requires indexed { IsIndexed (world_of self.old) (indexes_of self.old) }
-        requires exporting { length self.old.exporters.items ≡ length self.old.orders.items }
-        requires importing { length self.old.importers.items ≡ length self.old.orders.items }
+        requires exporting { length self.old.exports.exporters ≡ length self.old.exports.orders }
+        requires importing { length self.old.exports.importers ≡ length self.old.exports.orders }
         ensures others { self.new ≡ record self.old { open_at = self.new.open_at; told_at = self.new.told_at } }
         ensures indexed { IsIndexed (world_of self.new) (indexes_of self.new) }
     {
@@ -166,7 +167,7 @@ impl Records {
 
     /// The rank that a message is for.
     pub(crate) fn receiver(&self, message: Message) -> Rank
-        requires { about message < length self.now.orders.items }
+        requires { about message < length self.now.exports.orders }
         ensures { result ≡ receiver (world_of self.now) message }
     {
         match message {
@@ -201,7 +202,7 @@ impl Records {
 
     /// Whether a message makes the rank that it is for log the export.
     fn logs(&self, message: Message) -> bool
-        requires { about message < length self.now.orders.items }
+        requires { about message < length self.now.exports.orders }
         ensures { result ≡ is_log (delivered_entry (world_of self.now) (Some message)) }
     {
         match message {

@@ -7,10 +7,9 @@ ghost use Rattle.export_machine.specs.Step.{refusal, happens};
 ghost use Rattle.export_machine.specs.declared.event.Event.{Event as StepEvent};
 ghost use Rattle.export_machine.specs.Kept.{world_of, indexes_of, has_room, IsKept, IsIndexed};
 
-use crate::changes::{enter, mark, send};
+use crate::changes::{enter, send};
 use crate::event::{Reply, Request};
 use crate::exporter::ExporterState;
-use crate::importer::ImporterState;
 use crate::journal::JournalEntry;
 use crate::message::Message;
 use crate::records::Records;
@@ -29,7 +28,7 @@ impl Records {
         let ticket = self.tickets.len() as u32;
         self.tickets.push_reserved(Some(Request { rank, dir }));
         enter(&mut self.tickets_at, rank, ticket);
-        self.running[dir.number() as usize] += 1;
+        self.dirs.begin(dir);
         Reply::Ticket(ticket)
     }
 
@@ -44,7 +43,7 @@ impl Records {
         let Some(request) = self.tickets[ticket as usize] else {
             return Reply::Ignored;
         };
-        self.running[request.dir.number() as usize] -= 1;
+        self.dirs.end(request.dir);
         self.tickets[ticket as usize] = None;
         self.note_end(request.rank);
         Reply::Changed
@@ -59,7 +58,7 @@ impl Records {
             ≡ record { reply = result; world = world_of self.new } }
         ensures indexed { IsIndexed (world_of self.new) (indexes_of self.new) }
     {
-        self.exporters[export as usize] = ExporterState::Preparing;
+        self.exports.set_exporter(export, ExporterState::Preparing);
         send(&mut self.sent, Message::Prep(export))
     }
 
@@ -72,10 +71,10 @@ impl Records {
             ≡ record { reply = result; world = world_of self.new } }
         ensures indexed { IsIndexed (world_of self.new) (indexes_of self.new) }
     {
-        self.exporters[export as usize] = ExporterState::Aborted;
-        let order = &self.orders[export as usize];
+        self.exports.set_exporter(export, ExporterState::Aborted);
+        let order = self.exports.order(export);
         let from = order.from;
-        mark(&mut self.opened, order.dirs.as_slice(), None);
+        self.dirs.mark_opened(order.dirs.as_slice(), None);
         let reply = send(&mut self.sent, Message::Cancel(export));
         self.note_told(from);
         reply
@@ -90,19 +89,14 @@ impl Records {
             ≡ record { reply = result; world = world_of self.new } }
         ensures indexed { IsIndexed (world_of self.new) (indexes_of self.new) }
     {
-        let dir = Dir::new(self.parents.len() as u32);
+        let dir = Dir::new(self.dirs.len() as u32);
         let Some(rank) = self.authority(parent) else {
             return Reply::Ignored;
         };
         enter(&mut self.journals, rank, JournalEntry::Made(dir));
-        self.parents.push_reserved(Some(parent));
-        self.named.push_reserved(Some(rank));
-        self.owners.push_reserved(Some(rank));
-        self.opened.push_reserved(None);
-        self.running.push_reserved(0);
-        self.children.push_reserved(0);
+        self.dirs.push_reserved(parent, rank);
+        self.dirs.add_child(parent);
         self.marks.push_reserved(false);
-        self.children[parent.number() as usize] += 1;
         Reply::Dir(dir)
     }
 
@@ -115,18 +109,15 @@ impl Records {
             ≡ record { reply = result; world = world_of self.new } }
         ensures indexed { IsIndexed (world_of self.new) (indexes_of self.new) }
     {
-        let index = dir.number() as usize;
         let Some(rank) = self.authority(dir) else {
             return Reply::Ignored;
         };
-        let Some(parent) = self.parents[index] else {
+        let Some(parent) = self.parent(dir) else {
             return Reply::Ignored;
         };
         enter(&mut self.journals, rank, JournalEntry::Gone(dir));
-        self.parents[index] = None;
-        self.named[index] = None;
-        self.owners[index] = None;
-        self.children[parent.number() as usize] -= 1;
+        self.dirs.remove(dir);
+        self.dirs.take_child(parent);
         Reply::Changed
     }
 
@@ -139,14 +130,11 @@ impl Records {
             ≡ record { reply = result; world = world_of self.new } }
         ensures indexed { IsIndexed (world_of self.new) (indexes_of self.new) }
     {
-        let export = self.orders.len() as u32;
+        let export = self.exports.len() as u32;
         let message = self.sent.len() as u32;
-        mark(&mut self.opened, dirs.as_slice(), Some(export));
-        self.orders.push_reserved(Order { from, to, dirs });
-        self.exporters.push_reserved(ExporterState::Discovering);
-        self.importers.push_reserved(ImporterState::Unknown);
+        self.dirs.mark_opened(dirs.as_slice(), Some(export));
+        self.exports.push_reserved(Order { from, to, dirs });
         self.sent.push_reserved(Message::Discover(export));
-        self.dropped.push_reserved(false);
         enter(&mut self.open_at, from, export);
         Reply::Export(export, message)
     }
@@ -160,14 +148,14 @@ impl Records {
             ≡ record { reply = result; world = world_of self.new } }
         ensures indexed { IsIndexed (world_of self.new) (indexes_of self.new) }
     {
-        self.exporters[export as usize] = ExporterState::Done;
-        let order = &self.orders[export as usize];
+        self.exports.set_exporter(export, ExporterState::Done);
+        let order = self.exports.order(export);
         enter(
             &mut self.journals,
             order.from,
             JournalEntry::Notified(export),
         );
-        mark(&mut self.named, order.dirs.as_slice(), Some(order.to));
+        self.dirs.mark_named(order.dirs.as_slice(), order.to);
         send(&mut self.sent, Message::Finish(export))
     }
 

@@ -1,10 +1,11 @@
 //! What a cluster keeps, and the reads of it.
 //!
-//! Beside the journals, states, messages and map there are four tables by directory, which the rest determines: its
-//! authority, the open export that it is in, how many requests run on it and how many children it has. So no read
-//! folds a journal and no event searches the exports. A fifth, of marks, is for the test of a list of directories. By
-//! rank there are the tickets of its requests and the exports that are open there, so that a stop needn't look through
-//! all requests and exports that ever were.
+//! A directory's row has its parent and the rank that the map names for it and, beside them, what the journals, states
+//! and requests determine: its authority, the open export that it is in, how many requests run on it and how many
+//! children it has. So no read folds a journal and no event searches the exports. An export's row has what it moves,
+//! its states at both ranks and whether its importer's journal has it as dropped. A table of marks is for the test of a
+//! list of directories. By rank there are the tickets of its requests and the exports that are open there, so that a
+//! stop needn't look through all requests and exports that ever were.
 
 ghost use Rattle.std.specs.Prelude.{◌≡◌, ℕ, ◌<◌, ◌≤◌, IfOk, map, replicate, slice_set};
 ghost use Rattle.std.specs.Prelude.{false, ◌∷◌, [], length, Some, slice_index_or};
@@ -16,12 +17,14 @@ ghost use Rattle.std.specs.List.{list_all};
 ghost use Rattle.export_machine.specs.Roots.{parent_of, root_rank};
 ghost use Rattle.export_machine.specs.Kept.{world_of, indexes_of, first_indexes, children_of, IsKept};
 
+use crate::dir_table::DirTable;
 use crate::event::Request;
+use crate::export_table::ExportTable;
 use crate::exporter::ExporterState;
 use crate::importer::ImporterState;
 use crate::journal::JournalEntry;
 use crate::message::Message;
-use mds_types::{Dir, Order, Rank};
+use mds_types::{Dir, Rank};
 use std::alloc::{AllocError, Global};
 
 /// Everything that a cluster knows. The lists of directories, ranks, exports, messages and tickets go by number.
@@ -29,24 +32,15 @@ use std::alloc::{AllocError, Global};
 pub struct Records {
     pub(crate) limit: u32,
     pub(crate) ranks: u8,
-    pub(crate) parents: Vec<Option<Dir>>,
+    /// A row for each directory: its parent, the rank that the map names, and what is kept beside.
+    pub(crate) dirs: DirTable,
     pub(crate) journals: Vec<Vec<JournalEntry>>,
-    pub(crate) orders: Vec<Order>,
-    pub(crate) exporters: Vec<ExporterState>,
-    pub(crate) importers: Vec<ImporterState>,
+    /// A row for each export: what it moves and its states.
+    pub(crate) exports: ExportTable,
     pub(crate) sent: Vec<Message>,
     pub(crate) tickets: Vec<Option<Request>>,
-    pub(crate) named: Vec<Option<Rank>>,
     pub(crate) stopped: Vec<bool>,
     pub(crate) events: u32,
-    /// By directory: its authority.
-    pub(crate) owners: Vec<Option<Rank>>,
-    /// By directory: the open export that it is in.
-    pub(crate) opened: Vec<Option<u32>>,
-    /// By directory: how many requests run on it.
-    pub(crate) running: Vec<u32>,
-    /// By directory: how many children it has.
-    pub(crate) children: Vec<u32>,
     /// By directory: whether the test of a list has come across it. Between tests none has its mark.
     pub(crate) marks: Vec<bool>,
     /// By rank: the tickets of the requests that run there, and some of requests that ended.
@@ -57,8 +51,6 @@ pub struct Records {
     pub(crate) open_at: Vec<Vec<u32>>,
     /// By rank: how many of those its journal tells.
     pub(crate) told_at: Vec<u32>,
-    /// By export: whether its importer's journal has it as dropped.
-    pub(crate) dropped: Vec<bool>,
 }
 
 /// An empty list for each rank.
@@ -114,33 +106,25 @@ impl Records {
         Ok(Records {
             limit,
             ranks,
-            parents: vec![in alloc; Some(Dir::ROOT)]?,
+            dirs: DirTable::new(alloc, first_rank())?,
             journals,
-            orders: Vec::new(alloc),
-            exporters: Vec::new(alloc),
-            importers: Vec::new(alloc),
+            exports: ExportTable::new(alloc),
             sent: Vec::new(alloc),
             tickets: Vec::new(alloc),
-            named: vec![in alloc; Some(first_rank())]?,
             stopped: vec![in alloc; false; ranks as usize]?,
             events: 0,
-            owners: vec![in alloc; Some(first_rank())]?,
-            opened: vec![in alloc; None]?,
-            running: vec![in alloc; 0]?,
-            children: vec![in alloc; 0]?,
             marks: vec![in alloc; false]?,
             tickets_at: empty_lists(alloc, ranks)?,
             ended_at: vec![in alloc; 0; ranks as usize]?,
             open_at: empty_lists(alloc, ranks)?,
             told_at: vec![in alloc; 0; ranks as usize]?,
-            dropped: Vec::new(alloc),
         })
     }
 
     pub(crate) fn is_present(&self, dir: Dir) -> bool
         ensures { result ≡ is_present (world_of self.now) dir }
     {
-        value_at(&self.parents, dir.number() as usize, None).is_some()
+        self.dirs.parent(dir).is_some()
     }
 
     pub(crate) fn are_present(&self, dirs: &[Dir]) -> bool
@@ -153,13 +137,13 @@ impl Records {
         requires { IsKept self.now }
         ensures { result ≡ authority (world_of self.now) dir }
     {
-        value_at(&self.owners, dir.number() as usize, None)
+        self.dirs.owner(dir)
     }
 
     pub(crate) fn parent(&self, dir: Dir) -> Option<Dir>
         ensures { result ≡ parent_of (world_of self.now) dir }
     {
-        value_at(&self.parents, dir.number() as usize, None)
+        self.dirs.parent(dir)
     }
 
     /// The authority of a directory that is the root of a subtree.
@@ -179,27 +163,27 @@ impl Records {
         requires { IsKept self.now }
         ensures { result ≡ open_export (world_of self.now) dir }
     {
-        value_at(&self.opened, dir.number() as usize, None)
+        self.dirs.opened(dir)
     }
 
     pub(crate) fn running_on(&self, dir: Dir) -> u32
         requires { IsKept self.now }
         ensures { result ≡ running_on (world_of self.now) (dir ∷ []) }
     {
-        value_at(&self.running, dir.number() as usize, 0)
+        self.dirs.running(dir)
     }
 
     pub(crate) fn children(&self, dir: Dir) -> u32
         requires { IsKept self.now }
         ensures { result ≡ children_of (world_of self.now) dir }
     {
-        value_at(&self.children, dir.number() as usize, 0)
+        self.dirs.children(dir)
     }
 
     pub(crate) fn named(&self, dir: Dir) -> Option<Rank>
         ensures { result ≡ named_of (world_of self.now) dir }
     {
-        value_at(&self.named, dir.number() as usize, None)
+        self.dirs.named(dir)
     }
 
     pub(crate) fn journal(&self, rank: Rank) -> &[JournalEntry]
@@ -220,34 +204,34 @@ impl Records {
     pub(crate) fn exporter(&self, export: u32) -> ExporterState
         ensures { result ≡ exporter_of (world_of self.now) export }
     {
-        value_at(&self.exporters, export as usize, ExporterState::Aborted)
+        self.exports.exporter(export)
     }
 
     pub(crate) fn importer(&self, export: u32) -> ImporterState
         ensures { result ≡ importer_of (world_of self.now) export }
     {
-        value_at(&self.importers, export as usize, ImporterState::Unknown)
+        self.exports.importer(export)
     }
 
     pub(crate) fn from(&self, export: u32) -> Rank
-        requires { export < length self.now.orders.items }
+        requires { export < length self.now.exports.orders }
         ensures { result ≡ from_of (world_of self.now) export }
     {
-        self.orders[export as usize].from
+        self.exports.order(export).from
     }
 
     pub(crate) fn to(&self, export: u32) -> Rank
-        requires { export < length self.now.orders.items }
+        requires { export < length self.now.exports.orders }
         ensures { result ≡ to_of (world_of self.now) export }
     {
-        self.orders[export as usize].to
+        self.exports.order(export).to
     }
 
     pub(crate) fn dirs(&self, export: u32) -> &[Dir]
-        requires { export < length self.now.orders.items }
+        requires { export < length self.now.exports.orders }
         ensures { result.now ≡ (order_in (world_of self.now).orders export).dirs }
     {
-        self.orders[export as usize].dirs.as_slice()
+        self.exports.order(export).dirs.as_slice()
     }
 
     /// The export because of which the authority of a directory doesn't serve it.
@@ -278,7 +262,7 @@ impl Records {
     /// How many requests run on the directories of an export.
     pub(crate) fn running_in(&self, export: u32) -> u32
         requires kept { IsKept self.now }
-        requires near { export < length self.now.orders.items }
+        requires near { export < length self.now.exports.orders }
         ensures { result ≡ running_on (world_of self.now) (order_in (world_of self.now).orders export).dirs }
     {
         let dirs = self.dirs(export);

@@ -15,7 +15,7 @@ impl Records {
         ensures { IfOk result (λ found. found.items ≡ roots (world_of self.now)) }
     {
         let mut found = Vec::new(alloc);
-        for number in 0..self.parents.len() {
+        for number in 0..self.dirs.len() {
             let dir = Dir::new(number as u32);
             if let Some(rank) = self.root_rank(dir) {
                 found.push((dir, rank))?;

@@ -9,8 +9,9 @@ ghost use Rattle.export_machine.specs.Kept.{world_of, indexes_of, is_passing, is
 ghost use Rattle.export_machine.specs.Kept.{IsIndexed, exporter_at_stop, importer_at_stop};
 ghost use Rattle.export_machine.specs.declared.event.Request.{Request};
 
-use crate::changes::{mark, put};
+use crate::changes::put;
 use crate::event::{Reply, Request};
+use crate::export_table::ExportTable;
 use crate::exporter::ExporterState;
 use crate::importer::ImporterState;
 use crate::journal::JournalEntry;
@@ -50,51 +51,47 @@ fn left_of(dropped: bool, state: ImporterState) -> ImporterState
     }
 }
 
-/// The states of all exports at both ranks, for a rank's list of those whose state there a stop would change.
+/// All exports, for a rank's list of those whose state there a stop would change.
 #[derive(Clone, Copy)]
 struct Open<'a> {
     rank: Rank,
-    orders: &'a [Order],
-    exporters: &'a [ExporterState],
-    importers: &'a [ImporterState],
-    dropped: &'a [bool],
+    exports: &'a ExportTable,
 }
 
 impl<'a> Open<'a> {
     fn exports(&self, order: &Order, export: u32) -> bool
         ensures { result ≡ ((order.now.from == self.now.rank) && is_before_log
-            (slice_index_or self.now.exporters.now export ExporterState.Aborted)) }
+            (slice_index_or self.now.exports.now.exporters export ExporterState.Aborted)) }
     {
-        order.from == self.rank
-            && is_before_log(value_at(self.exporters, export as usize, ExporterState::Aborted))
+        order.from == self.rank && is_before_log(self.exports.exporter(export))
     }
 
     fn imports(&self, order: &Order, export: u32) -> bool
         ensures { result ≡ ((order.now.to == self.now.rank) && is_passing
-            (slice_index_or self.now.importers.now export ImporterState.Unknown) && not
-            (slice_index_or self.now.dropped.now export false)) }
+            (slice_index_or self.now.exports.now.importers export ImporterState.Unknown) && not
+            (slice_index_or self.now.exports.now.dropped export false)) }
     {
         order.to == self.rank
-            && is_passing(value_at(self.importers, export as usize, ImporterState::Unknown))
-            && !value_at(self.dropped, export as usize, false)
+            && is_passing(self.exports.importer(export))
+            && !self.exports.dropped(export)
     }
 
     fn has(&self, export: u32) -> bool
-        ensures { result ≡ is_open_at self.now.rank self.now.orders.now self.now.exporters.now self.now.importers.now
-            self.now.dropped.now export }
+        ensures { result ≡ is_open_at self.now.rank self.now.exports.now.orders self.now.exports.now.exporters
+            self.now.exports.now.importers self.now.exports.now.dropped export }
     {
-        if export as usize >= self.orders.len() {
+        if export as usize >= self.exports.len() {
             return false;
         }
-        let order = &self.orders[export as usize];
+        let order = self.exports.order(export);
         self.exports(order, export) || self.imports(order, export)
     }
 
     /// Keeps those exports whose state at the rank a stop would change.
     fn keep(&self, listed: &mut Vec<u32>)
         ensures { listed.new.items ≡ filter
-            (is_open_at self.now.rank self.now.orders.now self.now.exporters.now self.now.importers.now
-            self.now.dropped.now) listed.old.items }
+            (is_open_at self.now.rank self.now.exports.now.orders self.now.exports.now.exporters
+            self.now.exports.now.importers self.now.exports.now.dropped) listed.old.items }
     {
         listed.retain(|export| self.has(*export));
     }
@@ -115,66 +112,72 @@ fn keep_running(listed: &mut Vec<u32>, tickets: &[Option<Request>])
 
 impl Records {
     /// Whether a stop of the rank aborts the export.
-    fn is_halted(&self, rank: Rank, export: usize) -> bool
-        requires near { length self.now.exporters.items ≡ length self.now.orders.items }
+    fn is_halted(&self, rank: Rank, export: u32) -> bool
+        requires near { length self.now.exports.exporters ≡ length self.now.exports.orders }
         ensures { result ≡ ((from_of (world_of self.now) export == rank) && is_before_log
             (exporter_of (world_of self.now) export)) }
     {
-        export < self.orders.len()
-            && self.orders[export].from == rank
-            && is_before_log(value_at(&self.exporters, export, ExporterState::Aborted))
+        (export as usize) < self.exports.len()
+            && self.exports.order(export).from == rank
+            && is_before_log(self.exports.exporter(export))
     }
 
     /// The rank's exports without a log entry are aborted.
     fn halt_exports(&mut self, rank: Rank)
         requires kept { IsKept self.old }
         requires ranked { rank < length self.old.open_at.items }
-        ensures others { self.new ≡ record self.old { exporters = self.new.exporters; opened = self.new.opened } }
-        ensures exporters { self.new.exporters.items
+        ensures others { self.new ≡ record self.old {
+          exports = record self.old.exports { exporters = self.new.exports.exporters };
+          dirs = record self.old.dirs { opened = self.new.dirs.opened };
+        } }
+        ensures exporters { self.new.exports.exporters
             ≡ map_at (λ x state. if from_of (world_of self.old) x == rank then exporter_at_stop state else state)
-            self.old.exporters.items }
+            self.old.exports.exporters }
         ensures indexed { IsIndexed (world_of self.new) (indexes_of self.new) }
     {
         let index = rank.number() as usize;
         for at in 0..self.open_at[index].len() {
-            let export = self.open_at[index][at] as usize;
+            let export = self.open_at[index][at];
             if self.is_halted(rank, export) {
-                self.exporters[export] = ExporterState::Aborted;
-                mark(&mut self.opened, self.orders[export].dirs.as_slice(), None);
+                self.exports.set_exporter(export, ExporterState::Aborted);
+                self.dirs
+                    .mark_opened(self.exports.order(export).dirs.as_slice(), None);
             }
         }
     }
 
     /// What a stop of the rank leaves of an import.
-    fn import_at_stop(&self, rank: Rank, export: usize) -> ImporterState
-        requires near { length self.now.importers.items ≡ length self.now.orders.items }
+    fn import_at_stop(&self, rank: Rank, export: u32) -> ImporterState
+        requires near { length self.now.exports.importers ≡ length self.now.exports.orders }
         ensures { result ≡ (if to_of (world_of self.now) export == rank then importer_at_stop
-            (slice_index_or self.now.dropped.items export false) (importer_of (world_of self.now) export)
+            (slice_index_or self.now.exports.dropped export false) (importer_of (world_of self.now) export)
             else importer_of (world_of self.now) export) }
     {
-        let state = value_at(&self.importers, export, ImporterState::Unknown);
-        if export >= self.orders.len() || self.orders[export].to != rank {
+        let state = self.exports.importer(export);
+        if export as usize >= self.exports.len() || self.exports.order(export).to != rank {
             return state;
         }
-        left_of(value_at(&self.dropped, export, false), state)
+        left_of(self.exports.dropped(export), state)
     }
 
     /// The rank's imports that it hasn't journaled are unknown.
     fn halt_imports(&mut self, rank: Rank)
-        requires near { length self.old.importers.items ≡ length self.old.orders.items }
+        requires near { length self.old.exports.importers ≡ length self.old.exports.orders }
         requires ranked { rank < length self.old.open_at.items }
         requires indexed { IsIndexed (world_of self.old) (indexes_of self.old) }
         requires dropped { (x : ℕ) → has (world_of self.old) rank (JournalEntry.Dropped x) ≡ true
             → importer_of (world_of self.old) x ≡ ImporterState.Dropped }
-        ensures others { self.new ≡ record self.old { importers = self.new.importers } }
-        ensures importers { self.new.importers.items
-            ≡ map_at (λ x state. if to_of (world_of self.old) x == rank then importer_at_stop (has (world_of self.old) rank (JournalEntry.Dropped x)) state else state) self.old.importers.items }
+        ensures others { self.new ≡ record self.old {
+          exports = record self.old.exports { importers = self.new.exports.importers };
+        } }
+        ensures importers { self.new.exports.importers
+            ≡ map_at (λ x state. if to_of (world_of self.old) x == rank then importer_at_stop (has (world_of self.old) rank (JournalEntry.Dropped x)) state else state) self.old.exports.importers }
     {
         let index = rank.number() as usize;
         for at in 0..self.open_at[index].len() {
-            let export = self.open_at[index][at] as usize;
+            let export = self.open_at[index][at];
             let state = self.import_at_stop(rank, export);
-            put(&mut self.importers, export, state);
+            self.exports.set_importer(export, state);
         }
     }
 
@@ -182,17 +185,14 @@ impl Records {
     fn keep_open(&mut self, rank: Rank)
         requires near { rank < length self.old.open_at.items }
         requires indexed { IsIndexed (world_of self.old) (indexes_of self.old) }
-        requires exporting { length self.old.exporters.items ≡ length self.old.orders.items }
-        requires importing { length self.old.importers.items ≡ length self.old.orders.items }
+        requires exporting { length self.old.exports.exporters ≡ length self.old.exports.orders }
+        requires importing { length self.old.exports.importers ≡ length self.old.exports.orders }
         ensures others { self.new ≡ record self.old { open_at = self.new.open_at; told_at = self.new.told_at } }
         ensures indexed { IsIndexed (world_of self.new) (indexes_of self.new) }
     {
         let open = Open {
             rank,
-            orders: &self.orders,
-            exporters: &self.exporters,
-            importers: &self.importers,
-            dropped: &self.dropped,
+            exports: &self.exports,
         };
         open.keep(&mut self.open_at[rank.number() as usize]);
         put(&mut self.told_at, rank.number() as usize, 0);
@@ -203,8 +203,8 @@ impl Records {
     pub(crate) fn note_told(&mut self, rank: Rank)
         requires near { rank < length self.old.open_at.items }
         requires indexed { IsIndexed (world_of self.old) (indexes_of self.old) }
-        requires exporting { length self.old.exporters.items ≡ length self.old.orders.items }
-        requires importing { length self.old.importers.items ≡ length self.old.orders.items }
+        requires exporting { length self.old.exports.exporters ≡ length self.old.exports.orders }
+        requires importing { length self.old.exports.importers ≡ length self.old.exports.orders }
         ensures others { self.new ≡ record self.old { open_at = self.new.open_at; told_at = self.new.told_at } }
         ensures indexed { IsIndexed (world_of self.new) (indexes_of self.new) }
     {
@@ -239,8 +239,11 @@ impl Records {
     fn end_at(&mut self, rank: Rank, ticket: usize)
         requires indexed { IsIndexed (world_of self.old) (indexes_of self.old) }
         requires there { (q : Request) → request_of (world_of self.old) ticket ≡ Some q
-            → q.dir < length self.old.parents.items }
-        ensures others { self.new ≡ record self.old { tickets = self.new.tickets; running = self.new.running } }
+            → q.dir < length self.old.dirs.parents }
+        ensures others { self.new ≡ record self.old {
+          tickets = self.new.tickets;
+          dirs = record self.old.dirs { running = self.new.dirs.running };
+        } }
         ensures tickets { self.new.tickets.items ≡ slice_set self.old.tickets.items ticket
             (ends_at rank (slice_index_or self.old.tickets.items ticket None)) }
         ensures indexed { IsIndexed (world_of self.new) (indexes_of self.new) }
@@ -251,7 +254,7 @@ impl Records {
         if request.rank != rank {
             return;
         }
-        self.running[request.dir.number() as usize] -= 1;
+        self.dirs.end(request.dir);
         put(&mut self.tickets, ticket, None);
     }
 
@@ -260,8 +263,11 @@ impl Records {
         requires near { rank < length self.old.tickets_at.items }
         requires indexed { IsIndexed (world_of self.old) (indexes_of self.old) }
         requires there { (t : ℕ) (q : Request) → request_of (world_of self.old) t ≡ Some q
-            → q.dir < length self.old.parents.items }
-        ensures others { self.new ≡ record self.old { tickets = self.new.tickets; running = self.new.running } }
+            → q.dir < length self.old.dirs.parents }
+        ensures others { self.new ≡ record self.old {
+          tickets = self.new.tickets;
+          dirs = record self.old.dirs { running = self.new.dirs.running };
+        } }
         ensures tickets { self.new.tickets.items ≡ map_at (λ t request. ends_at rank request) self.old.tickets.items }
         ensures indexed { IsIndexed (world_of self.new) (indexes_of self.new) }
     {
@@ -277,10 +283,10 @@ impl Records {
         requires near { rank < length self.old.tickets_at.items }
         requires indexed { IsIndexed (world_of self.old) (indexes_of self.old) }
         requires there { (t : ℕ) (q : Request) → request_of (world_of self.old) t ≡ Some q
-            → q.dir < length self.old.parents.items }
+            → q.dir < length self.old.dirs.parents }
         ensures others { self.new ≡ record self.old {
           tickets = self.new.tickets;
-          running = self.new.running;
+          dirs = record self.old.dirs { running = self.new.dirs.running };
           tickets_at = self.new.tickets_at;
           ended_at = self.new.ended_at;
         } }

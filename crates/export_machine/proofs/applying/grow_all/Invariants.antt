@@ -1,6 +1,7 @@
 use Rattle.std.proofs.Common.{◌≡◌, ◌<◌, ℕ, true, length, map}
 use Rattle.std.specs.List.{list_all}
-use Rattle.export_machine.specs.Kept.{has_place, has_spare}
+use Rattle.export_machine.specs.Columns.{has_spare}
+use Rattle.export_machine.specs.Kept.{has_place}
 use Rattle.export_machine.proofs.applying.grow_all.Given as goal
 
 -- the lists so far have a place

@@ -1,29 +1,24 @@
-use Rattle.std.proofs.Common.{◌≡◌, ◌<◌, ℕ, cond, length, Option, None, List, sym, ap, ◌∙◌, subst, refl, arith}
+use Rattle.std.proofs.Common.{◌≡◌, ◌<◌, ℕ, cond, length, None, List, sym, ap, ◌∙◌, refl, arith}
 use Rattle.std.proofs.lemmas.Bool.{and_parts, ltb-true}
+use Rattle.mds_types.specs.declared.order.Order.{Order}
+use Rattle.export_machine.specs.ExportColumns.{ExportColumns}
 use Rattle.export_machine.specs.Authority.{is_among, is_inside, order_in, from_of}
 use Rattle.export_machine.specs.Step.{happens, map_at}
 use Rattle.export_machine.specs.declared.event.Event.TheVariants.{Abort}
-use Rattle.export_machine.specs.Kept.{world_of, indexes_of, has_room, IsIndexed}
+use Rattle.export_machine.specs.Kept.{world_of, indexes_of, has_room}
 use Rattle.std.proofs.lemmas.List.{length-map, length-set}
-use Rattle.export_machine.proofs.Indexing.{abort_there, abort_indexed, aborted}
+use Rattle.export_machine.proofs.Indexing.{abort_there, abort_indexed}
 use Rattle.export_machine.proofs.Reached.{by_safe}
-use Rattle.export_machine.proofs.Accepted.{numbers_by, exporter_rank, from_here, room_left, as_exporter, dirs_here, abort_order, abort_state}
+use Rattle.export_machine.proofs.Accepted.{numbers_by, exporter_rank, room_left, as_exporter, abort_order, abort_state}
 use Rattle.export_machine.proofs.records.Records.abort.Goals as goal
 
-pub index_mut-requires : goal.index_mut-requires
-index_mut-requires c =
-    let near : c.args.export < length c.args.self.now.exporters.items = as_exporter (world_of c.args.self.now) c.requires.kept.reached c.args.export (abort_order (world_of c.args.self.now) c.args.export c.requires.accepted) in
-    omega arith
+pub order-order-requires : goal.order-order-requires
+order-order-requires c = record { near = rw c.set_exporter.ensures (abort_order (world_of c.args.self.now) c.args.export c.requires.accepted) }
 
-pub index-order-requires : goal.index-order-requires
-index-order-requires c =
-    let near : c.args.export < length c.args.self.now.orders.items = abort_order (world_of c.args.self.now) c.args.export c.requires.accepted in
-    omega arith
-
-pub mark-requires : goal.mark-requires
-mark-requires c =
-    let near : c.args.export < length c.args.self.now.orders.items = abort_order (world_of c.args.self.now) c.args.export c.requires.accepted in
-    let e : (order_in c.args.self.now.orders.items c.args.export).dirs ≡ c.as_slice.result.now = dirs_here c.args.self.now.orders.items c.args.export c.index-order.result.now near c.index-order.ensures ∙ sym c.as_slice.ensures in
+pub mark_opened-requires : goal.mark_opened-requires
+mark_opened-requires c =
+    let here : order_in c.args.self.now.exports.orders c.args.export ≡ c.order-order.result.now = sym (c.order-order.ensures ∙ ap (λ (t : ExportColumns). order_in t.orders c.args.export) c.set_exporter.ensures) in
+    let e : (order_in c.args.self.now.exports.orders c.args.export).dirs ≡ c.as_slice.result.now = ap (λ (o : Order). o.dirs) here ∙ sym c.as_slice.ensures in
     record {
       near = λ d h. rw c.requires.kept.indexed.opened_places
           (abort_there (world_of c.args.self.now) (by_safe (world_of c.args.self.now) c.requires.kept.reached) c.args.export (abort_state (world_of c.args.self.now) c.args.export c.requires.accepted) d (ap (λ (ds : List ℕ). is_among ds d) e ∙ h));
@@ -40,34 +35,35 @@ pub note_told-requires-clause-near : goal.note_told-requires-clause-near
 note_told-requires-clause-near c =
     let w = world_of c.args.self.now in
     let order = abort_order w c.args.export c.requires.accepted in
-    let near : c.args.export < length c.args.self.now.orders.items = order in
-    let t : from_of w c.args.export ≡ c.index-order.result.now.from = from_here c.args.self.now.orders.items c.args.export c.index-order.result.now near c.index-order.ensures in
-    let k : c.index-order.result.now.from < length w.journals = rw (← t) (exporter_rank w c.requires.kept.reached c.args.export order) in
+    let here : order_in c.args.self.now.exports.orders c.args.export ≡ c.order-order.result.now = sym (c.order-order.ensures ∙ ap (λ (t : ExportColumns). order_in t.orders c.args.export) c.set_exporter.ensures) in
+    let t : from_of w c.args.export ≡ c.order-order.result.now.from = ap (λ (o : Order). o.from) here in
+    let k : c.order-order.result.now.from < length w.journals = rw (← t) (exporter_rank w c.requires.kept.reached c.args.export order) in
     let ranks : w.ranks ≡ length w.journals = numbers_by w c.requires.kept.reached _ _ (λ safe. sym safe.all_ranks) in
     omega (arith, c.requires.kept.indexed.listed.ranked, length-map c.args.self.now.open_at.items (λ l. l.items))
 
 pub note_told-requires-clause-exporting : goal.note_told-requires-clause-exporting
 note_told-requires-clause-exporting c =
-    length-set c.args.self.now.exporters.items _ _ ∙ numbers_by (world_of c.args.self.now) c.requires.kept.reached (length c.args.self.now.exporters.items) (length c.args.self.now.orders.items) (λ safe. safe.exporting)
+    rw c.set_exporter.ensures (length-set c.args.self.now.exports.exporters _ _ ∙ numbers_by (world_of c.args.self.now) c.requires.kept.reached (length c.args.self.now.exports.exporters) (length c.args.self.now.exports.orders) (λ safe. safe.exporting))
 
 pub note_told-requires-clause-importing : goal.note_told-requires-clause-importing
 note_told-requires-clause-importing c =
-    numbers_by (world_of c.args.self.now) c.requires.kept.reached (length c.args.self.now.importers.items) (length c.args.self.now.orders.items) (λ safe. safe.importing)
+    rw c.set_exporter.ensures (numbers_by (world_of c.args.self.now) c.requires.kept.reached (length c.args.self.now.exports.importers) (length c.args.self.now.exports.orders) (λ safe. safe.importing))
 
 pub note_told-requires-clause-indexed : goal.note_told-requires-clause-indexed
 note_told-requires-clause-indexed c =
     let order = abort_order (world_of c.args.self.now) c.args.export c.requires.accepted in
-    let near : c.args.export < length c.args.self.now.orders.items = order in
-    let e : (order_in c.args.self.now.orders.items c.args.export).dirs ≡ c.as_slice.result.now = dirs_here c.args.self.now.orders.items c.args.export c.index-order.result.now near c.index-order.ensures ∙ sym c.as_slice.ensures in
-    let marked : map_at (λ k old. cond (is_inside (world_of c.args.self.now) c.args.export k) None old) c.args.self.now.opened.items ≡ c.mark.new.table.items =
-    ap (λ (ds : List ℕ). map_at (λ k old. cond (is_among ds k) None old) c.args.self.now.opened.items) e ∙ sym c.mark.ensures in
-    subst (λ (xs : List (Option ℕ)). IsIndexed (aborted (world_of c.args.self.now) c.args.export (as_exporter (world_of c.args.self.now) c.requires.kept.reached c.args.export order) c.send-reply.new.sent.items) (record (indexes_of c.args.self.now) { opened = xs })) marked
+    let here : order_in c.args.self.now.exports.orders c.args.export ≡ c.order-order.result.now = sym (c.order-order.ensures ∙ ap (λ (t : ExportColumns). order_in t.orders c.args.export) c.set_exporter.ensures) in
+    let e : (order_in c.args.self.now.exports.orders c.args.export).dirs ≡ c.as_slice.result.now = ap (λ (o : Order). o.dirs) here ∙ sym c.as_slice.ensures in
+    let dirs = c.args.self.now.dirs in
+    let marked : record dirs { opened = map_at (λ k old. cond (is_inside (world_of c.args.self.now) c.args.export k) None old) dirs.opened } ≡ c.mark_opened.new.self =
+    ap (λ (ds : List ℕ). record dirs { opened = map_at (λ k old. cond (is_among ds k) None old) dirs.opened }) e ∙ sym c.mark_opened.ensures in
+    rw (← marked, c.set_exporter.ensures)
     (abort_indexed (world_of c.args.self.now) c.args.export (as_exporter (world_of c.args.self.now) c.requires.kept.reached c.args.export order) c.send-reply.new.sent.items (by_safe (world_of c.args.self.now) c.requires.kept.reached) (indexes_of c.args.self.now)
     c.requires.kept.indexed (abort_state (world_of c.args.self.now) c.args.export c.requires.accepted))
 
 pub returns-clause-effect : goal.returns-clause-effect
 unfolding happens
-returns-clause-effect c = rw (c.note_told.ensures.others, c.send-reply.ensures.items, c.send-reply.ensures.reply) refl
+returns-clause-effect c = rw (c.note_told.ensures.others, c.send-reply.ensures.items, c.send-reply.ensures.reply, c.mark_opened.ensures, c.set_exporter.ensures) refl
 
 pub returns-clause-indexed : goal.returns-clause-indexed
 returns-clause-indexed c = c.note_told.ensures.indexed

@@ -19,4 +19,4 @@ unfolding happens
 returns-clause-effect c = rw (c.send.ensures.items, c.send.ensures.reply) refl
 
 pub returns-clause-indexed : goal.returns-clause-indexed
-returns-clause-indexed c = importer_indexed (world_of c.args.self.now) (indexes_of c.args.self.now) c.requires.kept.indexed c.args.self.now.importers.items c.send.new.sent.items _ c.requires.kept.indexed.listed
+returns-clause-indexed c = importer_indexed (world_of c.args.self.now) (indexes_of c.args.self.now) c.requires.kept.indexed c.args.self.now.exports.importers c.send.new.sent.items _ c.requires.kept.indexed.listed

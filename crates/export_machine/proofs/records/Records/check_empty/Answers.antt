@@ -6,6 +6,6 @@ use Rattle.export_machine.proofs.records.Records.check_empty.Goals as goal
 
 pub returns : goal.returns
 returns c =
-    let parents = c.args.self.now.parents.items in
+    let parents = c.args.self.now.dirs.parents in
     c.refuse_if.ensures.cause
     ∙ ap (λ b. when b NotEmpty) (ap (λ n. not (eqb n 0)) c.children.ensures ∙ any_counts (is_child c.args.dir) parents (any_at (is_child c.args.dir) parents) refl)

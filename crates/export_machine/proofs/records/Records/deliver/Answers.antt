@@ -4,7 +4,8 @@ use Rattle.std.specs.List.{slice_get}
 use Rattle.export_machine.specs.Authority.{is_stopped}
 use Rattle.export_machine.specs.Step.{happens, receiver}
 use Rattle.export_machine.specs.declared.event.Event.TheVariants.{Deliver}
-use Rattle.export_machine.specs.Kept.{world_of, has_room, entered_at, has_entry_places, has_spare, receiver_of}
+use Rattle.export_machine.specs.Columns.{has_spare}
+use Rattle.export_machine.specs.Kept.{world_of, has_room, entered_at, has_entry_places, receiver_of}
 use Rattle.export_machine.specs.Step.{about}
 use Rattle.export_machine.proofs.Found.{orders_by}
 use Rattle.export_machine.proofs.Accepted.{deliver_near, item_at, room_left}

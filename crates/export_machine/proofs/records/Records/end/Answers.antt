@@ -24,23 +24,20 @@ returns-in_default-clause-effect c =
     absurd (end_ticket (world_of c.args.self.now) c.args.ticket c.requires.accepted
     (ticket_at c.args.self.now.tickets.items c.args.ticket c.index.result.now (end_near (world_of c.args.self.now) c.args.ticket c.requires.accepted) c.index.ensures ∙ c.in_default.is))
 
+pub end-requires-clause-near : goal.end-requires-clause-near
+end-requires-clause-near c =
+    let e : get_or c.args.self.now.tickets.items c.args.ticket None ≡ Some c.in-Some.request =
+    ticket_at c.args.self.now.tickets.items c.args.ticket c.index.result.now (end_near (world_of c.args.self.now) c.args.ticket c.requires.accepted) c.index.ensures ∙ c.in-Some.is in
+    rw c.requires.kept.indexed.running_places (request_there (world_of c.args.self.now) c.requires.kept.reached c.args.ticket c.in-Some.request e)
+
+pub end-requires-clause-some : goal.end-requires-clause-some
+end-requires-clause-some c =
+    let e : get_or c.args.self.now.tickets.items c.args.ticket None ≡ Some c.in-Some.request =
+    ticket_at c.args.self.now.tickets.items c.args.ticket c.index.result.now (end_near (world_of c.args.self.now) c.args.ticket c.requires.accepted) c.index.ensures ∙ c.in-Some.is in
+    end_runs (world_of c.args.self.now) (indexes_of c.args.self.now) c.args.ticket c.in-Some.request c.requires.kept.indexed e
+
 pub index_mut-requires : goal.index_mut-requires
-index_mut-requires c =
-    let e : get_or c.args.self.now.tickets.items c.args.ticket None ≡ Some c.in-Some.request =
-    ticket_at c.args.self.now.tickets.items c.args.ticket c.index.result.now (end_near (world_of c.args.self.now) c.args.ticket c.requires.accepted) c.index.ensures ∙ c.in-Some.is in
-    let near : c.in-Some.request.dir < length c.args.self.now.parents.items = request_there (world_of c.args.self.now) c.requires.kept.reached c.args.ticket c.in-Some.request e in
-    let places : length c.args.self.now.running.items ≡ length c.args.self.now.parents.items = c.requires.kept.indexed.running_places in
-    omega (arith, c.number.ensures)
-
-pub overflow_sub-index_mut : goal.overflow_sub-index_mut
-overflow_sub-index_mut c =
-    let e : get_or c.args.self.now.tickets.items c.args.ticket None ≡ Some c.in-Some.request =
-    ticket_at c.args.self.now.tickets.items c.args.ticket c.index.result.now (end_near (world_of c.args.self.now) c.args.ticket c.requires.accepted) c.index.ensures ∙ c.in-Some.is in
-    let near : c.in-Some.request.dir < length c.args.self.now.parents.items = request_there (world_of c.args.self.now) c.requires.kept.reached c.args.ticket c.in-Some.request e in
-    end_runs (world_of c.args.self.now) (indexes_of c.args.self.now) c.args.ticket c.in-Some.request c.requires.kept.indexed e near c.index_mut.result.now (rw c.number.ensures at c.index_mut.ensures.value)
-
-pub index_mut-requires-2 : goal.index_mut-requires-2
-index_mut-requires-2 c = let near : c.args.ticket < length c.args.self.now.tickets.items = end_near (world_of c.args.self.now) c.args.ticket c.requires.accepted in omega arith
+index_mut-requires c = let near : c.args.ticket < length c.args.self.now.tickets.items = end_near (world_of c.args.self.now) c.args.ticket c.requires.accepted in omega arith
 
 pub note_end-requires-clause-near : goal.note_end-requires-clause-near
 note_end-requires-clause-near c =
@@ -54,10 +51,9 @@ pub note_end-requires-clause-indexed : goal.note_end-requires-clause-indexed
 note_end-requires-clause-indexed c =
     let e : get_or c.args.self.now.tickets.items c.args.ticket None ≡ Some c.in-Some.request =
     ticket_at c.args.self.now.tickets.items c.args.ticket c.index.result.now (end_near (world_of c.args.self.now) c.args.ticket c.requires.accepted) c.index.ensures ∙ c.in-Some.is in
-    let near : c.in-Some.request.dir < length c.args.self.now.parents.items = request_there (world_of c.args.self.now) c.requires.kept.reached c.args.ticket c.in-Some.request e in
-    rw c.number.ensures (end_indexed (world_of c.args.self.now) (indexes_of c.args.self.now) c.args.ticket c.in-Some.request c.requires.kept.indexed e near c.index_mut.result.now
-    (rw c.number.ensures at c.index_mut.ensures.value))
+    let near : c.in-Some.request.dir < length c.args.self.now.dirs.parents = request_there (world_of c.args.self.now) c.requires.kept.reached c.args.ticket c.in-Some.request e in
+    rw c.end.ensures (end_indexed (world_of c.args.self.now) (indexes_of c.args.self.now) c.args.ticket c.in-Some.request c.requires.kept.indexed e near)
 
 pub returns-clause-effect : goal.returns-clause-effect
 unfolding happens
-returns-clause-effect c = ap changed (sym (ap world_of c.note_end.ensures.others))
+returns-clause-effect c = ap changed (sym (ap world_of c.note_end.ensures.others ∙ rw c.end.ensures refl))

@@ -17,7 +17,7 @@ end_at-requires-clause-there c = λ q h.
     let t = c.index-in-loop-at-2.result.now in
     let was : get_or c.args.self.now.tickets.items t None ≡ Some q =
     ended_was c.args.rank (take c.loop-at.at tickets) c.args.self.now.tickets.items t q (sym (ap (λ ts. get_or ts t None) c.loop-at.invariant.tickets) ∙ h) in
-    let parents : length c.loop-at.self.parents.items ≡ length c.args.self.now.parents.items = ap (λ (r : Records). length r.parents.items) c.loop-at.invariant.others in
+    let parents : length c.loop-at.self.dirs.parents ≡ length c.args.self.now.dirs.parents = ap (λ (r : Records). length r.dirs.parents) c.loop-at.invariant.others in
     rw parents (c.requires.there t q was))
 
 pub loop-at-preserved : goal.loop-at-preserved
@@ -33,7 +33,7 @@ loop-at-preserved c =
     let near : c.loop-at.at < length tickets = rw first (omega arith) in
     let read : t ≡ get_or tickets c.loop-at.at t = c.index-in-loop-at-2.ensures ∙ ap (λ l. get_or l c.loop-at.at t) (sym here) in
     record {
-      others = c.end_at.ensures.others ∙ ap (λ (r : Records). record r { tickets = c.end_at.new.self.tickets; running = c.end_at.new.self.running }) c.loop-at.invariant.others;
+      others = c.end_at.ensures.others ∙ ap (λ (r : Records). record r { tickets = c.end_at.new.self.tickets; dirs = record r.dirs { running = c.end_at.new.self.dirs.running } }) c.loop-at.invariant.others;
       tickets = c.end_at.ensures.tickets ∙ ends_next c.args.rank tickets c.loop-at.at t c.loop-at.self.tickets.items c.args.self.now.tickets.items near read c.loop-at.invariant.tickets;
       indexed = c.end_at.ensures.indexed;
     }

@@ -1,16 +1,11 @@
-use Rattle.std.proofs.Common.{◌<◌, length, refl, arith}
+use Rattle.std.proofs.Common.{refl, arith}
 use Rattle.std.proofs.lemmas.Bool.{and_parts, ltb-true}
 use Rattle.export_machine.specs.Step.{happens}
 use Rattle.export_machine.specs.declared.event.Event.TheVariants.{Froze}
 use Rattle.export_machine.specs.Kept.{world_of, indexes_of, has_room}
 use Rattle.export_machine.proofs.Indexing.{froze_indexed}
-use Rattle.export_machine.proofs.Accepted.{room_left, as_exporter, froze_order, froze_state}
+use Rattle.export_machine.proofs.Accepted.{room_left, froze_state}
 use Rattle.export_machine.proofs.records.Records.froze.Goals as goal
-
-pub index_mut-requires : goal.index_mut-requires
-index_mut-requires c =
-    let near : c.args.export < length c.args.self.now.exporters.items = as_exporter (world_of c.args.self.now) c.requires.kept.reached c.args.export (froze_order (world_of c.args.self.now) c.args.export c.requires.accepted) in
-    omega arith
 
 pub send-requires-clause-room : goal.send-requires-clause-room
 unfolding has_room
@@ -21,8 +16,8 @@ send-requires-clause-few c = let left = room_left (world_of c.args.self.now) (Fr
 
 pub returns-clause-effect : goal.returns-clause-effect
 unfolding happens
-returns-clause-effect c = rw (c.send.ensures.items, c.send.ensures.reply) refl
+returns-clause-effect c = rw (c.send.ensures.items, c.send.ensures.reply, c.set_exporter.ensures) refl
 
 pub returns-clause-indexed : goal.returns-clause-indexed
 returns-clause-indexed c =
-    froze_indexed (world_of c.args.self.now) (indexes_of c.args.self.now) c.args.export c.requires.kept.indexed (froze_state (world_of c.args.self.now) c.args.export c.requires.accepted) c.send.new.sent.items
+    rw c.set_exporter.ensures (froze_indexed (world_of c.args.self.now) (indexes_of c.args.self.now) c.args.export c.requires.kept.indexed (froze_state (world_of c.args.self.now) c.args.export c.requires.accepted) c.send.new.sent.items)

@@ -12,7 +12,7 @@ returns-clause-indexed c =
     let w = world_of c.args.self.now in
     let i = indexes_of c.args.self.now in
     let kept = λ (l : List ℕ). filter (is_open_at c.args.rank w.orders w.exporters w.importers i.dropped) l in
-    let left : c.keep.new.listed.items ≡ kept c.index_mut.result.now.items = rw (c.deref.ensures.value, c.deref-2.ensures.value, c.deref-3.ensures.value, c.deref-4.ensures.value) at c.keep.ensures in
+    let left : c.keep.new.listed.items ≡ kept c.index_mut.result.now.items = c.keep.ensures in
     let near : c.args.rank < length i.open_at = omega (arith, c.requires.near, length-map c.args.self.now.open_at.items (λ l. l.items)) in
     rw (list_set kept c.args.self.now.open_at.items c.number.result c.args.rank c.keep.new.listed c.index_mut.result.now c.number.ensures.value c.requires.near c.index_mut.ensures.value left)
     (relisted w i c.requires.indexed _

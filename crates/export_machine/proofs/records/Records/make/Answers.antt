@@ -1,10 +1,11 @@
-use Rattle.std.proofs.Common.{◌≡◌, ◌<◌, ◌≤◌, ◌++◌, ◌∷◌, [], ℕ, Some, None, length, get_or, refl, sym, ap, ◌∙◌, arith}
+use Rattle.std.proofs.Common.{◌≡◌, ◌<◌, ◌≤◌, ℕ, Some, None, length, refl, sym, ap, ◌∙◌, arith}
 use Rattle.std.proofs.lemmas.Bool.{and_parts, ltb-true}
 use Rattle.std.proofs.lemmas.List.{length-map}
 use Rattle.export_machine.specs.Authority.{authority}
 use Rattle.export_machine.specs.Step.{happens, is_child}
 use Rattle.export_machine.specs.Kept.{world_of, indexes_of, has_room, entered_at, children_of, has_entry_places}
-use Rattle.export_machine.proofs.Growing.{made_indexed, children_is, count_within}
+use Rattle.export_machine.proofs.Views.{length_push}
+use Rattle.export_machine.proofs.Growing.{made_indexed, children_are, count_within}
 use Rattle.export_machine.proofs.Accepted.{as_rank, made_parent, made_few, made_has}
 use Rattle.export_machine.proofs.records.Records.make.Goals as goal
 
@@ -29,54 +30,36 @@ enter-requires-clause-room c =
 
 pub push_reserved-requires : goal.push_reserved-requires
 unfolding has_room entered_at
-push_reserved-requires c = ltb-true _ _ (and_parts _ _ (and_parts _ _ (and_parts _ _ (and_parts _ _ (and_parts _ _ (and_parts _ _ (and_parts _ _ c.requires.room).1).0).0).0).0).0).0
+push_reserved-requires c = record { room = (and_parts _ _ (and_parts _ _ c.requires.room).1).0 }
 
 pub push_reserved-requires-2 : goal.push_reserved-requires-2
 unfolding has_room entered_at
-push_reserved-requires-2 c = ltb-true _ _ (and_parts _ _ (and_parts _ _ (and_parts _ _ (and_parts _ _ (and_parts _ _ (and_parts _ _ (and_parts _ _ c.requires.room).1).0).0).0).0).0).1
+push_reserved-requires-2 c = ltb-true _ _ (and_parts _ _ (and_parts _ _ c.requires.room).1).1
 
-pub push_reserved-requires-3 : goal.push_reserved-requires-3
-unfolding has_room entered_at
-push_reserved-requires-3 c = ltb-true _ _ (and_parts _ _ (and_parts _ _ (and_parts _ _ (and_parts _ _ (and_parts _ _ (and_parts _ _ c.requires.room).1).0).0).0).0).1
+pub add_child-requires-clause-near : goal.add_child-requires-clause-near
+add_child-requires-clause-near c =
+    let p : c.args.parent < length c.args.self.now.dirs.parents = made_parent (world_of c.args.self.now) c.args.parent c.requires.accepted in
+    rw (c.push_reserved.ensures, length_push c.args.self.now.dirs.children 0, c.requires.kept.indexed.children_places) (omega arith)
 
-pub push_reserved-requires-4 : goal.push_reserved-requires-4
-unfolding has_room entered_at
-push_reserved-requires-4 c = ltb-true _ _ (and_parts _ _ (and_parts _ _ (and_parts _ _ (and_parts _ _ (and_parts _ _ c.requires.room).1).0).0).0).1
-
-pub push_reserved-requires-5 : goal.push_reserved-requires-5
-unfolding has_room entered_at
-push_reserved-requires-5 c = ltb-true _ _ (and_parts _ _ (and_parts _ _ (and_parts _ _ (and_parts _ _ c.requires.room).1).0).0).1
-
-pub push_reserved-requires-6 : goal.push_reserved-requires-6
-unfolding has_room entered_at
-push_reserved-requires-6 c = ltb-true _ _ (and_parts _ _ (and_parts _ _ (and_parts _ _ c.requires.room).1).0).1
-
-pub push_reserved-requires-7 : goal.push_reserved-requires-7
-unfolding has_room entered_at
-push_reserved-requires-7 c = ltb-true _ _ (and_parts _ _ (and_parts _ _ c.requires.room).1).1
-
-pub overflow_add-index_mut : goal.overflow_add-index_mut
-overflow_add-index_mut c =
-    let p : c.args.parent < length c.args.self.now.parents.items = made_parent (world_of c.args.self.now) c.args.parent c.requires.accepted in
-    let few : length c.args.self.now.parents.items < c.args.self.now.limit = made_few (world_of c.args.self.now) c.args.parent c.requires.accepted in
-    let e : c.index_mut.result.now ≡ get_or (c.args.self.now.children.items ++ 0 ∷ []) c.args.parent c.index_mut.result.now = rw (← c.push_reserved-6.ensures.items, ← c.number.ensures) c.index_mut.ensures.value in
-    let k : c.index_mut.result.now ≡ children_of (world_of c.args.self.now) c.args.parent = children_is (world_of c.args.self.now) (indexes_of c.args.self.now) c.args.parent c.index_mut.result.now c.requires.kept.indexed p e in
-    let m : children_of (world_of c.args.self.now) c.args.parent ≤ length c.args.self.now.parents.items = count_within (is_child c.args.parent) c.args.self.now.parents.items in
-    let l : c.index_mut.result.now ≤ length c.args.self.now.parents.items = rw k m in
-    omega arith
+pub add_child-requires-clause-few : goal.add_child-requires-clause-few
+add_child-requires-clause-few c =
+    let w = world_of c.args.self.now in
+    let p : c.args.parent < length c.args.self.now.dirs.parents = made_parent w c.args.parent c.requires.accepted in
+    let few : length c.args.self.now.dirs.parents < c.args.self.now.limit = made_few w c.args.parent c.requires.accepted in
+    let m : children_of w c.args.parent ≤ length c.args.self.now.dirs.parents = count_within (is_child c.args.parent) c.args.self.now.dirs.parents in
+    rw (c.push_reserved.ensures, children_are w (indexes_of c.args.self.now) c.args.parent c.requires.kept.indexed p) (omega (arith, c.requires.kept.few_dirs))
 
 pub returns-clause-effect : goal.returns-clause-effect
 unfolding happens
 returns-clause-effect c =
     let a : authority (world_of c.args.self.now) c.args.parent ≡ Some c.in-Some.rank = sym c.authority.ensures ∙ c.in-Some.is in
-    let n : c.new-dir.result ≡ length c.args.self.now.parents.items = omega arith in
-    rw (a, c.enter.ensures.entered, c.push_reserved.ensures.items, c.push_reserved-2.ensures.items, n) refl
+    let n : c.new-dir.result ≡ length c.args.self.now.dirs.parents = omega arith in
+    rw (a, c.enter.ensures.entered, c.add_child.ensures, c.push_reserved.ensures, n) refl
 
 pub returns-clause-indexed : goal.returns-clause-indexed
 returns-clause-indexed c =
-    let p : c.args.parent < length c.args.self.now.parents.items = made_parent (world_of c.args.self.now) c.args.parent c.requires.accepted in
+    let p : c.args.parent < length c.args.self.now.dirs.parents = made_parent (world_of c.args.self.now) c.args.parent c.requires.accepted in
     let k : c.in-Some.rank < length (world_of c.args.self.now).journals = as_rank (world_of c.args.self.now) c.requires.kept.reached c.args.parent c.in-Some.rank (sym c.authority.ensures ∙ c.in-Some.is) in
-    let n : c.new-dir.result ≡ length c.args.self.now.parents.items = omega arith in
-    let e : c.index_mut.result.now ≡ get_or (c.args.self.now.children.items ++ 0 ∷ []) c.args.parent c.index_mut.result.now = rw (← c.push_reserved-6.ensures.items, ← c.number.ensures) c.index_mut.ensures.value in
-    rw (c.enter.ensures.entered, c.push_reserved.ensures.items, c.push_reserved-2.ensures.items, c.push_reserved-3.ensures.items, c.push_reserved-4.ensures.items, c.push_reserved-5.ensures.items, c.push_reserved-6.ensures.items, c.push_reserved-7.ensures.items, c.number.ensures, n)
-    (made_indexed (world_of c.args.self.now) c.in-Some.rank c.args.parent k c.requires.kept.reached (indexes_of c.args.self.now) c.requires.kept.indexed p c.index_mut.result.now e)
+    let n : c.new-dir.result ≡ length c.args.self.now.dirs.parents = omega arith in
+    rw (c.enter.ensures.entered, c.add_child.ensures, c.push_reserved.ensures, c.push_reserved-2.ensures.items, n)
+    (made_indexed (world_of c.args.self.now) c.in-Some.rank c.args.parent k c.requires.kept.reached (indexes_of c.args.self.now) c.requires.kept.indexed p)

@@ -1,46 +1,41 @@
 use Rattle.std.proofs.Common.{◌≡◌, ◌<◌, ℕ, cond, List, length, Some, refl, sym, ap, ◌∙◌, arith}
 use Rattle.std.proofs.lemmas.Bool.{and_parts, ltb-true}
 use Rattle.std.proofs.lemmas.List.{length-map}
+use Rattle.mds_types.specs.declared.order.Order.{Order}
+use Rattle.export_machine.specs.ExportColumns.{ExportColumns}
 use Rattle.export_machine.specs.Authority.{from_of, to_of, is_among, order_in}
 use Rattle.export_machine.specs.Step.{happens, map_at}
 use Rattle.export_machine.specs.declared.event.Event.TheVariants.{Notify}
 use Rattle.export_machine.specs.Kept.{world_of, indexes_of, has_room, entered_at}
-use Rattle.export_machine.proofs.Accepted.{room_left, as_exporter, exporter_rank, from_here, to_here, dirs_here, notify_order, notify_state}
+use Rattle.export_machine.proofs.Accepted.{room_left, exporter_rank, notify_order, notify_state}
 use Rattle.export_machine.proofs.Rows.{notify_there, notify_indexed}
 use Rattle.export_machine.proofs.records.Records.notify.Goals as goal
 
-pub index_mut-requires : goal.index_mut-requires
-index_mut-requires c =
-    let near : c.args.export < length c.args.self.now.exporters.items = as_exporter (world_of c.args.self.now) c.requires.kept.reached c.args.export (notify_order (world_of c.args.self.now) c.args.export c.requires.accepted) in
-    omega arith
-
-pub index-order-requires : goal.index-order-requires
-index-order-requires c =
-    let near : c.args.export < length c.args.self.now.orders.items = notify_order (world_of c.args.self.now) c.args.export c.requires.accepted in
-    omega arith
+pub order-order-requires : goal.order-order-requires
+order-order-requires c = record { near = rw c.set_exporter.ensures (notify_order (world_of c.args.self.now) c.args.export c.requires.accepted) }
 
 pub enter-requires-clause-near : goal.enter-requires-clause-near
 enter-requires-clause-near c =
     let order = notify_order (world_of c.args.self.now) c.args.export c.requires.accepted in
-    let near : c.args.export < length c.args.self.now.orders.items = order in
-    let t : from_of (world_of c.args.self.now) c.args.export ≡ c.index-order.result.now.from = from_here c.args.self.now.orders.items c.args.export c.index-order.result.now near c.index-order.ensures in
-    let k : c.index-order.result.now.from < length (world_of c.args.self.now).journals = rw (← t) (exporter_rank (world_of c.args.self.now) c.requires.kept.reached c.args.export order) in
+    let here : order_in c.args.self.now.exports.orders c.args.export ≡ c.order-order.result.now = sym (c.order-order.ensures ∙ ap (λ (t : ExportColumns). order_in t.orders c.args.export) c.set_exporter.ensures) in
+    let t : from_of (world_of c.args.self.now) c.args.export ≡ c.order-order.result.now.from = ap (λ (o : Order). o.from) here in
+    let k : c.order-order.result.now.from < length (world_of c.args.self.now).journals = rw (← t) (exporter_rank (world_of c.args.self.now) c.requires.kept.reached c.args.export order) in
     omega (arith, length-map c.args.self.now.journals.items (λ j. j.items))
 
 pub enter-requires-clause-room : goal.enter-requires-clause-room
 unfolding has_room entered_at
 enter-requires-clause-room c =
     let order = notify_order (world_of c.args.self.now) c.args.export c.requires.accepted in
-    let near : c.args.export < length c.args.self.now.orders.items = order in
-    let t : from_of (world_of c.args.self.now) c.args.export ≡ c.index-order.result.now.from = from_here c.args.self.now.orders.items c.args.export c.index-order.result.now near c.index-order.ensures in
+    let here : order_in c.args.self.now.exports.orders c.args.export ≡ c.order-order.result.now = sym (c.order-order.ensures ∙ ap (λ (t : ExportColumns). order_in t.orders c.args.export) c.set_exporter.ensures) in
+    let t : from_of (world_of c.args.self.now) c.args.export ≡ c.order-order.result.now.from = ap (λ (o : Order). o.from) here in
     rw (← t) (and_parts _ _ (and_parts _ _ c.requires.room).0).0
 
-pub mark-requires : goal.mark-requires
-mark-requires c =
+pub mark_named-requires : goal.mark_named-requires
+mark_named-requires c =
     let order = notify_order (world_of c.args.self.now) c.args.export c.requires.accepted in
-    let near : c.args.export < length c.args.self.now.orders.items = order in
-    let f : (order_in c.args.self.now.orders.items c.args.export).dirs ≡ c.as_slice.result.now =
-    dirs_here c.args.self.now.orders.items c.args.export c.index-order.result.now near c.index-order.ensures ∙ sym c.as_slice.ensures in
+    let here : order_in c.args.self.now.exports.orders c.args.export ≡ c.order-order.result.now = sym (c.order-order.ensures ∙ ap (λ (t : ExportColumns). order_in t.orders c.args.export) c.set_exporter.ensures) in
+    let f : (order_in c.args.self.now.exports.orders c.args.export).dirs ≡ c.as_slice.result.now =
+    ap (λ (o : Order). o.dirs) here ∙ sym c.as_slice.ensures in
     record {
       near = λ d h. notify_there (world_of c.args.self.now) c.requires.kept.reached c.args.export (notify_state (world_of c.args.self.now) c.args.export c.requires.accepted) d (ap (λ (ds : List ℕ). is_among ds d) f ∙ h);
     }
@@ -56,26 +51,28 @@ pub returns-clause-effect : goal.returns-clause-effect
 unfolding happens
 returns-clause-effect c =
     let order = notify_order (world_of c.args.self.now) c.args.export c.requires.accepted in
-    let near : c.args.export < length c.args.self.now.orders.items = order in
-    let t : from_of (world_of c.args.self.now) c.args.export ≡ c.index-order.result.now.from = from_here c.args.self.now.orders.items c.args.export c.index-order.result.now near c.index-order.ensures in
-    let u : to_of (world_of c.args.self.now) c.args.export ≡ c.index-order.result.now.to = to_here c.args.self.now.orders.items c.args.export c.index-order.result.now near c.index-order.ensures in
-    let f : (order_in c.args.self.now.orders.items c.args.export).dirs ≡ c.as_slice.result.now =
-    dirs_here c.args.self.now.orders.items c.args.export c.index-order.result.now near c.index-order.ensures ∙ sym c.as_slice.ensures in
-    let m : map_at (λ k old. cond (is_among (order_in c.args.self.now.orders.items c.args.export).dirs k) (Some (to_of (world_of c.args.self.now) c.args.export)) old) c.args.self.now.named.items ≡ c.mark.new.table.items =
-    ap (λ (ds : List ℕ). map_at (λ k old. cond (is_among ds k) (Some (to_of (world_of c.args.self.now) c.args.export)) old) c.args.self.now.named.items) f
-    ∙ (ap (λ (s : ℕ). map_at (λ k old. cond (is_among c.as_slice.result.now k) (Some s) old) c.args.self.now.named.items) u ∙ sym c.mark.ensures) in
-    rw (c.send.ensures.items, c.send.ensures.reply, c.enter.ensures.entered, ← t, ← m) refl
+    let here : order_in c.args.self.now.exports.orders c.args.export ≡ c.order-order.result.now = sym (c.order-order.ensures ∙ ap (λ (t : ExportColumns). order_in t.orders c.args.export) c.set_exporter.ensures) in
+    let t : from_of (world_of c.args.self.now) c.args.export ≡ c.order-order.result.now.from = ap (λ (o : Order). o.from) here in
+    let u : to_of (world_of c.args.self.now) c.args.export ≡ c.order-order.result.now.to = ap (λ (o : Order). o.to) here in
+    let f : (order_in c.args.self.now.exports.orders c.args.export).dirs ≡ c.as_slice.result.now =
+    ap (λ (o : Order). o.dirs) here ∙ sym c.as_slice.ensures in
+    let dirs = c.args.self.now.dirs in
+    let m : record dirs { named = map_at (λ k old. cond (is_among (order_in c.args.self.now.exports.orders c.args.export).dirs k) (Some (to_of (world_of c.args.self.now) c.args.export)) old) dirs.named } ≡ c.mark_named.new.self =
+    ap (λ (ds : List ℕ). record dirs { named = map_at (λ k old. cond (is_among ds k) (Some (to_of (world_of c.args.self.now) c.args.export)) old) dirs.named }) f
+    ∙ (ap (λ (s : ℕ). record dirs { named = map_at (λ k old. cond (is_among c.as_slice.result.now k) (Some s) old) dirs.named }) u ∙ sym c.mark_named.ensures) in
+    rw (c.send.ensures.items, c.send.ensures.reply, c.enter.ensures.entered, ← t, ← m, c.set_exporter.ensures) refl
 
 pub returns-clause-indexed : goal.returns-clause-indexed
 returns-clause-indexed c =
     let order = notify_order (world_of c.args.self.now) c.args.export c.requires.accepted in
-    let near : c.args.export < length c.args.self.now.orders.items = order in
-    let t : from_of (world_of c.args.self.now) c.args.export ≡ c.index-order.result.now.from = from_here c.args.self.now.orders.items c.args.export c.index-order.result.now near c.index-order.ensures in
-    let u : to_of (world_of c.args.self.now) c.args.export ≡ c.index-order.result.now.to = to_here c.args.self.now.orders.items c.args.export c.index-order.result.now near c.index-order.ensures in
-    let f : (order_in c.args.self.now.orders.items c.args.export).dirs ≡ c.as_slice.result.now =
-    dirs_here c.args.self.now.orders.items c.args.export c.index-order.result.now near c.index-order.ensures ∙ sym c.as_slice.ensures in
-    let m : map_at (λ k old. cond (is_among (order_in c.args.self.now.orders.items c.args.export).dirs k) (Some (to_of (world_of c.args.self.now) c.args.export)) old) c.args.self.now.named.items ≡ c.mark.new.table.items =
-    ap (λ (ds : List ℕ). map_at (λ k old. cond (is_among ds k) (Some (to_of (world_of c.args.self.now) c.args.export)) old) c.args.self.now.named.items) f
-    ∙ (ap (λ (s : ℕ). map_at (λ k old. cond (is_among c.as_slice.result.now k) (Some s) old) c.args.self.now.named.items) u ∙ sym c.mark.ensures) in
-    rw (c.enter.ensures.entered, ← t, ← m) (notify_indexed (world_of c.args.self.now) c.args.export (notify_state (world_of c.args.self.now) c.args.export c.requires.accepted)
+    let here : order_in c.args.self.now.exports.orders c.args.export ≡ c.order-order.result.now = sym (c.order-order.ensures ∙ ap (λ (t : ExportColumns). order_in t.orders c.args.export) c.set_exporter.ensures) in
+    let t : from_of (world_of c.args.self.now) c.args.export ≡ c.order-order.result.now.from = ap (λ (o : Order). o.from) here in
+    let u : to_of (world_of c.args.self.now) c.args.export ≡ c.order-order.result.now.to = ap (λ (o : Order). o.to) here in
+    let f : (order_in c.args.self.now.exports.orders c.args.export).dirs ≡ c.as_slice.result.now =
+    ap (λ (o : Order). o.dirs) here ∙ sym c.as_slice.ensures in
+    let dirs = c.args.self.now.dirs in
+    let m : record dirs { named = map_at (λ k old. cond (is_among (order_in c.args.self.now.exports.orders c.args.export).dirs k) (Some (to_of (world_of c.args.self.now) c.args.export)) old) dirs.named } ≡ c.mark_named.new.self =
+    ap (λ (ds : List ℕ). record dirs { named = map_at (λ k old. cond (is_among ds k) (Some (to_of (world_of c.args.self.now) c.args.export)) old) dirs.named }) f
+    ∙ (ap (λ (s : ℕ). record dirs { named = map_at (λ k old. cond (is_among c.as_slice.result.now k) (Some s) old) dirs.named }) u ∙ sym c.mark_named.ensures) in
+    rw (c.enter.ensures.entered, ← t, ← m, c.set_exporter.ensures) (notify_indexed (world_of c.args.self.now) c.args.export (notify_state (world_of c.args.self.now) c.args.export c.requires.accepted)
     (exporter_rank (world_of c.args.self.now) c.requires.kept.reached c.args.export order) c.send.new.sent.items c.requires.kept.reached (indexes_of c.args.self.now) c.requires.kept.indexed)

@@ -5,4 +5,4 @@ use Rattle.export_machine.proofs.records.Records.roots.Goals as goal
 
 pub returns : goal.returns
 unfolding roots
-returns c = (let e : c.loop-number.number ≡ length c.args.self.now.parents.items = omega arith in c.loop-number.invariant.found ∙ ap (roots_below (world_of c.args.self.now)) e)
+returns c = (let e : c.loop-number.number ≡ length c.args.self.now.dirs.parents = omega arith in c.loop-number.invariant.found ∙ ap (roots_below (world_of c.args.self.now)) e)

@@ -5,4 +5,4 @@ use Rattle.export_machine.proofs.records.Records.roots.Given as goal
 
 -- the roots so far
 abbrev pub invariant-loop-number : goal.invariant-loop-number
-invariant-loop-number l = record { found : l.found.items ≡ roots_below (world_of l.self) l.number; within : l.number ≤ length l.self.parents.items }
+invariant-loop-number l = record { found : l.found.items ≡ roots_below (world_of l.self) l.number; within : l.number ≤ length l.self.dirs.parents }

@@ -13,8 +13,8 @@ overflow_cast-export c =
     let few : length (world_of c.args.self.now).orders < 65536 = start_few (world_of c.args.self.now) c.args.from c.args.to c.args.dirs c.requires.accepted in
     omega arith
 
-pub mark-requires : goal.mark-requires
-mark-requires c =
+pub mark_opened-requires : goal.mark_opened-requires
+mark_opened-requires c =
     record {
       near = λ d h. rw c.requires.kept.indexed.opened_places
           (start_there (world_of c.args.self.now) c.args.from c.args.to c.args.dirs c.requires.accepted d (ap (λ (ds : List ℕ). is_among ds d) (sym c.as_slice.ensures) ∙ h));
@@ -22,23 +22,11 @@ mark-requires c =
 
 pub push_reserved-requires : goal.push_reserved-requires
 unfolding has_room
-push_reserved-requires c = ltb-true _ _ (and_parts _ _ (and_parts _ _ (and_parts _ _ (and_parts _ _ (and_parts _ _ (and_parts _ _ c.requires.room).1).0).0).0).0).0
+push_reserved-requires c = record { room = (and_parts _ _ (and_parts _ _ (and_parts _ _ c.requires.room).1).0).0 }
 
 pub push_reserved-requires-2 : goal.push_reserved-requires-2
 unfolding has_room
-push_reserved-requires-2 c = ltb-true _ _ (and_parts _ _ (and_parts _ _ (and_parts _ _ (and_parts _ _ (and_parts _ _ (and_parts _ _ c.requires.room).1).0).0).0).0).1
-
-pub push_reserved-requires-3 : goal.push_reserved-requires-3
-unfolding has_room
-push_reserved-requires-3 c = ltb-true _ _ (and_parts _ _ (and_parts _ _ (and_parts _ _ (and_parts _ _ (and_parts _ _ c.requires.room).1).0).0).0).1
-
-pub push_reserved-requires-4 : goal.push_reserved-requires-4
-unfolding has_room
-push_reserved-requires-4 c = ltb-true _ _ (and_parts _ _ (and_parts _ _ (and_parts _ _ (and_parts _ _ c.requires.room).1).0).0).1
-
-pub push_reserved-requires-5 : goal.push_reserved-requires-5
-unfolding has_room
-push_reserved-requires-5 c = ltb-true _ _ (and_parts _ _ (and_parts _ _ (and_parts _ _ c.requires.room).1).0).1
+push_reserved-requires-2 c = ltb-true _ _ (and_parts _ _ (and_parts _ _ (and_parts _ _ c.requires.room).1).0).1
 
 pub enter-requires-clause-near : goal.enter-requires-clause-near
 enter-requires-clause-near c =
@@ -52,28 +40,24 @@ enter-requires-clause-room c = all_spare c.args.self.now.open_at.items (and_part
 pub returns-clause-effect : goal.returns-clause-effect
 unfolding happens
 returns-clause-effect c =
-    let n : length c.args.self.now.orders.items ≡ c.len-export.result = omega arith in
+    let n : length c.args.self.now.exports.orders ≡ c.len-export.result = omega arith in
     let m : length c.args.self.now.sent.items ≡ c.len-message.result = omega arith in
     rw (
       n,
       m,
-      c.push_reserved.ensures.items,
+      c.push_reserved.ensures,
       c.push_reserved-2.ensures.items,
-      c.push_reserved-3.ensures.items,
-      c.push_reserved-4.ensures.items,
+      c.mark_opened.ensures,
     ) refl
 
 pub returns-clause-indexed : goal.returns-clause-indexed
 returns-clause-indexed c =
-    let n : c.len-export.result ≡ length c.args.self.now.orders.items = omega arith in
+    let n : c.len-export.result ≡ length c.args.self.now.exports.orders = omega arith in
     rw (
-      c.push_reserved.ensures.items,
+      c.push_reserved.ensures,
       c.push_reserved-2.ensures.items,
-      c.push_reserved-3.ensures.items,
-      c.push_reserved-4.ensures.items,
-      c.push_reserved-5.ensures.items,
       c.enter.ensures.entered,
-      c.mark.ensures,
+      c.mark_opened.ensures,
       c.as_slice.ensures,
       n,
     )

@@ -26,8 +26,8 @@ pub halt_imports-requires-clause-near : goal.halt_imports-requires-clause-near
 halt_imports-requires-clause-near c =
     let w = world_of c.args.self.now in
     let as_many : length w.importers ≡ length w.orders = numbers_by w c.requires.kept.reached (length w.importers) (length w.orders) (λ safe. safe.importing) in
-    ap (λ (r : Records). length r.importers.items) c.halt_exports.ensures.others
-    ∙ (as_many ∙ sym (ap (λ (r : Records). length r.orders.items) c.halt_exports.ensures.others))
+    ap (λ (r : Records). length r.exports.importers) c.halt_exports.ensures.others
+    ∙ (as_many ∙ sym (ap (λ (r : Records). length r.exports.orders) c.halt_exports.ensures.others))
 
 pub halt_imports-requires-clause-ranked : goal.halt_imports-requires-clause-ranked
 halt_imports-requires-clause-ranked c =
@@ -54,24 +54,24 @@ keep_open-requires-clause-indexed c =
     let mid = world_of c.halt_exports.new.self in
     let i = indexes_of c.halt_exports.new.self in
     subst (λ (r : Records). IsIndexed (world_of r) (indexes_of r)) (sym c.halt_imports.ensures.others)
-    (importer_indexed mid i c.halt_exports.ensures.indexed c.halt_imports.new.self.importers.items c.halt_exports.new.self.sent.items i.open_at
+    (importer_indexed mid i c.halt_exports.ensures.indexed c.halt_imports.new.self.exports.importers c.halt_exports.new.self.sent.items i.open_at
     (subst (λ (is : List ImporterState). AreListed mid.ranks mid.orders mid.exporters is mid.journals i.open_at i.dropped) (sym c.halt_imports.ensures.importers) (left_listed mid i c.args.rank c.halt_exports.ensures.indexed)))
 
 pub keep_open-requires-clause-exporting : goal.keep_open-requires-clause-exporting
 keep_open-requires-clause-exporting c =
     let w = world_of c.args.self.now in
     let as_many : length w.exporters ≡ length w.orders = numbers_by w c.requires.kept.reached (length w.exporters) (length w.orders) (λ safe. safe.exporting) in
-    let same : length c.halt_exports.new.self.exporters.items ≡ length w.exporters = ap length c.halt_exports.ensures.exporters ∙ map_at_length _ w.exporters in
-    ap (λ (r : Records). length r.exporters.items) c.halt_imports.ensures.others
-    ∙ (same ∙ (as_many ∙ sym (ap (λ (r : Records). length r.orders.items) c.halt_imports.ensures.others ∙ ap (λ (r : Records). length r.orders.items) c.halt_exports.ensures.others)))
+    let same : length c.halt_exports.new.self.exports.exporters ≡ length w.exporters = ap length c.halt_exports.ensures.exporters ∙ map_at_length _ w.exporters in
+    ap (λ (r : Records). length r.exports.exporters) c.halt_imports.ensures.others
+    ∙ (same ∙ (as_many ∙ sym (ap (λ (r : Records). length r.exports.orders) c.halt_imports.ensures.others ∙ ap (λ (r : Records). length r.exports.orders) c.halt_exports.ensures.others)))
 
 pub keep_open-requires-clause-importing : goal.keep_open-requires-clause-importing
 keep_open-requires-clause-importing c =
     let w = world_of c.args.self.now in
     let as_many : length w.importers ≡ length w.orders = numbers_by w c.requires.kept.reached (length w.importers) (length w.orders) (λ safe. safe.importing) in
-    let same : length c.halt_imports.new.self.importers.items ≡ length c.halt_exports.new.self.importers.items = ap length c.halt_imports.ensures.importers ∙ map_at_length _ c.halt_exports.new.self.importers.items in
-    same ∙ (ap (λ (r : Records). length r.importers.items) c.halt_exports.ensures.others
-    ∙ (as_many ∙ sym (ap (λ (r : Records). length r.orders.items) c.halt_imports.ensures.others ∙ ap (λ (r : Records). length r.orders.items) c.halt_exports.ensures.others)))
+    let same : length c.halt_imports.new.self.exports.importers ≡ length c.halt_exports.new.self.exports.importers = ap length c.halt_imports.ensures.importers ∙ map_at_length _ c.halt_exports.new.self.exports.importers in
+    same ∙ (ap (λ (r : Records). length r.exports.importers) c.halt_exports.ensures.others
+    ∙ (as_many ∙ sym (ap (λ (r : Records). length r.exports.orders) c.halt_imports.ensures.others ∙ ap (λ (r : Records). length r.exports.orders) c.halt_exports.ensures.others)))
 
 pub end_requests-requires-clause-near : goal.end_requests-requires-clause-near
 end_requests-requires-clause-near c =

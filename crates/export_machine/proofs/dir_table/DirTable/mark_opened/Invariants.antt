@@ -1,8 +1,8 @@
 use Rattle.std.proofs.Common.{◌≡◌, cond, take}
 use Rattle.export_machine.specs.Authority.{is_among}
 use Rattle.export_machine.specs.Step.{map_at}
-use Rattle.export_machine.proofs.changes.mark.Given as goal
+use Rattle.export_machine.proofs.dir_table.DirTable.mark_opened.Given as goal
 
 -- the directories so far have the new value
 abbrev pub invariant-loop-dir : goal.invariant-loop-dir
-invariant-loop-dir g l = l.table.items ≡ map_at (λ d old. cond (is_among (take l.dir-index l.dirs) d) l.value old) l.initial.table.items
+invariant-loop-dir l = l.self ≡ record l.fn.self { opened = map_at (λ d old. cond (is_among (take l.dir-index l.dirs) d) l.export old) l.fn.self.opened }
