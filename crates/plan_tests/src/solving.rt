@@ -112,7 +112,7 @@ fn compare<R: Abort + AllocGlobal + Threads + Sync>(
     let plan = solved(rt, alloc, problem)?;
     let rows = problem.rows();
     assert!(rt; rows.len() <= 8);
-    same(rt, &plan.part.len(), &rows.len());
+    assert!(rt; plan.part.len() == rows.len());
     let parts = plan.rank.len() as u32;
     assert!(rt; parts <= 3);
     same_in(rt, &plan.greatest, &least_greatest_heat(rows, ranks), &rows);
@@ -177,7 +177,7 @@ fn change(plan: &mut Plan, random: &mut Random) {
 fn is_best_by_trial<R: Abort>(rt: &R, problem: &Problem, plan: &Plan) -> bool {
     let rows = problem.rows();
     assert!(rt; rows.len() <= 8);
-    same(rt, &plan.part.len(), &rows.len());
+    assert!(rt; plan.part.len() == rows.len());
     let parts = plan.rank.len() as u32;
     assert!(rt; parts <= 2);
     plan.greatest == least_greatest_heat(rows, 2)

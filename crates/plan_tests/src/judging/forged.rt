@@ -267,7 +267,7 @@ fn judges_lists_of_other_lengths(rt: HostRuntime) -> Result<(), Fail> {
         }
     }
     let mut more = plan_of(alloc, &TRUE_CLAIM)?;
-    same(&rt, &more.rank.len(), &2);
+    assert!(rt; more.rank.len() == 2);
     more.rank.push(Rank::new(2).ok_or("no rank")?);
     holds_in(
         &rt,
