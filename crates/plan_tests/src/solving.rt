@@ -5,7 +5,7 @@
 ghost use Rattle.std.specs.Prelude.{◌<◌};
 
 use crate::given::{Given, at_last, problem};
-use crate::same::{holds_in, same, same_in};
+use crate::same::{holds_in, same_in};
 use exhaustive::{Random, fewest_moved, least_greatest_heat};
 use mds_types::{CutProof, Plan, Problem, RankSet};
 use plan_checker::check;

@@ -2,7 +2,7 @@
 
 use super::{CHAIN, judged};
 use crate::given::{InTable, at_last, list_of, problem, table};
-use crate::same::{holds_in, same, same_in};
+use crate::same::{holds_in, same_in};
 use arrayvec::ArrayVec;
 use mds_types::{CutProof, DualProof, Plan, Problem, Rank};
 use std::alloc::Global;
