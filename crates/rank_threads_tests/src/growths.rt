@@ -252,11 +252,7 @@ fn a_refused_growth_of_outcomes_changes_nothing(rt: HostRuntime) -> Result<(), F
     same(&rt, &outcomes.len(), &2);
     let stood = [(1, first_one, later_one), (2, first_two, later_two)];
     for (outcome, (to, first, later)) in outcomes.iter().zip(stood) {
-        holds_in(
-            &rt,
-            stands(outcome, to, first, later),
-            &(outcome, first, later),
-        );
+        holds_in(&rt, stands(outcome, to, first, later), &to);
     }
     Ok(())
 }
