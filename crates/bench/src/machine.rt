@@ -32,7 +32,7 @@ const RUNNING: u32 = 1_000;
 
 /// An event with its answer.
 #[derive(Drop)]
-struct Entry {
+struct KeptAnswer {
     event: Event,
     answer: Result<Reply, StepError>,
 }
@@ -60,7 +60,11 @@ fn prepared(alloc: Global, before: &[Event]) -> io::Result<Cluster> {
 }
 
 /// The time of one run that keeps each event with its answer, and how many events were accepted.
-fn time_kept(rt: &HostRuntime, list: &Events, history: &mut Vec<Entry>) -> io::Result<(u128, u64)> {
+fn time_kept(
+    rt: &HostRuntime,
+    list: &Events,
+    history: &mut Vec<KeptAnswer>,
+) -> io::Result<(u128, u64)> {
     let alloc = rt.alloc();
     let mut cluster = prepared(alloc, &list.before)?;
     let todo = copies(alloc, &list.timed)?;
@@ -69,7 +73,7 @@ fn time_kept(rt: &HostRuntime, list: &Events, history: &mut Vec<Entry>) -> io::R
     for event in todo {
         let copy = event.copied(alloc)?;
         let answer = cluster.apply(event);
-        history.push(Entry {
+        history.push(KeptAnswer {
             event: copy,
             answer,
         })?;

@@ -21,7 +21,7 @@ struct MdsMapDump {
 
 /// The ranks of a file system.
 #[derive(Debug, Drop)]
-pub struct Cluster {
+pub struct FileSystemRanks {
     /// How many ranks it is to have.
     pub size: u32,
     /// The ranks that it has.
@@ -31,7 +31,7 @@ pub struct Cluster {
 }
 
 /// The ranks of a file system.
-pub fn read_cluster(alloc: Global, bytes: &[u8]) -> Result<Cluster, DumpError> {
+pub fn read_cluster(alloc: Global, bytes: &[u8]) -> Result<FileSystemRanks, DumpError> {
     let text = text_of(alloc, bytes)?;
     let dump: FileSystemDump = read_json(alloc, text.as_slice())?;
     let MdsMapDump {
@@ -39,7 +39,7 @@ pub fn read_cluster(alloc: Global, bytes: &[u8]) -> Result<Cluster, DumpError> {
         ranks,
         bal_rank_mask,
     } = dump.mdsmap;
-    Ok(Cluster {
+    Ok(FileSystemRanks {
         size: max_mds,
         ranks,
         mask: bal_rank_mask,

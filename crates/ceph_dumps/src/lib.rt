@@ -15,9 +15,9 @@ pub mod own_list;
 pub mod subtrees;
 pub mod wide_bytes;
 
-pub use cluster::{Cluster, read_cluster};
+pub use cluster::{FileSystemRanks, read_cluster};
 pub use dump_error::DumpError;
-pub use listing::{Listed, read_listing};
+pub use listing::{ListedDir, read_listing};
 pub use loads::{FragmentHeat, read_loads};
 pub use own_list::read_own_list;
 pub use subtrees::{SubtreeRoot, read_subtrees};

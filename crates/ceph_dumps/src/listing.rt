@@ -9,7 +9,7 @@ use std::alloc::{AllocError, Global};
 
 /// What a listing says of a directory: one of the two values.
 #[derive(Debug, Drop)]
-pub struct Listed {
+pub struct ListedDir {
     /// Its path: empty for the root, else it begins with a slash.
     pub path: Vec<u8>,
     /// How many files and directories it has, where that is what the line says.
@@ -58,11 +58,11 @@ fn number_of(digits: &[u8]) -> Option<u64> {
 }
 
 /// What an attribute's line says of the directory of this path, if anything.
-fn value_of(path: Vec<u8>, line: &[u8]) -> Option<Listed> {
+fn value_of(path: Vec<u8>, line: &[u8]) -> Option<ListedDir> {
     let value = line.strip_suffix(b"\"")?;
     if let Some(digits) = value.strip_prefix(b"ceph.dir.entries=\"") {
         let entries = Some(number_of(digits)?);
-        return Some(Listed {
+        return Some(ListedDir {
             path,
             entries,
             pin: None,
@@ -74,7 +74,7 @@ fn value_of(path: Vec<u8>, line: &[u8]) -> Option<Listed> {
     } else {
         Some(number_of(digits)?)
     };
-    Some(Listed {
+    Some(ListedDir {
         path,
         entries: None,
         pin,
@@ -82,7 +82,7 @@ fn value_of(path: Vec<u8>, line: &[u8]) -> Option<Listed> {
 }
 
 /// What a listing says, in its order.
-pub fn read_listing(alloc: Global, bytes: &[u8]) -> Result<Vec<Listed>, DumpError> {
+pub fn read_listing(alloc: Global, bytes: &[u8]) -> Result<Vec<ListedDir>, DumpError> {
     let mut found = Vec::new(alloc);
     let mut path = None;
     for (at, line) in bytes.split(|byte| *byte == b'\n').enumerate() {

@@ -12,4 +12,4 @@ pub mod row;
 
 pub use changes::changes_for;
 pub use pins::{are_rows, pins_for};
-pub use row::{Change, Pin, PinRow};
+pub use row::{Pin, PinChange, PinRow};

@@ -2,7 +2,7 @@
 use Rattle.std.specs.Prelude.{◌≡◌, ◌==◌, ◌<◌, ◌⊎◌, ℕ, List, length, slice_index_or, take, Some, None, if◌then◌else◌}
 use Rattle.mds_types.specs.declared.problem.ProblemRow.{ProblemRow}
 use Rattle.mds_types.specs.Problem.{parent_at}
-use Rattle.ceph_pins.specs.declared.row.Change.{Change}
+use Rattle.ceph_pins.specs.declared.row.PinChange.{PinChange}
 use Rattle.ceph_pins.specs.declared.row.PinRow.{PinRow}
 use Rattle.ceph_pins.specs.Changes.{applied, before_pin}
 use Rattle.ceph_pins.specs.Rule.{IsNearest, row_at}
@@ -34,7 +34,7 @@ pub record ArePinRows (rows : List ProblemRow) (part rank : List ℕ) (own : Lis
   pub asked : (i : ℕ) → i < n → row_at found i ≡ asked_row rows part rank own i
 
 -- after any first k changes the nearest pin of each row is on the rank of the beginning or on that of the end
-abbrev pub MovesOnce : List PinRow → List Change → Type 0
+abbrev pub MovesOnce : List PinRow → List PinChange → Type 0
 MovesOnce rows changes =
     (k i r : ℕ) → i < length rows → IsNearest rows (applied (before_pin rows) (take k changes)) i r
     → IsNearest rows (before_pin rows) i r ⊎ IsNearest rows (applied (before_pin rows) changes) i r

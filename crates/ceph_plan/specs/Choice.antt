@@ -6,8 +6,8 @@ use Rattle.mds_types.specs.declared.problem.ProblemRow.{ProblemRow}
 use Rattle.mds_types.specs.Problem.{heat_at}
 use Rattle.mds_types.specs.RankSet.{rank_count}
 use Rattle.mds_types.specs.Sums.{sum_below}
-use Rattle.ceph_plan.specs.declared.choice.Parts.{Parts}
-use Rattle.ceph_plan.specs.declared.choice.Parts.TheVariants.{AtMost, Auto}
+use Rattle.ceph_plan.specs.declared.choice.PartCount.{PartCount}
+use Rattle.ceph_plan.specs.declared.choice.PartCount.TheVariants.{AtMost, Auto}
 use Rattle.ceph_plan.specs.declared.plan.Planned.{Planned}
 use Rattle.ceph_plan.specs.declared.plan.Size.{Size}
 use Rattle.ceph_plan.specs.Plans.{IsPlan, IsPlanOf, no_cap}
@@ -81,6 +81,6 @@ pub record IsBest (ranks : ℕ) (pinned : List ℕ) (rows : List ProblemRow) (pl
   pub is : slice_get plans k ≡ Some plan
 
 -- the plan is the best of all numbers of parts, or one of the number that is asked for
-abbrev pub IsAsked : ℕ → List ℕ → List ProblemRow → Parts → Planned → Type 0
+abbrev pub IsAsked : ℕ → List ℕ → List ProblemRow → PartCount → Planned → Type 0
 IsAsked ranks pinned rows Auto plan = IsBest ranks pinned rows plan
 IsAsked ranks pinned rows (AtMost parts) plan = IsPlanOf ranks pinned rows parts no_cap plan

@@ -3,7 +3,7 @@ use Rattle.std.specs.Prelude.{ℕ, List, length}
 use Rattle.mds_types.specs.declared.problem.ProblemRow.{ProblemRow}
 use Rattle.ceph_pins.specs.Changes.{AreNeeded, applied, before_pin}
 use Rattle.ceph_pins.specs.Rule.{IsRealized}
-use Rattle.ceph_plan.specs.declared.choice.Parts.{Parts}
+use Rattle.ceph_plan.specs.declared.choice.PartCount.{PartCount}
 use Rattle.ceph_plan.specs.declared.proposal.OwnPins.{OwnPins}
 use Rattle.ceph_plan.specs.declared.proposal.Proposal.{Proposal}
 use Rattle.ceph_plan.specs.Asked.{ArePinRows, MovesOnce}
@@ -11,7 +11,7 @@ use Rattle.ceph_plan.specs.Choice.{IsAsked}
 use Rattle.ceph_plan.specs.Plans.{IsPlan}
 
 -- all that `propose` promises, in one word
-pub record IsProposal (ranks : ℕ) (pinned : List ℕ) (rows : List ProblemRow) (parts : Parts) (own : List OwnPins)
+pub record IsProposal (ranks : ℕ) (pinned : List ℕ) (rows : List ProblemRow) (parts : PartCount) (own : List OwnPins)
     (found : Proposal) : Type 0 where
   pub plan : IsPlan ranks pinned rows found.plan
   pub asked : IsAsked ranks pinned rows parts found.plan

@@ -15,7 +15,7 @@ use std::alloc::Global;
 
 /// Into how many parts the directories are divided.
 #[derive(Clone, Copy, Debug, PartialEq, Eq)]
-pub enum Parts {
+pub enum PartCount {
     /// As many as give the coolest plan, or one within 1 % of it that moves less.
     Auto,
     /// At most so many.
@@ -151,7 +151,7 @@ fn best_plan(
 pub fn choose_plan(
     alloc: Global,
     rows: &[ProblemRow],
-    parts: Parts,
+    parts: PartCount,
     pinned: &[u64],
     ranks: RankSet,
     keep: u8,
@@ -176,8 +176,8 @@ pub fn choose_plan(
     };
     let rows = problem.rows();
     match parts {
-        Parts::Auto => best_plan(alloc, rows, pinned, ranks, keep),
-        Parts::AtMost(parts) => {
+        PartCount::Auto => best_plan(alloc, rows, pinned, ranks, keep),
+        PartCount::AtMost(parts) => {
             let cap = u64::MAX;
             plan_parts(alloc, rows, Size { parts, cap }, pinned, ranks, keep)
         }

@@ -7,7 +7,7 @@ pub mod plan;
 pub mod plan_error;
 pub mod proposal;
 
-pub use choice::{Parts, choose_plan};
+pub use choice::{PartCount, choose_plan};
 pub use plan::Planned;
 pub use plan_error::PlanError;
 pub use proposal::{OwnPins, Proposal, propose};

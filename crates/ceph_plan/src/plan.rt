@@ -7,7 +7,7 @@ ghost use Rattle.ceph_plan.specs.Plans.{IsPlanOf, capped_rows, moved_inodes};
 use crate::plan_error::PlanError;
 use ceph_packing::{Packing, pack};
 use mds_types::{Problem, ProblemRow, Rank, RankSet};
-use minmax_search::{Found, search};
+use minmax_search::{BestCut, search};
 use std::alloc::{AllocError, Global};
 
 /// The directories divided into connected parts, and the parts packed on the ranks.
@@ -113,7 +113,7 @@ pub fn plan_parts(
         Ok(problem) => problem,
         Err((error, _)) => return Err(PlanError::Problem(error)),
     };
-    let Found {
+    let BestCut {
         cut,
         greatest,
         proof: _,

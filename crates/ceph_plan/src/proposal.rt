@@ -7,10 +7,10 @@ ghost use Rattle.ceph_plan.specs.Asked.{ArePinRows, MovesOnce};
 ghost use Rattle.ceph_plan.specs.Choice.{IsAsked};
 ghost use Rattle.ceph_plan.specs.Plans.{IsPlan};
 
-use crate::choice::{Parts, choose_plan};
+use crate::choice::{PartCount, choose_plan};
 use crate::plan::Planned;
 use crate::plan_error::PlanError;
-use ceph_pins::{Change, PinRow, are_rows, changes_for};
+use ceph_pins::{PinChange, PinRow, are_rows, changes_for};
 use mds_types::{ProblemRow, Rank, RankSet};
 use std::alloc::{AllocError, Global};
 
@@ -31,7 +31,7 @@ pub struct Proposal {
     /// What is asked of each directory.
     pub rows: Vec<PinRow>,
     /// The changes, in their order.
-    pub changes: Vec<Change>,
+    pub changes: Vec<PinChange>,
 }
 
 /// What is asked of each row: to be at the rank of its part, wherever it is now.
@@ -67,7 +67,7 @@ fn pin_rows(
 pub fn propose(
     alloc: Global,
     rows: &[ProblemRow],
-    parts: Parts,
+    parts: PartCount,
     pinned: &[u64],
     ranks: RankSet,
     keep: u8,

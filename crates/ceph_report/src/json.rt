@@ -3,7 +3,7 @@
 //! A path needn't be UTF-8: each of its bytes is one character there, U+0000 to U+00FF. Heat is in thousandths.
 
 use crate::report::{Facts, number_at};
-use ceph_pins::Change;
+use ceph_pins::PinChange;
 use mds_types::Rank;
 use std::alloc::{AllocError, Global};
 use std::fmt::Write;
@@ -49,7 +49,7 @@ fn push_ranks(text: &mut String, facts: &Facts) -> Result<(), AllocError> {
 }
 
 /// Adds the changes of pins, in the order in which they are to be made. Where a pin is taken away its rank is -1.
-fn push_pins(text: &mut String, facts: &Facts, changes: &[Change]) -> Result<(), AllocError> {
+fn push_pins(text: &mut String, facts: &Facts, changes: &[PinChange]) -> Result<(), AllocError> {
     for (at, change) in changes.iter().enumerate() {
         push_comma(text, at)?;
         text.push_str("\n  {\"path\":")?;
@@ -76,7 +76,11 @@ fn push_parts(text: &mut String, facts: &Facts) -> Result<(), AllocError> {
 }
 
 /// The plan as JSON: bound, loads, the rank of each part, and the changes of pins.
-pub fn make_json(alloc: Global, facts: &Facts, changes: &[Change]) -> Result<String, AllocError> {
+pub fn make_json(
+    alloc: Global,
+    facts: &Facts,
+    changes: &[PinChange],
+) -> Result<String, AllocError> {
     let mut text = String::new(alloc);
     let packing = &facts.plan.packing;
     let (directories, folded) = (facts.directories.len(), facts.folded);

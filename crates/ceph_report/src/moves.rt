@@ -5,7 +5,7 @@ ghost use Rattle.ceph_snapshot.specs.Rows.{is_free};
 ghost use Rattle.ceph_report.specs.Amounts.{AreAmounts, goal_at, goal_of, going_of, heat_now, inodes_from, inodes_to};
 
 use crate::pins::pins_after;
-use ceph_pins::{Change, PinRow};
+use ceph_pins::{PinChange, PinRow};
 use ceph_snapshot::{Directory, Held};
 use mds_types::Rank;
 use mds_types::limits::RANK_LIMIT;
@@ -223,7 +223,7 @@ pub fn moves_of(
     directories: &[Directory],
     holds: &[Held],
     rows: &[PinRow],
-    changes: &[Change],
+    changes: &[PinChange],
 ) -> Result<Vec<Move>, AllocError> {
     let pins = pins_after(alloc, rows, changes)?;
     let holders = holders(alloc, rows, pins.as_slice())?;

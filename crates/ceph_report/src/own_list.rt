@@ -1,7 +1,7 @@
 //! The list of the pins that this program set: a line `RANK NAME` each, with names as `getfattr` writes them.
 
 use crate::pins::pins_after;
-use ceph_pins::{Change, PinRow};
+use ceph_pins::{PinChange, PinRow};
 use ceph_snapshot::Directory;
 use std::alloc::{AllocError, Global};
 
@@ -24,7 +24,7 @@ pub fn make_own_list(
     alloc: Global,
     directories: &[Directory],
     rows: &[PinRow],
-    changes: &[Change],
+    changes: &[PinChange],
 ) -> Result<Vec<u8>, AllocError> {
     let mut list = Vec::new(alloc);
     let pins = pins_after(alloc, rows, changes)?;

@@ -4,7 +4,7 @@ ghost use Rattle.mds_types.specs.Sums.{count_below};
 ghost use Rattle.ceph_report.specs.Standing.{is_changed, is_standing};
 ghost use Rattle.ceph_snapshot.specs.Folding.{is_marked};
 
-use ceph_pins::{Change, PinRow};
+use ceph_pins::{PinChange, PinRow};
 use mds_types::Rank;
 use std::alloc::{AllocError, Global};
 
@@ -23,7 +23,7 @@ fn pins_before(alloc: Global, rows: &[PinRow]) -> Result<Vec<Option<Rank>>, Allo
 pub(crate) fn pins_after(
     alloc: Global,
     rows: &[PinRow],
-    changes: &[Change],
+    changes: &[PinChange],
 ) -> Result<Vec<Option<Rank>>, AllocError>
     ensures { IfOk result (λ pins. length pins.items ≡ length rows.now) }
 {
@@ -38,7 +38,7 @@ pub(crate) fn pins_after(
 }
 
 /// Which of so many rows change.
-fn changed_rows(alloc: Global, changes: &[Change], count: usize) -> Result<Vec<bool>, AllocError>
+fn changed_rows(alloc: Global, changes: &[PinChange], count: usize) -> Result<Vec<bool>, AllocError>
     ensures size { IfOk result (λ marks. length marks.items ≡ count) }
     ensures marks { IfOk result (λ marks. (i : ℕ) → i < count → is_marked marks.items i ≡ is_changed changes.now i) }
 {
@@ -57,7 +57,7 @@ fn changed_rows(alloc: Global, changes: &[Change], count: usize) -> Result<Vec<b
 pub fn standing_pins(
     alloc: Global,
     rows: &[PinRow],
-    changes: &[Change],
+    changes: &[PinChange],
 ) -> Result<usize, AllocError>
     ensures { IfOk result (λ count. count ≡ count_below (length rows.now) (is_standing rows.now changes.now)) }
 {

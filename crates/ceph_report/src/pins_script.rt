@@ -2,7 +2,7 @@
 //!
 //! Each path is quoted for `sh` whatever its bytes. A directory that is gone is told and passed over.
 
-use ceph_pins::Change;
+use ceph_pins::PinChange;
 use ceph_snapshot::Directory;
 use sh_quote::quoted;
 use std::alloc::{AllocError, Global};
@@ -35,7 +35,7 @@ fn push_change(
     script: &mut Vec<u8>,
     mount: &[u8],
     path: &[u8],
-    change: Change,
+    change: PinChange,
 ) -> Result<(), AllocError> {
     let line = match change.pin {
         Some(rank) => format!(in alloc; "run setfattr -n ceph.dir.pin -v {} -- ", rank.number())?,
@@ -56,7 +56,7 @@ fn push_change(
 pub fn make_pins_script(
     alloc: Global,
     directories: &[Directory],
-    changes: &[Change],
+    changes: &[PinChange],
     mount: &[u8],
 ) -> Result<Vec<u8>, AllocError> {
     let mut script = Vec::from_slice(alloc, HEAD.as_bytes())?;

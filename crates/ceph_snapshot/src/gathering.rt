@@ -6,7 +6,7 @@
 
 use crate::directory::Directory;
 use crate::names::Names;
-use ceph_dumps::{FragmentHeat, Listed, SubtreeRoot};
+use ceph_dumps::{FragmentHeat, ListedDir, SubtreeRoot};
 use mds_types::Rank;
 use std::alloc::{AllocError, AllocFailed, Global};
 use thiserror::Error;
@@ -155,7 +155,7 @@ impl Gathering {
     }
 
     /// Adds entries and pins that were listed over a mount.
-    pub fn add_listing(&mut self, listing: &[Listed]) -> Result<(), SnapshotError> {
+    pub fn add_listing(&mut self, listing: &[ListedDir]) -> Result<(), SnapshotError> {
         for listed in listing {
             if let Some(node) = self.node(listed.path.as_slice())? {
                 if let Some(entries) = listed.entries {

@@ -1,7 +1,7 @@
 //! Plans and proposals of small trees.
 
 use crate::same::{same, same_in};
-use ceph_plan::{OwnPins, Parts, PlanError, Proposal, choose_plan, propose};
+use ceph_plan::{OwnPins, PartCount, PlanError, Proposal, choose_plan, propose};
 use mds_types::{ProblemRow, Rank, RankSet};
 use std::alloc::Global;
 use std::test::Fail;
@@ -39,7 +39,7 @@ fn proposed(
     if own.len() != rows.len() {
         return Err(Fail::from("lengths"));
     }
-    Ok(propose(alloc, &rows, Parts::Auto, &held, ranks, 0, &own)?)
+    Ok(propose(alloc, &rows, PartCount::Auto, &held, ranks, 0, &own)?)
 }
 
 #[test]
@@ -83,7 +83,7 @@ fn refuses_what_it_cant_plan(rt: HostRuntime) -> Result<(), Fail> {
         let found = choose_plan(
             rt.alloc(),
             rows,
-            Parts::Auto,
+            PartCount::Auto,
             held,
             RankSet::from_bits(bits),
             0,

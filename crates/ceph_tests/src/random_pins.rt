@@ -1,7 +1,7 @@
 //! Changes of pins on random trees, judged by a plain walk up from each directory.
 
 use crate::same::same_in;
-use ceph_pins::{Change, PinRow, are_rows, changes_for};
+use ceph_pins::{PinChange, PinRow, are_rows, changes_for};
 use mds_types::Rank;
 use std::alloc::Global;
 use std::test::Fail;
@@ -90,7 +90,7 @@ fn is_held(rows: &[PinRow], at: usize) -> bool {
 fn strays(
     alloc: Global,
     rows: &[PinRow],
-    changes: &[Change],
+    changes: &[PinChange],
     last: &[Option<Rank>],
 ) -> Result<usize, Fail> {
     let before = pins_before(alloc, rows)?;

@@ -2,7 +2,7 @@
 
 use crate::same::{holds_in, same};
 use ceph_dumps::{DumpError, read_listing, read_loads, read_subtrees};
-use ceph_plan::{OwnPins, Parts, PlanError, Proposal, propose};
+use ceph_plan::{OwnPins, PartCount, PlanError, Proposal, propose};
 use ceph_snapshot::{
     Directory, Gathering, Snapshot, SnapshotError, fold, held_heat, holds, rows_of,
 };
@@ -102,7 +102,7 @@ fn proposed(alloc: Global, directories: &[Directory], spread: &[u64]) -> Result<
     if own.len() != rows.len() {
         return Err(Refused::Wrong);
     }
-    Ok(propose(alloc, &rows, Parts::Auto, &pinned, ranks, 0, &own)?)
+    Ok(propose(alloc, &rows, PartCount::Auto, &pinned, ranks, 0, &own)?)
 }
 
 /// How many directories are left of six, the greatest load, the bound, the inodes that move, and the changes of pins.

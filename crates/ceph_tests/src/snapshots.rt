@@ -1,7 +1,7 @@
 //! Snapshots from dumps, and what pins hold in them.
 
 use crate::same::{same, same_in};
-use ceph_dumps::{FragmentHeat, Listed, SubtreeRoot};
+use ceph_dumps::{FragmentHeat, ListedDir, SubtreeRoot};
 use ceph_snapshot::{Directory, Gathering, Held, Snapshot, fold, held_heat, holds};
 use mds_types::Rank;
 use std::alloc::Global;
@@ -53,7 +53,7 @@ fn gathered(alloc: Global) -> Result<Snapshot, Fail> {
     all.add_loads(rank(0), &loads(alloc, first.as_slice())?)?;
     let second: [(&[u8], u64); 3] = [(b"/a", 700), (b"/a/x", 200), (b"/u", 60)];
     all.add_loads(rank(1), &loads(alloc, second.as_slice())?)?;
-    all.add_listing(&[Listed {
+    all.add_listing(&[ListedDir {
         path: Vec::from_slice(alloc, b"/b")?,
         entries: Some(12),
         pin: None,

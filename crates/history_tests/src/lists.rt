@@ -11,7 +11,7 @@ use authority_map::{MapReader, Publisher};
 use board_state::{Answer, BoardError, Name, Solver};
 use export_machine::Event;
 use heat_ledger::{Missing, Share};
-use mds_board::{Board, Command};
+use mds_board::{Board, BoardCommand};
 use mds_types::{Dir, Plan, Problem, Rank, RankSet};
 use naming::Naming;
 use std::alloc::{AllocError, Global};
@@ -31,7 +31,7 @@ impl Solver for Idle {
 
 type Given = Result<Answer, BoardError>;
 
-fn with(commands: Vec<Command>, command: Command) -> Result<Vec<Command>, AllocError>
+fn with(commands: Vec<BoardCommand>, command: BoardCommand) -> Result<Vec<BoardCommand>, AllocError>
     requires all { All (λ c. is_fit c ≡ true) commands.items }
     requires fit { is_fit command ≡ true }
     ensures { IfOk result (λ commands. All (λ c. is_fit c ≡ true) commands.items) }
@@ -41,10 +41,10 @@ fn with(commands: Vec<Command>, command: Command) -> Result<Vec<Command>, AllocE
     Ok(commands)
 }
 
-fn make(alloc: Global, parent: u32, name: &str) -> Result<Command, AllocError>
+fn make(alloc: Global, parent: u32, name: &str) -> Result<BoardCommand, AllocError>
     ensures { IfOk result (λ command. is_fit command ≡ true) }
 {
-    Ok(Command::Make(Dir::new(parent), Name::new(alloc, name)?, 10))
+    Ok(BoardCommand::Make(Dir::new(parent), Name::new(alloc, name)?, 10))
 }
 
 fn rank() -> Rank {
@@ -52,50 +52,50 @@ fn rank() -> Rank {
 }
 
 /// Commands of the tree and the settings, accepted and refused.
-fn settings(alloc: Global) -> Result<Vec<Command>, AllocError>
+fn settings(alloc: Global) -> Result<Vec<BoardCommand>, AllocError>
     ensures { IfOk result (λ commands. All (λ c. is_fit c ≡ true) commands.items) }
 {
     let list = with(Vec::new(alloc), make(alloc, 0, "a")?)?;
     let list = with(list, make(alloc, 0, "a")?)?;
     let list = with(list, make(alloc, 1, "b")?)?;
-    let list = with(list, Command::Pin(Dir::new(1), 1))?;
-    let list = with(list, Command::Pin(Dir::new(1), 2))?;
-    let list = with(list, Command::Balance)?;
-    let list = with(list, Command::Mask(RankSet::from_bits(3)))?;
-    with(list, Command::Tick)
+    let list = with(list, BoardCommand::Pin(Dir::new(1), 1))?;
+    let list = with(list, BoardCommand::Pin(Dir::new(1), 2))?;
+    let list = with(list, BoardCommand::Balance)?;
+    let list = with(list, BoardCommand::Mask(RankSet::from_bits(3)))?;
+    with(list, BoardCommand::Tick)
 }
 
 /// These, and then events of the cluster, a plan without memory, and two removals.
-fn commands(alloc: Global) -> Result<Vec<Command>, AllocError>
+fn commands(alloc: Global) -> Result<Vec<BoardCommand>, AllocError>
     ensures { IfOk result (λ commands. All (λ c. is_fit c ≡ true) commands.items) }
 {
     let list = settings(alloc)?;
-    let list = with(list, Command::Step(Event::Stop(rank())))?;
-    let list = with(list, Command::Step(Event::Stop(rank())))?;
-    let list = with(list, Command::Step(Event::Restart(rank())))?;
-    let list = with(list, Command::Balance)?;
-    let list = with(list, Command::Remove(Dir::new(1)))?;
-    with(list, Command::Remove(Dir::new(2)))
+    let list = with(list, BoardCommand::Step(Event::Stop(rank())))?;
+    let list = with(list, BoardCommand::Step(Event::Stop(rank())))?;
+    let list = with(list, BoardCommand::Step(Event::Restart(rank())))?;
+    let list = with(list, BoardCommand::Balance)?;
+    let list = with(list, BoardCommand::Remove(Dir::new(1)))?;
+    with(list, BoardCommand::Remove(Dir::new(2)))
 }
 
 /// The same asked for by a call of its own.
 fn asked<J: Naming, M: Publisher<J>>(
     alloc: Global,
     board: &mut Board<J, M>,
-    command: &Command,
+    command: &BoardCommand,
 ) -> Given
     requires { is_fit command.now ≡ true }
 {
     match command {
-        Command::Make(parent, name, inodes) => board
+        BoardCommand::Make(parent, name, inodes) => board
             .make(alloc, *parent, name.as_str(), *inodes)
             .map(|dir| Answer::Dir(dir)),
-        Command::Remove(dir) => board.remove(*dir).map(|()| Answer::Done),
-        Command::Pin(dir, pin) => board.set_pin(*dir, *pin).map(|()| Answer::Done),
-        Command::Mask(mask) => board.set_mask(*mask).map(|()| Answer::Done),
-        Command::Tick => board.tick().map(|()| Answer::Done),
-        Command::Step(event) => step(alloc, board, event),
-        Command::Balance => match board.balance(alloc, &Idle) {
+        BoardCommand::Remove(dir) => board.remove(*dir).map(|()| Answer::Done),
+        BoardCommand::Pin(dir, pin) => board.set_pin(*dir, *pin).map(|()| Answer::Done),
+        BoardCommand::Mask(mask) => board.set_mask(*mask).map(|()| Answer::Done),
+        BoardCommand::Tick => board.tick().map(|()| Answer::Done),
+        BoardCommand::Step(event) => step(alloc, board, event),
+        BoardCommand::Balance => match board.balance(alloc, &Idle) {
             Ok(_orders) => Ok(Answer::Done),
             Err(error) => Err(error),
         },

@@ -7,7 +7,7 @@ use Rattle.ceph_snapshot.specs.declared.held.Held.{Held}
 use Rattle.ceph_snapshot.specs.Folding.{IsFolded}
 use Rattle.ceph_snapshot.specs.Holding.{IsHeld, held_at, held_below, most_heat}
 use Rattle.ceph_snapshot.specs.Rows.{AreRowsOf}
-use Rattle.ceph_plan.specs.declared.choice.Parts.{Parts}
+use Rattle.ceph_plan.specs.declared.choice.PartCount.{PartCount}
 use Rattle.ceph_plan.specs.declared.proposal.OwnPins.{OwnPins}
 use Rattle.ceph_plan.specs.declared.proposal.Proposal.{Proposal}
 use Rattle.ceph_plan.specs.Proposals.{IsProposal}
@@ -25,8 +25,8 @@ pub record IsHeldHeat (directories : List Directory) (holds : List Held) (spread
 -- what is planned: the rows are the directories, each with its heat where nothing holds it and with none where
 -- something does; the plan is the one that is chosen of all that are weighed of
 -- these rows, with the held heat at its ranks
-pub record IsPlanned (directories : List Directory) (holds : List Held) (pinned : List ℕ) (ranks : ℕ) (parts : Parts)
-    (proposal : Proposal) : Type 0 where
+pub record IsPlanned (directories : List Directory) (holds : List Held) (pinned : List ℕ) (ranks : ℕ)
+    (parts : PartCount) (proposal : Proposal) : Type 0 where
   pub rows : List ProblemRow
   pub own : List OwnPins
   pub rows_of : AreRowsOf directories holds (length directories) rows
@@ -34,7 +34,7 @@ pub record IsPlanned (directories : List Directory) (holds : List Held) (pinned 
   pub proposed : IsProposal ranks pinned rows parts own proposal
 
 -- what is decided for directories, with this heat by rank of what is spread
-pub record IsDecision (directories : List Directory) (spread : List ℕ) (ranks : ℕ) (parts : Parts)
+pub record IsDecision (directories : List Directory) (spread : List ℕ) (ranks : ℕ) (parts : PartCount)
     (decision : Decision) : Type 0 where
   pub size : length decision.holds.items ≡ length directories
   pub held : (i : ℕ) → i < length directories → IsHeld directories i (held_at decision.holds.items i)
@@ -51,7 +51,7 @@ pub record IsDecision (directories : List Directory) (spread : List ℕ) (ranks 
 -- what was collected of directories, with this heat by rank of what is spread, and what came of it: at most as many
 -- directories as the planner takes, all that were collected where they are no more than that, with all their heat and
 -- inodes, and what is decided for these
-pub record IsOutcome (collected : List Directory) (spread : List ℕ) (parts : Parts) (outcome : Outcome) : Type 0 where
+pub record IsOutcome (collected : List Directory) (spread : List ℕ) (parts : PartCount) (outcome : Outcome) : Type 0 where
   pub few : length outcome.directories.items ≤ DIR_LIMIT
   pub same : length collected ≤ DIR_LIMIT → outcome.directories.items ≡ collected
   pub folded : IsFolded collected outcome.directories.items

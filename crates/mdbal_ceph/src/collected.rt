@@ -3,7 +3,8 @@
 use crate::progress::Progress;
 use anyhow::{Context, Error, bail};
 use ceph_dumps::{
-    Cluster, DumpError, read_cluster, read_listing, read_loads, read_own_list, read_subtrees,
+    DumpError, FileSystemRanks, read_cluster, read_listing, read_loads, read_own_list,
+    read_subtrees,
 };
 use ceph_snapshot::{Gathering, Snapshot};
 use mds_types::Rank;
@@ -19,7 +20,7 @@ const SAMPLE_LIMIT: u64 = 1000;
 #[derive(Drop)]
 pub struct Collected {
     /// The ranks of the file system.
-    pub cluster: Cluster,
+    pub cluster: FileSystemRanks,
     /// How many ranks it is to have, at most 64.
     pub size: u8,
     /// How many samples of heat each rank gave.
@@ -109,7 +110,7 @@ fn add_lists<R: Files + AllocGlobal>(
 }
 
 /// The ranks of the file system, and how many it is to have.
-fn ranks_of<R: Files + AllocGlobal>(rt: &R, folder: &str) -> Result<(Cluster, u8), Error> {
+fn ranks_of<R: Files + AllocGlobal>(rt: &R, folder: &str) -> Result<(FileSystemRanks, u8), Error> {
     let path = format!(in rt.alloc(); "{folder}/fs.json")?;
     let bytes = needed(rt, path.as_str())?;
     let cluster = whole(path.as_str(), read_cluster(rt.alloc(), bytes.as_slice()))?;

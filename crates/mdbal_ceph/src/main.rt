@@ -9,7 +9,7 @@ mod settings;
 
 use anyhow::Error;
 use outcome::carry_out;
-use settings::{Settings, settings_of};
+use settings::{PlanSettings, settings_of};
 use std::process::ExitCode;
 use std::{env, io};
 
@@ -20,7 +20,7 @@ fn words(rt: &HostRuntime) -> io::Result<Vec<String>> {
 }
 
 /// Plans, and says what came of it. Gives the status.
-fn run(rt: &HostRuntime, settings: &Settings) -> Result<(), Error> {
+fn run(rt: &HostRuntime, settings: &PlanSettings) -> Result<(), Error> {
     let text = carry_out(rt, settings)?;
     print!(rt; "{text}")?;
     Ok(())

@@ -9,7 +9,7 @@ ghost use Rattle.mdbal_ceph.specs.Outcomes.{IsDecision, IsOutcome};
 use crate::collected::{Collected, read_collected};
 use crate::input::ranks_of;
 use crate::progress::Progress;
-use crate::settings::Settings;
+use crate::settings::PlanSettings;
 use anyhow::{Context, Error, bail};
 use ceph_plan::{Proposal, propose};
 use ceph_report::{
@@ -75,7 +75,7 @@ fn is_proposed(outcome: &Outcome, percent: u8) -> bool
 }
 
 /// The ranks that may have a part.
-fn usable(settings: &Settings, collected: &Collected) -> Result<RankSet, Error>
+fn usable(settings: &PlanSettings, collected: &Collected) -> Result<RankSet, Error>
     ensures { (mask : ℕ) → settings.now.mask ≡ Some mask
         → IfOk result (λ ranks. (rank : ℕ)
         → has_rank ranks rank ≡ (nat_lt rank collected.now.size && has_rank mask rank)) }
@@ -92,7 +92,7 @@ fn usable(settings: &Settings, collected: &Collected) -> Result<RankSet, Error>
 /// Plans directories for these ranks, where `spread[r]` is the heat at rank r of what is spread.
 fn decided(
     alloc: Global,
-    settings: &Settings,
+    settings: &PlanSettings,
     ranks: RankSet,
     directories: &[Directory],
     spread: &[u64],
@@ -134,7 +134,7 @@ fn folded(
 }
 
 /// Plans what was collected.
-fn planned(alloc: Global, settings: &Settings, collected: Collected) -> Result<Outcome, Error>
+fn planned(alloc: Global, settings: &PlanSettings, collected: Collected) -> Result<Outcome, Error>
     ensures outcome { IfOk result (IsOutcome collected.snapshot.directories.items collected.snapshot.spread.items
         settings.now.parts) }
     ensures ranks { IfOk result (λ outcome. (mask : ℕ) → settings.now.mask ≡ Some mask → (rank : ℕ)
@@ -232,7 +232,7 @@ fn write_pins<R: Files + AllocGlobal>(
 /// Writes the picture and the script of `mdbal` that are asked for.
 fn write_views<R: Files + AllocGlobal>(
     rt: &R,
-    settings: &Settings,
+    settings: &PlanSettings,
     outcome: &Outcome,
 ) -> Result<(), Error> {
     let (directories, holds) = (
@@ -253,7 +253,7 @@ fn write_views<R: Files + AllocGlobal>(
 /// Reads what was collected, plans, writes the files that are asked for, and gives the report.
 pub fn carry_out<R: Files + AllocGlobal + Clock + Eprint>(
     rt: &R,
-    settings: &Settings,
+    settings: &PlanSettings,
 ) -> Result<String, Error> {
     let alloc = rt.alloc();
     let mut progress = Progress::begin(rt);

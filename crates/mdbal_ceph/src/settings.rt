@@ -1,6 +1,6 @@
 //! What the words of the command line ask for.
 
-use ceph_plan::Parts;
+use ceph_plan::PartCount;
 use clap::error::ErrorKind;
 use clap::{Arg, ArgAction, ArgMatches, Command, Error, value_parser};
 use mds_types::RankSet;
@@ -13,11 +13,11 @@ const VERSION: &str = "0.1.0";
 
 /// What the program is asked to do.
 #[derive(Clone, Copy, Debug)]
-pub struct Settings<'a> {
+pub struct PlanSettings<'a> {
     /// The folder that `ceph/collect` wrote.
     pub folder: &'a str,
     /// Into how many parts the directories are divided.
-    pub parts: Parts,
+    pub parts: PartCount,
     /// The ranks that may have a part; where there is none, those of the cluster's own mask.
     pub mask: Option<RankSet>,
     /// The list of pins that this program set before.
@@ -147,24 +147,24 @@ fn command<'a>(alloc: Global) -> Result<Command<'a>, AllocError> {
 }
 
 /// The number of parts that a text names.
-fn parts_of(text: &str) -> Result<Parts, Refused> {
+fn parts_of(text: &str) -> Result<PartCount, Refused> {
     if text == "auto" {
-        return Ok(Parts::Auto);
+        return Ok(PartCount::Auto);
     }
     match text.parse::<u8>() {
-        Ok(count) if 0 < count && count <= RANK_LIMIT => Ok(Parts::AtMost(count)),
+        Ok(count) if 0 < count && count <= RANK_LIMIT => Ok(PartCount::AtMost(count)),
         _ => Err(Refused::Value("--parts takes auto, or a number from 1 to 64")),
     }
 }
 
 /// The settings that were found.
-fn found<'a>(matches: &ArgMatches<'a>) -> Result<Settings<'a>, Refused> {
+fn found<'a>(matches: &ArgMatches<'a>) -> Result<PlanSettings<'a>, Refused> {
     let mask = match matches.get_str("mask").map(RankSet::parse) {
         Some(Ok(mask)) => Some(mask),
         Some(Err(_)) => return Err(Refused::Value("--mask takes -1, or 0x and 1 to 16 digits")),
         None => None,
     };
-    Ok(Settings {
+    Ok(PlanSettings {
         folder: matches.get_str("folder").unwrap_or("."),
         parts: parts_of(matches.get_str("parts").unwrap_or("auto"))?,
         mask,
@@ -180,7 +180,10 @@ fn found<'a>(matches: &ArgMatches<'a>) -> Result<Settings<'a>, Refused> {
 }
 
 /// What the words of a command line ask for, of which the first is the program's name.
-pub fn settings_of<'a, S: AsStr>(alloc: Global, words: &'a [S]) -> Result<Settings<'a>, Refused> {
+pub fn settings_of<'a, S: AsStr>(
+    alloc: Global,
+    words: &'a [S],
+) -> Result<PlanSettings<'a>, Refused> {
     let matches = command(alloc)?.try_get_matches_from(words)?;
     found(&matches)
 }

@@ -4,13 +4,13 @@ use Rattle.board_state.specs.declared.board_error.BoardError.{BoardError}
 use Rattle.board_state.specs.declared.change.Answer.{Answer}
 use Rattle.export_machine.specs.declared.event.Event.{Event}
 use Rattle.mds_board.specs.Commands.{AreCarriedOut, IsCarriedOut}
-use Rattle.mds_board.specs.declared.command.Command.{Command}
+use Rattle.mds_board.specs.declared.command.BoardCommand.{BoardCommand}
 use Rattle.mds_board.specs.declared.entry.Entry.{Entry}
 use Rattle.mds_board.specs.History.{World}
 use Rattle.mds_board.specs.Promises.{cluster_event, cluster_events}
 
 -- one more command
-pub carried_next : (old between new : World) (cs : List Command) (answers : List (Result Answer BoardError)) (c : Command) (a : Result Answer BoardError)
+pub carried_next : (old between new : World) (cs : List BoardCommand) (answers : List (Result Answer BoardError)) (c : BoardCommand) (a : Result Answer BoardError)
     → AreCarriedOut old cs answers between → IsCarriedOut between c a new → AreCarriedOut old (cs ++ c ∷ []) (answers ++ a ∷ []) new
 carried_next old between new [] [] c a same h = (new, subst (λ (w : World). IsCarriedOut w c a new) same h, refl)
 carried_next old between new (d ∷ ds) (b ∷ bs) c a h last = (h.0, h.1, carried_next h.0 between new ds bs c a h.2 last)

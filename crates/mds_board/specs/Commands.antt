@@ -8,12 +8,12 @@ use Rattle.board_state.specs.declared.change.Answer.{Answer}
 use Rattle.board_state.specs.declared.change.Change.TheVariants as change
 use Rattle.board_state.specs.State.{balance_refusal, happens, next, problem_of, refusal}
 use Rattle.board_state.specs.Steps.{is_inner}
-use Rattle.mds_board.specs.declared.command.Command.{Command}
-use Rattle.mds_board.specs.declared.command.Command.TheVariants as command
+use Rattle.mds_board.specs.declared.command.BoardCommand.{BoardCommand}
+use Rattle.mds_board.specs.declared.command.BoardCommand.TheVariants as command
 use Rattle.mds_board.specs.History.{World, IsAnswer, recorded}
 
 -- no command makes or removes a directory, or begins a request, as an event of the cluster
-abbrev pub is_fit : Command → Bool
+abbrev pub is_fit : BoardCommand → Bool
 is_fit (command.Step e) = is_inner e
 is_fit _ = true
 
@@ -29,7 +29,7 @@ IsBalanced old (Err e) new =
     ((balance_refusal old.state ≡ Some e) ⊎ ((balance_refusal old.state ≡ None) × (e ≡ Memory))) × (new ≡ old)
 
 -- a command is the change of its name, and a balance two of them
-abbrev pub IsCarriedOut : World → Command → Result Answer BoardError → World → Type 0
+abbrev pub IsCarriedOut : World → BoardCommand → Result Answer BoardError → World → Type 0
 IsCarriedOut old (command.Make parent name inodes) answer new = IsAnswer old (change.Make parent name inodes) answer new
 IsCarriedOut old (command.Remove d) answer new = IsAnswer old (change.Remove d) answer new
 IsCarriedOut old (command.Pin d value) answer new = IsAnswer old (change.Pin d value) answer new
@@ -39,7 +39,7 @@ IsCarriedOut old (command.Step e) answer new = IsAnswer old (change.Step e) answ
 IsCarriedOut old command.Balance answer new = IsBalanced old answer new
 
 -- the commands one after the other, each with its answer
-abbrev pub AreCarriedOut : World → List Command → List (Result Answer BoardError) → World → Type 0
+abbrev pub AreCarriedOut : World → List BoardCommand → List (Result Answer BoardError) → World → Type 0
 AreCarriedOut old [] [] new = new ≡ old
 AreCarriedOut old (c ∷ cs) (a ∷ more) new =
     (between : World) × IsCarriedOut old c a between × AreCarriedOut between cs more new

@@ -6,7 +6,7 @@ use mds_types::{Dir, RankSet};
 
 /// What a board is asked for.
 #[derive(Drop)]
-pub enum Command {
+pub enum BoardCommand {
     /// Makes a directory below this parent, with this name and so many inodes.
     Make(Dir, Name, u32),
     /// Removes a directory.

@@ -13,5 +13,5 @@ mod reads;
 mod running;
 
 pub use board::Board;
-pub use command::Command;
+pub use command::BoardCommand;
 pub use entry::Entry;

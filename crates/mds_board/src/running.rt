@@ -5,7 +5,7 @@ ghost use Rattle.mds_board.specs.History.{IsAnswer};
 ghost use Rattle.mds_board.specs.Commands.{AreCarriedOut, IsCarriedOut, is_fit};
 
 use crate::board::Board;
-use crate::command::Command;
+use crate::command::BoardCommand;
 use authority_map::Publisher;
 use board_state::{Answer, BoardError, Change, Orders, Solver, or_memory};
 use export_machine::{Event, Reply};
@@ -19,7 +19,7 @@ impl<J: Naming, M: Publisher<J>> Board<J, M> {
         &mut self,
         alloc: Global,
         solver: &S,
-        commands: &[Command],
+        commands: &[BoardCommand],
     ) -> Result<Vec<Result<Answer, BoardError>>, AllocError>
         requires fit { All (λ c. is_fit c ≡ true) commands.now }
         ensures answers { IfOk result (λ answers. AreCarriedOut self.old commands.now answers.items self.new) }
@@ -37,40 +37,40 @@ impl<J: Naming, M: Publisher<J>> Board<J, M> {
         &mut self,
         alloc: Global,
         solver: &S,
-        command: &Command,
+        command: &BoardCommand,
     ) -> Result<Answer, BoardError>
         requires fit { is_fit command.now ≡ true }
         ensures { IsCarriedOut self.old command.now result self.new }
     {
         match command {
-            Command::Make(parent, name, inodes) => {
+            BoardCommand::Make(parent, name, inodes) => {
                 let dir = self.make(alloc, *parent, name.as_str(), *inodes)?;
                 Ok(Answer::Dir(dir))
             }
-            Command::Remove(dir) => {
+            BoardCommand::Remove(dir) => {
                 self.remove(*dir)?;
                 Ok(Answer::Done)
             }
-            Command::Pin(dir, pin) => {
+            BoardCommand::Pin(dir, pin) => {
                 self.set_pin(*dir, *pin)?;
                 Ok(Answer::Done)
             }
-            Command::Mask(mask) => {
+            BoardCommand::Mask(mask) => {
                 self.set_mask(*mask)?;
                 Ok(Answer::Done)
             }
-            Command::Tick => {
+            BoardCommand::Tick => {
                 self.tick()?;
                 Ok(Answer::Done)
             }
-            Command::Step(event) => Ok(Answer::Reply(self.step_copy(alloc, event)?)),
-            Command::Balance => Ok(Answer::Orders(self.balance_at(alloc, solver)?)),
+            BoardCommand::Step(event) => Ok(Answer::Reply(self.step_copy(alloc, event)?)),
+            BoardCommand::Balance => Ok(Answer::Orders(self.balance_at(alloc, solver)?)),
         }
     }
 
     /// Balances, and answers the orders at a place of their own, for which memory is asked first.
     fn balance_at<S: Solver>(&mut self, alloc: Global, solver: &S) -> Result<Orders, BoardError>
-        ensures { IsCarriedOut self.old Command.Balance (spelled Answer.Orders result) self.new }
+        ensures { IsCarriedOut self.old BoardCommand.Balance (spelled Answer.Orders result) self.new }
     {
         let Ok(mut place) = Orders::new(alloc, Vec::new(alloc)) else {
             return Err(or_memory(self.state.balance_refusal()));

@@ -6,14 +6,14 @@ ghost use Rattle.mds_types.specs.RankSet.{rank_count};
 ghost use Rattle.minmax_search.specs.Found.{IsFound};
 
 use crate::choice_of_proof::prove_least;
-use crate::found::Found;
+use crate::found::BestCut;
 use crate::narrow::{narrow, start};
 use mds_types::{CutProof, Problem, ProblemRow};
 use residual_cut::{cut_cool, cut_linked, weigh};
 use std::alloc::{AllocError, Global};
 
 /// A cut into at most `ranks` parts with the least greatest heat.
-fn search_rows(alloc: Global, rows: &[ProblemRow], ranks: u32) -> Result<Found, AllocError>
+fn search_rows(alloc: Global, rows: &[ProblemRow], ranks: u32) -> Result<BestCut, AllocError>
     requires forest { IsForest rows.now }
     requires some { 0 < length rows.now }
     requires ranks { 0 < ranks }
@@ -26,7 +26,7 @@ fn search_rows(alloc: Global, rows: &[ProblemRow], ranks: u32) -> Result<Found, 
     let greatest = narrow(alloc, rows, &trees, &mut rest, ranks, from, &mut passes)?;
     let cut = cut_linked(alloc, rows, &trees.links, greatest, &mut passes)?;
     let proof = prove_least(alloc, rows, &trees.links, ranks, greatest, &mut passes)?;
-    Ok(Found {
+    Ok(BestCut {
         cut,
         greatest,
         proof,
@@ -35,13 +35,13 @@ fn search_rows(alloc: Global, rows: &[ProblemRow], ranks: u32) -> Result<Found, 
 }
 
 /// A cut into at most as many parts as there are ranks, with the least greatest heat.
-pub fn search(problem: &Problem, alloc: Global) -> Result<Found, AllocError>
+pub fn search(problem: &Problem, alloc: Global) -> Result<BestCut, AllocError>
     ensures { IfOk result (IsFound problem.now.rows (rank_count problem.now.ranks)) }
 {
     let rows = problem.rows();
     if rows.is_empty() {
         let mut passes = 0;
-        return Ok(Found {
+        return Ok(BestCut {
             cut: cut_cool(alloc, rows, 0, &mut passes)?,
             greatest: 0,
             proof: CutProof::Zero,

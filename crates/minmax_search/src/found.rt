@@ -5,7 +5,7 @@ use residual_cut::Cut;
 
 /// A division with the least greatest heat, and the proof that none has a smaller one.
 #[derive(Debug, Drop)]
-pub struct Found {
+pub struct BestCut {
     /// The cut at the least greatest heat.
     pub cut: Cut,
     /// The least greatest heat, in accesses.

@@ -59,18 +59,18 @@ impl Draft {
 ///
 /// `places[d]` is the place among them of the order that directory d is in.
 #[derive(Drop)]
-pub(crate) struct Found {
+pub(crate) struct FoundSets {
     pub(crate) orders: Vec<Draft>,
     pub(crate) places: Vec<usize>,
 }
 
-impl Found {
+impl FoundSets {
     /// No order yet, with room for the places of this many numbers.
-    pub(crate) fn new(alloc: Global, numbers: u32) -> Result<Found, AllocError>
+    pub(crate) fn new(alloc: Global, numbers: u32) -> Result<FoundSets, AllocError>
         ensures orders { IfOk result (λ found. found.orders.items ≡ []) }
         ensures places { IfOk result (λ found. length found.places.items ≡ numbers) }
     {
-        Ok(Found {
+        Ok(FoundSets {
             orders: Vec::new(alloc),
             places: vec![in alloc; 0; numbers as usize]?,
         })
@@ -109,7 +109,7 @@ impl Found {
     pub(crate) fn into_orders(self, alloc: Global) -> Result<Vec<Order>, AllocError>
         ensures { IfOk result (λ orders. orders.items ≡ self.orders.items) }
     {
-        let Found {
+        let FoundSets {
             orders: drafts,
             places: _places,
         } = self;

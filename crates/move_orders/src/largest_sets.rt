@@ -3,7 +3,7 @@ ghost use Rattle.std.specs.Prelude.{◌≡◌, IfOk};
 ghost use Rattle.move_orders.specs.Largest.{AreOrders};
 ghost use Rattle.move_orders.specs.Orders.{orders};
 
-use crate::found::Found;
+use crate::found::FoundSets;
 use crate::moves::{move_of, parent_that_moves_too};
 use dirtree::Tree;
 use mds_types::{Dir, Order, Rank};
@@ -26,7 +26,7 @@ pub fn orders(
     ensures exact { IfOk result (λ found. found.items ≡ orders tree.now.entries now.now target.now) }
     ensures largest { IfOk result (λ found. AreOrders tree.now.entries now.now target.now found.items) }
 {
-    let mut found = Found::new(alloc, tree.numbers())?;
+    let mut found = FoundSets::new(alloc, tree.numbers())?;
     for number in 0..tree.numbers() {
         let dir = Dir::new(number);
         if let Some(made) = move_of(tree, now, target, dir) {

@@ -9,17 +9,17 @@ use crate::given::{at_last, first_ranks, hot_rows, over};
 use crate::same::{holds_in, same};
 use exhaustive::{Random, least_greatest_heat};
 use mds_types::{CutProof, Problem, ProblemRow, Row};
-use minmax_search::{Found, search};
+use minmax_search::{BestCut, search};
 use residual_cut::{Cut, CutError, cut_at};
 use std::alloc::{AllocError, Global};
 use std::test::Fail;
 
 /// What the search finds in the end.
-fn found(alloc: Global, problem: &Problem) -> Result<Found, AllocError> {
+fn found(alloc: Global, problem: &Problem) -> Result<BestCut, AllocError> {
     at_last(|| search(problem, alloc))
 }
 
-fn found_in(alloc: Global, rows: &[(u32, u64)], ranks: u8) -> Result<Found, Fail> {
+fn found_in(alloc: Global, rows: &[(u32, u64)], ranks: u8) -> Result<BestCut, Fail> {
     let problem = over(hot_rows(alloc, rows)?, first_ranks(ranks))?;
     Ok(found(alloc, &problem)?)
 }

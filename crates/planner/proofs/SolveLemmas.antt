@@ -9,7 +9,7 @@ use Rattle.mds_types.specs.Problem.{ProblemData}
 use Rattle.mds_types.specs.RankSet.{rank_count}
 use Rattle.mds_types.proofs.CertificateLemmas.{IsCertified-from, IsDivision-more, greatest_heat-more}
 use Rattle.mds_types.proofs.SumsLemmas.{max_below-le}
-use Rattle.minmax_search.specs.declared.found.Found.{Found}
+use Rattle.minmax_search.specs.declared.found.BestCut.{BestCut}
 use Rattle.minmax_search.specs.Found.{IsFound}
 use Rattle.rank_assign.specs.Assigned.{CostData}
 use Rattle.rank_assign.specs.declared.assigned.Assigned.{Assigned}
@@ -19,7 +19,7 @@ use Rattle.cost_table.proofs.PriceLemmas.{prices_over, dual_from_prices, moved-c
 
 -- a cut that was found is certified
 pub found_certified :
-    (rows : List ProblemRow) (ranks : ℕ) (found : Found) → IsFound rows ranks found
+    (rows : List ProblemRow) (ranks : ℕ) (found : BestCut) → IsFound rows ranks found
     → IsCutCertified rows ranks found.cut.part.items found.cut.count found.greatest found.proof
 found_certified rows ranks found is =
     let label : ℕ → ℕ = slice_index found.cut.part.items in
@@ -58,7 +58,7 @@ plan_certified problem plan cells division are costs moved prices =
 
 -- what the search and the assignment give is a certified plan
 pub solved :
-    (problem : ProblemData) (found : Found) (costs : CostData) (assigned : Assigned)
+    (problem : ProblemData) (found : BestCut) (costs : CostData) (assigned : Assigned)
     → IsFound problem.rows (rank_count problem.ranks) found → costs.count ≡ found.cut.count → costs.ranks ≡ problem.ranks
     → AreCosts problem.rows (slice_index found.cut.part.items) found.cut.count problem.ranks costs.cells
     → length assigned.ranks.items ≡ costs.count

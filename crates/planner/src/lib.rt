@@ -5,7 +5,7 @@ ghost use Rattle.std.specs.Prelude.{IfOk};
 ghost use Rattle.mds_types.specs.Certificate.{IsBest, IsCertified};
 
 use mds_types::{Plan, Problem};
-use minmax_search::{Found, search};
+use minmax_search::{BestCut, search};
 use rank_assign::{Assigned, assign, costs};
 use std::alloc::{AllocError, Global};
 use std::thread::Threads;
@@ -18,7 +18,7 @@ pub fn solve<R: Threads>(rt: &R, alloc: Global, problem: &Problem) -> Result<Pla
     ensures certified { IfOk result (IsCertified problem.now) }
     ensures best { IfOk result (IsBest problem.now) }
 {
-    let Found {
+    let BestCut {
         cut,
         greatest,
         proof,

@@ -6,14 +6,14 @@ use Rattle.mds_board.specs.InForce.{plan_in_force}
 use Rattle.script_board.specs.Board.{BoardData}
 use Rattle.script_board.specs.Cost.{AreThere}
 use Rattle.script_board.specs.Stat.{directories}
-use Rattle.script_replies.specs.declared.reply.Reply.{Reply}
-use Rattle.script_replies.specs.declared.reply.Reply.TheVariants.{Nothing, Cost, Plan, Move, Stat}
+use Rattle.script_replies.specs.declared.reply.CommandReply.{CommandReply}
+use Rattle.script_replies.specs.declared.reply.CommandReply.TheVariants.{Nothing, Cost, Plan, Move, Stat}
 use Rattle.script_replies.specs.Cost.{cost_lines}
 use Rattle.script_replies.specs.Move.{move_lines}
 use Rattle.script_replies.specs.Plan.{plan_lines}
 use Rattle.script_replies.specs.Stat.{cluster_line, dir_line}
 
-abbrev pub reply_lines : BoardData → Reply → List (List ℕ)
+abbrev pub reply_lines : BoardData → CommandReply → List (List ℕ)
 reply_lines b Nothing = []
 reply_lines b (Cost parts) = cost_lines b parts.items
 reply_lines b (Plan parts) = plan_lines b parts.items
@@ -21,7 +21,7 @@ reply_lines b (Move orders outcomes) = move_lines b orders.items outcomes.items
 reply_lines b (Stat dirs) = cluster_line b ∷ map (dir_line b) dirs.items
 
 -- the directories of the reply are there, a plan is in force where one is told, and each order has an outcome
-abbrev pub IsPrintable : BoardData → Reply → Type 0
+abbrev pub IsPrintable : BoardData → CommandReply → Type 0
 IsPrintable b Nothing = Unit {0}
 IsPrintable b (Cost parts) = AreThere b parts.items
 IsPrintable b (Plan parts) =

@@ -12,4 +12,4 @@ mod stat;
 pub use page::Page;
 pub use plan::parts_in_force;
 pub use print::{Unprinted, print_reply};
-pub use reply::Reply;
+pub use reply::CommandReply;

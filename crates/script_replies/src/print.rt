@@ -13,7 +13,7 @@ use crate::cost::{cost_line, part_line};
 use crate::moved::{export_line, move_line};
 use crate::page::Page;
 use crate::plan::{plan_line, plan_part_line};
-use crate::reply::Reply;
+use crate::reply::CommandReply;
 use crate::stat::{cluster_line, dir_line};
 use authority_map::Publisher;
 use naming::Naming;
@@ -49,7 +49,7 @@ impl From<WriteFailed> for Unprinted {
 pub fn print_reply<J: Naming, M: Publisher<J>, W: Write>(
     board: &mut ScriptBoard<J, M>,
     alloc: Global,
-    reply: &Reply,
+    reply: &CommandReply,
     page: &mut Page,
     writer: &mut W,
 ) -> Result<(), Unprinted>
@@ -86,7 +86,7 @@ pub fn print_reply<J: Naming, M: Publisher<J>, W: Write>(
 fn push_line<J: Naming, M: Publisher<J>>(
     board: &mut ScriptBoard<J, M>,
     alloc: Global,
-    reply: &Reply,
+    reply: &CommandReply,
     index: usize,
     page: &mut Page,
 ) -> Result<(), AllocError>
@@ -106,7 +106,7 @@ fn push_line<J: Naming, M: Publisher<J>>(
 fn make_line<J: Naming, M: Publisher<J>>(
     board: &mut ScriptBoard<J, M>,
     alloc: Global,
-    reply: &Reply,
+    reply: &CommandReply,
     index: usize,
     field: &mut String,
     line: &mut String,
@@ -117,16 +117,16 @@ fn make_line<J: Naming, M: Publisher<J>>(
     ensures same { board.new ≡ board.old }
 {
     match reply {
-        Reply::Nothing => unreachable!(),
-        Reply::Cost(parts) => match index {
+        CommandReply::Nothing => unreachable!(),
+        CommandReply::Cost(parts) => match index {
             0 => cost_line(parts, line),
             _ => part_line(alloc, board, parts[index - 1], field, line),
         },
-        Reply::Plan(parts) => match index {
+        CommandReply::Plan(parts) => match index {
             0 => line_in_force(board, line),
             _ => plan_part_line(alloc, board, parts[index - 1], field, line),
         },
-        Reply::Move(orders, outcomes) => match index {
+        CommandReply::Move(orders, outcomes) => match index {
             0 => move_line(orders.len(), line),
             _ => export_line(
                 alloc,
@@ -137,7 +137,7 @@ fn make_line<J: Naming, M: Publisher<J>>(
                 line,
             ),
         },
-        Reply::Stat(dirs) => match index {
+        CommandReply::Stat(dirs) => match index {
             0 => cluster_line(board, dirs.len(), line),
             _ => dir_line(alloc, board, dirs[index - 1], field, line),
         },

@@ -10,7 +10,7 @@ use mds_types::{Dir, Order};
 
 /// What a command prints, from which its lines are made one by one as they are written.
 #[derive(Drop)]
-pub enum Reply {
+pub enum CommandReply {
     /// No line.
     Nothing,
     /// The parts of a division.
@@ -23,17 +23,17 @@ pub enum Reply {
     Stat(Vec<Dir>),
 }
 
-impl Reply {
+impl CommandReply {
     /// How many lines a board prints for it.
     pub fn line_count(&self) -> usize
         ensures { (board : BoardData) → IsPrintable board self.now → result ≡ length (reply_lines board self.now) }
     {
         match self {
-            Reply::Nothing => 0,
-            Reply::Cost(parts) => parts.len() + 1,
-            Reply::Plan(parts) => parts.len() + 1,
-            Reply::Move(orders, _) => orders.len() + 1,
-            Reply::Stat(dirs) => dirs.len() + 1,
+            CommandReply::Nothing => 0,
+            CommandReply::Cost(parts) => parts.len() + 1,
+            CommandReply::Plan(parts) => parts.len() + 1,
+            CommandReply::Move(orders, _) => orders.len() + 1,
+            CommandReply::Stat(dirs) => dirs.len() + 1,
         }
     }
 }

@@ -9,7 +9,7 @@ use authority_map::Publisher;
 use naming::Naming;
 use script_board::{Fault, ScriptBoard};
 use script_commands::Command;
-use script_replies::Reply;
+use script_replies::CommandReply;
 use std::alloc::Global;
 use std::marker::{Send, Sync};
 use std::sync::Wait;
@@ -54,7 +54,10 @@ pub fn carry_out_by_threads<
         Command::Move => {
             let (board, moved) = board.carry_out_moves(rt, alloc);
             match moved {
-                Ok((orders, outcomes)) => (board, Ok(Done::Lines(Reply::Move(orders, outcomes)))),
+                Ok((orders, outcomes)) => (
+                    board,
+                    Ok(Done::Lines(CommandReply::Move(orders, outcomes))),
+                ),
                 Err(memory) => (board, Err(Fault::from(memory))),
             }
         }
@@ -91,10 +94,10 @@ pub fn change<J: Naming, M: Publisher<J>, R: Threads>(
             return Ok(Done::Planned);
         }
         Command::Cost(paths) => {
-            return Ok(Done::Lines(Reply::Cost(board.cost(alloc, &paths)?)));
+            return Ok(Done::Lines(CommandReply::Cost(board.cost(alloc, &paths)?)));
         }
-        Command::Stat => return Ok(Done::Lines(Reply::Stat(board.directories(alloc)?))),
+        Command::Stat => return Ok(Done::Lines(CommandReply::Stat(board.directories(alloc)?))),
         Command::Go | Command::Move => unreachable!(),
     }
-    Ok(Done::Lines(Reply::Nothing))
+    Ok(Done::Lines(CommandReply::Nothing))
 }

@@ -3,7 +3,7 @@ ghost use Rattle.std.specs.Prelude.{◌≡◌};
 ghost use Rattle.script_session.specs.Done.{refused_by};
 
 use script_board::Fault;
-use script_replies::Reply;
+use script_replies::CommandReply;
 
 /// What a command that was carried out prints.
 #[derive(Drop)]
@@ -13,7 +13,7 @@ pub enum Done {
     /// The plan that was adopted. Its parts are made when it is printed.
     Planned,
     /// These lines.
-    Lines(Reply),
+    Lines(CommandReply),
 }
 
 impl Done {

@@ -26,7 +26,7 @@ use naming::Naming;
 use script_board::{Fault, Parts, ScriptBoard};
 use script_commands::{Asked, Command, RankCount, read_line};
 use script_engine::{Interpreter, WriteFailed};
-use script_replies::{Page, Reply, Unprinted, parts_in_force, print_reply};
+use script_replies::{CommandReply, Page, Unprinted, parts_in_force, print_reply};
 use std::alloc::{AllocError, Global};
 use std::io::Write;
 use std::marker::{Model, Send, Sync};
@@ -143,7 +143,7 @@ impl<'r, J: Naming, M: Publisher<J>, R: Threads> Session<'r, J, M, R> {
         match ScriptBoard::new(alloc, parts, self.limit, active.number) {
             Ok(board) => {
                 fill(&mut self.board, board);
-                Ok(Done::Lines(Reply::Nothing))
+                Ok(Done::Lines(CommandReply::Nothing))
             }
             Err(parts) => {
                 fill(&mut self.parts, parts);
@@ -272,7 +272,7 @@ impl<'r, J: Naming + Send + Sync, M: Publisher<J> + Send, R: Threads + Wait + Sy
         ensures unchanged { OnErr result (self.new ≡ self.old) }
     {
         match what {
-            Asked::Nothing => Ok(Done::Lines(Reply::Nothing)),
+            Asked::Nothing => Ok(Done::Lines(CommandReply::Nothing)),
             Asked::Syntax => Err(Fault::Syntax),
             Asked::Asks(command) => self.carry_out(alloc, command),
         }
@@ -334,7 +334,7 @@ fn print<J: Naming, M: Publisher<J>, W: Write>(
     match done {
         Done::Served(_) => Ok(()),
         Done::Planned => match parts_in_force(alloc, board) {
-            Ok(parts) => print_reply(board, alloc, &Reply::Plan(parts), page, writer),
+            Ok(parts) => print_reply(board, alloc, &CommandReply::Plan(parts), page, writer),
             Err(_) => Err(Unprinted::Memory),
         },
         Done::Lines(reply) => print_reply(board, alloc, reply, page, writer),

@@ -1,5 +1,5 @@
 use Rattle.std.proofs.Common.{◌≡◌, ◌++◌}
-use Rattle.move_orders.proofs.found.Found.into_orders.Given as goal
+use Rattle.move_orders.proofs.found.FoundSets.into_orders.Given as goal
 
 -- the orders so far and the drafts that are left
 abbrev pub invariant-loop-draft : goal.invariant-loop-draft

@@ -2,7 +2,7 @@ use Rattle.std.proofs.Common.{◌≡◌, arith, length}
 use Rattle.std.proofs.lemmas.List.{length-map}
 use Rattle.script_replies.specs.Move.{export_line, pairs}
 use Rattle.script_replies.proofs.MoveLemmas.{length-pairs}
-use Rattle.script_replies.proofs.reply.Reply.line_count.Goals as goal
+use Rattle.script_replies.proofs.reply.CommandReply.line_count.Goals as goal
 
 pub returns-in-Move : goal.returns-in-Move
 returns-in-Move c board there =
