@@ -7,7 +7,7 @@ use crate::map_error::MapError;
 use crate::map_reader::{MapReader, Published};
 use crate::operation::OperationKind;
 use crate::publisher::Publisher;
-use crate::queue::{Queue, QueuedOperation, hand_all};
+use crate::queue::{Logged, Queue, hand_all};
 use crate::table::Table;
 use left_right::{Absorb, WriteHandle};
 use mds_types::limits::DIR_LIMIT;
@@ -26,7 +26,7 @@ pub struct WriterOf<J: Naming, T: Absorb<O> + Drop, O: Drop, R: Wait + Drop> {
 }
 
 /// The writer of the map of the board that `J` names.
-pub type MapWriter<J, R> = WriterOf<J, Table<J>, QueuedOperation<J>, R>;
+pub type MapWriter<J, R> = WriterOf<J, Table<J>, Logged<J>, R>;
 
 // The copies, and a reader for each place.
 fn open_copies<J: Naming, R: Wait + Drop>(
@@ -35,13 +35,7 @@ fn open_copies<J: Naming, R: Wait + Drop>(
     start: &LogPrefix<J>,
     limit: u32,
     readers: u8,
-) -> Result<
-    (
-        WriteHandle<Table<J>, QueuedOperation<J>, R>,
-        Vec<MapReader<J>>,
-    ),
-    MapError,
->
+) -> Result<(WriteHandle<Table<J>, Logged<J>, R>, Vec<MapReader<J>>), MapError>
     requires start { start.now ≡ [] }
     requires limit { (limit ≡ J.limit) × (1 ≤ limit) }
     requires readers { 1 ≤ readers }
@@ -62,7 +56,7 @@ fn open_copies<J: Naming, R: Wait + Drop>(
     Ok((copies, list))
 }
 
-impl<J: Naming, R: Wait + Drop> WriterOf<J, Table<J>, QueuedOperation<J>, R> {
+impl<J: Naming, R: Wait + Drop> WriterOf<J, Table<J>, Logged<J>, R> {
     /// A map of the directories below the limit, none of which has a rank yet, with this many
     /// readers. Where it is refused, what was opened is handed back.
     pub fn open(
@@ -92,7 +86,7 @@ impl<J: Naming, R: Wait + Drop> WriterOf<J, Table<J>, QueuedOperation<J>, R> {
     }
 }
 
-impl<J: Naming, R: Wait + Drop> Publisher<J> for WriterOf<J, Table<J>, QueuedOperation<J>, R> {
+impl<J: Naming, R: Wait + Drop> Publisher<J> for WriterOf<J, Table<J>, Logged<J>, R> {
     ghost use Rattle.std.specs.Prelude.{◌++◌};
     ghost use Rattle.left_right.specs.Handles.{published, pending};
     ghost use Rattle.authority_map.specs.LogEntries.{operations_of};
@@ -119,7 +113,7 @@ impl<J: Naming, R: Wait + Drop> Publisher<J> for WriterOf<J, Table<J>, QueuedOpe
         if !hand_all(&mut self.copies, &mut self.queue) {
             return Err(MapError::Memory);
         }
-        match self.copies.publish() {
+        match self.copies.flush() {
             Ok(()) => Ok(()),
             Err(_) => Err(MapError::Memory),
         }

@@ -16,13 +16,13 @@ use std::sync::Wait;
 
 /// An operation, with the list before it and after it.
 #[derive(Drop)]
-pub struct QueuedOperation<J: Naming> {
+pub struct Logged<J: Naming> {
     pub(crate) operation: MapOperation,
     pub(crate) before: LogPrefix<J>,
     pub(crate) after: LogPrefix<J>,
 }
 
-impl<J: Naming> Model for QueuedOperation<J> {
+impl<J: Naming> Model for Logged<J> {
     ghost use Rattle.std.specs.Prelude.{◌≡◌, ◌++◌, ◌∷◌, []};
     ghost use Rattle.authority_map.specs.LogEntries.{LogEntry};
 
@@ -40,7 +40,7 @@ pub struct Queue<J: Naming> {
     count: Count<J>,
     // The list as far as operations were handed to the copies.
     end: LogPrefix<J>,
-    ready: Option<QueuedOperation<J>>,
+    ready: Option<Logged<J>>,
     waiting: VecDeque<MapOperation>,
 }
 
@@ -109,7 +109,7 @@ impl<J: Naming> Queue<J> {
     /// Hands the next operation to the copies. Where it can't be, it still waits.
     pub(crate) fn hand_next<R: Wait + Drop>(
         &mut self,
-        copies: &mut WriteHandle<Table<J>, QueuedOperation<J>, R>,
+        copies: &mut WriteHandle<Table<J>, Logged<J>, R>,
     ) -> bool
         ensures shown { published copies.new ≡ published copies.old }
         ensures order { operations_of (pending copies.new) ++ self.new.waiting
@@ -137,11 +137,11 @@ impl<J: Naming> Queue<J> {
 
 // The operation that is ready, or the first that waits, which is in the list from now on.
 fn next_entry<J: Naming>(
-    ready: &mut Option<QueuedOperation<J>>,
+    ready: &mut Option<Logged<J>>,
     count: &Count<J>,
     end: &LogPrefix<J>,
     waiting: &mut VecDeque<MapOperation>,
-) -> Option<QueuedOperation<J>>
+) -> Option<Logged<J>>
     requires { IfSome ready.old (λ entry. entry.before ≡ end.now) }
     ensures some { IfSome result (λ entry. (ready.new ≡ None)
         × (entry.operation ∷ waiting.new.items ≡ ready_operation ready.old ++ waiting.old.items)) }
@@ -159,7 +159,7 @@ fn first_entry<J: Naming>(
     count: &Count<J>,
     end: &LogPrefix<J>,
     waiting: &mut VecDeque<MapOperation>,
-) -> Option<QueuedOperation<J>>
+) -> Option<Logged<J>>
     ensures some { IfSome result (λ entry. entry.operation ∷ waiting.new.items ≡ waiting.old.items) }
     ensures before { IfSome result (λ entry. entry.before ≡ end.now) }
     ensures none { IfNone result (waiting.new.items ≡ waiting.old.items) }
@@ -169,7 +169,7 @@ fn first_entry<J: Naming>(
     }
     let operation = waiting.pop_front()?;
     match end.with(count, &operation) {
-        Some(after) => Some(QueuedOperation {
+        Some(after) => Some(Logged {
             operation,
             before: end.copied(),
             after,
@@ -183,7 +183,7 @@ fn first_entry<J: Naming>(
 
 /// Hands all that waits to the copies, as far as there is memory. It says whether that was all.
 pub(crate) fn hand_all<J: Naming, R: Wait + Drop>(
-    copies: &mut WriteHandle<Table<J>, QueuedOperation<J>, R>,
+    copies: &mut WriteHandle<Table<J>, Logged<J>, R>,
     queue: &mut Queue<J>,
 ) -> bool
     ensures shown { published copies.new ≡ published copies.old }

@@ -305,31 +305,6 @@ pub(crate) fn write(
     }
 }
 
-// Writes the cell of each of these directories, one after the other.
-fn write_each(
-    starts: &mut Vec<u32>,
-    cells: &mut Vec<u8>,
-    index: &mut Vec<u32>,
-    limit: u32,
-    dirs: &[Dir],
-    cell: u8,
-)
-    requires runs { AreRuns limit starts.old.items cells.old.items }
-    requires index { IsIndex limit starts.old.items index.old.items }
-    requires room { (limit ≤ vec_capacity starts.old) × (limit ≤ vec_capacity cells.old) }
-    requires inside { All (λ dir. dir < limit) dirs.now }
-    requires small { cell ≤ 64 }
-    ensures runs { AreRuns limit starts.new.items cells.new.items }
-    ensures index { IsIndex limit starts.new.items index.new.items }
-    ensures room { (limit ≤ vec_capacity starts.new) × (limit ≤ vec_capacity cells.new) }
-    ensures cells { (old : ℕ → ℕ) → HasCells limit starts.old.items cells.old.items old 0 0
-        → HasCells limit starts.new.items cells.new.items (λ d. if names dirs.now d then cell else old d) 0 0 }
-{
-    for dir in dirs {
-        write(starts, cells, index, limit, dir.number(), cell);
-    }
-}
-
 /// Writes the cell of each of these directories: in one pass over all directories where that is less work and there is
 /// memory for it, else one after the other.
 pub(crate) fn write_all(
@@ -353,7 +328,10 @@ pub(crate) fn write_all(
 {
     // a directory that is written alone moves about half of the runs, many at a time
     let moved = dirs.len().saturating_mul(starts.len()) / MOVED_IN_A_STEP;
-    if moved < limit as usize || rewrite_all(starts, cells, index, limit, dirs, cell).is_err() {
-        write_each(starts, cells, index, limit, dirs, cell);
+    if moved >= limit as usize && rewrite_all(starts, cells, index, limit, dirs, cell).is_ok() {
+        return;
+    }
+    for dir in dirs {
+        write(starts, cells, index, limit, dir.number(), cell);
     }
 }

@@ -6,7 +6,7 @@ ghost use Rattle.authority_map.specs.Runs.{IsIndex};
 
 use crate::history::LogPrefix;
 use crate::operation::{MapOperation, OperationKind};
-use crate::queue::QueuedOperation;
+use crate::queue::Logged;
 use crate::runs::{BLOCK, indexed_run_of, write, write_all};
 use left_right::Absorb;
 use mds_types::{Dir, Rank};
@@ -68,7 +68,7 @@ impl<J: Naming> Table<J> {
     }
 }
 
-impl<J: Naming> Absorb<QueuedOperation<J>> for Table<J> {
+impl<J: Naming> Absorb<Logged<J>> for Table<J> {
     // A clause reads an array as a list, of any length.
     type State = [MapOperation; 0];
 
@@ -76,11 +76,7 @@ impl<J: Naming> Absorb<QueuedOperation<J>> for Table<J> {
 
     ghost applied = { λ xs x. xs ++ x.operation ∷ [] };
 
-    fn absorb_first(
-        &mut self,
-        entry: &QueuedOperation<J>,
-        _other: &Table<J>,
-    ) -> Result<(), AllocError> {
+    fn absorb_first(&mut self, entry: &Logged<J>, _other: &Table<J>) -> Result<(), AllocError> {
         if !entry.before.is_same(&self.prefix) {
             return Err(AllocError);
         }

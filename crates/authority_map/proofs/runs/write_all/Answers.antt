@@ -4,8 +4,8 @@ use Rattle.std.proofs.lemmas.Bool.Decides.{nat_tests}
 use Rattle.authority_map.specs.Operations.{names}
 use Rattle.authority_map.specs.Runs.{HasCells}
 use Rattle.authority_map.proofs.RunLemmas.{same_cells}
-use Rattle.authority_map.proofs.runs.write_each.Invariants.{IsWritten}
-use Rattle.authority_map.proofs.runs.write_each.Goals as goal
+use Rattle.authority_map.proofs.runs.write_all.Invariants.{IsWritten}
+use Rattle.authority_map.proofs.runs.write_all.Goals as goal
 
 either_way : (b c : Bool) (x y : ℕ) → (if c then x else (if b then x else y)) ≡ (if (b || c) then x else y)
 either_way true true x y = refl
