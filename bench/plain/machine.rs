@@ -19,6 +19,9 @@ enum Event {
     Froze(u32),
     Notify(u32),
     Abort(u32),
+    Stop(u8),
+    Restart(u8),
+    Ask(u32),
 }
 
 #[derive(Clone, Copy, Debug)]
@@ -54,6 +57,7 @@ enum Kind {
     ExportAck,
     Finish,
     Cancel,
+    Query,
 }
 
 #[derive(Clone, Copy, PartialEq)]
@@ -83,6 +87,34 @@ struct Export {
     dirs: Vec<u32>,
     exporter: Exporter,
     importer: Importer,
+    /// Whether the importer's journal has it as dropped.
+    dropped: bool,
+}
+
+#[derive(Clone, Copy)]
+struct Request {
+    rank: u8,
+    dir: u32,
+}
+
+fn is_before_log(state: Exporter) -> bool {
+    use Exporter::*;
+    matches!(state, Discovering | Freezing | Preparing | Exporting)
+}
+
+/// Whether a stop forgets this state of an import, where the journal doesn't have it as dropped.
+fn is_passing(state: Importer) -> bool {
+    use Importer::*;
+    matches!(state, Discovered | Prepared | Dropped)
+}
+
+/// The rank that a message is for.
+fn receiver(kind: Kind, from: u8, to: u8) -> u8 {
+    use Kind::*;
+    match kind {
+        Discover | Prep | Export | Finish | Cancel => to,
+        DiscoverAck | PrepAck | ExportAck | Query => from,
+    }
 }
 
 /// A refusal's number.
@@ -102,7 +134,14 @@ struct Machine {
     journals: Vec<Vec<Entry>>,
     exports: Vec<Export>,
     sent: Vec<(Kind, u32)>,
-    tickets: Vec<Option<u32>>,
+    tickets: Vec<Option<Request>>,
+    stopped: Vec<bool>,
+    /// By rank: the tickets of the requests that run there, and some of requests that ended, and how many those are.
+    tickets_at: Vec<Vec<u32>>,
+    ended_at: Vec<u32>,
+    /// By rank: the exports whose state there its journal doesn't tell, and some of those that it tells, and how many.
+    open_at: Vec<Vec<u32>>,
+    told_at: Vec<u32>,
     events: u32,
 }
 
@@ -125,6 +164,11 @@ impl Machine {
             exports: vec![],
             sent: vec![],
             tickets: vec![],
+            stopped: vec![false; ranks as usize],
+            tickets_at: vec![vec![]; ranks as usize],
+            ended_at: vec![0; ranks as usize],
+            open_at: vec![vec![]; ranks as usize],
+            told_at: vec![0; ranks as usize],
             events: 0,
         }
     }
@@ -158,6 +202,92 @@ impl Machine {
         self.exports.get(x as usize).ok_or(17)
     }
 
+    /// The export, whose exporter must run.
+    fn exported(&self, x: u32) -> Result<&Export, u8> {
+        let export = self.export(x)?;
+        self.runs(export.from)?;
+        Ok(export)
+    }
+
+    fn runs(&self, rank: u8) -> Result<(), u8> {
+        if self.stopped[rank as usize] { Err(28) } else { Ok(()) }
+    }
+
+    /// The journal tells one more of the rank's exports. Once half of those listed are told, they go.
+    fn note_told(&mut self, rank: u8) {
+        let at = rank as usize;
+        self.told_at[at] += 1;
+        if self.told_at[at] as usize > self.open_at[at].len() / 2 {
+            self.keep_open(rank);
+        }
+    }
+
+    fn keep_open(&mut self, rank: u8) {
+        let exports = &self.exports;
+        self.open_at[rank as usize].retain(|&x| {
+            let export = &exports[x as usize];
+            export.from == rank && is_before_log(export.exporter)
+                || export.to == rank && is_passing(export.importer) && !export.dropped
+        });
+        self.told_at[rank as usize] = 0;
+    }
+
+    /// A request of the rank ended. Once half of the tickets listed are of such requests, they go.
+    fn note_end(&mut self, rank: u8) {
+        let at = rank as usize;
+        self.ended_at[at] += 1;
+        if self.ended_at[at] as usize > self.tickets_at[at].len() / 2 {
+            let tickets = &self.tickets;
+            self.tickets_at[at].retain(|&ticket| tickets[ticket as usize].is_some());
+            self.ended_at[at] = 0;
+        }
+    }
+
+    fn stop(&mut self, rank: u8) -> Answer {
+        if rank >= self.ranks {
+            return Err(12);
+        }
+        self.runs(rank)?;
+        for &x in &self.open_at[rank as usize] {
+            let export = &mut self.exports[x as usize];
+            if export.from == rank && is_before_log(export.exporter) {
+                export.exporter = Exporter::Aborted;
+                for &dir in &export.dirs {
+                    self.open[dir as usize] = None;
+                }
+            }
+            if export.to == rank && is_passing(export.importer) && !export.dropped {
+                export.importer = Importer::Unknown;
+            }
+        }
+        self.keep_open(rank);
+        for ticket in std::mem::take(&mut self.tickets_at[rank as usize]) {
+            if let Some(request) = self.tickets[ticket as usize].take_if(|request| request.rank == rank) {
+                self.running[request.dir as usize] -= 1;
+            }
+        }
+        self.ended_at[rank as usize] = 0;
+        self.stopped[rank as usize] = true;
+        Ok(Reply::Changed)
+    }
+
+    fn restart(&mut self, rank: u8) -> Answer {
+        if rank >= self.ranks {
+            return Err(12);
+        }
+        let stopped = std::mem::take(&mut self.stopped[rank as usize]);
+        Ok(if stopped { Reply::Changed } else { Reply::Ignored })
+    }
+
+    fn ask(&mut self, x: u32) -> Answer {
+        let export = self.export(x)?;
+        self.runs(export.to)?;
+        if export.importer != Importer::Started {
+            return Err(23);
+        }
+        Ok(self.send(Kind::Query, x))
+    }
+
     fn made(&mut self, parent: u32) -> Answer {
         let rank = self.owner(parent).ok_or(6)?;
         if self.parents.len() >= self.limit {
@@ -166,6 +296,7 @@ impl Machine {
         if self.frozen(parent) {
             return Err(20);
         }
+        self.runs(rank)?;
         let dir = self.parents.len() as u32;
         self.enter(rank, Entry::Made(dir));
         self.parents.push(Some(parent));
@@ -194,6 +325,7 @@ impl Machine {
         if self.running[at] != 0 {
             return Err(22);
         }
+        self.runs(rank)?;
         self.enter(rank, Entry::Gone(dir));
         self.children[self.parents[at].unwrap() as usize] -= 1;
         self.parents[at] = None;
@@ -206,6 +338,7 @@ impl Machine {
         if rank >= self.ranks {
             return Err(12);
         }
+        self.runs(rank)?;
         let owner = self.owner(dir).ok_or(6)?;
         if owner != rank {
             return Err(18);
@@ -214,13 +347,16 @@ impl Machine {
             return Err(20);
         }
         self.running[dir as usize] += 1;
-        self.tickets.push(Some(dir));
-        Ok(Reply::Ticket(self.tickets.len() as u32 - 1))
+        let ticket = self.tickets.len() as u32;
+        self.tickets.push(Some(Request { rank, dir }));
+        self.tickets_at[rank as usize].push(ticket);
+        Ok(Reply::Ticket(ticket))
     }
 
     fn end(&mut self, ticket: u32) -> Answer {
-        let dir = self.tickets.get_mut(ticket as usize).and_then(Option::take).ok_or(25)?;
-        self.running[dir as usize] -= 1;
+        let request = self.tickets.get_mut(ticket as usize).and_then(Option::take).ok_or(25)?;
+        self.running[request.dir as usize] -= 1;
+        self.note_end(request.rank);
         Ok(Reply::Changed)
     }
 
@@ -244,6 +380,7 @@ impl Machine {
         if from >= self.ranks || to >= self.ranks {
             return Err(12);
         }
+        self.runs(from)?;
         if from == to {
             return Err(21);
         }
@@ -264,13 +401,21 @@ impl Machine {
         for &dir in &dirs {
             self.open[dir as usize] = Some(x);
         }
-        self.exports.push(Export { from, to, dirs, exporter: Exporter::Discovering, importer: Importer::Unknown });
+        self.exports.push(Export {
+            from,
+            to,
+            dirs,
+            exporter: Exporter::Discovering,
+            importer: Importer::Unknown,
+            dropped: false,
+        });
+        self.open_at[from as usize].push(x);
         self.sent.push((Kind::Discover, x));
         Ok(Reply::Export(x, self.sent.len() as u32 - 1))
     }
 
     fn froze(&mut self, x: u32) -> Answer {
-        let export = self.export(x)?;
+        let export = self.exported(x)?;
         if export.exporter != Exporter::Freezing {
             return Err(23);
         }
@@ -282,7 +427,7 @@ impl Machine {
     }
 
     fn notify(&mut self, x: u32) -> Answer {
-        let export = self.export(x)?;
+        let export = self.exported(x)?;
         if export.exporter != Exporter::Logged {
             return Err(23);
         }
@@ -296,15 +441,16 @@ impl Machine {
     }
 
     fn abort(&mut self, x: u32) -> Answer {
-        use Exporter::*;
-        let export = self.export(x)?;
-        if !matches!(export.exporter, Discovering | Freezing | Preparing | Exporting) {
+        let export = self.exported(x)?;
+        if !is_before_log(export.exporter) {
             return Err(23);
         }
+        let from = export.from;
         for &dir in &self.exports[x as usize].dirs {
             self.open[dir as usize] = None;
         }
-        self.exports[x as usize].exporter = Aborted;
+        self.exports[x as usize].exporter = Exporter::Aborted;
+        self.note_told(from);
         Ok(self.send(Kind::Cancel, x))
     }
 
@@ -312,6 +458,12 @@ impl Machine {
         let &(kind, x) = self.sent.get(message as usize).ok_or(24)?;
         let export = &mut self.exports[x as usize];
         let (from, to) = (export.from, export.to);
+        if self.stopped[receiver(kind, from, to) as usize] {
+            return Ok(Reply::Ignored);
+        }
+        if export.importer == Importer::Unknown && matches!(kind, Kind::Discover | Kind::Cancel) {
+            self.open_at[to as usize].push(x);
+        }
         Ok(match (kind, export.exporter, export.importer) {
             (Kind::Discover, _, Importer::Unknown) => {
                 export.importer = Importer::Discovered;
@@ -332,6 +484,7 @@ impl Machine {
             (Kind::Export, _, Importer::Prepared) => {
                 export.importer = Importer::Started;
                 self.enter(to, Entry::Started(x));
+                self.note_told(to);
                 self.send(Kind::ExportAck, x)
             }
             (Kind::ExportAck, Exporter::Exporting, _) => {
@@ -340,6 +493,7 @@ impl Machine {
                     self.owners[dir as usize] = Some(to);
                 }
                 self.enter(from, Entry::Exported(x));
+                self.note_told(from);
                 Reply::Changed
             }
             (Kind::Finish, _, Importer::Started) => {
@@ -352,6 +506,7 @@ impl Machine {
             }
             (Kind::Cancel, _, Importer::Started) => {
                 export.importer = Importer::Dropped;
+                export.dropped = true;
                 self.enter(to, Entry::Dropped(x));
                 Reply::Changed
             }
@@ -359,6 +514,8 @@ impl Machine {
                 export.importer = Importer::Dropped;
                 Reply::Changed
             }
+            (Kind::Query, Exporter::Done, _) => self.send(Kind::Finish, x),
+            (Kind::Query, Exporter::Aborted, _) => self.send(Kind::Cancel, x),
             _ => Reply::Ignored,
         })
     }
@@ -377,6 +534,9 @@ impl Machine {
             Event::Froze(x) => self.froze(x),
             Event::Notify(x) => self.notify(x),
             Event::Abort(x) => self.abort(x),
+            Event::Stop(rank) => self.stop(rank),
+            Event::Restart(rank) => self.restart(rank),
+            Event::Ask(x) => self.ask(x),
         }?;
         self.events += 1;
         Ok(reply)
@@ -397,6 +557,9 @@ fn parsed(line: &str) -> Event {
         "froze" => Event::Froze(next()),
         "notify" => Event::Notify(next()),
         "abort" => Event::Abort(next()),
+        "stop" => Event::Stop(next() as u8),
+        "restart" => Event::Restart(next() as u8),
+        "ask" => Event::Ask(next()),
         _ => {
             let (from, to) = (next() as u8, next() as u8);
             Event::Start(from, to, numbers.collect())

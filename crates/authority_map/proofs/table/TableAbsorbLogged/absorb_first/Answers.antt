@@ -3,7 +3,7 @@ use Rattle.authority_map.specs.Operations.{Operation, names, rank_after}
 use Rattle.authority_map.specs.Runs.{HasCells}
 use Rattle.authority_map.specs.Cells.{cell_of}
 use Rattle.authority_map.proofs.CellLemmas.{cells_set, cells_clear}
-use Rattle.authority_map.proofs.table.TableAbsorbEntry.absorb_first.Goals as goal
+use Rattle.authority_map.proofs.table.TableAbsorbLogged.absorb_first.Goals as goal
 
 pub invariant_of-self-clause-kept : goal.invariant_of-self-clause-kept
 invariant_of-self-clause-kept g c =
