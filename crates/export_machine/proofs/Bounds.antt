@@ -296,7 +296,7 @@ ready_is r e = both (is_ready_entry (state_of r).room (entered_at (world_of r) e
     lists (Event.Gone d) = refl
     lists (Begin k d) = ap (λ b. has_spare r.tickets && b) (places_are r.tickets_at.items k)
     lists (End t) = refl
-    lists (Start f t ds) = refl
+    lists (Start f t ds) = ap (λ b. r.exports.spare && has_spare r.sent && b) (places_are r.open_at.items f)
     lists (Deliver k) = refl
     lists (Froze x) = refl
     lists (Notify x) = refl
@@ -314,15 +314,15 @@ module _ (old new : Records) (roomy : IsAsRoomy old new) (world : world_of new �
   dir_places : has_dir_places old ≡ true → has_dir_places new ≡ true
   dir_places = and_keeps _ _ _ _ roomy.dirs roomy.marks
 
-  export_places : has_export_places old ≡ true → has_export_places new ≡ true
-  export_places = and_keeps _ _ _ _ (and_keeps _ _ _ _ roomy.exports roomy.sent) roomy.all_open
+  export_places : (rank : ℕ) → has_export_places old rank ≡ true → has_export_places new rank ≡ true
+  export_places rank = and_keeps _ _ _ _ (and_keeps _ _ _ _ roomy.exports roomy.sent) (roomy.open_at rank)
 
   pub lists_kept : (e : Event) → has_list_places old e ≡ true → has_list_places new e ≡ true
   lists_kept (Event.Made p) h = dir_places h
   lists_kept (Event.Gone d) h = refl
   lists_kept (Begin r d) h = and_keeps _ _ _ _ roomy.tickets (roomy.tickets_at r) h
   lists_kept (End t) h = refl
-  lists_kept (Start f t ds) h = export_places h
+  lists_kept (Start f t ds) h = export_places f h
   lists_kept (Deliver k) h = roomy.sent h
   lists_kept (Froze x) h = roomy.sent h
   lists_kept (Notify x) h = roomy.sent h

@@ -1,8 +1,7 @@
 -- How the exports that are listed by rank follow each event.
 use Rattle.std.proofs.Common.{◌≡◌, ◌≢◌, ℕ, zero, suc, ◌+◌, ◌<◌, ◌≤◌, Bool, true, false, ◌&&◌, ◌||◌, not, eqb, cond, List, [], ◌∷◌, ◌++◌, length, get_or, set, take, Vec, refl, sym, ap, ◌∙◌, inl, inr, ◌⊎◌, arith}
 use Rattle.std.specs.Prelude.{replicate, nat_lt}
-use Rattle.std.specs.List.{list_all}
-use Rattle.std.proofs.lemmas.Bool.{cases_lt, cases_eq, cases_Bool, or_left, or_right, and_parts}
+use Rattle.std.proofs.lemmas.Bool.{cases_lt, cases_eq, cases_Bool, or_left, or_right}
 use Rattle.std.proofs.lemmas.List.{get_or-set_same, get_or-set_other, get_or_past, length-set, take_all}
 use Rattle.export_machine.specs.declared.exporter.ExporterState.{ExporterState}
 use Rattle.export_machine.specs.declared.importer.ImporterState.{ImporterState}
@@ -263,17 +262,7 @@ change_among_all g places i xs d past rest = ap (λ l. changed_among g l xs) (ta
     go k (inl t) = rw t refl
     go k (inr f) = rw f (sym (rest k f))
 
--- where each rank's list has a place
-pub all_spare : {T A : Type 0} (ls : List (Vec T A)) → list_all (λ l. has_spare l) ls ≡ true → (rank : ℕ) → has_place ls rank ≡ true
-all_spare [] h zero = refl
-all_spare [] h (suc rank) = refl
-all_spare (l ∷ ls) h zero = (and_parts _ _ h).0
-all_spare (l ∷ ls) h (suc rank) = all_spare ls (and_parts _ _ h).1 rank
-
-pub spare_all : {T A : Type 0} (ls : List (Vec T A)) → ((rank : ℕ) → rank < length ls → has_place ls rank ≡ true) → list_all (λ l. has_spare l) ls ≡ true
-spare_all [] h = refl
-spare_all (l ∷ ls) h = rw (h 0 (omega arith), spare_all ls (λ rank m. h (suc rank) (omega arith))) refl
-
+-- where one list keeps its place, so does each
 pub set_places : {T A : Type 0} (ls : List (Vec T A)) (k : ℕ) (v d : Vec T A) → k < length ls → d ≡ get_or ls k d → (has_spare d ≡ true → has_spare v ≡ true) →
     (other : ℕ) → has_place ls other ≡ true → has_place (set ls k v) other ≡ true
 set_places [] k v d near e f other h = absurd (omega arith)
@@ -281,9 +270,3 @@ set_places (l ∷ ls) zero v d near e f zero h = f (ap (λ x. has_spare x) e ∙
 set_places (l ∷ ls) zero v d near e f (suc other) h = h
 set_places (l ∷ ls) (suc k) v d near e f zero h = h
 set_places (l ∷ ls) (suc k) v d near e f (suc other) h = set_places ls k v d (omega arith) e f other h
-
-pub set_all : {T A : Type 0} (ls : List (Vec T A)) (k : ℕ) (v d : Vec T A) → k < length ls → d ≡ get_or ls k d → (has_spare d ≡ true → has_spare v ≡ true) →
-    list_all (λ l. has_spare l) ls ≡ true → list_all (λ l. has_spare l) (set ls k v) ≡ true
-set_all [] k v d near e f h = absurd (omega arith)
-set_all (l ∷ ls) zero v d near e f h = (let p = and_parts (has_spare l) (list_all (λ a. has_spare a) ls) h in let s : has_spare v ≡ true = f (ap (λ x. has_spare x) e ∙ p.0) in rw (s, p.1) refl)
-set_all (l ∷ ls) (suc k) v d near e f h = (let p = and_parts (has_spare l) (list_all (λ a. has_spare a) ls) h in rw (p.0, set_all ls k v d (omega arith) e f p.1) refl)

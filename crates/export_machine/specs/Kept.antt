@@ -2,7 +2,6 @@
 use Rattle.std.specs.Prelude.{◌≡◌, ◌≤◌, ◌<◌, ℕ, ◌+◌, suc, Bool, true, ◌&&◌, nat_lt, List, [], ◌∷◌, map, length}
 use Rattle.std.specs.Prelude.{Option, None, Some, Result, Ok, Err, slice_get, slice_index_or}
 use Rattle.std.specs.Prelude.{Vec, if◌then◌else◌, replicate, false, not, ◌==◌, ◌||◌, is_some}
-use Rattle.std.specs.List.{list_all}
 use Rattle.export_machine.specs.Cluster.{World}
 use Rattle.export_machine.specs.Columns.{has_spare}
 use Rattle.export_machine.specs.Authority.{authority, open_export, is_among, order_in, from_of}
@@ -180,9 +179,9 @@ entered_at w _ = None
 abbrev pub has_dir_places : Records → Bool
 has_dir_places r = r.dirs.spare && has_spare r.marks
 
-abbrev pub has_export_places : Records → Bool
-has_export_places r =
-    r.exports.spare && has_spare r.sent && list_all (λ list. has_spare list) r.open_at.items
+-- for an export's row, for a message, and in this rank's list of open exports
+abbrev pub has_export_places : Records → ℕ → Bool
+has_export_places r rank = r.exports.spare && has_spare r.sent && has_place r.open_at.items rank
 
 abbrev pub has_ticket_places : Records → ℕ → Bool
 has_ticket_places r rank = has_spare r.tickets && has_place r.tickets_at.items rank
@@ -193,7 +192,7 @@ has_list_places r (Event.Made parent) = has_dir_places r
 has_list_places r (Event.Gone dir) = true
 has_list_places r (Event.Begin rank dir) = has_ticket_places r rank
 has_list_places r (Event.End ticket) = true
-has_list_places r (Event.Start from to dirs) = has_export_places r
+has_list_places r (Event.Start from to dirs) = has_export_places r from
 has_list_places r (Event.Deliver message) = has_spare r.sent
 has_list_places r (Event.Froze export) = has_spare r.sent
 has_list_places r (Event.Notify export) = has_spare r.sent
@@ -243,6 +242,7 @@ pub record Room : Type 0 where
   pub messages : Bool
   pub tickets : Bool
   pub requests : List Bool  -- by rank: for the ticket of a request there
+  pub listings : List Bool  -- by rank: in its list of open exports
   pub entries : List Bool  -- by rank: in its journal, and for an export there
 
 pub record State : Type 0 where
@@ -260,10 +260,11 @@ state_of r = record {
   world = world_of r;
   room = record {
     dirs = has_dir_places r;
-    exports = has_export_places r;
+    exports = r.exports.spare;
     messages = has_spare r.sent;
     tickets = has_spare r.tickets;
     requests = map (λ list. has_spare list) r.tickets_at.items;
+    listings = map (λ list. has_spare list) r.open_at.items;
     entries = places_of r.journals.items r.open_at.items;
   };
 }
@@ -277,7 +278,7 @@ is_ready_list room (Event.Made parent) = room.dirs
 is_ready_list room (Event.Gone dir) = true
 is_ready_list room (Event.Begin rank dir) = room.tickets && slice_index_or room.requests rank true
 is_ready_list room (Event.End ticket) = true
-is_ready_list room (Event.Start from to dirs) = room.exports
+is_ready_list room (Event.Start from to dirs) = room.exports && room.messages && slice_index_or room.listings from true
 is_ready_list room (Event.Deliver message) = room.messages
 is_ready_list room (Event.Froze export) = room.messages
 is_ready_list room (Event.Notify export) = room.messages

@@ -1,6 +1,5 @@
 -- That room which was taken is kept, and why an event is refused where memory is asked for too.
 use Rattle.std.specs.Prelude.{◌≡◌, ℕ, true, None, Some, ◌⊎◌}
-use Rattle.std.specs.List.{list_all}
 use Rattle.export_machine.specs.declared.records.Records.{Records}
 use Rattle.export_machine.specs.declared.step_error.StepError.{StepError}
 use Rattle.export_machine.specs.declared.step_error.StepError.TheVariants.{Memory}
@@ -23,8 +22,6 @@ pub record IsAsRoomy (old new : Records) : Type 0 where
   pub tickets : has_spare old.tickets ≡ true → has_spare new.tickets ≡ true
   pub tickets_at : (rank : ℕ) → has_place old.tickets_at.items rank ≡ true → has_place new.tickets_at.items rank ≡ true
   pub open_at : (rank : ℕ) → has_place old.open_at.items rank ≡ true → has_place new.open_at.items rank ≡ true
-  pub all_open : list_all (λ list. has_spare list) old.open_at.items ≡ true
-      → list_all (λ list. has_spare list) new.open_at.items ≡ true
   pub journals : (rank : ℕ) → has_place old.journals.items rank ≡ true → has_place new.journals.items rank ≡ true
 
 -- the event is refused for its first cause or, where it has none, for want of memory

@@ -1,12 +1,10 @@
 //! One event: its refusal, its memory, its effect, in this order.
 
-ghost use Rattle.std.specs.List.{list_all};
 ghost use Rattle.std.specs.Prelude.{◌≡◌, ◌<◌, ℕ, length, map, Some, None, true, Ok, OnOk, OnErr, IsOk, IfSome, IfErr};
 ghost use Rattle.export_machine.specs.Step.{refusal, happens, step};
 ghost use Rattle.export_machine.specs.declared.event.Event.{Event as StepEvent};
 ghost use Rattle.export_machine.specs.View.{IsAnswer};
 ghost use Rattle.export_machine.specs.Room.{IsAsRoomy, IsRefusal};
-ghost use Rattle.export_machine.specs.Columns.{has_spare};
 ghost use Rattle.export_machine.specs.Kept.{world_of, indexes_of, has_room, has_place, has_entry_places};
 ghost use Rattle.export_machine.specs.Kept.{has_list_places, has_ticket_places, has_dir_places, has_export_places};
 ghost use Rattle.export_machine.specs.Kept.{entered_at, IsKept, IsIndexed};
@@ -23,26 +21,9 @@ fn grow_list<T: Copy>(lists: &mut Vec<Vec<T>>, index: usize) -> Result<(), Alloc
     ensures entries { map (λ list. list.items) lists.new.items ≡ map (λ list. list.items) lists.old.items }
     ensures room { OnOk result (has_place lists.new.items index ≡ true) }
     ensures ready { has_place lists.old.items index ≡ true → IsOk result }
-    ensures all { list_all (λ list. has_spare list) lists.old.items ≡ true
-        → list_all (λ list. has_spare list) lists.new.items ≡ true }
     ensures spare { (other : ℕ) → has_place lists.old.items other ≡ true → has_place lists.new.items other ≡ true }
 {
     lists[index].reserve(1)
-}
-
-/// Takes room for one more in each of the lists.
-fn grow_all<T: Copy>(lists: &mut Vec<Vec<T>>) -> Result<(), AllocError>
-    ensures entries { map (λ list. list.items) lists.new.items ≡ map (λ list. list.items) lists.old.items }
-    ensures room { OnOk result (list_all (λ list. has_spare list) lists.new.items ≡ true) }
-    ensures ready { list_all (λ list. has_spare list) lists.old.items ≡ true → IsOk result }
-    ensures all { list_all (λ list. has_spare list) lists.old.items ≡ true
-        → list_all (λ list. has_spare list) lists.new.items ≡ true }
-    ensures spare { (other : ℕ) → has_place lists.old.items other ≡ true → has_place lists.new.items other ≡ true }
-{
-    for index in 0..lists.len() {
-        grow_list(lists, index)?;
-    }
-    Ok(())
 }
 
 impl Records {
@@ -58,17 +39,20 @@ impl Records {
         self.marks.reserve(1)
     }
 
-    /// Takes room for one more export.
-    fn grow_exports(&mut self) -> Result<(), AllocError>
+    /// Takes room for one more export, and in this rank's list of open exports, if it is a rank.
+    fn grow_exports(&mut self, rank: Rank) -> Result<(), AllocError>
         ensures world { world_of self.new ≡ world_of self.old }
         ensures indexes { indexes_of self.new ≡ indexes_of self.old }
-        ensures room { OnOk result (has_export_places self.new ≡ true) }
-        ensures ready { has_export_places self.old ≡ true → IsOk result }
+        ensures room { OnOk result (has_export_places self.new rank ≡ true) }
+        ensures ready { has_export_places self.old rank ≡ true → IsOk result }
         ensures spare { IsAsRoomy self.old self.new }
     {
         self.exports.reserve()?;
         self.sent.reserve(1)?;
-        grow_all(&mut self.open_at)
+        if rank.number() as usize >= self.open_at.len() {
+            return Ok(());
+        }
+        grow_list(&mut self.open_at, rank.number() as usize)
     }
 
     /// Takes room for the ticket of one more request at this rank, if it is one.
@@ -157,7 +141,7 @@ impl Records {
         match event {
             Event::Made(_) => self.grow_dirs(),
             Event::Begin(rank, _) => self.grow_tickets(*rank),
-            Event::Start(_, _, _) => self.grow_exports(),
+            Event::Start(from, _, _) => self.grow_exports(*from),
             Event::Deliver(_) => self.sent.reserve(1),
             Event::Froze(_) => self.sent.reserve(1),
             Event::Notify(_) => self.sent.reserve(1),

@@ -6,7 +6,7 @@ use Rattle.export_machine.specs.Kept.{is_spare}
 use Rattle.std.specs.Vec.{vec_len, vec_capacity}
 use Rattle.export_machine.proofs.Accepted.{item_at}
 use Rattle.export_machine.proofs.Bounds.{on_ok}
-use Rattle.export_machine.proofs.Listed.{set_all, set_places}
+use Rattle.export_machine.proofs.Listed.{set_places}
 use Rattle.export_machine.proofs.applying.grow_list.Goals as goal
 
 abbrev items_of : {T : Type 0} → Vec T Global → List T
@@ -40,10 +40,6 @@ returns-clause-ready g c = λ h.
 
 spare_kept : (old new old_room new_room : ℕ) → new ≡ old → old_room ≤ new_room → ltb old old_room ≡ true → ltb new new_room ≡ true
 spare_kept old new old_room new_room e h k = grind arith
-
-pub returns-clause-all : goal.returns-clause-all
-returns-clause-all g c = set_all c.args.lists.now.items c.args.index c.reserve.new.self c.index_mut.result.now c.requires.near c.index_mut.ensures.value
-    (spare_kept (vec_len c.index_mut.result.now) (vec_len c.reserve.new.self) (vec_capacity c.index_mut.result.now) (vec_capacity c.reserve.new.self) (omega arith) (omega arith))
 
 pub returns-clause-spare : goal.returns-clause-spare
 returns-clause-spare g c = set_places c.args.lists.now.items c.args.index c.reserve.new.self c.index_mut.result.now c.requires.near c.index_mut.ensures.value

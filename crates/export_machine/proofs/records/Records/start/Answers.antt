@@ -4,7 +4,6 @@ use Rattle.export_machine.specs.Authority.{is_among}
 use Rattle.export_machine.specs.Step.{happens}
 use Rattle.export_machine.specs.Kept.{world_of, indexes_of, has_room}
 use Rattle.std.proofs.lemmas.List.{length-map}
-use Rattle.export_machine.proofs.Listed.{all_spare}
 use Rattle.export_machine.proofs.Starting.{start_from_rank, start_there, start_few, start_indexed}
 use Rattle.export_machine.proofs.records.Records.start.Goals as goal
 
@@ -35,7 +34,7 @@ enter-requires-clause-near c =
 
 pub enter-requires-clause-room : goal.enter-requires-clause-room
 unfolding has_room
-enter-requires-clause-room c = all_spare c.args.self.now.open_at.items (and_parts _ _ (and_parts _ _ c.requires.room).1).1 c.args.from
+enter-requires-clause-room c = (and_parts _ _ (and_parts _ _ c.requires.room).1).1
 
 pub returns-clause-effect : goal.returns-clause-effect
 unfolding happens
