@@ -12,7 +12,7 @@ use command_line::{OptionsError, Settings, options};
 use dirtree::NameKey;
 use script_engine::{Input, RunError, write_whole};
 use script_session::laws::certificates_are_best;
-use script_session::run;
+use script_session::{RunOptions, run};
 use std::alloc::Global;
 use std::convert::AsStr;
 use std::fs::{File, Files};
@@ -73,7 +73,16 @@ fn carry_out<T: Threads + Wait + Files + RandomSource + Sync, R: Read, W: Write,
     let Ok(key) = name_key(rt) else {
         return fail(RunError::Read, errors);
     };
-    prove(rt, alloc, settings, key, input, writer, &mut proofs, errors)
+    let options = RunOptions {
+        key,
+        limit: settings.limit,
+        strict: settings.strict,
+    };
+    let hints = LineHints {
+        errors,
+        quiet: settings.quiet,
+    };
+    prove(rt, alloc, options, input, writer, &mut proofs, hints)
 }
 
 // A key that nobody else knows, for the hash by which names are found.
@@ -95,29 +104,22 @@ fn open_proofs<T: Files>(rt: &T, file: Option<&str>) -> io::Result<Option<T::Fil
 fn prove<T: Threads + Wait + Sync, R: Read, W: Write, P: Write, E: Write>(
     rt: &T,
     alloc: Global,
-    settings: Settings<'_>,
-    key: NameKey,
+    options: RunOptions,
     input: &mut Input<R>,
     writer: &mut W,
     proofs: &mut Option<P>,
-    errors: &mut E,
+    hints: LineHints<'_, E>,
 ) -> u8
-    requires some { 1 ≤ settings.limit }
-    requires few { settings.limit ≤ 65536 }
+    requires some { 1 ≤ options.limit }
+    requires few { options.limit ≤ 65536 }
     requires unread { input.old.reads ≡ 0 }
-    ensures run { IsRun R.remaining settings.entry.limit settings.entry.strict input.old input.new
+    ensures run { IsRun R.remaining options.limit options.strict input.old input.new
         (W.contents writer.old) (W.contents writer.new) result }
     ensures proofs { result ≤ 1 → AreProved
         (option_and_then P.contents proofs.old) (option_and_then P.contents proofs.new) }
 {
-    let mut hints = LineHints {
-        errors,
-        quiet: settings.quiet,
-    };
-    let (limit, strict) = (settings.limit, settings.strict);
-    let ended = run(
-        rt, alloc, input, writer, proofs, &mut hints, key, limit, strict,
-    );
+    let mut hints = hints;
+    let ended = run(rt, alloc, input, writer, proofs, &mut hints, options);
     let LineHints {
         errors,
         quiet: _quiet,

@@ -11,5 +11,5 @@ pub mod session;
 
 pub use done::Done;
 pub use hints::{Hints, Silence};
-pub use script::{Ended, run};
+pub use script::{Ended, RunOptions, run};
 pub use session::Session;

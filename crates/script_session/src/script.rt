@@ -23,6 +23,17 @@ use std::marker::{Brand, Send, Sync};
 use std::sync::Wait;
 use std::thread::Threads;
 
+/// How a script is to be carried out.
+#[derive(Clone, Copy)]
+pub struct RunOptions {
+    /// Picks the hash by which names are found. It changes nothing that is answered.
+    pub key: NameKey,
+    /// The numbers of the tree's directories are below it.
+    pub limit: u32,
+    /// Whether the first line that isn't accepted ends the run.
+    pub strict: bool,
+}
+
 /// How a run ended.
 #[derive(Clone, Copy)]
 pub struct Ended {
@@ -44,14 +55,13 @@ impl Ended {
     }
 }
 
-/// Carries out a script, and says whether each of its lines was accepted. A tree has numbers below `limit`.
+/// Carries out a script, and says whether each of its lines was accepted.
 ///
-/// A strict run ends with the first line that isn't accepted. A device that fails ends the run. The parts of a board
-/// are opened first; where there is no memory for them, nothing is read. However a run ends, the certificates of the
-/// plans that the board has adopted are then written to `proofs`, where one is given.
+/// A device that fails ends the run. The parts of a board are opened first; where there is no memory for them, nothing
+/// is read. However a run ends, the certificates of the plans that the board has adopted are then written to `proofs`,
+/// where one is given.
 ///
-/// `hints` is told of each line that is answered `syntax`, and why. `key` picks the hash by which names are found.
-/// Neither changes what is answered.
+/// `hints` is told of each line that is answered `syntax`, and why. It changes nothing that is answered.
 pub fn run<T: Threads + Wait + Sync, R: Read, W: Write, P: Write, H: Hints>(
     rt: &T,
     alloc: Global,
@@ -59,31 +69,32 @@ pub fn run<T: Threads + Wait + Sync, R: Read, W: Write, P: Write, H: Hints>(
     writer: &mut W,
     proofs: &mut Option<P>,
     hints: &mut H,
-    key: NameKey,
-    limit: u32,
-    strict: bool,
+    options: RunOptions,
 ) -> Ended
-    requires some { 1 ≤ limit }
-    requires few { limit ≤ 65536 }
+    requires some { 1 ≤ options.limit }
+    requires few { options.limit ≤ 65536 }
     requires unread { input.old.reads ≡ 0 }
     ensures done { IfOk result.answered (λ accepted. IfSome (R.remaining input.old.reader) (λ all.
-        AllAnswered limit strict (lines_of all) accepted (W.contents writer.old) (W.contents writer.new))) }
+        AllAnswered options.limit options.strict (lines_of all) accepted
+        (W.contents writer.old) (W.contents writer.new))) }
     // The same for the bytes that came, of any reader.
     ensures given { IfOk result.answered (λ accepted. (bytes : List ℕ) × Gives R.remaining input.old input.new bytes
-        × ((strict && not accepted) ≡ false → IsEnded R.remaining input.new)
-        × AllAnswered limit strict (lines_of bytes) accepted (W.contents writer.old) (W.contents writer.new)) }
+        × ((options.strict && not accepted) ≡ false → IsEnded R.remaining input.new)
+        × AllAnswered options.limit options.strict (lines_of bytes) accepted
+        (W.contents writer.old) (W.contents writer.new)) }
     // A strict run reads nothing behind the read in which its last line ends.
-    ensures stops { IfOk result.answered (λ accepted. (strict && not accepted) ≡ true → (front : List ℕ)
+    ensures stops { IfOk result.answered (λ accepted. (options.strict && not accepted) ≡ true → (front : List ℕ)
         × (last : List ℕ)
-        × Gives R.remaining input.old input.new (front ++ last) × AcceptedUpTo limit strict front last) }
+        × Gives R.remaining input.old input.new (front ++ last)
+        × AcceptedUpTo options.limit options.strict front last) }
     // Where a read fails, the lines that were whole were answered.
     ensures read { IsErrOf result.answered RunError.Read → (bytes : List ℕ)
         × Gives R.remaining input.old input.new bytes
-        × WholeAnswered limit strict bytes (W.contents writer.old) (W.contents writer.new) }
+        × WholeAnswered options.limit options.strict bytes (W.contents writer.old) (W.contents writer.new) }
     // Where a write fails, a beginning of what is due for the lines so far was written.
     ensures write { IsErrOf result.answered RunError.Write → (bytes : List ℕ)
         × Gives R.remaining input.old input.new bytes
-        × SomeAnswered limit strict bytes (W.contents writer.old) (W.contents writer.new) }
+        × SomeAnswered options.limit options.strict bytes (W.contents writer.old) (W.contents writer.new) }
     // Where there is no memory to begin with, no device was touched.
     ensures memory { IsErrOf result.answered RunError.Memory → (input.new ≡ input.old) × (writer.new ≡ writer.old)
         × (proofs.new ≡ proofs.old) }
@@ -91,16 +102,14 @@ pub fn run<T: Threads + Wait + Sync, R: Read, W: Write, P: Write, H: Hints>(
     ensures proofs { (last : SessionData) × IsKeptAt last.board
         × IsProved result.proved
         (option_and_then P.contents proofs.old) (option_and_then P.contents proofs.new) last.board
-        × IfOk result.answered (LeadsTo R.remaining limit strict input.old input.new
+        × IfOk result.answered (LeadsTo R.remaining options.limit options.strict input.old input.new
         (W.contents writer.old) (W.contents writer.new) last) }
 {
     let Ok(book) = heat_ledger::NewBook::new(alloc) else {
         return Ended::without_memory();
     };
     let map = authority_map::NewMap::new();
-    run_named::<Brand, T, R, W, P, H>(
-        rt, alloc, book, map, input, writer, proofs, hints, key, limit, strict,
-    )
+    run_named::<Brand, T, R, W, P, H>(rt, alloc, book, map, input, writer, proofs, hints, options)
 }
 
 // The same for a board whose name was picked.
@@ -120,34 +129,35 @@ fn run_named<
     writer: &mut W,
     proofs: &mut Option<P>,
     hints: &mut H,
-    key: NameKey,
-    limit: u32,
-    strict: bool,
+    options: RunOptions,
 ) -> Ended
     requires book { book ≡ J.ledger }
     requires map { map ≡ J.map }
-    requires limit { limit ≡ J.limit }
-    requires some { 1 ≤ limit }
-    requires few { limit ≤ 65536 }
+    requires limit { options.limit ≡ J.limit }
+    requires some { 1 ≤ options.limit }
+    requires few { options.limit ≤ 65536 }
     requires unread { input.old.reads ≡ 0 }
     ensures done { IfOk result.answered (λ accepted. IfSome (R.remaining input.old.reader) (λ all.
-        AllAnswered limit strict (lines_of all) accepted (W.contents writer.old) (W.contents writer.new))) }
+        AllAnswered options.limit options.strict (lines_of all) accepted
+        (W.contents writer.old) (W.contents writer.new))) }
     // The same for the bytes that came, of any reader.
     ensures given { IfOk result.answered (λ accepted. (bytes : List ℕ) × Gives R.remaining input.old input.new bytes
-        × ((strict && not accepted) ≡ false → IsEnded R.remaining input.new)
-        × AllAnswered limit strict (lines_of bytes) accepted (W.contents writer.old) (W.contents writer.new)) }
+        × ((options.strict && not accepted) ≡ false → IsEnded R.remaining input.new)
+        × AllAnswered options.limit options.strict (lines_of bytes) accepted
+        (W.contents writer.old) (W.contents writer.new)) }
     // A strict run reads nothing behind the read in which its last line ends.
-    ensures stops { IfOk result.answered (λ accepted. (strict && not accepted) ≡ true → (front : List ℕ)
+    ensures stops { IfOk result.answered (λ accepted. (options.strict && not accepted) ≡ true → (front : List ℕ)
         × (last : List ℕ)
-        × Gives R.remaining input.old input.new (front ++ last) × AcceptedUpTo limit strict front last) }
+        × Gives R.remaining input.old input.new (front ++ last)
+        × AcceptedUpTo options.limit options.strict front last) }
     // Where a read fails, the lines that were whole were answered.
     ensures read { IsErrOf result.answered RunError.Read → (bytes : List ℕ)
         × Gives R.remaining input.old input.new bytes
-        × WholeAnswered limit strict bytes (W.contents writer.old) (W.contents writer.new) }
+        × WholeAnswered options.limit options.strict bytes (W.contents writer.old) (W.contents writer.new) }
     // Where a write fails, a beginning of what is due for the lines so far was written.
     ensures write { IsErrOf result.answered RunError.Write → (bytes : List ℕ)
         × Gives R.remaining input.old input.new bytes
-        × SomeAnswered limit strict bytes (W.contents writer.old) (W.contents writer.new) }
+        × SomeAnswered options.limit options.strict bytes (W.contents writer.old) (W.contents writer.new) }
     // Where there is no memory to begin with, no device was touched.
     ensures memory { IsErrOf result.answered RunError.Memory → (input.new ≡ input.old) × (writer.new ≡ writer.old)
         × (proofs.new ≡ proofs.old) }
@@ -155,13 +165,13 @@ fn run_named<
     ensures proofs { (last : SessionData) × IsKeptAt last.board
         × IsProved result.proved
         (option_and_then P.contents proofs.old) (option_and_then P.contents proofs.new) last.board
-        × IfOk result.answered (LeadsTo R.remaining limit strict input.old input.new
+        × IfOk result.answered (LeadsTo R.remaining options.limit options.strict input.old input.new
         (W.contents writer.old) (W.contents writer.new) last) }
 {
-    let Some(parts) = open_parts(rt, alloc, book, map, key, limit) else {
+    let Some(parts) = open_parts(rt, alloc, book, map, options.key, options.limit) else {
         return Ended::without_memory();
     };
-    let session = Session::<J, MapWriter<J, &T>, T>::new(rt, alloc, limit, parts);
+    let session = Session::<J, MapWriter<J, &T>, T>::new(rt, alloc, options.limit, parts);
     let mut hinted = Hinted { session, hints };
     let answer = |hinted: &mut Hinted<
         '_,
@@ -170,7 +180,7 @@ fn run_named<
     >, number: u64, line: &[u8], writer: &mut W| -> Result<bool, WriteFailed>
         ensures { Tells answers W.contents hinted.old number line.now writer.old result hinted.new writer.new }
     { hinted.answer(alloc, number, line, writer) };
-    let answered = run_script(alloc, &answer, &mut hinted, input, writer, strict);
+    let answered = run_script(alloc, &answer, &mut hinted, input, writer, options.strict);
     let Hinted {
         session,
         hints: _hints,

@@ -6,7 +6,7 @@ use dirtree::NameKey;
 use plan_checker::check;
 use plan_text::read;
 use script_engine::Input;
-use script_session::{Silence, run};
+use script_session::{RunOptions, Silence, run};
 use std::alloc::Global;
 use std::marker::Sync;
 use std::sync::Wait;
@@ -41,9 +41,11 @@ fn written<T: Threads + Wait + Sync>(
         &mut sink,
         &mut proofs,
         &mut Silence,
-        NameKey::default(),
-        64,
-        false,
+        RunOptions {
+            key: NameKey::default(),
+            limit: 64,
+            strict: false,
+        },
     );
     match proofs {
         Some(sink) => (ended.proved, sink.bytes),

@@ -4,7 +4,7 @@ use crate::same::{holds_in, same};
 use dirtree::NameKey;
 use script_commands::{LineFault, explain};
 use script_engine::Input;
-use script_session::{Hints, run};
+use script_session::{Hints, RunOptions, run};
 use std::test::Fail;
 
 // (line, what is said)
@@ -139,9 +139,11 @@ fn a_run_tells_each_line_that_spells_no_command(rt: HostRuntime) -> Result<(), F
             &mut sink,
             &mut proofs,
             &mut heard,
-            NameKey::default(),
-            64,
-            strict,
+            RunOptions {
+                key: NameKey::default(),
+                limit: 64,
+                strict,
+            },
         );
         same(&rt, &ended.answered, &Ok(false));
         same(&rt, &heard.lines.as_slice(), &wanted);

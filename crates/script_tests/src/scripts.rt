@@ -5,7 +5,7 @@ use crate::devices::{ENOUGH, Sink, Source, sink_of, source_of};
 use crate::same::{holds_in, same};
 use dirtree::NameKey;
 use script_engine::{Input, RunError};
-use script_session::{Silence, run};
+use script_session::{RunOptions, Silence, run};
 use std::alloc::Global;
 use std::marker::Sync;
 use std::sync::Wait;
@@ -33,9 +33,11 @@ fn carried_out<T: Threads + Wait + Sync>(
         sink,
         &mut proofs,
         &mut Silence,
-        NameKey::default(),
-        limit,
-        strict,
+        RunOptions {
+            key: NameKey::default(),
+            limit,
+            strict,
+        },
     );
     (ended.answered, input.into_inner().reads)
 }
