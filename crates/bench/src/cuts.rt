@@ -12,7 +12,6 @@ use mds_types::Problem;
 use minmax_search::search;
 use residual_cut::cut_at;
 use std::io;
-use std::io::Write;
 use std::time::{CpuClock, Duration};
 
 /// How often each call is timed.
@@ -60,42 +59,47 @@ fn time_all(rt: &HostRuntime, shape: Shape, ranks: u8) -> io::Result<()> {
     let (cut, parts) = time_cut(rt, &problem, greatest)?;
     let (below, more) = time_cut(rt, &problem, greatest.saturating_sub(1))?;
     println!(rt;
-        "{shape} {ranks} greatest {greatest} search {searched} passes {passes} cut {cut} parts {parts} below {below} parts {more}"
+        "{shape} {ranks} greatest {greatest} search {searched} passes {passes} cut {cut} parts {parts} \
+         below {below} parts {more}"
     )
 }
 
 /// Prints a problem, as `rows ranks` and then `parent heat inodes now` a line.
 fn print_rows(rt: &HostRuntime, shape: Shape, ranks: u8) -> io::Result<()> {
     let problem = problem(rt.alloc(), shape, ranks)?;
-    let mut out = io::BufWriter::new(rt.alloc(), io::writer(rt))?;
-    let count = problem.rows().len();
-    writeln!(out, "{count} {ranks}")?;
+    println!(rt; "{} {ranks}", problem.rows().len())?;
     for row in problem.rows() {
         let now = row.now.number();
-        writeln!(out, "{} {} {} {now}", row.parent, row.heat, row.inodes)?;
+        println!(rt; "{} {} {} {now}", row.parent, row.heat, row.inodes)?;
     }
-    out.flush()
+    Ok(())
+}
+
+/// Times the calls on each problem.
+fn time_each(rt: &HostRuntime) -> io::Result<()> {
+    for shape in Shape::ALL {
+        for ranks in [2, 8, 64] {
+            time_all(rt, shape, ranks)?;
+        }
+    }
+    Ok(())
+}
+
+/// The shape and the number of ranks that the words name.
+fn shape_and_ranks(words: &[String]) -> Option<(Shape, u8)> {
+    let shape = Shape::named(words.get(1)?.as_str())?;
+    let ranks = words.get(2)?.parse::<u8>().ok()?;
+    Some((shape, ranks))
 }
 
 /// Carries out what the words ask for.
 pub fn run(rt: &HostRuntime, words: &[String]) -> io::Result<()> {
     match words.first().map(|word| word.as_str()) {
-        Some("times") => {
-            for shape in Shape::ALL {
-                for ranks in [2, 8, 64] {
-                    time_all(rt, shape, ranks)?;
-                }
-            }
-            Ok(())
-        }
-        Some("rows") => {
-            let shape = words.get(1).and_then(|word| Shape::named(word.as_str()));
-            let ranks = words.get(2).and_then(|word| word.parse::<u8>().ok());
-            match (shape, ranks) {
-                (Some(shape), Some(ranks)) => print_rows(rt, shape, ranks),
-                _ => Ok(()),
-            }
-        }
+        Some("times") => time_each(rt),
+        Some("rows") => match shape_and_ranks(words) {
+            Some((shape, ranks)) => print_rows(rt, shape, ranks),
+            None => Ok(()),
+        },
         _ => Ok(()),
     }
 }

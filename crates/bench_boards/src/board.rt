@@ -83,22 +83,15 @@ fn time<J: Naming, M: Publisher<J>, R: Threads + Sync + CpuClock + Print>(
     }
 }
 
-// Opens a board for what is asked for.
-fn time_opened<J: Naming, R: Threads + Wait + Sync + CpuClock + Print>(
+fn time_on<J: Naming, M: Publisher<J>, R: Threads + Wait + Sync + CpuClock + Print>(
     rt: &R,
     alloc: Global,
-    book: heat_ledger::NewBook,
-    map: authority_map::NewMap,
+    parts: BoardParts<J, M>,
     calls: Calls,
 ) -> io::Result<()>
-    requires book { book ≡ J.ledger }
-    requires map { map ≡ J.map }
     requires limit { J.limit ≡ DIR_LIMIT }
 {
-    let Ok((writer, _readers)) = MapWriter::<J, &R>::open(rt, alloc, map, DIR_LIMIT, 1) else {
-        return Err(failed("no map"));
-    };
-    match Board::new(alloc, BoardParts::new(book, writer), DIR_LIMIT, RANKS) {
+    match Board::new(alloc, parts, DIR_LIMIT, RANKS) {
         Err(parts) => {
             parts.end();
             Err(failed("no board"))
@@ -111,6 +104,24 @@ fn time_opened<J: Naming, R: Threads + Wait + Sync + CpuClock + Print>(
             board.end();
             done
         }
+    }
+}
+
+// Opens a board for what is asked for.
+fn time_opened<J: Naming, R: Threads + Wait + Sync + CpuClock + Print>(
+    rt: &R,
+    alloc: Global,
+    book: heat_ledger::NewBook,
+    map: authority_map::NewMap,
+    calls: Calls,
+) -> io::Result<()>
+    requires book { book ≡ J.ledger }
+    requires map { map ≡ J.map }
+    requires limit { J.limit ≡ DIR_LIMIT }
+{
+    match MapWriter::<J, &R>::open(rt, alloc, map, DIR_LIMIT, 1) {
+        Ok((writer, _readers)) => time_on(rt, alloc, BoardParts::new(book, writer), calls),
+        Err(_) => Err(failed("no map")),
     }
 }
 

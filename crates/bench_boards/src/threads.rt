@@ -9,7 +9,7 @@ mod boards;
 
 ghost use Rattle.std.specs.Prelude.{◌≤◌};
 
-use crate::threads::boards::{time_export, time_serve};
+use crate::threads::boards::{Work, time_phase};
 use std::alloc::Global;
 use std::io;
 use std::marker::{Brand, Sync};
@@ -19,15 +19,6 @@ use std::time::Clock;
 
 /// How often each phase is timed.
 const RUNS: u32 = 7;
-
-/// What is timed.
-#[derive(Clone, Copy)]
-enum Work {
-    /// Requests of so many hits.
-    Serve(u32),
-    /// Exports.
-    Export,
-}
 
 // The time of one phase.
 fn time<R: Threads + Wait + Clock + Sync>(
@@ -43,10 +34,7 @@ fn time<R: Threads + Wait + Clock + Sync>(
         heat_ledger::NewBook::new(alloc)?,
         authority_map::NewMap::new(),
     );
-    let nanos = match work {
-        Work::Serve(hits) => time_serve::<Brand, R>(rt, alloc, names, ranks, hits, by_threads)?,
-        Work::Export => time_export::<Brand, R>(rt, alloc, names, ranks, by_threads)?,
-    };
+    let nanos = time_phase::<Brand, R>(rt, alloc, names, work, ranks, by_threads)?;
     Ok(nanos)
 }
 

@@ -24,48 +24,55 @@ pub fn opened_is_problem()
 /// Divisions of the unpinned directories and divisions of the rows are the same, with the same heats: so a heat that no
 /// division of the rows is below is one that no division of the directories is below.
 pub fn directories_divide_as_rows()
-    ensures divisions { (entries : List (Option Entry)) (own : List (Option ℕ)) (heats now : List ℕ) (k : ℕ) (label : ℕ → ℕ) →
-        IsTree entries →
-        IsDirDivision entries own k label ↔ IsDivision (problem_rows entries own heats now) k (row_label entries own label) }
-    ensures heats { (entries : List (Option Entry)) (own : List (Option ℕ)) (heats now : List ℕ) (label : ℕ → ℕ) (part : ℕ) →
-        IsTree entries →
+    ensures divisions { (entries : List (Option Entry)) (own : List (Option ℕ)) (heats now : List ℕ) (k : ℕ)
+        (label : ℕ → ℕ) → IsTree entries → IsDirDivision entries own k label
+        ↔ IsDivision (problem_rows entries own heats now) k (row_label entries own label) }
+    ensures heats { (entries : List (Option Entry)) (own : List (Option ℕ)) (heats now : List ℕ) (label : ℕ → ℕ)
+        (part : ℕ) → IsTree entries →
         part_heat (problem_rows entries own heats now) (row_label entries own label) part
         ≡ dir_part_heat entries own heats label part }
-    ensures least { (entries : List (Option Entry)) (own : List (Option ℕ)) (heats now : List ℕ) (k heat : ℕ) (label : ℕ → ℕ) →
-        IsTree entries → IsLowerBound (problem_rows entries own heats now) k heat → IsDirDivision entries own k label →
-        heat ≤ greatest_dir_heat entries own heats k label }
+    ensures least { (entries : List (Option Entry)) (own : List (Option ℕ)) (heats now : List ℕ) (k heat : ℕ)
+        (label : ℕ → ℕ) → IsTree entries → IsLowerBound (problem_rows entries own heats now) k heat →
+        IsDirDivision entries own k label → heat ≤ greatest_dir_heat entries own heats k label }
 {}
 
 /// The row of a directory's parent is the row that its row names: the problem's
 /// tree is that of the unpinned directories.
 pub fn parents_are_rows()
-    ensures { (entries : List (Option Entry)) (own : List (Option ℕ)) (heats now : List ℕ) (i : ℕ) → IsTree entries → i < length (unpinned entries own)
-        → slice_index (unpinned entries own) (parent_at (problem_rows entries own heats now) i) ≡ parent_of entries (slice_index (unpinned entries own) i) }
+    ensures { (entries : List (Option Entry)) (own : List (Option ℕ)) (heats now : List ℕ) (i : ℕ) → IsTree entries
+        → i < length (unpinned entries own)
+        → slice_index (unpinned entries own) (parent_at (problem_rows entries own heats now) i)
+        ≡ parent_of entries (slice_index (unpinned entries own) i) }
 {}
 
 /// In a division into connected parts that each have a row, each part has one top.
 pub fn each_part_has_one_top()
-    ensures { (rows : List ProblemRow) (k part : ℕ) (label : ℕ → ℕ) → IsForest rows → IsPartition rows k label → part < k
-        → (i : ℕ) × IsTopOf rows label part i × ((j : ℕ) → IsTopOf rows label part j → j ≡ i) }
+    ensures { (rows : List ProblemRow) (k part : ℕ) (label : ℕ → ℕ) → IsForest rows → IsPartition rows k label
+        → part < k → (i : ℕ) × IsTopOf rows label part i × ((j : ℕ) → IsTopOf rows label part j → j ≡ i) }
 {}
 
 /// The parts of a plan have together what the rows have: none is left out, and none counted twice.
 pub fn parts_add_up()
-    ensures heats { (rows : List ProblemRow) (dirs : List ℕ) (plan : Plan) → IsForest rows → IsPartition rows (length plan.rank) (plan_label plan)
+    ensures heats { (rows : List ProblemRow) (dirs : List ℕ) (plan : Plan) → IsForest rows
+        → IsPartition rows (length plan.rank) (plan_label plan)
         → sum_by (λ part. part.heat) (plan_parts rows dirs plan) ≡ sum_below (length rows) (heat_at rows) }
-    ensures inodes { (rows : List ProblemRow) (dirs : List ℕ) (plan : Plan) → IsForest rows → IsPartition rows (length plan.rank) (plan_label plan)
+    ensures inodes { (rows : List ProblemRow) (dirs : List ℕ) (plan : Plan) → IsForest rows
+        → IsPartition rows (length plan.rank) (plan_label plan)
         → sum_by (λ part. part.inodes) (plan_parts rows dirs plan) ≡ sum_below (length rows) (inodes_at rows) }
 {}
 
 /// The division below the tops of a plan's parts has the plan's parts: the same tops, heats and inodes, and no other.
 /// Its greatest heat is that of the plan's division.
 pub fn tops_give_the_parts()
-    ensures parts { (entries : List (Option Entry)) (own : List (Option ℕ)) (heats now : List ℕ) (plan : Plan) → IsTree entries
-        → IsForest (problem_rows entries own heats now) → IsPartition (problem_rows entries own heats now) (length plan.rank) (plan_label plan)
+    ensures parts { (entries : List (Option Entry)) (own : List (Option ℕ)) (heats now : List ℕ) (plan : Plan)
+        → IsTree entries → IsForest (problem_rows entries own heats now)
+        → IsPartition (problem_rows entries own heats now) (length plan.rank) (plan_label plan)
         → let planned = plan_parts (problem_rows entries own heats now) (unpinned entries own) plan in
         parts entries own heats (part_tops planned) ≡ map without_rank planned }
-    ensures greatest { (entries : List (Option Entry)) (own : List (Option ℕ)) (heats now : List ℕ) (plan : Plan) → IsTree entries
-        → IsForest (problem_rows entries own heats now) → IsPartition (problem_rows entries own heats now) (length plan.rank) (plan_label plan)
+    ensures greatest { (entries : List (Option Entry)) (own : List (Option ℕ)) (heats now : List ℕ) (plan : Plan)
+        → IsTree entries → IsForest (problem_rows entries own heats now)
+        → IsPartition (problem_rows entries own heats now) (length plan.rank) (plan_label plan)
         → let planned = plan_parts (problem_rows entries own heats now) (unpinned entries own) plan in
-        greatest (parts entries own heats (part_tops planned)) ≡ greatest_heat (problem_rows entries own heats now) (length plan.rank) (plan_label plan) }
+        greatest (parts entries own heats (part_tops planned))
+        ≡ greatest_heat (problem_rows entries own heats now) (length plan.rank) (plan_label plan) }
 {}

@@ -4,13 +4,13 @@
 //! growth refused.
 ghost use Rattle.std.specs.Prelude.{◌≤◌, ◌^◌};
 
-use crate::same::{same, same_in};
+use crate::same::{Sure, same, same_in};
 use exhaustive::Random;
 use heat_decay::{Heat, TICK_LIMIT, TicksFull};
 use mds_types::Dir;
 use mds_types::limits::HEAT_LIMIT;
 use std::alloc::{AllocError, Global};
-use std::test::Fail;
+use std::process::Abort;
 
 /// How many directories there are.
 const DIRS: u32 = 4;
@@ -71,19 +71,19 @@ fn tick(heat: &mut Heat, ticks: u32) -> Result<(), TicksFull> {
 }
 
 /// The heat of directory 1 after two deposits on it, after one tick and after two, and at its neighbour.
-fn heats_after(alloc: Global, first: u64, second: u64) -> Result<[u64; 4], Fail> {
-    let mut heat = cold(alloc)?;
+fn heats_after(rt: &impl Abort, alloc: Global, first: u64, second: u64) -> [u64; 4] {
+    let mut heat = cold(alloc).sure(rt);
     add(&mut heat, 1, first);
     add(&mut heat, 1, second);
     let deposited = heat_of(&heat, 1);
-    tick(&mut heat, 1)?;
+    tick(&mut heat, 1).sure(rt);
     let once = heat_of(&heat, 1);
-    tick(&mut heat, 1)?;
-    Ok([deposited, once, heat_of(&heat, 1), heat_of(&heat, 2)])
+    tick(&mut heat, 1).sure(rt);
+    [deposited, once, heat_of(&heat, 1), heat_of(&heat, 2)]
 }
 
 #[test]
-fn deposits_and_ticks(rt: HostRuntime) -> Result<(), Fail> {
+fn deposits_and_ticks(rt: HostRuntime) {
     // (deposits, heat after them, after one tick, after two, at the neighbour)
     let table = [
         ((0, 0), [0, 0, 0, 0]),
@@ -101,74 +101,68 @@ fn deposits_and_ticks(rt: HostRuntime) -> Result<(), Fail> {
     for ((first, second), heats) in table {
         same_in(
             &rt,
-            &heats_after(rt.alloc(), first, second)?,
+            &heats_after(&rt, rt.alloc(), first, second),
             &heats,
             &(first, second),
         );
     }
-    Ok(())
 }
 
 #[test]
-fn is_cold_after_41_ticks(rt: HostRuntime) -> Result<(), Fail> {
-    let mut heat = cold(rt.alloc())?;
+fn is_cold_after_41_ticks(rt: HostRuntime) {
+    let mut heat = cold(rt.alloc()).sure(&rt);
     add(&mut heat, 1, HEAT_LIMIT);
-    tick(&mut heat, 40)?;
+    tick(&mut heat, 40).sure(&rt);
     same(&rt, &heat_of(&heat, 1), &1);
-    tick(&mut heat, 1)?;
+    tick(&mut heat, 1).sure(&rt);
     same(&rt, &heat_of(&heat, 1), &0);
-    tick(&mut heat, 100)?;
+    tick(&mut heat, 100).sure(&rt);
     same(&rt, &heat_of(&heat, 1), &0);
     same(&rt, &kept(&heat, 1), &(HEAT_LIMIT, 0));
-    Ok(())
 }
 
 #[test]
-fn keeps_the_last_touch(rt: HostRuntime) -> Result<(), Fail> {
-    let mut heat = cold(rt.alloc())?;
+fn keeps_the_last_touch(rt: HostRuntime) {
+    let mut heat = cold(rt.alloc()).sure(&rt);
     add(&mut heat, 1, 5);
-    tick(&mut heat, 1)?;
+    tick(&mut heat, 1).sure(&rt);
     add(&mut heat, 1, 3);
     same(&rt, &heat_of(&heat, 1), &5);
-    tick(&mut heat, 1)?;
+    tick(&mut heat, 1).sure(&rt);
     same(&rt, &heat_of(&heat, 1), &2);
     same(&rt, &kept(&heat, 1), &(5, 1));
     same(&rt, &kept(&heat, 2), &(0, 0));
     clear(&mut heat, 1);
     same(&rt, &kept(&heat, 1), &(0, 2));
     same(&rt, &heat_of(&heat, 1), &0);
-    Ok(())
 }
 
 #[test]
-fn goes_on_after_many_ticks(rt: HostRuntime) -> Result<(), Fail> {
-    let mut heat = resumed(rt.alloc(), TICK_LIMIT - 1)?;
+fn goes_on_after_many_ticks(rt: HostRuntime) {
+    let mut heat = resumed(rt.alloc(), TICK_LIMIT - 1).sure(&rt);
     same(&rt, &kept(&heat, 3), &((0, TICK_LIMIT - 1)));
     add(&mut heat, 3, 9);
     assert!(rt; heat.tick().is_ok());
     assert!(rt; heat.tick().is_err());
     same(&rt, &heat_of(&heat, 3), &4);
     same(&rt, &kept(&heat, 3), &((9, TICK_LIMIT - 1)));
-    Ok(())
 }
 
 #[test]
-fn a_refused_growth_is_asked_for_again(rt: HostRuntime) -> Result<(), Fail> {
-    let mut heat = cold(rt.alloc())?;
+fn a_refused_growth_is_asked_for_again(rt: HostRuntime) {
+    let mut heat = cold(rt.alloc()).sure(&rt);
     add(&mut heat, 1, 5);
     same(&rt, &kept(&heat, 1), &(5, 0));
-    let mut later = resumed(rt.alloc(), 7)?;
+    let mut later = resumed(rt.alloc(), 7).sure(&rt);
     add(&mut later, 1, 5);
     same(&rt, &kept(&later, 1), &(5, 7));
     same(&rt, &kept(&later, 3), &(0, 7));
-    Ok(())
 }
 
 #[test]
-fn prints_its_refusal(rt: HostRuntime) -> Result<(), Fail> {
-    let text = format!(in rt.alloc(); "{TicksFull}")?;
+fn prints_its_refusal(rt: HostRuntime) {
+    let text = format!(in rt.alloc(); "{TicksFull}").sure(&rt);
     same(&rt, &text.as_str(), &"15 TicksFull");
-    Ok(())
 }
 
 /// The heats as a plain list, which is halved at each tick.
@@ -217,13 +211,12 @@ fn heats(heat: &Heat) -> [u64; 4] {
 }
 
 #[test]
-fn halves_like_a_plain_list(rt: HostRuntime) -> Result<(), Fail> {
+fn halves_like_a_plain_list(rt: HostRuntime) {
     let mut random = Random::new(17);
-    let mut heat = cold(rt.alloc())?;
+    let mut heat = cold(rt.alloc()).sure(&rt);
     let mut plain = [0; 4];
     for round in 0..2000 {
-        step(&mut random, &mut heat, &mut plain)?;
+        step(&mut random, &mut heat, &mut plain).sure(&rt);
         same_in(&rt, &heats(&heat), &plain, &round);
     }
-    Ok(())
 }

@@ -1,11 +1,10 @@
 //! Where paths lead: walks up from a directory, and guesses that were told, true or not.
 
-use crate::same::{same, same_in};
+use crate::same::{Sure, same, same_in};
 use dirtree::{PathGuesses, Tree, TreeError};
 use mds_types::Dir;
 use std::alloc::Global;
 use std::process::Abort;
-use std::test::Fail;
 
 /// Numbers from 0: `/`, `/a`, `/a/b`, `/a/b/c`, `/ab`, `/a/b/a`.
 const NAMES: [(u32, &str); 5] = [(0, "a"), (1, "b"), (2, "c"), (0, "ab"), (2, "a")];
@@ -23,8 +22,8 @@ fn small_tree(alloc: Global) -> Result<Tree, TreeError> {
 }
 
 #[test]
-fn leads_to_the_directory_of_the_whole_path(rt: HostRuntime) -> Result<(), Fail> {
-    let tree = small_tree(rt.alloc())?;
+fn leads_to_the_directory_of_the_whole_path(rt: HostRuntime) {
+    let tree = small_tree(rt.alloc()).sure(&rt);
     // (path, number, whether it leads there)
     let table = [
         ("/", 0, true),
@@ -56,13 +55,12 @@ fn leads_to_the_directory_of_the_whole_path(rt: HostRuntime) -> Result<(), Fail>
             &(path, number),
         );
     }
-    Ok(())
 }
 
 #[test]
-fn leads_to_no_removed_directory(rt: HostRuntime) -> Result<(), Fail> {
-    let mut tree = small_tree(rt.alloc())?;
-    tree.remove(Dir::new(3))?;
+fn leads_to_no_removed_directory(rt: HostRuntime) {
+    let mut tree = small_tree(rt.alloc()).sure(&rt);
+    tree.remove(Dir::new(3)).sure(&rt);
     assert!(rt; !tree.leads_to("/a/b/c", Dir::new(3)));
     same(
         &rt,
@@ -71,7 +69,6 @@ fn leads_to_no_removed_directory(rt: HostRuntime) -> Result<(), Fail> {
     );
     assert!(rt; !tree.leads_to("/a/b/c", Dir::new(3)));
     assert!(rt; tree.leads_to("/a/b/c", Dir::new(6)));
-    Ok(())
 }
 
 fn finds_as_the_tree(rt: &impl Abort, tree: &Tree, guesses: &PathGuesses) {
@@ -81,8 +78,8 @@ fn finds_as_the_tree(rt: &impl Abort, tree: &Tree, guesses: &PathGuesses) {
 }
 
 #[test]
-fn guesses_answer_as_the_tree_does(rt: HostRuntime) -> Result<(), Fail> {
-    let mut tree = small_tree(rt.alloc())?;
+fn guesses_answer_as_the_tree_does(rt: HostRuntime) {
+    let mut tree = small_tree(rt.alloc()).sure(&rt);
     let mut guesses = PathGuesses::new(rt.alloc());
     finds_as_the_tree(&rt, &tree, &guesses);
     // Each path is told to lead to each number, so true guesses are among false ones, or were driven out by them.
@@ -92,24 +89,22 @@ fn guesses_answer_as_the_tree_does(rt: HostRuntime) -> Result<(), Fail> {
         }
         finds_as_the_tree(&rt, &tree, &guesses);
     }
-    tree.remove(Dir::new(3))?;
+    tree.remove(Dir::new(3)).sure(&rt);
     same(&rt, &guesses.find(&tree, "/a/b/c"), &Err(TreeError::NoDir));
     finds_as_the_tree(&rt, &tree, &guesses);
-    tree.make(rt.alloc(), Dir::new(2), "c", 1)?;
+    tree.make(rt.alloc(), Dir::new(2), "c", 1).sure(&rt);
     same(&rt, &guesses.find(&tree, "/a/b/c"), &Ok(Dir::new(6)));
     guesses.tell("/a/b/c", Dir::new(6));
     finds_as_the_tree(&rt, &tree, &guesses);
-    Ok(())
 }
 
 #[test]
-fn without_memory_there_are_no_guesses(rt: HostRuntime) -> Result<(), Fail> {
+fn without_memory_there_are_no_guesses(rt: HostRuntime) {
     let tree = match small_tree(rt.alloc()) {
         Ok(tree) => tree,
-        Err(_) => small_tree(rt.alloc())?,
+        Err(_) => small_tree(rt.alloc()).sure(&rt),
     };
     let mut guesses = PathGuesses::new(rt.alloc());
     guesses.tell("/a", Dir::new(1));
     finds_as_the_tree(&rt, &tree, &guesses);
-    Ok(())
 }

@@ -2,12 +2,12 @@
 ghost use Rattle.std.specs.Prelude.{◌≡◌, length, IfOk};
 
 use crate::boards::{Board, child, empty, pin, remove, two_directories};
-use crate::same::same;
+use crate::same::{Sure, same};
 use arrayvec::ArrayVec;
 use board_problem::{OpenError, Opened, open, parts};
 use mds_types::{CutProof, Dir, DualProof, Plan, Problem, ProblemRow, Rank, RankSet};
 use std::alloc::Global;
-use std::test::Fail;
+use std::process::Abort;
 
 /// Parent, heat, inodes and present rank of a row.
 type Given = (u32, u64, u32, u8);
@@ -65,70 +65,66 @@ fn open_at(alloc: Global, board: &Board, moved: usize, ranks: u64) -> Result<Ope
 }
 
 #[test]
-fn opens_two_directories(rt: HostRuntime) -> Result<(), Fail> {
-    let board = two_directories(rt.alloc())?;
-    let opened = open_at(rt.alloc(), &board, 2, 3)?;
+fn opens_two_directories(rt: HostRuntime) {
+    let board = two_directories(&rt, rt.alloc());
+    let opened = open_at(rt.alloc(), &board, 2, 3).sure(&rt);
     let rows = [(0, 0, 1, 0), (0, 4, 10, 0), (0, 6, 20, 1)];
     assert!(rt; is_opened(&opened, &rows, &[0, 1, 2]));
     same(&rt, &opened.problem.ranks(), &RankSet::from_bits(3));
-    Ok(())
 }
 
 #[test]
-fn opens_what_no_pin_holds(rt: HostRuntime) -> Result<(), Fail> {
-    let mut board = two_directories(rt.alloc())?;
-    pin(&mut board, Dir::new(1), 1)?;
-    let opened = open_at(rt.alloc(), &board, 2, 2)?;
+fn opens_what_no_pin_holds(rt: HostRuntime) {
+    let mut board = two_directories(&rt, rt.alloc());
+    pin(&rt, &mut board, Dir::new(1), 1);
+    let opened = open_at(rt.alloc(), &board, 2, 2).sure(&rt);
     assert!(rt; is_opened(&opened, &[(0, 0, 1, 0), (0, 6, 20, 1)], &[0, 2]));
     same(&rt, &opened.problem.ranks(), &RankSet::from_bits(2));
-    Ok(())
 }
 
 #[test]
-fn opens_nothing(rt: HostRuntime) -> Result<(), Fail> {
-    let mut board = two_directories(rt.alloc())?;
+fn opens_nothing(rt: HostRuntime) {
+    let mut board = two_directories(&rt, rt.alloc());
     let off = open_at(rt.alloc(), &board, 2, 0);
     assert!(rt; matches!(&off, Err(OpenError::BalancerOff)));
-    pin(&mut board, Dir::ROOT, 0)?;
-    let opened = open_at(rt.alloc(), &board, 2, 3)?;
+    pin(&rt, &mut board, Dir::ROOT, 0);
+    let opened = open_at(rt.alloc(), &board, 2, 3).sure(&rt);
     assert!(rt; is_opened(&opened, &[], &[]));
-    Ok(())
 }
 
 /// /a has 5 inodes, /a/b and /a/b/c 1 each, and each heat 3. Below /p, which is pinned, is /p/q, and /r is removed.
-fn chain_beside_a_pin(alloc: Global) -> Result<Board, Fail>
-    ensures tree { IfOk result (λ board. board.tree.limit ≡ 8) }
-    ensures pins { IfOk result (λ board. length board.pins.own ≡ 8) }
-    ensures heat { IfOk result (λ board. board.heat.limit ≡ 8) }
+fn chain_beside_a_pin(rt: &impl Abort, alloc: Global) -> Board
+    ensures tree { result.tree.limit ≡ 8 }
+    ensures pins { length result.pins.own ≡ 8 }
+    ensures heat { result.heat.limit ≡ 8 }
 {
-    let mut board = empty(alloc)?;
-    let p = child(&mut board, alloc, Dir::ROOT, "p", 1, 9)?;
-    let a = child(&mut board, alloc, Dir::ROOT, "a", 5, 3)?;
-    let r = child(&mut board, alloc, a, "r", 1, 9)?;
-    child(&mut board, alloc, p, "q", 1, 0)?;
-    let b = child(&mut board, alloc, a, "b", 1, 3)?;
-    child(&mut board, alloc, b, "c", 1, 3)?;
-    pin(&mut board, p, 1)?;
-    remove(&mut board, r)?;
-    Ok(board)
+    let mut board = empty(rt, alloc);
+    let p = child(rt, &mut board, alloc, Dir::ROOT, "p", 1, 9);
+    let a = child(rt, &mut board, alloc, Dir::ROOT, "a", 5, 3);
+    let r = child(rt, &mut board, alloc, a, "r", 1, 9);
+    child(rt, &mut board, alloc, p, "q", 1, 0);
+    let b = child(rt, &mut board, alloc, a, "b", 1, 3);
+    child(rt, &mut board, alloc, b, "c", 1, 3);
+    pin(rt, &mut board, p, 1);
+    remove(rt, &mut board, r);
+    board
 }
 
 #[test]
-fn opens_a_chain(rt: HostRuntime) -> Result<(), Fail> {
-    let board = chain_beside_a_pin(rt.alloc())?;
-    let opened = open_at(rt.alloc(), &board, 8, 3)?;
+fn opens_a_chain(rt: HostRuntime) {
+    let board = chain_beside_a_pin(&rt, rt.alloc());
+    let opened = open_at(rt.alloc(), &board, 8, 3).sure(&rt);
     let rows = [(0, 0, 1, 0), (0, 3, 5, 0), (1, 3, 1, 0), (2, 3, 1, 0)];
     assert!(rt; is_opened(&opened, &rows, &[0, 2, 5, 6]));
-    Ok(())
 }
 
-fn plan(alloc: Global, part: &[u32], rank: &[u8]) -> Result<Plan, Fail> {
+fn plan(rt: &impl Abort, alloc: Global, part: &[u32], rank: &[u8]) -> Plan {
     let mut ranks = ArrayVec::new();
     for number in rank {
-        let _full = ranks.try_push(Rank::new(*number).ok_or("no rank")?);
+        let _full = ranks.try_push(Rank::new(*number).ok_or("no rank").sure(rt));
     }
-    Ok(Plan {
-        part: part.to_vec(alloc)?,
+    Plan {
+        part: part.to_vec(alloc).sure(rt),
         rank: ranks,
         greatest: 6,
         moved: 0,
@@ -137,11 +133,11 @@ fn plan(alloc: Global, part: &[u32], rank: &[u8]) -> Result<Plan, Fail> {
             part_price: Vec::new(alloc),
             rank_price: Vec::new(alloc),
         },
-    })
+    }
 }
 
 /// The problem of rows with these parents, heats and inodes.
-fn problem(alloc: Global, given: &[(u32, u64, u32)]) -> Result<Problem, Fail> {
+fn problem(rt: &impl Abort, alloc: Global, given: &[(u32, u64, u32)]) -> Problem {
     let mut rows = Vec::new(alloc);
     for &(parent, heat, inodes) in given {
         rows.push(ProblemRow {
@@ -149,11 +145,12 @@ fn problem(alloc: Global, given: &[(u32, u64, u32)]) -> Result<Problem, Fail> {
             heat,
             inodes,
             now: Rank::default(),
-        })?;
+        })
+        .sure(rt);
     }
     match Problem::new(rows, RankSet::from_bits(3)) {
-        Ok(problem) => Ok(problem),
-        Err(_) => Err("no problem")?,
+        Ok(problem) => problem,
+        Err(_) => panic!(rt; "no problem"),
     }
 }
 
@@ -161,32 +158,34 @@ fn problem(alloc: Global, given: &[(u32, u64, u32)]) -> Result<Problem, Fail> {
 type Shown = (u32, u8, u64, u64);
 
 /// What is shown of a plan's parts, where row i is directory 10 i.
-fn shown_parts(alloc: Global, problem: &Problem, plan: &Plan) -> Result<Vec<Shown>, Fail> {
+fn shown_parts(rt: &impl Abort, alloc: Global, problem: &Problem, plan: &Plan) -> Vec<Shown> {
     let mut dirs = Vec::new(alloc);
     for row in 0..problem.rows().len() as u32 {
-        dirs.push(Dir::new(row.wrapping_mul(10)))?;
+        dirs.push(Dir::new(row.wrapping_mul(10))).sure(rt);
     }
     let count = plan.rank.len();
     if dirs.len() != problem.rows().len()
         || plan.part.len() != problem.rows().len()
         || plan.part.iter().any(|&label| label as usize >= count)
     {
-        return Err("no plan of the problem")?;
+        panic!(rt; "no plan of the problem");
     }
     let mut shown = Vec::new(alloc);
-    for part in &parts(alloc, problem, &dirs, plan)? {
-        shown.push((
-            part.top.number(),
-            part.rank.number(),
-            part.heat,
-            part.inodes,
-        ))?;
+    for part in &parts(alloc, problem, &dirs, plan).sure(rt) {
+        shown
+            .push((
+                part.top.number(),
+                part.rank.number(),
+                part.heat,
+                part.inodes,
+            ))
+            .sure(rt);
     }
-    Ok(shown)
+    shown
 }
 
 #[test]
-fn names_the_parts(rt: HostRuntime) -> Result<(), Fail> {
+fn names_the_parts(rt: HostRuntime) {
     // (parent, heat and inodes of each row, its label, rank of each label; top, rank, heat and inodes of each part)
     let table: [(&[(u32, u64, u32)], &[u32], &[u8], &[Shown]); 4] = [
         (
@@ -210,17 +209,15 @@ fn names_the_parts(rt: HostRuntime) -> Result<(), Fail> {
         (&[], &[], &[], &[]),
     ];
     for (given, part, rank, wanted) in table {
-        let problem = problem(rt.alloc(), given)?;
-        let plan = plan(rt.alloc(), part, rank)?;
-        let found = shown_parts(rt.alloc(), &problem, &plan)?;
+        let problem = problem(&rt, rt.alloc(), given);
+        let plan = plan(&rt, rt.alloc(), part, rank);
+        let found = shown_parts(&rt, rt.alloc(), &problem, &plan);
         same(&rt, &found.as_slice(), &wanted);
     }
-    Ok(())
 }
 
 #[test]
-fn prints_its_refusals(rt: HostRuntime) -> Result<(), Fail> {
-    let text = format!(in rt.alloc(); "{} {}", OpenError::Memory, OpenError::BalancerOff)?;
+fn prints_its_refusals(rt: HostRuntime) {
+    let text = format!(in rt.alloc(); "{} {}", OpenError::Memory, OpenError::BalancerOff).sure(&rt);
     same(&rt, &text.as_str(), &"0 Memory 29 BalancerOff");
-    Ok(())
 }

@@ -2,7 +2,7 @@
 
 ghost use Rattle.std.specs.Prelude.{◌≡◌, ◌≤◌, IfOk, length};
 
-use crate::same::{same, same_in};
+use crate::same::{Sure, same, same_in};
 use arrayvec::ArrayVec;
 use board_problem::{PlanPart, open, parts};
 use dir_pins::Pins;
@@ -11,65 +11,67 @@ use exhaustive::Random;
 use heat_decay::Heat;
 use mds_types::{CutProof, Dir, DualProof, Plan, ProblemRow, Rank, RankSet};
 use std::alloc::Global;
-use std::test::Fail;
+use std::process::Abort;
 
 const DIRS: u32 = 24;
 
 /// Some of the directories are removed again.
-fn random_tree(alloc: Global, random: &mut Random) -> Result<Tree, Fail>
-    ensures { IfOk result (λ tree. tree.limit ≡ 24) }
+fn random_tree(rt: &impl Abort, alloc: Global, random: &mut Random) -> Tree
+    ensures { result.limit ≡ 24 }
 {
-    let mut tree = Tree::new(alloc, DIRS)?;
+    let mut tree = Tree::new(alloc, DIRS).expect(rt, "it failed");
     for change in 0..40 {
         let dir = Dir::new(random.below(u64::from(tree.numbers())) as u32);
         if random.below(5) == 0 {
             let _refused = tree.remove(dir);
         } else {
-            let name = format!(in alloc; "d{change}")?;
+            let name = format!(in alloc; "d{change}").expect(rt, "it failed");
             let _refused = tree.make(alloc, dir, name.as_str(), random.below(100) as u32);
         }
     }
-    Ok(tree)
+    tree
 }
 
-fn random_pins(alloc: Global, random: &mut Random, tree: &Tree) -> Result<Pins, Fail>
+fn random_pins(rt: &impl Abort, alloc: Global, random: &mut Random, tree: &Tree) -> Pins
     requires { tree.now.limit ≡ 24 }
-    ensures { IfOk result (λ pins. length pins.own ≡ 24) }
+    ensures { length result.own ≡ 24 }
 {
-    let mut pins = Pins::new(alloc, DIRS, 4)?;
+    let mut pins = Pins::new(alloc, DIRS, 4).expect(rt, "it failed");
     for number in 0..DIRS {
         let pin = random.below(24) as i32 - 1;
         let _refused = pins.set(tree, Dir::new(number), pin);
     }
-    Ok(pins)
+    pins
 }
 
-fn random_heat(alloc: Global, random: &mut Random) -> Result<Heat, Fail>
-    ensures { IfOk result (λ heat. heat.limit ≡ 24) }
+fn random_heat(rt: &impl Abort, alloc: Global, random: &mut Random) -> Heat
+    ensures { result.limit ≡ 24 }
 {
-    let mut heat = Heat::new(alloc, DIRS)?;
+    let mut heat = Heat::new(alloc, DIRS).expect(rt, "it failed");
     for number in 0..DIRS {
         heat.add(Dir::new(number), random.below(1000));
     }
-    Ok(heat)
+    heat
 }
 
-fn random_ranks(alloc: Global, random: &mut Random) -> Result<Vec<Rank>, Fail> {
+fn random_ranks(rt: &impl Abort, alloc: Global, random: &mut Random) -> Vec<Rank> {
     let mut ranks = Vec::new(alloc);
     for _ in 0..DIRS {
-        ranks.push(Rank::new(random.below(4) as u8).unwrap_or_default())?;
+        ranks
+            .push(Rank::new(random.below(4) as u8).unwrap_or_default())
+            .sure(rt);
     }
-    Ok(ranks)
+    ranks
 }
 
 /// Each row but a few has its parent's label.
-fn random_plan(alloc: Global, random: &mut Random, rows: &[ProblemRow]) -> Result<Plan, Fail> {
+fn random_plan(rt: &impl Abort, alloc: Global, random: &mut Random, rows: &[ProblemRow]) -> Plan {
     let mut part: Vec<u32> = Vec::new(alloc);
     let mut labels = 1;
     for row in rows {
         let above = part.get(row.parent as usize).copied().unwrap_or(0);
         let is_cut = labels < 4 && random.below(4) == 0;
-        part.push(if is_cut { labels } else { above })?;
+        part.push(if is_cut { labels } else { above }).sure(rt);
         if is_cut {
             labels += 1;
         }
@@ -78,7 +80,7 @@ fn random_plan(alloc: Global, random: &mut Random, rows: &[ProblemRow]) -> Resul
     for number in [2, 0, 3, 1] {
         let _full = rank.try_push(Rank::new(number).unwrap_or_default());
     }
-    Ok(Plan {
+    Plan {
         part,
         rank,
         greatest: 0,
@@ -88,59 +90,63 @@ fn random_plan(alloc: Global, random: &mut Random, rows: &[ProblemRow]) -> Resul
             part_price: Vec::new(alloc),
             rank_price: Vec::new(alloc),
         },
-    })
+    }
 }
 
 /// The directories that no pin holds, by a walk for each.
-fn slow_dirs(alloc: Global, tree: &Tree, pins: &Pins) -> Result<Vec<Dir>, Fail>
+fn slow_dirs(rt: &impl Abort, alloc: Global, tree: &Tree, pins: &Pins) -> Vec<Dir>
     requires { tree.now.limit ≤ length pins.now.own }
 {
     let mut dirs = Vec::new(alloc);
     for number in 0..DIRS {
         let dir = Dir::new(number);
         if matches!(&pins.pin_of(tree, dir), Ok(None)) {
-            dirs.push(dir)?;
+            dirs.push(dir).sure(rt);
         }
     }
-    Ok(dirs)
+    dirs
 }
 
 /// Their rows, by a scan for each parent.
 fn slow_rows(
+    rt: &impl Abort,
     alloc: Global,
     tree: &Tree,
     heat: &Heat,
     now: &[Rank],
     dirs: &[Dir],
-) -> Result<Vec<ProblemRow>, Fail>
+) -> Vec<ProblemRow>
     requires { tree.now.limit ≤ heat.now.limit }
 {
     let mut rows = Vec::new(alloc);
     for &dir in dirs {
         let Some(row) = tree.row(dir) else {
-            return Err("no directory")?;
+            panic!(rt; "no directory");
         };
         let parent = dirs
             .iter()
             .position(|&other| other == row.parent)
-            .ok_or("no row")?;
+            .ok_or("no row")
+            .sure(rt);
         rows.push(ProblemRow {
-            parent: u32::try_from(parent)?,
+            parent: u32::try_from(parent).sure(rt),
             heat: heat.heat(dir),
             inodes: row.inodes,
             now: now.get(dir.number() as usize).copied().unwrap_or_default(),
-        })?;
+        })
+        .sure(rt);
     }
-    Ok(rows)
+    rows
 }
 
 /// The parts of a plan, by a scan for each row: a top is the first row of its label.
 fn slow_parts(
+    rt: &impl Abort,
     alloc: Global,
     rows: &[ProblemRow],
     dirs: &[Dir],
     plan: &Plan,
-) -> Result<Vec<PlanPart>, Fail> {
+) -> Vec<PlanPart> {
     let mut found = Vec::new(alloc);
     for (i, label) in plan.part.iter().enumerate() {
         if plan.part.iter().position(|other| other == label) == Some(i) {
@@ -152,48 +158,54 @@ fn slow_parts(
                     inodes = inodes.wrapping_add(u64::from(row.inodes));
                 }
             }
-            found.push(PlanPart {
-                top: dirs.get(i).copied().ok_or("no directory")?,
-                rank: plan.rank.get(*label as usize).copied().ok_or("no rank")?,
-                heat,
-                inodes,
-            })?;
+            found
+                .push(PlanPart {
+                    top: dirs.get(i).copied().ok_or("no directory").sure(rt),
+                    rank: plan
+                        .rank
+                        .get(*label as usize)
+                        .copied()
+                        .ok_or("no rank")
+                        .sure(rt),
+                    heat,
+                    inodes,
+                })
+                .sure(rt);
         }
     }
-    Ok(found)
+    found
 }
 
 #[test]
-fn a_slow_program_reads_the_same(rt: HostRuntime) -> Result<(), Fail> {
+fn a_slow_program_reads_the_same(rt: HostRuntime) {
     let alloc = rt.alloc();
     let mut random = Random::new(17);
     let mut most = 0;
     for round in 0..60 {
-        let tree = random_tree(alloc, &mut random)?;
-        let pins = random_pins(alloc, &mut random, &tree)?;
-        let heat = random_heat(alloc, &mut random)?;
-        let now = random_ranks(alloc, &mut random)?;
+        let tree = random_tree(&rt, alloc, &mut random);
+        let pins = random_pins(&rt, alloc, &mut random, &tree);
+        let heat = random_heat(&rt, alloc, &mut random);
+        let now = random_ranks(&rt, alloc, &mut random);
         assert!(rt; now.len() == 24);
-        let opened = open(alloc, &tree, &pins, &heat, &now, RankSet::from_bits(15))?;
-        let dirs = slow_dirs(alloc, &tree, &pins)?;
-        let rows = slow_rows(alloc, &tree, &heat, &now, &dirs)?;
+        let opened = open(alloc, &tree, &pins, &heat, &now, RankSet::from_bits(15)).sure(&rt);
+        let dirs = slow_dirs(&rt, alloc, &tree, &pins);
+        let rows = slow_rows(&rt, alloc, &tree, &heat, &now, &dirs);
         same_in(&rt, &opened.dirs, &dirs, &round);
         same_in(&rt, &opened.problem.rows(), &rows.as_slice(), &round);
 
-        let plan = random_plan(alloc, &mut random, &rows)?;
+        let plan = random_plan(&rt, alloc, &mut random, &rows);
         assert!(rt; plan.rank.len() == 4);
         assert!(rt; plan.part.len() == opened.problem.rows().len());
         assert!(rt; opened.dirs.len() == plan.part.len());
         assert!(rt; plan.part.iter().all(|&label| label < 4));
-        let found = parts(alloc, &opened.problem, &opened.dirs, &plan)?;
+        let found = parts(alloc, &opened.problem, &opened.dirs, &plan).sure(&rt);
         same_in(
             &rt,
             &found,
-            &slow_parts(alloc, &rows, &dirs, &plan)?,
+            &slow_parts(&rt, alloc, &rows, &dirs, &plan),
             &round,
         );
         most = found.len().max(most);
     }
     same(&rt, &most, &4);
-    Ok(())
 }

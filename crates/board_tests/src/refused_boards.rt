@@ -4,7 +4,7 @@
 
 ghost use Rattle.std.specs.Prelude.{◌≡◌, ◌≤◌, IfOk, length};
 
-use crate::same::same;
+use crate::same::{Sure, same};
 use arrayvec::ArrayVec;
 use board_problem::{OpenError, Opened, PlanPart, open, parts};
 use dir_pins::Pins;
@@ -14,7 +14,6 @@ use heat_decay::Heat;
 use mds_types::{CutProof, Dir, DualProof, Plan, ProblemRow, Rank, RankSet};
 use std::alloc::{AllocError, Global};
 use std::process::Abort;
-use std::test::Fail;
 
 const DIRS: u32 = 16;
 
@@ -77,7 +76,7 @@ fn is_same(board: &Board, other: &Board) -> bool
 }
 
 /// What `open` gives in the end. Where it was refused memory, the board is as one that was never opened.
-fn opened_at_last(rt: &impl Abort, alloc: Global, board: &Board) -> Result<Opened, Fail>
+fn opened_at_last(rt: &impl Abort, alloc: Global, board: &Board) -> Opened
     requires tree { board.now.tree.limit ≡ 16 }
     requires pins { length board.now.pins.own ≡ 16 }
     requires heat { board.now.heat.limit ≡ 16 }
@@ -87,11 +86,11 @@ fn opened_at_last(rt: &impl Abort, alloc: Global, board: &Board) -> Result<Opene
     let ranks = RankSet::from_bits(31);
     let (tree, pins, heat) = (&board.tree, &board.pins, &board.heat);
     match open(alloc, tree, pins, heat, &now, ranks) {
-        Ok(opened) => Ok(opened),
+        Ok(opened) => opened,
         Err(refusal) => {
             same(rt, &refusal, &OpenError::Memory);
-            assert!(rt; is_same(board, &new_board(alloc)?));
-            Ok(open(alloc, tree, pins, heat, &now, ranks)?)
+            assert!(rt; is_same(board, &new_board(alloc).expect(rt, "it failed")));
+            open(alloc, tree, pins, heat, &now, ranks).sure(rt)
         }
     }
 }
@@ -176,12 +175,12 @@ fn are_the_parts(parts: &[PlanPart]) -> bool {
 }
 
 #[test]
-fn a_refused_growth_changes_nothing(rt: HostRuntime) -> Result<(), Fail> {
+fn a_refused_growth_changes_nothing(rt: HostRuntime) {
     let alloc = rt.alloc();
-    let board = board_at_last(alloc)?;
-    let opened = opened_at_last(&rt, alloc, &board)?;
+    let board = board_at_last(alloc).expect(&rt, "it failed");
+    let opened = opened_at_last(&rt, alloc, &board);
     assert!(rt; is_the_board(&opened));
-    let plan = plan_at_last(alloc)?;
+    let plan = plan_at_last(alloc).sure(&rt);
     assert!(rt; plan.rank.len() == 5);
     assert!(rt; plan.part.len() == opened.problem.rows().len());
     assert!(rt; opened.dirs.len() == plan.part.len());
@@ -190,23 +189,17 @@ fn a_refused_growth_changes_nothing(rt: HostRuntime) -> Result<(), Fail> {
         Ok(found) => found,
         Err(_) => {
             assert!(rt; is_the_board(&opened));
-            let fresh = new_plan(alloc)?;
+            let fresh = new_plan(alloc).sure(&rt);
             same(&rt, &plan.part, &fresh.part);
             same(&rt, &plan.rank.as_slice(), &fresh.rank.as_slice());
-            parts(alloc, &opened.problem, &opened.dirs, &plan)?
+            parts(alloc, &opened.problem, &opened.dirs, &plan).sure(&rt)
         }
     };
     assert!(rt; are_the_parts(&found));
-    Ok(())
 }
 
 /// The parts below three tops in the end. Where they were refused memory, the board is as one that was never divided.
-fn divided_at_last(
-    rt: &impl Abort,
-    alloc: Global,
-    board: &Board,
-    is_top: &[bool],
-) -> Result<Vec<Part>, Fail>
+fn divided_at_last(rt: &impl Abort, alloc: Global, board: &Board, is_top: &[bool]) -> Vec<Part>
     requires tree { board.now.tree.limit ≡ 16 }
     requires pins { length board.now.pins.own ≡ 16 }
     requires heat { board.now.heat.limit ≡ 16 }
@@ -215,20 +208,20 @@ fn divided_at_last(
     assert!(rt; is_top.len() == tree.numbers() as usize);
     assert!(rt; is_top.first() == Some(&true));
     match division_cost::parts(alloc, tree, pins, heat, is_top) {
-        Ok(found) => Ok(found),
+        Ok(found) => found,
         Err(AllocError) => {
-            assert!(rt; is_same(board, &new_board(alloc)?));
-            Ok(division_cost::parts(alloc, tree, pins, heat, is_top)?)
+            assert!(rt; is_same(board, &new_board(alloc).expect(rt, "it failed")));
+            division_cost::parts(alloc, tree, pins, heat, is_top).sure(rt)
         }
     }
 }
 
 #[test]
-fn a_refused_growth_divides_nothing(rt: HostRuntime) -> Result<(), Fail> {
+fn a_refused_growth_divides_nothing(rt: HostRuntime) {
     let alloc = rt.alloc();
-    let board = board_at_last(alloc)?;
+    let board = board_at_last(alloc).expect(&rt, "it failed");
     let is_top = [true, false, true, false, true, false, false, false, false];
-    let found = divided_at_last(&rt, alloc, &board, &is_top)?;
+    let found = divided_at_last(&rt, alloc, &board, &is_top);
     // (top, heat, inodes)
     let table = [(0, 3, 11), (2, 9, 70), (4, 14, 120)];
     same(&rt, &found.len(), &table.len());
@@ -239,5 +232,4 @@ fn a_refused_growth_divides_nothing(rt: HostRuntime) -> Result<(), Fail> {
             &(Dir::new(*top), *heat, *inodes),
         );
     }
-    Ok(())
 }

@@ -1,12 +1,11 @@
 //! Trees: paths, names, the order of refusals, numbers that are never given again, and refused growths.
 ghost use Rattle.std.specs.Prelude.{◌≤◌};
 
-use crate::same::{holds_in, same, same_in};
+use crate::same::{Sure, holds_in, same, same_in};
 use dirtree::{Tree, TreeError, TreeRow};
 use mds_types::Dir;
 use std::alloc::Global;
 use std::process::Abort;
-use std::test::Fail;
 
 fn tree_with(alloc: Global, limit: u32, names: &[(u32, &str)]) -> Result<Tree, TreeError>
     requires low { 1 ≤ limit }
@@ -28,8 +27,8 @@ fn has_path(tree: &Tree, alloc: Global, number: u32, path: &str) -> Result<bool,
 }
 
 #[test]
-fn finds_each_directory_by_its_path(rt: HostRuntime) -> Result<(), Fail> {
-    let tree = tree_with(rt.alloc(), 16, &NAMES)?;
+fn finds_each_directory_by_its_path(rt: HostRuntime) {
+    let tree = tree_with(rt.alloc(), 16, &NAMES).sure(&rt);
     same(&rt, &tree.numbers(), &6);
     same(&rt, &tree.limit(), &16);
     // (number, path)
@@ -43,16 +42,19 @@ fn finds_each_directory_by_its_path(rt: HostRuntime) -> Result<(), Fail> {
     ];
     for (number, path) in table {
         same_in(&rt, &tree.find(path), &Ok(Dir::new(number)), &path);
-        holds_in(&rt, has_path(&tree, rt.alloc(), number, path)?, &path);
+        holds_in(
+            &rt,
+            has_path(&tree, rt.alloc(), number, path).sure(&rt),
+            &path,
+        );
         holds_in(&rt, tree.contains(Dir::new(number)), &path);
     }
     assert!(rt; !tree.contains(Dir::new(6)));
-    Ok(())
 }
 
 #[test]
-fn the_first_component_that_fails_decides(rt: HostRuntime) -> Result<(), Fail> {
-    let tree = tree_with(rt.alloc(), 16, &NAMES)?;
+fn the_first_component_that_fails_decides(rt: HostRuntime) {
+    let tree = tree_with(rt.alloc(), 16, &NAMES).sure(&rt);
     // (path, refusal)
     let table = [
         ("", TreeError::BadName),
@@ -77,11 +79,10 @@ fn the_first_component_that_fails_decides(rt: HostRuntime) -> Result<(), Fail> {
         &tree.path(rt.alloc(), Dir::new(6)).err(),
         &Some(TreeError::NoDir),
     );
-    Ok(())
 }
 
 #[test]
-fn refusals_print_their_number_and_name(rt: HostRuntime) -> Result<(), Fail> {
+fn refusals_print_their_number_and_name(rt: HostRuntime) {
     // (refusal, its text)
     let table = [
         (TreeError::Memory, "0 Memory"),
@@ -94,14 +95,17 @@ fn refusals_print_their_number_and_name(rt: HostRuntime) -> Result<(), Fail> {
     ];
     for (refusal, text) in table {
         same(&rt, &refusal.text(), &text);
-        same(&rt, &format!(in rt.alloc(); "{refusal}")?.as_str(), &text);
+        same(
+            &rt,
+            &format!(in rt.alloc(); "{refusal}").sure(&rt).as_str(),
+            &text,
+        );
     }
-    Ok(())
 }
 
 #[test]
-fn making_refuses_in_order(rt: HostRuntime) -> Result<(), Fail> {
-    let mut tree = tree_with(rt.alloc(), 3, &[(0, "a")])?;
+fn making_refuses_in_order(rt: HostRuntime) {
+    let mut tree = tree_with(rt.alloc(), 3, &[(0, "a")]).sure(&rt);
     // (parent, name, answer): a tree with two numbers of three given
     let table = [
         (9, "/", Err(TreeError::NoDir)),
@@ -126,12 +130,11 @@ fn making_refuses_in_order(rt: HostRuntime) -> Result<(), Fail> {
         same_in(&rt, &tree.make(rt.alloc(), parent, name, 1), &answer, &name);
     }
     same(&rt, &tree.numbers(), &3);
-    Ok(())
 }
 
 #[test]
-fn removing_refuses_in_order(rt: HostRuntime) -> Result<(), Fail> {
-    let mut tree = tree_with(rt.alloc(), 16, &NAMES)?;
+fn removing_refuses_in_order(rt: HostRuntime) {
+    let mut tree = tree_with(rt.alloc(), 16, &NAMES).sure(&rt);
     // (directory, answer)
     let table = [
         (0, Err(TreeError::IsRoot)),
@@ -152,12 +155,11 @@ fn removing_refuses_in_order(rt: HostRuntime) -> Result<(), Fail> {
         same_in(&rt, &tree.remove(Dir::new(number)), &answer, &number);
     }
     same(&rt, &tree.numbers(), &6);
-    Ok(())
 }
 
 #[test]
-fn numbers_are_never_given_again(rt: HostRuntime) -> Result<(), Fail> {
-    let mut tree = tree_with(rt.alloc(), 4, &[(0, "a")])?;
+fn numbers_are_never_given_again(rt: HostRuntime) {
+    let mut tree = tree_with(rt.alloc(), 4, &[(0, "a")]).sure(&rt);
     for number in [2, 3] {
         same(&rt, &(tree.remove(Dir::new(number - 1))), &Ok(()));
         same(&rt, &tree.find("/a"), &Err(TreeError::NoDir));
@@ -175,20 +177,20 @@ fn numbers_are_never_given_again(rt: HostRuntime) -> Result<(), Fail> {
         &Err(TreeError::TreeFull),
     );
     same(&rt, &tree.numbers(), &4);
-    Ok(())
 }
 
 #[test]
-fn rows_leave_out_what_was_removed(rt: HostRuntime) -> Result<(), Fail> {
-    let mut tree = Tree::new(rt.alloc(), 16)?;
+fn rows_leave_out_what_was_removed(rt: HostRuntime) {
+    let mut tree = Tree::new(rt.alloc(), 16).sure(&rt);
     for (parent, name, inodes) in [(0, "a", 5), (1, "b", 7), (0, "c", 4294967295)] {
-        tree.make(rt.alloc(), Dir::new(parent), name, inodes)?;
+        tree.make(rt.alloc(), Dir::new(parent), name, inodes)
+            .sure(&rt);
     }
-    tree.remove(Dir::new(2))?;
-    tree.make(rt.alloc(), Dir::new(3), "b", 0)?;
+    tree.remove(Dir::new(2)).sure(&rt);
+    tree.make(rt.alloc(), Dir::new(3), "b", 0).sure(&rt);
     // (number, parent, inodes)
     let table = [(0, 0, 1), (1, 0, 5), (3, 0, 4294967295), (4, 3, 0)];
-    let rows = tree.rows(rt.alloc())?;
+    let rows = tree.rows(rt.alloc()).sure(&rt);
     same(&rt, &rows.len(), &table.len());
     for (row, (number, parent, inodes)) in rows.iter().zip(table) {
         let wanted = TreeRow {
@@ -200,17 +202,16 @@ fn rows_leave_out_what_was_removed(rt: HostRuntime) -> Result<(), Fail> {
         same(&rt, &tree.row(row.dir), &Some(wanted));
     }
     same(&rt, &tree.row(Dir::new(2)), &None);
-    Ok(())
 }
 
 #[test]
-fn names_end_at_the_limits(rt: HostRuntime) -> Result<(), Fail> {
+fn names_end_at_the_limits(rt: HostRuntime) {
     let mut longest = String::new(rt.alloc());
     for _ in 0..255 {
-        longest.push_str("n")?;
+        longest.push_str("n").sure(&rt);
     }
-    let mut longer = String::from_str(rt.alloc(), longest.as_str())?;
-    longer.push_str("n")?;
+    let mut longer = String::from_str(rt.alloc(), longest.as_str()).sure(&rt);
+    longer.push_str("n").sure(&rt);
     // (text, whether it is a name)
     let table = [
         ("", false),
@@ -232,12 +233,11 @@ fn names_end_at_the_limits(rt: HostRuntime) -> Result<(), Fail> {
     for (text, named) in table {
         same_in(&rt, &dirtree::is_name(text), &named, &text);
     }
-    Ok(())
 }
 
 #[test]
-fn a_long_chain_is_found_by_its_path(rt: HostRuntime) -> Result<(), Fail> {
-    let mut tree = Tree::new(rt.alloc(), 65536)?;
+fn a_long_chain_is_found_by_its_path(rt: HostRuntime) {
+    let mut tree = Tree::new(rt.alloc(), 65536).sure(&rt);
     let mut path = String::new(rt.alloc());
     for parent in 0..3000 {
         same(
@@ -245,24 +245,23 @@ fn a_long_chain_is_found_by_its_path(rt: HostRuntime) -> Result<(), Fail> {
             &tree.make(rt.alloc(), Dir::new(parent), "a", 1),
             &(Ok(Dir::new(parent + 1))),
         );
-        path.push_str("/a")?;
+        path.push_str("/a").sure(&rt);
     }
     same(&rt, &tree.find(path.as_str()), &Ok(Dir::new(3000)));
     same(
         &rt,
-        &tree.path(rt.alloc(), Dir::new(3000))?.as_str(),
+        &tree.path(rt.alloc(), Dir::new(3000)).sure(&rt).as_str(),
         &path.as_str(),
     );
-    path.push_str("/a")?;
+    path.push_str("/a").sure(&rt);
     same(&rt, &tree.find(path.as_str()), &Err(TreeError::NoDir));
-    Ok(())
 }
 
 #[test]
-fn a_wide_star_is_found_name_by_name(rt: HostRuntime) -> Result<(), Fail> {
-    let mut tree = Tree::new(rt.alloc(), 65536)?;
+fn a_wide_star_is_found_name_by_name(rt: HostRuntime) {
+    let mut tree = Tree::new(rt.alloc(), 65536).sure(&rt);
     for number in 1..3001 {
-        let name = format!(in rt.alloc(); "d{number}")?;
+        let name = format!(in rt.alloc(); "d{number}").sure(&rt);
         same(
             &rt,
             &tree.make(rt.alloc(), Dir::ROOT, name.as_str(), 1),
@@ -270,16 +269,15 @@ fn a_wide_star_is_found_name_by_name(rt: HostRuntime) -> Result<(), Fail> {
         );
     }
     for number in 1..3001 {
-        let path = format!(in rt.alloc(); "/d{number}")?;
+        let path = format!(in rt.alloc(); "/d{number}").sure(&rt);
         same(&rt, &tree.find(path.as_str()), &Ok(Dir::new(number)));
         same(
             &rt,
-            &tree.path(rt.alloc(), Dir::new(number))?.as_str(),
+            &tree.path(rt.alloc(), Dir::new(number)).sure(&rt).as_str(),
             &path.as_str(),
         );
     }
     same(&rt, &tree.find("/d3001"), &Err(TreeError::NoDir));
-    Ok(())
 }
 
 /// Makes a directory below the root. Where a growth is refused nothing has changed, and the next call makes it.
@@ -300,10 +298,10 @@ fn made_at_last(
 }
 
 #[test]
-fn a_refused_growth_changes_nothing(rt: HostRuntime) -> Result<(), Fail> {
+fn a_refused_growth_changes_nothing(rt: HostRuntime) {
     let mut tree = match Tree::new(rt.alloc(), 8) {
         Ok(tree) => tree,
-        Err(_) => Tree::new(rt.alloc(), 8)?,
+        Err(_) => Tree::new(rt.alloc(), 8).sure(&rt),
     };
     for (number, name) in [(1, "a"), (2, "b"), (3, "c"), (4, "d"), (5, "e")] {
         same(
@@ -314,16 +312,15 @@ fn a_refused_growth_changes_nothing(rt: HostRuntime) -> Result<(), Fail> {
     }
     let rows = match tree.rows(rt.alloc()) {
         Ok(rows) => rows,
-        Err(_) => tree.rows(rt.alloc())?,
+        Err(_) => tree.rows(rt.alloc()).sure(&rt),
     };
     same(&rt, &rows.len(), &6);
     let path = match tree.path(rt.alloc(), Dir::new(5)) {
         Ok(path) => path,
         Err(refusal) => {
             same(&rt, &refusal, &TreeError::Memory);
-            tree.path(rt.alloc(), Dir::new(5))?
+            tree.path(rt.alloc(), Dir::new(5)).sure(&rt)
         }
     };
     same(&rt, &path.as_str(), &"/e");
-    Ok(())
 }

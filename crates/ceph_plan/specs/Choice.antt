@@ -70,7 +70,8 @@ pub record AreWeighed (ranks : ℕ) (pinned : List ℕ) (rows : List ProblemRow)
   pub each : (parts : ℕ) → rank_count ranks ≤ parts → parts < n
       → HasPlanOf ranks pinned rows plans parts no_cap ⊎ HasHeavyPlan ranks pinned rows plans parts
   pub capped : (parts : ℕ) → rank_count ranks ≤ parts → parts < n → parts % rank_count ranks ≡ 0
-      → HasPlanOf ranks pinned rows plans parts no_cap ⊎ HasPlanOf ranks pinned rows plans parts (fair_share (total_of_rows rows) parts)
+      → HasPlanOf ranks pinned rows plans parts no_cap
+      ⊎ HasPlanOf ranks pinned rows plans parts (fair_share (total_of_rows rows) parts)
 
 -- the plan that is chosen of all that are weighed, up to 64 parts
 pub record IsBest (ranks : ℕ) (pinned : List ℕ) (rows : List ProblemRow) (plan : Planned) : Type 0 where

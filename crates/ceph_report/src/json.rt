@@ -41,7 +41,8 @@ fn push_ranks(text: &mut String, facts: &Facts) -> Result<(), AllocError> {
             let out = number_at(&facts.sums.out, number);
             write!(
                 text,
-                "\n  {{\"rank\":{number},\"now\":{now},\"planned\":{planned},\"pinned\":{held},\"inodes_in\":{into},\"inodes_out\":{out}}}"
+                "\n  {{\"rank\":{number},\"now\":{now},\"planned\":{planned},\"pinned\":{held},\
+                 \"inodes_in\":{into},\"inodes_out\":{out}}}"
             )?;
         }
     }

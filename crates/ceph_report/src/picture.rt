@@ -265,10 +265,12 @@ fn push_head(text: &mut String, levels: u64) -> Result<(), AllocError> {
     let (width, height) = (WIDTH / 100, levels.saturating_mul(HEIGHT));
     writeln!(
         text,
-        "<svg xmlns=\"http://www.w3.org/2000/svg\" width=\"{width}\" height=\"{height}\" viewBox=\"0 0 {width} {height}\">"
+        "<svg xmlns=\"http://www.w3.org/2000/svg\" width=\"{width}\" height=\"{height}\" \
+         viewBox=\"0 0 {width} {height}\">"
     )?;
     text.push_str(
-        "<style>rect{stroke:#fff;stroke-width:0.5}rect.cut{stroke:#222;stroke-width:2}text{font:11px monospace;pointer-events:none}</style>\n",
+        "<style>rect{stroke:#fff;stroke-width:0.5}rect.cut{stroke:#222;stroke-width:2}\
+         text{font:11px monospace;pointer-events:none}</style>\n",
     )
 }
 

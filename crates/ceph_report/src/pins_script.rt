@@ -9,7 +9,8 @@ use std::alloc::{AllocError, Global};
 
 /// What stands before the lines.
 const HEAD: &str = "#!/bin/sh
-# Sets export pins, deepest first, and then takes away those of an earlier plan that are no longer wanted, from the top down.
+# Sets export pins, deepest first, and then takes away those of an earlier plan that are no longer wanted,
+# from the top down.
 # With -n it only prints what it would do. A directory that is gone is told and passed over. Status 1: a pin failed.
 LC_ALL=C; export LC_ALL
 only_print= changed=0 gone=0 failed=0
@@ -24,8 +25,8 @@ run() {
 ";
 
 /// What stands behind the lines.
-const FOOT: &str =
-    "[ -n \"$only_print\" ] || printf '%s pins changed, %s directories gone, %s failed\\n' \"$changed\" \"$gone\" \"$failed\"
+const FOOT: &str = "[ -n \"$only_print\" ] || \
+     printf '%s pins changed, %s directories gone, %s failed\\n' \"$changed\" \"$gone\" \"$failed\"
 [ \"$failed\" = 0 ]
 ";
 

@@ -95,10 +95,12 @@ fn push_result(text: &mut String, facts: &Facts) -> Result<(), AllocError> {
     push_percent(text, per_mille_above(packing.greatest, packing.bound))?;
     text.push_str(" of it\n")?;
     text.push_str(
-        "  No assignment of these directories to these ranks, connected or not, has a cooler hottest rank than the bound.\n",
+        "  No assignment of these directories to these ranks, connected or not, has a cooler hottest rank than the \
+         bound.\n",
     )?;
     text.push_str(
-        "  Heat is a sample: it lies 3 to 5 % from the load that is offered, and more behind a walk over the directories.\n\n",
+        "  Heat is a sample: it lies 3 to 5 % from the load that is offered, and more behind a walk over the \
+         directories.\n\n",
     )?;
     write!(
         text,

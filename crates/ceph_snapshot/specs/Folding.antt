@@ -72,4 +72,5 @@ IsFolded directories left =
 -- directory i with another parent and these amounts
 abbrev pub put_together : List Directory → List ℕ → List ℕ → List ℕ → ℕ → Option Directory
 put_together directories parents heats inodes i =
-    option_map (with_amounts (slice_index parents i) (slice_index heats i) (slice_index inodes i)) (slice_get directories i)
+    option_map (with_amounts (slice_index parents i) (slice_index heats i) (slice_index inodes i))
+    (slice_get directories i)

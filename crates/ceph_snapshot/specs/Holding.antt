@@ -82,7 +82,8 @@ is_at (Spread rank) r = rank == r
 -- the heat of the first n directories that are held at rank r, but for those that are spread themselves
 abbrev pub held_below : List Directory → List Held → ℕ → ℕ → ℕ
 held_below directories holds r n =
-    sum_below n (λ i. if is_at (held_at holds i) r && not (is_spread_at directories i) then heat_at directories i else 0)
+    sum_below n
+    (λ i. if is_at (held_at holds i) r && not (is_spread_at directories i) then heat_at directories i else 0)
 
 -- the greatest number of 64 bits
 abbrev pub most_heat : ℕ

@@ -5,10 +5,12 @@ use ceph_dumps::{read_cluster, read_listing, read_loads, read_own_list, read_sub
 use std::test::Fail;
 
 /// A dump of loads with a name that isn't UTF-8, an escape, two fragments and a bare `-inf`.
-const LOADS: &[u8] =
-    b"\n{\"dirfrags\":[{\"path\":\"\",\"dirfrag\":\"0x1\",\"pop_me\":{\"Decay Counters\":[{\"value\":1.5,\"halflife\":5},{\"value\":2}]}},\
-{\"path\":\"/h/bad-\xff\xc3\",\"pop_me\":{\"Decay Counters\":[{\"value\":0},{\"value\":0},{\"value\":0},{\"value\":0},{\"value\":0.25}]}},\
-{\"path\":\"/h/new\\nline \\\"-inf\\\"\",\"pop_me\":{\"Decay Counters\":[]}}],\"mds_load\":{\"mds.0\":{\"halflife\":-inf}}}";
+const LOADS: &[u8] = b"\n{\"dirfrags\":[{\"path\":\"\",\"dirfrag\":\"0x1\",\
+\"pop_me\":{\"Decay Counters\":[{\"value\":1.5,\"halflife\":5},{\"value\":2}]}},\
+{\"path\":\"/h/bad-\xff\xc3\",\
+\"pop_me\":{\"Decay Counters\":[{\"value\":0},{\"value\":0},{\"value\":0},{\"value\":0},{\"value\":0.25}]}},\
+{\"path\":\"/h/new\\nline \\\"-inf\\\"\",\"pop_me\":{\"Decay Counters\":[]}}],\
+\"mds_load\":{\"mds.0\":{\"halflife\":-inf}}}";
 
 #[test]
 fn reads_loads(rt: HostRuntime) -> Result<(), Fail> {
@@ -35,8 +37,8 @@ fn refuses_loads_that_are_cut(rt: HostRuntime) -> Result<(), Fail> {
 }
 
 /// The subtrees of a rank, as Ceph prints them.
-const SUBTREES: &[u8] =
-    b"[{\"is_auth\":true,\"auth_first\":1,\"auth_second\":-2,\"export_pin\":2,\"distributed_ephemeral_pin\":true,\"dir\":{\"path\":\"/u\xfe\"}}]";
+const SUBTREES: &[u8] = b"[{\"is_auth\":true,\"auth_first\":1,\"auth_second\":-2,\"export_pin\":2,\
+\"distributed_ephemeral_pin\":true,\"dir\":{\"path\":\"/u\xfe\"}}]";
 
 /// The ranks of a file system.
 const CLUSTER: &[u8] =
@@ -112,8 +114,8 @@ fn tells_where_a_dump_is_broken(rt: HostRuntime) -> Result<(), Fail> {
 
 #[test]
 fn reads_subtrees(rt: HostRuntime) -> Result<(), Fail> {
-    let text =
-        b"[{\"is_auth\":true,\"auth_first\":1,\"auth_second\":-2,\"export_pin\":2,\"distributed_ephemeral_pin\":true,\"dir\":{\"path\":\"/u\"}},\
+    let text = b"[{\"is_auth\":true,\"auth_first\":1,\"auth_second\":-2,\"export_pin\":2,\
+\"distributed_ephemeral_pin\":true,\"dir\":{\"path\":\"/u\"}},\
 {\"is_auth\":false,\"auth_first\":0,\"auth_second\":-2,\"export_pin\":-1,\"dir\":{\"path\":\"~mds0\"}}]";
     let found = read_subtrees(rt.alloc(), text.as_slice())?;
     let [first, second] = found.as_slice() else {
@@ -143,7 +145,8 @@ fn reads_ranks(rt: HostRuntime) -> Result<(), Fail> {
 #[test]
 fn reads_listings(rt: HostRuntime) -> Result<(), Fail> {
     let text =
-        b"# file: .\nceph.dir.entries=\"7\"\n\n# file: h/cr\\015ret \\134\nceph.dir.entries=\"4\"\n\n# file: h\nceph.dir.pin=\"2\"\n\n# file: w\nceph.dir.pin=\"-1\"\n";
+        b"# file: .\nceph.dir.entries=\"7\"\n\n# file: h/cr\\015ret \\134\nceph.dir.entries=\"4\"\n\n\
+# file: h\nceph.dir.pin=\"2\"\n\n# file: w\nceph.dir.pin=\"-1\"\n";
     let found = read_listing(rt.alloc(), text.as_slice())?;
     let table: [(&[u8], Option<u64>, Option<u64>); 4] = [
         (b"", Some(7), None),

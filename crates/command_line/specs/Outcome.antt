@@ -12,7 +12,8 @@ StandsFor error Memory = kind_of error ≡ kind.OutOfMemory
 StandsFor error (Help given) = (given ≡ error) × (kind_of error ≡ kind.DisplayHelp)
 StandsFor error (Version given) = (given ≡ error) × (kind_of error ≡ kind.DisplayVersion)
 StandsFor error (Refused given) =
-    (given ≡ error) × (kind_of error ≢ kind.OutOfMemory) × (kind_of error ≢ kind.DisplayHelp) × (kind_of error ≢ kind.DisplayVersion)
+    (given ≡ error) × (kind_of error ≢ kind.OutOfMemory) × (kind_of error ≢ kind.DisplayHelp)
+    × (kind_of error ≢ kind.DisplayVersion)
 
 -- the status of the program
 abbrev pub status_of : OptionsError → ℕ

@@ -31,7 +31,9 @@ pub fn making_adds_one()
     ensures numbers { (t : Directories) (parent : ℕ) (name : List ℕ) (inodes : ℕ)
         → length (with_child t parent name inodes).entries ≡ length t.entries + 1 }
     ensures entries { (t : Directories) (parent : ℕ) (name : List ℕ) (inodes d : ℕ)
-        → entry_at (with_child t parent name inodes).entries d ≡ (if d == length t.entries then Some (record { parent = parent; name = name; inodes = inodes }) else entry_at t.entries d) }
+        → entry_at (with_child t parent name inodes).entries d ≡ (if d == length t.entries
+        then Some (record { parent = parent; name = name; inodes = inodes })
+        else entry_at t.entries d) }
 {}
 
 /// A removed directory leaves a tree, with as many numbers given as before, and each other directory as it was.

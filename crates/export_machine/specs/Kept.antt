@@ -102,8 +102,10 @@ pub record AreListed (ranks : ℕ) (orders : List Order) (exporters : List Expor
 -- a stop of the rank would change the export's state there
 abbrev pub is_open_at : ℕ → List Order → List ExporterState → List ImporterState → List Bool → ℕ → Bool
 is_open_at rank orders exporters importers dropped x =
-    nat_lt x (length orders) && ((((order_in orders x).from == rank) && is_before_log (slice_index_or exporters x Aborted))
-    || (((order_in orders x).to == rank) && is_passing (slice_index_or importers x Unknown) && not (slice_index_or dropped x false)))
+    nat_lt x (length orders)
+    && ((((order_in orders x).from == rank) && is_before_log (slice_index_or exporters x Aborted))
+    || (((order_in orders x).to == rank) && is_passing (slice_index_or importers x Unknown)
+    && not (slice_index_or dropped x false)))
 
 pub record IsIndexed (w : World) (i : Indexes) : Type 0 where
   pub owners : (d : ℕ) → slice_index_or i.owners d None ≡ authority w d

@@ -26,7 +26,8 @@ pub(crate) fn enter<T: Copy>(lists: &mut Vec<Vec<T>>, rank: Rank, entry: T)
     requires near { rank < length lists.old.items }
     requires room { has_place lists.old.items rank ≡ true }
     ensures entered { map (λ list. list.items) lists.new.items
-        ≡ slice_set (map (λ list. list.items) lists.old.items) rank (slice_index_or (map (λ list. list.items) lists.old.items) rank [] ++ entry ∷ []) }
+        ≡ slice_set (map (λ list. list.items) lists.old.items) rank
+        (slice_index_or (map (λ list. list.items) lists.old.items) rank [] ++ entry ∷ []) }
 {
     lists[rank.number() as usize].push_reserved(entry);
 }

@@ -171,7 +171,9 @@ impl Records {
           exports = record self.old.exports { importers = self.new.exports.importers };
         } }
         ensures importers { self.new.exports.importers
-            ≡ map_at (λ x state. if to_of (world_of self.old) x == rank then importer_at_stop (has (world_of self.old) rank (JournalEntry.Dropped x)) state else state) self.old.exports.importers }
+            ≡ map_at (λ x state. if to_of (world_of self.old) x == rank
+            then importer_at_stop (has (world_of self.old) rank (JournalEntry.Dropped x)) state
+            else state) self.old.exports.importers }
     {
         let index = rank.number() as usize;
         for at in 0..self.open_at[index].len() {

@@ -1,10 +1,11 @@
 //! Plans that are adopted or refused, with their orders.
 ghost use Rattle.std.specs.Prelude.{◌≡◌};
 
-use crate::boards::{open, rank};
-use crate::same::same;
+use crate::boards::rank;
+use crate::cases::{Case, try_case};
+use crate::same::{Sure, same};
 use arrayvec::ArrayVec;
-use authority_map::Publisher;
+use authority_map::{MapReader, Publisher};
 use board_state::{Answer, BoardError};
 use export_machine::{Event, Reply};
 use heat_ledger::Share;
@@ -12,10 +13,7 @@ use mds_board::Board;
 use mds_types::{CutProof, Dir, DualProof, Order, Plan, Rank, RankSet};
 use naming::Naming;
 use std::alloc::{AllocError, Global};
-use std::marker::Brand;
 use std::process::Abort;
-use std::sync::Wait;
-use std::test::Fail;
 
 // Root and /a, which has 5 hits and 10 inodes, go to rank 1 together. It says that the greatest heat is this.
 pub(crate) fn plan(alloc: Global, greatest: u64) -> Result<Plan, AllocError> {
@@ -40,7 +38,7 @@ fn set_up<J: Naming, M: Publisher<J>>(
     alloc: Global,
     board: &mut Board<J, M>,
     share: &mut Share<J>,
-) -> Result<(), Fail> {
+) {
     let a = Dir::new(1);
     same(rt, &board.make(alloc, Dir::ROOT, "a", 10), &Ok(a));
     for _ in 0..5 {
@@ -49,115 +47,83 @@ fn set_up<J: Naming, M: Publisher<J>>(
     same(rt, &board.deposit(alloc, share), &Ok(()));
     same(rt, &board.counted(a), &5);
     same(rt, &board.set_mask(RankSet::from_bits(2)), &Ok(()));
-    Ok(())
 }
 
 // Without an open problem, for one that has changed, and with a forged proof, nothing is adopted.
-fn refuse<J: Naming, M: Publisher<J>>(
-    rt: &impl Abort,
-    alloc: Global,
-    board: &mut Board<J, M>,
-) -> Result<(), Fail> {
-    let unasked = board.adopt(alloc, plan(alloc, 5)?);
+fn refuse<J: Naming, M: Publisher<J>>(rt: &impl Abort, alloc: Global, board: &mut Board<J, M>) {
+    let unasked = board.adopt(alloc, plan(alloc, 5).sure(rt));
     same(rt, &unasked.err(), &Some(BoardError::NoProblem));
     assert!(rt; board.open_problem(alloc).is_ok());
     same(rt, &board.set_pin(Dir::new(1), -1), &Ok(()));
-    let late = board.adopt(alloc, plan(alloc, 5)?);
+    let late = board.adopt(alloc, plan(alloc, 5).sure(rt));
     same(rt, &late.err(), &Some(BoardError::Changed(4)));
     assert!(rt; board.open_problem(alloc).is_ok());
-    let forged = board.adopt(alloc, plan(alloc, 4)?);
+    let forged = board.adopt(alloc, plan(alloc, 4).sure(rt));
     same(rt, &forged.err(), &Some(BoardError::NotBest));
     assert!(rt; board.plan_in_force().is_none());
     same(rt, &board.history().len(), &6);
-    Ok(())
 }
 
 // Both directories go to rank 1 in one order, which can start.
-fn adopt<J: Naming, M: Publisher<J>>(
-    rt: &impl Abort,
-    alloc: Global,
-    board: &mut Board<J, M>,
-) -> Result<(), Fail> {
-    let orders = board.adopt(alloc, plan(alloc, 5)?)?;
+fn adopt<J: Naming, M: Publisher<J>>(rt: &impl Abort, alloc: Global, board: &mut Board<J, M>) {
+    let orders = board.adopt(alloc, plan(alloc, 5).sure(rt)).sure(rt);
     same(rt, &orders.len(), &1);
     same(
         rt,
         &board.plan_in_force().map(|plan| plan.greatest),
         &Some(5),
     );
-    kept(rt, board, &orders)?;
+    kept(rt, board, &orders);
     for order in orders {
         let Order { from, to, dirs } = order;
-        same(rt, &(from, to), &(rank(0)?, rank(1)?));
+        same(rt, &(from, to), &(rank(0).sure(rt), rank(1).sure(rt)));
         same(rt, &dirs.as_slice(), &[Dir::new(0), Dir::new(1)].as_slice());
         let started = board.step(alloc, Event::Start(from, to, dirs));
         same(rt, &started, &Ok(Reply::Export(0, 0)));
     }
-    Ok(())
 }
 
 // The history has the orders that were answered.
-fn kept<J: Naming, M: Publisher<J>>(
-    rt: &impl Abort,
-    board: &Board<J, M>,
-    orders: &[Order],
-) -> Result<(), Fail> {
-    match board.history().last() {
-        Some(entry) => match &entry.reply {
-            Answer::Orders(kept) => {
-                assert!(rt; kept.as_slice() == orders);
-                Ok(())
-            }
-            _ => Err("another reply".into()),
-        },
-        None => Err("no entry".into()),
-    }
+fn kept<J: Naming, M: Publisher<J>>(rt: &impl Abort, board: &Board<J, M>, orders: &[Order]) {
+    let reply = board.history().last().map(|entry| &entry.reply);
+    assert!(rt; matches!(reply, Some(Answer::Orders(kept)) if kept.as_slice() == orders));
 }
 
 // A pin asks for an order, until the directory is there.
-fn pin<J: Naming, M: Publisher<J>>(
-    rt: &impl Abort,
-    alloc: Global,
-    board: &mut Board<J, M>,
-) -> Result<(), Fail> {
-    assert!(rt; board.pin_orders(alloc)?.is_empty());
+fn pin<J: Naming, M: Publisher<J>>(rt: &impl Abort, alloc: Global, board: &mut Board<J, M>) {
+    assert!(rt; board.pin_orders(alloc).sure(rt).is_empty());
     same(rt, &board.set_pin(Dir::new(1), 1), &Ok(()));
-    let orders = board.pin_orders(alloc)?;
+    let orders = board.pin_orders(alloc).sure(rt);
     same(rt, &orders.len(), &1);
     for order in &orders {
         same(rt, &order.dirs.as_slice(), &[Dir::new(1)].as_slice());
     }
     same(rt, &board.set_pin(Dir::new(1), 0), &Ok(()));
-    assert!(rt; board.pin_orders(alloc)?.is_empty());
-    Ok(())
+    assert!(rt; board.pin_orders(alloc).sure(rt).is_empty());
 }
 
-fn adopted<J: Naming, R: Wait + Drop>(
+pub(crate) fn on_board<J: Naming, M: Publisher<J>>(
     rt: &impl Abort,
-    waits: R,
     alloc: Global,
-    book: heat_ledger::NewBook,
-    map: authority_map::NewMap,
-) -> Result<(), Fail>
-    requires book { book ≡ J.ledger }
-    requires map { map ≡ J.map }
+    board: Board<J, M>,
+    shares: Vec<Share<J>>,
+    _readers: Vec<MapReader<J>>,
+)
     requires limit { J.limit ≡ 8 }
 {
-    let (mut board, mut shares, _readers) = open::<J, R>(waits, alloc, book, map, 8, 2)?;
-    let done = match shares.first_mut() {
-        Some(share) => set_up(rt, alloc, &mut board, share)
-            .and_then(|()| refuse(rt, alloc, &mut board))
-            .and_then(|()| adopt(rt, alloc, &mut board))
-            .and_then(|()| pin(rt, alloc, &mut board)),
-        None => Err("no share".into()),
+    let mut board = board;
+    let mut shares = shares;
+    let Some(share) = shares.first_mut() else {
+        panic!(rt; "no share");
     };
+    set_up(rt, alloc, &mut board, share);
+    refuse(rt, alloc, &mut board);
+    adopt(rt, alloc, &mut board);
+    pin(rt, alloc, &mut board);
     board.end();
-    done
 }
 
 #[test]
-fn plans_are_adopted_with_their_orders(rt: HostRuntime) -> Result<(), Fail> {
-    let book = heat_ledger::NewBook::new(rt.alloc())?;
-    let map = authority_map::NewMap::new();
-    adopted::<Brand, _>(&rt, &rt, rt.alloc(), book, map)
+fn plans_are_adopted_with_their_orders(rt: HostRuntime) {
+    try_case(&rt, Case::Adopting)
 }

@@ -1,7 +1,7 @@
 //! What a board says, beside the plain board.
 
 use crate::plain::{LIMIT, Plain, RANKS, counted, rank};
-use crate::same::same;
+use crate::same::{Sure, same};
 use authority_map::Publisher;
 use export_machine::Cluster;
 use mds_board::Board;
@@ -9,7 +9,6 @@ use mds_types::{Dir, RankSet};
 use naming::Naming;
 use std::alloc::Global;
 use std::process::Abort;
-use std::test::Fail;
 
 /// Authorities, names, journals and exports are the plain board's.
 pub(crate) fn agree_on_cluster(rt: &impl Abort, cluster: &Cluster, plain: &Plain) {
@@ -101,13 +100,12 @@ pub(crate) fn agree_at_rest<J: Naming, M: Publisher<J>>(
     alloc: Global,
     board: &Board<J, M>,
     plain: &Plain,
-) -> Result<(), Fail> {
-    let pins = plain.pins(alloc)?;
-    assert!(rt; board.pin_orders(alloc)? == plain.orders(alloc, &pins)?);
-    let events = board.cluster_events(alloc)?;
-    let mut again = Cluster::new(alloc, LIMIT, RANKS)?;
-    let answers = again.run(alloc, &events)?;
+) {
+    let pins = plain.pins(alloc).sure(rt);
+    assert!(rt; board.pin_orders(alloc).sure(rt) == plain.orders(alloc, &pins).sure(rt));
+    let events = board.cluster_events(alloc).sure(rt);
+    let mut again = Cluster::new(alloc, LIMIT, RANKS).sure(rt);
+    let answers = again.run(alloc, &events).sure(rt);
     assert!(rt; answers.iter().all(|answer| answer.is_ok()));
     agree_on_cluster(rt, &again, plain);
-    Ok(())
 }

@@ -1,9 +1,10 @@
 //! Changes that are accepted and refused, and what is kept of them.
 ghost use Rattle.std.specs.Prelude.{◌≡◌};
 
-use crate::boards::{open, rank};
-use crate::same::same;
-use authority_map::Publisher;
+use crate::boards::rank;
+use crate::cases::{Case, try_case};
+use crate::same::{Sure, same};
+use authority_map::{MapReader, Publisher};
 use board_state::{Answer, BoardError, Change};
 use dir_pins::PinError;
 use dirtree::TreeError;
@@ -13,17 +14,10 @@ use mds_board::Board;
 use mds_types::{Dir, RankSet};
 use naming::Naming;
 use std::alloc::Global;
-use std::marker::Brand;
 use std::process::Abort;
-use std::sync::Wait;
-use std::test::Fail;
 
 // Makes /a, pins it, and asks for what is refused.
-fn set_up<J: Naming, M: Publisher<J>>(
-    rt: &impl Abort,
-    alloc: Global,
-    board: &mut Board<J, M>,
-) -> Result<(), Fail> {
+fn set_up<J: Naming, M: Publisher<J>>(rt: &impl Abort, alloc: Global, board: &mut Board<J, M>) {
     let a = Dir::new(1);
     same(rt, &board.make(alloc, Dir::ROOT, "a", 10), &Ok(a));
     let again = board.make(alloc, Dir::ROOT, "a", 10);
@@ -51,7 +45,6 @@ fn set_up<J: Naming, M: Publisher<J>>(
     );
     same(rt, &board.set_mask(RankSet::from_bits(3)), &Ok(()));
     same(rt, &board.usable().len(), &2);
-    Ok(())
 }
 
 // Hits on /a are counted, warm it, and cool; a request on it keeps it.
@@ -60,7 +53,7 @@ fn use_it<J: Naming, M: Publisher<J>>(
     alloc: Global,
     board: &mut Board<J, M>,
     share: &mut Share<J>,
-) -> Result<(), Fail> {
+) {
     let a = Dir::new(1);
     for _ in 0..5 {
         same(rt, &share.hit(a), &Ok(()));
@@ -68,21 +61,20 @@ fn use_it<J: Naming, M: Publisher<J>>(
     same(rt, &board.deposit(alloc, share), &Ok(()));
     same(rt, &share.pending(a), &0);
     same(rt, &board.tick(), &Ok(()));
-    let begun = board.begin(share, rank(0)?, a);
+    let begun = board.begin(share, rank(0).sure(rt), a);
     same(rt, &begun, &Ok(Reply::Ticket(0)));
     same(rt, &share.begun(a), &1);
-    let elsewhere = board.begin(share, rank(1)?, a);
+    let elsewhere = board.begin(share, rank(1).sure(rt), a);
     same(
         rt,
         &elsewhere,
-        &Err(BoardError::Step(StepError::Elsewhere(rank(0)?))),
+        &Err(BoardError::Step(StepError::Elsewhere(rank(0).sure(rt)))),
     );
     same(
         rt,
         &board.remove(a),
         &Err(BoardError::Step(StepError::NotYet(1))),
     );
-    Ok(())
 }
 
 fn word(change: &Change) -> &'static str {
@@ -100,52 +92,46 @@ fn word(change: &Change) -> &'static str {
 }
 
 // The accepted changes are in the history, and no others.
-fn look_back<J: Naming, M: Publisher<J>>(rt: &impl Abort, board: &Board<J, M>) -> Result<(), Fail> {
+fn look_back<J: Naming, M: Publisher<J>>(rt: &impl Abort, board: &Board<J, M>) {
     let wanted = ["make", "pin", "mask", "deposit", "tick", "step"];
     same(rt, &board.history().len(), &6);
     for (entry, want) in board.history().iter().zip(&wanted) {
         same(rt, &word(&entry.change), want);
     }
-    match board.history().first() {
-        Some(entry) => match (&entry.change, &entry.reply) {
-            (Change::Make(parent, name, inodes), Answer::Dir(dir)) => {
-                same(rt, parent, &Dir::ROOT);
-                same(rt, &name.as_str(), &"a");
-                same(rt, inodes, &10);
-                same(rt, dir, &Dir::new(1));
-                Ok(())
-            }
-            _ => Err("another entry".into()),
-        },
-        None => Err("no entry".into()),
-    }
+    let Some(entry) = board.history().first() else {
+        panic!(rt; "no entry");
+    };
+    let (Change::Make(parent, name, inodes), Answer::Dir(dir)) = (&entry.change, &entry.reply)
+    else {
+        panic!(rt; "another entry");
+    };
+    same(rt, parent, &Dir::ROOT);
+    same(rt, &name.as_str(), &"a");
+    same(rt, inodes, &10);
+    same(rt, dir, &Dir::new(1));
 }
 
-fn changed<J: Naming, R: Wait + Drop>(
+pub(crate) fn on_board<J: Naming, M: Publisher<J>>(
     rt: &impl Abort,
-    waits: R,
     alloc: Global,
-    book: heat_ledger::NewBook,
-    map: authority_map::NewMap,
-) -> Result<(), Fail>
-    requires book { book ≡ J.ledger }
-    requires map { map ≡ J.map }
+    board: Board<J, M>,
+    shares: Vec<Share<J>>,
+    _readers: Vec<MapReader<J>>,
+)
     requires limit { J.limit ≡ 8 }
 {
-    let (mut board, mut shares, _readers) = open::<J, R>(waits, alloc, book, map, 8, 2)?;
-    let done = match shares.first_mut() {
-        Some(share) => set_up(rt, alloc, &mut board)
-            .and_then(|()| use_it(rt, alloc, &mut board, share))
-            .and_then(|()| look_back(rt, &board)),
-        None => Err("no share".into()),
+    let mut board = board;
+    let mut shares = shares;
+    let Some(share) = shares.first_mut() else {
+        panic!(rt; "no share");
     };
+    set_up(rt, alloc, &mut board);
+    use_it(rt, alloc, &mut board, share);
+    look_back(rt, &board);
     board.end();
-    done
 }
 
 #[test]
-fn changes_are_kept_with_their_replies(rt: HostRuntime) -> Result<(), Fail> {
-    let book = heat_ledger::NewBook::new(rt.alloc())?;
-    let map = authority_map::NewMap::new();
-    changed::<Brand, _>(&rt, &rt, rt.alloc(), book, map)
+fn changes_are_kept_with_their_replies(rt: HostRuntime) {
+    try_case(&rt, Case::Changes)
 }

@@ -2,10 +2,10 @@
 ghost use Rattle.std.specs.Prelude.{◌≡◌};
 
 use crate::adopting::plan;
-use crate::boards::open;
+use crate::cases::{Case, try_case};
 use crate::lists::Idle;
 use crate::said::said;
-use crate::same::same;
+use crate::same::{Sure, same};
 use authority_map::{MapReader, Publisher};
 use board_state::BoardError;
 use export_machine::Event;
@@ -14,10 +14,7 @@ use mds_board::Board;
 use mds_types::{Dir, Rank, RankSet};
 use naming::Naming;
 use std::alloc::Global;
-use std::marker::Brand;
 use std::process::Abort;
-use std::sync::Wait;
-use std::test::Fail;
 
 const FULL: BoardError = BoardError::HistoryFull;
 
@@ -60,11 +57,14 @@ fn refuse_plans<J: Naming, M: Publisher<J>>(
     rt: &impl Abort,
     alloc: Global,
     board: &mut Board<J, M>,
-) -> Result<(), Fail> {
+) {
     same(rt, &board.open_problem(alloc).err(), &Some(FULL));
-    same(rt, &board.adopt(alloc, plan(alloc, 5)?).err(), &Some(FULL));
+    same(
+        rt,
+        &board.adopt(alloc, plan(alloc, 5).sure(rt)).err(),
+        &Some(FULL),
+    );
     same(rt, &board.balance(alloc, &Idle).err(), &Some(FULL));
-    Ok(())
 }
 
 // Every change is refused for the same cause, before its own, and what the board says stays.
@@ -74,39 +74,35 @@ fn refuse<J: Naming, M: Publisher<J>>(
     board: &mut Board<J, M>,
     share: &mut Share<J>,
     reader: &mut MapReader<J>,
-) -> Result<(), Fail> {
+) {
     fill(rt, board);
     let before = said(board, share, reader);
     refuse_settings(rt, alloc, board);
     refuse_events(rt, alloc, board, share);
-    refuse_plans(rt, alloc, board)?;
+    refuse_plans(rt, alloc, board);
     assert!(rt; said(board, share, reader) == before);
-    Ok(())
 }
 
-fn filled<J: Naming, R: Wait + Drop>(
+pub(crate) fn on_board<J: Naming, M: Publisher<J>>(
     rt: &impl Abort,
-    waits: R,
     alloc: Global,
-    book: heat_ledger::NewBook,
-    map: authority_map::NewMap,
-) -> Result<(), Fail>
-    requires book { book ≡ J.ledger }
-    requires map { map ≡ J.map }
+    board: Board<J, M>,
+    shares: Vec<Share<J>>,
+    readers: Vec<MapReader<J>>,
+)
     requires limit { J.limit ≡ 8 }
 {
-    let (mut board, mut shares, mut readers) = open::<J, R>(waits, alloc, book, map, 8, 2)?;
-    let done = match (shares.first_mut(), readers.first_mut()) {
-        (Some(share), Some(reader)) => refuse(rt, alloc, &mut board, share, reader),
-        _ => Err("no share or no reader".into()),
+    let mut board = board;
+    let mut shares = shares;
+    let mut readers = readers;
+    let (Some(share), Some(reader)) = (shares.first_mut(), readers.first_mut()) else {
+        panic!(rt; "no share or no reader");
     };
+    refuse(rt, alloc, &mut board, share, reader);
     board.end();
-    done
 }
 
 #[test]
-fn a_full_board_refuses_before_all_else(rt: HostRuntime) -> Result<(), Fail> {
-    let book = heat_ledger::NewBook::new(rt.alloc())?;
-    let map = authority_map::NewMap::new();
-    filled::<Brand, _>(&rt, &rt, rt.alloc(), book, map)
+fn a_full_board_refuses_before_all_else(rt: HostRuntime) {
+    try_case(&rt, Case::Full)
 }

@@ -8,6 +8,8 @@ mod agreeing;
 #[cfg(test)]
 mod boards;
 #[cfg(test)]
+mod cases;
+#[cfg(test)]
 mod changes;
 #[cfg(test)]
 mod choices;

@@ -4,11 +4,12 @@ ghost use Rattle.board_state.specs.Steps.{is_inner};
 ghost use Rattle.heat_ledger.specs.Ledger.{IsClean};
 ghost use Rattle.mds_board.specs.Commands.{is_fit};
 
-use crate::boards::open;
+use crate::boards::board_of;
+use crate::cases::{Case, try_case};
 use crate::said::{Reading, said};
-use crate::same::{holds_in, same};
-use authority_map::{MapReader, Publisher};
-use board_state::{Answer, BoardError, Name, Solver};
+use crate::same::{Sure, holds_in, same};
+use authority_map::{MapReader, MapWriter, Publisher};
+use board_state::{Answer, BoardError, BoardParts, Name, Solver};
 use export_machine::Event;
 use heat_ledger::{Missing, Share};
 use mds_board::{Board, BoardCommand};
@@ -18,7 +19,6 @@ use std::alloc::{AllocError, Global};
 use std::marker::Brand;
 use std::process::Abort;
 use std::sync::Wait;
-use std::test::Fail;
 
 /// Who never has memory for a plan.
 pub(crate) struct Idle;
@@ -123,71 +123,91 @@ fn is_same(one: &Given, other: &Given) -> bool {
 
 /// The answers to the list, and what the board says then.
 fn run<J: Naming, M: Publisher<J>>(
+    rt: &impl Abort,
     alloc: Global,
     board: &mut Board<J, M>,
     share: &Share<J>,
     reader: &mut MapReader<J>,
-) -> Result<(Vec<Given>, Reading), Fail> {
-    let list = commands(alloc)?;
-    let answers = board.run(alloc, &Idle, &list)?;
-    Ok((answers, said(board, share, reader)))
+) -> (Vec<Given>, Reading) {
+    let list = commands(alloc).expect(rt, "it failed");
+    let answers = board.run(alloc, &Idle, &list).sure(rt);
+    (answers, said(board, share, reader))
 }
 
 /// The same by single calls.
 fn ask_each<J: Naming, M: Publisher<J>>(
+    rt: &impl Abort,
     alloc: Global,
     board: &mut Board<J, M>,
     share: &Share<J>,
     reader: &mut MapReader<J>,
-) -> Result<(Vec<Given>, Reading), Fail> {
-    let list = commands(alloc)?;
+) -> (Vec<Given>, Reading) {
+    let list = commands(alloc).expect(rt, "it failed");
     let mut answers = Vec::new(alloc);
     for command in &list {
-        answers.push(asked(alloc, board, command))?;
+        answers.push(asked(alloc, board, command)).sure(rt);
     }
-    Ok((answers, said(board, share, reader)))
+    (answers, said(board, share, reader))
 }
 
-fn answers<J: Naming, R: Wait + Drop>(
-    waits: R,
+fn answers_of<J: Naming, M: Publisher<J>>(
+    rt: &impl Abort,
     alloc: Global,
-    book: heat_ledger::NewBook,
-    map: authority_map::NewMap,
+    parts: BoardParts<J, M>,
+    readers: Vec<MapReader<J>>,
     is_list: bool,
-) -> Result<(Vec<Given>, Reading), Fail>
-    requires book { book ≡ J.ledger }
-    requires map { map ≡ J.map }
+) -> (Vec<Given>, Reading)
     requires limit { J.limit ≡ 8 }
 {
-    let (mut board, shares, mut readers) = open::<J, R>(waits, alloc, book, map, 8, 2)?;
-    let given = match (shares.first(), readers.first_mut()) {
-        (Some(share), Some(reader)) => {
-            if is_list {
-                run(alloc, &mut board, share, reader)
-            } else {
-                ask_each(alloc, &mut board, share, reader)
-            }
-        }
-        _ => Err("no share or no reader".into()),
+    let mut readers = readers;
+    let (mut board, shares) = board_of(rt, alloc, parts, 8, 2);
+    let (Some(share), Some(reader)) = (shares.first(), readers.first_mut()) else {
+        panic!(rt; "no share or no reader");
+    };
+    let given = if is_list {
+        run(rt, alloc, &mut board, share, reader)
+    } else {
+        ask_each(rt, alloc, &mut board, share, reader)
     };
     board.end();
     given
 }
 
+fn answers<J: Naming, R: Wait + Drop>(
+    rt: &impl Abort,
+    waits: R,
+    alloc: Global,
+    book: heat_ledger::NewBook,
+    map: authority_map::NewMap,
+    is_list: bool,
+) -> (Vec<Given>, Reading)
+    requires book { book ≡ J.ledger }
+    requires map { map ≡ J.map }
+    requires limit { J.limit ≡ 8 }
+{
+    match MapWriter::<J, R>::open(waits, alloc, map, 8, 1) {
+        Ok((writer, readers)) => {
+            answers_of(rt, alloc, BoardParts::new(book, writer), readers, is_list)
+        }
+        Err(_) => panic!(rt; "no map"),
+    }
+}
+
 fn answered<R: Wait + Drop>(
+    rt: &impl Abort,
     waits: R,
     alloc: Global,
     is_list: bool,
-) -> Result<(Vec<Given>, Reading), Fail> {
-    let book = heat_ledger::NewBook::new(alloc)?;
+) -> (Vec<Given>, Reading) {
+    let book = heat_ledger::NewBook::new(alloc).sure(rt);
     let map = authority_map::NewMap::new();
-    answers::<Brand, R>(waits, alloc, book, map, is_list)
+    answers::<Brand, R>(rt, waits, alloc, book, map, is_list)
 }
 
 #[test]
-fn a_list_of_commands_answers_as_single_calls(rt: HostRuntime) -> Result<(), Fail> {
-    let (listed, after_list) = answered(&rt, rt.alloc(), true)?;
-    let (single, after_calls) = answered(&rt, rt.alloc(), false)?;
+fn a_list_of_commands_answers_as_single_calls(rt: HostRuntime) {
+    let (listed, after_list) = answered(&rt, &rt, rt.alloc(), true);
+    let (single, after_calls) = answered(&rt, &rt, rt.alloc(), false);
     same(&rt, &(listed.len(), single.len()), &(14, 14));
     for (at, (one, other)) in listed.iter().zip(single.iter()).enumerate() {
         holds_in(&rt, is_same(one, other), &at);
@@ -196,7 +216,6 @@ fn a_list_of_commands_answers_as_single_calls(rt: HostRuntime) -> Result<(), Fai
     same(&rt, &refused, &6);
     assert!(rt; after_list == after_calls);
     same(&rt, &after_list.history, &8);
-    Ok(())
 }
 
 fn with_share<J: Naming>(
@@ -213,28 +232,24 @@ fn with_share<J: Naming>(
 }
 
 /// The two shares of a board, if nothing is pending in them.
-fn both<J: Naming>(alloc: Global, mut shares: Vec<Share<J>>) -> Result<Vec<Share<J>>, Fail>
-    ensures { IfOk result (λ v. All IsClean v.items) }
+fn both<J: Naming>(rt: &impl Abort, alloc: Global, mut shares: Vec<Share<J>>) -> Vec<Share<J>>
+    ensures { All IsClean result.items }
 {
     let (Some(second), Some(first)) = (shares.pop(), shares.pop()) else {
-        return Err("not two shares".into());
+        panic!(rt; "not two shares");
     };
     if !first.is_clean() || !second.is_clean() {
-        return Err("hits that are pending".into());
+        panic!(rt; "hits that are pending");
     }
-    let one = with_share(Vec::new(alloc), first)?;
-    Ok(with_share(one, second)?)
+    let one = with_share(Vec::new(alloc), first).expect(rt, "it failed");
+    with_share(one, second).expect(rt, "it failed")
 }
 
 /// The ledger doesn't close without shares.
-fn miss_both<J: Naming, M: Publisher<J>>(
-    alloc: Global,
-    board: &mut Board<J, M>,
-) -> Result<(), Fail> {
+fn miss_both<J: Naming, M: Publisher<J>>(rt: &impl Abort, alloc: Global, board: &mut Board<J, M>) {
     let Err((Missing(2), _none)) = board.close(Vec::new(alloc)) else {
-        return Err("closed without its shares".into());
+        panic!(rt; "closed without its shares");
     };
-    Ok(())
 }
 
 /// What needs no share goes on.
@@ -255,18 +270,17 @@ fn close<J: Naming, M: Publisher<J>>(
     alloc: Global,
     board: &mut Board<J, M>,
     shares: Vec<Share<J>>,
-) -> Result<(), Fail>
+)
     requires { All IsClean shares.items }
 {
     let a = Dir::new(1);
     let before = board.history().len();
-    miss_both(alloc, board)?;
+    miss_both(rt, alloc, board);
     assert!(rt; board.close(shares).is_ok());
-    miss_both(alloc, board)?;
+    miss_both(rt, alloc, board);
     same(rt, &board.history().len(), &before);
     same(rt, &(board.counted(a), board.begun(a)), &(3, 1));
     go_on(rt, alloc, board);
-    Ok(())
 }
 
 /// Three hits on /a and a request there, by the first share.
@@ -285,32 +299,26 @@ fn use_it<J: Naming, M: Publisher<J>>(
     same(rt, &board.deposit(alloc, share), &Ok(()));
 }
 
-fn closed<J: Naming, R: Wait + Drop>(
+pub(crate) fn on_board<J: Naming, M: Publisher<J>>(
     rt: &impl Abort,
-    waits: R,
     alloc: Global,
-    book: heat_ledger::NewBook,
-    map: authority_map::NewMap,
-) -> Result<(), Fail>
-    requires book { book ≡ J.ledger }
-    requires map { map ≡ J.map }
+    board: Board<J, M>,
+    shares: Vec<Share<J>>,
+    _readers: Vec<MapReader<J>>,
+)
     requires limit { J.limit ≡ 8 }
 {
-    let (mut board, mut shares, _readers) = open::<J, R>(waits, alloc, book, map, 8, 2)?;
+    let mut board = board;
+    let mut shares = shares;
     if let Some(share) = shares.first_mut() {
         use_it(rt, alloc, &mut board, share);
     }
-    let done = match both(alloc, shares) {
-        Ok(shares) => close(rt, alloc, &mut board, shares),
-        Err(fail) => Err(fail),
-    };
+    let shares = both(rt, alloc, shares);
+    close(rt, alloc, &mut board, shares);
     board.end();
-    done
 }
 
 #[test]
-fn a_closed_board_counts_no_more(rt: HostRuntime) -> Result<(), Fail> {
-    let book = heat_ledger::NewBook::new(rt.alloc())?;
-    let map = authority_map::NewMap::new();
-    closed::<Brand, _>(&rt, &rt, rt.alloc(), book, map)
+fn a_closed_board_counts_no_more(rt: HostRuntime) {
+    try_case(&rt, Case::Closed)
 }

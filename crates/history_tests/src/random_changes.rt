@@ -3,14 +3,14 @@ ghost use Rattle.std.specs.Prelude.{◌≡◌, true};
 ghost use Rattle.board_state.specs.Steps.{is_inner};
 
 use crate::agreeing::{agree, agree_at_rest};
-use crate::boards::open;
+use crate::boards::board_of;
 use crate::choices::Random;
 use crate::lists::Idle;
 use crate::plain::{LIMIT, NAMES, Plain, RANKS, counted};
 use crate::plain_solver::solve;
-use crate::same::same;
-use authority_map::{MapReader, Publisher};
-use board_state::{BoardError, Change};
+use crate::same::{Sure, same};
+use authority_map::{MapReader, MapWriter, Publisher};
+use board_state::{BoardError, BoardParts, Change};
 use export_machine::{Event, ExporterState, ImporterState};
 use heat_ledger::Share;
 use mds_board::{Board, Entry};
@@ -20,7 +20,6 @@ use std::alloc::Global;
 use std::marker::Brand;
 use std::process::Abort;
 use std::sync::Wait;
-use std::test::Fail;
 
 /// How many changes there are.
 const CHANGES: u32 = 2_000;
@@ -36,14 +35,13 @@ fn make<J: Naming, M: Publisher<J>>(
     board: &mut Board<J, M>,
     plain: &mut Plain,
     random: &mut Random,
-) -> Result<(), Fail> {
+) {
     let parent = random.dir(plain);
     let name = random.below(10) as usize;
     let text = NAMES.get(name).copied().unwrap_or("");
     let inodes = random.below(100);
     let made = board.make(alloc, parent, text, inodes);
-    same(rt, &made, &plain.make(parent, name, inodes)?);
-    Ok(())
+    same(rt, &made, &plain.make(parent, name, inodes).sure(rt));
 }
 
 fn remove<J: Naming, M: Publisher<J>>(
@@ -51,10 +49,9 @@ fn remove<J: Naming, M: Publisher<J>>(
     board: &mut Board<J, M>,
     plain: &mut Plain,
     random: &mut Random,
-) -> Result<(), Fail> {
+) {
     let dir = random.dir(plain);
-    same(rt, &board.remove(dir), &plain.remove(dir)?);
-    Ok(())
+    same(rt, &board.remove(dir), &plain.remove(dir).sure(rt));
 }
 
 fn set_pin<J: Naming, M: Publisher<J>>(
@@ -91,8 +88,8 @@ fn deposit<J: Naming, M: Publisher<J>>(
     share: &mut Share<J>,
     plain: &mut Plain,
     random: &mut Random,
-) -> Result<(), Fail> {
-    let mut hits: Vec<u64> = vec![in alloc; 0; LIMIT as usize]?;
+) {
+    let mut hits: Vec<u64> = vec![in alloc; 0; LIMIT as usize].sure(rt);
     for _ in 0..random.below(40) {
         let dir = random.dir(plain);
         same(rt, &share.hit(dir), &Ok(()));
@@ -102,7 +99,6 @@ fn deposit<J: Naming, M: Publisher<J>>(
     }
     same(rt, &board.deposit(alloc, share), &Ok(()));
     plain.deposit(&hits);
-    Ok(())
 }
 
 fn begin<J: Naming, M: Publisher<J>>(
@@ -111,12 +107,11 @@ fn begin<J: Naming, M: Publisher<J>>(
     share: &mut Share<J>,
     plain: &mut Plain,
     random: &mut Random,
-) -> Result<(), Fail> {
+) {
     let dir = random.dir(plain);
     let at = random.rank_for(plain, dir);
     let begun = board.begin(share, at, dir);
-    same(rt, &begun, &plain.step(&Event::Begin(at, dir))?);
-    Ok(())
+    same(rt, &begun, &plain.step(&Event::Begin(at, dir)).sure(rt));
 }
 
 fn step<J: Naming, M: Publisher<J>>(
@@ -125,12 +120,11 @@ fn step<J: Naming, M: Publisher<J>>(
     board: &mut Board<J, M>,
     plain: &mut Plain,
     event: Event,
-) -> Result<(), Fail>
+)
     requires { is_inner event ≡ true }
 {
-    let wanted = plain.step(&event)?;
+    let wanted = plain.step(&event).sure(rt);
     same(rt, &board.step(alloc, event), &wanted);
-    Ok(())
 }
 
 fn start<J: Naming, M: Publisher<J>>(
@@ -139,8 +133,8 @@ fn start<J: Naming, M: Publisher<J>>(
     board: &mut Board<J, M>,
     plain: &mut Plain,
     random: &mut Random,
-) -> Result<(), Fail> {
-    let dirs = random.subtree(alloc, plain)?;
+) {
+    let dirs = random.subtree(alloc, plain).sure(rt);
     let first = dirs.first().copied().unwrap_or(Dir::ROOT);
     let from = random.rank_for(plain, first);
     let to = random.rank();
@@ -158,8 +152,8 @@ fn open_problem<J: Naming, M: Publisher<J>>(
     alloc: Global,
     board: &mut Board<J, M>,
     plain: &mut Plain,
-) -> Result<(), Fail> {
-    let is_open = plain.open_problem(alloc)?;
+) {
+    let is_open = plain.open_problem(alloc).sure(rt);
     match board.open_problem(alloc) {
         Ok(problem) => match &plain.posed {
             Some(posed) if is_open => assert!(rt; problem.rows() == posed.rows.as_slice()),
@@ -170,19 +164,19 @@ fn open_problem<J: Naming, M: Publisher<J>>(
             assert!(rt; !is_open);
         }
     }
-    Ok(())
 }
 
 /// The plan that is adopted next, which is forged now and then, and what is to be answered.
 fn wanted(
+    rt: &impl Abort,
     alloc: Global,
     plain: &Plain,
     random: &mut Random,
-) -> Result<(Plan, Result<Vec<Order>, BoardError>), Fail> {
+) -> (Plan, Result<Vec<Order>, BoardError>) {
     let Some(posed) = &plain.posed else {
-        return Ok((solve(alloc, &[], &[])?, Err(BoardError::NoProblem)));
+        return (solve(alloc, &[], &[]).sure(rt), Err(BoardError::NoProblem));
     };
-    let mut plan = solve(alloc, &posed.rows, &posed.ranks)?;
+    let mut plan = solve(alloc, &posed.rows, &posed.ranks).sure(rt);
     let is_forged = random.once_in(3);
     if is_forged {
         if random.once_in(2) {
@@ -192,14 +186,14 @@ fn wanted(
         }
     }
     if let Some(event) = posed.changed {
-        return Ok((plan, Err(BoardError::Changed(event))));
+        return (plan, Err(BoardError::Changed(event)));
     }
     if is_forged {
-        return Ok((plan, Err(BoardError::NotBest)));
+        return (plan, Err(BoardError::NotBest));
     }
-    let targets = plain.planned(alloc, &posed.dirs, &plan)?;
-    let orders = plain.orders(alloc, &targets)?;
-    Ok((plan, Ok(orders)))
+    let targets = plain.planned(alloc, &posed.dirs, &plan).sure(rt);
+    let orders = plain.orders(alloc, &targets).sure(rt);
+    (plan, Ok(orders))
 }
 
 fn adopt<J: Naming, M: Publisher<J>>(
@@ -208,8 +202,8 @@ fn adopt<J: Naming, M: Publisher<J>>(
     board: &mut Board<J, M>,
     plain: &mut Plain,
     random: &mut Random,
-) -> Result<(), Fail> {
-    let (plan, wanted) = wanted(alloc, plain, random)?;
+) {
+    let (plan, wanted) = wanted(rt, alloc, plain, random);
     if wanted.is_ok() {
         plain.in_force = Some(plain.events);
         plain.posed = None;
@@ -217,7 +211,6 @@ fn adopt<J: Naming, M: Publisher<J>>(
     }
     let adopted = board.adopt(alloc, plan);
     assert!(rt; adopted == wanted);
-    Ok(())
 }
 
 fn balance<J: Naming, M: Publisher<J>>(
@@ -225,15 +218,14 @@ fn balance<J: Naming, M: Publisher<J>>(
     alloc: Global,
     board: &mut Board<J, M>,
     plain: &Plain,
-) -> Result<(), Fail> {
+) {
     let refused = board.balance(alloc, &Idle).err();
-    let cause = if plain.usable(alloc)?.is_empty() {
+    let cause = if plain.usable(alloc).sure(rt).is_empty() {
         BoardError::BalancerOff
     } else {
         BoardError::Memory
     };
     same(rt, &refused, &Some(cause));
-    Ok(())
 }
 
 /// What takes an export further, if nothing stands in the way.
@@ -262,7 +254,7 @@ fn step_further<J: Naming, M: Publisher<J>>(
     board: &mut Board<J, M>,
     plain: &mut Plain,
     random: &mut Random,
-) -> Result<(), Fail> {
+) {
     let message = random.message(plain);
     let export = random.export(plain);
     let event = match random.below(80) {
@@ -285,18 +277,12 @@ fn settle<J: Naming, M: Publisher<J>>(
     board: &mut Board<J, M>,
     plain: &mut Plain,
     random: &mut Random,
-) -> Result<(), Fail> {
+) {
     match random.below(8) {
         0..=3 if plain.count() < MOST => make(rt, alloc, board, plain, random),
         0..=4 if plain.count() >= 8 || random.once_in(8) => remove(rt, board, plain, random),
-        5 => {
-            set_mask(rt, board, plain, random);
-            Ok(())
-        }
-        _ => {
-            set_pin(rt, board, plain, random);
-            Ok(())
-        }
+        5 => set_mask(rt, board, plain, random),
+        _ => set_pin(rt, board, plain, random),
     }
 }
 
@@ -307,13 +293,13 @@ fn plan<J: Naming, M: Publisher<J>>(
     board: &mut Board<J, M>,
     plain: &mut Plain,
     random: &mut Random,
-) -> Result<(), Fail> {
+) {
     match random.below(6) {
         0 => balance(rt, alloc, board, plain),
         1 => open_problem(rt, alloc, board, plain),
         2 => adopt(rt, alloc, board, plain, random),
         _ => {
-            open_problem(rt, alloc, board, plain)?;
+            open_problem(rt, alloc, board, plain);
             adopt(rt, alloc, board, plain, random)
         }
     }
@@ -326,14 +312,11 @@ fn change<J: Naming, M: Publisher<J>>(
     share: &mut Share<J>,
     plain: &mut Plain,
     random: &mut Random,
-) -> Result<(), Fail> {
+) {
     match random.below(40) {
         0..=4 => settle(rt, alloc, board, plain, random),
         5 | 6 => deposit(rt, alloc, board, share, plain, random),
-        7 => {
-            tick(rt, board, plain);
-            Ok(())
-        }
+        7 => tick(rt, board, plain),
         8..=10 => begin(rt, board, share, plain, random),
         11..=15 => {
             let ticket = random.ticket(plain);
@@ -416,21 +399,37 @@ fn change_all<J: Naming, M: Publisher<J>>(
     board: &mut Board<J, M>,
     shares: &mut [Share<J>],
     reader: &mut MapReader<J>,
-) -> Result<(), Fail> {
-    let mut plain = Plain::new(alloc)?;
+) {
+    let mut plain = Plain::new(alloc).sure(rt);
     let mut random = Random::new(2026);
     for number in 0..CHANGES {
         let at = random.below(u32::from(RANKS)) as usize;
-        let share = shares.get_mut(at).ok_or("no share")?;
-        change(rt, alloc, board, share, &mut plain, &mut random)?;
+        let share = shares.get_mut(at).ok_or("no share").sure(rt);
+        change(rt, alloc, board, share, &mut plain, &mut random);
         agree(rt, board, &plain);
         if number % 25 == 0 {
             publish(rt, board, reader, &plain);
-            agree_at_rest(rt, alloc, board, &plain)?;
+            agree_at_rest(rt, alloc, board, &plain);
         }
     }
     assert!(rt; is_varied(board.history(), &plain));
-    Ok(())
+}
+
+fn on_parts<J: Naming, M: Publisher<J>>(
+    rt: &impl Abort,
+    alloc: Global,
+    parts: BoardParts<J, M>,
+    readers: Vec<MapReader<J>>,
+)
+    requires limit { J.limit ≡ LIMIT }
+{
+    let mut readers = readers;
+    let (mut board, mut shares) = board_of(rt, alloc, parts, LIMIT, RANKS);
+    let Some(reader) = readers.first_mut() else {
+        panic!(rt; "no reader");
+    };
+    change_all(rt, alloc, &mut board, &mut shares, reader);
+    board.end();
 }
 
 fn changed<J: Naming, R: Wait + Drop>(
@@ -439,23 +438,20 @@ fn changed<J: Naming, R: Wait + Drop>(
     alloc: Global,
     book: heat_ledger::NewBook,
     map: authority_map::NewMap,
-) -> Result<(), Fail>
+)
     requires book { book ≡ J.ledger }
     requires map { map ≡ J.map }
     requires limit { J.limit ≡ LIMIT }
 {
-    let (mut board, mut shares, mut readers) = open::<J, R>(waits, alloc, book, map, LIMIT, RANKS)?;
-    let done = match readers.first_mut() {
-        Some(reader) => change_all(rt, alloc, &mut board, &mut shares, reader),
-        None => Err("no reader".into()),
-    };
-    board.end();
-    done
+    match MapWriter::<J, R>::open(waits, alloc, map, LIMIT, 1) {
+        Ok((writer, readers)) => on_parts(rt, alloc, BoardParts::new(book, writer), readers),
+        Err(_) => panic!(rt; "no map"),
+    }
 }
 
 #[test]
-fn a_plain_board_answers_the_same(rt: HostRuntime) -> Result<(), Fail> {
-    let book = heat_ledger::NewBook::new(rt.alloc())?;
+fn a_plain_board_answers_the_same(rt: HostRuntime) {
+    let book = heat_ledger::NewBook::new(rt.alloc()).sure(&rt);
     let map = authority_map::NewMap::new();
     changed::<Brand, _>(&rt, &rt, rt.alloc(), book, map)
 }

@@ -5,9 +5,9 @@ ghost use Rattle.std.specs.Prelude.{◌≡◌, IfOk, true};
 ghost use Rattle.board_state.specs.Steps.{is_inner};
 
 use crate::adopting::plan;
-use crate::boards::open_at_last;
+use crate::cases::{Case, try_case};
 use crate::said::said;
-use crate::same::{holds_in, same, same_in};
+use crate::same::{Sure, holds_in, same, same_in};
 use authority_map::{MapReader, Publisher};
 use board_state::BoardError;
 use export_machine::Event;
@@ -16,10 +16,7 @@ use mds_board::Board;
 use mds_types::{Dir, Dirs, Plan, Rank, RankSet};
 use naming::Naming;
 use std::alloc::{AllocError, Global};
-use std::marker::Brand;
 use std::process::Abort;
-use std::sync::Wait;
-use std::test::Fail;
 
 /// What is done to a board, by the numbers of directories, ranks, exports and messages.
 #[derive(Clone, Copy)]
@@ -187,33 +184,37 @@ fn count<J: Naming, M: Publisher<J>>(
 
 /// Opens a problem, adopts the plan, publishes, or makes an event of the cluster.
 fn go_on<J: Naming, M: Publisher<J>>(
+    rt: &impl Abort,
     alloc: Global,
     board: &mut Board<J, M>,
     change: Do,
-) -> Result<Result<(), BoardError>, Fail> {
+) -> Result<(), BoardError> {
     match change {
-        Do::Open => Ok(board.open_problem(alloc).map(|_| ())),
-        Do::Adopt => Ok(board.adopt(alloc, plan_at_last(alloc)?).map(|_| ())),
-        Do::Publish => Ok(if board.publish() {
+        Do::Open => board.open_problem(alloc).map(|_| ()),
+        Do::Adopt => board.adopt(alloc, plan_at_last(alloc).sure(rt)).map(|_| ()),
+        Do::Publish => if board.publish() {
             Ok(())
         } else {
             Err(BoardError::Memory)
-        }),
-        Do::Step(step) => Ok(board.step(alloc, event(alloc, step)?).map(|_| ())),
-        _ => Ok(Ok(())),
+        },
+        Do::Step(step) => board
+            .step(alloc, event(alloc, step).expect(rt, "it failed"))
+            .map(|_| ()),
+        _ => Ok(()),
     }
 }
 
 fn change_once<J: Naming, M: Publisher<J>>(
+    rt: &impl Abort,
     alloc: Global,
     board: &mut Board<J, M>,
     share: &mut Share<J>,
     change: Do,
-) -> Result<Result<(), BoardError>, Fail> {
+) -> Result<(), BoardError> {
     match change {
-        Do::Hit(_) | Do::Deposit | Do::Begin(_, _) => Ok(count(alloc, board, share, change)),
-        Do::Open | Do::Adopt | Do::Publish | Do::Step(_) => go_on(alloc, board, change),
-        _ => Ok(set(alloc, board, change)),
+        Do::Hit(_) | Do::Deposit | Do::Begin(_, _) => count(alloc, board, share, change),
+        Do::Open | Do::Adopt | Do::Publish | Do::Step(_) => go_on(rt, alloc, board, change),
+        _ => set(alloc, board, change),
     }
 }
 
@@ -225,18 +226,18 @@ fn change_at_last<J: Naming, M: Publisher<J>>(
     share: &mut Share<J>,
     reader: &mut MapReader<J>,
     change: Do,
-) -> Result<bool, Fail> {
+) -> bool {
     let at = board.history().len();
     let before = said(board, share, reader);
-    let first = change_once(alloc, board, share, change)?;
+    let first = change_once(rt, alloc, board, share, change);
     if first.is_ok() {
-        return Ok(false);
+        return false;
     }
     same_in(rt, &first, &Err(BoardError::Memory), &at);
     holds_in(rt, said(board, share, reader) == before, &at);
-    let again = change_once(alloc, board, share, change)?;
+    let again = change_once(rt, alloc, board, share, change);
     same_in(rt, &again, &Ok(()), &at);
-    Ok(true)
+    true
 }
 
 /// Makes all changes, of which one at most is refused.
@@ -246,15 +247,14 @@ fn change_all<J: Naming, M: Publisher<J>>(
     board: &mut Board<J, M>,
     share: &mut Share<J>,
     reader: &mut MapReader<J>,
-) -> Result<(), Fail> {
+) {
     let mut refused = false;
     for change in CHANGES {
-        if change_at_last(rt, alloc, board, share, reader, change)? {
+        if change_at_last(rt, alloc, board, share, reader, change) {
             assert!(rt; !refused);
             refused = true;
         }
     }
-    Ok(())
 }
 
 /// The board is as without a refused growth.
@@ -272,37 +272,27 @@ fn look_back<J: Naming, M: Publisher<J>>(rt: &impl Abort, board: &Board<J, M>) {
     );
 }
 
-fn changed<J: Naming, R: Wait + Drop + Copy>(
+pub(crate) fn on_board<J: Naming, M: Publisher<J>>(
     rt: &impl Abort,
-    waits: R,
     alloc: Global,
-    book: heat_ledger::NewBook,
-    map: authority_map::NewMap,
-) -> Result<(), Fail>
-    requires book { book ≡ J.ledger }
-    requires map { map ≡ J.map }
+    board: Board<J, M>,
+    shares: Vec<Share<J>>,
+    readers: Vec<MapReader<J>>,
+)
     requires limit { J.limit ≡ 8 }
 {
-    let (mut board, mut shares, mut readers) = open_at_last::<J, R>(waits, alloc, book, map)?;
-    let done = match (shares.first_mut(), readers.first_mut()) {
-        (Some(share), Some(reader)) => change_all(rt, alloc, &mut board, share, reader),
-        _ => Err("no share or no reader".into()),
+    let mut board = board;
+    let mut shares = shares;
+    let mut readers = readers;
+    let (Some(share), Some(reader)) = (shares.first_mut(), readers.first_mut()) else {
+        panic!(rt; "no share or no reader");
     };
+    change_all(rt, alloc, &mut board, share, reader);
     look_back(rt, &board);
     board.end();
-    done
-}
-
-fn book_at_last(alloc: Global) -> Result<heat_ledger::NewBook, AllocError> {
-    match heat_ledger::NewBook::new(alloc) {
-        Ok(book) => Ok(book),
-        Err(_) => heat_ledger::NewBook::new(alloc),
-    }
 }
 
 #[test]
-fn a_refused_growth_changes_nothing(rt: HostRuntime) -> Result<(), Fail> {
-    let book = book_at_last(rt.alloc())?;
-    let map = authority_map::NewMap::new();
-    changed::<Brand, _>(&rt, &rt, rt.alloc(), book, map)
+fn a_refused_growth_changes_nothing(rt: HostRuntime) {
+    try_case(&rt, Case::RefusedGrowth)
 }

@@ -1,14 +1,13 @@
 //! How many events and exports there can be.
 
-use crate::same::same;
+use crate::same::{Sure, same};
 use crate::steps::{Do, answer, played, rank, run_rows, to_the_log};
 use export_machine::{Event, Reply, StepError};
 use mds_types::Dir;
-use std::test::Fail;
 
 #[test]
-fn history_is_full_after_its_limit(rt: HostRuntime) -> Result<(), Fail> {
-    let mut cluster = played(&rt, rt.alloc(), &to_the_log())?;
+fn history_is_full_after_its_limit(rt: HostRuntime) {
+    let mut cluster = played(&rt, rt.alloc(), &to_the_log());
     for _ in 9..1_048_576 {
         same(&rt, &cluster.apply(Event::Deliver(0)), &Ok(Reply::Ignored));
     }
@@ -17,7 +16,7 @@ fn history_is_full_after_its_limit(rt: HostRuntime) -> Result<(), Fail> {
         rt.alloc(),
         &mut cluster,
         &[(Do::Deliver(0), Err(StepError::HistoryFull))],
-    )?;
+    );
     run_rows(
         &rt,
         rt.alloc(),
@@ -27,16 +26,16 @@ fn history_is_full_after_its_limit(rt: HostRuntime) -> Result<(), Fail> {
 }
 
 #[test]
-fn exports_are_full_after_their_limit(rt: HostRuntime) -> Result<(), Fail> {
+fn exports_are_full_after_their_limit(rt: HostRuntime) {
     let mut cluster = played(
         &rt,
         rt.alloc(),
         &[(Do::Make(0), Ok(Reply::Dir(Dir::new(1))))],
-    )?;
+    );
     for export in 0..65_536 {
-        let started = answer(rt.alloc(), &mut cluster, Do::Start(0, 1, &[1]))?;
+        let started = answer(rt.alloc(), &mut cluster, Do::Start(0, 1, &[1])).sure(&rt);
         same(&rt, &started, &(Ok(Reply::Export(export, 2 * export))));
-        let aborted = answer(rt.alloc(), &mut cluster, Do::Abort(export))?;
+        let aborted = answer(rt.alloc(), &mut cluster, Do::Abort(export)).sure(&rt);
         same(&rt, &aborted, &(Ok(Reply::Sent(2 * export + 1))));
     }
     let rows = [

@@ -1,11 +1,10 @@
 //! The order of refusals, and what they print.
 
-use crate::same::same;
+use crate::same::{Sure, same};
 use crate::steps::{Do, rank, run_rows};
 use export_machine::{Cluster, ExporterState, Reply, StepError};
 use mds_types::Dir;
 use std::alloc::{AllocError, Global};
-use std::test::Fail;
 
 /// A cluster of two ranks with room for three directories.
 fn tiny(alloc: Global) -> Result<Cluster, AllocError> {
@@ -16,8 +15,8 @@ fn tiny(alloc: Global) -> Result<Cluster, AllocError> {
 }
 
 #[test]
-fn refuses_by_the_first_cause(rt: HostRuntime) -> Result<(), Fail> {
-    let mut cluster = tiny(rt.alloc())?;
+fn refuses_by_the_first_cause(rt: HostRuntime) {
+    let mut cluster = tiny(rt.alloc()).sure(&rt);
     let rows = [
         (Do::Make(0), Ok(Reply::Dir(Dir::new(1)))),
         (Do::Start(0, 1, &[]), Err(StepError::NotConnected)),
@@ -59,7 +58,7 @@ fn printed(alloc: Global, error: StepError) -> Result<String, AllocError> {
 }
 
 #[test]
-fn prints_number_name_and_value(rt: HostRuntime) -> Result<(), Fail> {
+fn prints_number_name_and_value(rt: HostRuntime) {
     let table = [
         (StepError::Memory, "0 Memory"),
         (StepError::NoDir, "6 NoDir"),
@@ -81,10 +80,9 @@ fn prints_number_name_and_value(rt: HostRuntime) -> Result<(), Fail> {
         (StepError::HistoryFull, "33 HistoryFull"),
     ];
     for (error, want) in table {
-        let printed = printed(rt.alloc(), error)?;
+        let printed = printed(rt.alloc(), error).sure(&rt);
         same(&rt, &printed.as_str(), &want);
     }
-    Ok(())
 }
 
 const LATE: [(ExporterState, &str); 7] = [
@@ -98,10 +96,9 @@ const LATE: [(ExporterState, &str); 7] = [
 ];
 
 #[test]
-fn prints_the_state_of_a_late_export(rt: HostRuntime) -> Result<(), Fail> {
+fn prints_the_state_of_a_late_export(rt: HostRuntime) {
     for (state, want) in LATE {
-        let printed = printed(rt.alloc(), StepError::Late(state))?;
+        let printed = printed(rt.alloc(), StepError::Late(state)).sure(&rt);
         same(&rt, &printed.as_str(), &want);
     }
-    Ok(())
 }

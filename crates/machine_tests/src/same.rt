@@ -20,3 +20,23 @@ pub(crate) fn same_in<T: PartialEq + Debug, R: Debug>(
         "{found:?} is not {wanted:?} in row {row:?}"
     );
 }
+
+/// A call that is to succeed.
+pub(crate) trait Sure {
+    /// What it gives.
+    type Value;
+
+    /// What it gives; a failure ends the test, and leaves its caller no other way out to prove.
+    fn sure<R: Abort>(self, rt: &R) -> Self::Value;
+}
+
+impl<T, E: Debug> Sure for Result<T, E> {
+    type Value = T;
+
+    fn sure<R: Abort>(self, rt: &R) -> T {
+        match self {
+            Ok(value) => value,
+            Err(error) => panic!(rt; "it failed: {error:?}"),
+        }
+    }
+}

@@ -1,29 +1,28 @@
 //! Whole exports, aborts, and messages that come late or twice.
 
-use crate::same::{same, same_in};
+use crate::same::{Sure, same, same_in};
 use crate::starts::run_prepared;
 use crate::steps::{Do, Row, cluster, event, played, rank, run_rows, to_the_log};
 use export_machine::{Cluster, ExporterState, ImporterState, JournalEntry, Reply, StepError};
 use mds_types::{Dir, Rank};
 use std::alloc::{AllocError, Global};
 use std::process::Abort;
-use std::test::Fail;
 
 #[test]
-fn moves_a_directory(rt: HostRuntime) -> Result<(), Fail> {
-    let mut cluster = played(&rt, rt.alloc(), &to_the_log())?;
+fn moves_a_directory(rt: HostRuntime) {
+    let mut cluster = played(&rt, rt.alloc(), &to_the_log());
     let rows = [
         (Do::Begin(0, 1), Err(StepError::Elsewhere(rank(1)))),
         (Do::Begin(1, 1), Err(StepError::Frozen(0))),
     ];
-    run_rows(&rt, rt.alloc(), &mut cluster, &rows)?;
+    run_rows(&rt, rt.alloc(), &mut cluster, &rows);
     same(&rt, &cluster.named(Dir::new(1)), &Some(rank(0)));
     let rows = [
         (Do::Notify(0), Ok(Reply::Sent(6))),
         (Do::Deliver(6), Ok(Reply::Changed)),
         (Do::Begin(1, 1), Ok(Reply::Ticket(0))),
     ];
-    run_rows(&rt, rt.alloc(), &mut cluster, &rows)?;
+    run_rows(&rt, rt.alloc(), &mut cluster, &rows);
     same(&rt, &cluster.named(Dir::new(1)), &Some(rank(1)));
     same(&rt, &cluster.authority(Dir::new(1)), &Some(rank(1)));
     assert!(rt; cluster.serves(rank(1), Dir::new(1)));
@@ -46,28 +45,26 @@ fn moves_a_directory(rt: HostRuntime) -> Result<(), Fail> {
     let importer = [JournalEntry::Started(0), JournalEntry::Imported(0)];
     assert!(rt; cluster.journal(rank(0)) == exporter.as_slice());
     assert!(rt; cluster.journal(rank(1)) == importer.as_slice());
-    Ok(())
 }
 
 #[test]
-fn late_ack_after_an_abort_is_ignored(rt: HostRuntime) -> Result<(), Fail> {
-    let mut cluster = played(&rt, rt.alloc(), &to_the_log()[..8])?;
+fn late_ack_after_an_abort_is_ignored(rt: HostRuntime) {
+    let mut cluster = played(&rt, rt.alloc(), &to_the_log()[..8]);
     let rows = [
         (Do::Abort(0), Ok(Reply::Sent(6))),
         (Do::Deliver(5), Ok(Reply::Ignored)),
         (Do::Deliver(6), Ok(Reply::Changed)),
         (Do::Abort(0), Err(StepError::Late(ExporterState::Aborted))),
     ];
-    run_rows(&rt, rt.alloc(), &mut cluster, &rows)?;
+    run_rows(&rt, rt.alloc(), &mut cluster, &rows);
     same(&rt, &cluster.authority(Dir::new(1)), &Some(rank(0)));
     let importer = [JournalEntry::Started(0), JournalEntry::Dropped(0)];
     assert!(rt; cluster.journal(rank(1)) == importer.as_slice());
-    Ok(())
 }
 
 #[test]
-fn repeated_messages_act_once(rt: HostRuntime) -> Result<(), Fail> {
-    let mut cluster = played(&rt, rt.alloc(), &to_the_log()[..8])?;
+fn repeated_messages_act_once(rt: HostRuntime) {
+    let mut cluster = played(&rt, rt.alloc(), &to_the_log()[..8]);
     let rows = [
         (Do::Deliver(4), Ok(Reply::Ignored)),
         (Do::Deliver(5), Ok(Reply::Changed)),
@@ -85,15 +82,14 @@ fn repeated_messages_act_once(rt: HostRuntime) -> Result<(), Fail> {
         (Do::Deliver(13), Ok(Reply::Changed)),
         (Do::Deliver(6), Ok(Reply::Ignored)),
     ];
-    run_rows(&rt, rt.alloc(), &mut cluster, &rows)?;
+    run_rows(&rt, rt.alloc(), &mut cluster, &rows);
     same(&rt, &cluster.authority(Dir::new(1)), &Some(rank(0)));
     assert!(rt; cluster.serves(rank(0), Dir::new(1)));
-    Ok(())
 }
 
 #[test]
-fn freezing_waits_for_requests(rt: HostRuntime) -> Result<(), Fail> {
-    let mut cluster = cluster(rt.alloc())?;
+fn freezing_waits_for_requests(rt: HostRuntime) {
+    let mut cluster = cluster(rt.alloc()).sure(&rt);
     let rows = [
         (Do::Make(0), Ok(Reply::Dir(Dir::new(1)))),
         (Do::Begin(0, 1), Ok(Reply::Ticket(0))),
@@ -109,8 +105,8 @@ fn freezing_waits_for_requests(rt: HostRuntime) -> Result<(), Fail> {
 }
 
 #[test]
-fn cancel_overtakes_discover(rt: HostRuntime) -> Result<(), Fail> {
-    let mut cluster = cluster(rt.alloc())?;
+fn cancel_overtakes_discover(rt: HostRuntime) {
+    let mut cluster = cluster(rt.alloc()).sure(&rt);
     let rows = [
         (Do::Make(0), Ok(Reply::Dir(Dir::new(1)))),
         (Do::Start(0, 1, &[1]), Ok(Reply::Export(0, 0))),
@@ -135,29 +131,23 @@ fn aborted(
     alloc: Global,
     done: usize,
     answer: Result<Reply, StepError>,
-) -> Result<Cluster, Fail> {
+) -> Cluster {
     let (log, ends) = (to_the_log(), ends());
-    let mut cluster = played(rt, alloc, &log[..done.min(9)])?;
-    run_rows(rt, alloc, &mut cluster, &ends[..done.max(9).min(11) - 9])?;
-    run_rows(rt, alloc, &mut cluster, &[(Do::Abort(0), answer)])?;
-    Ok(cluster)
+    let mut cluster = played(rt, alloc, &log[..done.min(9)]);
+    run_rows(rt, alloc, &mut cluster, &ends[..done.max(9).min(11) - 9]);
+    run_rows(rt, alloc, &mut cluster, &[(Do::Abort(0), answer)]);
+    cluster
 }
 
 /// The cancel of that export comes.
-fn cancelled(
-    rt: &impl Abort,
-    alloc: Global,
-    cluster: &mut Cluster,
-    message: u32,
-) -> Result<(), Fail> {
+fn cancelled(rt: &impl Abort, alloc: Global, cluster: &mut Cluster, message: u32) {
     let row = (Do::Deliver(message), Ok(Reply::Changed));
-    run_rows(rt, alloc, cluster, &[row])?;
+    run_rows(rt, alloc, cluster, &[row]);
     assert!(rt; cluster.serves(rank(0), Dir::new(1)));
-    Ok(())
 }
 
 #[test]
-fn aborts_before_the_log_entry_only(rt: HostRuntime) -> Result<(), Fail> {
+fn aborts_before_the_log_entry_only(rt: HostRuntime) {
     // (steps of the export that are done, the abort's answer, the cancel's message, the importer's entries at last)
     let table = [
         (2, Ok(Reply::Sent(1)), Some(1), 0),
@@ -170,77 +160,67 @@ fn aborts_before_the_log_entry_only(rt: HostRuntime) -> Result<(), Fail> {
         (11, Err(StepError::Late(ExporterState::Done)), None, 2),
     ];
     for (done, answer, cancel, entries) in table {
-        let mut cluster = aborted(&rt, rt.alloc(), done, answer)?;
+        let mut cluster = aborted(&rt, rt.alloc(), done, answer);
         match cancel {
-            Some(message) => cancelled(&rt, rt.alloc(), &mut cluster, message)?,
+            Some(message) => cancelled(&rt, rt.alloc(), &mut cluster, message),
             None => same(&rt, &cluster.authority(Dir::new(1)), &Some(rank(1))),
         }
         same_in(&rt, &cluster.journal(rank(1)).len(), &entries, &done);
     }
-    Ok(())
 }
 
 /// A message that was delivered is ignored.
-fn repeat(rt: &impl Abort, alloc: Global, cluster: &mut Cluster, message: u32) -> Result<(), Fail> {
+fn repeat(rt: &impl Abort, alloc: Global, cluster: &mut Cluster, message: u32) {
     let row = (Do::Deliver(message), Ok(Reply::Ignored));
     run_rows(rt, alloc, cluster, &[row])
 }
 
 /// Runs these rows, and delivers each message twice.
-fn run_twice(
-    rt: &impl Abort,
-    alloc: Global,
-    cluster: &mut Cluster,
-    rows: &[Row],
-) -> Result<(), Fail> {
+fn run_twice(rt: &impl Abort, alloc: Global, cluster: &mut Cluster, rows: &[Row]) {
     for (step, want) in rows {
-        run_rows(rt, alloc, cluster, &[(*step, *want)])?;
+        run_rows(rt, alloc, cluster, &[(*step, *want)]);
         if let Do::Deliver(message) = step {
-            repeat(rt, alloc, cluster, *message)?;
+            repeat(rt, alloc, cluster, *message);
         }
     }
-    Ok(())
 }
 
 #[test]
-fn twice_delivered_messages_change_nothing(rt: HostRuntime) -> Result<(), Fail> {
-    let mut cluster = cluster(rt.alloc())?;
-    run_twice(&rt, rt.alloc(), &mut cluster, &to_the_log())?;
-    run_twice(&rt, rt.alloc(), &mut cluster, &ends())?;
+fn twice_delivered_messages_change_nothing(rt: HostRuntime) {
+    let mut cluster = cluster(rt.alloc()).sure(&rt);
+    run_twice(&rt, rt.alloc(), &mut cluster, &to_the_log());
+    run_twice(&rt, rt.alloc(), &mut cluster, &ends());
     for message in 0..7 {
-        repeat(&rt, rt.alloc(), &mut cluster, message)?;
+        repeat(&rt, rt.alloc(), &mut cluster, message);
     }
     same(&rt, &cluster.authority(Dir::new(1)), &Some(rank(1)));
     same(&rt, &cluster.journal(rank(0)).len(), &4);
     same(&rt, &cluster.journal(rank(1)).len(), &2);
-    Ok(())
 }
 
 #[test]
-fn runs_a_list_of_events(rt: HostRuntime) -> Result<(), Fail> {
-    let mut cluster = cluster(rt.alloc())?;
+fn runs_a_list_of_events(rt: HostRuntime) {
+    let mut cluster = cluster(rt.alloc()).sure(&rt);
     let mut events = Vec::new(rt.alloc());
     for (step, _) in to_the_log() {
-        events.push(event(rt.alloc(), step)?)?;
+        events.push(event(rt.alloc(), step).sure(&rt)).sure(&rt);
     }
-    let answers = cluster.run(rt.alloc(), &events)?;
+    let answers = cluster.run(rt.alloc(), &events).sure(&rt);
     for ((_, want), answer) in to_the_log().iter().zip(answers.iter()) {
         same(&rt, answer, want);
     }
     same(&rt, &answers.len(), &9);
-    Ok(())
 }
 
 #[test]
-fn only_the_log_entry_logs(rt: HostRuntime) -> Result<(), Fail> {
-    let mut cluster = cluster(rt.alloc())?;
+fn only_the_log_entry_logs(rt: HostRuntime) {
+    let mut cluster = cluster(rt.alloc()).sure(&rt);
     for (at, (step, want)) in to_the_log().iter().enumerate() {
-        let next = event(rt.alloc(), *step)?;
+        let next = event(rt.alloc(), *step).sure(&rt);
         same_in(&rt, &cluster.logs_export(&next), &(at == 8), &at);
-        run_rows(&rt, rt.alloc(), &mut cluster, &[(*step, *want)])?;
+        run_rows(&rt, rt.alloc(), &mut cluster, &[(*step, *want)]);
         assert!(rt; !cluster.logs_export(&next));
     }
-    Ok(())
 }
 
 /// The roots of a cluster, asked for again where memory was refused.
@@ -252,7 +232,7 @@ fn roots(alloc: Global, cluster: &Cluster) -> Result<Vec<(Dir, Rank)>, AllocErro
 }
 
 #[test]
-fn roots_follow_the_log_entry(rt: HostRuntime) -> Result<(), Fail> {
+fn roots_follow_the_log_entry(rt: HostRuntime) {
     // (what is exported, the roots after its log entry)
     let table: [(&'static [u32], &'static [(u32, u8)]); 2] = [
         (&[1], &[(0, 0), (1, 1), (2, 0)]),
@@ -266,16 +246,15 @@ fn roots_follow_the_log_entry(rt: HostRuntime) -> Result<(), Fail> {
             (Do::Make(1), Ok(Reply::Dir(Dir::new(2)))),
             (Do::Start(0, 1, dirs), Ok(Reply::Export(0, 0))),
         ];
-        let mut cluster = played(&rt, rt.alloc(), &rows)?;
-        same(&rt, &roots(rt.alloc(), &cluster)?.len(), &1);
-        run_rows(&rt, rt.alloc(), &mut cluster, &steps[2..])?;
-        let found = roots(rt.alloc(), &cluster)?;
+        let mut cluster = played(&rt, rt.alloc(), &rows);
+        same(&rt, &roots(rt.alloc(), &cluster).sure(&rt).len(), &1);
+        run_rows(&rt, rt.alloc(), &mut cluster, &steps[2..]);
+        let found = roots(rt.alloc(), &cluster).sure(&rt);
         same(&rt, &found.len(), &want.len());
         for ((dir, at), (number, owner)) in found.iter().zip(want.iter()) {
             same(&rt, &(*dir, *at), &(Dir::new(*number), rank(*owner)));
         }
     }
-    Ok(())
 }
 
 /// Directory 1 has moved to rank 1. Here each further kind of event is accepted.
@@ -307,21 +286,19 @@ fn further() -> [Row; 21] {
 
 /// What a small cluster has after each kind of event, growths refused or not.
 #[test]
-fn a_refused_growth_changes_nothing(rt: HostRuntime) -> Result<(), Fail> {
-    let mut cluster = played(&rt, rt.alloc(), &to_the_log())?;
-    run_rows(&rt, rt.alloc(), &mut cluster, &further())?;
-    same(&rt, &roots(rt.alloc(), &cluster)?.len(), &2);
+fn a_refused_growth_changes_nothing(rt: HostRuntime) {
+    let mut cluster = played(&rt, rt.alloc(), &to_the_log());
+    run_rows(&rt, rt.alloc(), &mut cluster, &further());
+    same(&rt, &roots(rt.alloc(), &cluster).sure(&rt).len(), &2);
     same(&rt, &cluster.authority(Dir::new(3)), &Some(rank(1)));
     same(&rt, &cluster.sent(), &17);
-    Ok(())
 }
 
 /// The same events, each prepared first.
 #[test]
-fn a_refused_growth_leaves_what_is_prepared(rt: HostRuntime) -> Result<(), Fail> {
-    let mut cluster = cluster(rt.alloc())?;
-    run_prepared(&rt, rt.alloc(), &mut cluster, &to_the_log())?;
-    run_prepared(&rt, rt.alloc(), &mut cluster, &further())?;
+fn a_refused_growth_leaves_what_is_prepared(rt: HostRuntime) {
+    let mut cluster = cluster(rt.alloc()).sure(&rt);
+    run_prepared(&rt, rt.alloc(), &mut cluster, &to_the_log());
+    run_prepared(&rt, rt.alloc(), &mut cluster, &further());
     same(&rt, &cluster.authority(Dir::new(3)), &Some(rank(1)));
-    Ok(())
 }

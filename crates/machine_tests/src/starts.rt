@@ -1,21 +1,20 @@
 //! Which lists of directories can be exported, and events that are prepared.
 
-use crate::same::{same, same_in};
+use crate::same::{Sure, same, same_in};
 use crate::steps::{Do, Row, answer, cluster, event, rank, to_the_log, written};
 use export_machine::{Cluster, Event, ExporterState, Reply, StepError};
 use mds_types::Dir;
 use std::alloc::Global;
 use std::process::Abort;
-use std::test::Fail;
 
 /// A cluster in which directory d has the children 2d + 1 and 2d + 2, up to 14.
-fn with_two_children_each(rt: &impl Abort, alloc: Global) -> Result<Cluster, Fail> {
-    let mut cluster = cluster(alloc)?;
+fn with_two_children_each(rt: &impl Abort, alloc: Global) -> Cluster {
+    let mut cluster = cluster(alloc).sure(rt);
     for number in 1u32..15 {
-        let made = answer(alloc, &mut cluster, Do::Make((number - 1) / 2))?;
+        let made = answer(alloc, &mut cluster, Do::Make((number - 1) / 2)).sure(rt);
         same(rt, &made, &Ok(Reply::Dir(Dir::new(number))));
     }
-    Ok(cluster)
+    cluster
 }
 
 /// Prepares an event, and does so again where memory was wanting.
@@ -27,7 +26,7 @@ fn prepared(cluster: &mut Cluster, event: &Event) -> Result<(), StepError> {
 }
 
 #[test]
-fn can_apply_names_the_refusal_of_a_start(rt: HostRuntime) -> Result<(), Fail> {
+fn can_apply_names_the_refusal_of_a_start(rt: HostRuntime) {
     // (directories, why their export is refused)
     let table: [(&'static [u32], Option<StepError>); 18] = [
         // rising
@@ -52,13 +51,12 @@ fn can_apply_names_the_refusal_of_a_start(rt: HostRuntime) -> Result<(), Fail> {
         (&[], Some(StepError::NotConnected)),
     ];
     for (dirs, want) in table {
-        let mut cluster = with_two_children_each(&rt, rt.alloc())?;
-        let start = event(rt.alloc(), Do::Start(0, 1, dirs))?;
+        let mut cluster = with_two_children_each(&rt, rt.alloc());
+        let start = event(rt.alloc(), Do::Start(0, 1, dirs)).sure(&rt);
         same_in(&rt, &cluster.can_apply(&start).err(), &want, &dirs);
         same_in(&rt, &prepared(&mut cluster, &start).err(), &want, &dirs);
         same_in(&rt, &cluster.apply(start).err(), &want, &dirs);
     }
-    Ok(())
 }
 
 /// An event that is prepared, and then happens. Where a growth is refused nothing
@@ -76,37 +74,29 @@ fn happened(cluster: &mut Cluster, event: Event) -> Result<Reply, StepError> {
 }
 
 /// Runs a schedule in which each event is prepared first.
-pub(crate) fn run_prepared(
-    rt: &impl Abort,
-    alloc: Global,
-    cluster: &mut Cluster,
-    rows: &[Row],
-) -> Result<(), Fail> {
+pub(crate) fn run_prepared(rt: &impl Abort, alloc: Global, cluster: &mut Cluster, rows: &[Row]) {
     for (at, (step, want)) in rows.iter().enumerate() {
-        let next = event(alloc, *step)?;
+        let next = event(alloc, *step).sure(rt);
         same_in(rt, &happened(cluster, next), want, &at);
     }
-    Ok(())
 }
 
 #[test]
-fn prepared_events_happen(rt: HostRuntime) -> Result<(), Fail> {
-    let mut cluster = cluster(rt.alloc())?;
-    run_prepared(&rt, rt.alloc(), &mut cluster, &to_the_log())?;
-    let refused = event(rt.alloc(), Do::Abort(0))?;
+fn prepared_events_happen(rt: HostRuntime) {
+    let mut cluster = cluster(rt.alloc()).sure(&rt);
+    run_prepared(&rt, rt.alloc(), &mut cluster, &to_the_log());
+    let refused = event(rt.alloc(), Do::Abort(0)).sure(&rt);
     let late = Err(StepError::Late(ExporterState::Logged));
     same(&rt, &happened(&mut cluster, refused), &late);
     same(&rt, &cluster.authority(Dir::new(1)), &Some(rank(1)));
-    Ok(())
 }
 
 #[test]
-fn refused_events_leave_room(rt: HostRuntime) -> Result<(), Fail> {
-    let mut cluster = with_two_children_each(&rt, rt.alloc())?;
-    let make = event(rt.alloc(), Do::Make(3))?;
-    prepared(&mut cluster, &make)?;
-    let refused = event(rt.alloc(), Do::Start(0, 1, &[14, 9]))?;
+fn refused_events_leave_room(rt: HostRuntime) {
+    let mut cluster = with_two_children_each(&rt, rt.alloc());
+    let make = event(rt.alloc(), Do::Make(3)).sure(&rt);
+    prepared(&mut cluster, &make).sure(&rt);
+    let refused = event(rt.alloc(), Do::Start(0, 1, &[14, 9])).sure(&rt);
     same(&rt, &cluster.apply(refused), &Err(StepError::NotConnected));
     same(&rt, &cluster.apply(make), &Ok(Reply::Dir(Dir::new(15))));
-    Ok(())
 }

@@ -3,12 +3,11 @@
 //! What asks for memory is asked again where a growth was refused, and must have changed nothing by then. So the tests
 //! hold with any one growth refused.
 
-use crate::same::same_in;
+use crate::same::{Sure, same_in};
 use export_machine::{Cluster, Event, ExporterState, ImporterState, Reply, StepError};
 use mds_types::{Dir, Dirs, Rank};
 use std::alloc::{AllocError, Global};
 use std::process::Abort;
-use std::test::Fail;
 
 pub(crate) fn rank(number: u8) -> Rank {
     match Rank::new(number) {
@@ -126,19 +125,13 @@ pub(crate) fn answer(
 }
 
 /// Runs a schedule on a cluster, and compares each answer, and what would be refused, with its row.
-pub(crate) fn run_rows(
-    rt: &impl Abort,
-    alloc: Global,
-    cluster: &mut Cluster,
-    rows: &[Row],
-) -> Result<(), Fail> {
+pub(crate) fn run_rows(rt: &impl Abort, alloc: Global, cluster: &mut Cluster, rows: &[Row]) {
     for (at, (step, want)) in rows.iter().enumerate() {
-        let able = cluster.can_apply(&event(alloc, *step)?);
+        let able = cluster.can_apply(&event(alloc, *step).sure(rt));
         same_in(rt, &able.err(), &want.err(), &at);
-        let got = answer(alloc, cluster, *step)?;
+        let got = answer(alloc, cluster, *step).sure(rt);
         same_in(rt, &got, want, &at);
     }
-    Ok(())
 }
 
 /// A cluster of two ranks with room for 16 directories.
@@ -150,10 +143,10 @@ pub(crate) fn cluster(alloc: Global) -> Result<Cluster, AllocError> {
 }
 
 /// Such a cluster after a schedule.
-pub(crate) fn played(rt: &impl Abort, alloc: Global, rows: &[Row]) -> Result<Cluster, Fail> {
-    let mut cluster = cluster(alloc)?;
-    run_rows(rt, alloc, &mut cluster, rows)?;
-    Ok(cluster)
+pub(crate) fn played(rt: &impl Abort, alloc: Global, rows: &[Row]) -> Cluster {
+    let mut cluster = cluster(alloc).sure(rt);
+    run_rows(rt, alloc, &mut cluster, rows);
+    cluster
 }
 
 /// The steps that move directory 1 from rank 0 to rank 1, up to the log entry. The first makes it.

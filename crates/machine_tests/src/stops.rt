@@ -1,14 +1,13 @@
 //! Ranks that stop and run again.
 
-use crate::same::same;
+use crate::same::{Sure, same};
 use crate::steps::{Do, cluster, played, rank, run_rows, to_the_log};
 use export_machine::{ExporterState, ImporterState, JournalEntry, Reply, StepError};
 use mds_types::Dir;
-use std::test::Fail;
 
 #[test]
-fn logged_export_goes_on_after_a_stop(rt: HostRuntime) -> Result<(), Fail> {
-    let mut cluster = played(&rt, rt.alloc(), &to_the_log())?;
+fn logged_export_goes_on_after_a_stop(rt: HostRuntime) {
+    let mut cluster = played(&rt, rt.alloc(), &to_the_log());
     let rows = [
         (Do::Stop(0), Ok(Reply::Changed)),
         (Do::Notify(0), Err(StepError::Stopped(rank(0)))),
@@ -17,14 +16,13 @@ fn logged_export_goes_on_after_a_stop(rt: HostRuntime) -> Result<(), Fail> {
         (Do::Notify(0), Ok(Reply::Sent(6))),
         (Do::Deliver(6), Ok(Reply::Changed)),
     ];
-    run_rows(&rt, rt.alloc(), &mut cluster, &rows)?;
+    run_rows(&rt, rt.alloc(), &mut cluster, &rows);
     assert!(rt; cluster.serves(rank(1), Dir::new(1)));
-    Ok(())
 }
 
 #[test]
-fn importer_asks_what_a_stop_aborted(rt: HostRuntime) -> Result<(), Fail> {
-    let mut cluster = played(&rt, rt.alloc(), &to_the_log()[..8])?;
+fn importer_asks_what_a_stop_aborted(rt: HostRuntime) {
+    let mut cluster = played(&rt, rt.alloc(), &to_the_log()[..8]);
     let rows = [
         (Do::Stop(0), Ok(Reply::Changed)),
         (Do::Ask(0), Ok(Reply::Sent(6))),
@@ -35,7 +33,7 @@ fn importer_asks_what_a_stop_aborted(rt: HostRuntime) -> Result<(), Fail> {
         (Do::Deliver(5), Ok(Reply::Ignored)),
         (Do::Ask(0), Err(StepError::Late(ExporterState::Aborted))),
     ];
-    run_rows(&rt, rt.alloc(), &mut cluster, &rows)?;
+    run_rows(&rt, rt.alloc(), &mut cluster, &rows);
     assert!(rt; cluster.serves(rank(0), Dir::new(1)));
     let importer = [JournalEntry::Started(0), JournalEntry::Dropped(0)];
     assert!(rt; cluster.journal(rank(1)) == importer.as_slice());
@@ -45,18 +43,17 @@ fn importer_asks_what_a_stop_aborted(rt: HostRuntime) -> Result<(), Fail> {
         (Do::Restart(1), Ok(Reply::Changed)),
         (Do::Start(0, 1, &[1]), Ok(Reply::Export(1, 8))),
     ];
-    run_rows(&rt, rt.alloc(), &mut cluster, &rows)?;
+    run_rows(&rt, rt.alloc(), &mut cluster, &rows);
     same(
         &rt,
         &cluster.states(0),
         &Some((ExporterState::Aborted, ImporterState::Dropped)),
     );
-    Ok(())
 }
 
 #[test]
-fn stopped_importer_asks_for_its_end(rt: HostRuntime) -> Result<(), Fail> {
-    let mut cluster = played(&rt, rt.alloc(), &to_the_log())?;
+fn stopped_importer_asks_for_its_end(rt: HostRuntime) {
+    let mut cluster = played(&rt, rt.alloc(), &to_the_log());
     let rows = [
         (Do::Notify(0), Ok(Reply::Sent(6))),
         (Do::Stop(1), Ok(Reply::Changed)),
@@ -67,15 +64,14 @@ fn stopped_importer_asks_for_its_end(rt: HostRuntime) -> Result<(), Fail> {
         (Do::Deliver(8), Ok(Reply::Changed)),
         (Do::Deliver(6), Ok(Reply::Ignored)),
     ];
-    run_rows(&rt, rt.alloc(), &mut cluster, &rows)?;
+    run_rows(&rt, rt.alloc(), &mut cluster, &rows);
     assert!(rt; cluster.serves(rank(1), Dir::new(1)));
     same(&rt, &cluster.journal(rank(1)).len(), &2);
-    Ok(())
 }
 
 #[test]
-fn stop_forgets_what_was_not_journaled(rt: HostRuntime) -> Result<(), Fail> {
-    let mut cluster = played(&rt, rt.alloc(), &to_the_log()[..6])?;
+fn stop_forgets_what_was_not_journaled(rt: HostRuntime) {
+    let mut cluster = played(&rt, rt.alloc(), &to_the_log()[..6]);
     let rows = [
         (Do::Stop(1), Ok(Reply::Changed)),
         (Do::Restart(1), Ok(Reply::Changed)),
@@ -84,14 +80,13 @@ fn stop_forgets_what_was_not_journaled(rt: HostRuntime) -> Result<(), Fail> {
         (Do::Abort(0), Ok(Reply::Sent(5))),
         (Do::Deliver(5), Ok(Reply::Changed)),
     ];
-    run_rows(&rt, rt.alloc(), &mut cluster, &rows)?;
+    run_rows(&rt, rt.alloc(), &mut cluster, &rows);
     assert!(rt; cluster.serves(rank(0), Dir::new(1)));
-    Ok(())
 }
 
 #[test]
-fn stop_ends_requests(rt: HostRuntime) -> Result<(), Fail> {
-    let mut cluster = cluster(rt.alloc())?;
+fn stop_ends_requests(rt: HostRuntime) {
+    let mut cluster = cluster(rt.alloc()).sure(&rt);
     let rows = [
         (Do::Make(0), Ok(Reply::Dir(Dir::new(1)))),
         (Do::Begin(0, 1), Ok(Reply::Ticket(0))),
@@ -115,8 +110,8 @@ fn stop_ends_requests(rt: HostRuntime) -> Result<(), Fail> {
 }
 
 #[test]
-fn aborted_by_a_stop_can_be_exported_again(rt: HostRuntime) -> Result<(), Fail> {
-    let mut cluster = played(&rt, rt.alloc(), &to_the_log()[..5])?;
+fn aborted_by_a_stop_can_be_exported_again(rt: HostRuntime) {
+    let mut cluster = played(&rt, rt.alloc(), &to_the_log()[..5]);
     let rows = [
         (Do::Start(0, 1, &[1]), Err(StepError::Busy(0))),
         (Do::Stop(0), Ok(Reply::Changed)),

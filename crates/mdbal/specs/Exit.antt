@@ -26,7 +26,8 @@ message Memory = codes "mdbal: 0 Memory" ++ 10 ∷ []
 message Read = codes "mdbal: read failed" ++ 10 ∷ []
 message Write = codes "mdbal: write failed" ++ 10 ∷ []
 
-module _ {R : Type 0} (remaining : R → Option (List ℕ)) (limit : ℕ) (strict : Bool) (old new : Reading R) (before after : Option (List ℕ)) where
+module _ {R : Type 0} (remaining : R → Option (List ℕ)) (limit : ℕ) (strict : Bool) (old new : Reading R)
+    (before after : Option (List ℕ)) where
   -- the script came to its end, or to its first faulty line where the run is strict, and all answers were written
   abbrev pub IsCarriedOut : Bool → Type 0
   IsCarriedOut accepted =
@@ -60,5 +61,6 @@ abbrev pub IsExit : {R : Type 0} → (R → Option (List ℕ)) → List Text →
     → Option (List ℕ) → ℕ → Type 0
 IsExit remaining words old new before after status =
     ((fault_of mdbal words ≡ []) × IsRun remaining (limit_of words) (is_strict words) old new before after status)
-    ⊎ ((status ≡ 0) × (IsAmong DisplayHelp (fault_of mdbal words) ⊎ IsAmong DisplayVersion (fault_of mdbal words)) × (new ≡ old))
+    ⊎ ((status ≡ 0) × (IsAmong DisplayHelp (fault_of mdbal words) ⊎ IsAmong DisplayVersion (fault_of mdbal words))
+    × (new ≡ old))
     ⊎ ((status ≡ 2) × (new ≡ old))

@@ -20,7 +20,8 @@ use Rattle.mdbal_ceph.specs.declared.outcome.Outcome.{Outcome}
 pub record IsHeldHeat (directories : List Directory) (holds : List Held) (spread pinned : List ℕ) : Type 0 where
   pub size : length pinned ≡ 64
   pub at : (r : ℕ) → r < 64
-      → slice_index pinned r ≡ min most_heat (slice_index spread r + held_below directories holds r (length directories))
+      → slice_index pinned r
+      ≡ min most_heat (slice_index spread r + held_below directories holds r (length directories))
 
 -- what is planned: the rows are the directories, each with its heat where nothing holds it and with none where
 -- something does; the plan is the one that is chosen of all that are weighed of
@@ -51,7 +52,8 @@ pub record IsDecision (directories : List Directory) (spread : List ℕ) (ranks 
 -- what was collected of directories, with this heat by rank of what is spread, and what came of it: at most as many
 -- directories as the planner takes, all that were collected where they are no more than that, with all their heat and
 -- inodes, and what is decided for these
-pub record IsOutcome (collected : List Directory) (spread : List ℕ) (parts : PartCount) (outcome : Outcome) : Type 0 where
+pub record IsOutcome
+    (collected : List Directory) (spread : List ℕ) (parts : PartCount) (outcome : Outcome) : Type 0 where
   pub few : length outcome.directories.items ≤ DIR_LIMIT
   pub same : length collected ≤ DIR_LIMIT → outcome.directories.items ≡ collected
   pub folded : IsFolded collected outcome.directories.items

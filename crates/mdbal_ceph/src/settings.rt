@@ -140,7 +140,8 @@ fn command<'a>(alloc: Global) -> Result<Command<'a>, AllocError> {
     let command = Command::new(alloc, "mdbal_ceph")
         .version(VERSION)
         .about(
-            "Says which export pins balance a live CephFS. Status 0: planned; 1: a file is missing or broken, or there is no plan; 2: the command line is refused",
+            "Says which export pins balance a live CephFS. Status 0: planned; 1: a file is missing or broken, or \
+             there is no plan; 2: the command line is refused",
         )
         .arg(folder)?;
     writing(alloc, planning(alloc, command)?)

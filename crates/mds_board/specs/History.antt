@@ -43,7 +43,8 @@ recorded w c = record w { state = next w.state c; history = w.history ++ entry_o
 -- An accepted change adds its entry with the reply that the caller gets. A refused one changes nothing.
 abbrev pub IsAnswer : World → Change → Result Answer BoardError → World → Type 0
 IsAnswer old c (Ok reply) new =
-    (refusal old.state c ≡ None) × IsAllowed old.state c × (reply ≡ (happens old.state c).reply) × (new ≡ recorded old c)
+    (refusal old.state c ≡ None) × IsAllowed old.state c × (reply ≡ (happens old.state c).reply)
+    × (new ≡ recorded old c)
 IsAnswer old c (Err error) new = IsDue old.state c error × (new ≡ old)
 
 -- The state is the replay of the history from the empty board, within the limits.

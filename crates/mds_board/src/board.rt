@@ -226,7 +226,8 @@ impl<J: Naming, M: Publisher<J>> Board<J, M> {
         alloc: Global,
         solver: &S,
     ) -> Result<Vec<Order>, BoardError>
-        ensures ok { IfOk result (λ orders. (plan : Plan) × IsBest (problem_of self.old.state) plan × IsCertified (problem_of self.old.state) plan × (refusal self.old.state Change.Open ≡ None)
+        ensures ok { IfOk result (λ orders. (plan : Plan) × IsBest (problem_of self.old.state) plan
+            × IsCertified (problem_of self.old.state) plan × (refusal self.old.state Change.Open ≡ None)
             × (Answer.Orders orders.items ≡ (happens (next self.old.state Change.Open) (Change.Adopt plan)).reply)
             × (self.new ≡ recorded (recorded self.old Change.Open) (Change.Adopt plan))) }
         ensures err { IfErr result (λ e. (balance_refusal self.old.state ≡ Some e)

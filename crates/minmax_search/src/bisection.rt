@@ -9,7 +9,7 @@ use crate::choice_of_proof::prove_least;
 use crate::found::BestCut;
 use crate::narrow::{narrow, start};
 use mds_types::{CutProof, Problem, ProblemRow};
-use residual_cut::{cut_cool, cut_linked, weigh};
+use residual_cut::{Weighed, cut_cool, cut_linked, weigh};
 use std::alloc::{AllocError, Global};
 
 /// A cut into at most `ranks` parts with the least greatest heat.
@@ -23,7 +23,12 @@ fn search_rows(alloc: Global, rows: &[ProblemRow], ranks: u32) -> Result<BestCut
     let from = start(rows, ranks);
     let trees = weigh(alloc, rows, from.low)?;
     let mut rest = trees.heat.clone()?;
-    let greatest = narrow(alloc, rows, &trees, &mut rest, ranks, from, &mut passes)?;
+    let of = Weighed {
+        rows,
+        trees: &trees,
+        ranks,
+    };
+    let greatest = narrow(alloc, of, &mut rest, from, &mut passes)?;
     let cut = cut_linked(alloc, rows, &trees.links, greatest, &mut passes)?;
     let proof = prove_least(alloc, rows, &trees.links, ranks, greatest, &mut passes)?;
     Ok(BestCut {

@@ -95,7 +95,8 @@ impl FoundSets {
         requires dir { dir < length self.old.places.items }
         requires place { slice_index self.old.places.items parent < length self.old.orders.items }
         ensures orders { OnOk result (let place = slice_index self.old.places.items parent in
-            self.new.orders.items ≡ slice_set self.old.orders.items place (with_dir (slice_index_or self.old.orders.items place no_order) dir)) }
+            self.new.orders.items ≡ slice_set self.old.orders.items place
+            (with_dir (slice_index_or self.old.orders.items place no_order) dir)) }
         ensures places { OnOk result (self.new.places.items
             ≡ slice_set self.old.places.items dir (slice_index self.old.places.items parent)) }
     {

@@ -1,11 +1,11 @@
 //! Orders of random trees beside the sets that grow from one directory.
 ghost use Rattle.std.specs.Prelude.{◌<◌};
 
-use crate::same::holds_in;
+use crate::same::{Sure, holds_in};
 use crate::trees::{is_order, new_tree, orders_of, ranks};
 use mds_types::Order;
 use std::alloc::{AllocError, Global};
-use std::test::Fail;
+use std::process::Abort;
 
 /// Numbers that look random, from a fixed start.
 #[derive(Drop)]
@@ -117,21 +117,24 @@ fn are_grown(
 }
 
 // Whether the orders of a random tree are grown sets.
-fn is_grown_at_random(alloc: Global, random: &mut Random) -> Result<bool, Fail> {
-    let parents = random_parents(alloc, random)?;
-    let now = random_numbers(alloc, random)?;
-    let target = random_numbers(alloc, random)?;
-    let tree = new_tree(alloc, &parents)?;
-    let (at, aim) = (ranks(alloc, &now)?, ranks(alloc, &target)?);
-    let found = orders_of(alloc, &tree, &at, &aim)?;
-    Ok(are_grown(alloc, &parents, &now, &target, &found)?)
+fn is_grown_at_random(rt: &impl Abort, alloc: Global, random: &mut Random) -> bool {
+    let parents = random_parents(alloc, random).sure(rt);
+    let now = random_numbers(alloc, random).sure(rt);
+    let target = random_numbers(alloc, random).sure(rt);
+    let tree = new_tree(alloc, &parents).sure(rt);
+    let (at, aim) = (ranks(alloc, &now).sure(rt), ranks(alloc, &target).sure(rt));
+    let found = orders_of(alloc, &tree, &at, &aim).sure(rt);
+    are_grown(alloc, &parents, &now, &target, &found).sure(rt)
 }
 
 #[test]
-fn orders_of_random_trees_are_grown_sets(rt: HostRuntime) -> Result<(), Fail> {
+fn orders_of_random_trees_are_grown_sets(rt: HostRuntime) {
     let mut random = Random { state: 7 };
     for round in 0..200 {
-        holds_in(&rt, is_grown_at_random(rt.alloc(), &mut random)?, &round);
+        holds_in(
+            &rt,
+            is_grown_at_random(&rt, rt.alloc(), &mut random),
+            &round,
+        );
     }
-    Ok(())
 }

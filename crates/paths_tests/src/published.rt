@@ -2,7 +2,7 @@
 ghost use Rattle.std.specs.Prelude.{◌≡◌};
 
 use crate::maps::{all_found, clear, give, give_often, give_two, hear, look, rank, show};
-use crate::same::same;
+use crate::same::{Sure, same};
 use authority_map::{Found, MapError, MapReader, MapWriter, NewMap, Publisher};
 use mds_types::{Dir, Rank};
 use naming::Naming;
@@ -10,7 +10,6 @@ use std::alloc::Global;
 use std::marker::Brand;
 use std::process::Abort;
 use std::sync::Wait;
-use std::test::Fail;
 
 // What is tried, on a map of four directories with a reader.
 #[derive(Clone, Copy)]
@@ -188,47 +187,40 @@ fn on_map<J: Naming, R: Wait + Drop>(
     }
 }
 
-fn on_a_map<R: Wait + Drop>(
-    rt: &impl Abort,
-    waits: R,
-    alloc: Global,
-    case: Case,
-) -> Result<(), Fail> {
-    let is_well = on_map::<Brand, R>(waits, alloc, NewMap::new(), case)?;
+fn on_a_map<R: Wait + Drop>(rt: &impl Abort, waits: R, alloc: Global, case: Case) {
+    let is_well = on_map::<Brand, R>(waits, alloc, NewMap::new(), case).sure(rt);
     assert!(rt; is_well);
-    Ok(())
 }
 
 #[test]
-fn readers_follow(rt: HostRuntime) -> Result<(), Fail> {
+fn readers_follow(rt: HostRuntime) {
     on_a_map(&rt, &rt, rt.alloc(), Case::Follows)
 }
 
 #[test]
-fn a_reader_beside_the_writer_finds_the_latest(rt: HostRuntime) -> Result<(), Fail> {
+fn a_reader_beside_the_writer_finds_the_latest(rt: HostRuntime) {
     on_a_map(&rt, &rt, rt.alloc(), Case::FindsTheLatest)
 }
 
 #[test]
-fn operations_change_their_directories(rt: HostRuntime) -> Result<(), Fail> {
+fn operations_change_their_directories(rt: HostRuntime) {
     on_a_map(&rt, &rt, rt.alloc(), Case::Changes)
 }
 
 #[test]
-fn directories_between_others_join_them(rt: HostRuntime) -> Result<(), Fail> {
+fn directories_between_others_join_them(rt: HostRuntime) {
     on_a_map(&rt, &rt, rt.alloc(), Case::Joins)
 }
 
 #[test]
-fn long_lists_change_their_directories_alone(rt: HostRuntime) -> Result<(), Fail> {
+fn long_lists_change_their_directories_alone(rt: HostRuntime) {
     on_a_map(&rt, &rt, rt.alloc(), Case::TakesLongLists)
 }
 
 #[test]
-fn refusals_of_maps_are_printed(rt: HostRuntime) -> Result<(), Fail> {
-    let memory = format!(in rt.alloc(); "{}", MapError::Memory)?;
+fn refusals_of_maps_are_printed(rt: HostRuntime) {
+    let memory = format!(in rt.alloc(); "{}", MapError::Memory).sure(&rt);
     same(&rt, &memory.as_str(), &"0 Memory");
-    let no_reader = format!(in rt.alloc(); "{}", MapError::NoReader)?;
+    let no_reader = format!(in rt.alloc(); "{}", MapError::NoReader).sure(&rt);
     same(&rt, &no_reader.as_str(), &"34 NoReader");
-    Ok(())
 }

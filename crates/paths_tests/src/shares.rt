@@ -2,14 +2,13 @@
 ghost use Rattle.std.specs.Prelude.{◌≡◌, ◌<◌, ◌≤◌, All, IfOk};
 ghost use Rattle.heat_ledger.specs.Ledger.{IsClean, weight_of};
 
-use crate::same::same;
+use crate::same::{Sure, same};
 use heat_ledger::{Book, HitError, Missing, NewBook, Share};
 use mds_types::Dir;
 use naming::Naming;
 use std::alloc::{AllocError, AllocFailed, Global};
 use std::marker::Brand;
 use std::process::Abort;
-use std::test::Fail;
 use std::thread;
 use std::thread::Threads;
 
@@ -148,21 +147,20 @@ fn count_seven<J: Naming + Send + Sync + 'static, R: Threads + Abort + Sync>(
     rt: &R,
     alloc: Global,
     opened: NewBook,
-) -> Result<(), AllocError>
+)
     requires name { opened ≡ J.ledger }
     requires limit { J.limit ≡ 4 }
 {
     let dir = Dir::new(1);
-    let (mut book, mut shares) = open::<J>(alloc, opened, 3)?;
+    let (mut book, mut shares) = open::<J>(alloc, opened, 3).sure(rt);
     let third = taken(rt, &mut shares);
     let mut second = worked(taken(rt, &mut shares), dir, 2);
-    let mut first = hit_there(rt, taken(rt, &mut shares), dir, 5)?;
+    let mut first = hit_there(rt, taken(rt, &mut shares), dir, 5).sure(rt);
     assert!(rt; !first.is_clean());
     deposit(&mut book, &mut first);
     deposit(&mut book, &mut second);
-    assert!(rt; close_clean(alloc, &mut book, first, second, third)?);
+    assert!(rt; close_clean(alloc, &mut book, first, second, third).sure(rt));
     same(rt, &book.counted(dir), &7);
-    Ok(())
 }
 
 // A share with three hits and a request joins one with two hits.
@@ -179,16 +177,12 @@ fn joined<J: Naming>(
 }
 
 // Two shares that are joined, deposited and closed together.
-fn close_joined<J: Naming, R: Abort>(
-    rt: &R,
-    alloc: Global,
-    opened: NewBook,
-) -> Result<(), AllocError>
+fn close_joined<J: Naming, R: Abort>(rt: &R, alloc: Global, opened: NewBook)
     requires name { opened ≡ J.ledger }
     requires limit { J.limit ≡ 4 }
 {
     let dir = Dir::new(1);
-    let (mut book, mut shares) = open::<J>(alloc, opened, 2)?;
+    let (mut book, mut shares) = open::<J>(alloc, opened, 2).sure(rt);
     let other = worked(taken(rt, &mut shares), dir, 3);
     let share = worked(taken(rt, &mut shares), dir, 2);
     let (mut share, is_first) = joined(&mut book, share, other);
@@ -201,36 +195,29 @@ fn close_joined<J: Naming, R: Abort>(
     deposit(&mut book, &mut share);
     same(rt, &said(&book, &share, dir), &[5, 0, 1, 5, 1]);
     same(rt, &share.hit(Dir::new(4)), &Err(HitError::NoDir));
-    assert!(rt; close_over(alloc, &mut book, share)?);
+    assert!(rt; close_over(alloc, &mut book, share).sure(rt));
     same(rt, &(book.counted(dir), book.begun(dir)), &(5, 1));
-    Ok(())
 }
 
 #[test]
-fn a_share_moves_through_a_thread(rt: HostRuntime) -> Result<(), Fail> {
+fn a_share_moves_through_a_thread(rt: HostRuntime) {
     let alloc: Global = rt.alloc();
-    count_seven::<Brand, HostRuntime>(&rt, alloc, NewBook::new(alloc)?)?;
-    Ok(())
+    count_seven::<Brand, HostRuntime>(&rt, alloc, NewBook::new(alloc).sure(&rt));
 }
 
 #[test]
-fn joined_shares_close_a_book(rt: HostRuntime) -> Result<(), Fail> {
+fn joined_shares_close_a_book(rt: HostRuntime) {
     let alloc: Global = rt.alloc();
-    close_joined::<Brand, HostRuntime>(&rt, alloc, NewBook::new(alloc)?)?;
-    Ok(())
+    close_joined::<Brand, HostRuntime>(&rt, alloc, NewBook::new(alloc).sure(&rt));
 }
 
 // An audit changes nothing, and the calls after `open` take no memory.
-fn count_surely<J: Naming, R: Abort>(
-    rt: &R,
-    alloc: Global,
-    opened: NewBook,
-) -> Result<(), AllocError>
+fn count_surely<J: Naming, R: Abort>(rt: &R, alloc: Global, opened: NewBook)
     requires name { opened ≡ J.ledger }
     requires limit { J.limit ≡ 4 }
 {
     let (first, last, past) = (Dir::new(0), Dir::new(3), Dir::new(4));
-    let (mut book, mut shares) = open::<J>(alloc, opened, 2)?;
+    let (mut book, mut shares) = open::<J>(alloc, opened, 2).expect(rt, "it failed");
     book.audit(&mut shares);
     let mut share = worked(worked(taken(rt, &mut shares), last, 3), first, 1);
     same(rt, &said(&book, &share, first), &[1, 1, 0, 0, 0]);
@@ -248,33 +235,36 @@ fn count_surely<J: Naming, R: Abort>(
         &said(&book, &share, last),
         &[1_000_003, 1_000_000, 1, 3, 1],
     );
-    Ok(())
 }
 
 // With `rt try --test --fail-alloc N`, the N-th growth is refused.
 #[test]
-fn a_refused_growth_hands_back(rt: HostRuntime) -> Result<(), Fail> {
+fn a_refused_growth_hands_back(rt: HostRuntime) {
     let alloc: Global = rt.alloc();
     let opened = match NewBook::new(alloc) {
         Ok(opened) => opened,
-        Err(_) => NewBook::new(alloc)?,
+        Err(_) => NewBook::new(alloc).sure(&rt),
     };
-    count_surely::<Brand, HostRuntime>(&rt, alloc, opened)?;
-    Ok(())
+    count_surely::<Brand, HostRuntime>(&rt, alloc, opened);
 }
 
 #[test]
-fn refusals_of_shares_are_printed(rt: HostRuntime) -> Result<(), Fail> {
+fn refusals_of_shares_are_printed(rt: HostRuntime) {
     let table = [
-        (format!(in rt.alloc(); "{}", HitError::NoDir)?, "6 NoDir"),
         (
-            format!(in rt.alloc(); "{}", HitError::ShareFull)?,
+            format!(in rt.alloc(); "{}", HitError::NoDir).sure(&rt),
+            "6 NoDir",
+        ),
+        (
+            format!(in rt.alloc(); "{}", HitError::ShareFull).sure(&rt),
             "13 ShareFull",
         ),
-        (format!(in rt.alloc(); "{}", Missing(2))?, "14 Missing 2"),
+        (
+            format!(in rt.alloc(); "{}", Missing(2)).sure(&rt),
+            "14 Missing 2",
+        ),
     ];
     for (text, wanted) in &table {
         same(&rt, &text.as_str(), wanted);
     }
-    Ok(())
 }

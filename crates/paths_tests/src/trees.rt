@@ -2,11 +2,12 @@
 //!
 //! Where a growth was refused, the call is made again: `rt try --test --fail-alloc N` refuses the N-th of each test.
 
+use crate::same::Sure;
 use dirtree::{Tree, TreeError};
 use mds_types::{Dir, Order, Rank};
 use move_orders::orders;
 use std::alloc::{AllocError, Global};
-use std::test::Fail;
+use std::process::Abort;
 
 /// Source, destination and directories of an order.
 pub(crate) type Shown<'a> = (u8, u8, &'a [u32]);
@@ -123,12 +124,13 @@ pub(crate) fn gives_in(
 
 /// The same for the tree of these parents.
 pub(crate) fn gives(
+    rt: &impl Abort,
     alloc: Global,
     parents: &[u32],
     now: &[u8],
     target: &[u8],
     wanted: &[Shown<'_>],
-) -> Result<bool, Fail> {
-    let tree = tree_at_last(alloc, parents)?;
-    Ok(gives_in(alloc, &tree, now, target, wanted)?)
+) -> bool {
+    let tree = tree_at_last(alloc, parents).sure(rt);
+    gives_in(alloc, &tree, now, target, wanted).sure(rt)
 }

@@ -2,14 +2,13 @@
 ghost use Rattle.std.specs.Prelude.{◌≡◌};
 
 use crate::maps::{give, hear, look, rank, show};
-use crate::same::same;
+use crate::same::{Sure, same};
 use authority_map::{Found, MapError, MapReader, MapWriter, NewMap, Publisher};
 use mds_types::Dir;
 use naming::Naming;
 use std::alloc::Global;
 use std::marker::Brand;
 use std::sync::Wait;
-use std::test::Fail;
 use std::thread::{Threads, join};
 
 // Where an answer on directory 0 stands in the order in which the writer gives them.
@@ -133,11 +132,12 @@ fn raise_and_watch<J: Naming + Send + Sync, R: Threads + Wait + Sync>(
 }
 
 #[test]
-fn answers_never_go_back(rt: HostRuntime) -> Result<(), Fail> {
-    let seen = raise_and_watch::<Brand, HostRuntime>(&rt, rt.alloc(), NewMap::new()).ok_or("open")?;
+fn answers_never_go_back(rt: HostRuntime) {
+    let seen = raise_and_watch::<Brand, HostRuntime>(&rt, rt.alloc(), NewMap::new())
+        .ok_or("open")
+        .sure(&rt);
     let (forward, last, raised) = seen;
     assert!(rt; raised);
     same(&rt, &forward, &[true, true, true]);
     same(&rt, &last, &[Found::Rank(rank(63)); 3]);
-    Ok(())
 }

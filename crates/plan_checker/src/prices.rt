@@ -55,29 +55,38 @@ fn sign_holds(price: i64, rank: &[Rank], r: Rank) -> bool
     price == 0 || (price < 0 && rank.contains(&r))
 }
 
-/// Whether a dual proof holds at one rank, which has this place in the set, and its price.
-fn rank_price_holds(
-    cells: &[u64],
+/// What each part moves at one rank: a column of the table of costs.
+#[derive(Clone, Copy)]
+struct Column<'a> {
+    cells: &'a [u64],
+    /// How many ranks the table has.
     width: usize,
+    /// The rank's place among them.
     place: usize,
+}
+
+/// Whether a dual proof holds at one rank, whose costs and price these are.
+fn rank_price_holds(
+    column: Column<'_>,
     rank: &[Rank],
     part_price: &[i64],
     r: Rank,
     price: i64,
 ) -> bool
-    requires width { width ≤ 64 }
-    requires place { place < width }
+    requires width { column.width ≤ 64 }
+    requires place { column.place < column.width }
     requires parts { length rank.now ≤ 64 }
-    requires cells { length cells.now ≡ length rank.now * width }
+    requires cells { length column.cells.now ≡ length rank.now * column.width }
     requires prices { length part_price.now ≡ length rank.now }
     ensures { IsTrue result ↔ RankPriceHolds (length rank.now) (slice_index rank.now)
-        (λ p. slice_index_or part_price.now p (pos 0)) (λ p. cell_at_place cells.now width p place) r price }
+        (λ p. slice_index_or part_price.now p (pos 0))
+        (λ p. cell_at_place column.entry.cells.now column.entry.width p column.entry.place) r price }
 {
     if !sign_holds(price, rank, r) {
         return false;
     }
     for (p, part_price) in part_price.iter().enumerate() {
-        let cost = cell_at_place(cells, width, p, place);
+        let cost = cell_at_place(column.cells, column.width, p, column.place);
         if !pair_holds(*part_price, price, cost, rank[p] == r) {
             return false;
         }
@@ -111,7 +120,12 @@ fn prices_hold(
         };
         if ranks.has(r) {
             let price = rank_price[place];
-            if !rank_price_holds(cells, width, place, rank, part_price, r, price) {
+            let column = Column {
+                cells,
+                width,
+                place,
+            };
+            if !rank_price_holds(column, rank, part_price, r, price) {
                 return false;
             }
             place += 1;

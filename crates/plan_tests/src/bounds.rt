@@ -6,22 +6,22 @@ ghost use Rattle.std.specs.Prelude.{◌<◌, ◌≤◌, length};
 
 use crate::cuts::chain;
 use crate::given::{at_last, first_ranks, hot_rows, over};
-use crate::same::{holds_in, same};
+use crate::same::{Sure, holds_in, same};
 use exhaustive::{Random, least_greatest_heat};
 use mds_types::{CutProof, Problem, ProblemRow, Row};
 use minmax_search::{BestCut, search};
 use residual_cut::{Cut, CutError, cut_at};
 use std::alloc::{AllocError, Global};
-use std::test::Fail;
+use std::process::Abort;
 
 /// What the search finds in the end.
 fn found(alloc: Global, problem: &Problem) -> Result<BestCut, AllocError> {
     at_last(|| search(problem, alloc))
 }
 
-fn found_in(alloc: Global, rows: &[(u32, u64)], ranks: u8) -> Result<BestCut, Fail> {
-    let problem = over(hot_rows(alloc, rows)?, first_ranks(ranks))?;
-    Ok(found(alloc, &problem)?)
+fn found_in(rt: &impl Abort, alloc: Global, rows: &[(u32, u64)], ranks: u8) -> BestCut {
+    let problem = over(rt, hot_rows(alloc, rows).sure(rt), first_ranks(ranks));
+    found(alloc, &problem).sure(rt)
 }
 
 fn is_table(proof: &CutProof, rows: &[Row]) -> bool {
@@ -44,8 +44,8 @@ fn entry(cuts: u32, rest: u64, price: u64, cut: bool) -> Row {
 const STAR: [(u32, u64); 4] = [(0, 2), (0, 5), (0, 4), (0, 3)];
 
 #[test]
-fn finds_the_least_greatest_heat(rt: HostRuntime) -> Result<(), Fail> {
-    let two = found_in(rt.alloc(), &STAR, 2)?;
+fn finds_the_least_greatest_heat(rt: HostRuntime) {
+    let two = found_in(&rt, rt.alloc(), &STAR, 2);
     same(&rt, &two.greatest, &9);
     same(&rt, &two.cut.part.as_slice(), &[0, 1, 0, 0].as_slice());
     let table = [
@@ -55,60 +55,55 @@ fn finds_the_least_greatest_heat(rt: HostRuntime) -> Result<(), Fail> {
         entry(0, 3, 0, false),
     ];
     assert!(rt; is_table(&two.proof, &table));
-    Ok(())
 }
 
 #[test]
-fn the_least_heavy_row_is_told(rt: HostRuntime) -> Result<(), Fail> {
-    let three = found_in(rt.alloc(), &STAR, 3)?;
+fn the_least_heavy_row_is_told(rt: HostRuntime) {
+    let three = found_in(&rt, rt.alloc(), &STAR, 3);
     same(&rt, &three.greatest, &5);
     assert!(rt; is_heavy(&three.proof, 1));
-    let twice = found_in(rt.alloc(), &[(0, 2), (0, 7), (0, 7), (1, 7)], 4)?;
+    let twice = found_in(&rt, rt.alloc(), &[(0, 2), (0, 7), (0, 7), (1, 7)], 4);
     same(&rt, &twice.greatest, &7);
     assert!(rt; is_heavy(&twice.proof, 1));
-    Ok(())
 }
 
 #[test]
-fn searches_no_rows_and_no_heat(rt: HostRuntime) -> Result<(), Fail> {
-    let none = found_in(rt.alloc(), &[], 2)?;
+fn searches_no_rows_and_no_heat(rt: HostRuntime) {
+    let none = found_in(&rt, rt.alloc(), &[], 2);
     same(
         &rt,
         &(none.greatest, none.cut.count, none.passes),
         &(0, 0, 1),
     );
     assert!(rt; matches!(&none.proof, CutProof::Zero));
-    let cold = found_in(rt.alloc(), &[(0, 0), (0, 0)], 2)?;
+    let cold = found_in(&rt, rt.alloc(), &[(0, 0), (0, 0)], 2);
     same(&rt, &(cold.greatest, cold.cut.count), &(0, 1));
     assert!(rt; matches!(&cold.proof, CutProof::Zero));
-    Ok(())
 }
 
 #[test]
-fn searches_a_chain(rt: HostRuntime) -> Result<(), Fail> {
-    let problem = over(chain(rt.alloc(), 65536)?, u64::MAX)?;
-    let long = found(rt.alloc(), &problem)?;
+fn searches_a_chain(rt: HostRuntime) {
+    let problem = over(&rt, chain(rt.alloc(), 65536).sure(&rt), u64::MAX);
+    let long = found(rt.alloc(), &problem).sure(&rt);
     same(&rt, &(long.greatest, long.cut.count), &(1024, 64));
     // at least the cut, the table below it and one walk that failed
     holds_in(&rt, (3..=60).contains(&long.passes), &long.passes);
     let CutProof::Table(table) = &long.proof else {
-        return Err("a chain needs a table")?;
+        panic!(rt; "a chain needs a table");
     };
     same(&rt, &table.rows().first().map(|row| row.cuts), &Some(64));
-    Ok(())
 }
 
 #[test]
-fn searches_a_star(rt: HostRuntime) -> Result<(), Fail> {
-    let mut star = at_last(|| Vec::with_capacity(rt.alloc(), 65536))?;
+fn searches_a_star(rt: HostRuntime) {
+    let mut star = at_last(|| Vec::with_capacity(rt.alloc(), 65536)).sure(&rt);
     for i in 0..65536u32 {
-        star.push((0, if i == 0 { 0 } else { 1 << 40 }))?;
+        star.push((0, if i == 0 { 0 } else { 1 << 40 })).sure(&rt);
     }
-    let wide = found_in(rt.alloc(), &star, 64)?;
+    let wide = found_in(&rt, rt.alloc(), &star, 64);
     same(&rt, &wide.greatest, &71987225293750272);
     holds_in(&rt, (3..=60).contains(&wide.passes), &wide.passes);
     assert!(rt; matches!(&wide.proof, CutProof::Table(_)));
-    Ok(())
 }
 
 fn random_rows(
@@ -123,26 +118,25 @@ fn random_rows(
 }
 
 /// Whether the search finds what trial of all divisions finds.
-fn is_least(alloc: Global, rows: Vec<ProblemRow>, ranks: u8) -> Result<bool, Fail>
+fn is_least(rt: &impl Abort, alloc: Global, rows: Vec<ProblemRow>, ranks: u8) -> bool
     requires rows { length rows.items ≤ 8 }
     requires ranks { 0 < ranks }
 {
     let least = least_greatest_heat(&rows, ranks as usize);
-    let problem = over(rows, first_ranks(ranks))?;
-    Ok(found(alloc, &problem)?.greatest == least)
+    let problem = over(rt, rows, first_ranks(ranks));
+    found(alloc, &problem).sure(rt).greatest == least
 }
 
 #[test]
-fn no_division_of_small_trees_is_cooler(rt: HostRuntime) -> Result<(), Fail> {
+fn no_division_of_small_trees_is_cooler(rt: HostRuntime) {
     let mut random = Random::new(11);
     for round in 0..60 {
         let count = 1 + random.below(6) as u32;
         let ranks = 1 + random.below(4) as u8;
-        let rows = random_rows(rt.alloc(), &mut random, count)?;
+        let rows = random_rows(rt.alloc(), &mut random, count).sure(&rt);
         assert!(rt; rows.len() <= 8);
-        holds_in(&rt, is_least(rt.alloc(), rows, ranks)?, &round);
+        holds_in(&rt, is_least(&rt, rt.alloc(), rows, ranks), &round);
     }
-    Ok(())
 }
 
 fn cut_within(alloc: Global, problem: &Problem, bound: u64) -> Result<Cut, CutError> {
@@ -158,26 +152,25 @@ fn is_same_cut(cut: &Cut, other: &Cut) -> bool {
 }
 
 /// Whether the search's cut is that at the heat that it finds, and its table that just below.
-fn is_cut_there(alloc: Global, rows: Vec<ProblemRow>, ranks: u8) -> Result<bool, Fail> {
-    let problem = over(rows, first_ranks(ranks))?;
-    let found = found(alloc, &problem)?;
-    let cut = cut_within(alloc, &problem, found.greatest)?;
+fn is_cut_there(rt: &impl Abort, alloc: Global, rows: Vec<ProblemRow>, ranks: u8) -> bool {
+    let problem = over(rt, rows, first_ranks(ranks));
+    let found = found(alloc, &problem).sure(rt);
+    let cut = cut_within(alloc, &problem, found.greatest).sure(rt);
     let is_same = is_same_cut(&cut, &found.cut);
     let CutProof::Table(table) = &found.proof else {
-        return Ok(is_same);
+        return is_same;
     };
-    let below = cut_within(alloc, &problem, found.greatest.saturating_sub(1))?;
-    Ok(is_same && below.rows.as_slice() == table.rows())
+    let below = cut_within(alloc, &problem, found.greatest.saturating_sub(1)).sure(rt);
+    is_same && below.rows.as_slice() == table.rows()
 }
 
 #[test]
-fn cut_and_table_are_those_at_the_bound(rt: HostRuntime) -> Result<(), Fail> {
+fn cut_and_table_are_those_at_the_bound(rt: HostRuntime) {
     let mut random = Random::new(23);
     for round in 0..60 {
         let count = 1 + random.below(40) as u32;
         let ranks = 1 + random.below(9) as u8;
-        let rows = random_rows(rt.alloc(), &mut random, count)?;
-        holds_in(&rt, is_cut_there(rt.alloc(), rows, ranks)?, &round);
+        let rows = random_rows(rt.alloc(), &mut random, count).sure(&rt);
+        holds_in(&rt, is_cut_there(&rt, rt.alloc(), rows, ranks), &round);
     }
-    Ok(())
 }

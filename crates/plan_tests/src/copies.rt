@@ -1,26 +1,26 @@
 //! Copies of what plans are made of, with ample memory.
 
 use crate::given::{hot_rows, list_of, over, table};
-use crate::same::same;
+use crate::same::{Sure, same};
 use arrayvec::ArrayVec;
 use mds_types::{CutProof, Dir, Dirs, DualProof, Order, Plan, Rank};
 use std::alloc::Global;
-use std::test::Fail;
+use std::process::Abort;
 
-fn small_plan(alloc: Global) -> Result<Plan, Fail> {
+fn small_plan(rt: &impl Abort, alloc: Global) -> Plan {
     let mut rank = ArrayVec::new();
     rank.push(Rank::default());
-    Ok(Plan {
-        part: list_of(alloc, &[0, 1])?,
+    Plan {
+        part: list_of(alloc, &[0, 1]).sure(rt),
         rank,
         greatest: 9,
         moved: 8,
-        cut: table(alloc, &[(1, 2, 3, true), (1, 2, 3, true)])?,
+        cut: table(rt, alloc, &[(1, 2, 3, true), (1, 2, 3, true)]),
         dual: DualProof {
-            part_price: list_of(alloc, &[7])?,
-            rank_price: list_of(alloc, &[-6, 0])?,
+            part_price: list_of(alloc, &[7]).sure(rt),
+            rank_price: list_of(alloc, &[-6, 0]).sure(rt),
         },
-    })
+    }
 }
 
 fn is_same_proof(proof: &CutProof, other: &CutProof) -> bool {
@@ -43,39 +43,35 @@ fn is_same_plan(plan: &Plan, other: &Plan) -> bool {
 }
 
 #[test]
-fn copies_plans(rt: HostRuntime) -> Result<(), Fail> {
-    let plan = small_plan(rt.alloc())?;
-    let copy = plan.copied(rt.alloc())?;
+fn copies_plans(rt: HostRuntime) {
+    let plan = small_plan(&rt, rt.alloc());
+    let copy = plan.copied(rt.alloc()).sure(&rt);
     assert!(rt; is_same_plan(&copy, &plan));
-    Ok(())
 }
 
 #[test]
-fn copies_proofs(rt: HostRuntime) -> Result<(), Fail> {
+fn copies_proofs(rt: HostRuntime) {
     for proof in [CutProof::Zero, CutProof::Heavy(4)] {
-        let copy = proof.copied(rt.alloc())?;
+        let copy = proof.copied(rt.alloc()).sure(&rt);
         assert!(rt; is_same_proof(&copy, &proof));
     }
-    Ok(())
 }
 
 #[test]
-fn copies_orders(rt: HostRuntime) -> Result<(), Fail> {
+fn copies_orders(rt: HostRuntime) {
     let order = Order {
         from: Rank::default(),
         to: Rank::default(),
-        dirs: Dirs::new(list_of(rt.alloc(), &[Dir::ROOT, Dir::new(5)])?),
+        dirs: Dirs::new(list_of(rt.alloc(), &[Dir::ROOT, Dir::new(5)]).sure(&rt)),
     };
-    let copy = order.copied(rt.alloc())?;
+    let copy = order.copied(rt.alloc()).sure(&rt);
     same(&rt, &copy, &order);
-    Ok(())
 }
 
 #[test]
-fn copies_problems(rt: HostRuntime) -> Result<(), Fail> {
-    let problem = over(hot_rows(rt.alloc(), &[(0, 5), (0, 7)])?, 6)?;
-    let copy = problem.copied(rt.alloc())?;
+fn copies_problems(rt: HostRuntime) {
+    let problem = over(&rt, hot_rows(rt.alloc(), &[(0, 5), (0, 7)]).sure(&rt), 6);
+    let copy = problem.copied(rt.alloc()).sure(&rt);
     same(&rt, &copy.rows(), &problem.rows());
     same(&rt, &copy.ranks(), &problem.ranks());
-    Ok(())
 }

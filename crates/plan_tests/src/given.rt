@@ -3,9 +3,10 @@
 //! Each call that takes memory is made again where a growth was refused, so tests that use these hold with any
 //! one growth refused.
 
+use crate::same::Sure;
 use mds_types::{CutProof, CutTable, Problem, ProblemRow, Rank, RankSet, Row};
 use std::alloc::{AllocError, Global};
-use std::test::Fail;
+use std::process::Abort;
 
 /// Parent, heat, inodes and present rank of a row.
 pub type Given = (u32, u64, u32, u8);
@@ -28,18 +29,19 @@ pub fn list_of<T: Copy>(alloc: Global, entries: &[T]) -> Result<Vec<T>, AllocErr
     at_last(|| entries.to_vec(alloc))
 }
 
-pub fn rows_of(alloc: Global, given: &[Given]) -> Result<Vec<ProblemRow>, Fail> {
-    let mut rows = at_last(|| Vec::with_capacity(alloc, given.len()))?;
+pub fn rows_of(rt: &impl Abort, alloc: Global, given: &[Given]) -> Vec<ProblemRow> {
+    let mut rows = at_last(|| Vec::with_capacity(alloc, given.len())).sure(rt);
     for &(parent, heat, inodes, now) in given {
-        let now = Rank::new(now).ok_or("no rank")?;
+        let now = Rank::new(now).ok_or("no rank").sure(rt);
         rows.push(ProblemRow {
             parent,
             heat,
             inodes,
             now,
-        })?;
+        })
+        .sure(rt);
     }
-    Ok(rows)
+    rows
 }
 
 /// The rows with these parents and heats, of one inode each, all at rank 0.
@@ -60,15 +62,15 @@ pub fn hot_rows(
 }
 
 /// The problem of these rows, with the ranks of a bit map.
-pub fn over(rows: Vec<ProblemRow>, ranks: u64) -> Result<Problem, Fail> {
+pub fn over(rt: &impl Abort, rows: Vec<ProblemRow>, ranks: u64) -> Problem {
     match Problem::new(rows, RankSet::from_bits(ranks)) {
-        Ok(problem) => Ok(problem),
-        Err(_) => Err("no problem")?,
+        Ok(problem) => problem,
+        Err(_) => panic!(rt; "no problem"),
     }
 }
 
-pub fn problem(alloc: Global, given: &[Given], ranks: u64) -> Result<Problem, Fail> {
-    over(rows_of(alloc, given)?, ranks)
+pub fn problem(rt: &impl Abort, alloc: Global, given: &[Given], ranks: u64) -> Problem {
+    over(rt, rows_of(rt, alloc, given), ranks)
 }
 
 /// The first so many ranks.
@@ -79,15 +81,17 @@ pub fn first_ranks(count: u8) -> u64 {
     (1 << count) - 1
 }
 
-pub fn table(alloc: Global, rows: &[InTable]) -> Result<CutProof, Fail> {
-    let mut table = at_last(|| Vec::with_capacity(alloc, rows.len()))?;
+pub fn table(rt: &impl Abort, alloc: Global, rows: &[InTable]) -> CutProof {
+    let mut table = at_last(|| Vec::with_capacity(alloc, rows.len())).sure(rt);
     for &(cuts, rest, price, cut) in rows {
-        table.push(Row {
-            cuts,
-            rest,
-            price,
-            cut,
-        })?;
+        table
+            .push(Row {
+                cuts,
+                rest,
+                price,
+                cut,
+            })
+            .sure(rt);
     }
-    Ok(CutProof::Table(CutTable::new(table)))
+    CutProof::Table(CutTable::new(table))
 }

@@ -1,8 +1,7 @@
 //! Masks, and the ranks that are usable.
 
-use crate::same::{same, same_in};
+use crate::same::{Sure, same, same_in};
 use mds_types::{BadMask, Rank, RankSet};
-use std::test::Fail;
 
 #[test]
 fn reads_masks(rt: HostRuntime) {
@@ -31,7 +30,7 @@ fn reads_masks(rt: HostRuntime) {
 }
 
 #[test]
-fn keeps_active_ranks(rt: HostRuntime) -> Result<(), Fail> {
+fn keeps_active_ranks(rt: HostRuntime) {
     let set = RankSet::from_bits(0x8000_0000_0000_000D);
     // (active ranks, bits that are left, their number)
     let table = [
@@ -47,8 +46,11 @@ fn keeps_active_ranks(rt: HostRuntime) -> Result<(), Fail> {
         same_in(&rt, &kept.len(), &count, &active);
         same_in(&rt, &kept.is_empty(), &(count == 0), &active);
     }
-    assert!(rt; set.has(Rank::new(63).ok_or("rank 63")?));
-    assert!(rt; !set.has(Rank::new(1).ok_or("rank 1")?));
-    same(&rt, &BadMask.to_string(rt.alloc())?.as_str(), &"1 BadMask");
-    Ok(())
+    assert!(rt; set.has(Rank::new(63).ok_or("rank 63").sure(&rt)));
+    assert!(rt; !set.has(Rank::new(1).ok_or("rank 1").sure(&rt)));
+    same(
+        &rt,
+        &BadMask.to_string(rt.alloc()).sure(&rt).as_str(),
+        &"1 BadMask",
+    );
 }

@@ -5,13 +5,13 @@
 ghost use Rattle.std.specs.Prelude.{◌≡◌, ◌<◌, ◌≤◌, ℕ, true, length, slice_index};
 ghost use Rattle.mds_types.specs.RankSet.{rank_count};
 
-use crate::same::{holds_in, same_in};
+use crate::same::{Sure, holds_in, same_in};
 use cost_table::place_of;
 use exhaustive::{Random, fewest_moved};
 use mds_types::{Problem, ProblemRow, Rank, RankSet};
 use rank_assign::{Assigned, Costs, assign, costs, costs_by, sums};
 use std::alloc::{AllocError, Global};
-use std::test::Fail;
+use std::process::Abort;
 use std::thread::Threads;
 
 /// Parent, heat, inodes and present rank of a row.
@@ -31,23 +31,24 @@ fn at_last<T, F: Fn() -> Result<T, AllocError> + Drop>(call: F) -> Result<T, All
 }
 
 /// The rank of this number.
-fn rank(number: u8) -> Result<Rank, Fail> {
-    Ok(Rank::new(number).ok_or("no rank")?)
+fn rank(rt: &impl Abort, number: u8) -> Rank {
+    Rank::new(number).ok_or("no rank").sure(rt)
 }
 
-fn problem(alloc: Global, given: &[Given], ranks: u64) -> Result<Problem, Fail> {
-    let mut rows = at_last(|| Vec::with_capacity(alloc, given.len()))?;
+fn problem(rt: &impl Abort, alloc: Global, given: &[Given], ranks: u64) -> Problem {
+    let mut rows = at_last(|| Vec::with_capacity(alloc, given.len())).sure(rt);
     for &(parent, heat, inodes, now) in given {
         rows.push(ProblemRow {
             parent,
             heat,
             inodes,
-            now: rank(now)?,
-        })?;
+            now: rank(rt, now),
+        })
+        .sure(rt);
     }
     match Problem::new(rows, RankSet::from_bits(ranks)) {
-        Ok(problem) => Ok(problem),
-        Err(_) => Err("no problem")?,
+        Ok(problem) => problem,
+        Err(_) => panic!(rt; "no problem"),
     }
 }
 
@@ -63,73 +64,74 @@ fn fits(problem: &Problem, part: &[u32], count: u32) -> bool
 }
 
 /// The costs of a division, in one pass.
-fn table<R: Threads>(
+fn table<R: Abort + Threads>(
     rt: &R,
     alloc: Global,
     problem: &Problem,
     part: &[u32],
     count: u32,
-) -> Result<Costs, Fail> {
+) -> Costs {
     if !fits(problem, part, count) {
-        return Err("no division")?;
+        panic!(rt; "no division");
     }
     match costs(rt, alloc, problem, part, count) {
-        Ok(costs) => Ok(costs),
-        Err(_) => Ok(costs(rt, alloc, problem, part, count)?),
+        Ok(costs) => costs,
+        Err(_) => costs(rt, alloc, problem, part, count).sure(rt),
     }
 }
 
 /// The costs of a division, from chunks of so many rows.
-fn table_by<R: Threads + Sync>(
+fn table_by<R: Abort + Threads + Sync>(
     rt: &R,
     alloc: Global,
     problem: &Problem,
     part: &[u32],
     count: u32,
     chunk: usize,
-) -> Result<Costs, Fail> {
+) -> Costs {
     if chunk == 0 || !fits(problem, part, count) {
-        return Err("no division")?;
+        panic!(rt; "no division");
     }
     match costs_by(rt, alloc, problem, part, count, chunk) {
-        Ok(costs) => Ok(costs),
-        Err(_) => Ok(costs_by(rt, alloc, problem, part, count, chunk)?),
+        Ok(costs) => costs,
+        Err(_) => costs_by(rt, alloc, problem, part, count, chunk).sure(rt),
     }
 }
 
 /// The sums of the rows from one on to before another.
 fn sums_between(
+    rt: &impl Abort,
     alloc: Global,
     problem: &Problem,
     part: &[u32],
     count: u32,
     from: u32,
     to: u32,
-) -> Result<Vec<u64>, Fail> {
+) -> Vec<u64> {
     if from > to || to as usize > problem.rows().len() || !fits(problem, part, count) {
-        return Err("no rows")?;
+        panic!(rt; "no rows");
     }
     match sums(alloc, problem, part, count, from, to) {
-        Ok(sums) => Ok(sums),
-        Err(_) => Ok(sums(alloc, problem, part, count, from, to)?),
+        Ok(sums) => sums,
+        Err(_) => sums(alloc, problem, part, count, from, to).sure(rt),
     }
 }
 
 /// Whether chunks of each size give these cells.
-fn chunks_give<R: Threads + Sync>(
+fn chunks_give<R: Abort + Threads + Sync>(
     rt: &R,
     alloc: Global,
     problem: &Problem,
     part: &[u32],
     count: u32,
     cells: &[u64],
-) -> Result<bool, Fail> {
+) -> bool {
     for chunk in CHUNKS {
-        if table_by(rt, alloc, problem, part, count, chunk)?.cells() != cells {
-            return Ok(false);
+        if table_by(rt, alloc, problem, part, count, chunk).cells() != cells {
+            return false;
         }
     }
-    Ok(true)
+    true
 }
 
 /// The placing that is found in the end.
@@ -148,34 +150,34 @@ fn are_numbers(assigned: &Assigned, numbers: &[u8]) -> bool {
 }
 
 /// Whether a division costs these cells, in one pass and in chunks, and a best placing moves so much.
-fn costs_so<R: Threads + Sync>(
+fn costs_so<R: Abort + Threads + Sync>(
     rt: &R,
     alloc: Global,
     problem: &Problem,
     part: &[u32],
     cells: &[u64],
     moved: u64,
-) -> Result<bool, Fail> {
-    let costs = table(rt, alloc, problem, part, 2)?;
-    let is_same = costs.cells() == cells && chunks_give(rt, alloc, problem, part, 2, cells)?;
-    Ok(is_same && costs.count() == 2 && assigned(alloc, &costs)?.moved == moved)
+) -> bool {
+    let costs = table(rt, alloc, problem, part, 2);
+    let is_same = costs.cells() == cells && chunks_give(rt, alloc, problem, part, 2, cells);
+    is_same && costs.count() == 2 && assigned(alloc, &costs).sure(rt).moved == moved
 }
 
 #[test]
-fn places_two_parts_on_three_ranks(rt: HostRuntime) -> Result<(), Fail> {
+fn places_two_parts_on_three_ranks(rt: HostRuntime) {
     let alloc = rt.alloc();
     let rows = [(0, 1, 4, 1), (0, 0, 1, 2), (0, 1, 1, 0), (2, 0, 3, 1)];
-    let problem = problem(alloc, &rows, 7)?;
+    let problem = problem(&rt, alloc, &rows, 7);
     let cells = [5, 1, 4, 3, 1, 4];
-    assert!(rt; costs_so(&rt, alloc, &problem, &[0, 0, 1, 1], &cells, 4)?);
-    let placing = assigned(alloc, &table(&rt, alloc, &problem, &[0, 0, 1, 1], 2)?)?;
+    assert!(rt; costs_so(&rt, alloc, &problem, &[0, 0, 1, 1], &cells, 4));
+    let placing = assigned(alloc, &table(&rt, alloc, &problem, &[0, 0, 1, 1], 2)).sure(&rt);
     assert!(rt; are_numbers(&placing, &[1, 0]));
-    Ok(())
 }
 
 /// A chain of three directories below the root.
-fn chain(alloc: Global) -> Result<Problem, Fail> {
+fn chain(rt: &impl Abort, alloc: Global) -> Problem {
     problem(
+        rt,
         alloc,
         &[(0, 0, 1, 0), (0, 3, 5, 0), (1, 3, 1, 0), (2, 3, 1, 0)],
         3,
@@ -183,61 +185,55 @@ fn chain(alloc: Global) -> Result<Problem, Fail> {
 }
 
 #[test]
-fn costs_the_parts_of_a_chain(rt: HostRuntime) -> Result<(), Fail> {
-    let chain = chain(rt.alloc())?;
-    assert!(rt; costs_so(&rt, rt.alloc(), &chain, &[0, 0, 1, 1], &[0, 6, 0, 2], 2)?);
-    Ok(())
+fn costs_the_parts_of_a_chain(rt: HostRuntime) {
+    let chain = chain(&rt, rt.alloc());
+    assert!(rt; costs_so(&rt, rt.alloc(), &chain, &[0, 0, 1, 1], &[0, 6, 0, 2], 2));
 }
 
 /// Whether rows 1 and 2 of a chain have 5 inodes of part 0 at rank 0 and 1 of part 1, and no others.
-fn sums_so(alloc: Global, chain: &Problem) -> Result<bool, Fail> {
-    let sums = sums_between(alloc, chain, &[0, 0, 1, 1], 2, 1, 3)?;
+fn sums_so(rt: &impl Abort, alloc: Global, chain: &Problem) -> bool {
+    let sums = sums_between(rt, alloc, chain, &[0, 0, 1, 1], 2, 1, 3);
     let is_due = |cell: usize, sum: u64| match cell {
         0 => sum == 5,
         64 => sum == 1,
         _ => sum == 0,
     };
-    Ok(
-        sums.len() == 128
-            && sums
-                .iter()
-                .enumerate()
-                .all(|(cell, sum)| is_due(cell, *sum)),
-    )
+    sums.len() == 128
+        && sums
+            .iter()
+            .enumerate()
+            .all(|(cell, sum)| is_due(cell, *sum))
 }
 
 #[test]
-fn sums_some_rows_of_a_chain(rt: HostRuntime) -> Result<(), Fail> {
-    let chain = chain(rt.alloc())?;
-    assert!(rt; sums_so(rt.alloc(), &chain)?);
-    Ok(())
+fn sums_some_rows_of_a_chain(rt: HostRuntime) {
+    let chain = chain(&rt, rt.alloc());
+    assert!(rt; sums_so(&rt, rt.alloc(), &chain));
 }
 
 #[test]
-fn a_refused_growth_is_asked_for_again(rt: HostRuntime) -> Result<(), Fail> {
-    let chain = chain(rt.alloc())?;
-    assert!(rt; costs_so(&rt, rt.alloc(), &chain, &[0, 0, 1, 1], &[0, 6, 0, 2], 2)?);
-    assert!(rt; sums_so(rt.alloc(), &chain)?);
-    Ok(())
+fn a_refused_growth_is_asked_for_again(rt: HostRuntime) {
+    let chain = chain(&rt, rt.alloc());
+    assert!(rt; costs_so(&rt, rt.alloc(), &chain, &[0, 0, 1, 1], &[0, 6, 0, 2], 2));
+    assert!(rt; sums_so(&rt, rt.alloc(), &chain));
 }
 
 #[test]
-fn costs_two_directories(rt: HostRuntime) -> Result<(), Fail> {
+fn costs_two_directories(rt: HostRuntime) {
     let alloc = rt.alloc();
-    let two = problem(alloc, &[(0, 0, 1, 0), (0, 4, 10, 0), (0, 6, 20, 0)], 3)?;
-    assert!(rt; costs_so(&rt, alloc, &two, &[0, 0, 1], &[0, 11, 0, 20], 11)?);
-    Ok(())
+    let two = problem(&rt, alloc, &[(0, 0, 1, 0), (0, 4, 10, 0), (0, 6, 20, 0)], 3);
+    assert!(rt; costs_so(&rt, alloc, &two, &[0, 0, 1], &[0, 11, 0, 20], 11));
 }
 
 /// Whether three parts of five rows cost so much at the ranks of a set.
-fn five_rows_cost<R: Threads + Sync>(
+fn five_rows_cost<R: Abort + Threads + Sync>(
     rt: &R,
     alloc: Global,
     bits: u64,
     part: &[u32],
     count: u32,
     cells: &[u64],
-) -> Result<bool, Fail> {
+) -> bool {
     let rows = [
         (0, 0, 4, 1),
         (0, 0, 1, 2),
@@ -245,13 +241,13 @@ fn five_rows_cost<R: Threads + Sync>(
         (0, 0, 3, 1),
         (0, 0, u32::MAX, 63),
     ];
-    let problem = problem(alloc, &rows, bits)?;
-    let is_same = table(rt, alloc, &problem, part, count)?.cells() == cells;
-    Ok(is_same && chunks_give(rt, alloc, &problem, part, count, cells)?)
+    let problem = problem(rt, alloc, &rows, bits);
+    let is_same = table(rt, alloc, &problem, part, count).cells() == cells;
+    is_same && chunks_give(rt, alloc, &problem, part, count, cells)
 }
 
 #[test]
-fn costs_what_moves(rt: HostRuntime) -> Result<(), Fail> {
+fn costs_what_moves(rt: HostRuntime) {
     // (ranks, the part of each row, parts, what each part moves at each rank)
     let tables: [(u64, [u32; 5], u32, &[u64]); 3] = [
         (
@@ -271,20 +267,18 @@ fn costs_what_moves(rt: HostRuntime) -> Result<(), Fail> {
     for (bits, part, count, cells) in tables {
         holds_in(
             &rt,
-            five_rows_cost(&rt, rt.alloc(), bits, &part, count, cells)?,
+            five_rows_cost(&rt, rt.alloc(), bits, &part, count, cells),
             &bits,
         );
     }
-    Ok(())
 }
 
 #[test]
-fn counts_the_smaller_ranks(rt: HostRuntime) -> Result<(), Fail> {
+fn counts_the_smaller_ranks(rt: HostRuntime) {
     let ranks = RankSet::from_bits(0x8000_0000_0000_000d);
     for (number, place) in [(0, 0), (1, 1), (2, 1), (3, 2), (4, 3), (63, 3)] {
-        same_in(&rt, &place_of(ranks, rank(number)?), &place, &number);
+        same_in(&rt, &place_of(ranks, rank(&rt, number)), &place, &number);
     }
-    Ok(())
 }
 
 /// The costs that stand in these cells, if they fit.
@@ -300,21 +294,25 @@ fn given_costs(
 
 /// Whether a best placing over these cells has this sum, these ranks and a price for each part.
 fn places_so(
+    rt: &impl Abort,
     alloc: Global,
     count: u32,
     ranks: u64,
     cells: &[u64],
     least: u64,
     numbers: &[u8],
-) -> Result<bool, Fail> {
-    let costs = given_costs(alloc, count, ranks, cells)?.ok_or("no costs")?;
-    let placing = assigned(alloc, &costs)?;
+) -> bool {
+    let costs = given_costs(alloc, count, ranks, cells)
+        .sure(rt)
+        .ok_or("no costs")
+        .sure(rt);
+    let placing = assigned(alloc, &costs).sure(rt);
     let is_priced = placing.proof.part_price.len() == count as usize;
-    Ok(is_priced && placing.moved == least && are_numbers(&placing, numbers))
+    is_priced && placing.moved == least && are_numbers(&placing, numbers)
 }
 
 #[test]
-fn hands_ranks_on_where_that_costs_less(rt: HostRuntime) -> Result<(), Fail> {
+fn hands_ranks_on_where_that_costs_less(rt: HostRuntime) {
     // (parts, ranks, cells, the least sum, the ranks that have it)
     let tables: [(u32, u64, &[u64], u64, &[u8]); 6] = [
         (0, 5, &[], 0, &[]),
@@ -339,15 +337,14 @@ fn hands_ranks_on_where_that_costs_less(rt: HostRuntime) -> Result<(), Fail> {
     for (count, ranks, cells, least, numbers) in tables {
         holds_in(
             &rt,
-            places_so(rt.alloc(), count, ranks, cells, least, numbers)?,
+            places_so(&rt, rt.alloc(), count, ranks, cells, least, numbers),
             &count,
         );
     }
-    Ok(())
 }
 
 #[test]
-fn takes_cells_that_fit(rt: HostRuntime) -> Result<(), Fail> {
+fn takes_cells_that_fit(rt: HostRuntime) {
     // (parts, ranks, cells, whether they are taken)
     let tables: [(u32, u64, &[u64], bool); 7] = [
         (0, 0, &[], true),
@@ -359,10 +356,9 @@ fn takes_cells_that_fit(rt: HostRuntime) -> Result<(), Fail> {
         (3, 5, &[0, 0, 0, 0, 0, 0], false),
     ];
     for (count, ranks, cells, taken) in tables {
-        let costs = given_costs(rt.alloc(), count, ranks, cells)?;
+        let costs = given_costs(rt.alloc(), count, ranks, cells).sure(&rt);
         same_in(&rt, &costs.is_some(), &taken, &count);
     }
-    Ok(())
 }
 
 /// The least sum of three different columns of three rows of four cells.
@@ -392,40 +388,44 @@ fn random_cells(random: &mut Random, limit: u64) -> [u64; 12]
 }
 
 #[test]
-fn no_choice_costs_less(rt: HostRuntime) -> Result<(), Fail> {
+fn no_choice_costs_less(rt: HostRuntime) {
     let mut random = Random::new(7);
     for round in 0..300 {
         let cells = random_cells(&mut random, round / 10 + 2);
-        let costs = given_costs(rt.alloc(), 3, 0x8000_0000_0000_1011, &cells)?.ok_or("no costs")?;
-        let moved = assigned(rt.alloc(), &costs)?.moved;
+        let costs = given_costs(rt.alloc(), 3, 0x8000_0000_0000_1011, &cells)
+            .sure(&rt)
+            .ok_or("no costs")
+            .sure(&rt);
+        let moved = assigned(rt.alloc(), &costs).sure(&rt).moved;
         same_in(&rt, &moved, &least_of(&cells), &round);
     }
-    Ok(())
 }
 
 /// A random star of so many rows, at ranks below 6, and random parts below a count.
 fn random_star(
+    rt: &impl Abort,
     random: &mut Random,
     alloc: Global,
     size: u32,
     count: u32,
-) -> Result<(Problem, Vec<u32>), Fail>
+) -> (Problem, Vec<u32>)
     requires { 0 < count }
 {
-    let mut rows = at_last(|| Vec::with_capacity(alloc, size as usize))?;
-    let mut part = at_last(|| Vec::with_capacity(alloc, size as usize))?;
+    let mut rows = at_last(|| Vec::with_capacity(alloc, size as usize)).sure(rt);
+    let mut part = at_last(|| Vec::with_capacity(alloc, size as usize)).sure(rt);
     for _ in 0..size {
         rows.push(ProblemRow {
             parent: 0,
             heat: 0,
             inodes: random.below(9) as u32,
-            now: rank(random.below(6) as u8)?,
-        })?;
-        part.push(random.below(u64::from(count)) as u32)?;
+            now: rank(rt, random.below(6) as u8),
+        })
+        .sure(rt);
+        part.push(random.below(u64::from(count)) as u32).sure(rt);
     }
     match Problem::new(rows, RankSet::from_bits(0x17)) {
-        Ok(problem) => Ok((problem, part)),
-        Err(_) => Err("no problem")?,
+        Ok(problem) => (problem, part),
+        Err(_) => panic!(rt; "no problem"),
     }
 }
 
@@ -439,27 +439,25 @@ fn fewest(problem: &Problem, part: &[u32]) -> Option<u64> {
 }
 
 #[test]
-fn no_placing_moves_less(rt: HostRuntime) -> Result<(), Fail> {
+fn no_placing_moves_less(rt: HostRuntime) {
     let alloc = rt.alloc();
     let mut random = Random::new(11);
     for round in 0..20 {
-        let (problem, part) = random_star(&mut random, alloc, 8, 3)?;
-        let costs = table(&rt, alloc, &problem, &part, 3)?;
-        let moved = assigned(alloc, &costs)?.moved;
+        let (problem, part) = random_star(&rt, &mut random, alloc, 8, 3);
+        let costs = table(&rt, alloc, &problem, &part, 3);
+        let moved = assigned(alloc, &costs).sure(&rt).moved;
         same_in(&rt, &Some(moved), &fewest(&problem, &part), &round);
     }
-    Ok(())
 }
 
 #[test]
-fn chunks_cost_what_all_rows_do(rt: HostRuntime) -> Result<(), Fail> {
+fn chunks_cost_what_all_rows_do(rt: HostRuntime) {
     let alloc = rt.alloc();
     let mut random = Random::new(13);
     for size in [0, 1, 2, 5, 16, 17, 99, 100, 101, 230] {
-        let (problem, part) = random_star(&mut random, alloc, size, 4)?;
-        let costs = table(&rt, alloc, &problem, &part, 4)?;
-        let is_same = chunks_give(&rt, alloc, &problem, &part, 4, costs.cells())?;
+        let (problem, part) = random_star(&rt, &mut random, alloc, size, 4);
+        let costs = table(&rt, alloc, &problem, &part, 4);
+        let is_same = chunks_give(&rt, alloc, &problem, &part, 4, costs.cells());
         holds_in(&rt, is_same, &size);
     }
-    Ok(())
 }

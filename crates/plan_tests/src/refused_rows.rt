@@ -1,11 +1,11 @@
 //! Rows and ranks that are no problem, with what is printed for them.
 
 use crate::given::{hot_rows, over};
-use crate::same::same;
+use crate::same::{Sure, same};
 use mds_types::limits::HEAT_LIMIT;
 use mds_types::{Problem, ProblemError, ProblemRow, Rank, RankSet};
 use std::alloc::{AllocError, Global};
-use std::test::Fail;
+use std::process::Abort;
 
 fn printed(alloc: Global, error: ProblemError) -> Result<String, AllocError> {
     match error.to_string(alloc) {
@@ -15,19 +15,19 @@ fn printed(alloc: Global, error: ProblemError) -> Result<String, AllocError> {
 }
 
 /// What is printed for rows that are refused. All of them have to be handed back.
-fn refusal(alloc: Global, rows: Vec<ProblemRow>, ranks: u64) -> Result<String, Fail> {
+fn refusal(rt: &impl Abort, alloc: Global, rows: Vec<ProblemRow>, ranks: u64) -> String {
     let count = rows.len();
     let Err((error, back)) = Problem::new(rows, RankSet::from_bits(ranks)) else {
-        return Err("accepted")?;
+        panic!(rt; "accepted");
     };
     if back.len() != count {
-        return Err("lost rows")?;
+        panic!(rt; "lost rows");
     }
-    Ok(printed(alloc, error)?)
+    printed(alloc, error).sure(rt)
 }
 
 #[test]
-fn refuses_the_least_faulty_row(rt: HostRuntime) -> Result<(), Fail> {
+fn refuses_the_least_faulty_row(rt: HostRuntime) {
     let hot = HEAT_LIMIT + 1;
     // (parents and heats, ranks, the refusal)
     let table: [(&[(u32, u64)], u64, &str); 6] = [
@@ -39,23 +39,29 @@ fn refuses_the_least_faulty_row(rt: HostRuntime) -> Result<(), Fail> {
         (&[(1, hot)], 0, "5 NoRanks"),
     ];
     for (parents_and_heats, ranks, text) in table {
-        let rows = hot_rows(rt.alloc(), parents_and_heats)?;
-        same(&rt, &refusal(rt.alloc(), rows, ranks)?.as_str(), &text);
+        let rows = hot_rows(rt.alloc(), parents_and_heats).sure(&rt);
+        same(&rt, &refusal(&rt, rt.alloc(), rows, ranks).as_str(), &text);
     }
-    Ok(())
 }
 
-#[test]
-fn refuses_too_many_rows(rt: HostRuntime) -> Result<(), Fail> {
+// So many rows, each below the root.
+fn alike(alloc: Global, count: usize) -> Result<Vec<ProblemRow>, AllocError> {
     let row = ProblemRow {
         parent: 0,
         heat: 0,
         inodes: 1,
         now: Rank::default(),
     };
-    let many = vec![in rt.alloc(); row; 65536]?;
-    let _accepted = over(many, 1)?;
-    let more = vec![in rt.alloc(); row; 65537]?;
-    same(&rt, &refusal(rt.alloc(), more, 0)?.as_str(), &"4 TooMany");
-    Ok(())
+    vec![in alloc; row; count]
+}
+
+#[test]
+fn refuses_too_many_rows(rt: HostRuntime) {
+    let _accepted = over(&rt, alike(rt.alloc(), 65536).sure(&rt), 1);
+    let more = alike(rt.alloc(), 65537).sure(&rt);
+    same(
+        &rt,
+        &refusal(&rt, rt.alloc(), more, 0).as_str(),
+        &"4 TooMany",
+    );
 }

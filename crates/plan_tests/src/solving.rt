@@ -5,14 +5,13 @@
 ghost use Rattle.std.specs.Prelude.{◌<◌};
 
 use crate::given::{Given, at_last, problem};
-use crate::same::{holds_in, same_in};
+use crate::same::{Sure, holds_in, same_in};
 use exhaustive::{Random, fewest_moved, least_greatest_heat};
 use mds_types::{CutProof, Plan, Problem, RankSet};
 use plan_checker::check;
 use planner::solve;
 use std::alloc::{AllocError, Global};
 use std::process::Abort;
-use std::test::Fail;
 use std::thread::Threads;
 
 /// The plan that is found in the end.
@@ -26,12 +25,12 @@ fn judged(alloc: Global, problem: &Problem, plan: &Plan) -> Result<bool, AllocEr
 }
 
 /// The numbers of the ranks that the parts go to.
-fn numbers(alloc: Global, plan: &Plan) -> Result<Vec<u8>, Fail> {
-    let mut numbers = at_last(|| Vec::with_capacity(alloc, plan.rank.len()))?;
+fn numbers(rt: &impl Abort, alloc: Global, plan: &Plan) -> Vec<u8> {
+    let mut numbers = at_last(|| Vec::with_capacity(alloc, plan.rank.len())).sure(rt);
     for rank in plan.rank.as_slice() {
-        numbers.push(rank.number())?;
+        numbers.push(rank.number()).sure(rt);
     }
-    Ok(numbers)
+    numbers
 }
 
 fn word(proof: &CutProof) -> &'static str {
@@ -85,31 +84,26 @@ const SMALL_TREES: [(&[Given], u64, u64, u64, &str, &[u32], &[u8]); 6] = [
 ];
 
 #[test]
-fn solves_small_trees(rt: HostRuntime) -> Result<(), Fail> {
+fn solves_small_trees(rt: HostRuntime) {
     let alloc = rt.alloc();
     for (rows, ranks, greatest, moved, proof, part, rank) in SMALL_TREES {
-        let problem = problem(alloc, rows, ranks)?;
-        let plan = solved(&rt, alloc, &problem)?;
+        let problem = problem(&rt, alloc, rows, ranks);
+        let plan = solved(&rt, alloc, &problem).sure(&rt);
         same_in(&rt, &plan.greatest, &greatest, &rows);
         same_in(&rt, &plan.moved, &moved, &rows);
         same_in(&rt, &word(&plan.cut), &proof, &rows);
         same_in(&rt, &plan.part.as_slice(), &part, &rows);
-        same_in(&rt, &numbers(alloc, &plan)?.as_slice(), &rank, &rows);
-        holds_in(&rt, judged(alloc, &problem, &plan)?, &rows);
+        same_in(&rt, &numbers(&rt, alloc, &plan).as_slice(), &rank, &rows);
+        holds_in(&rt, judged(alloc, &problem, &plan).sure(&rt), &rows);
     }
-    Ok(())
 }
 
 /// Compares the plan of a problem with all divisions into so many parts and all placings.
-fn compare<R: Abort + AllocGlobal + Threads + Sync>(
-    rt: &R,
-    problem: &Problem,
-    ranks: usize,
-) -> Result<(), Fail>
+fn compare<R: Abort + AllocGlobal + Threads + Sync>(rt: &R, problem: &Problem, ranks: usize)
     requires { 0 < ranks }
 {
     let alloc = rt.alloc();
-    let plan = solved(rt, alloc, problem)?;
+    let plan = solved(rt, alloc, problem).sure(rt);
     let rows = problem.rows();
     assert!(rt; rows.len() <= 8);
     assert!(rt; plan.part.len() == rows.len());
@@ -118,12 +112,11 @@ fn compare<R: Abort + AllocGlobal + Threads + Sync>(
     same_in(rt, &plan.greatest, &least_greatest_heat(rows, ranks), &rows);
     let trial = fewest_moved(rows, &plan.part, parts, problem.ranks());
     same_in(rt, &Some(plan.moved), &trial, &rows);
-    holds_in(rt, judged(alloc, problem, &plan)?, &rows);
-    Ok(())
+    holds_in(rt, judged(alloc, problem, &plan).sure(rt), &rows);
 }
 
 #[test]
-fn nothing_is_better(rt: HostRuntime) -> Result<(), Fail> {
+fn nothing_is_better(rt: HostRuntime) {
     let mut random = Random::new(5);
     // (rows, limit of heats, ranks, how many)
     let table = [
@@ -137,15 +130,14 @@ fn nothing_is_better(rt: HostRuntime) -> Result<(), Fail> {
         for _ in 0..10 {
             let rows = match random.rows(rt.alloc(), count, heat_limit) {
                 Ok(rows) => rows,
-                Err(_) => random.rows(rt.alloc(), count, heat_limit)?,
+                Err(_) => random.rows(rt.alloc(), count, heat_limit).sure(&rt),
             };
             let Ok(problem) = Problem::new(rows, RankSet::from_bits(ranks)) else {
-                return Err("no problem")?;
+                panic!(rt; "no problem");
             };
-            compare(&rt, &problem, parts)?;
+            compare(&rt, &problem, parts);
         }
     }
-    Ok(())
 }
 
 /// Changes a number of a plan by at most 1, or the part of a row.
@@ -185,25 +177,24 @@ fn is_best_by_trial<R: Abort>(rt: &R, problem: &Problem, plan: &Plan) -> bool {
 }
 
 #[test]
-fn what_passes_is_best(rt: HostRuntime) -> Result<(), Fail> {
+fn what_passes_is_best(rt: HostRuntime) {
     let alloc = rt.alloc();
     let mut random = Random::new(19);
     let mut passed = 0u32;
     for _ in 0..120 {
         let rows = match random.rows(alloc, 5, 4) {
             Ok(rows) => rows,
-            Err(_) => random.rows(alloc, 5, 4)?,
+            Err(_) => random.rows(alloc, 5, 4).sure(&rt),
         };
         let Ok(problem) = Problem::new(rows, RankSet::from_bits(0x21)) else {
-            return Err("no problem")?;
+            panic!(rt; "no problem");
         };
-        let mut plan = solved(&rt, alloc, &problem)?;
+        let mut plan = solved(&rt, alloc, &problem).sure(&rt);
         change(&mut plan, &mut random);
-        if judged(alloc, &problem, &plan)? {
+        if judged(alloc, &problem, &plan).sure(&rt) {
             passed = passed.saturating_add(1);
             holds_in(&rt, is_best_by_trial(&rt, &problem, &plan), &plan);
         }
     }
     holds_in(&rt, passed > 20 && passed < 100, &passed);
-    Ok(())
 }

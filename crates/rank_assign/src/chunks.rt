@@ -19,72 +19,81 @@ pub struct Labelled<'a> {
     pub count: u32,
 }
 
-/// The sums of chunk `k`, of `chunk` rows each from row `first` on. The last chunk may be shorter.
+/// Chunks that are added up together: so many, of `chunk` rows each, from row `first` on. The last chunk may be
+/// shorter.
+#[derive(Clone, Copy)]
+struct Batch {
+    first: usize,
+    chunk: usize,
+    chunks: usize,
+}
+
+/// The sums of a batch's chunk `k`.
 fn chunk_sums(
     alloc: Global,
     of: Labelled<'_>,
-    first: usize,
-    chunk: usize,
+    batch: Batch,
     k: usize,
 ) -> Result<Vec<u64>, AllocError>
     requires { AreLabelled of.rows.now of.part.now of.count }
     ensures { IfOk result (λ sums. AreSummed of.entry.rows.now of.entry.part.now of.entry.count
-        (edge (length of.entry.rows.now) first chunk k) (edge (length of.entry.rows.now) first chunk (k + 1)) sums.items) }
+        (edge (length of.entry.rows.now) batch.first batch.chunk k)
+        (edge (length of.entry.rows.now) batch.first batch.chunk (k + 1)) sums.items) }
 {
     let rows = of.rows.len();
-    let from = k.saturating_mul(chunk).saturating_add(first).min(rows);
-    let to = from.saturating_add(chunk).min(rows);
+    let from = k
+        .saturating_mul(batch.chunk)
+        .saturating_add(batch.first)
+        .min(rows);
+    let to = from.saturating_add(batch.chunk).min(rows);
     sums(alloc, of.rows, of.part, of.count, from, to)
 }
 
-/// The sums of so many chunks, which threads share.
+/// The sums of a batch's chunks, which threads share.
 fn side_by_side<R: Threads + Sync>(
     rt: &R,
     alloc: Global,
     of: Labelled<'_>,
-    first: usize,
-    chunk: usize,
-    chunks: usize,
+    batch: Batch,
 ) -> Result<Vec<Result<Vec<u64>, AllocError>>, AllocError>
     requires { AreLabelled of.rows.now of.part.now of.count }
-    ensures size { IfOk result (λ tables. length tables.items ≡ chunks) }
-    ensures sums { IfOk result (λ tables. (k : ℕ) (d : _) → k < chunks → IfOk (slice_index_or tables.items k d) (λ sums.
-        AreSummed of.entry.rows.now of.entry.part.now of.entry.count
-        (edge (length of.entry.rows.now) first chunk k) (edge (length of.entry.rows.now) first chunk (k + 1)) sums.items)) }
+    ensures size { IfOk result (λ tables. length tables.items ≡ batch.chunks) }
+    ensures sums { IfOk result (λ tables. (k : ℕ) (d : _) → k < batch.chunks
+        → IfOk (slice_index_or tables.items k d) (λ sums. AreSummed of.entry.rows.now of.entry.part.now of.entry.count
+        (edge (length of.entry.rows.now) batch.first batch.chunk k)
+        (edge (length of.entry.rows.now) batch.first batch.chunk (k + 1)) sums.items)) }
 {
-    (0..chunks)
+    (0..batch.chunks)
         .into_par_iter()
         .with_min_len(1)
         .map(
             |k: usize| -> Result<Vec<u64>, AllocError>
                 requires { AreLabelled of.rows.now of.part.now of.count }
                 ensures { IfOk result (λ sums. AreSummed of.entry.rows.now of.entry.part.now of.entry.count
-                    (edge (length of.entry.rows.now) first chunk k)
-                    (edge (length of.entry.rows.now) first chunk (k + 1)) sums.items) }
-            { chunk_sums(alloc, of, first, chunk, k) },
+                    (edge (length of.entry.rows.now) batch.first batch.chunk k)
+                    (edge (length of.entry.rows.now) batch.first batch.chunk (k + 1)) sums.items) }
+            { chunk_sums(alloc, of, batch, k) },
         )
         .collect(rt, alloc)
 }
 
-/// Adds the sums of so many chunks to those of the rows before them.
+/// Adds the sums of a batch's chunks to those of the rows before them.
 fn add_chunks<R: Threads + Sync>(
     rt: &R,
     alloc: Global,
     total: &mut [u64],
     of: Labelled<'_>,
-    first: usize,
-    chunk: usize,
-    chunks: usize,
+    batch: Batch,
 ) -> Result<(), AllocError>
     requires labelled { AreLabelled of.rows.now of.part.now of.count }
-    requires inside { first ≤ length of.rows.now }
-    requires before { AreSummed of.rows.now of.part.now of.count 0 first total.old }
+    requires inside { batch.first ≤ length of.rows.now }
+    requires before { AreSummed of.rows.now of.part.now of.count 0 batch.first total.old }
     ensures size { length total.new ≡ length total.old }
     ensures sums { OnOk result (AreSummed of.entry.rows.now of.entry.part.now of.entry.count 0
-        (edge (length of.entry.rows.now) first chunk chunks) total.new) }
+        (edge (length of.entry.rows.now) batch.first batch.chunk batch.chunks) total.new) }
 {
-    let tables = side_by_side(rt, alloc, of, first, chunk, chunks)?;
-    for k in 0..chunks {
+    let tables = side_by_side(rt, alloc, of, batch)?;
+    for k in 0..batch.chunks {
         match &tables[k] {
             Ok(sums) => add_sums(total, sums),
             Err(error) => return Err(*error),
@@ -111,7 +120,12 @@ fn add_rows<R: Threads + Sync>(
     let mut first = 0;
     while first < rows {
         let chunks = (rows - first).div_ceil(chunk).min(CHUNKS);
-        add_chunks(rt, alloc, total, of, first, chunk, chunks)?;
+        let batch = Batch {
+            first,
+            chunk,
+            chunks,
+        };
+        add_chunks(rt, alloc, total, of, batch)?;
         first = chunks.saturating_mul(chunk).saturating_add(first).min(rows);
     }
     Ok(())

@@ -98,8 +98,9 @@ fn relax(ways: &mut [Way], cells: &[u64], debts: &[u64], part: usize, price: u64
         → near_at ways.old j ≤ near_at ways.old via }
     requires below { (j : ℕ) → j < length debts.now →
         price ≤ cell_at_place cells.now (length debts.now) part j + slice_index debts.now j }
-    ensures { (j : ℕ) → j < length debts.now → IsImproved (slice_index_or ways.old j no_way) (slice_index_or ways.new j no_way)
-        (near_at ways.old via + (cell_at_place cells.now (length debts.now) part j + slice_index debts.now j - price)) (via + 1) }
+    ensures { (j : ℕ) → j < length debts.now
+        → IsImproved (slice_index_or ways.old j no_way) (slice_index_or ways.new j no_way) (near_at ways.old via
+        + (cell_at_place cells.now (length debts.now) part j + slice_index debts.now j - price)) (via + 1) }
 {
     let near = ways[via].near;
     for (j, debt) in debts.iter().enumerate() {
@@ -129,7 +130,8 @@ pub fn reach(
     requires small { (p j : ℕ) → p < length prices.now → j < length debts.now →
         cell_at_place cells.now (length debts.now) p j ≤ 2 ^ 48 }
     ensures { IsReached (length debts.now) (cell_at_place cells.now (length debts.now)) (slice_index prices.now)
-        (slice_index debts.now) (slice_index owners.now) part (near_at ways.new) (via_at ways.new) (turn_at ways.new) result }
+        (slice_index debts.now) (slice_index owners.now) part (near_at ways.new) (via_at ways.new)
+        (turn_at ways.new) result }
 {
     start(ways, cells, debts, part);
     for reached in 0..debts.len() {

@@ -46,9 +46,12 @@ pub fn serve_with_totals<
     ensures clean { IfOk result.1 (λ ranks. IsOk ranks.deposited → All (λ s. IsClean s) ranks.shares.items) }
     ensures whole { IfOk result.1 (λ ranks. weight_of ranks.shares.items ≡ result.0.shares) }
     ensures begun { IfOk result.1 (λ ranks. (d : ℕ) → d < J.limit → at result.0.state.begun d
-        ≡ at board.state.begun d + over_ranks (begun_on d) (map (λ s. s.items) scripts.now) (map (λ a. a.items) ranks.answers.items)) }
-    ensures hits { IfOk result.1 (λ ranks. (d : ℕ) → d < J.limit → at result.0.state.counted d + pending_of ranks.shares.items d
-        ≡ (at board.state.counted d + pending_of shares.items d) + over_ranks (hits_on d) (map (λ s. s.items) scripts.now) (map (λ a. a.items) ranks.answers.items)) }
+        ≡ at board.state.begun d
+        + over_ranks (begun_on d) (map (λ s. s.items) scripts.now) (map (λ a. a.items) ranks.answers.items)) }
+    ensures hits { IfOk result.1 (λ ranks. (d : ℕ) → d < J.limit
+        → at result.0.state.counted d + pending_of ranks.shares.items d
+        ≡ (at board.state.counted d + pending_of shares.items d)
+        + over_ranks (hits_on d) (map (λ s. s.items) scripts.now) (map (λ a. a.items) ranks.answers.items)) }
     ensures answered { IfOk result.1 (λ ranks. AreAnswered board 0 (map (λ s. s.items) scripts.now)
         (map (λ a. a.items) ranks.answers.items)) }
     ensures told { IfOk result.1 (λ ranks. IsDepositTold board ranks.deposited) }

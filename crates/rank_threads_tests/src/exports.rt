@@ -3,7 +3,7 @@ ghost use Rattle.std.specs.Prelude.{◌≡◌};
 
 use crate::boards::{done, orders, rank};
 use crate::gates::JitterGate;
-use crate::same::same;
+use crate::same::{Sure, same};
 use authority_map::MapWriter;
 use board_state::{BoardError, BoardParts};
 use export_machine::{Event, StepError};
@@ -13,38 +13,33 @@ use naming::Naming;
 use rank_threads::{OrderOutcome, Outcome, WorkError, export_phase};
 use std::alloc::Global;
 use std::marker::{Brand, Send, Sync};
+use std::process::Abort;
 use std::sync::Wait;
-use std::test::Fail;
 use std::thread::Threads;
 
 // A board of three ranks with /a and /b.
-fn open<'r, J: Naming, R: Wait>(
+fn open<'r, J: Naming, R: Abort + Wait>(
     rt: &'r R,
     alloc: Global,
     book: heat_ledger::NewBook,
     map: authority_map::NewMap,
-) -> Result<Board<J, MapWriter<J, &'r R>>, Fail>
+) -> Board<J, MapWriter<J, &'r R>>
     requires book { book ≡ J.ledger }
     requires map { map ≡ J.map }
     requires limit { J.limit ≡ 8 }
 {
     let Ok((writer, _readers)) = MapWriter::<J, &'r R>::open(rt, alloc, map, 8, 1) else {
-        return Err("no map".into());
+        panic!(rt; "no map");
     };
-    match Board::new(alloc, BoardParts::new(book, writer), 8, 3) {
-        Ok((mut board, _shares)) => {
-            let a = board.make(alloc, Dir::ROOT, "a", 1).is_ok();
-            if a && board.make(alloc, Dir::ROOT, "b", 1).is_ok() {
-                return Ok(board);
-            }
-            board.end();
-            Err("no directory".into())
-        }
-        Err(parts) => {
-            parts.end();
-            Err("no board".into())
-        }
+    let parts = BoardParts::new(book, writer);
+    let (mut board, _shares) = match Board::new(alloc, parts, 8, 3) {
+        Ok(opened) => opened,
+        Err(_parts) => panic!(rt; "no board"),
+    };
+    for name in ["a", "b"] {
+        board.make(alloc, Dir::ROOT, name, 1).sure(rt);
     }
+    board
 }
 
 // What three phases told, and who has /a and /b then.
@@ -57,20 +52,20 @@ struct Seen {
 }
 
 // Directories go there and back, and there again when rank 2 has stopped.
-fn carry_out<J: Naming + Send + Sync, R: Threads + Wait + Sync>(
+fn carry_out<J: Naming + Send + Sync, R: Abort + Threads + Wait + Sync>(
     rt: &R,
     alloc: Global,
     names: (heat_ledger::NewBook, authority_map::NewMap),
-) -> Result<Seen, Fail>
+) -> Seen
     requires book { names.0 ≡ J.ledger }
     requires map { names.1 ≡ J.map }
     requires limit { J.limit ≡ 8 }
 {
-    let there = orders(alloc, &[(0, 1, 1), (0, 2, 2)])?;
-    let back = orders(alloc, &[(1, 0, 1), (2, 0, 2)])?;
-    let late = orders(alloc, &[(3, 0, 1), (0, 1, 1), (0, 2, 2)])?;
+    let there = orders(alloc, &[(0, 1, 1), (0, 2, 2)]).sure(rt);
+    let back = orders(alloc, &[(1, 0, 1), (2, 0, 2)]).sure(rt);
+    let late = orders(alloc, &[(3, 0, 1), (0, 1, 1), (0, 2, 2)]).sure(rt);
     let (book, map) = names;
-    let board = open::<J, R>(rt, alloc, book, map)?;
+    let board = open::<J, R>(rt, alloc, book, map);
     let (board, there) = export_phase(rt, alloc, board, &JitterGate, &there);
     let (mut board, back) = export_phase(rt, alloc, board, &JitterGate, &back);
     let stopped = board.step(alloc, Event::Stop(rank(2))).is_ok();
@@ -81,24 +76,24 @@ fn carry_out<J: Naming + Send + Sync, R: Threads + Wait + Sync>(
     );
     board.end();
     if !stopped {
-        return Err("no stop".into());
+        panic!(rt; "no stop");
     }
-    Ok(Seen {
-        there: there?,
-        back: back?,
-        late: late?,
+    Seen {
+        there: there.sure(rt),
+        back: back.sure(rt),
+        late: late.sure(rt),
         authorities,
-    })
+    }
 }
 
 // Whatever the schedule: what one rank gives has the numbers in the order of its orders, and what two ranks give at
 // once is done too. An export to a stopped rank is aborted.
 #[test]
-fn ranks_carry_out_orders(rt: HostRuntime) -> Result<(), Fail> {
+fn ranks_carry_out_orders(rt: HostRuntime) {
     for _ in 0..100u32 {
-        let book = heat_ledger::NewBook::new(rt.alloc())?;
+        let book = heat_ledger::NewBook::new(rt.alloc()).sure(&rt);
         let map = authority_map::NewMap::new();
-        let seen = carry_out::<Brand, _>(&rt, rt.alloc(), (book, map))?;
+        let seen = carry_out::<Brand, _>(&rt, rt.alloc(), (book, map));
         let there = [done(0), done(1)];
         same(&rt, &seen.there.as_slice(), &there.as_slice());
         let back = [done(2), done(3)];
@@ -114,16 +109,14 @@ fn ranks_carry_out_orders(rt: HostRuntime) -> Result<(), Fail> {
         same(&rt, &seen.late.as_slice(), &late.as_slice());
         same(&rt, &seen.authorities, &(Some(rank(1)), Some(rank(0))));
     }
-    Ok(())
 }
 
 // What is printed where a rank has no thread.
 #[test]
-fn no_thread_is_printed_by_its_number(rt: HostRuntime) -> Result<(), Fail> {
-    let text = format!(in rt.alloc(); "{}", WorkError::NoThread)?;
+fn no_thread_is_printed_by_its_number(rt: HostRuntime) {
+    let text = format!(in rt.alloc(); "{}", WorkError::NoThread).sure(&rt);
     same(&rt, &text.as_str(), &"36 NoThread");
     let refused = WorkError::Board(BoardError::Step(StepError::Stopped(rank(3))));
-    let text = format!(in rt.alloc(); "{refused}")?;
+    let text = format!(in rt.alloc(); "{refused}").sure(&rt);
     same(&rt, &text.as_str(), &"28 Stopped 3");
-    Ok(())
 }

@@ -2,7 +2,7 @@
 ghost use Rattle.std.specs.Prelude.{◌≡◌, length};
 
 use crate::requests::{names, open, scripts, served, work};
-use crate::same::same;
+use crate::same::{Sure, same};
 use authority_map::Publisher;
 use board_state::BoardError;
 use mds_board::Board;
@@ -10,8 +10,8 @@ use naming::Naming;
 use rank_threads::{OpenGate, Ranks, Work, WorkAnswer, serve_phase};
 use std::alloc::Global;
 use std::marker::{Brand, Send, Sync};
+use std::process::Abort;
 use std::sync::Wait;
-use std::test::Fail;
 use std::thread::Threads;
 
 // What a phase leaves, with how many shares and how many entries of the history.
@@ -31,26 +31,26 @@ fn tick_often<J: Naming, M: Publisher<J>>(board: &mut Board<J, M>, ticks: u32) {
 }
 
 // A phase of two ranks, after /a and so many ticks.
-fn serve<J: Naming + Send + Sync, R: Threads + Wait + Sync>(
+fn serve<J: Naming + Send + Sync, R: Abort + Threads + Wait + Sync>(
     rt: &R,
     alloc: Global,
     names: (heat_ledger::NewBook, authority_map::NewMap),
     scripts: &[Vec<Work>],
     ticks: u32,
-) -> Result<Left, Fail>
+) -> Left
     requires book { names.0 ≡ J.ledger }
     requires map { names.1 ≡ J.map }
     requires limit { J.limit ≡ 8 }
     requires two { length scripts.now ≡ 2 }
 {
     let (book, map) = names;
-    let (mut board, shares) = open::<J, R>(rt, alloc, book, map)?;
+    let (mut board, shares) = open::<J, R>(rt, alloc, book, map);
     tick_often(&mut board, ticks);
     let (board, done) = serve_phase(rt, alloc, board, &OpenGate, scripts, shares);
     let entries = board.history().len();
     board.end();
     let Ok(ranks) = done else {
-        return Err("no memory".into());
+        panic!(rt; "no memory");
     };
     let Ranks {
         shares,
@@ -58,35 +58,34 @@ fn serve<J: Naming + Send + Sync, R: Threads + Wait + Sync>(
         deposited,
         ended,
     } = ranks;
-    Ok(Left {
+    Left {
         answers,
         deposited,
         ended,
         shares: shares.len(),
         entries,
-    })
+    }
 }
 
 // The request's begin is the last event that has room: its end is refused, and each deposit.
 #[test]
-fn an_end_without_room_is_told(rt: HostRuntime) -> Result<(), Fail> {
-    let all = scripts(rt.alloc(), &[work(1, 3)], &[])?;
-    let given = names(rt.alloc())?;
-    let left = serve::<Brand, _>(&rt, rt.alloc(), given, &all, 1_048_574)?;
-    let first = left.answers.get(0).ok_or("no answers")?;
+fn an_end_without_room_is_told(rt: HostRuntime) {
+    let all = scripts(rt.alloc(), &[work(1, 3)], &[]).expect(&rt, "it failed");
+    let given = names(rt.alloc()).sure(&rt);
+    let left = serve::<Brand, _>(&rt, rt.alloc(), given, &all, 1_048_574);
+    let first = left.answers.get(0).ok_or("no answers").sure(&rt);
     same(&rt, &first.as_slice(), &[served(0, 3)].as_slice());
     same(&rt, &left.ended, &Err(BoardError::HistoryFull));
     same(&rt, &left.deposited, &Err(BoardError::HistoryFull));
     same(&rt, &left.entries, &1_048_576);
-    Ok(())
 }
 
 // With no request the shares come back, and the history has their deposits alone.
 #[test]
-fn ranks_without_requests_keep_their_shares(rt: HostRuntime) -> Result<(), Fail> {
-    let all = scripts(rt.alloc(), &[], &[])?;
-    let given = names(rt.alloc())?;
-    let left = serve::<Brand, _>(&rt, rt.alloc(), given, &all, 0)?;
+fn ranks_without_requests_keep_their_shares(rt: HostRuntime) {
+    let all = scripts(rt.alloc(), &[], &[]).expect(&rt, "it failed");
+    let given = names(rt.alloc()).sure(&rt);
+    let left = serve::<Brand, _>(&rt, rt.alloc(), given, &all, 0);
     same(&rt, &left.shares, &2);
     same(&rt, &left.answers.len(), &2);
     for answers in left.answers.iter() {
@@ -95,5 +94,4 @@ fn ranks_without_requests_keep_their_shares(rt: HostRuntime) -> Result<(), Fail>
     same(&rt, &left.deposited, &Ok(()));
     same(&rt, &left.ended, &Ok(()));
     same(&rt, &left.entries, &3);
-    Ok(())
 }

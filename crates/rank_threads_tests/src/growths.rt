@@ -3,7 +3,7 @@ ghost use Rattle.std.specs.Prelude.{◌≡◌};
 
 use crate::boards::{open, orders, rank, running};
 use crate::requests::{names, refused, scripts, work};
-use crate::same::{holds_in, same};
+use crate::same::{Sure, holds_in, same};
 use authority_map::Publisher;
 use board_state::BoardError;
 use export_machine::StepError;
@@ -17,7 +17,6 @@ use rank_threads::{
 use std::alloc::{AllocError, Global};
 use std::marker::{Brand, Send, Sync};
 use std::sync::Wait;
-use std::test::Fail;
 use std::thread::Threads;
 
 // Whether shares are those of two ranks that have counted nothing on directory 1.
@@ -109,8 +108,7 @@ fn serve<J: Naming + Send + Sync, R: Threads + Wait + Sync>(
 
 fn serve_named<R: Threads + Wait + Sync>(rt: &R, alloc: Global) -> Result<Served, AllocError> {
     let given = names(alloc)?;
-    let seen = serve::<Brand, R>(rt, alloc, given)?;
-    Ok(seen)
+    serve::<Brand, R>(rt, alloc, given)
 }
 
 // Whether the answer is that of a request that found no memory.
@@ -120,10 +118,10 @@ fn is_memory(answer: &WorkAnswer) -> bool {
 
 // One growth at most is refused: a request finds no memory, or a deposit does. An end that finds none is tried again.
 #[test]
-fn a_refused_growth_of_answers_changes_nothing(rt: HostRuntime) -> Result<(), Fail> {
+fn a_refused_growth_of_answers_changes_nothing(rt: HostRuntime) {
     let seen = match serve_named(&rt, rt.alloc()) {
         Ok(seen) => seen,
-        Err(_) => serve_named(&rt, rt.alloc())?,
+        Err(_) => serve_named(&rt, rt.alloc()).sure(&rt),
     };
     assert!(rt; seen.unchanged);
     same(&rt, &seen.running, &0);
@@ -144,7 +142,6 @@ fn a_refused_growth_of_answers_changes_nothing(rt: HostRuntime) -> Result<(), Fa
     assert!(rt; refusals <= 1);
     same(&rt, &seen.hits, &hits);
     same(&rt, &seen.heat.wrapping_add(seen.pending), &hits);
-    Ok(())
 }
 
 // What became of two orders, and what they left.
@@ -214,8 +211,7 @@ fn carry_out<J: Naming + Send + Sync, R: Threads + Wait + Sync>(
 
 fn carry_out_named<R: Threads + Wait + Sync>(rt: &R, alloc: Global) -> Result<Moved, AllocError> {
     let given = names(alloc)?;
-    let seen = carry_out::<Brand, R>(rt, alloc, given)?;
-    Ok(seen)
+    carry_out::<Brand, R>(rt, alloc, given)
 }
 
 // Whether an order's directory is where its outcome says, or where an open export may have it, and there a phase later.
@@ -235,10 +231,10 @@ fn stands(outcome: &OrderOutcome, to: u8, first: Option<Rank>, later: Option<Ran
 
 // One growth at most is refused: an order, or a step of its export, finds no memory.
 #[test]
-fn a_refused_growth_of_outcomes_changes_nothing(rt: HostRuntime) -> Result<(), Fail> {
+fn a_refused_growth_of_outcomes_changes_nothing(rt: HostRuntime) {
     let seen = match carry_out_named(&rt, rt.alloc()) {
         Ok(seen) => seen,
-        Err(_) => carry_out_named(&rt, rt.alloc())?,
+        Err(_) => carry_out_named(&rt, rt.alloc()).sure(&rt),
     };
     let Moved {
         unchanged,
@@ -254,5 +250,4 @@ fn a_refused_growth_of_outcomes_changes_nothing(rt: HostRuntime) -> Result<(), F
     for (outcome, (to, first, later)) in outcomes.iter().zip(stood) {
         holds_in(&rt, stands(outcome, to, first, later), &to);
     }
-    Ok(())
 }

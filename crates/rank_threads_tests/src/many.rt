@@ -4,14 +4,14 @@ ghost use Rattle.std.specs.Prelude.{◌≡◌};
 use crate::boards::{open, orders, running, serve};
 use crate::gates::JitterGate;
 use crate::requests::{names, work};
-use crate::same::{same, same_in};
+use crate::same::{Sure, same, same_in};
 use mds_types::Dir;
 use naming::Naming;
 use rank_threads::{Work, WorkAnswer, export_phase};
 use std::alloc::{AllocError, Global};
 use std::marker::{Brand, Send, Sync};
+use std::process::Abort;
 use std::sync::Wait;
-use std::test::Fail;
 use std::thread::Threads;
 
 /// Ranks. Rank k serves directory k.
@@ -49,24 +49,24 @@ struct Seen {
     running: u32,
 }
 
-fn serve_many<J: Naming + Send + Sync, R: Threads + Wait + Sync>(
+fn serve_many<J: Naming + Send + Sync, R: Abort + Threads + Wait + Sync>(
     rt: &R,
     alloc: Global,
     names: (heat_ledger::NewBook, authority_map::NewMap),
-) -> Result<Seen, Fail>
+) -> Seen
     requires book { names.0 ≡ J.ledger }
     requires map { names.1 ≡ J.map }
     requires limit { J.limit ≡ 128 }
 {
     let mut rows = Vec::new(alloc);
     for rank in 1..RANKS {
-        rows.push((0, rank, u32::from(rank)))?;
+        rows.push((0, rank, u32::from(rank))).sure(rt);
     }
-    let orders = orders(alloc, &rows)?;
-    let scripts = scripts(alloc)?;
-    let mut answers = Vec::with_capacity(alloc, REQUESTS as usize)?;
-    let mut heats = Vec::with_capacity(alloc, RANKS as usize)?;
-    let (board, shares) = open::<J, R>(rt, alloc, names, RANKS, 63)?;
+    let orders = orders(alloc, &rows).sure(rt);
+    let scripts = scripts(alloc).sure(rt);
+    let mut answers = Vec::with_capacity(alloc, REQUESTS as usize).sure(rt);
+    let mut heats = Vec::with_capacity(alloc, RANKS as usize).sure(rt);
+    let (board, shares) = open::<J, R>(rt, alloc, names, RANKS, 63).sure(rt);
     let (board, _outcomes) = export_phase(rt, alloc, board, &JitterGate, &orders);
     let (board, _shares) = serve(rt, alloc, board, &scripts, shares, &mut answers);
     for rank in 0..RANKS {
@@ -74,22 +74,22 @@ fn serve_many<J: Naming + Send + Sync, R: Threads + Wait + Sync>(
     }
     let running = running(&board);
     board.end();
-    Ok(Seen {
+    Seen {
         answers,
         heats,
         running,
-    })
+    }
 }
 
 // Each request is served whole with a ticket of its own, and each has ended.
 #[test]
-fn many_requests_are_served(rt: HostRuntime) -> Result<(), Fail> {
-    let given = names(rt.alloc())?;
-    let seen = serve_many::<Brand, _>(&rt, rt.alloc(), given)?;
+fn many_requests_are_served(rt: HostRuntime) {
+    let given = names(rt.alloc()).sure(&rt);
+    let seen = serve_many::<Brand, _>(&rt, rt.alloc(), given);
     let mut tickets = Vec::new(rt.alloc());
     for answer in seen.answers.iter() {
         same(&rt, &(answer.hits, answer.refused), &(HITS, None));
-        tickets.push(answer.ticket)?;
+        tickets.push(answer.ticket).sure(&rt);
     }
     tickets.sort_unstable();
     same(&rt, &tickets.len(), &(REQUESTS as usize));
@@ -100,5 +100,4 @@ fn many_requests_are_served(rt: HostRuntime) -> Result<(), Fail> {
         same_in(&rt, heat, &(u64::from(share_of(rank)) * 3), &rank);
     }
     same(&rt, &seen.running, &0);
-    Ok(())
 }

@@ -3,7 +3,7 @@ ghost use Rattle.std.specs.Prelude.{◌≡◌, IfOk, length, vec_len};
 ghost use Rattle.heat_ledger.specs.Ledger.{weight_of};
 
 use crate::gates::{JitterGate, MeetingGate};
-use crate::same::same;
+use crate::same::{Sure, same};
 use authority_map::MapWriter;
 use board_state::{BoardError, BoardParts};
 use export_machine::{Event, StepError};
@@ -14,12 +14,12 @@ use naming::Naming;
 use rank_threads::{Gate, Work, WorkAnswer, WorkError, serve_phase};
 use std::alloc::{AllocError, Global};
 use std::marker::{Brand, Send, Sync};
+use std::process::Abort;
 use std::sync::Wait;
-use std::test::Fail;
 use std::thread::Threads;
 
-fn rank(number: u8) -> Result<Rank, Fail> {
-    Ok(Rank::new(number).ok_or("no rank")?)
+fn rank(rt: &impl Abort, number: u8) -> Rank {
+    Rank::new(number).ok_or("no rank").sure(rt)
 }
 
 pub(crate) fn work(dir: u32, hits: u32) -> Work {
@@ -60,34 +60,28 @@ pub(crate) fn scripts(
 }
 
 /// A board of two ranks with /a, and all shares of its ledger: one for each rank.
-pub(crate) fn open<'r, J: Naming, R: Wait>(
+pub(crate) fn open<'r, J: Naming, R: Abort + Wait>(
     rt: &'r R,
     alloc: Global,
     book: heat_ledger::NewBook,
     map: authority_map::NewMap,
-) -> Result<(Board<J, MapWriter<J, &'r R>>, Vec<Share<J>>), Fail>
+) -> (Board<J, MapWriter<J, &'r R>>, Vec<Share<J>>)
     requires book { book ≡ J.ledger }
     requires map { map ≡ J.map }
     requires limit { J.limit ≡ 8 }
-    ensures shares { IfOk result (λ r. vec_len r.1 ≡ 2) }
-    ensures whole { IfOk result (λ r. weight_of r.1.items ≡ r.0.shares) }
+    ensures shares { vec_len result.1 ≡ 2 }
+    ensures whole { weight_of result.1.items ≡ result.0.shares }
 {
     let Ok((writer, _readers)) = MapWriter::<J, &'r R>::open(rt, alloc, map, 8, 1) else {
-        return Err("no map".into());
+        panic!(rt; "no map");
     };
-    match Board::new(alloc, BoardParts::new(book, writer), 8, 2) {
-        Ok((mut board, shares)) => {
-            if board.make(alloc, Dir::ROOT, "a", 1).is_err() {
-                board.end();
-                return Err("no directory".into());
-            }
-            Ok((board, shares))
-        }
-        Err(parts) => {
-            parts.end();
-            Err("no board".into())
-        }
-    }
+    let parts = BoardParts::new(book, writer);
+    let (mut board, shares) = match Board::new(alloc, parts, 8, 2) {
+        Ok(opened) => opened,
+        Err(_parts) => panic!(rt; "no board"),
+    };
+    board.make(alloc, Dir::ROOT, "a", 1).sure(rt);
+    (board, shares)
 }
 
 // What two ranks answered to these scripts, how many entries the history has then, and how hot /a is.
@@ -99,21 +93,21 @@ struct Seen {
     heat: u64,
 }
 
-fn serve<J: Naming + Send + Sync, R: Threads + Wait + Sync, G: Gate + Sync>(
+fn serve<J: Naming + Send + Sync, R: Abort + Threads + Wait + Sync, G: Gate + Sync>(
     rt: &R,
     alloc: Global,
     names: (heat_ledger::NewBook, authority_map::NewMap),
     gate: &G,
     scripts: &[Vec<Work>],
     stopped: Option<Rank>,
-) -> Result<Seen, Fail>
+) -> Seen
     requires book { names.0 ≡ J.ledger }
     requires map { names.1 ≡ J.map }
     requires limit { J.limit ≡ 8 }
     requires two { length scripts.now ≡ 2 }
 {
     let (book, map) = names;
-    let (mut board, shares) = open::<J, R>(rt, alloc, book, map)?;
+    let (mut board, shares) = open::<J, R>(rt, alloc, book, map);
     if let Some(rank) = stopped {
         let _stopped = board.step(alloc, Event::Stop(rank));
     }
@@ -122,19 +116,19 @@ fn serve<J: Naming + Send + Sync, R: Threads + Wait + Sync, G: Gate + Sync>(
     let entries = board.history().len();
     board.end();
     let Ok(mut ranks) = done else {
-        return Err("no memory".into());
+        panic!(rt; "no memory");
     };
     if ranks.deposited.is_err() {
-        return Err("no deposit".into());
+        panic!(rt; "no deposit");
     }
     match (ranks.answers.pop(), ranks.answers.pop()) {
-        (Some(second), Some(first)) => Ok(Seen {
+        (Some(second), Some(first)) => Seen {
             first,
             second,
             entries,
             heat,
-        }),
-        _ => Err("no answers".into()),
+        },
+        _ => panic!(rt; "no answers"),
     }
 }
 
@@ -149,15 +143,16 @@ pub(crate) fn names(
 
 // Whatever the schedule: rank 0 serves /a, which rank 1 doesn't, and nobody serves a directory that isn't there.
 #[test]
-fn ranks_answer_their_requests(rt: HostRuntime) -> Result<(), Fail> {
+fn ranks_answer_their_requests(rt: HostRuntime) {
     let all = scripts(
         rt.alloc(),
         &[work(0, 3), work(1, 5), work(7, 1)],
         &[work(1, 2), work(7, 2)],
-    )?;
+    )
+    .expect(&rt, "it failed");
     for _ in 0..100u32 {
-        let given = names(rt.alloc())?;
-        let seen = serve::<Brand, _, _>(&rt, rt.alloc(), given, &JitterGate, &all, None)?;
+        let given = names(rt.alloc()).sure(&rt);
+        let seen = serve::<Brand, _, _>(&rt, rt.alloc(), given, &JitterGate, &all, None);
         let first = seen.first.as_slice();
         let no_dir = refused(StepError::NoDir);
         same(
@@ -165,7 +160,7 @@ fn ranks_answer_their_requests(rt: HostRuntime) -> Result<(), Fail> {
             &first,
             &[served(0, 3), served(1, 5), no_dir].as_slice(),
         );
-        let elsewhere = refused(StepError::Elsewhere(rank(0)?));
+        let elsewhere = refused(StepError::Elsewhere(rank(&rt, 0)));
         same(
             &rt,
             &seen.second.as_slice(),
@@ -174,31 +169,28 @@ fn ranks_answer_their_requests(rt: HostRuntime) -> Result<(), Fail> {
         same(&rt, &seen.heat, &5);
         same(&rt, &seen.entries, &7);
     }
-    Ok(())
 }
 
 // The requests of a stopped rank are refused, and end nowhere.
 #[test]
-fn a_stopped_rank_refuses(rt: HostRuntime) -> Result<(), Fail> {
-    let all = scripts(rt.alloc(), &[work(1, 5)], &[work(1, 2)])?;
-    let given = names(rt.alloc())?;
-    let stop = Some(rank(0)?);
-    let seen = serve::<Brand, _, _>(&rt, rt.alloc(), given, &JitterGate, &all, stop)?;
-    let stopped = refused(StepError::Stopped(rank(0)?));
+fn a_stopped_rank_refuses(rt: HostRuntime) {
+    let all = scripts(rt.alloc(), &[work(1, 5)], &[work(1, 2)]).expect(&rt, "it failed");
+    let given = names(rt.alloc()).sure(&rt);
+    let stop = Some(rank(&rt, 0));
+    let seen = serve::<Brand, _, _>(&rt, rt.alloc(), given, &JitterGate, &all, stop);
+    let stopped = refused(StepError::Stopped(rank(&rt, 0)));
     same(&rt, &seen.first.as_slice(), &[stopped].as_slice());
     same(&rt, &seen.heat, &0);
     same(&rt, &seen.entries, &4);
-    Ok(())
 }
 
 // Both ranks are inside a request at once: neither runs after the other, nor holds the lock between begin and end.
 #[test]
-fn requests_of_two_ranks_meet(rt: HostRuntime) -> Result<(), Fail> {
-    let all = scripts(rt.alloc(), &[work(1, 5)], &[work(1, 2)])?;
+fn requests_of_two_ranks_meet(rt: HostRuntime) {
+    let all = scripts(rt.alloc(), &[work(1, 5)], &[work(1, 2)]).expect(&rt, "it failed");
     let gate = MeetingGate::new();
-    let given = names(rt.alloc())?;
-    let seen = serve::<Brand, _, _>(&rt, rt.alloc(), given, &gate, &all, None)?;
+    let given = names(rt.alloc()).sure(&rt);
+    let seen = serve::<Brand, _, _>(&rt, rt.alloc(), given, &gate, &all, None);
     same(&rt, &gate.met(), &2);
     same(&rt, &seen.heat, &5);
-    Ok(())
 }

@@ -4,7 +4,7 @@ ghost use Rattle.std.specs.Prelude.{◌≡◌};
 use crate::boards::{open, orders, rank, serve};
 use crate::gates::JitterGate;
 use crate::requests::{names, refused, scripts, served, work};
-use crate::same::same;
+use crate::same::{Sure, same};
 use authority_map::Publisher;
 use export_machine::{Event, StepError};
 use heat_ledger::Share;
@@ -15,7 +15,6 @@ use std::alloc::Global;
 use std::marker::{Brand, Send, Sync};
 use std::process::Abort;
 use std::sync::Wait;
-use std::test::Fail;
 use std::thread::Threads;
 
 // What is done to a board of two ranks with directory 1.
@@ -69,42 +68,40 @@ fn step<J: Naming + Send + Sync, M: Publisher<J> + Send, R: Threads + Wait + Syn
 }
 
 // The answers of both ranks in each phase, rank 0's first.
-fn play<J: Naming + Send + Sync, R: Threads + Wait + Sync>(
+fn play<J: Naming + Send + Sync, R: Abort + Threads + Wait + Sync>(
     rt: &R,
     alloc: Global,
     names: (heat_ledger::NewBook, authority_map::NewMap),
     steps: &[Do],
-) -> Result<Vec<WorkAnswer>, Fail>
+) -> Vec<WorkAnswer>
     requires book { names.0 ≡ J.ledger }
     requires map { names.1 ≡ J.map }
     requires limit { J.limit ≡ 128 }
 {
-    let scripts = scripts(alloc, &[work(1, 2)], &[work(1, 2)])?;
+    let scripts = scripts(alloc, &[work(1, 2)], &[work(1, 2)]).sure(rt);
     let mut told = Vec::new(alloc);
-    let (mut board, mut shares) = open::<J, R>(rt, alloc, names, 2, 1)?;
+    let (mut board, mut shares) = open::<J, R>(rt, alloc, names, 2, 1).sure(rt);
     for next in steps {
         let (after, back) = step(rt, alloc, board, &scripts, shares, *next, &mut told);
         board = after;
         shares = back;
     }
     board.end();
-    Ok(told)
+    told
 }
 
 // Whatever the schedule, the answers are these.
-fn answers_are<R: Threads + Wait + Sync>(
-    rt: &impl Abort,
-    threads: &R,
+fn answers_are<R: Abort + Threads + Wait + Sync>(
+    rt: &R,
     alloc: Global,
     steps: &[Do],
     answers: &[WorkAnswer],
-) -> Result<(), Fail> {
+) {
     for _ in 0..100u32 {
-        let given = names(alloc)?;
-        let told = play::<Brand, R>(threads, alloc, given, steps)?;
+        let given = names(alloc).sure(rt);
+        let told = play::<Brand, R>(rt, alloc, given, steps);
         same(rt, &told.as_slice(), &answers);
     }
-    Ok(())
 }
 
 fn elsewhere(number: u8) -> WorkAnswer {
@@ -116,7 +113,7 @@ fn stopped(number: u8) -> WorkAnswer {
 }
 
 #[test]
-fn requests_are_served_there_and_back(rt: HostRuntime) -> Result<(), Fail> {
+fn requests_are_served_there_and_back(rt: HostRuntime) {
     let steps = [
         Do::Serve,
         Do::Move(0, 1),
@@ -132,17 +129,17 @@ fn requests_are_served_there_and_back(rt: HostRuntime) -> Result<(), Fail> {
         served(2, 2),
         elsewhere(0),
     ];
-    answers_are(&rt, &rt, rt.alloc(), &steps, &answers)
+    answers_are(&rt, rt.alloc(), &steps, &answers)
 }
 
 #[test]
-fn requests_are_served_past_a_stop(rt: HostRuntime) -> Result<(), Fail> {
+fn requests_are_served_past_a_stop(rt: HostRuntime) {
     let steps = [Do::Move(0, 1), Do::Stop(0), Do::Serve];
-    answers_are(&rt, &rt, rt.alloc(), &steps, &[stopped(0), served(0, 2)])
+    answers_are(&rt, rt.alloc(), &steps, &[stopped(0), served(0, 2)])
 }
 
 #[test]
-fn a_rank_stops_between_two_phases(rt: HostRuntime) -> Result<(), Fail> {
+fn a_rank_stops_between_two_phases(rt: HostRuntime) {
     let steps = [Do::Serve, Do::Stop(0), Do::Serve, Do::Restart(0), Do::Serve];
     let answers = [
         served(0, 2),
@@ -152,5 +149,5 @@ fn a_rank_stops_between_two_phases(rt: HostRuntime) -> Result<(), Fail> {
         served(1, 2),
         elsewhere(0),
     ];
-    answers_are(&rt, &rt, rt.alloc(), &steps, &answers)
+    answers_are(&rt, rt.alloc(), &steps, &answers)
 }

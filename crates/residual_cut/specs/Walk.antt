@@ -15,7 +15,8 @@ is_handled rows m v j = nat_le m j && is_child rows v j
 -- Rows whose parent stands before row s are not cut yet.
 pub record IsWalk (rows : List ProblemRow) (cuts rest price : ℕ → ℕ) (cut : ℕ → Bool) (bound m s : ℕ) : Type 0 where
   pub rest_is : (v : ℕ) → v < length rows
-      → rest v ≡ heat_at rows v + sum_below (length rows) (λ j. if is_handled rows m v j then (if cut j then 0 else rest j) else 0)
+      → rest v ≡ heat_at rows v
+      + sum_below (length rows) (λ j. if is_handled rows m v j then (if cut j then 0 else rest j) else 0)
   pub cuts_is : (v : ℕ) → v < length rows
       → cuts v ≡ sum_below (length rows) (λ j. if is_handled rows m v j then cuts j + (if cut j then 1 else 0) else 0)
   pub kept : (v j : ℕ) → j < length rows → is_handled rows m v j ≡ true → cut j ≡ false → rest j ≤ price v

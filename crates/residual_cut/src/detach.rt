@@ -24,6 +24,17 @@ use std::collections::BinaryHeap;
 /// have more to cut.
 const FIRST: u32 = 128;
 
+/// What is the same for each row of a walk.
+#[derive(Clone, Copy)]
+pub struct Walk<'a> {
+    /// The rows.
+    pub rows: &'a [ProblemRow],
+    /// Their children.
+    pub links: &'a Links,
+    /// No piece is to be hotter, in accesses.
+    pub bound: u64,
+}
+
 /// Meets the child of this row, if it is not cut.
 #[inline(always)]
 fn meet_free(hottest: &mut Hottest, table: &[Row], row: u32, most: usize) -> Result<(), AllocError>
@@ -50,29 +61,29 @@ fn meet_free(hottest: &mut Hottest, table: &[Row], row: u32, most: usize) -> Res
 /// The hottest children of row `i` that are not cut: at least `most`, or all.
 fn hottest_left(
     alloc: Global,
-    rows: &[ProblemRow],
-    links: &Links,
+    of: Walk<'_>,
     table: &[Row],
     i: usize,
     most: usize,
 ) -> Result<Hottest, AllocError>
-    requires forest { IsForest rows.now }
-    requires inside { i < length rows.now }
-    requires size { length table.now ≡ length rows.now }
-    requires linked { IsLinked rows.now links.now.first.items links.now.next.items 1 }
+    requires forest { IsForest of.rows.now }
+    requires inside { i < length of.rows.now }
+    requires size { length table.now ≡ length of.rows.now }
+    requires linked { IsLinked of.rows.now of.links.now.first.items of.links.now.next.items 1 }
     requires some { 0 < most }
     requires few { most < 2 ^ 32 }
     ensures { IfOk result (λ hottest.
-        AreHottest rows.now (rest_at table.now) (is_free table.now) i most hottest.floor hottest.children.items) }
+        AreHottest of.entry.rows.now (rest_at table.now) (is_free table.now) i most hottest.floor
+        hottest.children.items) }
 {
     let mut hottest = Hottest {
         children: Vec::new(alloc),
         floor: 0,
     };
-    let mut row = links.first[i];
+    let mut row = of.links.first[i];
     while row != 0 {
         meet_free(&mut hottest, table, row, most)?;
-        row = links.next[row as usize];
+        row = of.links.next[row as usize];
     }
     Ok(hottest)
 }
@@ -106,28 +117,26 @@ fn cut_child(table: &mut [Row], i: usize, child: Child)
 /// `most` are cut, and tells how many are.
 fn cut_some(
     alloc: Global,
-    rows: &[ProblemRow],
-    links: &Links,
+    of: Walk<'_>,
     table: &mut [Row],
     i: usize,
-    bound: u64,
     most: u32,
 ) -> Result<u32, AllocError>
-    requires forest { IsForest rows.now }
-    requires inside { i < length rows.now }
-    requires linked { IsLinked rows.now links.now.first.items links.now.next.items 1 }
-    requires cool { (v : ℕ) → v < length rows.now → heat_at rows.now v ≤ bound }
+    requires forest { IsForest of.rows.now }
+    requires inside { i < length of.rows.now }
+    requires linked { IsLinked of.rows.now of.links.now.first.items of.links.now.next.items 1 }
+    requires cool { (v : ℕ) → v < length of.rows.now → heat_at of.rows.now v ≤ of.bound }
     requires some { 0 < most }
-    requires walked { IsWalked rows.now table.old bound (i + 1) i }
-    ensures walked { IfOk result (λ _. IsWalked rows.now table.new bound (i + 1) i) }
-    ensures done { IfOk result (λ count. count < most → rest_at table.new i ≤ bound) }
-    ensures counted { IfOk result (λ count. count_below (length rows.now) (is_cut_at table.new)
-        ≡ count_below (length rows.now) (is_cut_at table.old) + count) }
+    requires walked { IsWalked of.rows.now table.old of.bound (i + 1) i }
+    ensures walked { IfOk result (λ _. IsWalked of.entry.rows.now table.new of.entry.bound (i + 1) i) }
+    ensures done { IfOk result (λ count. count < most → rest_at table.new i ≤ of.entry.bound) }
+    ensures counted { IfOk result (λ count. count_below (length of.entry.rows.now) (is_cut_at table.new)
+        ≡ count_below (length of.entry.rows.now) (is_cut_at table.old) + count) }
 {
-    let hottest = hottest_left(alloc, rows, links, table, i, most as usize)?;
+    let hottest = hottest_left(alloc, of, table, i, most as usize)?;
     let mut heap = BinaryHeap::from(hottest.children);
     for cut in 0..most {
-        if table[i].rest <= bound {
+        if table[i].rest <= of.bound {
             return Ok(cut);
         }
         let Some(child) = heap.pop() else {
@@ -141,27 +150,20 @@ fn cut_some(
 /// Cuts children from row `i`, which is hotter than the bound, the largest rest first, until what is
 /// left there is within the bound.
 #[inline(never)]
-fn cut_hottest(
-    alloc: Global,
-    rows: &[ProblemRow],
-    links: &Links,
-    table: &mut [Row],
-    i: usize,
-    bound: u64,
-) -> Result<(), AllocError>
-    requires forest { IsForest rows.now }
-    requires inside { i < length rows.now }
-    requires linked { IsLinked rows.now links.now.first.items links.now.next.items 1 }
-    requires cool { (v : ℕ) → v < length rows.now → heat_at rows.now v ≤ bound }
-    requires walked { IsWalked rows.now table.old bound (i + 1) (i + 1) }
-    ensures walked { OnOk result (IsWalked rows.now table.new bound (i + 1) i) }
-    ensures done { OnOk result (rest_at table.new i ≤ bound) }
+fn cut_hottest(alloc: Global, of: Walk<'_>, table: &mut [Row], i: usize) -> Result<(), AllocError>
+    requires forest { IsForest of.rows.now }
+    requires inside { i < length of.rows.now }
+    requires linked { IsLinked of.rows.now of.links.now.first.items of.links.now.next.items 1 }
+    requires cool { (v : ℕ) → v < length of.rows.now → heat_at of.rows.now v ≤ of.bound }
+    requires walked { IsWalked of.rows.now table.old of.bound (i + 1) (i + 1) }
+    ensures walked { OnOk result (IsWalked of.entry.rows.now table.new of.entry.bound (i + 1) i) }
+    ensures done { OnOk result (rest_at table.new i ≤ of.entry.bound) }
 {
-    let count = cut_some(alloc, rows, links, table, i, bound, FIRST)?;
+    let count = cut_some(alloc, of, table, i, FIRST)?;
     if count < FIRST {
         return Ok(());
     }
-    cut_some(alloc, rows, links, table, i, bound, rows.len() as u32 + 1)?;
+    cut_some(alloc, of, table, i, of.rows.len() as u32 + 1)?;
     Ok(())
 }
 
@@ -170,22 +172,20 @@ fn cut_hottest(
 #[inline(always)]
 pub fn cut_children(
     alloc: Global,
-    rows: &[ProblemRow],
-    links: &Links,
+    of: Walk<'_>,
     table: &mut [Row],
     i: usize,
-    bound: u64,
 ) -> Result<(), AllocError>
-    requires forest { IsForest rows.now }
-    requires inside { i < length rows.now }
-    requires linked { IsLinked rows.now links.now.first.items links.now.next.items 1 }
-    requires cool { (v : ℕ) → v < length rows.now → heat_at rows.now v ≤ bound }
-    requires walked { IsWalked rows.now table.old bound (i + 1) (i + 1) }
-    ensures walked { OnOk result (IsWalked rows.now table.new bound (i + 1) i) }
-    ensures done { OnOk result (rest_at table.new i ≤ bound) }
+    requires forest { IsForest of.rows.now }
+    requires inside { i < length of.rows.now }
+    requires linked { IsLinked of.rows.now of.links.now.first.items of.links.now.next.items 1 }
+    requires cool { (v : ℕ) → v < length of.rows.now → heat_at of.rows.now v ≤ of.bound }
+    requires walked { IsWalked of.rows.now table.old of.bound (i + 1) (i + 1) }
+    ensures walked { OnOk result (IsWalked of.entry.rows.now table.new of.entry.bound (i + 1) i) }
+    ensures done { OnOk result (rest_at table.new i ≤ of.entry.bound) }
 {
-    if table[i].rest > bound {
-        return cut_hottest(alloc, rows, links, table, i, bound);
+    if table[i].rest > of.bound {
+        return cut_hottest(alloc, of, table, i);
     }
     Ok(())
 }

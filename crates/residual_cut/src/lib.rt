@@ -20,4 +20,4 @@ mod walk;
 pub use cut::{Cut, CutError, cut_at, cut_cool, cut_linked, table_linked};
 pub use links::{Links, link};
 pub use probe::{Probe, try_bound};
-pub use subtrees::{Subtrees, weigh};
+pub use subtrees::{Subtrees, Weighed, weigh};

@@ -13,8 +13,7 @@ ghost use Rattle.residual_cut.specs.Probing.{IsProbed, IsSeenWith};
 ghost use Rattle.residual_cut.specs.Subtrees.{AreLightWhole, AreSubtrees};
 
 use crate::hottest::hottest_children;
-use crate::subtrees::{Subtrees, hot_row, restore};
-use mds_types::ProblemRow;
+use crate::subtrees::{Weighed, hot_row, restore};
 use std::alloc::{AllocError, Global};
 use std::collections::BinaryHeap;
 
@@ -53,34 +52,32 @@ fn with_cut(seen: Seen, sum: u64, piece: u64) -> Seen
 }
 
 /// Cuts the hottest children from row `i`, which is hotter than the bound, until the rest is within it, or
-/// `most` rows are cut.
+/// as many rows are cut as there are ranks.
 #[inline(never)]
 fn cut_hot_row(
     alloc: Global,
-    rows: &[ProblemRow],
-    trees: &Subtrees,
+    of: Weighed<'_>,
     rest: &mut [u64],
     i: usize,
     bound: u64,
-    most: u32,
     seen: &mut Seen,
 ) -> Result<(), AllocError>
-    requires forest { IsForest rows.now }
-    requires inside { i < length rows.now }
-    requires trees { AreSubtrees rows.now trees.now }
-    requires room { length rest.old ≡ length rows.now }
-    requires cool { (v : ℕ) → v < length rows.now → heat_at rows.now v ≤ bound }
-    requires few { seen.old.cuts < most }
-    requires probed { IsProbed rows.now (slice_index trees.now.heat.items) (slice_index rest.old) bound (i + 1)
+    requires forest { IsForest of.rows.now }
+    requires inside { i < length of.rows.now }
+    requires trees { AreSubtrees of.rows.now of.trees.now }
+    requires room { length rest.old ≡ length of.rows.now }
+    requires cool { (v : ℕ) → v < length of.rows.now → heat_at of.rows.now v ≤ bound }
+    requires few { seen.old.cuts < of.ranks }
+    requires probed { IsProbed of.rows.now (slice_index of.trees.now.heat.items) (slice_index rest.old) bound (i + 1)
         (i + 1) seen.old }
-    ensures room { length rest.new ≡ length rows.now }
-    ensures probed { OnOk result (IsProbed rows.now (slice_index trees.now.heat.items) (slice_index rest.new) bound
-        (i + 1) i seen.new) }
-    ensures done { OnOk result (seen.new.cuts < most → slice_index rest.new i ≤ bound) }
+    ensures room { length rest.new ≡ length of.entry.rows.now }
+    ensures probed { OnOk result (IsProbed of.entry.rows.now (slice_index of.entry.trees.now.heat.items)
+        (slice_index rest.new) bound (i + 1) i seen.new) }
+    ensures done { OnOk result (seen.new.cuts < of.entry.ranks → slice_index rest.new i ≤ bound) }
     ensures same { OnErr result (rest.new ≡ rest.old) }
 {
-    let left = (most - seen.cuts) as usize;
-    let hottest = hottest_children(alloc, rows, &trees.links, rest, i, left)?;
+    let left = (of.ranks - seen.cuts) as usize;
+    let hottest = hottest_children(alloc, of.rows, &of.trees.links, rest, i, left)?;
     let mut heap = BinaryHeap::from(hottest.children);
     for _ in 0..left {
         if rest[i] <= bound {
@@ -95,48 +92,45 @@ fn cut_hot_row(
     Ok(())
 }
 
-/// Cuts the hottest children from row `i` until the rest, which is `here`, is within the bound, or `most` rows
-/// are cut, and tells what is left. Most rows are within the bound as they are.
-#[inline(always)]
-fn cut_row(
-    alloc: Global,
-    rows: &[ProblemRow],
-    trees: &Subtrees,
-    rest: &mut [u64],
-    i: usize,
-    here: u64,
-    bound: u64,
-    most: u32,
-    seen: &mut Seen,
-) -> Result<u64, AllocError>
-    requires forest { IsForest rows.now }
-    requires inside { i < length rows.now }
-    requires trees { AreSubtrees rows.now trees.now }
-    requires room { length rest.old ≡ length rows.now }
-    requires here { here ≡ slice_index rest.old i }
-    requires cool { (v : ℕ) → v < length rows.now → heat_at rows.now v ≤ bound }
-    requires few { seen.old.cuts < most }
-    requires probed { IsProbed rows.now (slice_index trees.now.heat.items) (slice_index rest.old) bound (i + 1)
-        (i + 1) seen.old }
-    ensures room { length rest.new ≡ length rows.now }
-    ensures probed { OnOk result (IsProbed rows.now (slice_index trees.now.heat.items) (slice_index rest.new) bound
-        (i + 1) i seen.new) }
-    ensures left { IfOk result (λ left. left ≡ slice_index rest.new i) }
-    ensures done { OnOk result (seen.new.cuts < most → slice_index rest.new i ≤ bound) }
-    ensures same { OnErr result (rest.new ≡ rest.old) }
-{
-    if here > bound {
-        cut_hot_row(alloc, rows, trees, rest, i, bound, most, seen)?;
-        return Ok(rest[i]);
-    }
-    Ok(here)
-}
-
 /// A row and what is left there, which is not read from memory again where the row comes next.
 #[derive(Clone, Copy)]
 struct Left {
     row: usize,
     rest: u64,
+}
+
+/// Cuts the hottest children from a row until the rest, which is `here`, is within the bound, or as many rows are
+/// cut as there are ranks, and tells what is left. Most rows are within the bound as they are.
+#[inline(always)]
+fn cut_row(
+    alloc: Global,
+    of: Weighed<'_>,
+    rest: &mut [u64],
+    here: Left,
+    bound: u64,
+    seen: &mut Seen,
+) -> Result<u64, AllocError>
+    requires forest { IsForest of.rows.now }
+    requires inside { here.row < length of.rows.now }
+    requires trees { AreSubtrees of.rows.now of.trees.now }
+    requires room { length rest.old ≡ length of.rows.now }
+    requires here { here.rest ≡ slice_index rest.old here.row }
+    requires cool { (v : ℕ) → v < length of.rows.now → heat_at of.rows.now v ≤ bound }
+    requires few { seen.old.cuts < of.ranks }
+    requires probed { IsProbed of.rows.now (slice_index of.trees.now.heat.items) (slice_index rest.old) bound
+        (here.row + 1) (here.row + 1) seen.old }
+    ensures room { length rest.new ≡ length of.entry.rows.now }
+    ensures probed { OnOk result (IsProbed of.entry.rows.now (slice_index of.entry.trees.now.heat.items)
+        (slice_index rest.new) bound (here.row + 1) here.row seen.new) }
+    ensures left { IfOk result (λ left. left ≡ slice_index rest.new here.row) }
+    ensures done { OnOk result (seen.new.cuts < of.entry.ranks → slice_index rest.new here.row ≤ bound) }
+    ensures same { OnErr result (rest.new ≡ rest.old) }
+{
+    if here.rest > bound {
+        cut_hot_row(alloc, of, rest, here.row, bound, seen)?;
+        return Ok(rest[here.row]);
+    }
+    Ok(here.rest)
 }
 
 /// What is left at row `i`.
@@ -151,30 +145,25 @@ fn rest_of(rest: &[u64], known: Left, i: usize) -> u64
 
 /// What was cut off below row `i`, where `left` is left, is taken from its parent too.
 #[inline(always)]
-fn take_from_parent(
-    rows: &[ProblemRow],
-    trees: &Subtrees,
-    rest: &mut [u64],
-    i: usize,
-    left: u64,
-) -> Left
-    requires forest { IsForest rows.now }
-    requires inside { i < length rows.now }
+fn take_from_parent(of: Weighed<'_>, rest: &mut [u64], i: usize, left: u64) -> Left
+    requires forest { IsForest of.rows.now }
+    requires inside { i < length of.rows.now }
     requires deep { 0 < i }
-    requires trees { AreSubtrees rows.now trees.now }
-    requires room { length rest.old ≡ length rows.now }
+    requires trees { AreSubtrees of.rows.now of.trees.now }
+    requires room { length rest.old ≡ length of.rows.now }
     requires left { left ≡ slice_index rest.old i }
-    requires less { slice_index rest.old i ≤ slice_index trees.now.heat.items i }
-    requires enough { slice_index trees.now.heat.items i - slice_index rest.old i
-        ≤ slice_index rest.old (parent_at rows.now i) }
-    ensures room { length rest.new ≡ length rows.now }
-    ensures here { slice_index rest.new (parent_at rows.now i) ≡ slice_index rest.old (parent_at rows.now i)
-        - (slice_index trees.now.heat.items i - slice_index rest.old i) }
-    ensures other { (v : ℕ) → v ≢ parent_at rows.now i → slice_index rest.new v ≡ slice_index rest.old v }
+    requires less { slice_index rest.old i ≤ slice_index of.trees.now.heat.items i }
+    requires enough { slice_index of.trees.now.heat.items i - slice_index rest.old i
+        ≤ slice_index rest.old (parent_at of.rows.now i) }
+    ensures room { length rest.new ≡ length of.entry.rows.now }
+    ensures here { slice_index rest.new (parent_at of.entry.rows.now i)
+        ≡ slice_index rest.old (parent_at of.entry.rows.now i)
+        - (slice_index of.entry.trees.now.heat.items i - slice_index rest.old i) }
+    ensures other { (v : ℕ) → v ≢ parent_at of.entry.rows.now i → slice_index rest.new v ≡ slice_index rest.old v }
     ensures known { result.rest ≡ slice_index rest.new result.row }
 {
-    let row = rows[i].parent as usize;
-    let rest_there = rest[row] - (trees.heat[i] - left);
+    let row = of.rows[i].parent as usize;
+    let rest_there = rest[row] - (of.trees.heat[i] - left);
     rest[row] = rest_there;
     Left {
         row,
@@ -182,31 +171,33 @@ fn take_from_parent(
     }
 }
 
-/// Cuts rows from the last one up until each piece is within the bound, or `most` are cut.
+/// Cuts rows from the last one up until each piece is within the bound, or as many are cut as there are
+/// ranks.
 fn probe_rows(
     alloc: Global,
-    rows: &[ProblemRow],
-    trees: &Subtrees,
+    of: Weighed<'_>,
     rest: &mut [u64],
     bound: u64,
-    most: u32,
 ) -> Result<Seen, AllocError>
-    requires forest { IsForest rows.now }
-    requires some { 0 < length rows.now }
-    requires trees { AreSubtrees rows.now trees.now }
-    requires cool { (v : ℕ) → v < length rows.now → heat_at rows.now v ≤ bound }
-    requires most { 0 < most }
-    requires low { trees.now.low ≤ bound }
-    requires room { length rest.old ≡ length rows.now }
-    requires whole { (v : ℕ) → v < length rows.now → slice_index rest.old v ≡ slice_index trees.now.heat.items v }
-    ensures few { IfOk result (λ seen. seen.cuts < most
-        → HasFew rows.now most (max seen.hottest (slice_index rest.new 0))) }
-    ensures within { IfOk result (λ seen. seen.cuts < most → max seen.hottest (slice_index rest.new 0) ≤ bound) }
-    ensures room { length rest.new ≡ length rows.now }
-    ensures light { AreLightWhole (length rows.now) trees.now.low (slice_index trees.now.heat.items)
-        (slice_index rest.new) }
-    ensures above { IfOk result (λ seen. most ≤ seen.cuts → bound < seen.above) }
-    ensures more { IfOk result (λ seen. most ≤ seen.cuts → NeedsMore rows.now most (seen.above - 1)) }
+    requires forest { IsForest of.rows.now }
+    requires some { 0 < length of.rows.now }
+    requires trees { AreSubtrees of.rows.now of.trees.now }
+    requires cool { (v : ℕ) → v < length of.rows.now → heat_at of.rows.now v ≤ bound }
+    requires ranks { 0 < of.ranks }
+    requires low { of.trees.now.low ≤ bound }
+    requires room { length rest.old ≡ length of.rows.now }
+    requires whole { (v : ℕ) → v < length of.rows.now
+        → slice_index rest.old v ≡ slice_index of.trees.now.heat.items v }
+    ensures few { IfOk result (λ seen. seen.cuts < of.entry.ranks
+        → HasFew of.entry.rows.now of.entry.ranks (max seen.hottest (slice_index rest.new 0))) }
+    ensures within { IfOk result (λ seen. seen.cuts < of.entry.ranks
+        → max seen.hottest (slice_index rest.new 0) ≤ bound) }
+    ensures room { length rest.new ≡ length of.entry.rows.now }
+    ensures light { AreLightWhole (length of.entry.rows.now) of.entry.trees.now.low
+        (slice_index of.entry.trees.now.heat.items) (slice_index rest.new) }
+    ensures above { IfOk result (λ seen. of.entry.ranks ≤ seen.cuts → bound < seen.above) }
+    ensures more { IfOk result (λ seen. of.entry.ranks ≤ seen.cuts
+        → NeedsMore of.entry.rows.now of.entry.ranks (seen.above - 1)) }
 {
     let mut seen = Seen {
         cuts: 0,
@@ -217,57 +208,62 @@ fn probe_rows(
         row: 0,
         rest: rest[0],
     };
-    for k in 0..trees.hot.len() {
-        let i = hot_row(rows, trees, k);
-        let here = rest_of(rest, known, i);
-        let left = cut_row(alloc, rows, trees, rest, i, here, bound, most, &mut seen)?;
-        if seen.cuts >= most {
+    for k in 0..of.trees.hot.len() {
+        let i = hot_row(of.rows, of.trees, k);
+        let here = Left {
+            row: i,
+            rest: rest_of(rest, known, i),
+        };
+        let left = cut_row(alloc, of, rest, here, bound, &mut seen)?;
+        if seen.cuts >= of.ranks {
             return Ok(seen);
         }
-        known = take_from_parent(rows, trees, rest, i, left);
+        known = take_from_parent(of, rest, i, left);
     }
-    let root = rest_of(rest, known, 0);
-    cut_row(alloc, rows, trees, rest, 0, root, bound, most, &mut seen)?;
+    let root = Left {
+        row: 0,
+        rest: rest_of(rest, known, 0),
+    };
+    cut_row(alloc, of, rest, root, bound, &mut seen)?;
     Ok(seen)
 }
 
-/// Whether the rows, none of which is hotter than the bound, can be divided into at most `ranks`
-/// parts within the bound. It ends as soon as too many rows are cut, and is counted in `passes`.
+/// Whether the rows, none of which is hotter than the bound, can be divided into at most as many parts
+/// within the bound as there are ranks. It ends as soon as too many rows are cut, and is counted in `passes`.
 ///
 /// The room of `rest` is used for the walk. Before it and after it, for want of memory too, each row
 /// whose subtree is within the lower end has the heat of its whole subtree there.
 pub fn try_bound(
     alloc: Global,
-    rows: &[ProblemRow],
-    trees: &Subtrees,
+    of: Weighed<'_>,
     rest: &mut [u64],
     bound: u64,
-    ranks: u32,
     passes: &mut u32,
 ) -> Result<Probe, AllocError>
     requires count { passes.old < 2 ^ 32 - 1 }
-    requires forest { IsForest rows.now }
-    requires some { 0 < length rows.now }
-    requires trees { AreSubtrees rows.now trees.now }
-    requires cool { (v : ℕ) → v < length rows.now → heat_at rows.now v ≤ bound }
-    requires ranks { 0 < ranks }
-    requires low { trees.now.low ≤ bound }
-    requires room { length rest.old ≡ length rows.now }
-    requires light { AreLightWhole (length rows.now) trees.now.low (slice_index trees.now.heat.items)
+    requires forest { IsForest of.rows.now }
+    requires some { 0 < length of.rows.now }
+    requires trees { AreSubtrees of.rows.now of.trees.now }
+    requires cool { (v : ℕ) → v < length of.rows.now → heat_at of.rows.now v ≤ bound }
+    requires ranks { 0 < of.ranks }
+    requires low { of.trees.now.low ≤ bound }
+    requires room { length rest.old ≡ length of.rows.now }
+    requires light { AreLightWhole (length of.rows.now) of.trees.now.low (slice_index of.trees.now.heat.items)
         (slice_index rest.old) }
-    ensures room { length rest.new ≡ length rows.now }
-    ensures light { AreLightWhole (length rows.now) trees.now.low (slice_index trees.now.heat.items)
-        (slice_index rest.new) }
-    ensures fits { IfOk result (IfFits (λ heat. HasFew rows.now ranks heat × (heat ≤ bound))) }
-    ensures too_many { IfOk result (IfTooMany (λ above. (bound < above) × NeedsMore rows.now ranks (above - 1))) }
+    ensures room { length rest.new ≡ length of.entry.rows.now }
+    ensures light { AreLightWhole (length of.entry.rows.now) of.entry.trees.now.low
+        (slice_index of.entry.trees.now.heat.items) (slice_index rest.new) }
+    ensures fits { IfOk result (IfFits (λ heat. HasFew of.entry.rows.now of.entry.ranks heat × (heat ≤ bound))) }
+    ensures too_many { IfOk result (IfTooMany (λ above.
+        (bound < above) × NeedsMore of.entry.rows.now of.entry.ranks (above - 1))) }
     ensures passes { OnOk result (passes.new ≡ passes.old + 1) }
     ensures uncounted { OnErr result (passes.new ≡ passes.old) }
 {
-    restore(rows, trees, rest);
-    let seen = probe_rows(alloc, rows, trees, rest, bound, ranks)?;
+    restore(of.rows, of.trees, rest);
+    let seen = probe_rows(alloc, of, rest, bound)?;
     *passes += 1;
-    if seen.cuts >= ranks {
-        return Ok(Probe::TooMany(seen.above));
+    if seen.cuts < of.ranks {
+        return Ok(Probe::Fits(seen.hottest.max(rest[0])));
     }
-    Ok(Probe::Fits(seen.hottest.max(rest[0])))
+    Ok(Probe::TooMany(seen.above))
 }

@@ -21,6 +21,18 @@ pub struct Subtrees {
     pub hot: Vec<u32>,
 }
 
+/// Rows whose subtrees are weighed, and among how many ranks they are to be divided: a search's probes have it in
+/// common.
+#[derive(Clone, Copy)]
+pub struct Weighed<'a> {
+    /// The rows.
+    pub rows: &'a [ProblemRow],
+    /// Their subtrees.
+    pub trees: &'a Subtrees,
+    /// There are to be no more parts.
+    pub ranks: u32,
+}
+
 /// Each row, from the last one up, gives its heat to its parent.
 fn gather(rows: &[ProblemRow], heat: &mut [u64])
     requires forest { IsForest rows.now }

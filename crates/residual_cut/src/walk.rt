@@ -12,7 +12,7 @@ ghost use Rattle.mds_types.specs.declared.problem.ProblemRow.{ProblemRow as Prob
 ghost use Rattle.residual_cut.specs.Links.{IsLinked};
 ghost use Rattle.residual_cut.specs.Walk.{IsGivenRow, IsWalked, first_row};
 
-use crate::detach::cut_children;
+use crate::detach::{Walk, cut_children};
 use crate::links::Links;
 use mds_types::{ProblemRow, Row};
 use std::alloc::{AllocError, Global};
@@ -63,10 +63,11 @@ pub fn cut_table(
     ensures table { OnOk result (IsCutTable rows.now table.new bound) }
     ensures counted { OnOk result (cuts_at table.new 0 ≡ count_below (length rows.now) (is_cut_at table.new)) }
 {
+    let of = Walk { rows, links, bound };
     for i in (1..rows.len()).rev() {
-        cut_children(alloc, rows, links, table, i, bound)?;
+        cut_children(alloc, of, table, i)?;
         give_to_parent(table, rows[i].parent as usize, i);
     }
-    cut_children(alloc, rows, links, table, 0, bound)?;
+    cut_children(alloc, of, table, 0)?;
     Ok(())
 }

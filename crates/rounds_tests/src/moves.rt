@@ -1,11 +1,11 @@
 //! Moves that are done, aborted, refused and taken up again.
 ghost use Rattle.std.specs.Prelude.{◌≡◌, ◌≤◌};
 
-use crate::boards::open;
-use crate::same::same;
+use crate::boards::board_of;
+use crate::same::{Sure, same};
 use crate::steps::{Do, make, moved, play, rank, stand};
-use authority_map::Publisher;
-use board_state::BoardError;
+use authority_map::{MapWriter, Publisher};
+use board_state::{BoardError, BoardParts};
 use export_machine::{ExporterState, ImporterState, StepError};
 use export_rounds::Outcome;
 use mds_board::Board;
@@ -14,7 +14,6 @@ use std::alloc::Global;
 use std::marker::Brand;
 use std::process::Abort;
 use std::sync::Wait;
-use std::test::Fail;
 
 // What is tried, on a board of three ranks with /a and /b.
 #[derive(Clone, Copy)]
@@ -34,7 +33,7 @@ fn try_case<J: Naming, M: Publisher<J>>(
     alloc: Global,
     board: &mut Board<J, M>,
     case: Case,
-) -> Result<(), Fail> {
+) {
     make(rt, alloc, board, &["a", "b"]);
     match case {
         Case::TwoRanks => two_ranks(rt, alloc, board),
@@ -52,52 +51,41 @@ fn refused(error: StepError) -> Outcome {
     Outcome::Refused(BoardError::Step(error))
 }
 
-fn two_ranks<J: Naming, M: Publisher<J>>(
-    rt: &impl Abort,
-    alloc: Global,
-    board: &mut Board<J, M>,
-) -> Result<(), Fail> {
-    let outcomes = moved(alloc, board, &[(0, 1, 1), (0, 2, 2)])?;
+fn two_ranks<J: Naming, M: Publisher<J>>(rt: &impl Abort, alloc: Global, board: &mut Board<J, M>) {
+    let outcomes = moved(alloc, board, &[(0, 1, 1), (0, 2, 2)]).sure(rt);
     same(
         rt,
         &outcomes.as_slice(),
         &[Outcome::Done(0), Outcome::Done(1)].as_slice(),
     );
     stand(rt, board, &[(0, 0), (1, 1), (2, 2)]);
-    Ok(())
 }
 
 fn stopped_importer<J: Naming, M: Publisher<J>>(
     rt: &impl Abort,
     alloc: Global,
     board: &mut Board<J, M>,
-) -> Result<(), Fail> {
-    play(rt, alloc, board, &[Do::Stop(1)])?;
-    let outcomes = moved(alloc, board, &[(0, 1, 0)])?;
+) {
+    play(rt, alloc, board, &[Do::Stop(1)]);
+    let outcomes = moved(alloc, board, &[(0, 1, 0)]).sure(rt);
     same(rt, &outcomes.as_slice(), &[Outcome::Aborted(0)].as_slice());
     stand(rt, board, &[(0, 0)]);
-    Ok(())
 }
 
 fn stopped_exporter<J: Naming, M: Publisher<J>>(
     rt: &impl Abort,
     alloc: Global,
     board: &mut Board<J, M>,
-) -> Result<(), Fail> {
-    play(rt, alloc, board, &[Do::Stop(0)])?;
-    let outcomes = moved(alloc, board, &[(0, 1, 0)])?;
+) {
+    play(rt, alloc, board, &[Do::Stop(0)]);
+    let outcomes = moved(alloc, board, &[(0, 1, 0)]).sure(rt);
     let wanted = [refused(StepError::Stopped(rank(0)))];
     same(rt, &outcomes.as_slice(), &wanted.as_slice());
-    Ok(())
 }
 
 // Orders that are refused stand between one that is done and one that comes too late.
-fn no_rank<J: Naming, M: Publisher<J>>(
-    rt: &impl Abort,
-    alloc: Global,
-    board: &mut Board<J, M>,
-) -> Result<(), Fail> {
-    let outcomes = moved(alloc, board, &[(3, 0, 1), (0, 3, 1), (0, 1, 1), (1, 0, 1)])?;
+fn no_rank<J: Naming, M: Publisher<J>>(rt: &impl Abort, alloc: Global, board: &mut Board<J, M>) {
+    let outcomes = moved(alloc, board, &[(3, 0, 1), (0, 3, 1), (0, 1, 1), (1, 0, 1)]).sure(rt);
     let wanted = [
         refused(StepError::NoRank),
         refused(StepError::NoRank),
@@ -106,7 +94,6 @@ fn no_rank<J: Naming, M: Publisher<J>>(
     ];
     same(rt, &outcomes.as_slice(), &wanted.as_slice());
     stand(rt, board, &[(1, 1)]);
-    Ok(())
 }
 
 // The exporter stopped before its log entry: the importer hears that the export was aborted.
@@ -114,7 +101,7 @@ fn gives_up_what_was_started<J: Naming, M: Publisher<J>>(
     rt: &impl Abort,
     alloc: Global,
     board: &mut Board<J, M>,
-) -> Result<(), Fail> {
+) {
     let steps = [
         Do::Start(0, 1, 1),
         Do::Deliver(0),
@@ -126,14 +113,13 @@ fn gives_up_what_was_started<J: Naming, M: Publisher<J>>(
         Do::Stop(0),
         Do::Restart(0),
     ];
-    play(rt, alloc, board, &steps)?;
+    play(rt, alloc, board, &steps);
     let left = Some((ExporterState::Aborted, ImporterState::Started));
     same(rt, &board.cluster().states(0), &left);
-    same(rt, &moved(alloc, board, &[])?.len(), &0);
+    same(rt, &moved(alloc, board, &[]).sure(rt).len(), &0);
     let over = Some((ExporterState::Aborted, ImporterState::Dropped));
     same(rt, &board.cluster().states(0), &over);
     stand(rt, board, &[(1, 0)]);
-    Ok(())
 }
 
 // The importer stopped before it was told: it asks, and hears that the directory is its own.
@@ -141,7 +127,7 @@ fn takes_over_what_was_notified<J: Naming, M: Publisher<J>>(
     rt: &impl Abort,
     alloc: Global,
     board: &mut Board<J, M>,
-) -> Result<(), Fail> {
+) {
     let steps = [
         Do::Start(0, 1, 1),
         Do::Deliver(0),
@@ -155,15 +141,14 @@ fn takes_over_what_was_notified<J: Naming, M: Publisher<J>>(
         Do::Stop(1),
         Do::Restart(1),
     ];
-    play(rt, alloc, board, &steps)?;
+    play(rt, alloc, board, &steps);
     let left = Some((ExporterState::Done, ImporterState::Started));
     same(rt, &board.cluster().states(0), &left);
-    let outcomes = moved(alloc, board, &[(0, 2, 2)])?;
+    let outcomes = moved(alloc, board, &[(0, 2, 2)]).sure(rt);
     same(rt, &outcomes.as_slice(), &[Outcome::Done(1)].as_slice());
     let over = Some((ExporterState::Done, ImporterState::Imported));
     same(rt, &board.cluster().states(0), &over);
     stand(rt, board, &[(1, 1), (2, 2)]);
-    Ok(())
 }
 
 // An export of before the phase to a stopped rank isn't aborted at its end, one of the phase is.
@@ -171,28 +156,27 @@ fn earlier_stays<J: Naming, M: Publisher<J>>(
     rt: &impl Abort,
     alloc: Global,
     board: &mut Board<J, M>,
-) -> Result<(), Fail> {
-    play(rt, alloc, board, &[Do::Start(0, 1, 1), Do::Stop(1)])?;
-    let outcomes = moved(alloc, board, &[(0, 1, 2), (0, 2, 1)])?;
+) {
+    play(rt, alloc, board, &[Do::Start(0, 1, 1), Do::Stop(1)]);
+    let outcomes = moved(alloc, board, &[(0, 1, 2), (0, 2, 1)]).sure(rt);
     let wanted = [Outcome::Aborted(1), refused(StepError::Busy(0))];
     same(rt, &outcomes.as_slice(), &wanted.as_slice());
     let earlier = Some((ExporterState::Discovering, ImporterState::Unknown));
     same(rt, &board.cluster().states(0), &earlier);
-    play(rt, alloc, board, &[Do::Restart(1)])?;
-    same(rt, &moved(alloc, board, &[])?.len(), &0);
+    play(rt, alloc, board, &[Do::Restart(1)]);
+    same(rt, &moved(alloc, board, &[]).sure(rt).len(), &0);
     let done = Some((ExporterState::Done, ImporterState::Imported));
     same(rt, &board.cluster().states(0), &done);
     stand(rt, board, &[(1, 1), (2, 0)]);
-    Ok(())
 }
 
 fn there_and_back<J: Naming, M: Publisher<J>>(
     rt: &impl Abort,
     alloc: Global,
     board: &mut Board<J, M>,
-) -> Result<(), Fail> {
+) {
     for turn in 0..3 {
-        let there = moved(alloc, board, &[(0, 1, 1), (0, 1, 2)])?;
+        let there = moved(alloc, board, &[(0, 1, 1), (0, 1, 2)]).sure(rt);
         let first = 4 * turn;
         same(
             rt,
@@ -200,7 +184,7 @@ fn there_and_back<J: Naming, M: Publisher<J>>(
             &([Outcome::Done(first), Outcome::Done(first + 1)].as_slice()),
         );
         stand(rt, board, &[(1, 1), (2, 1)]);
-        let back = moved(alloc, board, &[(1, 0, 2), (1, 0, 1)])?;
+        let back = moved(alloc, board, &[(1, 0, 2), (1, 0, 1)]).sure(rt);
         same(
             rt,
             &back.as_slice(),
@@ -208,7 +192,19 @@ fn there_and_back<J: Naming, M: Publisher<J>>(
         );
         stand(rt, board, &[(1, 0), (2, 0)]);
     }
-    Ok(())
+}
+
+fn on_parts<J: Naming, M: Publisher<J>>(
+    rt: &impl Abort,
+    alloc: Global,
+    parts: BoardParts<J, M>,
+    case: Case,
+)
+    requires limit { J.limit ≡ 8 }
+{
+    let mut board = board_of(rt, alloc, parts, 8, 3);
+    try_case(rt, alloc, &mut board, case);
+    board.end();
 }
 
 fn on_board<J: Naming, R: Wait + Drop>(
@@ -218,64 +214,59 @@ fn on_board<J: Naming, R: Wait + Drop>(
     book: heat_ledger::NewBook,
     map: authority_map::NewMap,
     case: Case,
-) -> Result<(), Fail>
+)
     requires book { book ≡ J.ledger }
     requires map { map ≡ J.map }
     requires limit { J.limit ≡ 8 }
 {
-    let mut board = open::<J, R>(waits, alloc, book, map, 8, 3)?;
-    let done = try_case(rt, alloc, &mut board, case);
-    board.end();
-    done
+    match MapWriter::<J, R>::open(waits, alloc, map, 8, 1) {
+        Ok((writer, _readers)) => on_parts(rt, alloc, BoardParts::new(book, writer), case),
+        Err(_) => panic!(rt; "no map"),
+    }
 }
 
-fn on_a_board<R: Wait + Drop>(
-    rt: &impl Abort,
-    waits: R,
-    alloc: Global,
-    case: Case,
-) -> Result<(), Fail> {
-    let book = heat_ledger::NewBook::new(alloc)?;
+fn on_a_board<R: Wait + Drop>(rt: &impl Abort, waits: R, alloc: Global, case: Case) {
+    let book = heat_ledger::NewBook::new(alloc).sure(rt);
     let map = authority_map::NewMap::new();
     on_board::<Brand, R>(rt, waits, alloc, book, map, case)
 }
 
 #[test]
-fn two_ranks_take_a_directory_each(rt: HostRuntime) -> Result<(), Fail> {
+fn two_ranks_take_a_directory_each(rt: HostRuntime) {
     on_a_board(&rt, &rt, rt.alloc(), Case::TwoRanks)
 }
 
 #[test]
-fn exports_to_a_stopped_rank_are_aborted(rt: HostRuntime) -> Result<(), Fail> {
+fn exports_to_a_stopped_rank_are_aborted(rt: HostRuntime) {
     on_a_board(&rt, &rt, rt.alloc(), Case::StoppedImporter)
 }
 
 #[test]
-fn orders_of_a_stopped_rank_are_refused(rt: HostRuntime) -> Result<(), Fail> {
+fn orders_of_a_stopped_rank_are_refused(rt: HostRuntime) {
     on_a_board(&rt, &rt, rt.alloc(), Case::StoppedExporter)
 }
 
 #[test]
-fn outcomes_are_in_the_order_of_the_orders(rt: HostRuntime) -> Result<(), Fail> {
+fn outcomes_are_in_the_order_of_the_orders(rt: HostRuntime) {
     on_a_board(&rt, &rt, rt.alloc(), Case::NoRank)
 }
 
 #[test]
-fn a_started_import_hears_of_the_abort(rt: HostRuntime) -> Result<(), Fail> {
+fn a_started_import_hears_of_the_abort(rt: HostRuntime) {
     on_a_board(&rt, &rt, rt.alloc(), Case::GivesUpWhatWasStarted)
 }
 
 #[test]
-fn a_started_import_hears_that_it_is_its_own(rt: HostRuntime) -> Result<(), Fail> {
+fn a_started_import_hears_that_it_is_its_own(rt: HostRuntime) {
     on_a_board(&rt, &rt, rt.alloc(), Case::TakesOverWhatWasNotified)
 }
 
 #[test]
-fn exports_of_before_are_not_aborted(rt: HostRuntime) -> Result<(), Fail> {
+fn exports_of_before_are_not_aborted(rt: HostRuntime) {
     on_a_board(&rt, &rt, rt.alloc(), Case::EarlierStays)
 }
 
 #[test]
-fn directories_go_there_and_back(rt: HostRuntime) -> Result<(), Fail> {
+fn directories_go_there_and_back(rt: HostRuntime) {
     on_a_board(&rt, &rt, rt.alloc(), Case::ThereAndBack)
 }

@@ -3,11 +3,11 @@
 //! With `rt try --test --fail-alloc N`, the N-th growth is refused.
 ghost use Rattle.std.specs.Prelude.{◌≡◌};
 
-use crate::boards::open_at_last;
-use crate::same::{holds_in, same, same_in};
+use crate::boards::board_at_last;
+use crate::same::{Sure, holds_in, same, same_in};
 use crate::steps::{rank, stand};
-use authority_map::Publisher;
-use board_state::BoardError;
+use authority_map::{MapWriter, Publisher};
+use board_state::{BoardError, BoardParts};
 use export_machine::{ExporterState, ImporterState};
 use export_rounds::{Outcome, carry_out_orders};
 use mds_board::Board;
@@ -17,7 +17,6 @@ use std::alloc::{AllocError, Global};
 use std::marker::Brand;
 use std::process::Abort;
 use std::sync::Wait;
-use std::test::Fail;
 
 /// What a board says that a phase changes.
 #[derive(Clone, Copy, PartialEq, Eq)]
@@ -119,20 +118,23 @@ fn first_phase<J: Naming, M: Publisher<J>>(
 }
 
 /// What the first phase has left undone further phases do.
-fn phases<J: Naming, M: Publisher<J>>(
-    rt: &impl Abort,
-    alloc: Global,
-    board: &mut Board<J, M>,
-) -> Result<(), Fail> {
+fn phases<J: Naming, M: Publisher<J>>(rt: &impl Abort, alloc: Global, board: &mut Board<J, M>) {
     made_at_last(rt, alloc, board, "a");
     made_at_last(rt, alloc, board, "b");
-    let orders = orders_at_last(alloc)?;
+    let orders = orders_at_last(alloc).sure(rt);
     first_phase(rt, alloc, board, &orders);
     for _ in 0..2 {
         let _outcomes = carry_out_orders(board, alloc, &orders).ok();
     }
     stand(rt, board, &[(0, 0), (1, 1), (2, 1)]);
-    Ok(())
+}
+
+fn on_parts<J: Naming, M: Publisher<J>>(rt: &impl Abort, alloc: Global, parts: BoardParts<J, M>)
+    requires limit { J.limit ≡ 8 }
+{
+    let mut board = board_at_last(rt, alloc, parts);
+    phases(rt, alloc, &mut board);
+    board.end();
 }
 
 fn on_board<J: Naming, R: Wait + Drop + Copy>(
@@ -141,15 +143,19 @@ fn on_board<J: Naming, R: Wait + Drop + Copy>(
     alloc: Global,
     book: heat_ledger::NewBook,
     map: authority_map::NewMap,
-) -> Result<(), Fail>
+)
     requires book { book ≡ J.ledger }
     requires map { map ≡ J.map }
     requires limit { J.limit ≡ 8 }
 {
-    let mut board = open_at_last::<J, R>(waits, alloc, book, map)?;
-    let done = phases(rt, alloc, &mut board);
-    board.end();
-    done
+    let map = match MapWriter::<J, R>::open(waits, alloc, map, 8, 1) {
+        Ok((writer, _readers)) => return on_parts(rt, alloc, BoardParts::new(book, writer)),
+        Err((_error, map)) => map,
+    };
+    match MapWriter::<J, R>::open(waits, alloc, map, 8, 1) {
+        Ok((writer, _readers)) => on_parts(rt, alloc, BoardParts::new(book, writer)),
+        Err(_) => panic!(rt; "no map"),
+    }
 }
 
 fn book_at_last(alloc: Global) -> Result<heat_ledger::NewBook, AllocError> {
@@ -160,8 +166,8 @@ fn book_at_last(alloc: Global) -> Result<heat_ledger::NewBook, AllocError> {
 }
 
 #[test]
-fn a_refused_growth_is_made_up_for(rt: HostRuntime) -> Result<(), Fail> {
-    let book = book_at_last(rt.alloc())?;
+fn a_refused_growth_is_made_up_for(rt: HostRuntime) {
+    let book = book_at_last(rt.alloc()).sure(&rt);
     let map = authority_map::NewMap::new();
     on_board::<Brand, _>(&rt, &rt, rt.alloc(), book, map)
 }

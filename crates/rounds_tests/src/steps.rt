@@ -1,6 +1,6 @@
 //! What is done to a board in a test, and what is read of it.
 
-use crate::same::{holds_in, same_in};
+use crate::same::{Sure, holds_in, same_in};
 use authority_map::Publisher;
 use export_machine::Event;
 use export_rounds::{Outcome, carry_out_orders};
@@ -9,7 +9,6 @@ use mds_types::{Dir, Dirs, Order, Rank};
 use naming::Naming;
 use std::alloc::{AllocError, Global};
 use std::process::Abort;
-use std::test::Fail;
 
 /// A step of a test.
 #[derive(Clone, Copy)]
@@ -45,11 +44,14 @@ pub(crate) fn play<J: Naming, M: Publisher<J>>(
     alloc: Global,
     board: &mut Board<J, M>,
     steps: &[Do],
-) -> Result<(), Fail> {
+) {
     for (at, step) in steps.iter().enumerate() {
         let made = match *step {
             Do::Start(from, to, dir) => {
-                board.step(alloc, Event::Start(rank(from), rank(to), dirs(alloc, dir)?))
+                board.step(
+                    alloc,
+                    Event::Start(rank(from), rank(to), dirs(alloc, dir).sure(rt)),
+                )
             }
             Do::Deliver(message) => board.step(alloc, Event::Deliver(message)),
             Do::Froze(export) => board.step(alloc, Event::Froze(export)),
@@ -59,7 +61,6 @@ pub(crate) fn play<J: Naming, M: Publisher<J>>(
         };
         same_in(rt, &made.err(), &None, &at);
     }
-    Ok(())
 }
 
 /// Moves directories, each by an order of its own: the rank that gives it, the rank that takes it, and the directory.

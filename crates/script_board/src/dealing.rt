@@ -67,9 +67,13 @@ impl Dealt {
     fn add(&mut self, rank: usize, load: Load) -> Result<(), AllocError>
         requires inside { rank < vec_len self.old.scripts }
         ensures scripts { OnOk result (map (λ s. s.items) self.new.scripts.items
-            ≡ slice_set (map (λ s. s.items) self.old.scripts.items) rank (script_at (map (λ s. s.items) self.old.scripts.items) rank ++ work_of load ∷ [])) }
+            ≡ slice_set (map (λ s. s.items) self.old.scripts.items) rank
+            (script_at (map (λ s. s.items) self.old.scripts.items) rank ++ work_of load ∷ [])) }
         ensures seats { OnOk result (self.new.seats.items
-            ≡ self.old.seats.items ++ record { rank = rank; number = length (script_at (map (λ s. s.items) self.old.scripts.items) rank) } ∷ []) }
+            ≡ self.old.seats.items ++ record {
+              rank = rank;
+              number = length (script_at (map (λ s. s.items) self.old.scripts.items) rank);
+            } ∷ []) }
     {
         let script = &mut self.scripts[rank];
         let number = script.len();
@@ -116,7 +120,8 @@ pub(crate) fn deal<J: Naming, M: Publisher<J>>(
     loads: &[Load],
 ) -> Result<Dealt, AllocError>
     requires some { 0 < ranks }
-    ensures { IfOk result (λ dealt. IsDealt board.now ranks (filter (λ l. is_there board.now.state.directories.entries l.dir) loads.now)
+    ensures { IfOk result (λ dealt. IsDealt board.now ranks
+        (filter (λ l. is_there board.now.state.directories.entries l.dir) loads.now)
         (map (λ s. s.items) dealt.scripts.items) dealt.seats.items) }
 {
     let mut dealt = no_requests(alloc, ranks)?;

@@ -1,17 +1,17 @@
 //! Where the history has no room, `go` tells each refusal that it meets.
 ghost use Rattle.std.specs.Prelude.{◌≡◌};
 
-use crate::boards::{gone, open};
+use crate::boards::gone;
+use crate::cases::{Case, try_case};
 use crate::same::same;
 use authority_map::Publisher;
 use board_state::BoardError;
 use naming::Naming;
 use script_board::{Fault, ScriptBoard};
 use std::alloc::Global;
-use std::marker::{Brand, Send, Sync};
+use std::marker::{Send, Sync};
 use std::process::Abort;
 use std::sync::Wait;
-use std::test::Fail;
 use std::thread::Threads;
 
 fn tick_often<J: Naming, M: Publisher<J>>(board: &mut ScriptBoard<J, M>, ticks: u32) {
@@ -37,25 +37,15 @@ fn served_last<J: Naming + Send + Sync, M: Publisher<J> + Send, R: Abort + Threa
     board
 }
 
-fn on_board<J: Naming + Send + Sync, R: Abort + Threads + Wait + Sync>(
-    rt: &R,
-    alloc: Global,
-    book: heat_ledger::NewBook,
-    map: authority_map::NewMap,
-) -> Result<(), Fail>
-    requires book { book ≡ J.ledger }
-    requires map { map ≡ J.map }
-    requires limit { J.limit ≡ 8 }
-{
-    let board = open::<J, &R>(rt, alloc, book, map)?;
-    let board = served_last(rt, alloc, board);
-    board.end();
-    Ok(())
+pub(crate) fn on_board<
+    J: Naming + Send + Sync,
+    M: Publisher<J> + Send,
+    R: Abort + Threads + Wait + Sync,
+>(rt: &R, alloc: Global, board: ScriptBoard<J, M>) {
+    served_last(rt, alloc, board).end();
 }
 
 #[test]
-fn refused_ends_and_deposits_are_told(rt: HostRuntime) -> Result<(), Fail> {
-    let book = heat_ledger::NewBook::new(rt.alloc())?;
-    let map = authority_map::NewMap::new();
-    on_board::<Brand, _>(&rt, rt.alloc(), book, map)
+fn refused_ends_and_deposits_are_told(rt: HostRuntime) {
+    try_case(&rt, Case::Full)
 }

@@ -4,6 +4,8 @@
 #[cfg(test)]
 mod boards;
 #[cfg(test)]
+mod cases;
+#[cfg(test)]
 mod full;
 #[cfg(test)]
 mod moves;

@@ -1,7 +1,7 @@
 //! Pins and plans move directories.
 ghost use Rattle.std.specs.Prelude.{◌≡◌};
 
-use crate::boards::open;
+use crate::cases::{Case, try_case};
 use crate::same::{holds_in, same};
 use authority_map::Publisher;
 use board_state::BoardError;
@@ -11,10 +11,9 @@ use naming::Naming;
 use rank_threads::OrderOutcome;
 use script_board::{Fault, ScriptBoard};
 use std::alloc::Global;
-use std::marker::{Brand, Send, Sync};
+use std::marker::{Send, Sync};
 use std::process::Abort;
 use std::sync::Wait;
-use std::test::Fail;
 use std::thread::Threads;
 
 fn is_done(outcome: &OrderOutcome) -> bool {
@@ -74,30 +73,21 @@ fn plan<J: Naming, M: Publisher<J>>(
 }
 
 // The orders of a plan are carried out once.
-fn on_board<J: Naming + Send + Sync, R: Threads + Wait + Sync>(
-    rt: &impl Abort,
-    threads: &R,
-    alloc: Global,
-    book: heat_ledger::NewBook,
-    map: authority_map::NewMap,
-) -> Result<(), Fail>
-    requires book { book ≡ J.ledger }
-    requires map { map ≡ J.map }
-    requires limit { J.limit ≡ 8 }
-{
-    let mut board = open::<J, &R>(threads, alloc, book, map)?;
+pub(crate) fn on_board<
+    J: Naming + Send + Sync,
+    M: Publisher<J> + Send,
+    R: Abort + Threads + Wait + Sync,
+>(rt: &R, alloc: Global, board: ScriptBoard<J, M>) {
+    let mut board = board;
     pin(rt, alloc, &mut board);
-    let mut board = moved(rt, threads, alloc, board, 1);
-    plan(rt, threads, alloc, &mut board);
-    let board = moved(rt, threads, alloc, board, 1);
-    let board = moved(rt, threads, alloc, board, 0);
+    let mut board = moved(rt, rt, alloc, board, 1);
+    plan(rt, rt, alloc, &mut board);
+    let board = moved(rt, rt, alloc, board, 1);
+    let board = moved(rt, rt, alloc, board, 0);
     board.end();
-    Ok(())
 }
 
 #[test]
-fn pins_and_plans_move_directories(rt: HostRuntime) -> Result<(), Fail> {
-    let book = heat_ledger::NewBook::new(rt.alloc())?;
-    let map = authority_map::NewMap::new();
-    on_board::<Brand, _>(&rt, &rt, rt.alloc(), book, map)
+fn pins_and_plans_move_directories(rt: HostRuntime) {
+    try_case(&rt, Case::Moves)
 }

@@ -3,17 +3,17 @@
 //! With `rt try --test --fail-alloc N`, the N-th growth is refused.
 ghost use Rattle.std.specs.Prelude.{◌≡◌};
 
-use crate::boards::{number, open_at_last};
+use crate::boards::number;
+use crate::cases::{Case, try_case};
 use crate::same::{holds_in, same, same_in};
 use authority_map::Publisher;
 use mds_types::{Dir, Rank, RankSet};
 use naming::Naming;
 use script_board::{Fault, ScriptBoard};
 use std::alloc::{AllocError, Global};
-use std::marker::{Brand, Send, Sync};
+use std::marker::{Send, Sync};
 use std::process::Abort;
 use std::sync::Wait;
-use std::test::Fail;
 use std::thread::Threads;
 
 /// What a board says of itself and of its first three directories.
@@ -207,7 +207,7 @@ fn costs<J: Naming, M: Publisher<J>>(
     rt: &impl Abort,
     alloc: Global,
     board: &mut ScriptBoard<J, M>,
-) -> Result<(), Fail> {
+) {
     let before = read(board);
     let first = board.cost(alloc, &["/", "/b"]);
     if first.is_err() {
@@ -215,10 +215,9 @@ fn costs<J: Naming, M: Publisher<J>>(
         assert!(rt; read(board) == before);
     }
     let Ok(parts) = board.cost(alloc, &["/", "/b"]) else {
-        return Err("no parts".into());
+        panic!(rt; "no parts");
     };
     same(rt, &parts.len(), &2);
-    Ok(())
 }
 
 /// Two directories, of which a pin is to bring one to rank 1, and a rank that was stopped.
@@ -245,43 +244,26 @@ fn go_on<J: Naming, M: Publisher<J>>(
     rt: &impl Abort,
     alloc: Global,
     board: &mut ScriptBoard<J, M>,
-) -> Result<(), Fail> {
-    costs(rt, alloc, board)?;
+) {
+    costs(rt, alloc, board);
     commands(rt, alloc, board, &[Do::Tick, Do::Publish]);
     same(rt, &board.rank_of(Dir::new(2)), &Some(number(1)));
-    Ok(())
 }
 
-fn on_board<J: Naming + Send + Sync, R: Threads + Wait + Sync>(
-    rt: &impl Abort,
-    threads: &R,
-    alloc: Global,
-    book: heat_ledger::NewBook,
-    map: authority_map::NewMap,
-) -> Result<(), Fail>
-    requires book { book ≡ J.ledger }
-    requires map { map ≡ J.map }
-    requires limit { J.limit ≡ 8 }
-{
-    let mut board = open_at_last::<J, &R>(threads, alloc, book, map)?;
+pub(crate) fn on_board<
+    J: Naming + Send + Sync,
+    M: Publisher<J> + Send,
+    R: Abort + Threads + Wait + Sync,
+>(rt: &R, alloc: Global, board: ScriptBoard<J, M>) {
+    let mut board = board;
     begin(rt, alloc, &mut board);
-    let board = moved_away(rt, threads, alloc, board);
-    let mut board = served(rt, threads, alloc, board);
-    let done = go_on(rt, alloc, &mut board);
+    let board = moved_away(rt, rt, alloc, board);
+    let mut board = served(rt, rt, alloc, board);
+    go_on(rt, alloc, &mut board);
     board.end();
-    done
-}
-
-fn book_at_last(alloc: Global) -> Result<heat_ledger::NewBook, AllocError> {
-    match heat_ledger::NewBook::new(alloc) {
-        Ok(book) => Ok(book),
-        Err(_) => heat_ledger::NewBook::new(alloc),
-    }
 }
 
 #[test]
-fn a_refused_growth_changes_nothing(rt: HostRuntime) -> Result<(), Fail> {
-    let book = book_at_last(rt.alloc())?;
-    let map = authority_map::NewMap::new();
-    on_board::<Brand, _>(&rt, &rt, rt.alloc(), book, map)
+fn a_refused_growth_changes_nothing(rt: HostRuntime) {
+    try_case(&rt, Case::RefusedGrowth)
 }

@@ -1,7 +1,8 @@
 //! Requests are served at the rank that the map names.
 ghost use Rattle.std.specs.Prelude.{◌≡◌};
 
-use crate::boards::{gone, number, open};
+use crate::boards::{gone, number};
+use crate::cases::{Case, try_case};
 use crate::same::same;
 use authority_map::Publisher;
 use board_state::BoardError;
@@ -11,10 +12,9 @@ use mds_types::Dir;
 use naming::Naming;
 use script_board::{Fault, ScriptBoard};
 use std::alloc::Global;
-use std::marker::{Brand, Send, Sync};
+use std::marker::{Send, Sync};
 use std::process::Abort;
 use std::sync::Wait;
-use std::test::Fail;
 use std::thread::Threads;
 
 // Hits are counted once and heat their directory; a directory that isn't there takes none.
@@ -58,26 +58,17 @@ fn stopped<J: Naming + Send + Sync, M: Publisher<J> + Send, R: Abort + Threads +
     board
 }
 
-fn on_board<J: Naming + Send + Sync, R: Abort + Threads + Wait + Sync>(
-    rt: &R,
-    alloc: Global,
-    book: heat_ledger::NewBook,
-    map: authority_map::NewMap,
-) -> Result<(), Fail>
-    requires book { book ≡ J.ledger }
-    requires map { map ≡ J.map }
-    requires limit { J.limit ≡ 8 }
-{
-    let board = open::<J, &R>(rt, alloc, book, map)?;
+pub(crate) fn on_board<
+    J: Naming + Send + Sync,
+    M: Publisher<J> + Send,
+    R: Abort + Threads + Wait + Sync,
+>(rt: &R, alloc: Global, board: ScriptBoard<J, M>) {
     let board = served(rt, alloc, board);
     let board = stopped(rt, alloc, board);
     board.end();
-    Ok(())
 }
 
 #[test]
-fn requests_are_counted_where_they_are_served(rt: HostRuntime) -> Result<(), Fail> {
-    let book = heat_ledger::NewBook::new(rt.alloc())?;
-    let map = authority_map::NewMap::new();
-    on_board::<Brand, _>(&rt, rt.alloc(), book, map)
+fn requests_are_counted_where_they_are_served(rt: HostRuntime) {
+    try_case(&rt, Case::Requests)
 }

@@ -36,7 +36,9 @@ value_from n (b ∷ digits) = value_from (10 * n + (b - 48)) digits
 -- the number of a field of digits, from low to high
 abbrev pub number : ℕ → ℕ → List ℕ → Option ℕ
 number low high field =
-    if not (is_empty field) && (all_ascii_digits field && (nat_le low (value_from 0 field) && nat_le (value_from 0 field) high)) then Some (value_from 0 field) else None
+    if not (is_empty field)
+    && (all_ascii_digits field && (nat_le low (value_from 0 field) && nat_le (value_from 0 field) high))
+    then Some (value_from 0 field) else None
 
 -- the value of an export pin, with -1 for none
 abbrev pub pin_value : List ℕ → Option ℤ

@@ -39,4 +39,5 @@ module _ {S : Type 0} (answers : S → ℕ → List ℕ → Answer → S → Typ
   -- The whole lines of some bytes are all accepted, and no more than 4096 bytes follow.
   abbrev pub AcceptsUpTo : List ℕ → List ℕ → Type 0
   AcceptsUpTo front last =
-      (length last ≤ 4096) × ((replies : List Answer) × (mid : S) × Run answers strict old 1 (whole_lines front) replies mid × (all_accepted replies ≡ true))
+      (length last ≤ 4096) × ((replies : List Answer) × (mid : S)
+      × Run answers strict old 1 (whole_lines front) replies mid × (all_accepted replies ≡ true))

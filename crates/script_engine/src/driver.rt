@@ -51,17 +51,21 @@ pub fn run_script<
     requires tells { AlwaysTells I.answers W.contents (F.post answer.now) }
     requires unread { input.old.reads ≡ 0 }
     ensures done { IfOk result (λ accepted. IfSome (R.remaining input.old.reader) (λ all.
-        AnswersAll I.answers strict interpreter.old (lines_of all) interpreter.new accepted (W.contents writer.old) (W.contents writer.new))) }
+        AnswersAll I.answers strict interpreter.old (lines_of all) interpreter.new accepted
+        (W.contents writer.old) (W.contents writer.new))) }
     // The same for the bytes that came, of any reader.
     ensures given { IfOk result (λ accepted. (bytes : List ℕ) × Gives R.remaining input.old input.new bytes
         × ((strict && not accepted) ≡ false → IsEnded R.remaining input.new)
-        × AnswersAll I.answers strict interpreter.old (lines_of bytes) interpreter.new accepted (W.contents writer.old) (W.contents writer.new)) }
+        × AnswersAll I.answers strict interpreter.old (lines_of bytes) interpreter.new accepted
+        (W.contents writer.old) (W.contents writer.new)) }
     // A strict run reads nothing behind the read in which its last line ends.
     ensures stops { IfOk result (λ accepted. (strict && not accepted) ≡ true → (front : List ℕ) × (last : List ℕ)
-        × Gives R.remaining input.old input.new (front ++ last) × AcceptsUpTo I.answers strict interpreter.old front last) }
+        × Gives R.remaining input.old input.new (front ++ last)
+        × AcceptsUpTo I.answers strict interpreter.old front last) }
     // Where a read fails, the lines that were whole were answered.
     ensures read { IsErrOf result RunError.Read → (bytes : List ℕ) × Gives R.remaining input.old input.new bytes
-        × AnswersWhole I.answers strict interpreter.old bytes interpreter.new (W.contents writer.old) (W.contents writer.new) }
+        × AnswersWhole I.answers strict interpreter.old bytes interpreter.new
+        (W.contents writer.old) (W.contents writer.new) }
     // Where a write fails, a beginning of what is due for the lines so far was written.
     ensures write { IsErrOf result RunError.Write → (bytes : List ℕ) × Gives R.remaining input.old input.new bytes
         × AnswersSome I.answers strict interpreter.old bytes (W.contents writer.old) (W.contents writer.new) }

@@ -17,7 +17,9 @@ pub fn cut_between<I: Interpreter>()
 /// Want of memory aside, the answers to a script of sure lines are a function of its bytes and of `strict`, where the
 /// answer to such a line is a function of the state, the line's number and the line.
 pub fn determined<I: Interpreter>()
-    ensures { (sure : List ℕ → Bool) (play : I → ℕ → List ℕ → Answer × I) (strict : Bool) (old new : I) (number : ℕ) (lines : List (List ℕ)) (replies : List Answer)
-        → IsDetermined sure I.answers play → list_all sure lines ≡ true → Run I.answers strict old number lines replies new → all_ample replies ≡ true
+    ensures { (sure : List ℕ → Bool) (play : I → ℕ → List ℕ → Answer × I) (strict : Bool) (old new : I)
+        (number : ℕ) (lines : List (List ℕ)) (replies : List Answer)
+        → IsDetermined sure I.answers play → list_all sure lines ≡ true
+        → Run I.answers strict old number lines replies new → all_ample replies ≡ true
         → (replies ≡ (played play strict old number lines).0) × (new ≡ (played play strict old number lines).1) }
 {}

@@ -78,10 +78,12 @@ impl Progress {
     ) -> Result<bool, WriteFailed>
         requires may { F.IsAlwaysCallable answer.now }
         requires tells { AlwaysTells I.answers W.contents (F.post answer.now) }
-        ensures ok { IfOk result (λ accepted. (line : List ℕ) → (self.old.has_room ≡ true → self.old.line.items ++ part.now ≡ line)
+        ensures ok { IfOk result (λ accepted. (line : List ℕ)
+            → (self.old.has_room ≡ true → self.old.line.items ++ part.now ≡ line)
             → (a : Answer) × Takes I.answers interpreter.old self.old.number line a interpreter.new
             × (accepted ≡ a.accepted) × Appends (W.contents writer.old) (W.contents writer.new) a.text) }
-        ensures err { OnErr result ((line : List ℕ) → (self.old.has_room ≡ true → self.old.line.items ++ part.now ≡ line)
+        ensures err { OnErr result ((line : List ℕ)
+            → (self.old.has_room ≡ true → self.old.line.items ++ part.now ≡ line)
             → (a : Answer) × Takes I.answers interpreter.old self.old.number line a interpreter.new
             × AppendsFront (W.contents writer.old) (W.contents writer.new) a.text) }
         ensures number { self.new.number ≡ self.old.number }
@@ -117,7 +119,8 @@ impl Progress {
         ensures begun { OnOk result ((self.new.line.items ≡ []) × (self.new.has_room ≡ true)
             × (self.new.number ≡ self.old.number + 1)) }
         ensures number { self.new.number ≤ self.old.number + 1 }
-        ensures err { OnErr result ((line : List ℕ) → (self.old.has_room ≡ true → self.old.line.items ++ part.now ≡ line)
+        ensures err { OnErr result ((line : List ℕ)
+            → (self.old.has_room ≡ true → self.old.line.items ++ part.now ≡ line)
             → (a : Answer) × Takes I.answers interpreter.old self.old.number line a interpreter.new
             × AppendsFront (W.contents writer.old) (W.contents writer.new) a.text) }
     {
@@ -146,11 +149,14 @@ impl Progress {
         requires tells { AlwaysTells I.answers W.contents (F.post answer.now) }
         requires number { self.old.number + 1 < 2 ^ 64 }
         requires line { IsLine part.now }
-        ensures ok { OnOk result ((start : I) (bytes text : List ℕ) → Stands I.answers strict start bytes text interpreter.old self.old
-            → (more : List ℕ) × Stands I.answers strict start (bytes ++ (part.now ++ 10 ∷ [])) (text ++ more) interpreter.new self.new
+        ensures ok { OnOk result ((start : I) (bytes text : List ℕ)
+            → Stands I.answers strict start bytes text interpreter.old self.old
+            → (more : List ℕ) × Stands I.answers strict start (bytes ++ (part.now ++ 10 ∷ [])) (text ++ more)
+            interpreter.new self.new
             × Appends (W.contents writer.old) (W.contents writer.new) more) }
         ensures number { self.new.number ≤ self.old.number + 1 }
-        ensures err { OnErr result ((start : I) (bytes text : List ℕ) → Stands I.answers strict start bytes text interpreter.old self.old
+        ensures err { OnErr result ((start : I) (bytes text : List ℕ)
+            → Stands I.answers strict start bytes text interpreter.old self.old
             → (tail : List ℕ) × Broken I.answers strict start (bytes ++ (part.now ++ 10 ∷ [])) text tail
             × AppendsFront (W.contents writer.old) (W.contents writer.new) tail) }
     {
@@ -177,11 +183,14 @@ impl Progress {
         requires may { F.IsAlwaysCallable answer.now }
         requires tells { AlwaysTells I.answers W.contents (F.post answer.now) }
         requires number { self.old.number + length piece.now < 2 ^ 64 }
-        ensures ok { OnOk result ((start : I) (bytes text : List ℕ) → Stands I.answers strict start bytes text interpreter.old self.old
-            → (more : List ℕ) × Stands I.answers strict start (bytes ++ piece.now) (text ++ more) interpreter.new self.new
+        ensures ok { OnOk result ((start : I) (bytes text : List ℕ)
+            → Stands I.answers strict start bytes text interpreter.old self.old
+            → (more : List ℕ) × Stands I.answers strict start (bytes ++ piece.now) (text ++ more)
+            interpreter.new self.new
             × Appends (W.contents writer.old) (W.contents writer.new) more) }
         ensures number { self.new.number ≤ self.old.number + length piece.now }
-        ensures err { OnErr result ((start : I) (bytes text : List ℕ) → Stands I.answers strict start bytes text interpreter.old self.old
+        ensures err { OnErr result ((start : I) (bytes text : List ℕ)
+            → Stands I.answers strict start bytes text interpreter.old self.old
             → (tail : List ℕ) × Broken I.answers strict start (bytes ++ piece.now) text tail
             × AppendsFront (W.contents writer.old) (W.contents writer.new) tail) }
     {
@@ -215,11 +224,13 @@ impl Progress {
         requires may { F.IsAlwaysCallable answer.now }
         requires tells { AlwaysTells I.answers W.contents (F.post answer.now) }
         requires number { self.old.number + 1 < 2 ^ 64 }
-        ensures ok { IfOk result (λ accepted. (strict : Bool) (start : I) (bytes text : List ℕ) → (strict && not self.old.accepted) ≡ false
+        ensures ok { IfOk result (λ accepted. (strict : Bool) (start : I) (bytes text : List ℕ)
+            → (strict && not self.old.accepted) ≡ false
             → Stands I.answers strict start bytes text interpreter.old self.old
             → (more : List ℕ) × Ends I.answers strict start bytes text more interpreter.new accepted
             × Appends (W.contents writer.old) (W.contents writer.new) more) }
-        ensures err { OnErr result ((strict : Bool) (start : I) (bytes text : List ℕ) → (strict && not self.old.accepted) ≡ false
+        ensures err { OnErr result ((strict : Bool) (start : I) (bytes text : List ℕ)
+            → (strict && not self.old.accepted) ≡ false
             → Stands I.answers strict start bytes text interpreter.old self.old
             → (tail : List ℕ) × Cut I.answers strict start bytes text tail
             × AppendsFront (W.contents writer.old) (W.contents writer.new) tail) }

@@ -29,4 +29,5 @@ IsPrintable b (Plan parts) =
     × All (λ part. is_there b.world.state.directories.entries part.top ≡ true) parts.items
 IsPrintable b (Move orders outcomes) = length outcomes.items ≡ length orders.items
 IsPrintable b (Stat dirs) = (dirs.items ≡ directories b.world.state.directories.entries)
-    × All (λ dir. is_there b.world.state.directories.entries dir ≡ true) dirs.items × All (λ dir. dir < b.world.state.directories.limit) dirs.items
+    × All (λ dir. is_there b.world.state.directories.entries dir ≡ true) dirs.items
+    × All (λ dir. dir < b.world.state.directories.limit) dirs.items

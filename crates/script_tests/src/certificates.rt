@@ -10,7 +10,6 @@ use script_session::{RunOptions, Silence, run};
 use std::alloc::Global;
 use std::marker::Sync;
 use std::sync::Wait;
-use std::test::Fail;
 use std::thread::Threads;
 
 /// Three plans are adopted, one for the same problem again and one after more hits. The fourth `plan` is refused.
@@ -54,7 +53,7 @@ fn written<T: Threads + Wait + Sync>(
 }
 
 #[test]
-fn certificates_hold(rt: HostRuntime) -> Result<(), Fail> {
+fn certificates_hold(rt: HostRuntime) {
     let (told, bytes) = written(&rt, rt.alloc(), THREE_PLANS, 4096, ENOUGH);
     assert!(rt; told == Ok(()));
     let Ok(certificates) = read(rt.alloc(), bytes.as_slice()) else {
@@ -66,21 +65,19 @@ fn certificates_hold(rt: HostRuntime) -> Result<(), Fail> {
         assert!(rt; check(rt.alloc(), problem, plan) == Ok(true));
         same(&rt, &plan.greatest, &greatest);
     }
-    Ok(())
 }
 
 #[test]
-fn no_plan_has_no_certificate(rt: HostRuntime) -> Result<(), Fail> {
+fn no_plan_has_no_certificate(rt: HostRuntime) {
     for script in ["", "ranks 1\ndir /a 1\nplan\n"] {
         let (told, bytes) = written(&rt, rt.alloc(), script, 4096, ENOUGH);
         assert!(rt; told == Ok(()));
         assert!(rt; bytes.is_empty());
     }
-    Ok(())
 }
 
 #[test]
-fn a_failed_write_leaves_a_beginning(rt: HostRuntime) -> Result<(), Fail> {
+fn a_failed_write_leaves_a_beginning(rt: HostRuntime) {
     let (_told, whole) = written(&rt, rt.alloc(), THREE_PLANS, 4096, ENOUGH);
     for writes in 0..40 {
         let (told, bytes) = written(&rt, rt.alloc(), THREE_PLANS, 7, writes);
@@ -88,5 +85,4 @@ fn a_failed_write_leaves_a_beginning(rt: HostRuntime) -> Result<(), Fail> {
         assert!(rt; bytes.len() < whole.len());
         assert!(rt; whole.as_slice().starts_with(bytes.as_slice()));
     }
-    Ok(())
 }

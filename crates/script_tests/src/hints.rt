@@ -1,11 +1,10 @@
 //! What is said of lines that spell no command.
 use crate::devices::{ENOUGH, Sink, sink_of, source_of};
-use crate::same::{holds_in, same};
+use crate::same::{Sure, holds_in, same};
 use dirtree::NameKey;
 use script_commands::{LineFault, explain};
 use script_engine::Input;
 use script_session::{Hints, RunOptions, run};
-use std::test::Fail;
 
 // (line, what is said)
 const FAULTS: [(&[u8], &str); 27] = [
@@ -75,21 +74,20 @@ const FAULTS: [(&[u8], &str); 27] = [
 ];
 
 #[test]
-fn says_what_is_wrong(rt: HostRuntime) -> Result<(), Fail> {
+fn says_what_is_wrong(rt: HostRuntime) {
     for (line, wanted) in FAULTS {
-        match explain(rt.alloc(), line)? {
+        match explain(rt.alloc(), line).sure(&rt) {
             Some(fault) => {
-                let text = format!(in rt.alloc(); "{fault}")?;
+                let text = format!(in rt.alloc(); "{fault}").sure(&rt);
                 same(&rt, &text.as_str(), &wanted);
             }
             None => assert!(rt; false),
         }
     }
-    Ok(())
 }
 
 #[test]
-fn says_nothing_of_other_lines(rt: HostRuntime) -> Result<(), Fail> {
+fn says_nothing_of_other_lines(rt: HostRuntime) {
     let table: [&[u8]; 8] = [
         b"",
         b" \t\r",
@@ -101,10 +99,9 @@ fn says_nothing_of_other_lines(rt: HostRuntime) -> Result<(), Fail> {
         b"mask none",
     ];
     for line in table {
-        let fault = explain(rt.alloc(), line)?;
+        let fault = explain(rt.alloc(), line).sure(&rt);
         holds_in(&rt, fault.is_none(), &fault);
     }
-    Ok(())
 }
 
 /// Keeps the numbers of the lines that it is told of.
@@ -121,7 +118,7 @@ impl Hints for Heard {
 
 // A line that is refused, or says nothing, is not told.
 #[test]
-fn a_run_tells_each_line_that_spells_no_command(rt: HostRuntime) -> Result<(), Fail> {
+fn a_run_tells_each_line_that_spells_no_command(rt: HostRuntime) {
     let script = "ranks 0\nplan\nranks 1\nplan\n# lod\n\nlod\nload /a 1\nload /a";
     // (strict, the lines that are told)
     let table: [(bool, &[u64]); 2] = [(false, &[1, 7, 9]), (true, &[1])];
@@ -148,5 +145,4 @@ fn a_run_tells_each_line_that_spells_no_command(rt: HostRuntime) -> Result<(), F
         same(&rt, &ended.answered, &Ok(false));
         same(&rt, &heard.lines.as_slice(), &wanted);
     }
-    Ok(())
 }

@@ -3,7 +3,7 @@ ghost use Rattle.std.specs.Prelude.{◌≡◌};
 ghost use Rattle.script_engine.specs.Telling.{Tells};
 
 use crate::devices::{ENOUGH, Sink, Source, sink_of, source_of};
-use crate::same::{holds_in, same, same_in};
+use crate::same::{Sure, holds_in, same, same_in};
 use script_engine::{
     Input, Interpreter, RunError, WriteFailed, run_script, write_fault, write_whole,
 };
@@ -11,7 +11,6 @@ use std::alloc::Global;
 use std::cell::Cell;
 use std::io;
 use std::io::{Read, Write};
-use std::test::Fail;
 
 /// Repeats each line. Lines that begin with an exclamation mark are faulty.
 #[derive(Drop)]
@@ -72,7 +71,7 @@ fn repeated(
 }
 
 #[test]
-fn answers_each_line(rt: HostRuntime) -> Result<(), Fail> {
+fn answers_each_line(rt: HostRuntime) {
     // (script, strict, whether all lines are accepted, what is written)
     let table = [
         ("", true, true, ""),
@@ -100,23 +99,21 @@ fn answers_each_line(rt: HostRuntime) -> Result<(), Fail> {
             );
         }
     }
-    Ok(())
 }
 
 #[test]
-fn answers_a_long_line(rt: HostRuntime) -> Result<(), Fail> {
-    let mut script = vec![in rt.alloc(); b'x'; 100_000]?;
-    script.extend_from_slice(b"\n!\nz\n")?;
+fn answers_a_long_line(rt: HostRuntime) {
+    let mut script = vec![in rt.alloc(); b'x'; 100_000].sure(&rt);
+    script.extend_from_slice(b"\n!\nz\n").sure(&rt);
     let mut sink = sink_of(rt.alloc(), ENOUGH);
     let result = repeated(rt.alloc(), source_of(&script, ENOUGH), &mut sink, false);
     same(&rt, &result, &Ok(false));
     assert!(rt; sink.bytes.get(..100_001) == script.get(..100_001));
     assert!(rt; sink.bytes.get(100_001..) == Some(b"line 2: bad\nz\n".as_slice()));
-    Ok(())
 }
 
 #[test]
-fn ends_at_a_failed_read(rt: HostRuntime) -> Result<(), Fail> {
+fn ends_at_a_failed_read(rt: HostRuntime) {
     // (reads before the one that fails, what is written)
     let table = [
         (0, ""),
@@ -135,14 +132,13 @@ fn ends_at_a_failed_read(rt: HostRuntime) -> Result<(), Fail> {
     }
     same(
         &rt,
-        &RunError::Read.to_string(rt.alloc())?.as_str(),
+        &RunError::Read.to_string(rt.alloc()).sure(&rt).as_str(),
         &"read failed",
     );
-    Ok(())
 }
 
 #[test]
-fn ends_at_a_failed_write(rt: HostRuntime) -> Result<(), Fail> {
+fn ends_at_a_failed_write(rt: HostRuntime) {
     let text = b"a\nline 2: bad\n\nz\n".as_slice();
     for (writes, _) in text.iter().enumerate() {
         let source = source_of(b"a\n!\n\nz", 3);
@@ -158,14 +154,13 @@ fn ends_at_a_failed_write(rt: HostRuntime) -> Result<(), Fail> {
     }
     same(
         &rt,
-        &RunError::Write.to_string(rt.alloc())?.as_str(),
+        &RunError::Write.to_string(rt.alloc()).sure(&rt).as_str(),
         &"write failed",
     );
-    Ok(())
 }
 
 #[test]
-fn fails_where_a_write_takes_nothing(rt: HostRuntime) -> Result<(), Fail> {
+fn fails_where_a_write_takes_nothing(rt: HostRuntime) {
     let mut sink = sink_of(rt.alloc(), 0);
     let result = repeated(rt.alloc(), source_of(b"a\n", 2), &mut sink, false);
     same(&rt, &result, &Err(RunError::Write));
@@ -175,10 +170,9 @@ fn fails_where_a_write_takes_nothing(rt: HostRuntime) -> Result<(), Fail> {
     same(&rt, &write_fault(&mut sink, 1, "bad"), &Err(WriteFailed));
     same(
         &rt,
-        &WriteFailed.to_string(rt.alloc())?.as_str(),
+        &WriteFailed.to_string(rt.alloc()).sure(&rt).as_str(),
         &"write failed",
     );
-    Ok(())
 }
 
 /// Gives two bytes at a read, and notes how many bytes were written before each of the first reads.
@@ -232,9 +226,8 @@ fn written_before_reads(alloc: Global, script: &[u8]) -> Vec<usize> {
 
 // Each answer stands written before the next piece is read.
 #[test]
-fn answers_before_it_reads_on(rt: HostRuntime) -> Result<(), Fail> {
+fn answers_before_it_reads_on(rt: HostRuntime) {
     let noted = written_before_reads(rt.alloc(), b"a\nbc\n!\nd");
     let wanted: [usize; 5] = [0, 2, 2, 5, 17];
     holds_in(&rt, noted.as_slice() == wanted.as_slice(), &noted);
-    Ok(())
 }

@@ -2,14 +2,13 @@
 ghost use Rattle.std.specs.Prelude.{◌≤◌};
 
 use crate::devices::{ENOUGH, Sink, Source, sink_of, source_of};
-use crate::same::{holds_in, same};
+use crate::same::{Sure, holds_in, same};
 use dirtree::NameKey;
 use script_engine::{Input, RunError};
 use script_session::{RunOptions, Silence, run};
 use std::alloc::Global;
 use std::marker::Sync;
 use std::sync::Wait;
-use std::test::Fail;
 use std::thread::Threads;
 
 // What a run answers, and how many reads it left to its source.
@@ -70,7 +69,8 @@ fn answers_so<T: Threads + Wait + Sync>(
 const TWO_PARTS: &str = "ranks 1\ndir /a 10\ndir /b 20\nload /a 4\nload /b 6\ngo\ncost /b\ncost\n";
 
 const TWO_PARTS_COST: &str =
-    "cost greatest 6 parts 2\npart / heat 4 inodes 11\npart /b heat 6 inodes 20\ncost greatest 10 parts 1\npart / heat 10 inodes 31\n";
+    "cost greatest 6 parts 2\npart / heat 4 inodes 11\npart /b heat 6 inodes 20\ncost greatest 10 parts 1\n\
+     part / heat 10 inodes 31\n";
 
 // (script, whether all lines are accepted, what is written)
 const ANSWERS: [(&str, bool, &str); 14] = [
@@ -97,9 +97,12 @@ const ANSWERS: [(&str, bool, &str); 14] = [
         "line 4: syntax\nline 5: syntax\nline 7: syntax\nline 8: refused 6 NoDir\n",
     ),
     (
-        "ranks 2\ndir /a 1\ndir /a 2\ndir b 1\ndir /x/b 1\npin /a 2\npin /a -2\npin /a 2147483648\npin /x 5\nload /x 1\nload /a 0\n",
+        "ranks 2\ndir /a 1\ndir /a 2\ndir b 1\ndir /x/b 1\npin /a 2\npin /a -2\npin /a 2147483648\npin /x 5\n\
+         load /x 1\nload /a 0\n",
         false,
-        "line 3: refused 7 Exists\nline 4: refused 8 BadName\nline 5: refused 6 NoDir\nline 6: refused 12 NoRank\nline 7: syntax\nline 8: syntax\nline 9: refused 6 NoDir\nline 10: refused 6 NoDir\nline 11: syntax\n",
+        "line 3: refused 7 Exists\nline 4: refused 8 BadName\nline 5: refused 6 NoDir\n\
+         line 6: refused 12 NoRank\nline 7: syntax\nline 8: syntax\nline 9: refused 6 NoDir\n\
+         line 10: refused 6 NoDir\nline 11: syntax\n",
     ),
     (
         "ranks 1\ndir /a 1\ndir /b 1\ndir /c 1\ndir /d 1\n",
@@ -114,40 +117,47 @@ const ANSWERS: [(&str, bool, &str); 14] = [
     (
         "ranks 2\nmask 0x3\ndir /p 1\ndir /p/q 1\npin /p 1\npin /p/q 0\npin /p/q -1\nstat\n",
         true,
-        "stat ranks 2 usable 2 directories 3\ndir 0 / pin - rank 0 heat 0 hits 0\ndir 1 /p pin 1 rank 0 heat 0 hits 0\ndir 2 /p/q pin 1 rank 0 heat 0 hits 0\n",
+        "stat ranks 2 usable 2 directories 3\ndir 0 / pin - rank 0 heat 0 hits 0\n\
+         dir 1 /p pin 1 rank 0 heat 0 hits 0\ndir 2 /p/q pin 1 rank 0 heat 0 hits 0\n",
     ),
     (
         "ranks 2\nmask -1\ndir /a 1\nload /a 7\ngo\ntick\nstat\ntick\ntick\nstat\n",
         true,
-        "stat ranks 2 usable 2 directories 2\ndir 0 / pin - rank 0 heat 0 hits 0\ndir 1 /a pin - rank 0 heat 3 hits 7\nstat ranks 2 usable 2 directories 2\ndir 0 / pin - rank 0 heat 0 hits 0\ndir 1 /a pin - rank 0 heat 0 hits 7\n",
+        "stat ranks 2 usable 2 directories 2\ndir 0 / pin - rank 0 heat 0 hits 0\n\
+         dir 1 /a pin - rank 0 heat 3 hits 7\nstat ranks 2 usable 2 directories 2\n\
+         dir 0 / pin - rank 0 heat 0 hits 0\ndir 1 /a pin - rank 0 heat 0 hits 7\n",
     ),
     (
         "ranks 2\nload / 5\ngo\nmask 0x1\nstat\nmask 0xfC\nstat\n",
         true,
-        "stat ranks 2 usable 1 directories 1\ndir 0 / pin - rank 0 heat 5 hits 5\nstat ranks 2 usable 0 directories 1\ndir 0 / pin - rank 0 heat 5 hits 5\n",
+        "stat ranks 2 usable 1 directories 1\ndir 0 / pin - rank 0 heat 5 hits 5\n\
+         stat ranks 2 usable 0 directories 1\ndir 0 / pin - rank 0 heat 5 hits 5\n",
     ),
     (
-        "ranks 2\ndir /a 1\ndir /a 1\ndir /a/b 1\nrmdir /a\nrmdir /\nrmdir /c\nmask 0x\nmask 0x+1\nmask\ntick 1\nstat 1\n",
+        "ranks 2\ndir /a 1\ndir /a 1\ndir /a/b 1\nrmdir /a\nrmdir /\nrmdir /c\nmask 0x\nmask 0x+1\nmask\n\
+         tick 1\nstat 1\n",
         false,
-        "line 3: refused 7 Exists\nline 5: refused 9 NotEmpty\nline 6: refused 10 IsRoot\nline 7: refused 6 NoDir\nline 8: refused 1 BadMask\nline 9: refused 1 BadMask\nline 10: syntax\nline 11: syntax\nline 12: syntax\n",
+        "line 3: refused 7 Exists\nline 5: refused 9 NotEmpty\nline 6: refused 10 IsRoot\n\
+         line 7: refused 6 NoDir\nline 8: refused 1 BadMask\nline 9: refused 1 BadMask\nline 10: syntax\n\
+         line 11: syntax\nline 12: syntax\n",
     ),
     // A request whose directory is removed is served no more, and the number is never given again.
     (
         "ranks 1\ndir /a 1\nload /a 3\nload / 2\nrmdir /a\ngo\ndir /a 1\nstat\n",
         true,
-        "stat ranks 1 usable 0 directories 2\ndir 0 / pin - rank 0 heat 2 hits 2\ndir 2 /a pin - rank 0 heat 0 hits 0\n",
+        "stat ranks 1 usable 0 directories 2\ndir 0 / pin - rank 0 heat 2 hits 2\n\
+         dir 2 /a pin - rank 0 heat 0 hits 0\n",
     ),
 ];
 
 #[test]
-fn answers_scripts(rt: HostRuntime) -> Result<(), Fail> {
+fn answers_scripts(rt: HostRuntime) {
     for (script, accepted, text) in ANSWERS {
         for step in [1, 7, 4096] {
             let is_as_said = answers_so(&rt, rt.alloc(), script, step, 4, accepted, text);
             holds_in(&rt, is_as_said, &(script, step));
         }
     }
-    Ok(())
 }
 
 // Scripts behind `ranks 2` and `mask 0x3`, with what is written.
@@ -172,17 +182,16 @@ const PLANS: [(&str, &str); 5] = [
 ];
 
 #[test]
-fn plans(rt: HostRuntime) -> Result<(), Fail> {
+fn plans(rt: HostRuntime) {
     for (script, text) in PLANS {
-        let whole = format!(in rt.alloc(); "ranks 2\nmask 0x3\n{script}plan\n")?;
+        let whole = format!(in rt.alloc(); "ranks 2\nmask 0x3\n{script}plan\n").sure(&rt);
         let is_as_said = answers_so(&rt, rt.alloc(), &whole, 5, 65536, true, text);
         holds_in(&rt, is_as_said, &whole);
     }
-    Ok(())
 }
 
 #[test]
-fn plans_for_usable_ranks_alone(rt: HostRuntime) -> Result<(), Fail> {
+fn plans_for_usable_ranks_alone(rt: HostRuntime) {
     // (script, whether all lines are accepted, what is written)
     let table = [
         ("ranks 2\nplan\n", false, "line 2: refused 29 BalancerOff\n"),
@@ -211,12 +220,11 @@ fn plans_for_usable_ranks_alone(rt: HostRuntime) -> Result<(), Fail> {
         let is_as_said = answers_so(&rt, rt.alloc(), script, ENOUGH, 65536, accepted, text);
         holds_in(&rt, is_as_said, &script);
     }
-    Ok(())
 }
 
 // Behind the read in which the faulty line ends a strict run reads nothing.
 #[test]
-fn a_strict_run_ends_at_the_first_fault(rt: HostRuntime) -> Result<(), Fail> {
+fn a_strict_run_ends_at_the_first_fault(rt: HostRuntime) {
     let script = "ranks 1\nload /a\nranks 1\ncost\n";
     let mut sink = sink_of(rt.alloc(), ENOUGH);
     let source = source_of(script.as_bytes(), 3);
@@ -224,7 +232,6 @@ fn a_strict_run_ends_at_the_first_fault(rt: HostRuntime) -> Result<(), Fail> {
     same(&rt, &result, &Ok(false));
     assert!(rt; sink.bytes.as_slice() == b"line 2: syntax\n".as_slice());
     same(&rt, &ENOUGH.saturating_sub(left), &6);
-    Ok(())
 }
 
 // The answers to whole lines stand written before the next read is asked for, of which each fails here in turn.
@@ -237,12 +244,11 @@ fn stops_at_read<T: Threads + Wait + Sync>(rt: &T, alloc: Global, reads: usize) 
 }
 
 #[test]
-fn each_failed_read_ends_a_run(rt: HostRuntime) -> Result<(), Fail> {
+fn each_failed_read_ends_a_run(rt: HostRuntime) {
     for reads in 0..11usize {
         let is_as_said = stops_at_read(&rt, rt.alloc(), reads);
         holds_in(&rt, is_as_said, &reads);
     }
-    Ok(())
 }
 
 fn stops_at_write<T: Threads + Wait + Sync>(rt: &T, alloc: Global, writes: usize) -> bool {
@@ -255,18 +261,17 @@ fn stops_at_write<T: Threads + Wait + Sync>(rt: &T, alloc: Global, writes: usize
 }
 
 #[test]
-fn each_failed_write_ends_a_run(rt: HostRuntime) -> Result<(), Fail> {
+fn each_failed_write_ends_a_run(rt: HostRuntime) {
     for (writes, _) in TWO_PARTS_COST.as_bytes().iter().enumerate() {
         let is_as_said = stops_at_write(&rt, rt.alloc(), writes);
         holds_in(&rt, is_as_said, &writes);
     }
-    Ok(())
 }
 
 // With `rt try --test --fail-alloc N`, the N-th growth is refused: one answer at most says so, and a `ranks` that was
 // refused is accepted when it is tried again.
 #[test]
-fn a_refused_ranks_is_tried_again(rt: HostRuntime) -> Result<(), Fail> {
+fn a_refused_ranks_is_tried_again(rt: HostRuntime) {
     let mut sink = sink_of(rt.alloc(), ENOUGH);
     let source = source_of(b"ranks 1\nranks 1\nstat\n", ENOUGH);
     let (result, _left) = carried_out(&rt, rt.alloc(), source, &mut sink, 4, false);
@@ -285,5 +290,4 @@ fn a_refused_ranks_is_tried_again(rt: HostRuntime) -> Result<(), Fail> {
             &text,
         );
     }
-    Ok(())
 }

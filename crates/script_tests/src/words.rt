@@ -1,6 +1,6 @@
 //! Command lines and what they come to.
 
-use crate::same::{holds_in, same, same_in};
+use crate::same::{Sure, holds_in, same, same_in};
 use command_line::{OptionsError, Settings, options};
 use std::test::Fail;
 
@@ -54,7 +54,7 @@ fn reads_settings(rt: HostRuntime) -> Result<(), Fail> {
 }
 
 #[test]
-fn refuses_other_lines(rt: HostRuntime) -> Result<(), Fail> {
+fn refuses_other_lines(rt: HostRuntime) {
     let table: [&[&str]; 14] = [
         &["mdbal", "--limit", "0"],
         &["mdbal", "--limit", "65537"],
@@ -74,18 +74,17 @@ fn refuses_other_lines(rt: HostRuntime) -> Result<(), Fail> {
     for words in table {
         match options(rt.alloc(), words) {
             Err(OptionsError::Refused(error)) => {
-                let text = format!(in rt.alloc(); "{error}")?;
+                let text = format!(in rt.alloc(); "{error}").sure(&rt);
                 holds_in(&rt, text.starts_with("error: "), &words);
                 same_in(&rt, &OptionsError::Refused(error).status(), &2, &words);
             }
             other => holds_in(&rt, false, &(words, other)),
         }
     }
-    Ok(())
 }
 
 #[test]
-fn tells_help_apart(rt: HostRuntime) -> Result<(), Fail> {
+fn tells_help_apart(rt: HostRuntime) {
     let table: [&[&str]; 3] = [
         &["mdbal", "--help"],
         &["mdbal", "-h"],
@@ -95,7 +94,7 @@ fn tells_help_apart(rt: HostRuntime) -> Result<(), Fail> {
         match options(rt.alloc(), words) {
             Err(help) => {
                 same_in(&rt, &help.status(), &0, &words);
-                let text = format!(in rt.alloc(); "{help}")?;
+                let text = format!(in rt.alloc(); "{help}").sure(&rt);
                 holds_in(&rt, text.contains("Usage: mdbal [OPTIONS]"), &words);
                 holds_in(&rt, text.contains("--limit <N>"), &words);
                 holds_in(&rt, text.contains("--strict"), &words);
@@ -104,37 +103,34 @@ fn tells_help_apart(rt: HostRuntime) -> Result<(), Fail> {
             Ok(settings) => holds_in(&rt, false, &(words, settings)),
         }
     }
-    Ok(())
 }
 
 #[test]
-fn tells_the_version_apart(rt: HostRuntime) -> Result<(), Fail> {
+fn tells_the_version_apart(rt: HostRuntime) {
     let table: [&[&str]; 2] = [&["mdbal", "--version"], &["mdbal", "-V"]];
     for words in table {
         match options(rt.alloc(), words) {
             Err(OptionsError::Version(error)) => {
-                let text = format!(in rt.alloc(); "{error}")?;
+                let text = format!(in rt.alloc(); "{error}").sure(&rt);
                 same_in(&rt, &text.as_str(), &"mdbal 0.1.0\n", &words);
                 same_in(&rt, &OptionsError::Version(error).status(), &0, &words);
             }
             other => holds_in(&rt, false, &(words, other)),
         }
     }
-    Ok(())
 }
 
 #[test]
-fn prints_want_of_memory(rt: HostRuntime) -> Result<(), Fail> {
-    let text = format!(in rt.alloc(); "{}", OptionsError::Memory)?;
+fn prints_want_of_memory(rt: HostRuntime) {
+    let text = format!(in rt.alloc(); "{}", OptionsError::Memory).sure(&rt);
     same(&rt, &text.as_str(), &"mdbal: 0 Memory\n");
     same(&rt, &OptionsError::Memory.status(), &2);
-    Ok(())
 }
 
 // With `rt try --test --fail-alloc N`, the N-th growth is refused: one answer at most is want of
 // memory, and all others are as ever.
 #[test]
-fn a_refused_growth_is_told(rt: HostRuntime) -> Result<(), Fail> {
+fn a_refused_growth_is_told(rt: HostRuntime) {
     let accepted: [&str; 4] = ["mdbal", "--limit", "2", "--strict"];
     let refused: [&str; 3] = ["mdbal", "--limit", "0"];
     let wanted = Settings {
@@ -157,5 +153,4 @@ fn a_refused_growth_is_told(rt: HostRuntime) -> Result<(), Fail> {
         }
     }
     assert!(rt; without_memory.iter().filter(|turn| **turn).count() <= 1);
-    Ok(())
 }

@@ -10,7 +10,7 @@ use heat_ledger::Share;
 use mds_board::Board;
 use mds_types::{Dir, Dirs, Order, Rank};
 use naming::Naming;
-use rank_threads::{OpenGate, Work, export_phase, serve_phase};
+use rank_threads::{OpenGate, export_phase, serve_phase};
 use std::alloc::{AllocError, Global};
 use std::io;
 use std::marker::{Send, Sync};
@@ -69,23 +69,16 @@ fn make<J: Naming, M: Publisher<J>>(
 }
 
 // A board of so many ranks and directories, the root with them, and the share of each rank.
-fn open<'r, J: Naming, R: Wait>(
-    rt: &'r R,
+fn board_of<J: Naming, M: Publisher<J>>(
     alloc: Global,
-    names: (heat_ledger::NewBook, authority_map::NewMap),
+    parts: BoardParts<J, M>,
     ranks: u8,
     dirs: u32,
-) -> Result<(Board<J, MapWriter<J, &'r R>>, Vec<Share<J>>), AllocError>
-    requires book { names.0 ≡ J.ledger }
-    requires map { names.1 ≡ J.map }
+) -> Result<(Board<J, M>, Vec<Share<J>>), AllocError>
     requires limit { J.limit ≡ 65536 }
     requires ranks { (1 ≤ ranks) × (ranks ≤ 64) }
 {
-    let (book, map) = names;
-    let Ok((writer, _readers)) = MapWriter::<J, &'r R>::open(rt, alloc, map, DIRECTORIES, 1) else {
-        return Err(AllocError);
-    };
-    match Board::new(alloc, BoardParts::new(book, writer), DIRECTORIES, ranks) {
+    match Board::new(alloc, parts, DIRECTORIES, ranks) {
         Ok((mut board, shares)) => {
             if make(alloc, &mut board, ranks, dirs).is_ok() {
                 return Ok((board, shares));
@@ -157,13 +150,17 @@ fn asked(ranks: u8, hits: u32) -> u64 {
 }
 
 // The requests of each rank on its directory.
-fn scripts(alloc: Global, ranks: u8, hits: u32) -> Result<Vec<Vec<Work>>, AllocError> {
+fn scripts(
+    alloc: Global,
+    ranks: u8,
+    hits: u32,
+) -> Result<Vec<Vec<rank_threads::Work>>, AllocError> {
     let each = requests_of(ranks, hits);
     let mut scripts = Vec::new(alloc);
     for number in 0..ranks {
         let mut script = Vec::new(alloc);
         for _ in 0..each {
-            script.push(Work {
+            script.push(rank_threads::Work {
                 dir: Dir::new(u32::from(number) + 1),
                 hits,
             })?;
@@ -177,7 +174,7 @@ fn serve_alone<J: Naming, M: Publisher<J>>(
     alloc: Global,
     board: &mut Board<J, M>,
     number: u8,
-    script: &[Work],
+    script: &[rank_threads::Work],
     share: &mut Share<J>,
 ) {
     for work in script {
@@ -195,7 +192,7 @@ fn serve<J: Naming + Send + Sync, M: Publisher<J> + Send, R: Threads + Wait + Sy
     rt: &R,
     alloc: Global,
     board: Board<J, M>,
-    scripts: &[Vec<Work>],
+    scripts: &[Vec<rank_threads::Work>],
     shares: Vec<Share<J>>,
     by_threads: bool,
 ) -> Board<J, M> {
@@ -211,23 +208,26 @@ fn serve<J: Naming + Send + Sync, M: Publisher<J> + Send, R: Threads + Wait + Sy
     board
 }
 
-/// The time of a phase of requests.
-pub fn time_serve<J: Naming + Send + Sync, R: Threads + Wait + Clock + Sync>(
+// The time of a phase of requests on a new board.
+fn time_serve<J: Naming + Send + Sync, M: Publisher<J> + Send, R: Threads + Wait + Clock + Sync>(
     rt: &R,
     alloc: Global,
-    names: (heat_ledger::NewBook, authority_map::NewMap),
+    parts: BoardParts<J, M>,
     ranks: u8,
     hits: u32,
     by_threads: bool,
 ) -> io::Result<u128>
-    requires book { names.0 ≡ J.ledger }
-    requires map { names.1 ≡ J.map }
     requires limit { J.limit ≡ 65536 }
     requires ranks { (1 ≤ ranks) × (ranks ≤ 64) }
 {
-    let orders = deal(alloc, ranks, u32::from(ranks) + 1)?;
-    let scripts = scripts(alloc, ranks, hits)?;
-    let (mut board, shares) = open::<J, R>(rt, alloc, names, ranks, u32::from(ranks) + 1)?;
+    let (mut board, shares) = board_of(alloc, parts, ranks, u32::from(ranks) + 1)?;
+    let (Ok(orders), Ok(scripts)) = (
+        deal(alloc, ranks, u32::from(ranks) + 1),
+        scripts(alloc, ranks, hits),
+    ) else {
+        board.end();
+        return Err(failed("no memory"));
+    };
     let _outcomes = carry_out_orders(&mut board, alloc, &orders);
     let start = rt.monotonic();
     let board = serve(rt, alloc, board, &scripts, shares, by_threads);
@@ -276,22 +276,25 @@ fn counted<J: Naming, M: Publisher<J>>(board: &Board<J, M>, ranks: u8) -> u64 {
     counted
 }
 
-/// The time of a phase of exports, in which each rank gives its directories to the next.
-pub fn time_export<J: Naming + Send + Sync, R: Threads + Wait + Clock + Sync>(
+// The time of a phase of exports on a new board, in which each rank gives its directories to the next.
+fn time_export<J: Naming + Send + Sync, M: Publisher<J> + Send, R: Threads + Wait + Clock + Sync>(
     rt: &R,
     alloc: Global,
-    names: (heat_ledger::NewBook, authority_map::NewMap),
+    parts: BoardParts<J, M>,
     ranks: u8,
     by_threads: bool,
 ) -> io::Result<u128>
-    requires book { names.0 ≡ J.ledger }
-    requires map { names.1 ≡ J.map }
     requires limit { J.limit ≡ 65536 }
     requires ranks { (1 ≤ ranks) × (ranks ≤ 64) }
 {
-    let first = deal(alloc, ranks, DIRECTORIES)?;
-    let orders = pass_on(alloc, ranks, DIRECTORIES)?;
-    let (mut board, _shares) = open::<J, R>(rt, alloc, names, ranks, DIRECTORIES)?;
+    let (mut board, _shares) = board_of(alloc, parts, ranks, DIRECTORIES)?;
+    let (Ok(first), Ok(orders)) = (
+        deal(alloc, ranks, DIRECTORIES),
+        pass_on(alloc, ranks, DIRECTORIES),
+    ) else {
+        board.end();
+        return Err(failed("no memory"));
+    };
     let _outcomes = carry_out_orders(&mut board, alloc, &first);
     let start = rt.monotonic();
     let board = export(rt, alloc, board, &orders, by_threads);
@@ -302,4 +305,56 @@ pub fn time_export<J: Naming + Send + Sync, R: Threads + Wait + Clock + Sync>(
         return Err(failed("an order isn't done"));
     }
     Ok(end?.saturating_sub(start?).as_nanos())
+}
+
+/// What is timed.
+#[derive(Clone, Copy)]
+pub enum Work {
+    /// Requests of so many hits.
+    Serve(u32),
+    /// Exports.
+    Export,
+}
+
+fn time_on<J: Naming + Send + Sync, M: Publisher<J> + Send, R: Threads + Wait + Clock + Sync>(
+    rt: &R,
+    alloc: Global,
+    parts: BoardParts<J, M>,
+    work: Work,
+    ranks: u8,
+    by_threads: bool,
+) -> io::Result<u128>
+    requires limit { J.limit ≡ 65536 }
+    requires ranks { (1 ≤ ranks) × (ranks ≤ 64) }
+{
+    match work {
+        Work::Serve(hits) => time_serve(rt, alloc, parts, ranks, hits, by_threads),
+        Work::Export => time_export(rt, alloc, parts, ranks, by_threads),
+    }
+}
+
+/// The time of a phase on a new board.
+///
+/// The board is opened in one place, since a function that knows the type of its map's writer is dear to prove.
+pub fn time_phase<J: Naming + Send + Sync, R: Threads + Wait + Clock + Sync>(
+    rt: &R,
+    alloc: Global,
+    names: (heat_ledger::NewBook, authority_map::NewMap),
+    work: Work,
+    ranks: u8,
+    by_threads: bool,
+) -> io::Result<u128>
+    requires book { names.0 ≡ J.ledger }
+    requires map { names.1 ≡ J.map }
+    requires limit { J.limit ≡ 65536 }
+    requires ranks { (1 ≤ ranks) × (ranks ≤ 64) }
+{
+    let (book, map) = names;
+    match MapWriter::<J, &R>::open(rt, alloc, map, DIRECTORIES, 1) {
+        Ok((writer, _readers)) => {
+            let parts = BoardParts::new(book, writer);
+            time_on(rt, alloc, parts, work, ranks, by_threads)
+        }
+        Err(_) => Err(failed("no map")),
+    }
 }

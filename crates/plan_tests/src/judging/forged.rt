@@ -2,11 +2,11 @@
 
 use super::{CHAIN, judged};
 use crate::given::{InTable, at_last, list_of, problem, table};
-use crate::same::{holds_in, same_in};
+use crate::same::{Sure, holds_in, same_in};
 use arrayvec::ArrayVec;
 use mds_types::{CutProof, DualProof, Plan, Problem, Rank};
 use std::alloc::Global;
-use std::test::Fail;
+use std::process::Abort;
 
 /// A plan for the chain, with rank prices -2 and 0 and part prices 2 and 2.
 #[derive(Clone, Copy)]
@@ -34,25 +34,25 @@ const TRUE_CLAIM: Claim = Claim {
 };
 
 /// The plan that a claim describes.
-fn plan_of(alloc: Global, claim: &Claim) -> Result<Plan, Fail> {
+fn plan_of(rt: &impl Abort, alloc: Global, claim: &Claim) -> Plan {
     let mut rank = ArrayVec::new();
-    rank.push(Rank::new(claim.rank[0]).ok_or("no rank")?);
-    rank.push(Rank::new(claim.rank[1]).ok_or("no rank")?);
-    Ok(Plan {
-        part: list_of(alloc, &claim.part)?,
+    rank.push(Rank::new(claim.rank[0]).ok_or("no rank").sure(rt));
+    rank.push(Rank::new(claim.rank[1]).ok_or("no rank").sure(rt));
+    Plan {
+        part: list_of(alloc, &claim.part).sure(rt),
         rank,
         greatest: claim.greatest,
         moved: claim.moved,
-        cut: table(alloc, &claim.table)?,
+        cut: table(rt, alloc, &claim.table),
         dual: DualProof {
-            part_price: list_of(alloc, &claim.prices[..2])?,
-            rank_price: list_of(alloc, &claim.prices[2..])?,
+            part_price: list_of(alloc, &claim.prices[..2]).sure(rt),
+            rank_price: list_of(alloc, &claim.prices[2..]).sure(rt),
         },
-    })
+    }
 }
 
-fn accepts(alloc: Global, problem: &Problem, claim: &Claim) -> Result<bool, Fail> {
-    Ok(judged(alloc, problem, &plan_of(alloc, claim)?)?)
+fn accepts(rt: &impl Abort, alloc: Global, problem: &Problem, claim: &Claim) -> bool {
+    judged(alloc, problem, &plan_of(rt, alloc, claim)).sure(rt)
 }
 
 /// The table of the true claim with one row changed.
@@ -80,25 +80,24 @@ const FORGED_ROWS: [(usize, InTable, bool); 11] = [
 ];
 
 #[test]
-fn judges_forged_tables(rt: HostRuntime) -> Result<(), Fail> {
+fn judges_forged_tables(rt: HostRuntime) {
     let alloc = rt.alloc();
-    let chain = problem(alloc, &CHAIN, 3)?;
-    assert!(rt; accepts(alloc, &chain, &TRUE_CLAIM)?);
+    let chain = problem(&rt, alloc, &CHAIN, 3);
+    assert!(rt; accepts(&rt, alloc, &chain, &TRUE_CLAIM));
     for (row, changed, accepted) in FORGED_ROWS {
-        let says = accepts(alloc, &chain, &with_row(row, changed))?;
+        let says = accepts(&rt, alloc, &chain, &with_row(row, changed));
         same_in(&rt, &says, &accepted, &(row, changed));
     }
     let mut claim = TRUE_CLAIM;
     claim.table[0].0 = 3;
     claim.table[1].0 = 3;
-    holds_in(&rt, !accepts(alloc, &chain, &claim)?, &"a cut too many");
+    holds_in(&rt, !accepts(&rt, alloc, &chain, &claim), &"a cut too many");
     claim.table = [(u32::MAX, u64::MAX, u64::MAX, false); 4];
     holds_in(
         &rt,
-        !accepts(alloc, &chain, &claim)?,
+        !accepts(&rt, alloc, &chain, &claim),
         &"the greatest numbers",
     );
-    Ok(())
 }
 
 const FORGED_PLACINGS: [(&str, Claim); 13] = [
@@ -197,13 +196,12 @@ const FORGED_PLACINGS: [(&str, Claim); 13] = [
 ];
 
 #[test]
-fn judges_forged_placings(rt: HostRuntime) -> Result<(), Fail> {
+fn judges_forged_placings(rt: HostRuntime) {
     let alloc = rt.alloc();
-    let chain = problem(alloc, &CHAIN, 3)?;
+    let chain = problem(&rt, alloc, &CHAIN, 3);
     for (what, claim) in FORGED_PLACINGS {
-        holds_in(&rt, !accepts(alloc, &chain, &claim)?, &what);
+        holds_in(&rt, !accepts(&rt, alloc, &chain, &claim), &what);
     }
-    Ok(())
 }
 
 /// A list of a plan.
@@ -216,77 +214,81 @@ enum List {
 }
 
 /// These entries with one more, or with one fewer.
-fn resized<T: Copy>(alloc: Global, entries: &[T], longer: bool, last: T) -> Result<Vec<T>, Fail> {
-    let mut list = at_last(|| Vec::with_capacity(alloc, 8))?;
+fn resized<T: Copy>(
+    rt: &impl Abort,
+    alloc: Global,
+    entries: &[T],
+    longer: bool,
+    last: T,
+) -> Vec<T> {
+    let mut list = at_last(|| Vec::with_capacity(alloc, 8)).sure(rt);
     let fewer = entries.len().saturating_sub(1);
     let kept = if longer { entries.len() } else { fewer };
     for entry in entries.iter().take(kept) {
-        list.push(*entry)?;
+        list.push(*entry).sure(rt);
     }
     if longer {
-        list.push(last)?;
+        list.push(last).sure(rt);
     }
-    Ok(list)
+    list
 }
 
 /// The true plan with one of its lists longer or shorter by an entry.
-fn with_list(alloc: Global, list: List, longer: bool) -> Result<Plan, Fail> {
-    let mut part = list_of(alloc, &TRUE_CLAIM.part)?;
-    let mut part_price = list_of(alloc, &TRUE_CLAIM.prices[..2])?;
-    let mut rank_price = list_of(alloc, &TRUE_CLAIM.prices[2..])?;
-    let mut cut = table(alloc, &TRUE_CLAIM.table)?;
+fn with_list(rt: &impl Abort, alloc: Global, list: List, longer: bool) -> Plan {
+    let mut part = list_of(alloc, &TRUE_CLAIM.part).sure(rt);
+    let mut part_price = list_of(alloc, &TRUE_CLAIM.prices[..2]).sure(rt);
+    let mut rank_price = list_of(alloc, &TRUE_CLAIM.prices[2..]).sure(rt);
+    let mut cut = table(rt, alloc, &TRUE_CLAIM.table);
     match list {
-        List::Part => part = resized(alloc, &TRUE_CLAIM.part, longer, 1)?,
-        List::PartPrice => part_price = resized(alloc, &TRUE_CLAIM.prices[..2], longer, 0)?,
-        List::RankPrice => rank_price = resized(alloc, &TRUE_CLAIM.prices[2..], longer, 0)?,
+        List::Part => part = resized(rt, alloc, &TRUE_CLAIM.part, longer, 1),
+        List::PartPrice => part_price = resized(rt, alloc, &TRUE_CLAIM.prices[..2], longer, 0),
+        List::RankPrice => rank_price = resized(rt, alloc, &TRUE_CLAIM.prices[2..], longer, 0),
         List::Table => {
-            let rows = resized(alloc, &TRUE_CLAIM.table, longer, (0, 0, 0, false))?;
-            cut = table(alloc, &rows)?;
+            let rows = resized(rt, alloc, &TRUE_CLAIM.table, longer, (0, 0, 0, false));
+            cut = table(rt, alloc, &rows);
         }
     }
-    Ok(Plan {
+    Plan {
         part,
         cut,
         dual: DualProof {
             part_price,
             rank_price,
         },
-        ..plan_of(alloc, &TRUE_CLAIM)?
-    })
+        ..plan_of(rt, alloc, &TRUE_CLAIM)
+    }
 }
 
 #[test]
-fn judges_lists_of_other_lengths(rt: HostRuntime) -> Result<(), Fail> {
+fn judges_lists_of_other_lengths(rt: HostRuntime) {
     let alloc = rt.alloc();
-    let chain = problem(alloc, &CHAIN, 3)?;
+    let chain = problem(&rt, alloc, &CHAIN, 3);
     let lists = [List::Part, List::Table, List::PartPrice, List::RankPrice];
     for (at, list) in lists.iter().enumerate() {
         for longer in [false, true] {
-            let plan = with_list(alloc, *list, longer)?;
-            holds_in(&rt, !judged(alloc, &chain, &plan)?, &(at, longer));
+            let plan = with_list(&rt, alloc, *list, longer);
+            holds_in(&rt, !judged(alloc, &chain, &plan).sure(&rt), &(at, longer));
         }
     }
-    let mut more = plan_of(alloc, &TRUE_CLAIM)?;
+    let mut more = plan_of(&rt, alloc, &TRUE_CLAIM);
     assert!(rt; more.rank.len() == 2);
-    more.rank.push(Rank::new(2).ok_or("no rank")?);
+    more.rank.push(Rank::new(2).ok_or("no rank").sure(&rt));
     holds_in(
         &rt,
-        !judged(alloc, &chain, &more)?,
+        !judged(alloc, &chain, &more).sure(&rt),
         &"a rank without a part",
     );
-    Ok(())
 }
 
 #[test]
-fn judges_other_proofs(rt: HostRuntime) -> Result<(), Fail> {
+fn judges_other_proofs(rt: HostRuntime) {
     let alloc = rt.alloc();
-    let chain = problem(alloc, &CHAIN, 3)?;
+    let chain = problem(&rt, alloc, &CHAIN, 3);
     for proof in [CutProof::Zero, CutProof::Heavy(1), CutProof::Heavy(9)] {
         let plan = Plan {
             cut: proof,
-            ..plan_of(alloc, &TRUE_CLAIM)?
+            ..plan_of(&rt, alloc, &TRUE_CLAIM)
         };
-        holds_in(&rt, !judged(alloc, &chain, &plan)?, &plan.cut);
+        holds_in(&rt, !judged(alloc, &chain, &plan).sure(&rt), &plan.cut);
     }
-    Ok(())
 }

@@ -14,8 +14,8 @@ pub returns-in-TooMany-clause-lower : goal.returns-in-TooMany-clause-lower
 returns-in-TooMany-clause-lower c =
     let more = rw c.in-TooMany.is at c.in_ok-hottest.ensures.too_many in
     let same : c.in-TooMany.above - 1 + 1 ≡ c.in-TooMany.above = omega (arith, more.0) in
-    let P : ℕ → Type 0 = λ bound. IsLowerBound c.args.rows.now c.args.ranks bound in
-    subst P same (lower_from_more c.args.rows.now c.args.ranks (c.in-TooMany.above - 1) more.1)
+    let P : ℕ → Type 0 = λ bound. IsLowerBound c.args.of.rows.now c.args.of.ranks bound in
+    subst P same (lower_from_more c.args.of.rows.now c.args.of.ranks (c.in-TooMany.above - 1) more.1)
 
 pub returns-in-TooMany-clause-width : goal.returns-in-TooMany-clause-width
 returns-in-TooMany-clause-width c =

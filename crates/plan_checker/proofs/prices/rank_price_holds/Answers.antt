@@ -17,12 +17,12 @@ loop-p-preserved c =
     rw (to_z-of_z w64 c.args.price price_fits) (record {
       below = below_more
           (λ (q : ℕ). (slice_index_or c.args.part_price.now q (pos 0) +ℤ c.args.price)
-          ≤ℤ pos (cell_at_place c.args.cells.now c.args.width q c.args.place))
+          ≤ℤ pos (cell_at_place c.args.column.cells.now c.args.column.width q c.args.column.place))
           p (rw (to_z-of_z w64 c.args.price price_fits) at c.loop-p.invariant.below)
           (rw (to_z-of_z w64 c.args.price price_fits) at here.0);
       chosen = below_more
           (λ (q : ℕ). slice_index c.args.rank.now q ≡ c.args.r → (slice_index_or c.args.part_price.now q (pos 0) +ℤ c.args.price)
-          ≡ pos (cell_at_place c.args.cells.now c.args.width q c.args.place))
+          ≡ pos (cell_at_place c.args.column.cells.now c.args.column.width q c.args.column.place))
           p (rw (to_z-of_z w64 c.args.price price_fits) at c.loop-p.invariant.chosen)
           (λ same. (rw (to_z-of_z w64 c.args.price price_fits) at here.1)
           (c.eq.ensures ∙ eq-eqb c.index-rank-p.result c.args.r (rank_is ∙ same)));

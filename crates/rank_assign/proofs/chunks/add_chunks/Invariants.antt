@@ -6,5 +6,5 @@ use Rattle.rank_assign.proofs.chunks.add_chunks.Given as goal
 abbrev pub invariant-loop-k : goal.invariant-loop-k
 invariant-loop-k g l = record {
   size : length l.total ≡ length l.initial.total;
-  added : AreSummed l.of.rows.now l.of.part.now l.of.count 0 (edge (length l.of.rows.now) l.first l.chunk l.k) l.total;
+  added : AreSummed l.of.rows.now l.of.part.now l.of.count 0 (edge (length l.of.rows.now) l.fn.batch.first l.fn.batch.chunk l.k) l.total;
 }

@@ -9,13 +9,13 @@ use Rattle.residual_cut.proofs.detach.hottest_left.Goals as goal
 
 pub loop-row-init : goal.loop-row-init
 loop-row-init c =
-    let read : c.index-row.result.now ≡ slice_index c.args.links.now.first.items c.args.i =
+    let read : c.index-row.result.now ≡ slice_index c.args.of.links.now.first.items c.args.i =
     c.index-row.ensures
-    ∙ get_or_default c.args.links.now.first.items c.args.i c.index-row.result.now 0 (omega (arith, c.requires.linked.first_size, c.requires.inside)) in
-    let next : IsNextChild c.args.rows.now c.args.i 0 c.index-row.result.now = rw read (c.requires.linked.children c.args.i c.requires.inside) in
+    ∙ get_or_default c.args.of.links.now.first.items c.args.i c.index-row.result.now 0 (omega (arith, c.requires.linked.first_size, c.requires.inside)) in
+    let next : IsNextChild c.args.of.rows.now c.args.i 0 c.index-row.result.now = rw read (c.requires.linked.children c.args.i c.requires.inside) in
     record {
       are = rw c.new.ensures.items
-          (free_none c.args.rows.now (rest_at c.args.table.now) (is_cut_at c.args.table.now) c.args.i c.index-row.result.now c.args.most next);
+          (free_none c.args.of.rows.now (rest_at c.args.table.now) (is_cut_at c.args.table.now) c.args.i c.index-row.result.now c.args.most next);
       full = λ some. absurd (omega arith);
       inside =
           ⊎_elim (λ (more : 0 < c.index-row.result.now). next.inside more)
@@ -26,16 +26,16 @@ loop-row-init c =
 
 pub loop-row-preserved : goal.loop-row-preserved
 loop-row-preserved c =
-    let rows = c.args.rows.now in
+    let rows = c.args.of.rows.now in
     let k = c.loop-row.row in
     let some : 0 < c.loop-row.row = omega arith in
     let child = c.loop-row.invariant.child some in
-    let read : c.index-row-in-loop-row.result.now ≡ slice_index c.args.links.now.next.items c.loop-row.row =
+    let read : c.index-row-in-loop-row.result.now ≡ slice_index c.args.of.links.now.next.items c.loop-row.row =
     c.index-row-in-loop-row.ensures
-    ∙ get_or_default c.args.links.now.next.items c.loop-row.row c.index-row-in-loop-row.result.now 0
+    ∙ get_or_default c.args.of.links.now.next.items c.loop-row.row c.index-row-in-loop-row.result.now 0
     (omega (arith, c.requires.linked.next_size, c.loop-row.invariant.inside)) in
-    let next : IsNextChild c.args.rows.now c.args.i c.loop-row.row c.index-row-in-loop-row.result.now =
-    rw (read, ← child_parent c.args.rows.now c.args.i c.loop-row.row child)
+    let next : IsNextChild c.args.of.rows.now c.args.i c.loop-row.row c.index-row-in-loop-row.result.now =
+    rw (read, ← child_parent c.args.of.rows.now c.args.i c.loop-row.row child)
     (c.requires.linked.siblings c.loop-row.row (omega arith) some c.loop-row.invariant.inside) in
     record {
       are = free_more rows (rest_at c.args.table.now) (is_cut_at c.args.table.now) c.args.i k c.index-row-in-loop-row.result.now

@@ -8,9 +8,9 @@ use Rattle.residual_cut.proofs.probe.cut_hot_row.Goals as goal
 pub loop-init : goal.loop-init
 loop-init c = record {
   room = c.requires.room;
-  cutting = (let all : c.args.most - c.args.seen.now.cuts - 0 ≡ c.args.most - c.args.seen.now.cuts = omega arith in
-      rw all (cutting_start c.args.rows.now (slice_index c.args.trees.now.heat.items) (slice_index c.args.rest.now) c.args.bound c.args.i
-      (c.args.most - c.args.seen.now.cuts) c.in_ok-hottest.hottest.floor c.args.seen.now c.in_ok-hottest.hottest.children.items
+  cutting = (let all : c.args.of.ranks - c.args.seen.now.cuts - 0 ≡ c.args.of.ranks - c.args.seen.now.cuts = omega arith in
+      rw all (cutting_start c.args.of.rows.now (slice_index c.args.of.trees.now.heat.items) (slice_index c.args.rest.now) c.args.bound c.args.i
+      (c.args.of.ranks - c.args.seen.now.cuts) c.in_ok-hottest.hottest.floor c.args.seen.now c.in_ok-hottest.hottest.children.items
       (heap_items c.from-heap.result) c.requires.forest c.requires.probed c.in_ok-hottest.ensures (search rules)));
   order = search rules;
   count = omega arith;
@@ -20,22 +20,22 @@ loop-init c = record {
 pub returns-in_default-clause-done : goal.returns-in_default-clause-done
 returns-in_default-clause-done c =
     let size : length (heap_items c.loop.heap) ≡ heap_len c.loop.heap = search rules in
-    λ _. cutting_empty c.args.rows.now (slice_index c.args.trees.now.heat.items) (slice_index c.loop.rest) c.args.bound c.args.i
-    (c.args.most - c.args.seen.now.cuts - c.loop.counter) c.loop.seen (heap_items c.loop.heap) c.requires.forest c.requires.inside
+    λ _. cutting_empty c.args.of.rows.now (slice_index c.args.of.trees.now.heat.items) (slice_index c.loop.rest) c.args.bound c.args.i
+    (c.args.of.ranks - c.args.seen.now.cuts - c.loop.counter) c.loop.seen (heap_items c.loop.heap) c.requires.forest c.requires.inside
     (c.requires.cool c.args.i c.requires.inside) c.loop.invariant.cutting (size ∙ c.in_default.ensures.none) (omega arith)
 
 pub loop-preserved : goal.loop-preserved
 loop-preserved c =
-    let heat : ℕ → ℕ = slice_index c.args.trees.now.heat.items in
+    let heat : ℕ → ℕ = slice_index c.args.of.trees.now.heat.items in
     let i = c.args.i in
-    let most = c.args.most - c.args.seen.now.cuts - c.loop.counter in
-    let pop : IsPopped c.args.rows.now (rest_at c.loop.invariant.cutting.probed.table) (is_cut_at c.loop.invariant.cutting.probed.table) c.args.i c.in-Some.child =
-    cutting_popped c.args.rows.now heat (slice_index c.loop.rest) c.args.bound i most c.loop.seen (heap_items c.loop.heap)
+    let most = c.args.of.ranks - c.args.seen.now.cuts - c.loop.counter in
+    let pop : IsPopped c.args.of.rows.now (rest_at c.loop.invariant.cutting.probed.table) (is_cut_at c.loop.invariant.cutting.probed.table) c.args.i c.in-Some.child =
+    cutting_popped c.args.of.rows.now heat (slice_index c.loop.rest) c.args.bound i most c.loop.seen (heap_items c.loop.heap)
     (heap_items c.pop.new.self) c.in-Some.child c.loop.invariant.cutting c.in-Some.ensures.permutation
     (c.in-Some.ensures.heap_order c.loop.invariant.order).1 in
     record {
       room = length-set c.loop.rest i _ ∙ c.loop.invariant.room;
-      cutting = cutting_step c.args.rows.now heat (slice_index c.loop.rest) _ c.args.bound i most _ c.loop.seen c.with_cut.result
+      cutting = cutting_step c.args.of.rows.now heat (slice_index c.loop.rest) _ c.args.bound i most _ c.loop.seen c.with_cut.result
           (heap_items c.loop.heap) (heap_items c.pop.new.self) c.in-Some.child c.requires.forest c.requires.inside
           c.loop.invariant.cutting (omega arith) pop
           (get_or-set_same c.loop.rest i _ 0 (omega (arith, c.loop.invariant.room, c.requires.inside)))

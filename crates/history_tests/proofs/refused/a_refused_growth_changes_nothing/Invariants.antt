@@ -1,5 +1,0 @@
-use Rattle.history_tests.proofs.refused.a_refused_growth_changes_nothing.Given as goal
-
--- the board's name is that of what was opened for its book and for its map
-abbrev pub ghosts-changed : goal.ghosts-changed
-ghosts-changed g a = record { ledger = a.book; limit = 8; map = a.map }
