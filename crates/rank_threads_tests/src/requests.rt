@@ -41,6 +41,11 @@ pub(crate) fn refused(error: StepError) -> WorkAnswer {
     WorkAnswer::refused(WorkError::Board(BoardError::Step(error)))
 }
 
+// The answer to a request that rank 0 would serve.
+fn elsewhere(rt: &impl Abort) -> WorkAnswer {
+    refused(StepError::Elsewhere(rank(rt, 0)))
+}
+
 /// The scripts of two ranks.
 pub(crate) fn scripts(
     alloc: Global,
@@ -153,18 +158,15 @@ fn ranks_answer_their_requests(rt: HostRuntime) {
     for _ in 0..100u32 {
         let given = names(rt.alloc()).sure(&rt);
         let seen = serve::<Brand, _, _>(&rt, rt.alloc(), given, &JitterGate, &all, None);
-        let first = seen.first.as_slice();
-        let no_dir = refused(StepError::NoDir);
         same(
             &rt,
-            &first,
-            &[served(0, 3), served(1, 5), no_dir].as_slice(),
+            &seen.first.as_slice(),
+            &[served(0, 3), served(1, 5), refused(StepError::NoDir)].as_slice(),
         );
-        let elsewhere = refused(StepError::Elsewhere(rank(&rt, 0)));
         same(
             &rt,
             &seen.second.as_slice(),
-            &[elsewhere, no_dir].as_slice(),
+            &[elsewhere(&rt), refused(StepError::NoDir)].as_slice(),
         );
         same(&rt, &seen.heat, &5);
         same(&rt, &seen.entries, &7);
