@@ -2,78 +2,71 @@
 //!
 //! A path needn't be UTF-8: each of its bytes is one character there, U+0000 to U+00FF. Heat is in thousandths.
 
-use crate::report::{Facts, number_at};
+use crate::report::{Facts, is_told, number_at};
+use crate::writer::TextWriter;
 use ceph_pins::PinChange;
-use mds_types::Rank;
 use std::alloc::{AllocError, Global};
-use std::fmt::Write;
 
 /// Adds a path as a string.
-fn push_string(text: &mut String, path: &[u8]) -> Result<(), AllocError> {
-    text.push('"')?;
+fn push_string(text: &mut TextWriter, path: &[u8]) {
+    text.character('"');
     for byte in path {
         match *byte {
-            b'"' => text.push_str("\\\"")?,
-            b'\\' => text.push_str("\\\\")?,
-            b' '..=b'~' => text.push(char::from(*byte))?,
-            other => write!(text, "\\u{other:04x}")?,
+            b'"' => text.text("\\\""),
+            b'\\' => text.text("\\\\"),
+            b' '..=b'~' => text.character(char::from(*byte)),
+            other => text.hexadecimal("\\u00", other),
         }
     }
-    text.push('"')
+    text.character('"');
 }
 
-/// Adds what stands between two members of a list.
-fn push_comma(text: &mut String, at: usize) -> Result<(), AllocError> {
-    if at > 0 { text.push(',') } else { Ok(()) }
+/// What stands between two members of a list: nothing before the first.
+fn comma(at: usize) -> &'static str {
+    if at > 0 { "," } else { "" }
 }
 
 /// Adds the ranks: those that may have a part, and those where something is now.
-fn push_ranks(text: &mut String, facts: &Facts) -> Result<(), AllocError> {
-    let load = &facts.plan.packing.load;
+fn push_ranks(text: &mut TextWriter, facts: &Facts) {
+    let sums = facts.sums;
     let mut told = 0;
-    for (number, now) in facts.sums.now.iter().enumerate() {
-        let rank = u8::try_from(number).ok().and_then(Rank::new);
-        if *now > 0 || rank.is_some_and(|rank| facts.ranks.has(rank)) {
-            push_comma(text, told)?;
+    for (number, now) in sums.now.iter().enumerate() {
+        if is_told(facts, number, *now) {
+            text.text(comma(told));
             told = 1;
-            let (planned, held) = (number_at(load, number), number_at(facts.pinned, number));
-            let into = number_at(&facts.sums.into, number);
-            let out = number_at(&facts.sums.out, number);
-            write!(
-                text,
-                "\n  {{\"rank\":{number},\"now\":{now},\"planned\":{planned},\"pinned\":{held},\
-                 \"inodes_in\":{into},\"inodes_out\":{out}}}"
-            )?;
+            text.number("\n  {\"rank\":", number as u64);
+            text.number(",\"now\":", *now);
+            text.number(",\"planned\":", number_at(&facts.plan.packing.load, number));
+            text.number(",\"pinned\":", number_at(facts.pinned, number));
+            text.number(",\"inodes_in\":", number_at(&sums.into, number));
+            text.number(",\"inodes_out\":", number_at(&sums.out, number));
+            text.character('}');
         }
     }
-    Ok(())
 }
 
 /// Adds the changes of pins, in the order in which they are to be made. Where a pin is taken away its rank is -1.
-fn push_pins(text: &mut String, facts: &Facts, changes: &[PinChange]) -> Result<(), AllocError> {
+fn push_pins(text: &mut TextWriter, facts: &Facts, changes: &[PinChange]) {
     for (at, change) in changes.iter().enumerate() {
-        push_comma(text, at)?;
-        text.push_str("\n  {\"path\":")?;
-        if let Some(directory) = facts.directories.get(change.row as usize) {
-            push_string(text, directory.path.as_slice())?;
-        } else {
-            push_string(text, b"")?;
+        text.text(comma(at));
+        text.text("\n  {\"path\":");
+        match facts.directories.get(change.row as usize) {
+            Some(directory) => push_string(text, directory.path.as_slice()),
+            None => text.text("\"\""),
         }
         match change.pin {
-            Some(rank) => write!(text, ",\"rank\":{}}}", rank.number())?,
-            None => text.push_str(",\"rank\":-1}")?,
+            Some(rank) => text.number(",\"rank\":", u64::from(rank.number())),
+            None => text.text(",\"rank\":-1"),
         }
+        text.character('}');
     }
-    Ok(())
 }
 
 /// Adds the rank of each part.
-fn push_parts(text: &mut String, facts: &Facts) -> Result<(), AllocError> {
+fn push_parts(text: &mut TextWriter, facts: &Facts) {
     for (at, rank) in facts.plan.packing.rank.iter().enumerate() {
-        push_comma(text, at)?;
-        write!(text, "{}", rank.number())?;
+        text.number(comma(at), u64::from(rank.number()));
     }
-    Ok(())
 }
 
 /// The plan as JSON: bound, loads, the rank of each part, and the changes of pins.
@@ -82,25 +75,21 @@ pub fn make_json(
     facts: &Facts,
     changes: &[PinChange],
 ) -> Result<String, AllocError> {
-    let mut text = String::new(alloc);
+    let mut text = TextWriter::new(alloc);
     let packing = &facts.plan.packing;
-    let (directories, folded) = (facts.directories.len(), facts.folded);
-    writeln!(
-        text,
-        "{{\"directories\":{directories},\"folded\":{folded},\"samples\":{},",
-        facts.samples
-    )?;
-    writeln!(
-        text,
-        "\"greatest\":{},\"bound\":{},\"inodes_moved\":{},\"pins_standing\":{},",
-        packing.greatest, packing.bound, facts.plan.moved, facts.standing
-    )?;
-    text.push_str("\"ranks\":[")?;
-    push_ranks(&mut text, facts)?;
-    text.push_str("],\n\"rank_of_part\":[")?;
-    push_parts(&mut text, facts)?;
-    text.push_str("],\n\"pins\":[")?;
-    push_pins(&mut text, facts, changes)?;
-    text.push_str("]}\n")?;
-    Ok(text)
+    text.number("{\"directories\":", facts.directories.len() as u64);
+    text.number(",\"folded\":", facts.folded as u64);
+    text.number(",\"samples\":", facts.samples);
+    text.number(",\n\"greatest\":", packing.greatest);
+    text.number(",\"bound\":", packing.bound);
+    text.number(",\"inodes_moved\":", facts.plan.moved);
+    text.number(",\"pins_standing\":", facts.standing as u64);
+    text.text(",\n\"ranks\":[");
+    push_ranks(&mut text, facts);
+    text.text("],\n\"rank_of_part\":[");
+    push_parts(&mut text, facts);
+    text.text("],\n\"pins\":[");
+    push_pins(&mut text, facts, changes);
+    text.text("]}\n");
+    text.finish()
 }

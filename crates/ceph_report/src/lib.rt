@@ -12,6 +12,7 @@ pub mod pins;
 pub mod pins_script;
 pub mod report;
 pub mod shown;
+mod writer;
 
 pub use foreign::own_pins;
 pub use json::make_json;

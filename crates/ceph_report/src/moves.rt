@@ -155,7 +155,7 @@ pub fn sums_of(
 }
 
 /// What a pin brings to its rank.
-#[derive(Clone, Copy, Debug)]
+#[derive(Clone, Copy)]
 pub struct Move {
     /// The inodes that come.
     pub inodes: u64,
@@ -187,7 +187,7 @@ fn holders(
 }
 
 /// Heat, in thousandths, and inodes.
-#[derive(Clone, Copy, Debug, Default)]
+#[derive(Clone, Copy, Default)]
 struct Amount {
     inodes: u64,
     heat: u64,

@@ -1,21 +1,21 @@
 //! The list of the pins that this program set: a line `RANK NAME` each, with names as `getfattr` writes them.
 
 use crate::pins::pins_after;
+use crate::writer::BytesWriter;
 use ceph_pins::{PinChange, PinRow};
 use ceph_snapshot::Directory;
 use std::alloc::{AllocError, Global};
 
 /// Adds a name: backslash, newline and return as three octal digits, all else as it is.
-fn push_name(list: &mut Vec<u8>, path: &[u8]) -> Result<(), AllocError> {
+fn push_name(list: &mut BytesWriter, path: &[u8]) {
     for byte in path {
         match *byte {
-            b'\\' => list.extend_from_slice(b"\\134")?,
-            b'\n' => list.extend_from_slice(b"\\012")?,
-            b'\r' => list.extend_from_slice(b"\\015")?,
-            other => list.push(other)?,
+            b'\\' => list.bytes(b"\\134"),
+            b'\n' => list.bytes(b"\\012"),
+            b'\r' => list.bytes(b"\\015"),
+            other => list.byte(other),
         }
     }
-    Ok(())
 }
 
 /// The list of the pins of this program once the changes are made: those that stand
@@ -26,15 +26,15 @@ pub fn make_own_list(
     rows: &[PinRow],
     changes: &[PinChange],
 ) -> Result<Vec<u8>, AllocError> {
-    let mut list = Vec::new(alloc);
     let pins = pins_after(alloc, rows, changes)?;
+    let mut list = BytesWriter::new(alloc);
     for (directory, pin) in directories.iter().zip(pins.as_slice()).rev() {
         if let Some(rank) = *pin {
-            let rank = format!(in alloc; "{} ", rank.number())?;
-            list.extend_from_slice(rank.as_bytes())?;
-            push_name(&mut list, directory.path.as_slice())?;
-            list.push(b'\n')?;
+            list.rank(rank);
+            list.byte(b' ');
+            push_name(&mut list, directory.path.as_slice());
+            list.byte(b'\n');
         }
     }
-    Ok(list)
+    list.finish()
 }

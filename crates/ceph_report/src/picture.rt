@@ -3,10 +3,10 @@
 //! of a directory that are too cold for boxes of their own have a grey one together, behind the others.
 
 use crate::shown::push_path;
+use crate::writer::TextWriter;
 use ceph_snapshot::Directory;
 use mds_types::Rank;
 use std::alloc::{AllocError, Global};
-use std::fmt::Write;
 
 /// The width of the root's box, in hundredths of a pixel.
 const WIDTH: u64 = 140_000;
@@ -21,7 +21,7 @@ const HEIGHT: u64 = 18;
 const CHARACTER: u64 = 680;
 
 /// Where a directory's box is.
-#[derive(Clone, Copy, Debug, Default)]
+#[derive(Clone, Copy, Default)]
 struct Place {
     /// The heat at and below the directory, in thousandths.
     heat: u64,
@@ -41,7 +41,7 @@ struct Place {
 }
 
 /// What the children of a directory come to that have no box of their own, with all below them.
-#[derive(Clone, Copy, Debug, Default)]
+#[derive(Clone, Copy, Default)]
 struct Rest {
     count: u64,
     heat: u64,
@@ -143,135 +143,153 @@ fn name_of(path: &[u8]) -> &[u8] {
     }
 }
 
-/// Adds a path as text of XML.
-fn push_xml(text: &mut String, alloc: Global, path: &[u8], most: usize) -> Result<(), AllocError> {
-    let mut shown = String::new(alloc);
-    push_path(&mut shown, path)?;
-    for byte in shown.as_bytes().iter().take(most) {
+/// Adds text as text of XML.
+fn push_escaped(text: &mut TextWriter, shown: &[u8]) {
+    for byte in shown {
         match *byte {
-            b'&' => text.push_str("&amp;")?,
-            b'<' => text.push_str("&lt;")?,
-            b'>' => text.push_str("&gt;")?,
-            b'"' => text.push_str("&quot;")?,
-            other => text.push(char::from(other))?,
+            b'&' => text.text("&amp;"),
+            b'<' => text.text("&lt;"),
+            b'>' => text.text("&gt;"),
+            b'"' => text.text("&quot;"),
+            other => text.character(char::from(other)),
         }
     }
-    Ok(())
 }
 
-/// Adds a number of hundredths.
-fn push_hundredths(text: &mut String, hundredths: u64) -> Result<(), AllocError> {
-    let (whole, rest) = (hundredths / 100, hundredths % 100);
-    write!(text, "{whole}.{rest:02}")
+/// Adds the first characters of a path as text of XML.
+fn push_xml(text: &mut TextWriter, alloc: Global, path: &[u8], most: usize) {
+    let mut shown = TextWriter::new(alloc);
+    push_path(&mut shown, path);
+    match shown.finish() {
+        Ok(shown) => {
+            let bytes = shown.as_bytes();
+            push_escaped(text, bytes.get(..most).unwrap_or(bytes));
+        }
+        Err(_) => text.refuse(),
+    }
 }
 
-/// Adds the box of a directory and what is shown on hover.
-fn push_box(
-    text: &mut String,
+/// Adds a label and a number of hundredths.
+fn push_hundredths(text: &mut TextWriter, label: &str, hundredths: u64) {
+    text.number(label, hundredths / 100);
+    text.character('.');
+    text.two_digits(hundredths % 100);
+}
+
+/// Adds the beginning of a box, up to what it is filled with.
+fn push_frame(text: &mut TextWriter, left: u64, top: u64, width: u64) {
+    push_hundredths(text, "<rect x=\"", left);
+    text.number("\" y=\"", top);
+    push_hundredths(text, "\" width=\"", width);
+    text.number("\" height=\"", HEIGHT);
+    text.text("\" fill=\"");
+}
+
+/// Adds the beginning of the words in a box.
+fn push_label(text: &mut TextWriter, left: u64, top: u64) {
+    push_hundredths(text, "<text x=\"", left.saturating_add(300));
+    text.number("\" y=\"", top.saturating_add(13));
+    text.text("\">");
+}
+
+/// Adds what is shown on hover.
+fn push_title(
+    text: &mut TextWriter,
     alloc: Global,
     directory: &Directory,
     place: &Place,
     rank: Rank,
+) {
+    text.text("<g><title>");
+    push_xml(text, alloc, directory.path.as_slice(), usize::MAX);
+    text.number("\nrank ", u64::from(rank.number()));
+    text.number(", heat ", directory.heat / 1000);
+    text.number(", with what is below ", place.heat / 1000);
+    text.number("\ninodes ", directory.inodes);
+    text.number(", with what is below ", place.inodes);
+    text.text("</title>\n");
+}
+
+/// Adds the box of a directory, with its name where that fits.
+fn push_box(
+    text: &mut TextWriter,
+    alloc: Global,
+    path: &[u8],
+    place: &Place,
+    rank: Rank,
     is_cut: bool,
-) -> Result<(), AllocError> {
-    let number = u64::from(rank.number());
+) {
     let top = place.depth.saturating_mul(HEIGHT);
-    text.push_str("<g><title>")?;
-    push_xml(text, alloc, directory.path.as_slice(), usize::MAX)?;
-    let (own, below) = (directory.heat / 1000, place.heat / 1000);
-    let (here, inodes) = (directory.inodes, place.inodes);
-    writeln!(
-        text,
-        "\nrank {number}, heat {own}, with what is below {below}\ninodes {here}, with what is below {inodes}</title>"
-    )?;
-    text.push_str("<rect x=\"")?;
-    push_hundredths(text, place.left)?;
-    write!(text, "\" y=\"{top}\" width=\"")?;
-    push_hundredths(text, place.width)?;
-    let class = if is_cut { " class=\"cut\"" } else { "" };
-    let hue = number.saturating_mul(137) % 360;
-    writeln!(
-        text,
-        "\" height=\"{HEIGHT}\" fill=\"hsl({hue},60%,75%)\"{class}/>"
-    )?;
+    push_frame(text, place.left, top, place.width);
+    text.number("hsl(", u64::from(rank.number()).saturating_mul(137) % 360);
+    text.text(",60%,75%)\"");
+    text.text(if is_cut { " class=\"cut\"/>\n" } else { "/>\n" });
     let most = (place.width.saturating_sub(600) / CHARACTER) as usize;
     if most > 2 {
-        text.push_str("<text x=\"")?;
-        push_hundredths(text, place.left.saturating_add(300))?;
-        let line = top.saturating_add(13);
-        write!(text, "\" y=\"{line}\">")?;
-        push_xml(text, alloc, name_of(directory.path.as_slice()), most)?;
-        text.push_str("</text>")?;
+        push_label(text, place.left, top);
+        push_xml(text, alloc, name_of(path), most);
+        text.text("</text>");
     }
-    text.push_str("</g>\n")
+    text.text("</g>\n");
 }
 
-/// Adds how many directories a box stands for, where the words fit into it.
-fn push_more(
-    text: &mut String,
-    count: u64,
-    left: u64,
-    top: u64,
-    width: u64,
-) -> Result<(), AllocError> {
-    // "and ", " more" and five digits, as there are at most 65,536 directories
-    if width < CHARACTER.saturating_mul(14).saturating_add(600) {
-        return Ok(());
-    }
-    text.push_str("<text x=\"")?;
-    push_hundredths(text, left.saturating_add(300))?;
-    let line = top.saturating_add(13);
-    write!(text, "\" y=\"{line}\">and {count} more</text>")
-}
-
-/// Adds the box that the children of a directory have together that have none of their own, if that is wide enough.
-fn push_rest(text: &mut String, place: &Place, all: u64) -> Result<(), AllocError> {
-    let Rest {
-        count,
-        heat,
-        inodes,
-    } = place.rest;
-    let width = width_of(heat, all);
+/// Adds the box that the children of a directory have together that have none of their own, if that is wide enough, and
+/// how many they are, if the words fit into it.
+fn push_rest(text: &mut TextWriter, place: &Place, all: u64) {
+    let width = width_of(place.rest.heat, all);
     if width < LEAST_WIDTH {
-        return Ok(());
+        return;
     }
-    let top = place.depth.saturating_add(1).saturating_mul(HEIGHT);
-    let heat = heat / 1000;
-    write!(
-        text,
-        "<g><title>{count} directories together\nheat {heat}\ninodes {inodes}</title>\n<rect x=\""
-    )?;
-    push_hundredths(text, place.left.saturating_add(place.taken))?;
-    write!(text, "\" y=\"{top}\" width=\"")?;
-    push_hundredths(text, width)?;
-    writeln!(text, "\" height=\"{HEIGHT}\" fill=\"#ddd\"/>")?;
     let left = place.left.saturating_add(place.taken);
-    push_more(text, count, left, top, width)?;
-    text.push_str("</g>\n")
+    let top = place.depth.saturating_add(1).saturating_mul(HEIGHT);
+    text.number("<g><title>", place.rest.count);
+    text.number(" directories together\nheat ", place.rest.heat / 1000);
+    text.number("\ninodes ", place.rest.inodes);
+    text.text("</title>\n");
+    push_frame(text, left, top, width);
+    text.text("#ddd\"/>\n");
+    // "and ", " more" and five digits, as there are at most 65,536 directories
+    if width >= CHARACTER.saturating_mul(14).saturating_add(600) {
+        push_label(text, left, top);
+        text.number("and ", place.rest.count);
+        text.text(" more</text>");
+    }
+    text.text("</g>\n");
 }
 
 /// How many boxes are drawn above one another.
 fn levels(places: &[Place]) -> u64 {
-    let drawn = places.iter().filter(|place| place.width >= LEAST_WIDTH);
-    drawn
-        .map(|place| place.depth)
-        .max()
-        .unwrap_or(0)
-        .saturating_add(2)
+    let mut deepest = 0u64;
+    for place in places {
+        if place.width >= LEAST_WIDTH {
+            deepest = deepest.max(place.depth);
+        }
+    }
+    deepest.saturating_add(2)
 }
 
+/// What a box and its words look like.
+const STYLE: &str = "\">
+<style>rect{stroke:#fff;stroke-width:0.5}rect.cut{stroke:#222;stroke-width:2}\
+text{font:11px monospace;pointer-events:none}</style>
+";
+
 /// Adds what stands before the boxes.
-fn push_head(text: &mut String, levels: u64) -> Result<(), AllocError> {
+fn push_head(text: &mut TextWriter, levels: u64) {
     let (width, height) = (WIDTH / 100, levels.saturating_mul(HEIGHT));
-    writeln!(
-        text,
-        "<svg xmlns=\"http://www.w3.org/2000/svg\" width=\"{width}\" height=\"{height}\" \
-         viewBox=\"0 0 {width} {height}\">"
-    )?;
-    text.push_str(
-        "<style>rect{stroke:#fff;stroke-width:0.5}rect.cut{stroke:#222;stroke-width:2}\
-         text{font:11px monospace;pointer-events:none}</style>\n",
-    )
+    text.number("<svg xmlns=\"http://www.w3.org/2000/svg\" width=\"", width);
+    text.number("\" height=\"", height);
+    text.number("\" viewBox=\"0 0 ", width);
+    text.number(" ", height);
+    text.text(STYLE);
+}
+
+/// Whether a directory is to be at another rank than the one above it.
+fn is_cut(ranks: &[Rank], parent: usize, rank: Rank) -> bool {
+    match ranks.get(parent) {
+        Some(above) => *above != rank,
+        None => false,
+    }
 }
 
 /// The picture, as SVG. `ranks[i]` is the rank that directory i is to be at.
@@ -281,17 +299,21 @@ pub fn make_picture(
     ranks: &[Rank],
 ) -> Result<String, AllocError> {
     let places = places_of(alloc, directories)?;
-    let mut text = String::new(alloc);
-    push_head(&mut text, levels(places.as_slice()))?;
-    let all = places.first().map_or(0, |root| root.heat);
+    let mut text = TextWriter::new(alloc);
+    push_head(&mut text, levels(places.as_slice()));
+    let mut all = 0;
+    if let Some(root) = places.first() {
+        all = root.heat;
+    }
     for (directory, (place, rank)) in directories.iter().zip(places.iter().zip(ranks)) {
         if place.width >= LEAST_WIDTH {
-            let above = ranks.get(directory.parent as usize);
-            let is_cut = above.is_some_and(|above| above != rank);
-            push_box(&mut text, alloc, directory, place, *rank, is_cut)?;
-            push_rest(&mut text, place, all)?;
+            let path = directory.path.as_slice();
+            let is_cut = is_cut(ranks, directory.parent as usize, *rank);
+            push_title(&mut text, alloc, directory, place, *rank);
+            push_box(&mut text, alloc, path, place, *rank, is_cut);
+            push_rest(&mut text, place, all);
         }
     }
-    text.push_str("</svg>\n")?;
-    Ok(text)
+    text.text("</svg>\n");
+    text.finish()
 }

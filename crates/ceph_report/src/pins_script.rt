@@ -2,6 +2,7 @@
 //!
 //! Each path is quoted for `sh` whatever its bytes. A directory that is gone is told and passed over.
 
+use crate::writer::BytesWriter;
 use ceph_pins::PinChange;
 use ceph_snapshot::Directory;
 use sh_quote::quoted;
@@ -30,27 +31,28 @@ const FOOT: &str = "[ -n \"$only_print\" ] || \
 [ \"$failed\" = 0 ]
 ";
 
-/// Adds the line of a change, for the file system that is mounted at `mount`.
-fn push_change(
-    alloc: Global,
-    script: &mut Vec<u8>,
-    mount: &[u8],
-    path: &[u8],
-    change: PinChange,
-) -> Result<(), AllocError> {
-    let line = match change.pin {
-        Some(rank) => format!(in alloc; "run setfattr -n ceph.dir.pin -v {} -- ", rank.number())?,
-        None => format!(in alloc; "run setfattr -n ceph.dir.pin -v -1 -- ")?,
-    };
-    script.extend_from_slice(line.as_bytes())?;
+/// The place of a directory, quoted, where the file system is mounted at `mount`; nothing if that has a NUL, as no
+/// path has one: such names are passed over when dumps are gathered.
+fn place_of(alloc: Global, mount: &[u8], path: &[u8]) -> Result<Vec<u8>, AllocError> {
     let mut whole = Vec::from_slice(alloc, mount)?;
     whole.extend_from_slice(path)?;
-    // no path has a NUL: such names are passed over when dumps are gathered
     if whole.iter().all(|byte| *byte > 0) {
-        script.extend_from_slice(quoted(alloc, whole.as_slice())?.as_slice())?;
+        quoted(alloc, whole.as_slice())
+    } else {
+        Ok(Vec::new(alloc))
     }
-    script.push(b'\n')?;
-    Ok(())
+}
+
+/// Adds the line of a change, of the directory at this place.
+fn push_change(script: &mut BytesWriter, change: PinChange, place: &[u8]) {
+    script.bytes(b"run setfattr -n ceph.dir.pin -v ");
+    match change.pin {
+        Some(rank) => script.rank(rank),
+        None => script.bytes(b"-1"),
+    }
+    script.bytes(b" -- ");
+    script.bytes(place);
+    script.byte(b'\n');
 }
 
 /// The script that makes these changes, in their order, where the file system is mounted at `mount`.
@@ -60,18 +62,16 @@ pub fn make_pins_script(
     changes: &[PinChange],
     mount: &[u8],
 ) -> Result<Vec<u8>, AllocError> {
-    let mut script = Vec::from_slice(alloc, HEAD.as_bytes())?;
+    let mut script = BytesWriter::new(alloc);
+    script.bytes(HEAD.as_bytes());
     for change in changes {
         if let Some(directory) = directories.get(change.row as usize) {
-            push_change(
-                alloc,
-                &mut script,
-                mount,
-                directory.path.as_slice(),
-                *change,
-            )?;
+            match place_of(alloc, mount, directory.path.as_slice()) {
+                Ok(place) => push_change(&mut script, *change, place.as_slice()),
+                Err(_) => script.refuse(),
+            }
         }
     }
-    script.extend_from_slice(FOOT.as_bytes())?;
-    Ok(script)
+    script.bytes(FOOT.as_bytes());
+    script.finish()
 }

@@ -5,12 +5,12 @@ ghost use Rattle.mds_types.specs.declared.limits.TheConstants.{HEAT_LIMIT};
 
 use crate::moves::{Move, Sums};
 use crate::shown::{per_mille_above, push_heat, push_path, push_percent};
+use crate::writer::TextWriter;
 use ceph_plan::Planned;
 use ceph_snapshot::Directory;
 use mds_types::limits::HEAT_LIMIT;
 use mds_types::{Rank, RankSet};
 use std::alloc::{AllocError, Global};
-use std::fmt::Write;
 
 /// What is told in a report.
 #[derive(Clone, Copy)]
@@ -58,81 +58,90 @@ pub(crate) fn number_at(numbers: &[u64], at: usize) -> u64
     numbers.get(at).copied().unwrap_or(0)
 }
 
-/// Adds the table of ranks.
-fn push_ranks(text: &mut String, facts: &Facts) -> Result<(), AllocError> {
-    text.push_str("rank         now     planned      pinned   inodes in  inodes out\n")?;
-    let plan = facts.plan;
-    for (number, now) in facts.sums.now.iter().enumerate() {
-        let rank = u8::try_from(number).ok().and_then(Rank::new);
-        let is_used = rank.is_some_and(|rank| facts.ranks.has(rank));
-        if is_used || *now > 0 {
-            write!(text, "{number:>4}")?;
-            push_heat(text, *now)?;
-            push_heat(text, number_at(&plan.packing.load, number))?;
-            push_heat(text, number_at(facts.pinned, number))?;
-            let into = number_at(&facts.sums.into, number);
-            let out = number_at(&facts.sums.out, number);
-            writeln!(text, "{into:>12}{out:>12}")?;
-        }
+/// Whether a rank has a line: it may have a part, or something is there now.
+pub(crate) fn is_told(facts: &Facts, number: usize, now: u64) -> bool {
+    let rank = u8::try_from(number).ok().and_then(Rank::new);
+    match rank {
+        Some(rank) => now > 0 || facts.ranks.has(rank),
+        None => now > 0,
     }
-    Ok(())
 }
 
-/// Adds what the plan comes to.
-fn push_result(text: &mut String, facts: &Facts) -> Result<(), AllocError> {
-    let packing = &facts.plan.packing;
-    let now = greatest_now(facts.sums);
-    text.push_str("\nhottest rank now     ")?;
-    push_heat(text, now)?;
-    text.push_str("\nhottest rank planned ")?;
-    push_heat(text, packing.greatest)?;
-    text.push_str(", cooler than now: ")?;
-    let less = now.saturating_sub(packing.greatest);
-    push_percent(text, per_mille_above(now.saturating_add(less), now))?;
-    text.push_str("\nlower bound          ")?;
-    push_heat(text, packing.bound)?;
-    text.push_str(", the plan is within ")?;
-    push_percent(text, per_mille_above(packing.greatest, packing.bound))?;
-    text.push_str(" of it\n")?;
-    text.push_str(
-        "  No assignment of these directories to these ranks, connected or not, has a cooler hottest rank than the \
-         bound.\n",
-    )?;
-    text.push_str(
-        "  Heat is a sample: it lies 3 to 5 % from the load that is offered, and more behind a walk over the \
-         directories.\n\n",
-    )?;
-    write!(
-        text,
-        "{} parts, {} inodes move, {} changes of pins",
-        facts.plan.count, facts.plan.moved, facts.changes
-    )?;
-    if facts.standing > 0 {
-        write!(text, ", {} pins stand already", facts.standing)?;
+/// Adds the table of ranks.
+fn push_ranks(text: &mut TextWriter, facts: &Facts) {
+    text.text("rank         now     planned      pinned   inodes in  inodes out\n");
+    let sums = facts.sums;
+    for (number, now) in sums.now.iter().enumerate() {
+        if is_told(facts, number, *now) {
+            text.columns(number as u64, 4);
+            push_heat(text, "", *now);
+            push_heat(text, "", number_at(&facts.plan.packing.load, number));
+            push_heat(text, "", number_at(facts.pinned, number));
+            text.columns(number_at(&sums.into, number), 12);
+            text.columns(number_at(&sums.out, number), 12);
+            text.character('\n');
+        }
     }
-    text.push('\n')
+}
+
+/// What is said of the bound and of heat.
+const CAVEAT: &str = " of it
+  No assignment of these directories to these ranks, connected or not, has a cooler hottest rank than the bound.
+  Heat is a sample: it lies 3 to 5 % from the load that is offered, and more behind a walk over the directories.
+
+";
+
+/// Adds what the plan comes to.
+fn push_result(text: &mut TextWriter, facts: &Facts) {
+    let (greatest, bound) = (facts.plan.packing.greatest, facts.plan.packing.bound);
+    let now = greatest_now(facts.sums);
+    let doubled = now.saturating_add(now.saturating_sub(greatest));
+    push_heat(text, "\nhottest rank now     ", now);
+    push_heat(text, "\nhottest rank planned ", greatest);
+    push_percent(text, ", cooler than now: ", per_mille_above(doubled, now));
+    push_heat(text, "\nlower bound          ", bound);
+    push_percent(
+        text,
+        ", the plan is within ",
+        per_mille_above(greatest, bound),
+    );
+    text.number(CAVEAT, u64::from(facts.plan.count));
+    text.number(" parts, ", facts.plan.moved);
+    text.number(" inodes move, ", facts.changes as u64);
+    text.text(" changes of pins");
+    if facts.standing > 0 {
+        text.number(", ", facts.standing as u64);
+        text.text(" pins stand already");
+    }
+    text.character('\n');
+}
+
+/// Adds the line of a move.
+fn push_move(text: &mut TextWriter, directories: &[Directory], one: &Move) {
+    text.columns(one.inodes, 8);
+    push_heat(text, "", one.heat);
+    text.columns(u64::from(one.to.number()), 4);
+    text.text("  ");
+    if let Some(directory) = directories.get(one.directory) {
+        push_path(text, directory.path.as_slice());
+    }
+    text.character('\n');
 }
 
 /// Adds the moves, the largest first.
-fn push_moves(text: &mut String, facts: &Facts) -> Result<(), AllocError> {
+fn push_moves(text: &mut TextWriter, facts: &Facts) {
     if facts.moves.is_empty() {
-        return Ok(());
+        return;
     }
-    text.push_str("\n  inodes        heat  to  directory that is pinned\n")?;
+    text.text("\n  inodes        heat  to  directory that is pinned\n");
     for one in facts.moves.iter().take(MOVES_TOLD) {
-        write!(text, "{:>8}", one.inodes)?;
-        push_heat(text, one.heat)?;
-        write!(text, "{:>4}  ", one.to.number())?;
-        if let Some(directory) = facts.directories.get(one.directory) {
-            push_path(text, directory.path.as_slice())?;
-        }
-        text.push('\n')?;
+        push_move(text, facts.directories, one);
     }
     let more = facts.moves.len().saturating_sub(MOVES_TOLD);
     if more > 0 {
-        writeln!(text, "and {more} smaller ones")?;
+        text.number("and ", more as u64);
+        text.text(" smaller ones\n");
     }
-    Ok(())
 }
 
 /// Whether a directory is hotter than a plan can count.
@@ -143,53 +152,64 @@ fn is_capped(heat: u64) -> bool
 }
 
 /// Adds the directories whose heat is counted as less than it is.
-fn push_capped(text: &mut String, facts: &Facts) -> Result<(), AllocError> {
-    for directory in facts.directories {
+fn push_capped(text: &mut TextWriter, directories: &[Directory]) {
+    for directory in directories {
         if is_capped(directory.heat) {
-            text.push_str("hotter than a plan can count, and counted as ")?;
-            push_heat(text, HEAT_LIMIT)?;
-            text.push_str(": ")?;
-            push_path(text, directory.path.as_slice())?;
-            text.push('\n')?;
+            push_heat(
+                text,
+                "hotter than a plan can count, and counted as ",
+                HEAT_LIMIT,
+            );
+            text.text(": ");
+            push_path(text, directory.path.as_slice());
+            text.character('\n');
         }
     }
-    Ok(())
+}
+
+/// Whether a directory is spread, and the one above it isn't.
+fn is_spread_first(directories: &[Directory], directory: &Directory) -> bool {
+    match directories.get(directory.parent as usize) {
+        Some(above) => directory.is_spread && !above.is_spread,
+        None => false,
+    }
 }
 
 /// Adds what was left out or has no single rank.
-fn push_left_out(text: &mut String, facts: &Facts) -> Result<(), AllocError> {
+fn push_left_out(text: &mut TextWriter, facts: &Facts) {
     if facts.folded > 0 {
-        writeln!(
-            text,
-            "\n{} directories were folded into their parents",
-            facts.folded
-        )?;
+        text.number("\n", facts.folded as u64);
+        text.text(" directories were folded into their parents\n");
     }
     for directory in facts.directories {
-        let above = facts.directories.get(directory.parent as usize);
-        if directory.is_spread && above.is_some_and(|above| !above.is_spread) {
-            text.push_str("spread over several ranks, and left where it is: ")?;
-            push_path(text, directory.path.as_slice())?;
-            text.push('\n')?;
+        if is_spread_first(facts.directories, directory) {
+            text.text("spread over several ranks, and left where it is: ");
+            push_path(text, directory.path.as_slice());
+            text.character('\n');
         }
     }
-    Ok(())
+}
+
+/// How many directories have heat of their own.
+fn hot_count(directories: &[Directory]) -> u64 {
+    let mut count = 0u64;
+    for directory in directories {
+        count = count.saturating_add(u64::from(directory.heat > 0));
+    }
+    count
 }
 
 /// The report.
 pub fn make_report(alloc: Global, facts: &Facts) -> Result<String, AllocError> {
-    let mut text = String::new(alloc);
-    let count = facts.directories.len();
-    let hot = facts.directories.iter().filter(|one| one.heat > 0).count();
-    writeln!(
-        text,
-        "{count} directories, {hot} with heat of their own; mean of {} samples\n",
-        facts.samples
-    )?;
-    push_ranks(&mut text, facts)?;
-    push_result(&mut text, facts)?;
-    push_moves(&mut text, facts)?;
-    push_left_out(&mut text, facts)?;
-    push_capped(&mut text, facts)?;
-    Ok(text)
+    let mut text = TextWriter::new(alloc);
+    text.number("", facts.directories.len() as u64);
+    text.number(" directories, ", hot_count(facts.directories));
+    text.number(" with heat of their own; mean of ", facts.samples);
+    text.text(" samples\n\n");
+    push_ranks(&mut text, facts);
+    push_result(&mut text, facts);
+    push_moves(&mut text, facts);
+    push_left_out(&mut text, facts);
+    push_capped(&mut text, facts.directories);
+    text.finish()
 }

@@ -1,27 +1,26 @@
 //! Paths and numbers as they are shown.
 
-use std::alloc::AllocError;
-use std::fmt::Write;
+use crate::writer::TextWriter;
 
 /// Adds a path in ASCII: other bytes, and backslashes, as a backslash and three octal digits. The root is `/`.
-pub fn push_path(text: &mut String, path: &[u8]) -> Result<(), AllocError> {
+pub(crate) fn push_path(text: &mut TextWriter, path: &[u8]) {
     if path.is_empty() {
-        return text.push('/');
+        text.character('/');
     }
     for byte in path {
         match *byte {
-            b'\\' => text.push_str("\\134")?,
-            b' '..=b'~' => text.push(char::from(*byte))?,
-            other => write!(text, "\\{other:03o}")?,
+            b'\\' => text.text("\\134"),
+            b' '..=b'~' => text.character(char::from(*byte)),
+            other => text.octal(other),
         }
     }
-    Ok(())
 }
 
-/// Adds a heat that is given in thousandths, with one digit behind the point, in twelve columns.
-pub fn push_heat(text: &mut String, heat: u64) -> Result<(), AllocError> {
-    let (whole, tenths) = (heat / 1000, heat % 1000 / 100);
-    write!(text, "{whole:>10}.{tenths}")
+/// Adds a label, and a heat that is given in thousandths, with one digit behind the point, in twelve columns.
+pub(crate) fn push_heat(text: &mut TextWriter, label: &str, heat: u64) {
+    text.text(label);
+    text.columns(heat / 1000, 10);
+    text.number(".", heat % 1000 / 100);
 }
 
 /// How much more the first number is than the second, in tenths of a percent of the second; 0 where it isn't more.
@@ -32,8 +31,9 @@ pub fn per_mille_above(more: u64, less: u64) -> u64 {
     (more - less).saturating_mul(1000) / less
 }
 
-/// Adds tenths of a percent.
-pub fn push_percent(text: &mut String, per_mille: u64) -> Result<(), AllocError> {
-    let (whole, tenths) = (per_mille / 10, per_mille % 10);
-    write!(text, "{whole}.{tenths} %")
+/// Adds a label, and tenths of a percent.
+pub(crate) fn push_percent(text: &mut TextWriter, label: &str, per_mille: u64) {
+    text.number(label, per_mille / 10);
+    text.number(".", per_mille % 10);
+    text.text(" %");
 }

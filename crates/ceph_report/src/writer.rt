@@ -1,0 +1,128 @@
+//! Texts that are made piece by piece. No piece is an error of its own: where memory was refused, `finish` says so.
+
+use mds_types::Rank;
+use std::alloc::{AllocError, Global};
+use std::fmt::Write;
+
+/// A text that grows.
+#[derive(Drop)]
+pub(crate) struct TextWriter {
+    text: String,
+    is_refused: bool,
+}
+
+impl TextWriter {
+    /// An empty text.
+    pub(crate) fn new(alloc: Global) -> TextWriter {
+        TextWriter {
+            text: String::new(alloc),
+            is_refused: false,
+        }
+    }
+
+    /// Adds a text.
+    pub(crate) fn text(&mut self, more: &str) {
+        self.is_refused |= self.text.push_str(more).is_err();
+    }
+
+    /// Adds a character.
+    pub(crate) fn character(&mut self, one: char) {
+        self.is_refused |= self.text.push(one).is_err();
+    }
+
+    /// Adds a label and a number.
+    pub(crate) fn number(&mut self, label: &str, number: u64) {
+        self.text(label);
+        self.is_refused |= write!(self.text, "{number}").is_err();
+    }
+
+    /// Adds a number at the right of so many columns.
+    pub(crate) fn columns(&mut self, number: u64, width: usize) {
+        self.is_refused |= write!(self.text, "{number:>width$}").is_err();
+    }
+
+    /// Adds a number of two digits at least.
+    pub(crate) fn two_digits(&mut self, number: u64) {
+        self.is_refused |= write!(self.text, "{number:02}").is_err();
+    }
+
+    /// Adds a byte as two hexadecimal digits.
+    pub(crate) fn hexadecimal(&mut self, label: &str, byte: u8) {
+        self.text(label);
+        self.is_refused |= write!(self.text, "{byte:02x}").is_err();
+    }
+
+    /// Adds a byte as a backslash and three octal digits.
+    pub(crate) fn octal(&mut self, byte: u8) {
+        self.is_refused |= write!(self.text, "\\{byte:03o}").is_err();
+    }
+
+    /// Notes that memory was refused for a piece before it came here.
+    pub(crate) fn refuse(&mut self) {
+        self.is_refused = true;
+    }
+
+    /// Whether memory was refused for any piece.
+    pub(crate) fn is_refused(&self) -> bool {
+        self.is_refused
+    }
+
+    /// The text, unless memory was refused for any piece of it.
+    pub(crate) fn finish(self) -> Result<String, AllocError> {
+        if self.is_refused {
+            Err(AllocError)
+        } else {
+            Ok(self.text)
+        }
+    }
+}
+
+/// Bytes that grow.
+#[derive(Drop)]
+pub(crate) struct BytesWriter {
+    bytes: Vec<u8>,
+    is_refused: bool,
+}
+
+impl BytesWriter {
+    /// No bytes.
+    pub(crate) fn new(alloc: Global) -> BytesWriter {
+        BytesWriter {
+            bytes: Vec::new(alloc),
+            is_refused: false,
+        }
+    }
+
+    /// Adds bytes.
+    pub(crate) fn bytes(&mut self, more: &[u8]) {
+        self.is_refused |= self.bytes.extend_from_slice(more).is_err();
+    }
+
+    /// Adds a byte.
+    pub(crate) fn byte(&mut self, one: u8) {
+        self.is_refused |= self.bytes.push(one).is_err();
+    }
+
+    /// Adds the number of a rank.
+    pub(crate) fn rank(&mut self, rank: Rank) {
+        let number = rank.number();
+        if number >= 10 {
+            self.byte(b'0' + number / 10);
+        }
+        self.byte(b'0' + number % 10);
+    }
+
+    /// Notes that memory was refused for a piece before it came here.
+    pub(crate) fn refuse(&mut self) {
+        self.is_refused = true;
+    }
+
+    /// The bytes, unless memory was refused for any of them.
+    pub(crate) fn finish(self) -> Result<Vec<u8>, AllocError> {
+        if self.is_refused {
+            Err(AllocError)
+        } else {
+            Ok(self.bytes)
+        }
+    }
+}
