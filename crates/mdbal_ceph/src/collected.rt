@@ -63,6 +63,31 @@ fn samples_of<R: Files + AllocGlobal>(rt: &R, folder: &str, rank: u32) -> Result
     Ok(SAMPLE_LIMIT)
 }
 
+/// Adds the roots that a rank has.
+fn add_subtrees<R: Files + AllocGlobal>(
+    rt: &R,
+    gathering: &mut Gathering,
+    folder: &str,
+    rank: Rank,
+) -> Result<(), Error> {
+    let path = format!(in rt.alloc(); "{folder}/subtrees.{}.json", rank.number())?;
+    let bytes = needed(rt, path.as_str())?;
+    let roots = whole(path.as_str(), read_subtrees(rt.alloc(), bytes.as_slice()))?;
+    Ok(gathering.add_subtrees(rank, roots.as_slice())?)
+}
+
+/// Adds a sample of a rank's heat.
+fn add_loads<R: Files + AllocGlobal>(
+    rt: &R,
+    gathering: &mut Gathering,
+    path: &str,
+    rank: Rank,
+) -> Result<(), Error> {
+    let bytes = needed(rt, path)?;
+    let loads = whole(path, read_loads(rt.alloc(), bytes.as_slice()))?;
+    Ok(gathering.add_loads(rank, loads.as_slice())?)
+}
+
 /// Adds the dumps of a rank.
 fn add_rank<R: Files + AllocGlobal + Clock + Eprint>(
     rt: &R,
@@ -72,39 +97,40 @@ fn add_rank<R: Files + AllocGlobal + Clock + Eprint>(
     rank: Rank,
     samples: u64,
 ) -> Result<(), Error> {
+    add_subtrees(rt, gathering, folder, rank)?;
     let number = rank.number();
-    let path = format!(in rt.alloc(); "{folder}/subtrees.{number}.json")?;
-    let bytes = needed(rt, path.as_str())?;
-    let roots = whole(path.as_str(), read_subtrees(rt.alloc(), bytes.as_slice()))?;
-    gathering.add_subtrees(rank, roots.as_slice())?;
     for sample in 1..=samples {
         let path = format!(in rt.alloc(); "{folder}/loads.{number}.{sample}.json")?;
         progress.tell(rt, path.as_str());
-        let bytes = needed(rt, path.as_str())?;
-        let loads = whole(path.as_str(), read_loads(rt.alloc(), bytes.as_slice()))?;
-        gathering.add_loads(rank, loads.as_slice())?;
+        add_loads(rt, gathering, path.as_str(), rank)?;
     }
     Ok(())
 }
 
-/// Adds what was listed over a mount, and the pins of an earlier plan, where there are such files.
-fn add_lists<R: Files + AllocGlobal>(
+/// Adds what was listed over a mount, where there is such a file.
+fn add_listing<R: Files + AllocGlobal>(
     rt: &R,
     gathering: &mut Gathering,
     folder: &str,
-    own: Option<&str>,
 ) -> Result<(), Error> {
     let path = format!(in rt.alloc(); "{folder}/dirs")?;
     if let Some(bytes) = bytes_of(rt, path.as_str())? {
         let listing = whole(path.as_str(), read_listing(rt.alloc(), bytes.as_slice()))?;
         gathering.add_listing(listing.as_slice())?;
     }
-    if let Some(path) = own {
-        let bytes = needed(rt, path)?;
-        let paths = whole(path, read_own_list(rt.alloc(), bytes.as_slice()))?;
-        for path in paths.as_slice() {
-            gathering.add_own(path.as_slice())?;
-        }
+    Ok(())
+}
+
+/// Adds the pins of an earlier plan.
+fn add_own<R: Files + AllocGlobal>(
+    rt: &R,
+    gathering: &mut Gathering,
+    path: &str,
+) -> Result<(), Error> {
+    let bytes = needed(rt, path)?;
+    let paths = whole(path, read_own_list(rt.alloc(), bytes.as_slice()))?;
+    for path in paths.as_slice() {
+        gathering.add_own(path.as_slice())?;
     }
     Ok(())
 }
@@ -120,6 +146,24 @@ fn ranks_of<R: Files + AllocGlobal>(rt: &R, folder: &str) -> Result<(FileSystemR
     }
 }
 
+/// Adds the dumps of all ranks.
+fn add_ranks<R: Files + AllocGlobal + Clock + Eprint>(
+    rt: &R,
+    progress: &mut Progress,
+    gathering: &mut Gathering,
+    folder: &str,
+    ranks: &[u32],
+    samples: u64,
+) -> Result<(), Error> {
+    for number in ranks {
+        match u8::try_from(*number).ok().and_then(Rank::new) {
+            Some(rank) => add_rank(rt, progress, gathering, folder, rank, samples)?,
+            None => bail!("{folder}/fs.json: rank {number} is none of 0 to 63"),
+        }
+    }
+    Ok(())
+}
+
 /// Reads a folder, and the list of pins of an earlier plan if there is one.
 pub fn read_collected<R: Files + AllocGlobal + Clock + Eprint>(
     rt: &R,
@@ -128,23 +172,23 @@ pub fn read_collected<R: Files + AllocGlobal + Clock + Eprint>(
     own: Option<&str>,
 ) -> Result<Collected, Error> {
     let (cluster, size) = ranks_of(rt, folder)?;
-    let first = cluster.ranks.as_slice().first().copied().unwrap_or(0);
+    let ranks = cluster.ranks.as_slice();
+    let first = ranks.first().copied().unwrap_or(0);
     let samples = samples_of(rt, folder, first)?;
     if samples == 0 {
         bail!("{folder}/loads.{first}.1.json: there is no such file");
     }
     let mut gathering = Gathering::new(rt.alloc())?;
-    for number in cluster.ranks.as_slice() {
-        match u8::try_from(*number).ok().and_then(Rank::new) {
-            Some(rank) => add_rank(rt, progress, &mut gathering, folder, rank, samples)?,
-            None => bail!("{folder}/fs.json: rank {number} is none of 0 to 63"),
-        }
+    add_ranks(rt, progress, &mut gathering, folder, ranks, samples)?;
+    add_listing(rt, &mut gathering, folder)?;
+    if let Some(path) = own {
+        add_own(rt, &mut gathering, path)?;
     }
-    add_lists(rt, &mut gathering, folder, own)?;
+    let snapshot = gathering.snapshot(samples, size)?;
     Ok(Collected {
         cluster,
         size,
         samples,
-        snapshot: gathering.snapshot(samples, size)?,
+        snapshot,
     })
 }

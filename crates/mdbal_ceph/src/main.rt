@@ -10,39 +10,53 @@ mod settings;
 use anyhow::Error;
 use outcome::carry_out;
 use settings::{PlanSettings, settings_of};
+use std::env::Env;
 use std::process::ExitCode;
+use std::rt::{Clock, Files};
 use std::{env, io};
 
 /// The words of the command line. One that isn't UTF-8 is an error.
-fn words(rt: &HostRuntime) -> io::Result<Vec<String>> {
+fn words<R: Env + AllocGlobal>(rt: &R) -> io::Result<Vec<String>> {
     let words = env::args(rt)?.collect(rt.alloc())?;
     Ok(words)
 }
 
-/// Plans, and says what came of it. Gives the status.
-fn run(rt: &HostRuntime, settings: &PlanSettings) -> Result<(), Error> {
+/// Plans, and says what came of it.
+fn run<R: Files + AllocGlobal + Clock + Print + Eprint>(
+    rt: &R,
+    settings: &PlanSettings,
+) -> Result<(), Error> {
     let text = carry_out(rt, settings)?;
     print!(rt; "{text}")?;
     Ok(())
 }
 
-fn main(rt: HostRuntime) -> ExitCode {
-    let words: Vec<String> = match words(&rt) {
-        Ok(words) => words,
-        Err(error) => {
-            let _ = eprintln!(rt; "mdbal_ceph: command line: {error}");
-            return ExitCode::from(2);
-        }
-    };
-    let settings = match settings_of(rt.alloc(), words.as_slice()) {
+/// Does what these words ask for. Gives the status.
+fn done<R: Files + AllocGlobal + Clock + Print + Eprint>(rt: &R, words: &[String]) -> u8 {
+    let settings = match settings_of(rt.alloc(), words) {
         Ok(settings) => settings,
-        Err(refused) => return ExitCode::from(refused.told(&rt)),
+        Err(refused) => return refused.told(rt),
     };
-    match run(&rt, &settings) {
-        Ok(()) => ExitCode::SUCCESS,
+    match run(rt, &settings) {
+        Ok(()) => 0,
         Err(error) => {
             let _ = eprintln!(rt; "mdbal_ceph: {error:#}");
-            ExitCode::from(1)
+            1
         }
     }
+}
+
+/// Does what the command line asks for. Gives the status.
+fn status<R: Env + Files + AllocGlobal + Clock + Print + Eprint>(rt: &R) -> u8 {
+    match words(rt) {
+        Ok(words) => done(rt, words.as_slice()),
+        Err(error) => {
+            let _ = eprintln!(rt; "mdbal_ceph: command line: {error}");
+            2
+        }
+    }
+}
+
+fn main(rt: HostRuntime) -> ExitCode {
+    ExitCode::from(status(&rt))
 }

@@ -19,7 +19,7 @@ use ceph_report::{
 use ceph_snapshot::{Directory, Held, SnapshotError, fold, held_heat, holds, rows_of};
 use mds_types::limits::{DIR_LIMIT, RANK_LIMIT};
 use mds_types::{Rank, RankSet};
-use std::alloc::Global;
+use std::alloc::{AllocError, Global};
 use std::fs;
 use std::rt::{Clock, Files};
 
@@ -188,23 +188,23 @@ fn facts_of<'a>(outcome: &'a Outcome, moves: &'a [Move], standing: usize) -> Fac
 }
 
 /// The report, or the same as JSON.
-fn told(alloc: Global, outcome: &Outcome, is_json: bool) -> Result<String, Error> {
-    let (directories, holds) = (
-        outcome.directories.as_slice(),
-        outcome.decision.holds.as_slice(),
-    );
-    let (rows, changes) = (
-        &outcome.decision.proposal.rows,
-        &outcome.decision.proposal.changes,
-    );
+fn told(alloc: Global, outcome: &Outcome, is_json: bool) -> Result<String, AllocError> {
+    let (directories, holds) = (&outcome.directories, &outcome.decision.holds);
+    let proposal = &outcome.decision.proposal;
+    let (rows, changes) = (&proposal.rows, &proposal.changes);
+    let standing = standing_pins(alloc, rows, changes)?;
     let moves = moves_of(alloc, directories, holds, rows, changes)?;
-    let facts = facts_of(outcome, &moves, standing_pins(alloc, rows, changes)?);
-    let text = if is_json {
-        make_json(alloc, &facts, changes)?
+    let facts = facts_of(outcome, &moves, standing);
+    if is_json {
+        make_json(alloc, &facts, changes)
     } else {
-        make_report(alloc, &facts)?
-    };
-    Ok(text)
+        make_report(alloc, &facts)
+    }
+}
+
+/// Writes a file.
+fn write_file<R: Files>(rt: &R, file: &str, content: &[u8]) -> Result<(), Error> {
+    fs::write(rt, file, content).context(format_args!("{file}"))
 }
 
 /// Writes the script of the changes, and the list of the pins that stand once it has run.
@@ -215,39 +215,73 @@ fn write_pins<R: Files + AllocGlobal>(
     outcome: &Outcome,
 ) -> Result<(), Error> {
     let directories = outcome.directories.as_slice();
-    let changes = outcome.decision.proposal.changes.as_slice();
+    let proposal = &outcome.decision.proposal;
+    let (rows, changes) = (&proposal.rows, &proposal.changes);
     let script = make_pins_script(rt.alloc(), directories, changes, mount.as_bytes())?;
-    fs::write(rt, file, script).context(format_args!("{file}"))?;
+    write_file(rt, file, &script)?;
     let own = format!(in rt.alloc(); "{file}.own")?;
-    let list = make_own_list(
-        rt.alloc(),
-        directories,
-        &outcome.decision.proposal.rows,
-        changes,
-    )?;
-    fs::write(rt, own.as_str(), list).context(format_args!("{own}"))?;
-    Ok(())
+    let list = make_own_list(rt.alloc(), directories, rows, changes)?;
+    write_file(rt, own.as_str(), &list)
 }
 
-/// Writes the picture and the script of `mdbal` that are asked for.
-fn write_views<R: Files + AllocGlobal>(
+/// Writes the picture that is asked for.
+fn write_picture<R: Files + AllocGlobal>(
+    rt: &R,
+    file: &str,
+    outcome: &Outcome,
+) -> Result<(), Error> {
+    let goals = outcome.decision.goals.as_slice();
+    let picture = make_picture(rt.alloc(), &outcome.directories, goals)?;
+    write_file(rt, file, picture.as_bytes())
+}
+
+/// Writes the script of `mdbal` that is asked for.
+fn write_script<R: Files + AllocGlobal>(
+    rt: &R,
+    file: &str,
+    outcome: &Outcome,
+) -> Result<(), Error> {
+    let holds = outcome.decision.holds.as_slice();
+    let script = make_script(rt.alloc(), &outcome.directories, holds, outcome.size)?;
+    write_file(rt, file, script.as_bytes())
+}
+
+/// Writes the files that are asked for. The script of the pins isn't written where nothing is proposed.
+fn write_files<R: Files + AllocGlobal>(
     rt: &R,
     settings: &PlanSettings,
     outcome: &Outcome,
+    is_proposed: bool,
 ) -> Result<(), Error> {
-    let (directories, holds) = (
-        outcome.directories.as_slice(),
-        outcome.decision.holds.as_slice(),
-    );
     if let Some(file) = settings.svg {
-        let picture = make_picture(rt.alloc(), directories, &outcome.decision.goals)?;
-        fs::write(rt, file, picture).context(format_args!("{file}"))?;
+        write_picture(rt, file, outcome)?;
     }
     if let Some(file) = settings.script {
-        let script = make_script(rt.alloc(), directories, holds, outcome.size)?;
-        fs::write(rt, file, script).context(format_args!("{file}"))?;
+        write_script(rt, file, outcome)?;
     }
-    Ok(())
+    match settings.pins {
+        Some(file) if is_proposed => write_pins(rt, file, settings.mount, outcome),
+        _ => Ok(()),
+    }
+}
+
+/// What is said where nothing is proposed.
+const NOTHING: &str =
+    "\nnothing is proposed: the hottest rank gets cooler by less than --least-gain asks\n";
+
+/// Writes the files that are asked for, and gives the report.
+fn written<R: Files + AllocGlobal>(
+    rt: &R,
+    settings: &PlanSettings,
+    outcome: &Outcome,
+) -> Result<String, Error> {
+    let is_proposed = is_proposed(outcome, settings.least_gain);
+    let mut text = told(rt.alloc(), outcome, settings.is_json)?;
+    write_files(rt, settings, outcome, is_proposed)?;
+    if !is_proposed && !settings.is_json {
+        text.push_str(NOTHING)?;
+    }
+    Ok(text)
 }
 
 /// Reads what was collected, plans, writes the files that are asked for, and gives the report.
@@ -255,22 +289,10 @@ pub fn carry_out<R: Files + AllocGlobal + Clock + Eprint>(
     rt: &R,
     settings: &PlanSettings,
 ) -> Result<String, Error> {
-    let alloc = rt.alloc();
     let mut progress = Progress::begin(rt);
     let collected = read_collected(rt, &mut progress, settings.folder, settings.own)?;
     progress.tell(rt, "planning");
-    let outcome = planned(alloc, settings, collected)?;
+    let outcome = planned(rt.alloc(), settings, collected)?;
     progress.tell(rt, "writing");
-    let mut text = told(alloc, &outcome, settings.is_json)?;
-    write_views(rt, settings, &outcome)?;
-    if is_proposed(&outcome, settings.least_gain) {
-        if let Some(file) = settings.pins {
-            write_pins(rt, file, settings.mount, &outcome)?;
-        }
-    } else if !settings.is_json {
-        text.push_str(
-            "\nnothing is proposed: the hottest rank gets cooler by less than --least-gain asks\n",
-        )?;
-    }
-    Ok(text)
+    written(rt, settings, &outcome)
 }

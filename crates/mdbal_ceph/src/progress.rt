@@ -4,7 +4,7 @@ use std::rt::Clock;
 use std::time::{Duration, Instant};
 
 /// When the last line was written, or the run began.
-#[derive(Clone, Copy, Debug)]
+#[derive(Clone, Copy)]
 pub struct Progress {
     since: Option<Instant>,
 }

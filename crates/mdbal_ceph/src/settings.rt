@@ -12,7 +12,7 @@ use std::convert::AsStr;
 const VERSION: &str = "0.1.0";
 
 /// What the program is asked to do.
-#[derive(Clone, Copy, Debug)]
+#[derive(Clone, Copy)]
 pub struct PlanSettings<'a> {
     /// The folder that `ceph/collect` wrote.
     pub folder: &'a str,
@@ -39,7 +39,7 @@ pub struct PlanSettings<'a> {
 }
 
 /// Why there is nothing to do.
-#[derive(Debug, Drop)]
+#[derive(Drop)]
 pub enum Refused {
     /// The allocator refused a growth.
     Memory,
@@ -80,71 +80,131 @@ impl Refused {
     }
 }
 
-/// The option that takes a percentage.
-fn percent<'a>(alloc: Global, name: &'a str, help: &'a str) -> Arg<'a> {
-    Arg::new(alloc, name)
-        .long(name)
-        .value_name("PERCENT")
-        .value_parser(value_parser!(u8))
-        .default_value("5")
-        .help(help)
+/// What an option takes.
+enum Takes {
+    /// Nothing: it is there or not.
+    Nothing,
+    /// A text.
+    Text,
+    /// A text that may begin with a hyphen.
+    Mask,
+    /// A text, and this one where the option isn't there.
+    TextOr(&'static str),
+    /// A percentage, 5 where the option isn't there.
+    Percent,
 }
 
-/// The option that takes a text.
-fn text<'a>(alloc: Global, name: &'a str, value: &'a str, help: &'a str) -> Arg<'a> {
-    Arg::new(alloc, name)
-        .long(name)
-        .value_name(value)
-        .help(help)
+/// An option.
+struct PlanOption {
+    name: &'static str,
+    takes: Takes,
+    /// How the help calls what it takes.
+    value: &'static str,
+    help: &'static str,
 }
 
-/// The options that say what is planned.
-fn planning<'a>(alloc: Global, command: Command<'a>) -> Result<Command<'a>, AllocError> {
-    let parts = "Into how many connected parts the directories are divided, 1 to 64, or auto";
-    let mask = "The ranks that may have a part: -1 for all, or 0x and hexadecimal digits";
-    let own = "The list of pins that an earlier run wrote; they count as unpinned";
-    let least = "Propose nothing if the hottest rank gets cooler by less";
-    let keep = "By how much a load may pass the greatest so that a part stays where it is";
-    command
-        .arg(text(alloc, "parts", "auto|N", parts).default_value("auto"))?
-        .arg(text(alloc, "mask", "MASK", mask).allow_hyphen_values(true))?
-        .arg(text(alloc, "own", "FILE", own))?
-        .arg(percent(alloc, "least-gain", least))?
-        .arg(percent(alloc, "keep", keep))
+/// The options, in the order of the help.
+const OPTIONS: [PlanOption; 10] = [
+    PlanOption {
+        name: "parts",
+        takes: Takes::TextOr("auto"),
+        value: "auto|N",
+        help: "Into how many connected parts the directories are divided, 1 to 64, or auto",
+    },
+    PlanOption {
+        name: "mask",
+        takes: Takes::Mask,
+        value: "MASK",
+        help: "The ranks that may have a part: -1 for all, or 0x and hexadecimal digits",
+    },
+    PlanOption {
+        name: "own",
+        takes: Takes::Text,
+        value: "FILE",
+        help: "The list of pins that an earlier run wrote; they count as unpinned",
+    },
+    PlanOption {
+        name: "least-gain",
+        takes: Takes::Percent,
+        value: "PERCENT",
+        help: "Propose nothing if the hottest rank gets cooler by less",
+    },
+    PlanOption {
+        name: "keep",
+        takes: Takes::Percent,
+        value: "PERCENT",
+        help: "By how much a load may pass the greatest so that a part stays where it is",
+    },
+    PlanOption {
+        name: "mount",
+        takes: Takes::TextOr("/mnt/cephfs"),
+        value: "PATH",
+        help: "Where the file system is mounted on the machine that sets the pins",
+    },
+    PlanOption {
+        name: "pins",
+        takes: Takes::Text,
+        value: "FILE",
+        help: "Write the pins as a shell script to FILE, and their list to FILE.own",
+    },
+    PlanOption {
+        name: "svg",
+        takes: Takes::Text,
+        value: "FILE",
+        help: "Write a picture of the directories, as SVG",
+    },
+    PlanOption {
+        name: "script",
+        takes: Takes::Text,
+        value: "FILE",
+        help: "Write the directories as a script of mdbal",
+    },
+    PlanOption {
+        name: "json",
+        takes: Takes::Nothing,
+        value: "",
+        help: "Print the plan as JSON in place of the report",
+    },
+];
+
+/// An option, as `clap` knows it.
+fn arg_of<'a>(alloc: Global, option: &PlanOption) -> Arg<'a> {
+    let arg = Arg::new(alloc, option.name)
+        .long(option.name)
+        .help(option.help);
+    match option.takes {
+        Takes::Nothing => arg.action(ArgAction::SetTrue),
+        Takes::Text => arg.value_name(option.value),
+        Takes::Mask => arg.value_name(option.value).allow_hyphen_values(true),
+        Takes::TextOr(default) => arg.value_name(option.value).default_value(default),
+        Takes::Percent => arg
+            .value_name(option.value)
+            .value_parser(value_parser!(u8))
+            .default_value("5"),
+    }
 }
 
-/// The options that say what is written.
-fn writing<'a>(alloc: Global, command: Command<'a>) -> Result<Command<'a>, AllocError> {
-    let mount = "Where the file system is mounted on the machine that sets the pins";
-    let pins = "Write the pins as a shell script to FILE, and their list to FILE.own";
-    let svg = "Write a picture of the directories, as SVG";
-    let script = "Write the directories as a script of mdbal";
-    let json = Arg::new(alloc, "json")
-        .long("json")
-        .action(ArgAction::SetTrue)
-        .help("Print the plan as JSON in place of the report");
-    command
-        .arg(text(alloc, "mount", "PATH", mount).default_value("/mnt/cephfs"))?
-        .arg(text(alloc, "pins", "FILE", pins))?
-        .arg(text(alloc, "svg", "FILE", svg))?
-        .arg(text(alloc, "script", "FILE", script))?
-        .arg(json)
+/// The folder, as `clap` knows it.
+fn folder_arg<'a>(alloc: Global) -> Arg<'a> {
+    Arg::new(alloc, "folder")
+        .value_name("DIR")
+        .required(true)
+        .help("What ceph/collect wrote")
 }
 
 /// The program's command, as `clap` knows it.
 fn command<'a>(alloc: Global) -> Result<Command<'a>, AllocError> {
-    let folder = Arg::new(alloc, "folder")
-        .value_name("DIR")
-        .required(true)
-        .help("What ceph/collect wrote");
-    let command = Command::new(alloc, "mdbal_ceph")
+    let mut command = Command::new(alloc, "mdbal_ceph")
         .version(VERSION)
         .about(
             "Says which export pins balance a live CephFS. Status 0: planned; 1: a file is missing or broken, or \
              there is no plan; 2: the command line is refused",
         )
-        .arg(folder)?;
-    writing(alloc, planning(alloc, command)?)
+        .arg(folder_arg(alloc))?;
+    for option in &OPTIONS {
+        command = command.arg(arg_of(alloc, option))?;
+    }
+    Ok(command)
 }
 
 /// The number of parts that a text names.
@@ -158,16 +218,24 @@ fn parts_of(text: &str) -> Result<PartCount, Refused> {
     }
 }
 
+/// The ranks that a mask names, where one is given.
+fn mask_of(text: Option<&str>) -> Result<Option<RankSet>, Refused> {
+    let Some(text) = text else {
+        return Ok(None);
+    };
+    match RankSet::parse(text) {
+        Ok(mask) => Ok(Some(mask)),
+        Err(_) => Err(Refused::Value("--mask takes -1, or 0x and 1 to 16 digits")),
+    }
+}
+
 /// The settings that were found.
 fn found<'a>(matches: &ArgMatches<'a>) -> Result<PlanSettings<'a>, Refused> {
-    let mask = match matches.get_str("mask").map(RankSet::parse) {
-        Some(Ok(mask)) => Some(mask),
-        Some(Err(_)) => return Err(Refused::Value("--mask takes -1, or 0x and 1 to 16 digits")),
-        None => None,
-    };
+    let mask = mask_of(matches.get_str("mask"))?;
+    let parts = parts_of(matches.get_str("parts").unwrap_or("auto"))?;
     Ok(PlanSettings {
         folder: matches.get_str("folder").unwrap_or("."),
-        parts: parts_of(matches.get_str("parts").unwrap_or("auto"))?,
+        parts,
         mask,
         own: matches.get_str("own"),
         least_gain: matches.get_one::<u8>("least-gain").unwrap_or(5),
