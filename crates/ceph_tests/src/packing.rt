@@ -1,57 +1,56 @@
 //! Parts that are packed on ranks, and what that comes to.
 
-use crate::same::same;
+use crate::same::{Sure, same};
 use ceph_packing::{Packing, are_parts, are_pinned, pack};
 use mds_types::{Problem, ProblemRow, Rank, RankSet};
 use std::alloc::Global;
-use std::test::Fail;
+use std::process::Abort;
 
 // Row i is part i: its heat, and the rank that has it now.
-fn packed(
-    alloc: Global,
-    given: &[(u64, u8)],
-    pinned: &[(usize, u64)],
-) -> Result<Option<Packing>, Fail> {
+fn rows_of(rt: &impl Abort, alloc: Global, given: &[(u64, u8)]) -> Vec<ProblemRow> {
     let mut rows = Vec::new(alloc);
-    let mut part = Vec::new(alloc);
-    for (i, (heat, now)) in given.iter().enumerate() {
+    for (heat, now) in given {
         rows.push(ProblemRow {
             parent: 0,
             heat: *heat,
             inodes: 1,
             now: Rank::new(*now).unwrap_or_default(),
-        })?;
-        part.push((i % 64) as u32)?;
+        })
+        .sure(rt);
     }
-    let mut by_rank = vec![in alloc; 0u64; 64]?;
+    rows
+}
+
+fn numbers(rt: &impl Abort, alloc: Global, count: usize) -> Vec<u32> {
+    let mut numbers = Vec::new(alloc);
+    for number in 0..count {
+        numbers.push((number % 64) as u32).sure(rt);
+    }
+    numbers
+}
+
+fn by_rank(rt: &impl Abort, alloc: Global, pinned: &[(usize, u64)]) -> Vec<u64> {
+    let mut by_rank = vec![in alloc; 0u64; 64].sure(rt);
     for (rank, heat) in pinned {
-        if *rank < by_rank.len() {
-            by_rank[*rank] = *heat;
+        if let Some(place) = by_rank.get_mut(*rank) {
+            *place = *heat;
         }
     }
+    by_rank
+}
+
+fn packed(rt: &impl Abort, alloc: Global, given: &[(u64, u8)], pinned: &[(usize, u64)]) -> Packing {
+    let part = numbers(rt, alloc, given.len());
+    let by_rank = by_rank(rt, alloc, pinned);
     let ranks = RankSet::from_bits(7);
-    if !are_parts(part.as_slice(), 64)
-        || !are_pinned(by_rank.as_slice())
-        || !ranks.has(Rank::default())
-    {
-        return Ok(None);
-    }
-    let Ok(problem) = Problem::new(rows, ranks) else {
-        return Ok(None);
-    };
+    assert!(rt; are_parts(&part, 64));
+    assert!(rt; are_pinned(&by_rank));
+    assert!(rt; ranks.has(Rank::default()));
+    let problem = Problem::new(rows_of(rt, alloc, given), ranks).expect(rt, "no problem");
     let rows = problem.rows();
-    if rows.is_empty() || rows.len() != part.len() {
-        return Ok(None);
-    }
-    Ok(Some(pack(
-        alloc,
-        rows,
-        part.as_slice(),
-        64,
-        by_rank.as_slice(),
-        ranks,
-        0,
-    )?))
+    assert!(rt; !rows.is_empty());
+    assert!(rt; rows.len() == part.len());
+    pack(alloc, rows, &part, 64, &by_rank, ranks, 0).sure(rt)
 }
 
 // (heats and present ranks, what is pinned, the ranks, the loads, the greatest, the bound)
@@ -87,19 +86,15 @@ const PACKED: [(&[(u64, u8)], &[(usize, u64)], &[u8], [u64; 3], u64, u64); 4] = 
 ];
 
 #[test]
-fn packs_the_hottest_first(rt: HostRuntime) -> Result<(), Fail> {
+fn packs_the_hottest_first(rt: HostRuntime) {
     for (given, pinned, ranks, loads, greatest, bound) in PACKED {
-        let packing = packed(rt.alloc(), given, pinned)?.ok_or("refused")?;
+        let packing = packed(&rt, rt.alloc(), given, pinned);
         let mut found = Vec::new(rt.alloc());
         for rank in packing.rank.as_slice().iter().take(given.len()) {
-            found.push(rank.number())?;
+            found.push(rank.number()).sure(&rt);
         }
         same(&rt, &found.as_slice(), &ranks);
-        for (rank, load) in loads.iter().enumerate() {
-            same(&rt, &packing.load.get(rank), &Some(load));
-        }
-        same(&rt, &packing.greatest, &greatest);
-        same(&rt, &packing.bound, &bound);
+        same(&rt, &packing.load.get(..3), &Some(loads.as_slice()));
+        same(&rt, &(packing.greatest, packing.bound), &(greatest, bound));
     }
-    Ok(())
 }

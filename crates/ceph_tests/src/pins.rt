@@ -1,10 +1,10 @@
 //! Pins and changes of pins on small trees.
 
-use crate::same::same;
-use ceph_pins::{Pin, PinRow, are_rows, changes_for, pins_for};
+use crate::same::{Sure, same};
+use ceph_pins::{Pin, PinChange, PinRow, are_rows, changes_for, pins_for};
 use mds_types::Rank;
 use std::alloc::Global;
-use std::test::Fail;
+use std::process::Abort;
 
 // A row's parent, target, foreign pin and resting rank; -1 is none.
 type Given = (u32, u8, i8, i8);
@@ -50,60 +50,61 @@ const PINNED: [(&[Given], &[(u32, u8)]); 5] = [
     ),
 ];
 
+/// A row with its earlier pin too, or -1.
+fn row(given: Given, earlier: i8) -> PinRow {
+    let (parent, target, foreign, rest) = given;
+    PinRow {
+        parent,
+        target: rank(target),
+        foreign: some_rank(foreign),
+        earlier: some_rank(earlier),
+        rest: some_rank(rest),
+    }
+}
+
 #[test]
-fn pins_where_a_rank_changes(rt: HostRuntime) -> Result<(), Fail> {
+fn pins_where_a_rank_changes(rt: HostRuntime) {
     for (given, expected) in PINNED {
-        let pins = pins_of(rt.alloc(), given)?;
         let mut found = Vec::new(rt.alloc());
-        for pin in pins.as_slice() {
-            found.push((pin.row, pin.rank.number()))?;
+        for pin in pins_of(&rt, rt.alloc(), given) {
+            found.push((pin.row, pin.rank.number())).sure(&rt);
         }
         same(&rt, &found.as_slice(), &expected);
     }
-    Ok(())
 }
 
-fn pins_of(alloc: Global, given: &[Given]) -> Result<Vec<Pin>, Fail> {
+fn pins_of(rt: &impl Abort, alloc: Global, given: &[Given]) -> Vec<Pin> {
     let mut rows = Vec::new(alloc);
-    for (parent, target, foreign, rest) in given {
-        rows.push(PinRow {
-            parent: *parent,
-            target: rank(*target),
-            foreign: some_rank(*foreign),
-            earlier: None,
-            rest: some_rank(*rest),
-        })?;
+    for one in given {
+        rows.push(row(*one, -1)).sure(rt);
     }
-    if !are_rows(rows.as_slice()) {
-        return Ok(Vec::new(alloc));
-    }
-    Ok(pins_for(alloc, rows.as_slice())?)
+    assert!(rt; are_rows(&rows));
+    pins_for(alloc, &rows).sure(rt)
 }
 
 #[test]
-fn changes_earlier_pins(rt: HostRuntime) -> Result<(), Fail> {
+fn changes_earlier_pins(rt: HostRuntime) {
     // parents, targets and earlier pins: row 1 goes from rank 1 to rank 2 and takes row 2 with it, row 3 is no longer
     // apart, and row 4's pin stands already
     let given: [(u32, u8, i8); 5] = [(0, 0, -1), (0, 2, 1), (1, 2, -1), (2, 2, 0), (0, 1, 1)];
-    let mut rows = Vec::new(rt.alloc());
-    for (parent, target, earlier) in given {
-        rows.push(PinRow {
-            parent,
-            target: rank(target),
-            foreign: None,
-            earlier: some_rank(earlier),
-            rest: Some(Rank::default()),
-        })?;
-    }
-    assert!(rt; are_rows(rows.as_slice()));
     let mut found = Vec::new(rt.alloc());
-    for change in changes_for(rt.alloc(), rows.as_slice())? {
-        found.push((change.row, change.pin.map(Rank::number)))?;
+    for change in changes_of(&rt, rt.alloc(), given.as_slice()) {
+        found
+            .push((change.row, change.pin.map(Rank::number)))
+            .sure(&rt);
     }
     same(
         &rt,
         &found.as_slice(),
         &[(1, Some(2)), (3, None)].as_slice(),
     );
-    Ok(())
+}
+
+fn changes_of(rt: &impl Abort, alloc: Global, given: &[(u32, u8, i8)]) -> Vec<PinChange> {
+    let mut rows = Vec::new(alloc);
+    for (parent, target, earlier) in given {
+        rows.push(row((*parent, *target, -1, 0), *earlier)).sure(rt);
+    }
+    assert!(rt; are_rows(&rows));
+    changes_for(alloc, &rows).sure(rt)
 }

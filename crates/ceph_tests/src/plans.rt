@@ -1,13 +1,13 @@
 //! Plans and proposals of small trees.
 
-use crate::same::{same, same_in};
+use crate::same::{Sure, same, same_in};
 use ceph_plan::{OwnPins, PartCount, PlanError, Proposal, choose_plan, propose};
 use mds_types::{ProblemRow, Rank, RankSet};
 use std::alloc::Global;
-use std::test::Fail;
+use std::process::Abort;
 
 /// A root with children that have these heats, all at rank 0.
-fn star(alloc: Global, heats: &[u64]) -> Result<Vec<ProblemRow>, Fail> {
+fn star(rt: &impl Abort, alloc: Global, heats: &[u64]) -> Vec<ProblemRow> {
     let mut rows = Vec::new(alloc);
     for heat in heats {
         rows.push(ProblemRow {
@@ -15,35 +15,36 @@ fn star(alloc: Global, heats: &[u64]) -> Result<Vec<ProblemRow>, Fail> {
             heat: *heat,
             inodes: 10,
             now: Rank::default(),
-        })?;
+        })
+        .sure(rt);
     }
-    Ok(rows)
+    rows
 }
 
-fn proposed(
-    alloc: Global,
-    heats: &[u64],
-    pinned: [u64; 3],
-    ranks: RankSet,
-) -> Result<Proposal, Fail> {
-    let rows = star(alloc, heats)?;
-    let mut held = vec![in alloc; 0u64; 64]?;
+/// What is pinned to each of 64 ranks, of which the first three have this.
+fn held(rt: &impl Abort, alloc: Global, pinned: [u64; 3]) -> Vec<u64> {
+    let mut held = vec![in alloc; 0u64; 64].sure(rt);
     for (heat, more) in held.iter_mut().zip(pinned) {
         *heat = more;
     }
+    held
+}
+
+fn proposed(rt: &impl Abort, alloc: Global, heats: &[u64], pinned: [u64; 3]) -> Proposal {
+    let rows = star(rt, alloc, heats);
+    let held = held(rt, alloc, pinned);
     let none = OwnPins {
         foreign: None,
         earlier: None,
     };
-    let own = vec![in alloc; none; rows.len()]?;
-    if own.len() != rows.len() {
-        return Err(Fail::from("lengths"));
-    }
-    Ok(propose(alloc, &rows, PartCount::Auto, &held, ranks, 0, &own)?)
+    let own = vec![in alloc; none; rows.len()].sure(rt);
+    assert!(rt; own.len() == rows.len());
+    let ranks = RankSet::from_bits(7);
+    propose(alloc, &rows, PartCount::Auto, &held, ranks, 0, &own).sure(rt)
 }
 
 #[test]
-fn plans_as_cool_as_can_be(rt: HostRuntime) -> Result<(), Fail> {
+fn plans_as_cool_as_can_be(rt: HostRuntime) {
     // heats, pinned heats, the greatest load, the bound, the inodes that move
     let table: [(&[u64], [u64; 3], u64, u64, u64); 4] = [
         (&[0, 6, 5, 4, 3], [0, 0, 0], 7, 6, 20),
@@ -54,41 +55,48 @@ fn plans_as_cool_as_can_be(rt: HostRuntime) -> Result<(), Fail> {
         (&[0], [0, 0, 0], 0, 0, 0),
     ];
     for (heats, pinned, greatest, bound, moved) in table {
-        let found = proposed(rt.alloc(), heats, pinned, RankSet::from_bits(7))?;
-        let plan = &found.plan;
+        let plan = proposed(&rt, rt.alloc(), heats, pinned).plan;
         same_in(
             &rt,
-            &(plan.packing.greatest, plan.packing.bound),
-            &(greatest, bound),
+            &(plan.packing.greatest, plan.packing.bound, plan.moved),
+            &(greatest, bound, moved),
             &heats,
         );
-        same_in(&rt, &plan.moved, &moved, &heats);
     }
-    Ok(())
+}
+
+/// Why there is no plan of so many of two rows and so many of 64 pinned heats.
+fn refusal(
+    rt: &impl Abort,
+    alloc: Global,
+    few: usize,
+    ranks: usize,
+    bits: u64,
+) -> Option<PlanError> {
+    let rows = star(rt, alloc, &[1, 2]);
+    let held = held(rt, alloc, [0, 0, 0]);
+    let rows = rows.get(..few).unwrap_or(&rows);
+    let held = held.get(..ranks).unwrap_or(&held);
+    choose_plan(
+        alloc,
+        rows,
+        PartCount::Auto,
+        held,
+        RankSet::from_bits(bits),
+        0,
+    )
+    .err()
 }
 
 #[test]
-fn refuses_what_it_cant_plan(rt: HostRuntime) -> Result<(), Fail> {
-    let rows = star(rt.alloc(), &[1, 2])?;
-    let held = vec![in rt.alloc(); 0u64; 64]?;
+fn refuses_what_it_cant_plan(rt: HostRuntime) {
     let table: [(usize, usize, u64, PlanError); 3] = [
         (2, 64, 6, PlanError::NoRankZero),
         (0, 64, 7, PlanError::NoDirectory),
         (2, 63, 7, PlanError::PinnedTooHot),
     ];
     for (few, ranks, bits, error) in table {
-        let (Some(rows), Some(held)) = (rows.get(..few), held.get(..ranks)) else {
-            return Err(Fail::from("lengths"));
-        };
-        let found = choose_plan(
-            rt.alloc(),
-            rows,
-            PartCount::Auto,
-            held,
-            RankSet::from_bits(bits),
-            0,
-        );
-        same(&rt, &found.err(), &Some(error));
+        let found = refusal(&rt, rt.alloc(), few, ranks, bits);
+        same(&rt, &found, &Some(error));
     }
-    Ok(())
 }

@@ -1,11 +1,10 @@
 //! Words that are quoted for sh.
 
-use crate::same::same;
+use crate::same::{Sure, same};
 use sh_quote::quoted;
-use std::test::Fail;
 
 #[test]
-fn quotes(rt: HostRuntime) -> Result<(), Fail> {
+fn quotes(rt: HostRuntime) {
     let table: [(&[u8], &[u8]); 5] = [
         (b"", b"''"),
         (b"/a b", b"'/a b'"),
@@ -15,9 +14,8 @@ fn quotes(rt: HostRuntime) -> Result<(), Fail> {
     ];
     for (bytes, word) in table {
         if bytes.iter().all(|byte| *byte > 0) {
-            let found = quoted(rt.alloc(), bytes)?;
+            let found = quoted(rt.alloc(), bytes).sure(&rt);
             same(&rt, &found.as_slice(), &word);
         }
     }
-    Ok(())
 }

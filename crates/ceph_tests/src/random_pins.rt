@@ -1,10 +1,10 @@
 //! Changes of pins on random trees, judged by a plain walk up from each directory.
 
-use crate::same::same_in;
+use crate::same::{Sure, same_in};
 use ceph_pins::{PinChange, PinRow, are_rows, changes_for};
 use mds_types::Rank;
 use std::alloc::Global;
-use std::test::Fail;
+use std::process::Abort;
 
 /// How many trees are tried.
 const TREES: u64 = 10_000;
@@ -53,12 +53,12 @@ fn random_row(seed: &mut u64, at: u64) -> PinRow {
 }
 
 /// The rows' own pins before any change.
-fn pins_before(alloc: Global, rows: &[PinRow]) -> Result<Vec<Option<Rank>>, Fail> {
+fn pins_before(rt: &impl Abort, alloc: Global, rows: &[PinRow]) -> Vec<Option<Rank>> {
     let mut own = Vec::new(alloc);
     for row in rows {
-        own.push(row.foreign.or(row.earlier))?;
+        own.push(row.foreign.or(row.earlier)).sure(rt);
     }
-    Ok(own)
+    own
 }
 
 /// The rank of the nearest pin at or above a row.
@@ -86,27 +86,47 @@ fn is_held(rows: &[PinRow], at: usize) -> bool {
     false
 }
 
+/// How many rows have their nearest pin on a rank that is neither the first nor the last one.
+fn strays_now(
+    rows: &[PinRow],
+    own: &[Option<Rank>],
+    before: &[Option<Rank>],
+    last: &[Option<Rank>],
+) -> usize {
+    let mut strays = 0usize;
+    for at in 0..rows.len() {
+        let now = nearest(rows, own, at);
+        let known = now == nearest(rows, before, at) || now == nearest(rows, last, at);
+        strays = strays.saturating_add(usize::from(now.is_some() && !known));
+    }
+    strays
+}
+
 /// Makes the changes, and counts the rows whose nearest pin was on a third rank meanwhile.
 fn strays(
-    alloc: Global,
+    own: &mut [Option<Rank>],
     rows: &[PinRow],
     changes: &[PinChange],
+    before: &[Option<Rank>],
     last: &[Option<Rank>],
-) -> Result<usize, Fail> {
-    let before = pins_before(alloc, rows)?;
-    let mut own = pins_before(alloc, rows)?;
+) -> usize {
     let mut strays = 0usize;
     for change in changes {
         if let Some(pin) = own.get_mut(change.row as usize) {
             *pin = change.pin;
         }
-        for at in 0..rows.len() {
-            let now = nearest(rows, &own, at);
-            let known = now == nearest(rows, &before, at) || now == nearest(rows, last, at);
-            strays = strays.saturating_add(usize::from(now.is_some() && !known));
+        strays = strays.saturating_add(strays_now(rows, own, before, last));
+    }
+    strays
+}
+
+/// Makes the changes.
+fn make_all(own: &mut [Option<Rank>], changes: &[PinChange]) {
+    for change in changes {
+        if let Some(pin) = own.get_mut(change.row as usize) {
+            *pin = change.pin;
         }
     }
-    Ok(strays)
 }
 
 /// How many rows that no foreign pin holds are elsewhere than they should, once all changes are made.
@@ -119,31 +139,37 @@ fn misplaced(rows: &[PinRow], own: &[Option<Rank>]) -> usize {
     misplaced
 }
 
-/// Tries one random tree: how many rows are misplaced in the end or strayed meanwhile.
-fn tried(alloc: Global, seed: &mut u64) -> Result<usize, Fail> {
+/// A random tree.
+fn random_rows(rt: &impl Abort, alloc: Global, seed: &mut u64) -> Vec<PinRow> {
     let mut rows = Vec::new(alloc);
     for at in 0..below(seed, 12).saturating_add(1) {
-        rows.push(random_row(seed, at))?;
+        rows.push(random_row(seed, at)).sure(rt);
     }
-    if !are_rows(&rows) {
-        return Err(Fail::from("no rows"));
-    }
-    let changes = changes_for(alloc, &rows)?;
-    let mut own = pins_before(alloc, &rows)?;
-    for change in changes.as_slice() {
-        if let Some(pin) = own.get_mut(change.row as usize) {
-            *pin = change.pin;
-        }
-    }
-    let strays = strays(alloc, &rows, &changes, &own)?;
-    Ok(misplaced(&rows, &own).saturating_add(strays))
+    rows
+}
+
+/// The changes of pins.
+fn changes_of(rt: &impl Abort, alloc: Global, rows: &[PinRow]) -> Vec<PinChange> {
+    assert!(rt; are_rows(rows));
+    changes_for(alloc, rows).sure(rt)
+}
+
+/// Tries one random tree: how many rows are misplaced in the end or strayed meanwhile.
+fn tried(rt: &impl Abort, alloc: Global, seed: &mut u64) -> usize {
+    let rows = random_rows(rt, alloc, seed);
+    let changes = changes_of(rt, alloc, &rows);
+    let before = pins_before(rt, alloc, &rows);
+    let mut last = pins_before(rt, alloc, &rows);
+    make_all(last.as_mut_slice(), &changes);
+    let mut own = pins_before(rt, alloc, &rows);
+    let strays = strays(own.as_mut_slice(), &rows, &changes, &before, &last);
+    misplaced(&rows, &last).saturating_add(strays)
 }
 
 #[test]
-fn random_trees_end_where_they_should(rt: HostRuntime) -> Result<(), Fail> {
+fn random_trees_end_where_they_should(rt: HostRuntime) {
     let mut seed = 1;
     for tree in 0..TREES {
-        same_in(&rt, &tried(rt.alloc(), &mut seed)?, &0, &tree);
+        same_in(&rt, &tried(&rt, rt.alloc(), &mut seed), &0, &tree);
     }
-    Ok(())
 }

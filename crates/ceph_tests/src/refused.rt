@@ -6,12 +6,11 @@ use ceph_plan::{OwnPins, PartCount, PlanError, Proposal, propose};
 use ceph_snapshot::{
     Directory, Gathering, Snapshot, SnapshotError, fold, held_heat, holds, rows_of,
 };
-use mds_types::{Rank, RankSet};
+use mds_types::{ProblemRow, Rank, RankSet};
 use std::alloc::{AllocError, AllocFailed, Global};
-use std::test::Fail;
 
 /// Why there was no answer.
-#[derive(Clone, Copy, Debug, PartialEq, Eq)]
+#[derive(Drop)]
 enum Refused {
     /// A growth was refused.
     Memory,
@@ -73,26 +72,41 @@ const SUBTREES: &[u8] =
 /// The entries of one directory.
 const LISTING: &[u8] = b"# file: c\nceph.dir.entries=\"7\"\n";
 
+/// Adds the roots and the heat.
+fn add_rank(alloc: Global, all: &mut Gathering) -> Result<(), Refused> {
+    let roots = read_subtrees(alloc, SUBTREES)?;
+    all.add_subtrees(Rank::default(), &roots)?;
+    let loads = read_loads(alloc, LOADS)?;
+    all.add_loads(Rank::default(), &loads)?;
+    Ok(())
+}
+
 /// The directories, as the dumps tell them.
 fn gathered(alloc: Global) -> Result<Snapshot, Refused> {
     let mut all = Gathering::new(alloc)?;
-    let roots = read_subtrees(alloc, SUBTREES)?;
-    all.add_subtrees(Rank::default(), roots.as_slice())?;
-    let loads = read_loads(alloc, LOADS)?;
-    all.add_loads(Rank::default(), loads.as_slice())?;
+    add_rank(alloc, &mut all)?;
     let listing = read_listing(alloc, LISTING)?;
-    all.add_listing(listing.as_slice())?;
+    all.add_listing(&listing)?;
     Ok(all.snapshot(1, 3)?)
 }
 
-/// A plan of these directories for three ranks, where nothing is pinned yet.
-fn proposed(alloc: Global, directories: &[Directory], spread: &[u64]) -> Result<Proposal, Refused> {
+/// What is planned, and the heat that is pinned to each rank.
+fn problem(
+    alloc: Global,
+    directories: &[Directory],
+    spread: &[u64],
+) -> Result<(Vec<ProblemRow>, Vec<u64>), Refused> {
     let holds = holds(alloc, directories)?;
     if spread.len() != 64 {
         return Err(Refused::Wrong);
     }
     let pinned = held_heat(alloc, directories, &holds, spread)?;
-    let rows = rows_of(alloc, directories, &holds)?;
+    Ok((rows_of(alloc, directories, &holds)?, pinned))
+}
+
+/// A plan of these directories for three ranks, where nothing is pinned yet.
+fn proposed(alloc: Global, directories: &[Directory], spread: &[u64]) -> Result<Proposal, Refused> {
+    let (rows, pinned) = problem(alloc, directories, spread)?;
     let none = OwnPins {
         foreign: None,
         earlier: None,
@@ -126,7 +140,7 @@ fn answer(alloc: Global) -> Result<(usize, u64, u64, u64, usize), Refused> {
 // With `rt try --test --fail-alloc N`, the N-th growth is refused: one turn at most
 // lacks memory, and each other answers as ever.
 #[test]
-fn a_refused_growth_is_told(rt: HostRuntime) -> Result<(), Fail> {
+fn a_refused_growth_is_told(rt: HostRuntime) {
     let mut refused = 0u32;
     for _ in 0..3 {
         match answer(rt.alloc()) {
@@ -136,6 +150,5 @@ fn a_refused_growth_is_told(rt: HostRuntime) -> Result<(), Fail> {
             Err(Refused::Wrong) => holds_in(&rt, false, &"refused for another cause"),
         }
     }
-    assert!(rt; refused <= 1);
-    Ok(())
+    holds_in(&rt, refused <= 1, &refused);
 }

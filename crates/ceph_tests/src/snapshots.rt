@@ -1,48 +1,65 @@
 //! Snapshots from dumps, and what pins hold in them.
 
-use crate::same::{same, same_in};
+use crate::same::{Sure, same, same_in};
 use ceph_dumps::{FragmentHeat, ListedDir, SubtreeRoot};
 use ceph_snapshot::{Directory, Gathering, Held, Snapshot, fold, held_heat, holds};
 use mds_types::Rank;
 use std::alloc::Global;
-use std::test::Fail;
+use std::process::Abort;
 
 fn rank(number: u8) -> Rank {
     Rank::new(number).unwrap_or_default()
 }
 
-fn loads(alloc: Global, given: &[(&[u8], u64)]) -> Result<Vec<FragmentHeat>, Fail> {
+/// Adds heats at a rank.
+fn add_loads(
+    rt: &impl Abort,
+    alloc: Global,
+    all: &mut Gathering,
+    at: Rank,
+    given: &[(&[u8], u64)],
+) {
     let mut loads = Vec::new(alloc);
     for (path, heat) in given {
-        loads.push(FragmentHeat {
-            path: Vec::from_slice(alloc, path)?,
-            heat: *heat,
-        })?;
+        let path = Vec::from_slice(alloc, path).sure(rt);
+        loads.push(FragmentHeat { path, heat: *heat }).sure(rt);
     }
-    Ok(loads)
+    all.add_loads(at, &loads).sure(rt);
 }
 
-fn root(alloc: Global, path: &[u8], pin: Option<i64>) -> Result<SubtreeRoot, Fail> {
-    Ok(SubtreeRoot {
-        path: Vec::from_slice(alloc, path)?,
-        is_here: true,
-        rank: 0,
-        pin,
-        is_spread: false,
-    })
+/// Adds roots at a rank, with their pins.
+fn add_roots(
+    rt: &impl Abort,
+    alloc: Global,
+    all: &mut Gathering,
+    at: Rank,
+    given: &[(&[u8], Option<i64>)],
+) {
+    let mut roots = Vec::new(alloc);
+    for (path, pin) in given {
+        let root = SubtreeRoot {
+            path: Vec::from_slice(alloc, path).sure(rt),
+            is_here: true,
+            rank: 0,
+            pin: *pin,
+            is_spread: false,
+        };
+        roots.push(root).sure(rt);
+    }
+    all.add_subtrees(at, &roots).sure(rt);
 }
 
 /// Rank 0 has the root and a fragment of `/u`, rank 1 has `/a`, which is pinned, and the other fragment of `/u`.
-fn gathered(alloc: Global) -> Result<Snapshot, Fail> {
-    let mut all = Gathering::new(alloc)?;
-    all.add_subtrees(
-        rank(0),
-        &[root(alloc, b"", None)?, root(alloc, b"/u", None)?],
-    )?;
-    all.add_subtrees(
+fn gathered(rt: &impl Abort, alloc: Global) -> Snapshot {
+    let mut all = Gathering::new(alloc).sure(rt);
+    add_roots(rt, alloc, &mut all, rank(0), &[(b"", None), (b"/u", None)]);
+    add_roots(
+        rt,
+        alloc,
+        &mut all,
         rank(1),
-        &[root(alloc, b"/a", Some(1))?, root(alloc, b"/u", None)?],
-    )?;
+        &[(b"/a", Some(1)), (b"/u", None)],
+    );
     let first: [(&[u8], u64); 5] = [
         (b"", 100),
         (b"/a", 900),
@@ -50,45 +67,49 @@ fn gathered(alloc: Global) -> Result<Snapshot, Fail> {
         (b"/u", 40),
         (b"~mds0", 7),
     ];
-    all.add_loads(rank(0), &loads(alloc, first.as_slice())?)?;
+    add_loads(rt, alloc, &mut all, rank(0), first.as_slice());
     let second: [(&[u8], u64); 3] = [(b"/a", 700), (b"/a/x", 200), (b"/u", 60)];
-    all.add_loads(rank(1), &loads(alloc, second.as_slice())?)?;
-    all.add_listing(&[ListedDir {
-        path: Vec::from_slice(alloc, b"/b")?,
+    add_loads(rt, alloc, &mut all, rank(1), second.as_slice());
+    add_entries(rt, alloc, &mut all);
+    all.snapshot(1, 2).sure(rt)
+}
+
+/// Adds the entries of `/b`.
+fn add_entries(rt: &impl Abort, alloc: Global, all: &mut Gathering) {
+    let listed = ListedDir {
+        path: Vec::from_slice(alloc, b"/b").sure(rt),
         entries: Some(12),
         pin: None,
-    }])?;
-    Ok(all.snapshot(1, 2)?)
+    };
+    all.add_listing(&[listed]).sure(rt);
 }
 
 #[test]
-fn heat_counts_at_the_rank_with_authority(rt: HostRuntime) -> Result<(), Fail> {
-    let snapshot = gathered(rt.alloc())?;
+fn heat_counts_at_the_rank_with_authority(rt: HostRuntime) {
+    let snapshot = gathered(&rt, rt.alloc());
     // path, heat, inodes, rank, whether it is spread
-    let table: [(&[u8], u64, u64, u8, bool); 5] = [
-        (b"", 100, 1, 0, false),
-        (b"/u", 100, 1, 1, true),
-        (b"/a", 700, 1, 1, false),
-        (b"/b", 300, 12, 0, false),
-        (b"/a/x", 200, 1, 1, false),
+    let table: [(&[u8], (u64, u64, u8, bool)); 5] = [
+        (b"", (100, 1, 0, false)),
+        (b"/u", (100, 1, 1, true)),
+        (b"/a", (700, 1, 1, false)),
+        (b"/b", (300, 12, 0, false)),
+        (b"/a/x", (200, 1, 1, false)),
     ];
     same(&rt, &snapshot.directories.len(), &table.len());
-    for (found, (path, heat, inodes, now, spread)) in snapshot.directories.iter().zip(table) {
+    for (found, (path, wanted)) in snapshot.directories.iter().zip(table) {
+        let now = found.now.number();
         same(&rt, &found.path.as_slice(), &path);
         same(
             &rt,
-            &(found.heat, found.inodes, found.is_spread),
-            &(heat, inodes, spread),
+            &(found.heat, found.inodes, now, found.is_spread),
+            &wanted,
         );
-        same(&rt, &found.now.number(), &now);
     }
-    Ok(())
 }
 
 #[test]
-fn pinned_and_spread_heat_is_held(rt: HostRuntime) -> Result<(), Fail> {
-    let snapshot = gathered(rt.alloc())?;
-    let holds = holds(rt.alloc(), &snapshot.directories)?;
+fn pinned_and_spread_heat_is_held(rt: HostRuntime) {
+    let snapshot = gathered(&rt, rt.alloc());
     let table = [
         Held::Free,
         Held::Spread(rank(1)),
@@ -96,35 +117,49 @@ fn pinned_and_spread_heat_is_held(rt: HostRuntime) -> Result<(), Fail> {
         Held::Free,
         Held::Pinned(rank(1)),
     ];
+    let holds = held(&rt, rt.alloc(), &snapshot.directories);
     same(&rt, &holds.as_slice(), &table.as_slice());
-    if snapshot.spread.len() != 64 {
-        return Err(Fail::from("lengths"));
-    }
-    let heat = held_heat(rt.alloc(), &snapshot.directories, &holds, &snapshot.spread)?;
-    same(&rt, &heat.first(), &Some(&40));
-    same(&rt, &heat.get(1), &Some(&960));
-    Ok(())
+    let heat = heat_of(&rt, rt.alloc(), &snapshot);
+    same(&rt, &heat.get(..2), &Some([40, 960].as_slice()));
+}
+
+fn held(rt: &impl Abort, alloc: Global, directories: &[Directory]) -> Vec<Held> {
+    holds(alloc, directories).sure(rt)
+}
+
+fn heat_of(rt: &impl Abort, alloc: Global, snapshot: &Snapshot) -> Vec<u64> {
+    let holds = holds(alloc, &snapshot.directories).expect(rt, "not held");
+    assert!(rt; snapshot.spread.len() == 64);
+    held_heat(alloc, &snapshot.directories, &holds, &snapshot.spread).sure(rt)
 }
 
 #[test]
-fn cold_leaves_are_folded(rt: HostRuntime) -> Result<(), Fail> {
-    let mut all = Gathering::new(rt.alloc())?;
+fn cold_leaves_are_folded(rt: HostRuntime) {
     let given: [(&[u8], u64); 5] = [(b"", 1), (b"/a/c", 5), (b"/b", 3), (b"/a", 7), (b"/d", 9)];
-    all.add_loads(rank(0), &loads(rt.alloc(), given.as_slice())?)?;
-    let snapshot = all.snapshot(1, 1)?;
-    let (kept, folded) = fold(rt.alloc(), snapshot.directories, 3)?;
+    let mut all = Gathering::new(rt.alloc()).sure(&rt);
+    add_loads(&rt, rt.alloc(), &mut all, rank(0), given.as_slice());
+    let directories = all.snapshot(1, 1).sure(&rt).directories;
+    let (kept, folded) = folded(&rt, rt.alloc(), directories, 3);
     same(&rt, &folded, &2);
-    let table: [(&[u8], u64, u64, u32); 3] = [(b"", 4, 2, 0), (b"/a", 12, 2, 0), (b"/d", 9, 1, 0)];
+    let table: [(&[u8], (u64, u64, u32)); 3] = [
+        (b"", (4, 2, 0)),
+        (b"/a", (12, 2, 0)),
+        (b"/d", (9, 1, 0)),
+    ];
     same(&rt, &kept.len(), &table.len());
-    for (found, (path, heat, inodes, parent)) in kept.iter().zip(table) {
+    for (found, (path, wanted)) in kept.iter().zip(table) {
         same(&rt, &found.path.as_slice(), &path);
-        same(
-            &rt,
-            &(found.heat, found.inodes, found.parent),
-            &(heat, inodes, parent),
-        );
+        same(&rt, &(found.heat, found.inodes, found.parent), &wanted);
     }
-    Ok(())
+}
+
+fn folded(
+    rt: &impl Abort,
+    alloc: Global,
+    directories: Vec<Directory>,
+    limit: usize,
+) -> (Vec<Directory>, usize) {
+    fold(alloc, directories, limit).sure(rt)
 }
 
 /// Heat and inodes of all directories.
@@ -137,23 +172,30 @@ fn sums(directories: &[Directory]) -> (u64, u64) {
     (heat, inodes)
 }
 
+/// 59 directories with heat, in up to seven by nine by four.
+fn many(rt: &impl Abort, alloc: Global) -> Vec<Directory> {
+    let mut all = Gathering::new(alloc).sure(rt);
+    for number in 1..60u64 {
+        let (high, low) = (number / 9, number % 9);
+        let path = format!(in alloc; "/a{high}/b{low}/c{}", number % 4).sure(rt);
+        let given = [(path.as_bytes(), number * 37 % 101)];
+        add_loads(rt, alloc, &mut all, rank(0), given.as_slice());
+    }
+    all.snapshot(1, 1).sure(rt).directories
+}
+
 #[test]
-fn folding_keeps_heat_and_inodes(rt: HostRuntime) -> Result<(), Fail> {
+fn folding_keeps_heat_and_inodes(rt: HostRuntime) {
     for limit in 1..60usize {
-        let mut all = Gathering::new(rt.alloc())?;
-        for number in 1..60u64 {
-            let (high, low) = (number / 9, number % 9);
-            let path = format!(in rt.alloc(); "/a{high}/b{low}/c{}", number % 4)?;
-            let heat = number * 37 % 101;
-            all.add_loads(rank(0), &loads(rt.alloc(), &[(path.as_bytes(), heat)])?)?;
-        }
-        let directories = all.snapshot(1, 1)?.directories;
+        let directories = many(&rt, rt.alloc());
         let before = sums(directories.as_slice());
         let count = directories.len();
-        let (kept, folded) = fold(rt.alloc(), directories, limit)?;
+        let (kept, folded) = folded(&rt, rt.alloc(), directories, limit);
         same_in(&rt, &sums(kept.as_slice()), &before, &limit);
-        same(&rt, &kept.len().saturating_add(folded), &count);
-        same(&rt, &kept.len(), &limit.min(count));
+        same(
+            &rt,
+            &(kept.len(), kept.len().saturating_add(folded)),
+            &(limit.min(count), count),
+        );
     }
-    Ok(())
 }
