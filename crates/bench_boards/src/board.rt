@@ -1,11 +1,11 @@
 //! Times the calls of a board with 8 active ranks and room for 65,536 directories.
 //!
-//! Without an argument it prints nothing. Else it prints a line: a name, how many calls were accepted, and
-//! nanoseconds of processor time a call, the least of several runs; then the same of what it stands on. `tick` is a
-//! tick of the board, and one of heats alone. `requests` is a request that begins and ends. `stop` is the stop of a
-//! rank at which a thousand requests run, by request. `balance` is a plan for 65,536 directories, and the same
-//! problem opened and solved alone. `sets` and `ones` carry out orders of 65,536 directories: one order of all, and
-//! 32,768 orders of one. `rest` makes 2^20 events, so that their memory can be seen from outside.
+//! It prints a name, how many calls were accepted, and nanoseconds of processor time a call, the least of several
+//! runs; then the same of what it stands on, or 0. `tick` is a tick of the board, and one of heats alone. `requests` is
+//! a request that begins and ends. `stop` is the stop of a rank at which a thousand requests run, by request. `balance`
+//! is a plan for 65,536 directories, and the same problem opened and solved alone. `sets` and `ones` carry out orders
+//! of 65,536 directories: one order of all, and 32,768 orders of one. `rest` makes 2^20 events, so that their memory
+//! can be seen from outside. For another name it prints nothing.
 
 mod moving;
 mod planning;
@@ -14,38 +14,38 @@ mod trees;
 
 ghost use Rattle.std.specs.Prelude.{◌≡◌};
 
-use crate::board::moving::{Asked, time_moves};
+use crate::board::moving::time_moves;
 use crate::board::planning::time_balance;
 use crate::board::timing::{time_requests, time_rest, time_stop, time_ticks};
-use authority_map::{MapWriter, Publisher};
-use board_state::BoardParts;
+pub use crate::board::trees::make_one;
+use crate::opened::{Asked, NEVER, Times, time_named};
+use crate::told::{tell, word_at};
+use authority_map::Publisher;
 use heat_ledger::Share;
 use mds_board::Board;
 use mds_types::limits::DIR_LIMIT;
 use naming::Naming;
 use std::alloc::Global;
-use std::io;
-use std::marker::Brand;
+use std::io::{self, Write};
+use std::marker::Sync;
 use std::sync::Wait;
 use std::thread::Threads;
-use std::time::CpuClock;
+use std::time::{Clock, CpuClock};
 
 /// How many ranks are active.
-pub const RANKS: u8 = 8;
+const RANKS: u8 = 8;
 
-/// Something that a board can't do here.
-pub(crate) fn failed(what: &'static str) -> io::Error {
-    io::Error::new(io::ErrorKind::InvalidData, what)
-}
-
-// What is timed.
+/// What is timed.
 #[derive(Clone, Copy)]
-enum Calls {
+pub enum Calls {
     Ticks,
     Requests,
     Stops,
     Plans,
-    Moves(Asked),
+    /// One order of all directories.
+    Sets,
+    /// An order each of half of the directories.
+    Ones,
     Rest,
 }
 
@@ -56,21 +56,21 @@ fn calls_of(word: &str) -> Option<Calls> {
         "requests" => Some(Calls::Requests),
         "stop" => Some(Calls::Stops),
         "balance" => Some(Calls::Plans),
-        "sets" => Some(Calls::Moves(Asked::Whole)),
-        "ones" => Some(Calls::Moves(Asked::Single)),
+        "sets" => Some(Calls::Sets),
+        "ones" => Some(Calls::Ones),
         "rest" => Some(Calls::Rest),
         _ => None,
     }
 }
 
 // What is asked for is done to a board.
-fn time<J: Naming, M: Publisher<J>, R: Threads + Sync + CpuClock + Print>(
+fn time<J: Naming, M: Publisher<J>, R: Threads + CpuClock>(
     rt: &R,
     alloc: Global,
     board: &mut Board<J, M>,
     share: &mut Share<J>,
     calls: Calls,
-) -> io::Result<()>
+) -> Times
     requires { J.limit ≡ DIR_LIMIT }
 {
     match calls {
@@ -78,72 +78,43 @@ fn time<J: Naming, M: Publisher<J>, R: Threads + Sync + CpuClock + Print>(
         Calls::Requests => time_requests(rt, alloc, board, share),
         Calls::Stops => time_stop(rt, alloc, board, share),
         Calls::Plans => time_balance(rt, alloc, board, share),
-        Calls::Moves(asked) => time_moves(rt, alloc, board, asked),
+        Calls::Sets => time_moves(rt, alloc, board, 0, DIR_LIMIT),
+        Calls::Ones => time_moves(rt, alloc, board, DIR_LIMIT / 2, 1),
         Calls::Rest => time_rest(rt, board),
     }
 }
 
-fn time_on<J: Naming, M: Publisher<J>, R: Threads + Wait + Sync + CpuClock + Print>(
+/// What is asked for is done to a board, and it ends.
+pub fn time_calls<J: Naming, M: Publisher<J>, R: Threads + CpuClock>(
     rt: &R,
     alloc: Global,
-    parts: BoardParts<J, M>,
+    mut board: Board<J, M>,
+    mut shares: Vec<Share<J>>,
     calls: Calls,
-) -> io::Result<()>
-    requires limit { J.limit ≡ DIR_LIMIT }
+) -> Times
+    requires { J.limit ≡ DIR_LIMIT }
 {
-    match Board::new(alloc, parts, DIR_LIMIT, RANKS) {
-        Err(parts) => {
-            parts.end();
-            Err(failed("no board"))
-        }
-        Ok((mut board, mut shares)) => {
-            let done = match shares.first_mut() {
-                Some(share) => time(rt, alloc, &mut board, share, calls),
-                None => Err(failed("no share")),
-            };
-            board.end();
-            done
-        }
-    }
-}
-
-// Opens a board for what is asked for.
-fn time_opened<J: Naming, R: Threads + Wait + Sync + CpuClock + Print>(
-    rt: &R,
-    alloc: Global,
-    book: heat_ledger::NewBook,
-    map: authority_map::NewMap,
-    calls: Calls,
-) -> io::Result<()>
-    requires book { book ≡ J.ledger }
-    requires map { map ≡ J.map }
-    requires limit { J.limit ≡ DIR_LIMIT }
-{
-    match MapWriter::<J, &R>::open(rt, alloc, map, DIR_LIMIT, 1) {
-        Ok((writer, _readers)) => time_on(rt, alloc, BoardParts::new(book, writer), calls),
-        Err(_) => Err(failed("no map")),
-    }
-}
-
-// A board has a name, which is that of what was opened for its book and for its map.
-fn time_named<R: Threads + Wait + Sync + CpuClock + Print>(
-    rt: &R,
-    alloc: Global,
-    calls: Calls,
-) -> io::Result<()> {
-    let book = heat_ledger::NewBook::new(alloc)?;
-    let map = authority_map::NewMap::new();
-    time_opened::<Brand, R>(rt, alloc, book, map, calls)?;
-    Ok(())
+    let times = match shares.first_mut() {
+        Some(share) => time(rt, alloc, &mut board, share, calls),
+        None => NEVER,
+    };
+    board.end();
+    times
 }
 
 /// Carries out what the words ask for.
-pub fn run<R: Threads + Wait + Sync + AllocGlobal + CpuClock + Print>(
+pub fn run<R: Threads + Wait + Clock + CpuClock + Sync, W: Write>(
     rt: &R,
+    alloc: Global,
+    out: &mut W,
     words: &[String],
 ) -> io::Result<()> {
-    let Some(calls) = words.first().and_then(|word| calls_of(word.as_str())) else {
-        return Ok(());
-    };
-    time_named(rt, rt.alloc(), calls)
+    let name = word_at(words, 2);
+    match calls_of(name) {
+        Some(calls) => {
+            let times = time_named(rt, alloc, RANKS, Asked::Calls(calls));
+            tell(out, name, &[times.accepted, times.nanos, times.alone])
+        }
+        None => Ok(()),
+    }
 }

@@ -1,8 +1,8 @@
 //! Orders that are carried out.
 
-use crate::board::failed;
-use crate::board::timing::each;
 use crate::board::trees::grow_star;
+use crate::clock::{nanos_since, now};
+use crate::opened::{NEVER, Times};
 use authority_map::Publisher;
 use export_rounds::{Outcome, carry_out_orders};
 use mds_board::Board;
@@ -10,29 +10,15 @@ use mds_types::limits::DIR_LIMIT;
 use mds_types::{Dir, Dirs, Order, Rank};
 use naming::Naming;
 use std::alloc::{AllocError, Global};
-use std::io;
 use std::time::CpuClock;
 
 /// How often orders are timed. Each time they go on from where the last left them. The history has room for no more.
 const RUNS: u8 = 2;
 
-/// Which orders.
-#[derive(Clone, Copy)]
-pub enum Asked {
-    /// One of all directories.
-    Whole,
-    /// One each of half of the directories.
-    Single,
-}
-
-fn rank(number: u8) -> Rank {
-    Rank::new(number).unwrap_or_default()
-}
-
-// An order of the directories from one number to another.
-fn order(alloc: Global, from: Rank, to: Rank, first: u32, end: u32) -> Result<Order, AllocError> {
+// An order of so many directories from one number on.
+fn order(alloc: Global, from: Rank, to: Rank, first: u32, size: u32) -> Result<Order, AllocError> {
     let mut dirs = Vec::new(alloc);
-    for number in first..end {
+    for number in first..first.saturating_add(size) {
         dirs.push(Dir::new(number))?;
     }
     Ok(Order {
@@ -42,14 +28,19 @@ fn order(alloc: Global, from: Rank, to: Rank, first: u32, end: u32) -> Result<Or
     })
 }
 
-// The orders from one rank to another.
-fn orders(alloc: Global, from: Rank, to: Rank, asked: Asked) -> Result<Vec<Order>, AllocError> {
+// Orders of so many directories each, from one number up to the limit, from a rank to the next.
+fn orders(alloc: Global, run: u8, first: u32, size: u32) -> Result<Vec<Order>, AllocError> {
     let mut orders = Vec::new(alloc);
-    match asked {
-        Asked::Whole => orders.push(order(alloc, from, to, 0, DIR_LIMIT)?)?,
-        Asked::Single => for number in DIR_LIMIT / 2..DIR_LIMIT {
-            orders.push(order(alloc, from, to, number, number.saturating_add(1))?)?;
-        },
+    let from = Rank::new(run).unwrap_or_default();
+    let to = Rank::new(run.saturating_add(1)).unwrap_or_default();
+    for number in 0..DIR_LIMIT.saturating_sub(first) / size.max(1) {
+        orders.push(order(
+            alloc,
+            from,
+            to,
+            first.saturating_add(number.saturating_mul(size)),
+            size,
+        )?)?;
     }
     Ok(orders)
 }
@@ -64,28 +55,52 @@ fn count_done(outcomes: &[Outcome]) -> u64 {
     done
 }
 
-/// Times the orders of a star of 65,536 directories, by all that are carried out.
-pub fn time_moves<J: Naming, M: Publisher<J>, R: CpuClock + Print>(
+// The time of one run of orders, or nothing where one isn't done.
+fn time_orders<J: Naming, M: Publisher<J>, R: CpuClock>(
     rt: &R,
     alloc: Global,
     board: &mut Board<J, M>,
-    asked: Asked,
-) -> io::Result<()> {
-    grow_star(alloc, board)?;
-    let mut least = u128::MAX;
+    orders: &[Order],
+) -> u64 {
+    let start = now(rt);
+    let Ok(outcomes) = carry_out_orders(board, alloc, orders) else {
+        return u64::MAX;
+    };
+    let time = nanos_since(rt, start);
+    if count_done(&outcomes) == orders.len() as u64 {
+        time
+    } else {
+        u64::MAX
+    }
+}
+
+/// Times the orders of a star of 65,536 directories, by all that are carried out. They begin at the first directory,
+/// and have so many each.
+pub fn time_moves<J: Naming, M: Publisher<J>, R: CpuClock>(
+    rt: &R,
+    alloc: Global,
+    board: &mut Board<J, M>,
+    first: u32,
+    size: u32,
+) -> Times {
+    if !grow_star(alloc, board) {
+        return NEVER;
+    }
+    let mut nanos = u64::MAX;
     let mut accepted: u64 = 0;
     for run in 0..RUNS {
-        let todo = orders(alloc, rank(run), rank(run.saturating_add(1)), asked)?;
-        let start = rt.thread_cpu_time()?;
-        let Ok(outcomes) = carry_out_orders(board, alloc, &todo) else {
-            return Err(failed("no orders"));
+        let Ok(todo) = orders(alloc, run, first, size) else {
+            return NEVER;
         };
-        least = each(start, rt.thread_cpu_time()?, 1).min(least);
-        let done = count_done(&outcomes);
-        if done != todo.len() as u64 {
-            return Err(failed("an order isn't done"));
+        let time = time_orders(rt, alloc, board, &todo);
+        if time < u64::MAX {
+            nanos = time.min(nanos);
+            accepted = accepted.saturating_add(todo.len() as u64);
         }
-        accepted = accepted.saturating_add(done);
     }
-    println!(rt; "moves accepted {accepted} nanos {least}")
+    Times {
+        accepted,
+        nanos,
+        alone: 0,
+    }
 }

@@ -1,9 +1,9 @@
 //! Plans of a board.
 ghost use Rattle.std.specs.Prelude.{◌≡◌};
 
-use crate::board::failed;
-use crate::board::timing::each;
 use crate::board::trees::{grow, heat};
+use crate::clock::{nanos_since, now};
+use crate::opened::{NEVER, Times};
 use authority_map::Publisher;
 use board_state::Solver;
 use heat_ledger::Share;
@@ -13,7 +13,6 @@ use mds_types::{Plan, Problem, RankSet};
 use naming::Naming;
 use planner::solve;
 use std::alloc::{AllocError, Global};
-use std::io;
 use std::thread::Threads;
 use std::time::CpuClock;
 
@@ -32,64 +31,83 @@ impl<'r, R: Threads> Solver for Planner<'r, R> {
     }
 }
 
-// The greatest heat of a plan that the planner makes of the board's problem, and that isn't adopted.
+// The greatest heat of a plan, or 0 where memory ran out.
+fn greatest_of<R: Threads>(rt: &R, alloc: Global, problem: &Problem) -> u64 {
+    match solve(rt, alloc, problem) {
+        Ok(plan) => plan.greatest,
+        Err(_) => 0,
+    }
+}
+
+// The greatest heat of a plan that the planner makes of the board's problem, and that isn't adopted, or 0.
 fn solved<J: Naming, M: Publisher<J>, R: Threads>(
     rt: &R,
     alloc: Global,
     board: &mut Board<J, M>,
-) -> io::Result<u64> {
-    let Ok(problem) = board.open_problem(alloc) else {
-        return Err(failed("no problem"));
-    };
-    let plan = solve(rt, alloc, &problem)?;
-    Ok(plan.greatest)
+) -> u64 {
+    match board.open_problem(alloc) {
+        Ok(problem) => greatest_of(rt, alloc, &problem),
+        Err(_) => 0,
+    }
 }
 
-// The greatest heat of a plan by the board, which adopts it.
+// The greatest heat of a plan by the board, which adopts it. There is none where it gives no plan.
 fn balanced<J: Naming, M: Publisher<J>, R: Threads>(
     rt: &R,
     alloc: Global,
     board: &mut Board<J, M>,
-) -> io::Result<u64> {
+) -> Option<u64> {
     if board.balance(alloc, &Planner { rt }).is_err() {
-        return Err(failed("no plan"));
+        return None;
     }
-    board
-        .plan_in_force()
-        .map(|plan| plan.greatest)
-        .ok_or(failed("no plan in force"))
+    match board.plan_in_force() {
+        Some(plan) => Some(plan.greatest),
+        None => None,
+    }
 }
 
-/// Times plans by the board, and problems that are opened and solved alone. Both must be as good.
-pub fn time_balance<J: Naming, M: Publisher<J>, R: Threads + Sync + CpuClock + Print>(
+// Directories with heats, and ranks that are allowed, as far as the board takes them.
+fn is_ready<J: Naming, M: Publisher<J>>(
+    alloc: Global,
+    board: &mut Board<J, M>,
+    share: &mut Share<J>,
+) -> bool
+    requires { J.limit ≡ DIR_LIMIT }
+{
+    grow(alloc, board)
+        && heat(alloc, board, share)
+        && board.set_mask(RankSet::from_bits(0xff)).is_ok()
+}
+
+/// Times plans by the board, and problems that are opened and solved alone. Those that are as good are accepted.
+pub fn time_balance<J: Naming, M: Publisher<J>, R: Threads + CpuClock>(
     rt: &R,
     alloc: Global,
     board: &mut Board<J, M>,
     share: &mut Share<J>,
-) -> io::Result<()>
+) -> Times
     requires { J.limit ≡ DIR_LIMIT }
 {
-    grow(alloc, board)?;
-    heat(alloc, board, share)?;
-    if board.set_mask(RankSet::from_bits(0xff)).is_err() {
-        return Err(failed("no mask"));
+    if !is_ready(alloc, board, share) {
+        return NEVER;
     }
-    let mut least = (u128::MAX, u128::MAX);
+    let mut least = u64::MAX;
+    let mut alone = u64::MAX;
     let mut accepted: u64 = 0;
     for _ in 0..RUNS {
-        let start = rt.thread_cpu_time()?;
-        let greatest = balanced(rt, alloc, board)?;
-        let middle = rt.thread_cpu_time()?;
-        let alone = solved(rt, alloc, board)?;
-        let end = rt.thread_cpu_time()?;
-        least.0 = each(start, middle, 1).min(least.0);
-        least.1 = each(middle, end, 1).min(least.1);
-        if greatest == alone {
+        let start = now(rt);
+        let greatest = balanced(rt, alloc, board).unwrap_or(u64::MAX);
+        least = nanos_since(rt, start).min(least);
+        let start = now(rt);
+        let other = solved(rt, alloc, board);
+        alone = nanos_since(rt, start).min(alone);
+        if greatest == other {
             accepted = accepted.saturating_add(1);
         }
     }
-    println!(rt;
-        "balance accepted {accepted} nanos {} alone {}",
-        least.0, least.1
-    )
+    Times {
+        accepted,
+        nanos: least,
+        alone,
+    }
 }

@@ -1,6 +1,7 @@
 //! Ticks, requests and stops.
 
-use crate::board::failed;
+use crate::clock::{nanos_since, now};
+use crate::opened::{NEVER, Times};
 use authority_map::Publisher;
 use export_machine::{Event, Reply};
 use heat_decay::Heat;
@@ -10,8 +11,7 @@ use mds_types::limits::DIR_LIMIT;
 use mds_types::{Dir, Rank};
 use naming::Naming;
 use std::alloc::Global;
-use std::io;
-use std::time::{CpuClock, Duration};
+use std::time::CpuClock;
 
 /// How often each list of calls is timed.
 const RUNS: u32 = 9;
@@ -22,14 +22,13 @@ const CALLS: u32 = 50_000;
 /// How many requests run at a rank that stops.
 const RUNNING: u32 = 1_000;
 
-/// Nanoseconds for each of so many calls, from one reading of the clock to a later one.
-pub(crate) fn each(from: Duration, to: Duration, calls: u32) -> u128 {
-    to.saturating_sub(from).as_nanos() / u128::from(calls.max(1))
-}
+/// How many events the history has room for.
+const EVENTS: u32 = 1 << 20;
 
-fn board_ticks<J: Naming, M: Publisher<J>>(board: &mut Board<J, M>) -> u64 {
+// How many ticks of so many a board accepts.
+fn board_ticks<J: Naming, M: Publisher<J>>(board: &mut Board<J, M>, ticks: u32) -> u64 {
     let mut accepted: u64 = 0;
-    for _ in 0..CALLS {
+    for _ in 0..ticks {
         if board.tick().is_ok() {
             accepted = accepted.saturating_add(1);
         }
@@ -48,27 +47,30 @@ fn heat_ticks(heat: &mut Heat) -> u64 {
 }
 
 /// Times ticks of a board, and of heats alone.
-pub fn time_ticks<J: Naming, M: Publisher<J>, R: CpuClock + Print>(
+pub fn time_ticks<J: Naming, M: Publisher<J>, R: CpuClock>(
     rt: &R,
     alloc: Global,
     board: &mut Board<J, M>,
-) -> io::Result<()> {
-    let mut heat = Heat::new(alloc, DIR_LIMIT)?;
-    let mut least = (u128::MAX, u128::MAX);
+) -> Times {
+    let Ok(mut heat) = Heat::new(alloc, DIR_LIMIT) else {
+        return NEVER;
+    };
+    let mut least = u64::MAX;
+    let mut alone = u64::MAX;
     let mut accepted: u64 = 0;
     for _ in 0..RUNS {
-        let start = rt.thread_cpu_time()?;
-        accepted = accepted.saturating_add(board_ticks(board));
-        let middle = rt.thread_cpu_time()?;
+        let start = now(rt);
+        accepted = accepted.saturating_add(board_ticks(board, CALLS));
+        least = nanos_since(rt, start).min(least);
+        let start = now(rt);
         accepted = accepted.saturating_add(heat_ticks(&mut heat));
-        let end = rt.thread_cpu_time()?;
-        least.0 = each(start, middle, CALLS).min(least.0);
-        least.1 = each(middle, end, CALLS).min(least.1);
+        alone = nanos_since(rt, start).min(alone);
     }
-    println!(rt;
-        "tick accepted {accepted} nanos {} alone {}",
-        least.0, least.1
-    )
+    Times {
+        accepted,
+        nanos: least / u64::from(CALLS),
+        alone: alone / u64::from(CALLS),
+    }
 }
 
 // Requests at rank 0 that begin, and end at once. It says how many ended.
@@ -90,73 +92,72 @@ fn serve<J: Naming, M: Publisher<J>>(
 }
 
 /// Times requests.
-pub fn time_requests<J: Naming, M: Publisher<J>, R: CpuClock + Print>(
+pub fn time_requests<J: Naming, M: Publisher<J>, R: CpuClock>(
     rt: &R,
     alloc: Global,
     board: &mut Board<J, M>,
     share: &mut Share<J>,
-) -> io::Result<()> {
-    let mut least = u128::MAX;
+) -> Times {
+    let mut least = u64::MAX;
     let mut accepted: u64 = 0;
     for _ in 0..RUNS {
-        let start = rt.thread_cpu_time()?;
+        let start = now(rt);
         accepted = accepted.saturating_add(serve(alloc, board, share));
-        least = each(start, rt.thread_cpu_time()?, CALLS).min(least);
+        least = nanos_since(rt, start).min(least);
     }
-    println!(rt; "requests accepted {accepted} nanos {least}")
+    Times {
+        accepted,
+        nanos: least / u64::from(CALLS),
+        alone: 0,
+    }
 }
 
-// So many requests begin at rank 0, and it stops. It says how many began, and how long the stop took.
-fn stop<J: Naming, M: Publisher<J>, R: CpuClock>(
-    rt: &R,
-    alloc: Global,
-    board: &mut Board<J, M>,
-    share: &mut Share<J>,
-) -> io::Result<(u64, u128)> {
+// So many requests begin at rank 0. It says how many are accepted.
+fn begin<J: Naming, M: Publisher<J>>(board: &mut Board<J, M>, share: &mut Share<J>) -> u64 {
     let mut begun: u64 = 0;
     for _ in 0..RUNNING {
         if board.begin(share, Rank::default(), Dir::ROOT).is_ok() {
             begun = begun.saturating_add(1);
         }
     }
-    let start = rt.thread_cpu_time()?;
-    let stopped = board.step(alloc, Event::Stop(Rank::default()));
-    let time = each(start, rt.thread_cpu_time()?, RUNNING);
-    match (stopped, board.step(alloc, Event::Restart(Rank::default()))) {
-        (Ok(_), Ok(_)) => Ok((begun, time)),
-        _ => Err(failed("no stop")),
-    }
+    begun
 }
 
-/// Times stops.
-pub fn time_stop<J: Naming, M: Publisher<J>, R: CpuClock + Print>(
+/// Times stops. A request is accepted that begins and is ended by a stop.
+pub fn time_stop<J: Naming, M: Publisher<J>, R: CpuClock>(
     rt: &R,
     alloc: Global,
     board: &mut Board<J, M>,
     share: &mut Share<J>,
-) -> io::Result<()> {
-    let mut least = u128::MAX;
+) -> Times {
+    let mut least = u64::MAX;
     let mut accepted: u64 = 0;
     for _ in 0..RUNS {
-        let (begun, time) = stop(rt, alloc, board, share)?;
-        accepted = accepted.saturating_add(begun);
-        least = time.min(least);
+        let begun = begin(board, share);
+        let start = now(rt);
+        let stopped = board.step(alloc, Event::Stop(Rank::default())).is_ok();
+        least = nanos_since(rt, start).min(least);
+        if board.step(alloc, Event::Restart(Rank::default())).is_ok() && stopped {
+            accepted = accepted.saturating_add(begun);
+        }
     }
-    println!(rt; "stop accepted {accepted} nanos {least}")
+    Times {
+        accepted,
+        nanos: least / u64::from(RUNNING),
+        alone: 0,
+    }
 }
 
 /// Makes events until the history is full.
-pub fn time_rest<J: Naming, M: Publisher<J>, R: CpuClock + Print>(
+pub fn time_rest<J: Naming, M: Publisher<J>, R: CpuClock>(
     rt: &R,
     board: &mut Board<J, M>,
-) -> io::Result<()> {
-    let mut accepted: u64 = 0;
-    let start = rt.thread_cpu_time()?;
-    for _ in 0..1u32 << 20 {
-        if board.tick().is_ok() {
-            accepted = accepted.saturating_add(1);
-        }
+) -> Times {
+    let start = now(rt);
+    let accepted = board_ticks(board, EVENTS);
+    Times {
+        accepted,
+        nanos: nanos_since(rt, start) / u64::from(EVENTS),
+        alone: 0,
     }
-    let nanos = each(start, rt.thread_cpu_time()?, 1 << 20);
-    println!(rt; "rest accepted {accepted} nanos {nanos}")
 }

@@ -1,7 +1,6 @@
 //! Directories and heats of a board that is timed.
 ghost use Rattle.std.specs.Prelude.{◌≡◌};
 
-use crate::board::failed;
 use authority_map::Publisher;
 use exhaustive::Random;
 use heat_ledger::Share;
@@ -10,36 +9,38 @@ use mds_types::Dir;
 use mds_types::limits::DIR_LIMIT;
 use naming::Naming;
 use std::alloc::Global;
-use std::io;
+
+/// Makes a directory of this number, and says whether the board took it.
+pub fn make_one<J: Naming, M: Publisher<J>>(
+    alloc: Global,
+    board: &mut Board<J, M>,
+    parent: Dir,
+    number: u32,
+) -> bool {
+    match format!(in alloc; "d{number}") {
+        Ok(name) => board.make(alloc, parent, name.as_str(), 1).is_ok(),
+        Err(_) => false,
+    }
+}
 
 /// Makes directories up to the limit, each below one of the first quarter of those before it.
-pub fn grow<J: Naming, M: Publisher<J>>(alloc: Global, board: &mut Board<J, M>) -> io::Result<()> {
+pub fn grow<J: Naming, M: Publisher<J>>(alloc: Global, board: &mut Board<J, M>) -> bool {
     let mut random = Random::new(2026);
+    let mut done = true;
     for number in 1..DIR_LIMIT {
         let parent = random.below(u64::from(number / 4 + 1)) as u32;
-        let name = format!(in alloc; "d{number}")?;
-        if board
-            .make(alloc, Dir::new(parent), name.as_str(), 1)
-            .is_err()
-        {
-            return Err(failed("no directory"));
-        }
+        done &= make_one(alloc, board, Dir::new(parent), number);
     }
-    Ok(())
+    done
 }
 
 /// Makes directories up to the limit, all below the root.
-pub fn grow_star<J: Naming, M: Publisher<J>>(
-    alloc: Global,
-    board: &mut Board<J, M>,
-) -> io::Result<()> {
+pub fn grow_star<J: Naming, M: Publisher<J>>(alloc: Global, board: &mut Board<J, M>) -> bool {
+    let mut done = true;
     for number in 1..DIR_LIMIT {
-        let name = format!(in alloc; "d{number}")?;
-        if board.make(alloc, Dir::ROOT, name.as_str(), 1).is_err() {
-            return Err(failed("no directory"));
-        }
+        done &= make_one(alloc, board, Dir::ROOT, number);
     }
-    Ok(())
+    done
 }
 
 /// Hits on a directory, many on a few of them.
@@ -48,20 +49,17 @@ fn hits(random: &mut Random) -> u32 {
     hits.min(u64::from(u32::MAX)) as u32
 }
 
-/// Heats the directories.
+/// Heats the directories, and says whether the board took the heats.
 pub fn heat<J: Naming, M: Publisher<J>>(
     alloc: Global,
     board: &mut Board<J, M>,
     share: &mut Share<J>,
-) -> io::Result<()>
+) -> bool
     requires { J.limit ≡ DIR_LIMIT }
 {
     let mut random = Random::new(7);
     for number in 0..DIR_LIMIT {
         let _counted = share.count(Dir::new(number), hits(&mut random));
     }
-    if board.deposit(alloc, share).is_err() {
-        return Err(failed("no deposit"));
-    }
-    Ok(())
+    board.deposit(alloc, share).is_ok()
 }
