@@ -4,14 +4,13 @@ ghost use Rattle.std.specs.Prelude.{◌<◌, ◌≤◌};
 use exhaustive::Random;
 use mds_types::{Problem, ProblemRow, Rank, RankSet};
 use std::alloc::Global;
-use std::{fmt, io};
 
 /// How many rows a tree has.
 const ROWS: u32 = 65536;
 
 /// How a tree's rows get their parents.
 #[derive(Clone, Copy)]
-pub enum Shape {
+enum Shape {
     /// A parent among the first quarter of the rows before: broad and shallow.
     Fs,
     /// Depth first, as a walk over a directory tree lists it.
@@ -22,30 +21,22 @@ pub enum Shape {
     Star,
 }
 
-impl Shape {
-    /// Each shape.
-    pub const ALL: [Shape; 4] = [Shape::Fs, Shape::Usr, Shape::Chain, Shape::Star];
-
-    /// The shape of this name.
-    pub fn named(name: &str) -> Option<Shape> {
-        match name {
-            "fs" => Some(Shape::Fs),
-            "usr" => Some(Shape::Usr),
-            "chain" => Some(Shape::Chain),
-            "star" => Some(Shape::Star),
-            _ => None,
-        }
+/// The shape of this name.
+fn shape_of(name: &str) -> Option<Shape> {
+    match name {
+        "fs" => Some(Shape::Fs),
+        "usr" => Some(Shape::Usr),
+        "chain" => Some(Shape::Chain),
+        "star" => Some(Shape::Star),
+        _ => None,
     }
 }
 
-impl fmt::Display for Shape {
-    fn fmt<W: fmt::Write>(&self, f: &mut fmt::Formatter<W>) -> fmt::Result {
-        match self {
-            Shape::Fs => write!(f, "fs"),
-            Shape::Usr => write!(f, "usr"),
-            Shape::Chain => write!(f, "chain"),
-            Shape::Star => write!(f, "star"),
-        }
+/// The parent of a row that is there, and else the root.
+fn parent_of(rows: &[ProblemRow], row: u32) -> u32 {
+    match rows.get(row as usize) {
+        Some(row) => row.parent,
+        None => 0,
     }
 }
 
@@ -56,7 +47,7 @@ fn climbed(rows: &[ProblemRow], random: &mut Random, i: u32) -> u32 {
         if random.below(20) < 11 {
             return row;
         }
-        row = rows.get(row as usize).map_or(0, |row| row.parent);
+        row = parent_of(rows, row);
     }
     row
 }
@@ -79,19 +70,29 @@ fn heat(random: &mut Random, shape: Shape) -> u64 {
     }
 }
 
-/// The problem of this shape.
-pub fn problem(alloc: Global, shape: Shape, ranks: u8) -> io::Result<Problem> {
+/// The rows of a tree of this shape, all at the first rank.
+fn rows(alloc: Global, shape: Shape) -> Option<Vec<ProblemRow>> {
     let mut random = Random::new(2026);
     let mut rows = Vec::new(alloc);
     for i in 0..ROWS {
         let parent = parent(&rows, &mut random, shape, i);
-        rows.push(ProblemRow {
+        let heat = heat(&mut random, shape);
+        let row = ProblemRow {
             parent,
-            heat: heat(&mut random, shape),
+            heat,
             inodes: 1,
             now: Rank::default(),
-        })?;
+        };
+        if rows.push(row).is_err() {
+            return None;
+        }
     }
+    Some(rows)
+}
+
+/// The problem of the shape of this name, for so many ranks.
+pub fn problem(alloc: Global, name: &str, ranks: u32) -> Option<Problem> {
+    let ranks = u8::try_from(ranks).unwrap_or(0);
     let set = RankSet::from_bits(u64::MAX).among(ranks);
-    Problem::new(rows, set).map_err(|_| io::Error::new(io::ErrorKind::InvalidInput, "no problem"))
+    Problem::new(rows(alloc, shape_of(name)?)?, set).ok()
 }

@@ -1,114 +1,51 @@
 //! Lists of events, the same in each run.
 //!
-//! Each is made by the machine itself: what is next depends on its answers.
+//! Each is made by the machine itself: what is next depends on its answers. `made` makes 32,768 directories, which are
+//! there before each other list. `requests` begin and end. `mixed` has requests, directories made and removed, and
+//! exports of one directory, some of them aborted. `export` has exports of all directories, listed by rising numbers,
+//! and `disorder` the same, listed in disorder. Another name is that of a list without events.
 
 use exhaustive::Random;
 use export_machine::{Cluster, Event, Reply};
 use mds_types::{Dir, Dirs, Rank};
-use std::alloc::Global;
-use std::{fmt, io};
+use std::alloc::{AllocError, Global};
 
-/// How many directories a list's tree has before the events that are timed.
+/// How many directories the tree has.
 const DIRS: u32 = 32_768;
 
 /// How many rounds a list of small changes has.
 const ROUNDS: u32 = 60_000;
 
-/// How often the great export goes there and back.
-const TURNS: u8 = 8;
+/// How often the great export goes there or back.
+const TURNS: u8 = 16;
 
-/// Which events a list has.
-#[derive(Clone, Copy)]
-pub enum Kind {
-    /// Directories are made.
-    Made,
-    /// Requests begin and end.
-    Requests,
-    /// Requests, directories made and removed, exports of one directory, some of them aborted.
-    Mixed,
-    /// Exports of all 32,768 directories, listed by rising numbers.
-    Export,
-    /// The same, listed in disorder.
-    Disorder,
-}
-
-impl Kind {
-    /// The kind of this name.
-    pub fn named(name: &str) -> Option<Kind> {
-        match name {
-            "made" => Some(Kind::Made),
-            "requests" => Some(Kind::Requests),
-            "mixed" => Some(Kind::Mixed),
-            "export" => Some(Kind::Export),
-            "disorder" => Some(Kind::Disorder),
-            _ => None,
-        }
-    }
-}
-
-impl fmt::Display for Kind {
-    fn fmt<W: fmt::Write>(&self, f: &mut fmt::Formatter<W>) -> fmt::Result {
-        f.write_str(match self {
-            Kind::Made => "made",
-            Kind::Requests => "requests",
-            Kind::Mixed => "mixed",
-            Kind::Export => "export",
-            Kind::Disorder => "disorder",
-        })
-    }
-}
-
-/// The events that come before the clock starts, and those that are timed.
-#[derive(Drop)]
-pub struct Events {
-    /// Not timed.
-    pub before: Vec<Event>,
-    /// Timed.
-    pub timed: Vec<Event>,
-}
-
-/// A cluster, and the events that it took so far.
+/// A cluster, and the events that it took. A directory that is made when the tree is there has the number `next`.
 #[derive(Drop)]
 struct Maker {
     alloc: Global,
     cluster: Cluster,
     random: Random,
-    made: u32,
+    next: u32,
     events: Vec<Event>,
+    is_whole: bool,
 }
 
 impl Maker {
-    fn new(alloc: Global) -> io::Result<Maker> {
-        Ok(Maker {
-            alloc,
-            cluster: Cluster::new(alloc, 65_536, 64)?,
-            random: Random::new(2026),
-            made: 1,
-            events: Vec::new(alloc),
-        })
-    }
-
-    /// Applies an event and keeps it.
-    fn add(&mut self, event: Event) -> io::Result<Option<Reply>> {
-        self.events.push(event.copied(self.alloc)?)?;
-        Ok(self.cluster.apply(event).ok())
+    /// Applies an event and keeps it. Where memory runs out the list isn't whole.
+    fn add(&mut self, event: Event) -> Option<Reply> {
+        match event.copied(self.alloc) {
+            Ok(copy) => self.is_whole &= self.events.push(copy).is_ok(),
+            Err(_) => self.is_whole = false,
+        }
+        self.cluster.apply(event).ok()
     }
 
     /// Applies an event that sends a message, and answers its number.
-    fn sent(&mut self, event: Event) -> io::Result<u32> {
-        match self.add(event)? {
-            Some(Reply::Sent(message)) => Ok(message),
-            _ => Ok(0),
+    fn sent(&mut self, event: Event) -> u32 {
+        match self.add(event) {
+            Some(Reply::Sent(message)) => message,
+            _ => 0,
         }
-    }
-
-    /// Makes a directory: it has the next number.
-    fn make(&mut self, parent: Dir) -> io::Result<Dir> {
-        let dir = Dir::new(self.made);
-        if self.add(Event::Made(parent))?.is_some() {
-            self.made = self.made.saturating_add(1);
-        }
-        Ok(dir)
     }
 
     /// A directory of the tree, drawn at random.
@@ -116,71 +53,66 @@ impl Maker {
         Dir::new(self.random.below(u64::from(DIRS)) as u32)
     }
 
-    fn request(&mut self) -> io::Result<()> {
+    /// Makes the tree, in which each directory has two children.
+    fn make_tree(&mut self) {
+        for number in 1..DIRS {
+            let _ = self.add(Event::Made(Dir::new((number - 1) / 2)));
+        }
+    }
+
+    fn request(&mut self) {
         let dir = self.any_dir();
         let rank = self.cluster.authority(dir).unwrap_or_default();
-        if let Some(Reply::Ticket(ticket)) = self.add(Event::Begin(rank, dir))? {
-            self.add(Event::End(ticket))?;
+        if let Some(Reply::Ticket(ticket)) = self.add(Event::Begin(rank, dir)) {
+            let _ = self.add(Event::End(ticket));
         }
-        Ok(())
     }
 
     /// A directory is made and removed.
-    fn make_and_remove(&mut self) -> io::Result<()> {
+    fn make_and_remove(&mut self) {
         let parent = self.any_dir();
-        let dir = self.make(parent)?;
-        self.add(Event::Gone(dir))?;
-        Ok(())
+        let dir = Dir::new(self.next);
+        if self.add(Event::Made(parent)).is_some() {
+            self.next = self.next.saturating_add(1);
+        }
+        let _ = self.add(Event::Gone(dir));
     }
 
-    /// A whole export: ten events.
-    fn export(&mut self, from: Rank, to: Rank, dirs: Vec<Dir>) -> io::Result<()> {
-        if let Some(Reply::Export(export, discover)) = self.add(Event::Start(
-            from,
-            to,
-            Dirs::new(dirs),
-        ))? {
-            let found = self.sent(Event::Deliver(discover))?;
-            self.add(Event::Deliver(found))?;
-            let prepare = self.sent(Event::Froze(export))?;
-            let prepared = self.sent(Event::Deliver(prepare))?;
-            let moved = self.sent(Event::Deliver(prepared))?;
-            let taken = self.sent(Event::Deliver(moved))?;
-            self.add(Event::Deliver(taken))?;
-            let finish = self.sent(Event::Notify(export))?;
-            self.add(Event::Deliver(finish))?;
+    /// A whole export: ten events. One that is given up has four.
+    fn export(&mut self, from: Rank, to: Rank, dirs: Vec<Dir>, ends: bool) {
+        let start = Event::Start(from, to, Dirs::new(dirs));
+        let Some(Reply::Export(export, discover)) = self.add(start) else {
+            return;
+        };
+        let found = self.sent(Event::Deliver(discover));
+        if !ends {
+            let cancel = self.sent(Event::Abort(export));
+            let _ = self.add(Event::Deliver(cancel));
+            return;
         }
-        Ok(())
-    }
-
-    /// An export that is given up: four events.
-    fn give_up(&mut self, from: Rank, to: Rank, dirs: Vec<Dir>) -> io::Result<()> {
-        if let Some(Reply::Export(export, discover)) = self.add(Event::Start(
-            from,
-            to,
-            Dirs::new(dirs),
-        ))? {
-            self.sent(Event::Deliver(discover))?;
-            let cancel = self.sent(Event::Abort(export))?;
-            self.add(Event::Deliver(cancel))?;
-        }
-        Ok(())
+        let _ = self.add(Event::Deliver(found));
+        let prepare = self.sent(Event::Froze(export));
+        let prepared = self.sent(Event::Deliver(prepare));
+        let moved = self.sent(Event::Deliver(prepared));
+        let taken = self.sent(Event::Deliver(moved));
+        let _ = self.add(Event::Deliver(taken));
+        let finish = self.sent(Event::Notify(export));
+        let _ = self.add(Event::Deliver(finish));
     }
 
     /// An export of one directory, of which one in four is given up.
-    fn small_export(&mut self) -> io::Result<()> {
+    fn small_export(&mut self) {
         let dir = self.any_dir();
         let from = self.cluster.authority(dir).unwrap_or_default();
         let to = Rank::new(self.random.below(64) as u8).unwrap_or_default();
-        let dirs = vec![in self.alloc; dir]?;
-        if self.random.below(4) == 0 {
-            self.give_up(from, to, dirs)
-        } else {
-            self.export(from, to, dirs)
+        let ends = self.random.below(4) != 0;
+        match Vec::from_array(self.alloc, [dir]) {
+            Ok(dirs) => self.export(from, to, dirs, ends),
+            Err(_) => self.is_whole = false,
         }
     }
 
-    fn mixed(&mut self) -> io::Result<()> {
+    fn change(&mut self) {
         match self.random.below(8) {
             0 => self.make_and_remove(),
             1 | 2 => self.small_export(),
@@ -188,64 +120,77 @@ impl Maker {
         }
     }
 
-    fn great_exports(&mut self, disorder: bool) -> io::Result<()> {
-        let first = Rank::default();
-        let second = Rank::new(1).unwrap_or_default();
-        for _ in 0..TURNS {
-            let there = all_dirs(self.alloc, disorder)?;
-            self.export(first, second, there)?;
-            let back = all_dirs(self.alloc, disorder)?;
-            self.export(second, first, back)?;
+    fn small_changes(&mut self, are_mixed: bool) {
+        for _ in 0..ROUNDS {
+            if are_mixed {
+                self.change();
+            } else {
+                self.request();
+            }
         }
-        Ok(())
+    }
+
+    fn great_exports(&mut self, disorder: bool) {
+        let mut from = Rank::default();
+        let mut to = Rank::new(1).unwrap_or_default();
+        for _ in 0..TURNS {
+            match all_dirs(self.alloc, disorder) {
+                Ok(dirs) => self.export(from, to, dirs, true),
+                Err(_) => self.is_whole = false,
+            }
+            std::mem::swap(&mut from, &mut to);
+        }
     }
 }
 
 /// Each directory, by rising numbers or in disorder.
-pub fn all_dirs(alloc: Global, disorder: bool) -> io::Result<Vec<Dir>> {
+pub fn all_dirs(alloc: Global, disorder: bool) -> Result<Vec<Dir>, AllocError> {
     let mut dirs = Vec::new(alloc);
+    let factor = if disorder { 20_507 } else { 1 };
     for number in 0..DIRS {
-        let dir = if disorder {
-            number * 20_507 % DIRS
-        } else {
-            number
-        };
-        dirs.push(Dir::new(dir))?;
+        dirs.push(Dir::new(number.wrapping_mul(factor) % DIRS))?;
     }
     Ok(dirs)
 }
 
-/// A tree in which each directory has two children.
-fn make_tree(maker: &mut Maker) -> io::Result<()> {
+/// A cluster with the tree.
+pub fn grown(alloc: Global) -> Result<Cluster, AllocError> {
+    let mut cluster = Cluster::new(alloc, 65_536, 64)?;
     for number in 1..DIRS {
-        maker.make(Dir::new((number - 1) / 2))?;
+        let _ = cluster.apply(Event::Made(Dir::new((number - 1) / 2)));
     }
-    Ok(())
+    Ok(cluster)
 }
 
-/// The list of this kind.
-pub fn make_events(alloc: Global, kind: Kind) -> io::Result<Events> {
-    let mut maker = Maker::new(alloc)?;
-    let mut before = Vec::new(alloc);
-    if kind != Kind::Made {
-        make_tree(&mut maker)?;
-        std::mem::swap(&mut before, &mut maker.events);
+/// The cluster as it is before the list of this name.
+pub fn before(alloc: Global, name: &str) -> Result<Cluster, AllocError> {
+    if name == "made" {
+        return Cluster::new(alloc, 65_536, 64);
     }
-    match kind {
-        Kind::Made => make_tree(&mut maker)?,
-        Kind::Requests => {
-            for _ in 0..ROUNDS {
-                maker.request()?;
-            }
-        }
-        Kind::Mixed => {
-            for _ in 0..ROUNDS {
-                maker.mixed()?;
-            }
-        }
-        Kind::Export => maker.great_exports(false)?,
-        Kind::Disorder => maker.great_exports(true)?,
+    grown(alloc)
+}
+
+/// The list of this name.
+pub fn events_of(alloc: Global, name: &str) -> Result<Vec<Event>, AllocError> {
+    let mut maker = Maker {
+        alloc,
+        cluster: before(alloc, name)?,
+        random: Random::new(2026),
+        next: DIRS,
+        events: Vec::new(alloc),
+        is_whole: true,
+    };
+    match name {
+        "made" => maker.make_tree(),
+        "requests" => maker.small_changes(false),
+        "mixed" => maker.small_changes(true),
+        "export" => maker.great_exports(false),
+        "disorder" => maker.great_exports(true),
+        _ => {}
     }
-    let timed = maker.events;
-    Ok(Events { before, timed })
+    if maker.is_whole {
+        Ok(maker.events)
+    } else {
+        Err(AllocError)
+    }
 }

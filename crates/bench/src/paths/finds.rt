@@ -1,14 +1,15 @@
-//! Times of the published map.
-ghost use Rattle.std.specs.Prelude.{◌≡◌, ◌≤◌};
+//! Times of the published map. What isn't done right takes for ever.
+ghost use Rattle.std.specs.Prelude.{◌<◌, ◌≡◌, ◌≤◌};
 
-use crate::paths::clock::{RUNS, keys, now, per_step};
-use authority_map::{Found, MapError, MapReader, MapWriter, NewMap, Publisher};
+use crate::clock::now;
+use crate::paths::steps::{RUNS, per_step, slowest};
+use authority_map::{Found, MapReader, MapWriter, NewMap, Publisher};
 use mds_types::limits::DIR_LIMIT;
 use mds_types::{Dir, Rank};
 use naming::Naming;
 use std::alloc::Global;
 use std::sync::Wait;
-use std::thread::{Threads, join};
+use std::thread::{Threads, map_vec};
 use std::time::CpuClock;
 
 /// How often a list of keys is looked up in one run.
@@ -28,6 +29,11 @@ pub struct FindTimes {
     pub publish: u64,
 }
 
+// All directories are at this rank.
+fn rank() -> Rank {
+    Rank::new(1).unwrap_or_default()
+}
+
 fn find_all<J: Naming>(reader: &mut MapReader<J>, keys: &[u32]) -> u64 {
     let mut sum: u64 = 0;
     for key in keys {
@@ -38,160 +44,130 @@ fn find_all<J: Naming>(reader: &mut MapReader<J>, keys: &[u32]) -> u64 {
     sum
 }
 
-// The least time of a look-up in several runs, where all are found at rank 1.
-fn least_finds<J: Naming, C: CpuClock>(rt: &C, mut reader: MapReader<J>, keys: &[u32]) -> u64 {
+// The time of a look-up in one run, where all are found at rank 1.
+fn time_finds<J: Naming, C: CpuClock>(rt: &C, reader: &mut MapReader<J>, keys: &[u32]) -> u64 {
     let wanted = (keys.len() as u64).wrapping_mul(u64::from(ROUNDS));
+    let start = now(rt);
+    let mut sum: u64 = 0;
+    for _ in 0..ROUNDS {
+        sum = sum.wrapping_add(find_all(reader, keys));
+    }
+    let time = per_step(rt, start, keys.len().saturating_mul(ROUNDS as usize));
+    if sum == wanted { time } else { u64::MAX }
+}
+
+// The least of several runs.
+fn least_finds<J: Naming, C: CpuClock>(rt: &C, mut reader: MapReader<J>, keys: &[u32]) -> u64 {
     let mut least = u64::MAX;
     for _ in 0..RUNS {
+        least = time_finds(rt, &mut reader, keys).min(least);
+    }
+    least
+}
+
+// The least time of a reader, if there is one.
+fn time_one<J: Naming, C: CpuClock>(rt: &C, readers: &mut Vec<MapReader<J>>, keys: &[u32]) -> u64 {
+    match readers.pop() {
+        Some(reader) => least_finds(rt, reader, keys),
+        None => u64::MAX,
+    }
+}
+
+// The least times of each reader in a thread of its own, of which the slowest counts.
+fn time_threads<J: Naming + Send + Sync, R: Threads + CpuClock + Sync>(
+    rt: &R,
+    readers: Vec<MapReader<J>>,
+    keys: &[u32],
+) -> u64 {
+    match map_vec(
+        rt,
+        readers,
+        &|reader: MapReader<J>| least_finds(rt, reader, keys),
+    ) {
+        Ok(times) => slowest(&times),
+        Err(_) => u64::MAX,
+    }
+}
+
+// Whether a directory could be set.
+fn set_one<J: Naming, M: Publisher<J>>(alloc: Global, map: &mut M, dir: u32) -> bool
+    requires { dir < J.limit }
+{
+    let Ok(dirs) = Vec::from_array(alloc, [Dir::new(dir)]) else {
+        return false;
+    };
+    if map.reserve().is_err() {
+        return false;
+    }
+    map.set(dirs, rank());
+    true
+}
+
+// The least time of a publish of one directory.
+fn least_publish<J: Naming, M: Publisher<J>, C: CpuClock>(rt: &C, alloc: Global, map: &mut M) -> u64
+    requires { 1 ≤ J.limit }
+{
+    let mut least = u64::MAX;
+    for _ in 0..RUNS {
+        let mut done = true;
         let start = now(rt);
-        let mut sum: u64 = 0;
-        for _ in 0..ROUNDS {
-            sum = sum.wrapping_add(find_all(&mut reader, keys));
+        for _ in 0..PUBLISHES {
+            done &= set_one(alloc, map, 0) && map.publish().is_ok();
         }
-        let time = per_step(start, now(rt), keys.len().saturating_mul(ROUNDS as usize));
-        if sum == wanted {
-            least = least.min(time);
+        if done {
+            least = per_step(rt, start, PUBLISHES as usize).min(least);
         }
     }
     least
 }
 
-fn finds_in_four<J: Naming + Send + Sync, R: Threads + CpuClock + Sync>(
+// Each directory at the rank.
+fn fill<J: Naming, M: Publisher<J>>(alloc: Global, map: &mut M, limit: u32)
+    requires { limit ≡ J.limit }
+{
+    for dir in 0..limit {
+        let _ = set_one(alloc, map, dir);
+    }
+    let _ = map.publish();
+}
+
+// The times of the calls, and the map's end.
+fn time_all<J: Naming + Send + Sync, M: Publisher<J>, R: Threads + CpuClock + Sync>(
     rt: &R,
+    alloc: Global,
+    mut map: M,
+    mut readers: Vec<MapReader<J>>,
+    limit: u32,
     keys: &[u32],
-    one: MapReader<J>,
-    two: MapReader<J>,
-    three: MapReader<J>,
-    four: MapReader<J>,
-) -> u64 {
-    let first = move || join(
-        rt,
-        move || least_finds(rt, one, keys),
-        move || least_finds(rt, two, keys),
-    );
-    let second = move || join(
-        rt,
-        move || least_finds(rt, three, keys),
-        move || least_finds(rt, four, keys),
-    );
-    let ((one, two), (three, four)) = join(rt, first, second);
-    one.max(two).max(three).max(four)
-}
-
-fn set_one<J: Naming, W: Wait + Drop>(
-    alloc: Global,
-    writer: &mut MapWriter<J, W>,
-    rank: Rank,
-) -> Result<(), MapError>
-    requires { 1 ≤ J.limit }
+) -> FindTimes
+    requires { (limit ≡ J.limit) × (1 ≤ limit) }
 {
-    let dirs = Vec::from_array(alloc, [Dir::new(0)]).map_err(|_| MapError::Memory)?;
-    writer.reserve()?;
-    writer.set(dirs, rank);
-    writer.publish()
-}
-
-// The least time of a publish of one directory.
-fn least_publish<J: Naming, W: Wait + Drop, C: CpuClock>(
-    rt: &C,
-    alloc: Global,
-    writer: &mut MapWriter<J, W>,
-    rank: Rank,
-) -> Result<u64, MapError>
-    requires { 1 ≤ J.limit }
-{
-    let mut least = u64::MAX;
-    for _ in 0..RUNS {
-        let start = now(rt);
-        for _ in 0..PUBLISHES {
-            set_one(alloc, writer, rank)?;
-        }
-        least = least.min(per_step(start, now(rt), PUBLISHES as usize));
+    if !keys.is_empty() {
+        fill(alloc, &mut map, limit);
     }
-    Ok(least)
+    let one = time_one(rt, &mut readers, keys);
+    let four = time_threads(rt, readers, keys);
+    let publish = least_publish(rt, alloc, &mut map);
+    map.end();
+    FindTimes { one, four, publish }
 }
 
-// Each directory at one rank.
-fn fill<J: Naming, W: Wait + Drop>(
-    alloc: Global,
-    writer: &mut MapWriter<J, W>,
-    rank: Rank,
-) -> Result<(), MapError>
-    requires { J.limit ≡ DIR_LIMIT }
-{
-    for dir in 0..DIR_LIMIT {
-        let dirs = Vec::from_array(alloc, [Dir::new(dir)]).map_err(|_| MapError::Memory)?;
-        writer.reserve()?;
-        writer.set(dirs, rank);
-    }
-    writer.publish()
-}
-
-fn time_copies<J: Naming + Send + Sync, W: Wait + Drop, R: Threads + CpuClock + Sync>(
-    rt: &R,
-    alloc: Global,
-    writer: &mut MapWriter<J, W>,
-    readers: &mut Vec<MapReader<J>>,
-    rank: Rank,
-) -> Result<Option<FindTimes>, MapError>
-    requires { J.limit ≡ DIR_LIMIT }
-{
-    let scattered = keys(alloc, 7)?;
-    fill(alloc, writer, rank)?;
-    let Some(reader) = readers.pop() else {
-        return Ok(None);
-    };
-    let one = least_finds(rt, reader, &scattered);
-    let publish = least_publish(rt, alloc, writer, rank)?;
-    let (Some(first), Some(second), Some(third), Some(fourth)) = (
-        readers.pop(),
-        readers.pop(),
-        readers.pop(),
-        readers.pop(),
-    ) else {
-        return Ok(None);
-    };
-    let four = finds_in_four(rt, &scattered, first, second, third, fourth);
-    Ok(Some(FindTimes { one, four, publish }))
-}
-
-/// Times the calls with 65,536 directories.
+/// Opens a map of so many directories. Times look-ups of the keys, if there are any, with each directory at one rank,
+/// and a publish.
+///
+/// The map is opened in one place, since a function that knows the type of its writer is dear to prove.
 pub fn time_map<J: Naming + Send + Sync, R: Threads + Wait + CpuClock + Sync>(
     rt: &R,
     alloc: Global,
     opened: NewMap,
-    rank: Rank,
-) -> Result<Option<FindTimes>, MapError>
-    requires name { opened ≡ J.map }
-    requires limit { J.limit ≡ DIR_LIMIT }
-{
-    match MapWriter::<J, &R>::open(rt, alloc, opened, DIR_LIMIT, 5) {
-        Err((error, _opened)) => Err(error),
-        Ok((mut writer, mut readers)) => {
-            let times = time_copies(rt, alloc, &mut writer, &mut readers, rank);
-            writer.end();
-            times
-        }
-    }
-}
-
-/// Opens a map of so many directories and publishes in it. Its memory can then be seen from outside.
-pub fn publish_in<J: Naming, R: Wait + CpuClock>(
-    rt: &R,
-    alloc: Global,
-    opened: NewMap,
     limit: u32,
-    rank: Rank,
-) -> Result<u64, MapError>
+    keys: &[u32],
+) -> Option<FindTimes>
     requires name { opened ≡ J.map }
     requires limit { (limit ≡ J.limit) × (1 ≤ limit) × (limit ≤ DIR_LIMIT) }
 {
-    match MapWriter::<J, &R>::open(rt, alloc, opened, limit, 1) {
-        Err((error, _opened)) => Err(error),
-        Ok((mut writer, _readers)) => {
-            let time = least_publish(rt, alloc, &mut writer, rank);
-            writer.end();
-            time
-        }
+    match MapWriter::<J, &R>::open(rt, alloc, opened, limit, 5) {
+        Ok((map, readers)) => Some(time_all(rt, alloc, map, readers, limit, keys)),
+        Err(_) => None,
     }
 }

@@ -1,32 +1,24 @@
 //! Times of shares and their book.
+//!
+//! `hits` has a hit on one directory, again and again, and on directories in no order; `hit_in_four_threads` the latter
+//! in each of four threads, the slowest. `deposits` has a deposit by directory, where all were hit, and one of a single
+//! directory. What isn't done right takes for ever.
 ghost use Rattle.std.specs.Prelude.{◌≡◌, ◌≤◌};
 
-use crate::paths::clock::{RUNS, keys, now, per_step};
+use crate::clock::now;
+use crate::paths::steps::{KEYS, RUNS, keys, per_step, slowest};
+use crate::told::tell;
 use heat_ledger::{Book, NewBook, Share};
 use mds_types::Dir;
 use mds_types::limits::DIR_LIMIT;
 use naming::Naming;
 use std::alloc::{AllocError, Global};
-use std::thread::{Threads, join};
+use std::io::{self, Write};
+use std::thread::{Threads, map_vec};
 use std::time::CpuClock;
 
 /// How often a list of keys is hit in one run.
 const ROUNDS: u32 = 256;
-
-/// The times of a ledger's calls, in picoseconds.
-#[derive(Clone, Copy)]
-pub struct HitTimes {
-    /// A hit on one directory, again and again.
-    pub same: u64,
-    /// A hit on directories in no order.
-    pub scattered: u64,
-    /// The same in each of four threads, the slowest of them.
-    pub in_four_threads: u64,
-    /// A deposit, for each directory that was hit, where all were.
-    pub deposit: u64,
-    /// A deposit of one directory.
-    pub small_deposit: u64,
-}
 
 fn hit_all<J: Naming>(share: &mut Share<J>, keys: &[u32]) -> u32 {
     let mut refused: u32 = 0;
@@ -38,52 +30,27 @@ fn hit_all<J: Naming>(share: &mut Share<J>, keys: &[u32]) -> u32 {
     refused
 }
 
-fn time_hits<J: Naming, C: CpuClock>(rt: &C, mut share: Share<J>, keys: &[u32]) -> (Share<J>, u64) {
+// The time of a hit in one run.
+fn time_hits<J: Naming, C: CpuClock>(rt: &C, share: &mut Share<J>, keys: &[u32]) -> u64 {
     let start = now(rt);
     let mut refused: u32 = 0;
     for _ in 0..ROUNDS {
-        refused = refused.saturating_add(hit_all(&mut share, keys));
+        refused = refused.saturating_add(hit_all(share, keys));
     }
-    let time = per_step(start, now(rt), keys.len().saturating_mul(ROUNDS as usize));
-    (share, if refused == 0 { time } else { u64::MAX })
+    let time = per_step(rt, start, keys.len().saturating_mul(ROUNDS as usize));
+    if refused == 0 { time } else { u64::MAX }
 }
 
 // The least of several runs.
-fn least_hits<J: Naming, C: CpuClock>(rt: &C, share: Share<J>, keys: &[u32]) -> (Share<J>, u64) {
-    let mut share = share;
+fn least_hits<J: Naming, C: CpuClock>(rt: &C, share: &mut Share<J>, keys: &[u32]) -> u64 {
     let mut least = u64::MAX;
     for _ in 0..RUNS {
-        let (back, time) = time_hits(rt, share, keys);
-        share = back;
-        least = least.min(time);
+        least = time_hits(rt, share, keys).min(least);
     }
-    (share, least)
+    least
 }
 
-// The least of several runs in each of four threads, and of these the slowest.
-fn hits_in_four<J: Naming + Send + Sync, R: Threads + CpuClock + Sync>(
-    rt: &R,
-    keys: &[u32],
-    one: Share<J>,
-    two: Share<J>,
-    three: Share<J>,
-    four: Share<J>,
-) -> u64 {
-    let first = move || join(
-        rt,
-        move || least_hits(rt, one, keys),
-        move || least_hits(rt, two, keys),
-    );
-    let second = move || join(
-        rt,
-        move || least_hits(rt, three, keys),
-        move || least_hits(rt, four, keys),
-    );
-    let ((one, two), (three, four)) = join(rt, first, second);
-    one.1.max(two.1).max(three.1).max(four.1)
-}
-
-fn time_deposit<J: Naming, C: CpuClock>(
+fn least_deposit<J: Naming, C: CpuClock>(
     rt: &C,
     book: &mut Book<J>,
     share: &mut Share<J>,
@@ -94,75 +61,86 @@ fn time_deposit<J: Naming, C: CpuClock>(
         let _refused = hit_all(share, keys);
         let start = now(rt);
         book.deposit(share);
-        least = least.min(per_step(start, now(rt), keys.len()));
+        least = per_step(rt, start, keys.len()).min(least);
     }
     least
 }
 
-fn all_keys(alloc: Global) -> Result<Vec<u32>, AllocError> {
+// So many directories: the first again and again, or one after the other.
+fn in_order(alloc: Global, count: u32, step: u32) -> Result<Vec<u32>, AllocError> {
     let mut all = Vec::new(alloc);
-    for key in 0..DIR_LIMIT {
-        all.push(key)?;
+    for key in 0..count {
+        all.push(key.wrapping_mul(step))?;
     }
     Ok(all)
 }
 
-/// Times the calls with 65,536 directories.
-pub fn time_ledger<J: Naming + Send + Sync, R: Threads + CpuClock + Sync>(
+// Times hits and deposits of one share.
+fn time_one<J: Naming, C: CpuClock, W: Write>(
+    rt: &C,
+    alloc: Global,
+    out: &mut W,
+    book: &mut Book<J>,
+    share: &mut Share<J>,
+) -> io::Result<()> {
+    let same = least_hits(rt, share, &in_order(alloc, KEYS, 0)?);
+    let scattered = least_hits(rt, share, &keys(alloc, 7)?);
+    tell(out, "hits", &[same, scattered])?;
+    book.deposit(share);
+    let all = least_deposit(rt, book, share, &in_order(alloc, DIR_LIMIT, 1)?);
+    let one = least_deposit(rt, book, share, &[5]);
+    tell(out, "deposits", &[all, one])
+}
+
+// Times hits by each share in a thread of its own, of which the slowest counts.
+fn time_threads<J: Naming + Send + Sync, R: Threads + CpuClock + Sync, W: Write>(
     rt: &R,
     alloc: Global,
+    out: &mut W,
+    shares: Vec<Share<J>>,
+) -> io::Result<()> {
+    let keys = keys(alloc, 7)?;
+    let times = map_vec(
+        rt,
+        shares,
+        &|mut share: Share<J>| least_hits(rt, &mut share, &keys),
+    )?;
+    tell(out, "hit_in_four_threads", &[slowest(&times)])
+}
+
+/// Times the calls with 65,536 directories.
+pub fn time_ledger<J: Naming + Send + Sync, R: Threads + CpuClock + Sync, W: Write>(
+    rt: &R,
+    alloc: Global,
+    out: &mut W,
     opened: NewBook,
-) -> Result<Option<HitTimes>, AllocError>
+) -> io::Result<()>
     requires name { opened ≡ J.ledger }
     requires limit { J.limit ≡ DIR_LIMIT }
 {
-    let scattered = keys(alloc, 7)?;
-    let mut one = Vec::new(alloc);
-    for _ in 0..scattered.len() {
-        one.push(5)?;
-    }
-    let all = all_keys(alloc)?;
     let (mut book, mut shares) = Book::<J>::open(alloc, opened, DIR_LIMIT, 5)?;
-    let Some(share) = shares.pop() else {
-        return Ok(None);
-    };
-    let (share, same) = least_hits(rt, share, &one);
-    let (mut share, scattered_hit) = least_hits(rt, share, &scattered);
-    book.deposit(&mut share);
-    let deposit = time_deposit(rt, &mut book, &mut share, &all);
-    let small_deposit = time_deposit(rt, &mut book, &mut share, &[5]);
-    let (Some(one), Some(two), Some(three), Some(four)) = (
-        shares.pop(),
-        shares.pop(),
-        shares.pop(),
-        shares.pop(),
-    ) else {
-        return Ok(None);
-    };
-    Ok(Some(HitTimes {
-        same,
-        scattered: scattered_hit,
-        in_four_threads: hits_in_four(rt, &scattered, one, two, three, four),
-        deposit,
-        small_deposit,
-    }))
+    if let Some(mut share) = shares.pop() {
+        time_one(rt, alloc, out, &mut book, &mut share)?;
+    }
+    time_threads(rt, alloc, out, shares)
 }
 
 /// Opens a ledger, whose memory can then be seen from outside.
-pub fn open_ledger<J: Naming>(
+pub fn open_ledger<J: Naming, W: Write>(
     alloc: Global,
+    out: &mut W,
     opened: NewBook,
     limit: u32,
     shares: u8,
-) -> Result<u64, AllocError>
+) -> io::Result<()>
     requires name { opened ≡ J.ledger }
     requires limit { (limit ≡ J.limit) × (1 ≤ limit) × (limit ≤ DIR_LIMIT) }
     requires shares { (1 ≤ shares) × (shares ≤ 64) }
 {
     let (book, all) = Book::<J>::open(alloc, opened, limit, shares)?;
-    let mut sum = book.counted(Dir::new(0));
-    for share in &all {
-        sum = sum.saturating_add(share.hits(Dir::new(0)));
-    }
-    Ok(sum)
+    tell(
+        out,
+        "shares",
+        &[all.len() as u64, book.counted(Dir::new(0))],
+    )
 }

@@ -5,54 +5,42 @@ use minmax_search::search;
 use plan_checker::{check, check_cut};
 use planner::solve;
 use rank_assign::{Costs, assign, costs};
+use std::alloc::Global;
 use std::thread::Threads;
-use std::{fmt, io};
 
-/// A call of the planner or the judge.
+/// A call of the planner or the judge, by its function.
 #[derive(Clone, Copy)]
 pub enum Call {
-    /// `search`
     Search,
-    /// `costs`
     Costs,
-    /// `assign`
     Assign,
-    /// `solve`
     Solve,
-    /// `check_cut`
     CheckCut,
-    /// `check`
     Check,
 }
 
-impl fmt::Display for Call {
-    fn fmt<W: fmt::Write>(&self, f: &mut fmt::Formatter<W>) -> fmt::Result {
-        f.write_str(match self {
-            Call::Search => "search",
-            Call::Costs => "costs",
-            Call::Assign => "assign",
-            Call::Solve => "solve",
-            Call::CheckCut => "check_cut",
-            Call::Check => "check",
-        })
-    }
-}
-
 /// What the plan's parts move at each rank.
-pub fn costs_of<R: Threads + Sync + AllocGlobal>(
+pub fn costs_of<R: Threads>(
     rt: &R,
+    alloc: Global,
     problem: &Problem,
     plan: &Plan,
-) -> io::Result<Costs> {
+) -> Option<Costs> {
     let count = plan.rank.len() as u32;
     let fits = plan.part.len() == problem.rows().len()
         && count <= u32::from(problem.ranks().len())
         && plan.part.iter().all(|&p| p < count);
     if fits {
-        Ok(costs(rt, rt.alloc(), problem, &plan.part, count)?)
+        costs(rt, alloc, problem, &plan.part, count).ok()
     } else {
-        Err(io::Error::new(io::ErrorKind::InvalidInput, "no plan"))
+        None
     }
+}
+
+/// Whether the plan's cut is judged right.
+fn is_cut(alloc: Global, problem: &Problem, plan: &Plan) -> bool {
+    let parts = plan.rank.len() as u32;
+    check_cut(alloc, problem, &plan.part, parts, plan.greatest, &plan.cut).unwrap_or(false)
 }
 
 impl Call {
@@ -66,25 +54,38 @@ impl Call {
         Call::Check,
     ];
 
+    /// Its name.
+    pub fn name(self) -> &'static str {
+        match self {
+            Call::Search => "search",
+            Call::Costs => "costs",
+            Call::Assign => "assign",
+            Call::Solve => "solve",
+            Call::CheckCut => "check_cut",
+            Call::Check => "check",
+        }
+    }
+
     /// Makes the call, and says whether it gives what the plan has.
-    pub fn carry_out<R: Threads + Sync + AllocGlobal>(
+    pub fn carry_out<R: Threads>(
         self,
         rt: &R,
+        alloc: Global,
         problem: &Problem,
         plan: &Plan,
         table: &Costs,
-    ) -> io::Result<bool> {
-        let alloc = rt.alloc();
+    ) -> bool {
         match self {
-            Call::Search => Ok(search(problem, alloc)?.greatest == plan.greatest),
-            Call::Costs => Ok(costs_of(rt, problem, plan)?.cells().last() == table.cells().last()),
-            Call::Assign => Ok(assign(alloc, table)?.moved == plan.moved),
-            Call::Solve => Ok(solve(rt, alloc, problem)?.moved == plan.moved),
-            Call::CheckCut => {
-                let parts = plan.rank.len() as u32;
-                Ok(check_cut(alloc, problem, &plan.part, parts, plan.greatest, &plan.cut)?)
-            }
-            Call::Check => Ok(check(alloc, problem, plan)?),
+            Call::Search => search(problem, alloc).is_ok_and(|found| found.greatest
+                == plan.greatest),
+            Call::Costs => match costs_of(rt, alloc, problem, plan) {
+                Some(costs) => costs.cells().last() == table.cells().last(),
+                None => false,
+            },
+            Call::Assign => assign(alloc, table).is_ok_and(|found| found.moved == plan.moved),
+            Call::Solve => solve(rt, alloc, problem).is_ok_and(|found| found.moved == plan.moved),
+            Call::CheckCut => is_cut(alloc, problem, plan),
+            Call::Check => check(alloc, problem, plan).unwrap_or(false),
         }
     }
 }

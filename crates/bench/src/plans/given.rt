@@ -1,43 +1,44 @@
-//! A problem as it is read: `rows ranks`, and then `parent heat inodes now` a line.
+//! A problem as it is read: `rows ranks`, and then `parent heat inodes now` a line. A word that isn't a number is 0.
 
 use mds_types::{Problem, ProblemRow, Rank, RankSet};
-use std::io::{self, BufRead, BufReader};
+use std::alloc::Global;
+use std::io::{self, Read};
 use std::str::FromStr;
 
-/// What is answered where the input is no problem.
-fn no_problem() -> io::Error {
-    io::Error::new(io::ErrorKind::InvalidInput, "no problem")
-}
-
 /// The number that a word writes.
-fn number<N: FromStr<Err: Drop>>(word: Option<&str>) -> io::Result<N> {
-    word.and_then(|word| word.parse().ok())
-        .ok_or_else(no_problem)
+fn number<N: FromStr<Err: Drop> + Default + Drop>(word: Option<&str>) -> N {
+    match word {
+        Some(word) => word.parse().unwrap_or_default(),
+        None => N::default(),
+    }
 }
 
 /// The row of a line.
-fn row(line: &str) -> io::Result<ProblemRow> {
+fn row(line: &str) -> ProblemRow {
     let mut words = line.split(' ');
-    Ok(ProblemRow {
-        parent: number(words.next())?,
-        heat: number(words.next())?,
-        inodes: number(words.next())?,
-        now: Rank::new(number(words.next())?).ok_or_else(no_problem)?,
-    })
+    ProblemRow {
+        parent: number(words.next()),
+        heat: number(words.next()),
+        inodes: number(words.next()),
+        now: Rank::new(number(words.next())).unwrap_or_default(),
+    }
 }
 
-/// The problem on standard input.
-pub fn read_problem(rt: &HostRuntime) -> io::Result<Problem> {
-    let mut rows = Vec::new(rt.alloc());
-    let mut ranks = 0;
-    for line in BufReader::new(rt.alloc(), rt.reader())?.lines(rt.alloc()) {
-        let line = line?;
-        if ranks == 0 {
-            ranks = number(line.as_str().split(' ').nth(1))?;
-        } else {
-            rows.push(row(line.as_str())?)?;
-        }
+/// The ranks that the first line has.
+fn ranks(line: &str) -> RankSet {
+    let mut words = line.split(' ');
+    let _rows = words.next();
+    RankSet::from_bits(u64::MAX).among(number(words.next()))
+}
+
+/// The problem that is read, if it is one.
+pub fn read_problem<I: Read + Drop>(alloc: Global, input: I) -> io::Result<Option<Problem>> {
+    let text = io::read_to_string(alloc, input)?;
+    let mut lines = text.as_str().lines();
+    let ranks = ranks(lines.next().unwrap_or(""));
+    let mut rows = Vec::new(alloc);
+    for line in lines {
+        rows.push(row(line))?;
     }
-    let set = RankSet::from_bits(u64::MAX).among(ranks);
-    Problem::new(rows, set).map_err(|_| no_problem())
+    Ok(Problem::new(rows, ranks).ok())
 }

@@ -1,5 +1,6 @@
-//! Processor time, and the directories that are asked for.
+//! Times of a step, and the directories that are asked for.
 
+use crate::clock::nanos_since;
 use std::alloc::{AllocError, Global};
 use std::time::{CpuClock, Duration};
 
@@ -7,17 +8,11 @@ use std::time::{CpuClock, Duration};
 pub const RUNS: u32 = 7;
 
 /// How many directories a list of keys has.
-const KEYS: u32 = 1 << 14;
+pub const KEYS: u32 = 1 << 14;
 
-/// The processor time of this thread, or nothing where the system doesn't tell it.
-pub fn now<C: CpuClock>(rt: &C) -> Duration {
-    rt.thread_cpu_time().unwrap_or(Duration::ZERO)
-}
-
-/// Picoseconds for each of so many steps, from one reading of the clock to a later one.
-pub fn per_step(from: Duration, to: Duration, steps: usize) -> u64 {
-    let picos = to.saturating_sub(from).as_nanos().saturating_mul(1000);
-    u64::try_from(picos / (steps as u128).max(1)).unwrap_or(u64::MAX)
+/// Picoseconds for each of so many steps, since an earlier reading of the clock.
+pub fn per_step<C: CpuClock>(rt: &C, start: Duration, steps: usize) -> u64 {
+    nanos_since(rt, start).saturating_mul(1000) / (steps as u64).max(1)
 }
 
 /// Directories below 65,536 in no order, the same for the same seed.
@@ -31,4 +26,13 @@ pub fn keys(alloc: Global, seed: u64) -> Result<Vec<u32>, AllocError> {
         keys.push((state % 65536) as u32)?;
     }
     Ok(keys)
+}
+
+/// The greatest of the times.
+pub fn slowest(times: &[u64]) -> u64 {
+    let mut slowest = 0;
+    for time in times {
+        slowest = (*time).max(slowest);
+    }
+    slowest
 }
