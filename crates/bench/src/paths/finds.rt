@@ -152,8 +152,7 @@ fn time_all<J: Naming + Send + Sync, M: Publisher<J>, R: Threads + CpuClock + Sy
     FindTimes { one, four, publish }
 }
 
-/// Opens a map of so many directories. Times look-ups of the keys, if there are any, with each directory at one rank,
-/// and a publish.
+/// Times look-ups of the keys, if there are any, in a map of so many directories at one rank, and a publish.
 ///
 /// The map is opened in one place, since a function that knows the type of its writer is dear to prove.
 pub fn time_map<J: Naming + Send + Sync, R: Threads + Wait + CpuClock + Sync>(
@@ -166,7 +165,8 @@ pub fn time_map<J: Naming + Send + Sync, R: Threads + Wait + CpuClock + Sync>(
     requires name { opened ≡ J.map }
     requires limit { (limit ≡ J.limit) × (1 ≤ limit) × (limit ≤ DIR_LIMIT) }
 {
-    match MapWriter::<J, &R>::open(rt, alloc, opened, limit, 5) {
+    let readers = keys.len().min(4) as u8 + 1;
+    match MapWriter::<J, &R>::open(rt, alloc, opened, limit, readers) {
         Ok((map, readers)) => Some(time_all(rt, alloc, map, readers, limit, keys)),
         Err(_) => None,
     }
