@@ -1,5 +1,6 @@
 pub mod RowLemmas
 pub mod Padding
+pub mod Placing
 pub mod Marks
 pub mod Listed
 pub mod Totals

@@ -1,5 +1,6 @@
 pub mod Rows
 pub mod Touched
+pub mod Placed
 pub mod Tally
 pub mod Ledger
 pub mod Opening

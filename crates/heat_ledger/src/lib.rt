@@ -10,6 +10,7 @@
 mod auditing;
 mod book;
 mod closing;
+mod counts;
 mod hit_error;
 mod missing;
 mod new_book;

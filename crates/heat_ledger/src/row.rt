@@ -2,13 +2,12 @@
 //!
 //! A row notes each directory at its first count, so that what is done with all counts takes time
 //! for the directories that were counted, and not for all that there could be. It asks for all its
-//! memory when it is made, and writes to it as far as the last directory that was counted: a row
-//! without counts touches none.
-ghost use Rattle.std.specs.Prelude.{◌≡◌, ℕ, ◌+◌, ◌^◌, ◌<◌, ◌≤◌, ◌↔◌, [], IsTrue, IfOk};
-ghost use Rattle.std.specs.Prelude.{length, map, slice_set, vec_capacity};
+//! memory when it is made.
+ghost use Rattle.std.specs.Prelude.{◌≡◌, ℕ, ◌+◌, ◌^◌, ◌<◌, ◌≤◌, IfOk, length, map, slice_set, vec_capacity};
 ghost use Rattle.heat_ledger.specs.Rows.{at, IsZero};
 ghost use Rattle.heat_ledger.specs.Touched.{IsTracked};
 
+use crate::counts::Counts;
 use mds_types::Dir;
 use std::alloc::{AllocError, Global};
 use std::marker::Model;
@@ -16,24 +15,21 @@ use std::marker::Model;
 /// A count for each directory below a limit. A contract sees the list of the counts.
 #[derive(Drop)]
 pub(crate) struct Row {
-    limit: u32,
-    // Up to the last directory that had a count, or not as far: the others have none.
-    counts: Vec<u64>,
+    counts: Counts,
     // The directories that have a count, in the order of their first ones.
     touched: Vec<u32>,
 }
 
 impl Model for Row {
     ghost use Rattle.std.specs.Prelude.{List, ℕ, ◌≤◌, length, vec_capacity};
-    ghost use Rattle.heat_ledger.specs.Rows.{padded};
     ghost use Rattle.heat_ledger.specs.Touched.{IsTracked};
 
     ghost Value = { List ℕ };
 
-    ghost view = { λ row. padded row.limit row.counts.items };
+    ghost view = { λ row. row.counts };
 
-    ghost invariant = { λ row. IsTracked row.counts.items row.touched.items × (length row.counts.items ≤ row.limit)
-        × (row.limit ≤ vec_capacity row.counts) × (row.limit ≤ vec_capacity row.touched) };
+    ghost invariant = { λ row. IsTracked row.counts row.touched.items
+        × (length row.counts ≤ vec_capacity row.touched) };
 }
 
 impl Row {
@@ -44,27 +40,23 @@ impl Row {
     pub(crate) fn new(alloc: Global, limit: u32) -> Result<Row, AllocError>
         ensures { IfOk result (λ row. row ≡ replicate limit 0) }
     {
-        let counts = Vec::with_capacity(alloc, limit as usize)?;
+        let counts = Counts::new(alloc, limit)?;
         let touched = Vec::with_capacity(alloc, limit as usize)?;
-        Ok(Row {
-            limit,
-            counts,
-            touched,
-        })
+        Ok(Row { counts, touched })
     }
 
     /// How many directories there are room for.
     pub(crate) fn len(&self) -> usize
         ensures { result ≡ length self.now }
     {
-        self.limit as usize
+        self.counts.len()
     }
 
     /// The count of a directory, and 0 where there is none.
     pub(crate) fn get(&self, dir: Dir) -> u64
         ensures { result ≡ at self.now dir }
     {
-        self.counts.get(dir.number() as usize).copied().unwrap_or(0)
+        self.counts.get(dir.number())
     }
 
     /// One more for a directory.
@@ -73,7 +65,6 @@ impl Row {
         requires fits { at self.old dir + 1 < 2 ^ 64 }
         ensures { self.new ≡ raised self.old dir }
     {
-        reach(&mut self.counts, dir.number() as usize + 1);
         add(&mut self.counts, &mut self.touched, dir.number(), 1);
     }
 
@@ -84,7 +75,6 @@ impl Row {
         ensures { self.new ≡ raised_by self.old dir more }
     {
         if more > 0 {
-            reach(&mut self.counts, dir.number() as usize + 1);
             add(&mut self.counts, &mut self.touched, dir.number(), more);
         }
     }
@@ -103,7 +93,7 @@ impl Row {
         let mut dirs = Vec::new(alloc);
         dirs.extend_from_slice(self.touched.as_slice())?;
         dirs.sort_unstable();
-        with_counts(alloc, dirs.as_slice(), self.counts.as_slice())
+        with_counts(alloc, dirs.as_slice(), &self.counts)
     }
 
     /// Adds all counts to a list, and makes them 0.
@@ -123,98 +113,68 @@ impl Row {
         requires fits { (dir : ℕ) → at self.old dir + at other dir < 2 ^ 64 }
         ensures { self.new ≡ sums self.old other }
     {
-        let Row {
-            limit: _limit,
-            counts,
-            touched,
-        } = other;
-        reach(&mut self.counts, counts.len());
+        let Row { counts, touched } = other;
         add_all(&mut self.counts, &mut self.touched, &counts, &touched);
     }
 }
 
-// Lets a list have so many counts at least. Those that come are 0.
-fn reach(counts: &mut Vec<u64>, count: usize)
-    requires { count ≤ vec_capacity counts.old }
-    ensures same { (dir : ℕ) → at counts.new.items dir ≡ at counts.old.items dir }
-    ensures reached { count ≤ length counts.new.items }
-    ensures within { (limit : ℕ) → length counts.old.items ≤ limit → count ≤ limit → length counts.new.items ≤ limit }
-    ensures capacity { vec_capacity counts.new ≡ vec_capacity counts.old }
-{
-    while counts.len() < count {
-        counts.push_reserved(0);
-    }
-}
-
 // Adds to the count of a directory, which is noted where it had none.
-fn add(counts: &mut Vec<u64>, touched: &mut Vec<u32>, dir: u32, more: u64)
-    requires tracked { IsTracked counts.old.items touched.old.items }
-    requires room { length counts.old.items ≤ vec_capacity touched.old }
-    requires inside { dir < length counts.old.items }
+fn add(counts: &mut Counts, touched: &mut Vec<u32>, dir: u32, more: u64)
+    requires tracked { IsTracked counts.old touched.old.items }
+    requires room { length counts.old ≤ vec_capacity touched.old }
+    requires inside { dir < length counts.old }
     requires some { 1 ≤ more }
-    requires fits { at counts.old.items dir + more < 2 ^ 64 }
-    ensures counts { counts.new.items ≡ slice_set counts.old.items dir (at counts.old.items dir + more) }
-    ensures tracked { IsTracked counts.new.items touched.new.items }
-    ensures capacity { (vec_capacity touched.new ≡ vec_capacity touched.old)
-        × (vec_capacity counts.new ≡ vec_capacity counts.old) }
+    requires fits { at counts.old dir + more < 2 ^ 64 }
+    ensures counts { counts.new ≡ slice_set counts.old dir (at counts.old dir + more) }
+    ensures tracked { IsTracked counts.new touched.new.items }
+    ensures capacity { vec_capacity touched.new ≡ vec_capacity touched.old }
 {
-    let place = dir as usize;
-    if counts[place] == 0 {
+    if counts.get(dir) == 0 {
         touched.push_reserved(dir);
     }
-    counts[place] += more;
+    counts.add(dir, more);
 }
 
 // Adds the counts of another row.
-fn add_all(
-    counts: &mut Vec<u64>,
-    touched: &mut Vec<u32>,
-    others: &Vec<u64>,
-    other_touched: &Vec<u32>,
-)
-    requires tracked { IsTracked counts.old.items touched.old.items
-        × IsTracked others.now.items other_touched.now.items }
-    requires room { length counts.old.items ≤ vec_capacity touched.old }
-    requires lengths { length others.now.items ≤ length counts.old.items }
-    requires fits { (dir : ℕ) → at counts.old.items dir + at others.now.items dir < 2 ^ 64 }
-    ensures sums { (dir : ℕ) → at counts.new.items dir ≡ at counts.old.items dir + at others.now.items dir }
-    ensures length { length counts.new.items ≡ length counts.old.items }
-    ensures tracked { IsTracked counts.new.items touched.new.items }
-    ensures capacity { (vec_capacity touched.new ≡ vec_capacity touched.old)
-        × (vec_capacity counts.new ≡ vec_capacity counts.old) }
+fn add_all(counts: &mut Counts, touched: &mut Vec<u32>, others: &Counts, other_touched: &Vec<u32>)
+    requires tracked { IsTracked counts.old touched.old.items × IsTracked others.now other_touched.now.items }
+    requires room { length counts.old ≤ vec_capacity touched.old }
+    requires lengths { length others.now ≤ length counts.old }
+    requires fits { (dir : ℕ) → at counts.old dir + at others.now dir < 2 ^ 64 }
+    ensures sums { (dir : ℕ) → at counts.new dir ≡ at counts.old dir + at others.now dir }
+    ensures length { length counts.new ≡ length counts.old }
+    ensures tracked { IsTracked counts.new touched.new.items }
+    ensures capacity { vec_capacity touched.new ≡ vec_capacity touched.old }
 {
     for j in 0..other_touched.len() {
         let dir = other_touched[j];
-        add(counts, touched, dir, others[dir as usize]);
+        add(counts, touched, dir, others.get(dir));
     }
 }
 
 // Moves the counts of the directories that have one.
-fn move_all(into: &mut Vec<u64>, from: &mut Vec<u64>, touched: &Vec<u32>)
-    requires lengths { length from.old.items ≤ length into.old.items }
-    requires fits { (dir : ℕ) → at into.old.items dir + at from.old.items dir < 2 ^ 64 }
-    requires tracked { IsTracked from.old.items touched.now.items }
-    ensures sums { (dir : ℕ) → at into.new.items dir ≡ at into.old.items dir + at from.old.items dir }
-    ensures zero { IsZero from.new.items }
-    ensures capacity { vec_capacity from.new ≡ vec_capacity from.old }
-    ensures lengths { (length into.new.items ≡ length into.old.items)
-        × (length from.new.items ≡ length from.old.items) }
+fn move_all(into: &mut Vec<u64>, from: &mut Counts, touched: &Vec<u32>)
+    requires lengths { length from.old ≤ length into.old.items }
+    requires fits { (dir : ℕ) → at into.old.items dir + at from.old dir < 2 ^ 64 }
+    requires tracked { IsTracked from.old touched.now.items }
+    ensures sums { (dir : ℕ) → at into.new.items dir ≡ at into.old.items dir + at from.old dir }
+    ensures zero { IsZero from.new }
+    ensures lengths { (length into.new.items ≡ length into.old.items) × (length from.new ≡ length from.old) }
 {
     for j in 0..touched.len() {
-        let i = touched[j] as usize;
-        into[i] += from[i];
-        from[i] = 0;
+        let dir = touched[j];
+        into[dir as usize] += from.get(dir);
+        from.clear(dir);
     }
 }
 
 // These directories, each with its count.
-fn with_counts(alloc: Global, dirs: &[u32], counts: &[u64]) -> Result<Vec<(Dir, u64)>, AllocError>
-    requires { (j : ℕ) → j < length dirs.now → at dirs.now j < length counts.now }
+fn with_counts(alloc: Global, dirs: &[u32], counts: &Counts) -> Result<Vec<(Dir, u64)>, AllocError>
     ensures { IfOk result (λ rows. rows.items ≡ map (λ d. (d, at counts.now d)) dirs.now) }
 {
     let mut rows = Vec::with_capacity(alloc, dirs.len())?;
     for dir in dirs {
-        rows.push((Dir::new(*dir), counts[*dir as usize]))?;
+        rows.push((Dir::new(*dir), counts.get(*dir)))?;
     }
     Ok(rows)
 }

@@ -16,9 +16,9 @@ pub const HIT_LIMIT: u64 = 1 << 56;
 /// by directory. A share that was opened has the weight 1, and shares that were joined have the
 /// sum of their weights.
 ///
-/// `J` names the board whose book it is. All memory was asked for when the book was opened: 36 bytes
-/// a directory. A share writes to it as far as the last directory that it counted, so one that
-/// counts nothing takes up address space alone.
+/// `J` names the board whose book it is. All memory was asked for when the book was opened: 48 bytes
+/// a directory. Of them a share writes 12 for each directory up to the last one that it counted, and
+/// 36 for each that it counted, so one that counts nothing takes up address space alone.
 #[derive(Drop)]
 pub struct Share<J: Naming> {
     pub(crate) tokens: Arc<TokenTable, Global>,

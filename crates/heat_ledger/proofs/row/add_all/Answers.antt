@@ -24,17 +24,9 @@ added_next counts old others noted j d t h is inside was = record { done = λ k 
         let before : k < j = omega arith in
         at_set_other counts d (at counts d + at others d) (at noted k) (λ e. tracked_apart others noted k j t before h (e ∙ is)) ∙ was.done k before
 
-pub index-requires : goal.index-requires
-index-requires c =
-    let others = c.args.others.now.items in
-    let noted = c.args.other_touched.now.items in
-    let inside : c.loop-j.j < length noted = search rules in
-    let found : c.index-dir.result.now ≡ at noted c.loop-j.j = search (rules, at_within) in
-    omega (arith, tracked_inside others noted c.loop-j.j c.requires.tracked.1 inside, c.args.others.now.ok)
-
 pub add-requires-clause-inside : goal.add-requires-clause-inside
 add-requires-clause-inside c =
-    let others = c.args.others.now.items in
+    let others = c.args.others.now in
     let noted = c.args.other_touched.now.items in
     let inside : c.loop-j.j < length noted = search rules in
     let found : c.index-dir.result.now ≡ at noted c.loop-j.j = search (rules, at_within) in
@@ -42,47 +34,43 @@ add-requires-clause-inside c =
 
 pub add-requires-clause-some : goal.add-requires-clause-some
 add-requires-clause-some c =
-    let others = c.args.others.now.items in
+    let others = c.args.others.now in
     let noted = c.args.other_touched.now.items in
     let inside : c.loop-j.j < length noted = search rules in
     let found : c.index-dir.result.now ≡ at noted c.loop-j.j = search (rules, at_within) in
     let within : c.index-dir.result.now < length others = omega (arith, tracked_inside others noted c.loop-j.j c.requires.tracked.1 inside) in
-    let more : c.index.result.now ≡ at others c.index-dir.result.now = search (rules, at_within) in
-    omega (arith, tracked_some others noted c.loop-j.j c.requires.tracked.1 inside, ap (at others) found)
+    omega (arith, tracked_some others noted c.loop-j.j c.requires.tracked.1 inside, ap (at others) found, c.get.ensures)
 
 pub add-requires-clause-fits : goal.add-requires-clause-fits
 add-requires-clause-fits c =
-    let others = c.args.others.now.items in
+    let others = c.args.others.now in
     let noted = c.args.other_touched.now.items in
     let inside : c.loop-j.j < length noted = search rules in
     let found : c.index-dir.result.now ≡ at noted c.loop-j.j = search (rules, at_within) in
     let within : c.index-dir.result.now < length others = omega (arith, tracked_inside others noted c.loop-j.j c.requires.tracked.1 inside) in
-    let more : c.index.result.now ≡ at others c.index-dir.result.now = search (rules, at_within) in
-    omega (arith, c.requires.fits c.index-dir.result.now, still c.loop-j.counts.items c.args.counts.now.items others noted c.loop-j.j c.requires.tracked.1 inside c.loop-j.invariant.3, ap (at c.loop-j.counts.items) found, ap (at c.args.counts.now.items) found)
+    omega (arith, c.get.ensures, c.requires.fits c.index-dir.result.now, still c.loop-j.counts c.args.counts.now others noted c.loop-j.j c.requires.tracked.1 inside c.loop-j.invariant.3, ap (at c.loop-j.counts) found, ap (at c.args.counts.now) found)
 
 pub loop-j-preserved : goal.loop-j-preserved
 loop-j-preserved c =
-    let others = c.args.others.now.items in
+    let others = c.args.others.now in
     let noted = c.args.other_touched.now.items in
-    let old = c.args.counts.now.items in
+    let old = c.args.counts.now in
     let d = c.index-dir.result.now in
     let inside : c.loop-j.j < length noted = search rules in
     let found : d ≡ at noted c.loop-j.j = search (rules, at_within) in
     let within : d < length others = omega (arith, tracked_inside others noted c.loop-j.j c.requires.tracked.1 inside) in
-    let more : c.index.result.now ≡ at others d = search (rules, at_within) in
-    let counts : set c.loop-j.counts.items d (at c.loop-j.counts.items d + at others d) ≡ c.add.new.counts.items = search rules in (
+    let counts : set c.loop-j.counts d (at c.loop-j.counts d + at others d) ≡ c.add.new.counts = ap (λ (n : ℕ). set c.loop-j.counts d (at c.loop-j.counts d + n)) (sym c.get.ensures) ∙ sym c.add.ensures.counts in (
       search rules,
       search rules,
       search rules,
-      subst (λ (l : List ℕ). IsAdded l old others noted (c.loop-j.j + 1)) counts (added_next c.loop-j.counts.items old others noted c.loop-j.j d c.requires.tracked.1 inside found (omega arith) c.loop-j.invariant.3),
-      search rules,
+      subst (λ (l : List ℕ). IsAdded l old others noted (c.loop-j.j + 1)) counts (added_next c.loop-j.counts old others noted c.loop-j.j d c.requires.tracked.1 inside found (omega arith) c.loop-j.invariant.3),
     )
 
 pub returns-clause-sums : goal.returns-clause-sums
 returns-clause-sums c dir =
-    let new = c.loop-j.counts.items in
-    let old = c.args.counts.now.items in
-    let others = c.args.others.now.items in
+    let new = c.loop-j.counts in
+    let old = c.args.counts.now in
+    let others = c.args.others.now in
     let noted = c.args.other_touched.now.items in
     let end : c.loop-j.j ≡ length noted = search rules in
     let added = subst (λ (n : ℕ). IsAdded new old others noted n) end c.loop-j.invariant.3 in

@@ -10,8 +10,7 @@ pub record IsAdded (new old others noted : List ℕ) (count : ℕ) : Type 0 wher
 
 abbrev pub invariant-loop-j : goal.invariant-loop-j
 invariant-loop-j l =
-    (length l.counts.items ≡ length l.fn.counts.items)
-    × IsTracked l.counts.items l.touched.items
+    (length l.counts ≡ length l.fn.counts)
+    × IsTracked l.counts l.touched.items
     × (vec_capacity l.touched ≡ vec_capacity l.fn.touched)
-    × IsAdded l.counts.items l.fn.counts.items l.others.items l.other_touched.items l.j
-    × (vec_capacity l.counts ≡ vec_capacity l.fn.counts)
+    × IsAdded l.counts l.fn.counts l.others l.other_touched.items l.j

@@ -6,8 +6,7 @@ use Rattle.heat_ledger.proofs.row.move_all.Given as goal
 abbrev pub invariant-loop-j : goal.invariant-loop-j
 invariant-loop-j l =
     (length l.into.items ≡ length l.fn.into.items)
-    × (length l.from.items ≡ length l.fn.from.items)
-    × ((dir : ℕ) → at l.into.items dir + at l.from.items dir ≡ at l.fn.into.items dir + at l.fn.from.items dir)
-    × ((dir : ℕ) → at l.from.items dir ≤ at l.fn.from.items dir)
-    × ((k : ℕ) → k < l.j → at l.from.items (at l.touched.items k) ≡ 0)
-    × (vec_capacity l.from ≡ vec_capacity l.fn.from)
+    × (length l.from ≡ length l.fn.from)
+    × ((dir : ℕ) → at l.into.items dir + at l.from dir ≡ at l.fn.into.items dir + at l.fn.from dir)
+    × ((dir : ℕ) → at l.from dir ≤ at l.fn.from dir)
+    × ((k : ℕ) → k < l.j → at l.from (at l.touched.items k) ≡ 0)
