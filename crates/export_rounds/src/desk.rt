@@ -1,4 +1,5 @@
 //! What a rank has to look after in a phase.
+ghost use Rattle.std.specs.Prelude.{◌≡◌, []};
 
 use crate::looks::{is_awaited, is_under_way};
 use export_machine::{Cluster, ImporterState};
@@ -23,6 +24,23 @@ pub struct Desk {
 }
 
 impl Desk {
+    /// A rank's desk with nothing on it. It asks for no memory.
+    pub fn new(alloc: Global, rank: Rank) -> Desk
+        ensures rank { result.rank ≡ rank }
+        ensures orders { result.orders.items ≡ [] }
+        ensures imports { result.imports.items ≡ [] }
+        ensures messages { result.messages.items ≡ [] }
+        ensures exports { result.exports.items ≡ [] }
+    {
+        Desk {
+            rank,
+            orders: Vec::new(alloc),
+            imports: Vec::new(alloc),
+            messages: Vec::new(alloc),
+            exports: Vec::new(alloc),
+        }
+    }
+
     /// Whether there is nothing to look after.
     pub fn is_empty(&self) -> bool {
         self.orders.is_empty()
@@ -42,13 +60,7 @@ pub fn set_up(
     let mut desks = Vec::with_capacity(alloc, active as usize)?;
     for number in 0..active {
         if let Some(rank) = Rank::new(number) {
-            desks.push(Desk {
-                rank,
-                orders: Vec::new(alloc),
-                imports: Vec::new(alloc),
-                messages: Vec::new(alloc),
-                exports: Vec::new(alloc),
-            })?;
+            desks.push(Desk::new(alloc, rank))?;
         }
     }
     lay_orders(orders, &mut desks)?;

@@ -8,11 +8,13 @@ ghost use Rattle.export_threads.specs.Carrying.{AreAll, AreTold};
 use crate::cell::{ExportCell, ExportPhase};
 use crate::gate::Gate;
 use crate::order_outcome::OrderOutcome;
+use crate::place::Place;
 use crate::telling::tell;
-use crate::turns::take_turns;
+use crate::turns::Rounds;
+use crate::under_way::UnderWay;
 use authority_map::Publisher;
 use export_machine::Event;
-use export_rounds::desk::{set_up, sort_out};
+use export_rounds::desk::set_up;
 use export_rounds::looks::is_before_log;
 use export_rounds::starting::waiting;
 use export_rounds::{Desk, Standing};
@@ -22,16 +24,24 @@ use naming::Naming;
 use std::alloc::{AllocError, Global};
 use std::marker::{Brand, Send, Sync};
 use std::sync::Wait;
+use std::thread;
 use std::thread::Threads;
-
-/// Rounds of a phase.
-const ROUNDS: usize = 8;
 
 // What a phase asks memory for before its first event.
 struct Prepared {
     outcomes: Vec<OrderOutcome>,
     standings: Vec<Standing>,
     desks: Vec<Desk>,
+    places: Vec<Place>,
+}
+
+// A place for each rank that has a desk.
+fn places_for(alloc: Global, desks: &[Desk]) -> Result<Vec<Place>, AllocError> {
+    let mut places = Vec::with_capacity(alloc, desks.len())?;
+    for desk in desks {
+        places.push(Place::new(alloc, desk.rank))?;
+    }
+    Ok(places)
 }
 
 // Room for the outcomes, the orders as ones that wait, and what each rank has to look after.
@@ -47,10 +57,12 @@ fn prepare<J: Naming, M: Publisher<J>>(
     let outcomes = Vec::with_capacity(alloc, orders.len())?;
     let standings = waiting(alloc, orders)?;
     let desks = set_up(alloc, board.cluster(), board.pins().active(), orders)?;
+    let places = places_for(alloc, &desks)?;
     Ok(Prepared {
         outcomes,
         standings,
         desks,
+        places,
     })
 }
 
@@ -69,24 +81,33 @@ fn start_strays<J: Naming, M: Publisher<J>, K: ExportPhase, R: Wait>(
     }
 }
 
-// The ranks take their turns in rounds. In each they have the messages that were sent before it.
+// The ranks take their turns in rounds.
 fn take_rounds<
+    'a,
     J: Naming + Send + Sync,
     M: Publisher<J> + Send,
     K: ExportPhase + Send + Sync,
     R: Threads + Wait + Sync,
     G: Gate + Sync,
->(rt: &R, alloc: Global, cell: &ExportCell<J, M, K>, gate: &G, desks: Vec<Desk>) {
+>(
+    rt: &'a R,
+    alloc: Global,
+    cell: &'a ExportCell<J, M, K>,
+    gate: &'a G,
+    places: Vec<Place>,
+    desks: Vec<Desk>,
+) {
     let mut desks = desks;
-    let mut seen = cell.lock(rt).cluster().sent();
-    for round in 0..ROUNDS {
-        desks = take_turns(rt, alloc, cell, gate, round, desks);
-        let board = cell.lock(rt);
-        let sent = board.cluster().sent();
-        // a message that finds no place isn't delivered
-        let _ = sort_out(board.cluster(), &mut desks, seen..sent);
-        seen = sent;
-    }
+    let rounds = Rounds {
+        rt,
+        alloc,
+        cell,
+        gate,
+        under_way: UnderWay::new(),
+    };
+    thread::scope(thread::scope_env(), rt, |scope| {
+        rounds.take_all(scope, &places, &mut desks);
+    });
 }
 
 // Aborts the exports of the phase that aren't logged.
@@ -135,11 +156,12 @@ fn carry_out_named<
         mut outcomes,
         standings,
         desks,
+        places,
     } = prepared;
     let active = desks.len();
     let cell = ExportCell::<J, M, K>::new(board, standings);
     start_strays(rt, alloc, &cell, active, orders);
-    take_rounds(rt, alloc, &cell, gate, desks);
+    take_rounds(rt, alloc, &cell, gate, places, desks);
     abort_rest(rt, alloc, &cell, orders.len());
     let (board, standings) = cell.into_parts();
     tell(board.cluster(), &standings, &mut outcomes);

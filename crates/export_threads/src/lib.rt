@@ -8,9 +8,11 @@ mod cell;
 pub mod exporting;
 pub mod gate;
 pub mod order_outcome;
+mod place;
 mod telling;
 mod turn;
 mod turns;
+mod under_way;
 
 pub use export_rounds::Outcome;
 pub use exporting::export_phase;

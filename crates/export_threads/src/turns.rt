@@ -1,120 +1,146 @@
-//! A thread for the turn of each rank in a round of exports.
-ghost use Rattle.std.specs.Prelude.{◌≡◌, vec_capacity, vec_len};
+//! The rounds of a phase of exports, with a thread for each rank that has something to look after.
 
 use crate::cell::{ExportCell, ExportPhase};
 use crate::gate::Gate;
+use crate::place::{Call, Place};
 use crate::turn::take_turn;
+use crate::under_way::UnderWay;
 use authority_map::Publisher;
 use export_rounds::Desk;
+use export_rounds::desk::sort_out;
 use naming::Naming;
 use std::alloc::Global;
 use std::marker::{Send, Sync};
 use std::sync::Wait;
-use std::sync::atomic::{AtomicBool, Ordering};
-use std::thread;
-use std::thread::Threads;
+use std::thread::Scope;
 
-// A rank takes its turn. Where it has no thread its orders aren't started, and what is under way goes on by this one.
-fn turn_at<J: Naming, M: Publisher<J>, K: ExportPhase, R: Wait, G: Gate>(
-    rt: &R,
-    alloc: Global,
-    cell: &ExportCell<J, M, K>,
-    gate: &G,
-    no_thread: &AtomicBool,
-    round: usize,
-    desk: Desk,
-) -> Desk {
-    let mut desk = desk;
-    if no_thread.load(Ordering::SeqCst) {
-        desk.orders.clear();
-    }
-    take_turn(rt, alloc, cell, gate, round, &mut desk);
-    desk
+/// Rounds of a phase.
+const ROUNDS: usize = 8;
+
+/// What the threads of a phase work with.
+#[derive(Drop)]
+pub(crate) struct Rounds<'a, J: Naming, M: Publisher<J>, K: ExportPhase, R: Wait, G: Gate> {
+    pub(crate) rt: &'a R,
+    pub(crate) alloc: Global,
+    pub(crate) cell: &'a ExportCell<J, M, K>,
+    pub(crate) gate: &'a G,
+    pub(crate) under_way: UnderWay,
 }
 
-// A rank takes its turn by a thread of its own, while this one does the rest.
-fn turn_beside<
+impl<
     J: Naming + Send + Sync,
     M: Publisher<J> + Send,
     K: ExportPhase + Send + Sync,
-    R: Threads + Wait + Sync,
+    R: Wait + Sync,
     G: Gate + Sync,
-    T,
-    F: FnOnce() -> T,
->(
-    rt: &R,
-    alloc: Global,
-    cell: &ExportCell<J, M, K>,
-    gate: &G,
-    round: usize,
-    desk: Desk,
-    rest: F,
-) -> (Desk, T)
-    requires rest { F.pre rest }
-    ensures rest { F.post rest result.1 }
-{
-    let no_thread = AtomicBool::new(false);
-    thread::scope(
-        thread::scope_env(),
-        rt,
-        |scope| -> (Desk, T)
-            requires { F.pre rest }
-            ensures { F.post rest result.1 }
-        {
-            match scope.spawn(|| { turn_at(rt, alloc, cell, gate, &no_thread, round, desk) }) {
-                Ok(child) => {
-                    let done = rest();
-                    (child.join(rt), done)
-                }
-                Err(refused) => {
-                    no_thread.store(true, Ordering::SeqCst);
-                    let desk = (refused.value)();
-                    (desk, rest())
-                }
-            }
-        },
-    )
-}
-
-/// Each rank that has something to look after takes its turn by a thread of its own.
-pub(crate) fn take_turns<
-    J: Naming + Send + Sync,
-    M: Publisher<J> + Send,
-    K: ExportPhase + Send + Sync,
-    R: Threads + Wait + Sync,
-    G: Gate + Sync,
->(
-    rt: &R,
-    alloc: Global,
-    cell: &ExportCell<J, M, K>,
-    gate: &G,
-    round: usize,
-    desks: Vec<Desk>,
-) -> Vec<Desk>
-    ensures count { vec_len result ≡ vec_len desks }
-    ensures room { vec_capacity result ≡ vec_capacity desks }
-{
-    let mut desks = desks;
-    let Some(desk) = desks.pop() else {
-        return desks;
-    };
-    let (desk, rest) = if desk.is_empty() {
-        (desk, take_turns(rt, alloc, cell, gate, round, desks))
-    } else {
-        turn_beside(
-            rt,
-            alloc,
-            cell,
-            gate,
+> Rounds<'_, J, M, K, R, G> {
+    // A rank takes the turn that it is called for at its place. Without a thread of its own, its orders aren't started.
+    // It says whether there was a turn to take: none is when the phase is over.
+    fn take_turn(&self, place: &Place, has_thread: bool) -> bool {
+        let mut seat = place.wait(self.rt);
+        let Call::Turn(round) = seat.call else {
+            return false;
+        };
+        seat.call = Call::Nothing;
+        if !has_thread {
+            seat.desk.orders.clear();
+        }
+        take_turn(
+            self.rt,
+            self.alloc,
+            self.cell,
+            self.gate,
             round,
-            desk,
-            || -> Vec<Desk>
-                ensures count { vec_len result ≡ vec_len desks }
-                ensures room { vec_capacity result ≡ vec_capacity desks }
-            { take_turns(rt, alloc, cell, gate, round, desks) },
-        )
-    };
-    let mut desks = rest;
-    desks.push_reserved(desk);
-    desks
+            &mut seat.desk,
+        );
+        self.under_way.end(self.rt);
+        true
+    }
+
+    // A rank's thread takes the turns that the rank is called for, until the phase is over.
+    fn serve(&self, place: &Place) {
+        place.sit_down(self.rt);
+        for _ in 0..ROUNDS {
+            if !self.take_turn(place, true) {
+                return;
+            }
+        }
+    }
+
+    // Calls a rank for its turn. A thread is made for it where it has none, and where none is to be had, this one takes
+    // the turn.
+    fn call<'s, E>(
+        &'s self,
+        scope: &Scope<'s, E>,
+        round: usize,
+        place: &'s Place,
+        desk: &mut Desk,
+    ) {
+        self.under_way.begin(self.rt);
+        let has_thread = place.call(self.rt, round, desk);
+        if !has_thread && scope.spawn(move || self.serve(place)).is_err() {
+            let _is_turn = self.take_turn(place, false);
+        }
+    }
+
+    // Each rank that has something to look after takes its turn in a round.
+    fn take_turns<'s, E>(
+        &'s self,
+        scope: &Scope<'s, E>,
+        round: usize,
+        places: &'s [Place],
+        desks: &mut [Desk],
+    ) {
+        for (place, desk) in places.iter().zip(desks.iter_mut()) {
+            if !desk.is_empty() {
+                self.call(scope, round, place, desk);
+            }
+        }
+        self.under_way.wait(self.rt);
+        self.clear(places, desks);
+    }
+
+    // Takes the desks back.
+    fn clear(&self, places: &[Place], desks: &mut [Desk]) {
+        for (place, desk) in places.iter().zip(desks.iter_mut()) {
+            place.give_back(self.rt, desk);
+        }
+    }
+
+    // Tells the threads that the phase is over.
+    fn end(&self, places: &[Place]) {
+        for place in places {
+            place.end(self.rt);
+        }
+    }
+
+    // How many messages were sent.
+    fn sent(&self) -> u32 {
+        self.cell.lock(self.rt).cluster().sent()
+    }
+
+    // Lays the messages out from this one on, and says how many were sent.
+    fn sort_out(&self, desks: &mut Vec<Desk>, seen: u32) -> u32 {
+        let board = self.cell.lock(self.rt);
+        let sent = board.cluster().sent();
+        // a message that finds no place isn't delivered
+        let _ = sort_out(board.cluster(), desks, seen..sent);
+        sent
+    }
+
+    /// The ranks take their turns in rounds, each by a thread of its own. In each they have the messages that were sent
+    /// before it.
+    pub(crate) fn take_all<'s, E>(
+        &'s self,
+        scope: &Scope<'s, E>,
+        places: &'s [Place],
+        desks: &mut Vec<Desk>,
+    ) {
+        let mut seen = self.sent();
+        for round in 0..ROUNDS {
+            self.take_turns(scope, round, places, desks);
+            seen = self.sort_out(desks, seen);
+        }
+        self.end(places);
+    }
 }
