@@ -2,11 +2,8 @@
 //! to standard output.
 #![tactic(auto)]
 
-mod hints;
-mod start;
-
 use script_engine::{Input, Output};
-use start::start;
+use script_program::start;
 use std::process::ExitCode;
 use std::{env, io};
 

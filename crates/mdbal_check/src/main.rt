@@ -1,15 +1,13 @@
 //! `mdbal_check [FILE]`: says whether the plans of certificates are best, by their proofs alone.
 #![tactic(auto)]
 
-mod judge;
 mod settings;
-mod tell;
 
+use certificate_judge::tell;
 use settings::file_of;
 use std::io::Read;
 use std::process::ExitCode;
 use std::{env, fs, io};
-use tell::tell;
 
 /// The words of the command line. One that isn't UTF-8 is an error.
 fn words(rt: &HostRuntime) -> io::Result<Vec<String>> {

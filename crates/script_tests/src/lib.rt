@@ -8,7 +8,11 @@ mod devices;
 #[cfg(test)]
 mod hints;
 #[cfg(test)]
+mod judged;
+#[cfg(test)]
 mod pieces;
+#[cfg(test)]
+mod program;
 #[cfg(test)]
 mod same;
 #[cfg(test)]

@@ -1,0 +1,71 @@
+//! The answer for bytes, as it is printed.
+ghost use Rattle.std.specs.Prelude.{◌≡◌, ◌⊎◌, false, true};
+ghost use Rattle.std.specs.Io.KnownBytes.{Appends};
+ghost use Rattle.certificate_judge.specs.Judged.{AllBest, AllHold, AreCertificates, answer_line, answer_status};
+
+use crate::judging::judge;
+use plan_text::ReadError;
+use std::alloc::Global;
+use std::io::Write;
+
+/// Prints whether the bytes of this file are certificates whose proofs all hold.
+///
+/// Gives the status: 0 for yes, 1 for no, 2 where they are no certificates or memory is refused, and 3 where the answer
+/// could not be written.
+pub fn tell<W: Write, E: Write>(
+    alloc: Global,
+    name: &str,
+    bytes: &[u8],
+    writer: &mut W,
+    errors: &mut E,
+) -> u8
+    ensures yes { result ≡ 0 → AllHold bytes.now
+        × Appends (W.contents writer.old) (W.contents writer.new) (answer_line true) }
+    ensures best { result ≡ 0 → AllBest bytes.now }
+    ensures no { result ≡ 1 → AreCertificates bytes.now × ¬ (AllHold bytes.now)
+        × Appends (W.contents writer.old) (W.contents writer.new) (answer_line false) }
+{
+    match judge(alloc, bytes) {
+        Ok(yes) => print_answer(yes, writer, errors),
+        Err(ReadError::Memory) => {
+            let _ = writeln!(errors, "mdbal_check: 0 Memory");
+            2
+        }
+        Err(ReadError::Line(line, expected)) => {
+            let _ = writeln!(errors, "{name}:{line}: expected {expected}");
+            2
+        }
+    }
+}
+
+/// The line that is printed for an answer.
+fn answer_line(answer: bool) -> &'static [u8]
+    ensures { result.now ≡ answer_line answer }
+{
+    if answer {
+        b"yes\n".as_slice()
+    } else {
+        b"no\n".as_slice()
+    }
+}
+
+/// The status for an answer.
+fn answer_status(answer: bool) -> u8
+    ensures { result ≡ answer_status answer }
+{
+    if answer { 0 } else { 1 }
+}
+
+/// Prints an answer, and gives its status.
+fn print_answer<W: Write, E: Write>(answer: bool, writer: &mut W, errors: &mut E) -> u8
+    ensures { ((result ≡ answer_status answer)
+        × Appends (W.contents writer.old) (W.contents writer.new) (answer_line answer)) ⊎ (result ≡ 3) }
+{
+    match writer.write_all(answer_line(answer)) {
+        Ok(()) => answer_status(answer),
+        Err(_) => {
+            let _ = writeln!(errors, "mdbal_check: write failed");
+            3
+        }
+    }
+}

@@ -1,0 +1,7 @@
+//! The program that answers a script, over any devices.
+#![tactic(auto)]
+
+mod hints;
+pub mod program;
+
+pub use program::start;

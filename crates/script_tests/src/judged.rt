@@ -1,0 +1,186 @@
+//! The plan of docs/CERTIFICATES.md that is checked by hand, and what becomes of it when one line is changed.
+use certificate_judge::tell;
+use std::alloc::{AllocError, Global};
+use std::test::Fail;
+
+/// The lines of its certificate.
+const LINES: [&str; 30] = [
+    "certificate 1",
+    "mask 0x3",
+    "rows 4",
+    "row 0 0 1 0",
+    "row 0 3 5 0",
+    "row 1 3 1 0",
+    "row 2 3 1 0",
+    "parts 4",
+    "part 0",
+    "part 0",
+    "part 1",
+    "part 1",
+    "ranks 2",
+    "rank 0",
+    "rank 1",
+    "greatest 6",
+    "moved 2",
+    "cut table",
+    "cells 4",
+    "cell 2 3 3 0",
+    "cell 2 3 3 0",
+    "cell 1 3 3 1",
+    "cell 0 3 0 1",
+    "part_prices 2",
+    "price 2",
+    "price 2",
+    "rank_prices 2",
+    "price -2",
+    "price 0",
+    "end",
+];
+
+// (line, what stands there in its place, whether the proofs hold)
+const JUDGED: [(usize, &str, bool); 38] = [
+    (1, "certificate 1", true),
+    (2, "mask 0x1", false),
+    (2, "mask 0x7", false),
+    (4, "row 0 0 2 0", true),
+    (4, "row 0 0 1 1", false),
+    (4, "row 0 1 1 0", false),
+    (5, "row 0 3 6 0", true),
+    (6, "row 0 3 1 0", false),
+    (6, "row 1 4 1 0", false),
+    (7, "row 2 3 2 0", false),
+    (9, "part 1", false),
+    (10, "part 1", false),
+    (12, "part 0", false),
+    (12, "part 2", false),
+    (14, "rank 1", false),
+    (15, "rank 0", false),
+    (15, "rank 2", false),
+    (16, "greatest 5", false),
+    (16, "greatest 7", false),
+    (17, "moved 1", false),
+    (17, "moved 3", false),
+    (20, "cell 3 3 3 0", false),
+    (20, "cell 2 4 3 0", false),
+    (20, "cell 2 3 4 0", true),
+    (20, "cell 2 3 2 0", false),
+    (20, "cell 2 3 3 1", false),
+    (21, "cell 2 3 2 0", false),
+    (21, "cell 1 3 3 0", false),
+    (22, "cell 1 3 4 1", false),
+    (22, "cell 1 3 2 1", false),
+    (22, "cell 1 3 3 0", false),
+    (23, "cell 0 3 9 1", true),
+    (23, "cell 0 18446744073709551615 0 1", false),
+    (25, "price 1", false),
+    (26, "price 3", false),
+    (28, "price -1", false),
+    (28, "price -9223372036854775808", false),
+    (29, "price 1", false),
+];
+
+/// The certificate with another line in place of line `number`.
+fn changed(alloc: Global, number: usize, line: &str) -> Result<String, AllocError> {
+    let mut text = String::new(alloc);
+    for (i, old) in LINES.iter().enumerate() {
+        if i + 1 == number {
+            text.push_str(line)?;
+        } else {
+            text.push_str(old)?;
+        }
+        text.push_str("\n")?;
+    }
+    Ok(text)
+}
+
+/// The status, and what is printed for a text.
+fn told(alloc: Global, text: &str) -> (u8, Vec<u8>, Vec<u8>) {
+    let (mut writer, mut errors) = (Vec::new(alloc), Vec::new(alloc));
+    let status = tell(alloc, "plan", text.as_bytes(), &mut writer, &mut errors);
+    (status, writer, errors)
+}
+
+#[test]
+fn tells_whether_the_proofs_hold(rt: HostRuntime) -> Result<(), Fail> {
+    for (number, line, holds) in JUDGED {
+        let text = changed(rt.alloc(), number, line)?;
+        let (status, writer, errors) = told(rt.alloc(), &text);
+        let (wanted, answer) = if holds {
+            (0, b"yes\n".as_slice())
+        } else {
+            (1, b"no\n".as_slice())
+        };
+        assert_eq!(rt; status, wanted, "{number}: {line}");
+        assert!(rt; writer.as_slice() == answer, "{number}: {line}");
+        assert!(rt; errors.is_empty(), "{number}: {line}");
+    }
+    Ok(())
+}
+
+#[test]
+fn says_which_line_is_broken(rt: HostRuntime) -> Result<(), Fail> {
+    let plain = "one blank between fields, no leading zeros, no capital digits and a newline";
+    let trees = "parents before children, heats up to 1099511627776, up to 65536 rows and a rank";
+    // (line, what stands there in its place, the line that is named, what was expected there)
+    let table = [
+        (1, "certificate 2", 1, "certificate 1"),
+        (
+            2,
+            "mask 0X3",
+            2,
+            "mask 0xDIGITS, the ranks that may have a part",
+        ),
+        (2, "mask 0x03", 2, plain),
+        (2, "mask 0x0", 2, trees),
+        (3, "rows 5", 8, "row PARENT HEAT INODES RANK"),
+        (4, "row 1 0 1 0", 2, trees),
+        (5, "row 0 03 5 0", 5, plain),
+        (5, "row 0 +3 5 0", 5, plain),
+        (5, "row 0  3 5 0", 5, "row PARENT HEAT INODES RANK"),
+        (5, "row 0 3 5 0 ", 5, "row PARENT HEAT INODES RANK"),
+        (5, "row 0 3 5", 5, "row PARENT HEAT INODES RANK"),
+        (5, "row 0 3 4294967296 0", 5, "row PARENT HEAT INODES RANK"),
+        (15, "rank 64", 15, "rank NUMBER, 0 to 63"),
+        (18, "cut zero", 19, "part_prices NUMBER"),
+        (18, "cut heavy", 18, "cut zero, cut heavy ROW or cut table"),
+        (23, "cell 0 3 0 2", 23, "cell CUTS REST PRICE 0 or 1"),
+        (28, "price -9223372036854775809", 28, "price NUMBER"),
+        (28, "price -0", 28, plain),
+        (30, "ends", 30, "end"),
+    ];
+    for (number, line, at, expected) in table {
+        let text = changed(rt.alloc(), number, line)?;
+        let (status, writer, errors) = told(rt.alloc(), &text);
+        let message = format!(in rt.alloc(); "plan:{at}: expected {expected}\n")?;
+        assert_eq!(rt; status, 2, "{line}");
+        assert!(rt; writer.is_empty(), "{line}");
+        assert!(rt; errors.as_slice() == message.as_bytes(), "{line}");
+    }
+    Ok(())
+}
+
+#[test]
+fn checks_each_certificate_of_a_file(rt: HostRuntime) -> Result<(), Fail> {
+    let good = changed(rt.alloc(), 1, "certificate 1")?;
+    let bad = changed(rt.alloc(), 17, "moved 1")?;
+    let whole = good.as_str();
+    let most = whole.trim_end();
+    // (the first text, the second, the status)
+    let table = [
+        (whole, whole, 0),
+        (whole, bad.as_str(), 1),
+        (bad.as_str(), whole, 1),
+        (whole, "", 0),
+        (whole, "\n", 2),
+        (whole, most, 2),
+        ("", "", 2),
+    ];
+    for (first, second, wanted) in table {
+        let text = format!(in rt.alloc(); "{first}{second}")?;
+        let (status, writer, errors) = told(rt.alloc(), &text);
+        assert_eq!(rt; status, wanted);
+        assert_eq!(rt; errors.is_empty(), wanted < 2);
+        assert_eq!(rt; writer.is_empty(), wanted == 2);
+    }
+    Ok(())
+}
