@@ -2,7 +2,7 @@
 ghost use Rattle.std.specs.Prelude.{◌≡◌, ◌≤◌, length};
 
 /// Where a byte of JSON stands.
-#[derive(Clone, Copy, Debug, PartialEq, Eq)]
+#[derive(Clone, Copy)]
 enum Place {
     /// Outside of strings.
     Bare,
@@ -70,7 +70,7 @@ pub fn write_over_bare_words(text: &mut [u8])
     let mut place = Place::Bare;
     for at in 0..text.len() {
         let byte = text[at];
-        if place == Place::Bare && matches!(byte, b'-' | b'i' | b'n') {
+        if matches!((place, byte), (Place::Bare, b'-' | b'i' | b'n')) {
             let word = word_length(&text[at..]);
             zero_over(&mut text[at..at + word]);
         }

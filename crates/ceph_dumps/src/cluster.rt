@@ -5,12 +5,12 @@ use crate::json::{read_json, text_of};
 use serde::Deserialize;
 use std::alloc::Global;
 
-#[derive(Debug, Drop, Deserialize)]
+#[derive(Drop, Deserialize)]
 struct FileSystemDump {
     mdsmap: MdsMapDump,
 }
 
-#[derive(Debug, Drop, Deserialize)]
+#[derive(Drop, Deserialize)]
 struct MdsMapDump {
     max_mds: u32,
     #[serde(rename = "in")]
@@ -20,7 +20,7 @@ struct MdsMapDump {
 }
 
 /// The ranks of a file system.
-#[derive(Debug, Drop)]
+#[derive(Drop)]
 pub struct FileSystemRanks {
     /// How many ranks it is to have.
     pub size: u32,

@@ -8,7 +8,7 @@ use crate::dump_error::DumpError;
 use std::alloc::{AllocError, Global};
 
 /// What a listing says of a directory: one of the two values.
-#[derive(Debug, Drop)]
+#[derive(Drop)]
 pub struct ListedDir {
     /// Its path: empty for the root, else it begins with a slash.
     pub path: Vec<u8>,
@@ -57,28 +57,17 @@ fn number_of(digits: &[u8]) -> Option<u64> {
     str::from_utf8(digits).ok()?.parse().ok()
 }
 
-/// What an attribute's line says of the directory of this path, if anything.
-fn value_of(path: Vec<u8>, line: &[u8]) -> Option<ListedDir> {
+/// The entries and the pin that an attribute's line says, if it is one: one of the two, or neither for no pin.
+fn values_of(line: &[u8]) -> Option<(Option<u64>, Option<u64>)> {
     let value = line.strip_suffix(b"\"")?;
     if let Some(digits) = value.strip_prefix(b"ceph.dir.entries=\"") {
-        let entries = Some(number_of(digits)?);
-        return Some(ListedDir {
-            path,
-            entries,
-            pin: None,
-        });
+        return Some((Some(number_of(digits)?), None));
     }
     let digits = value.strip_prefix(b"ceph.dir.pin=\"")?;
-    let pin = if digits.starts_with(b"-") {
-        None
-    } else {
-        Some(number_of(digits)?)
-    };
-    Some(ListedDir {
-        path,
-        entries: None,
-        pin,
-    })
+    if digits.starts_with(b"-") {
+        return Some((None, None));
+    }
+    Some((None, Some(number_of(digits)?)))
 }
 
 /// What a listing says, in its order.
@@ -89,8 +78,9 @@ pub fn read_listing(alloc: Global, bytes: &[u8]) -> Result<Vec<ListedDir>, DumpE
         if let Some(name) = line.strip_prefix(b"# file: ") {
             path = Some(path_of(alloc, name)?);
         } else if !line.is_empty() && line != b"--".as_slice() {
-            let of = path.take().ok_or(DumpError::Listing(at + 1))?;
-            found.push(value_of(of, line).ok_or(DumpError::Value(at + 1))?)?;
+            let path = path.take().ok_or(DumpError::Listing(at + 1))?;
+            let (entries, pin) = values_of(line).ok_or(DumpError::Value(at + 1))?;
+            found.push(ListedDir { path, entries, pin })?;
         }
     }
     Ok(found)

@@ -13,30 +13,30 @@ use std::num::saturating_f64_to_u64;
 /// What Ceph's balancer makes of reads, writes, readdirs, fetches and stores.
 const WEIGHTS: [f64; 5] = [1.0, 2.0, 1.0, 2.0, 4.0];
 
-#[derive(Debug, Drop, Deserialize)]
+#[derive(Drop, Deserialize)]
 struct LoadsDump {
     dirfrags: Vec<FragmentDump>,
 }
 
-#[derive(Debug, Drop, Deserialize)]
+#[derive(Drop, Deserialize)]
 struct FragmentDump {
     path: String,
     pop_me: CountersDump,
 }
 
-#[derive(Debug, Drop, Deserialize)]
+#[derive(Drop, Deserialize)]
 struct CountersDump {
     #[serde(rename = "Decay Counters")]
     counters: Vec<CounterDump>,
 }
 
-#[derive(Clone, Copy, Debug, Drop, Deserialize)]
+#[derive(Clone, Copy, Drop, Deserialize)]
 struct CounterDump {
     value: f64,
 }
 
 /// A fragment of a directory, and its own heat at the rank that was asked.
-#[derive(Debug, Drop)]
+#[derive(Drop)]
 pub struct FragmentHeat {
     /// The directory's path: empty for the root, else it begins with a slash.
     pub path: Vec<u8>,

@@ -6,7 +6,7 @@ use crate::wide_bytes::narrowed;
 use serde::Deserialize;
 use std::alloc::Global;
 
-#[derive(Debug, Drop, Deserialize)]
+#[derive(Drop, Deserialize)]
 struct RootDump {
     is_auth: bool,
     auth_first: i64,
@@ -19,13 +19,13 @@ struct RootDump {
     dir: DirDump,
 }
 
-#[derive(Debug, Drop, Deserialize)]
+#[derive(Drop, Deserialize)]
 struct DirDump {
     path: String,
 }
 
 /// The root of a subtree, as one rank knows it.
-#[derive(Debug, Drop)]
+#[derive(Drop)]
 pub struct SubtreeRoot {
     /// The path: empty for the root, else it begins with a slash (or with `~`, in a rank's own directory).
     pub path: Vec<u8>,
