@@ -1,4 +1,5 @@
 //! Reads the files that `ceph/collect` wrote.
+ghost use Rattle.std.specs.Prelude.{◌<◌, IfOk};
 
 use crate::progress::Progress;
 use anyhow::{Context, Error, bail};
@@ -9,6 +10,8 @@ use ceph_dumps::{
 use ceph_snapshot::{Gathering, Snapshot};
 use mds_types::Rank;
 use mds_types::limits::RANK_LIMIT;
+use std::alloc::Global;
+use std::fmt::Display;
 use std::io::ErrorKind;
 use std::rt::{Clock, Files};
 use std::{fs, io};
@@ -29,27 +32,38 @@ pub struct Collected {
     pub snapshot: Snapshot,
 }
 
-/// The bytes of a file of the folder; none where it isn't there.
-fn bytes_of<R: Files + AllocGlobal>(rt: &R, path: &str) -> Result<Option<Vec<u8>>, Error> {
-    let read: io::Result<Vec<u8>> = fs::read(rt, path);
-    match read {
-        Ok(bytes) => Ok(Some(bytes)),
+/// What a file says, if it is there.
+fn read_if_there<R, P, T, F>(rt: &R, file: &P, read: F) -> Result<Option<T>, Error>
+where
+    R: Files + AllocGlobal,
+    P: Display,
+    F: FnOnce(Global, &[u8]) -> Result<T, DumpError> + Copy,
+    requires { F.IsAlwaysCallable read }
+{
+    let path = format!(in rt.alloc(); "{file}")?;
+    let bytes: io::Result<Vec<u8>> = fs::read(rt, path.as_str());
+    match bytes {
+        Ok(bytes) => {
+            let found = read(rt.alloc(), bytes.as_slice()).context(format_args!("{path}"))?;
+            Ok(Some(found))
+        }
         Err(error) if error.kind() == ErrorKind::NotFound => Ok(None),
         Err(error) => Err(Error::from(error)).context(format_args!("{path}")),
     }
 }
 
-/// The bytes of a file that has to be there.
-fn needed<R: Files + AllocGlobal>(rt: &R, path: &str) -> Result<Vec<u8>, Error> {
-    match bytes_of(rt, path)? {
-        Some(bytes) => Ok(bytes),
-        None => bail!("{path}: there is no such file"),
+/// What a file says that has to be there.
+fn read_file<R, P, T, F>(rt: &R, file: &P, read: F) -> Result<T, Error>
+where
+    R: Files + AllocGlobal,
+    P: Display,
+    F: FnOnce(Global, &[u8]) -> Result<T, DumpError> + Copy,
+    requires { F.IsAlwaysCallable read }
+{
+    match read_if_there(rt, file, read)? {
+        Some(found) => Ok(found),
+        None => bail!("{file}: there is no such file"),
     }
-}
-
-/// What was read of a file, or why not.
-fn whole<T>(path: &str, read: Result<T, DumpError>) -> Result<T, Error> {
-    read.context(format_args!("{path}"))
 }
 
 /// How many samples there are of a rank.
@@ -70,21 +84,23 @@ fn add_subtrees<R: Files + AllocGlobal>(
     folder: &str,
     rank: Rank,
 ) -> Result<(), Error> {
-    let path = format!(in rt.alloc(); "{folder}/subtrees.{}.json", rank.number())?;
-    let bytes = needed(rt, path.as_str())?;
-    let roots = whole(path.as_str(), read_subtrees(rt.alloc(), bytes.as_slice()))?;
+    let file = format_args!("{folder}/subtrees.{}.json", rank.number());
+    let roots = read_file(rt, &file, read_subtrees)?;
     Ok(gathering.add_subtrees(rank, roots.as_slice())?)
 }
 
 /// Adds a sample of a rank's heat.
-fn add_loads<R: Files + AllocGlobal>(
+fn add_loads<R: Files + AllocGlobal + Clock + Eprint>(
     rt: &R,
+    progress: &mut Progress,
     gathering: &mut Gathering,
-    path: &str,
+    folder: &str,
     rank: Rank,
+    sample: u64,
 ) -> Result<(), Error> {
-    let bytes = needed(rt, path)?;
-    let loads = whole(path, read_loads(rt.alloc(), bytes.as_slice()))?;
+    let file = format_args!("{folder}/loads.{}.{sample}.json", rank.number());
+    progress.tell(rt, &file);
+    let loads = read_file(rt, &file, read_loads)?;
     Ok(gathering.add_loads(rank, loads.as_slice())?)
 }
 
@@ -98,11 +114,8 @@ fn add_rank<R: Files + AllocGlobal + Clock + Eprint>(
     samples: u64,
 ) -> Result<(), Error> {
     add_subtrees(rt, gathering, folder, rank)?;
-    let number = rank.number();
     for sample in 1..=samples {
-        let path = format!(in rt.alloc(); "{folder}/loads.{number}.{sample}.json")?;
-        progress.tell(rt, path.as_str());
-        add_loads(rt, gathering, path.as_str(), rank)?;
+        add_loads(rt, progress, gathering, folder, rank, sample)?;
     }
     Ok(())
 }
@@ -113,9 +126,8 @@ fn add_listing<R: Files + AllocGlobal>(
     gathering: &mut Gathering,
     folder: &str,
 ) -> Result<(), Error> {
-    let path = format!(in rt.alloc(); "{folder}/dirs")?;
-    if let Some(bytes) = bytes_of(rt, path.as_str())? {
-        let listing = whole(path.as_str(), read_listing(rt.alloc(), bytes.as_slice()))?;
+    let listing = read_if_there(rt, &format_args!("{folder}/dirs"), read_listing)?;
+    if let Some(listing) = listing {
         gathering.add_listing(listing.as_slice())?;
     }
     Ok(())
@@ -127,8 +139,7 @@ fn add_own<R: Files + AllocGlobal>(
     gathering: &mut Gathering,
     path: &str,
 ) -> Result<(), Error> {
-    let bytes = needed(rt, path)?;
-    let paths = whole(path, read_own_list(rt.alloc(), bytes.as_slice()))?;
+    let paths = read_file(rt, &path, read_own_list)?;
     for path in paths.as_slice() {
         gathering.add_own(path.as_slice())?;
     }
@@ -137,12 +148,11 @@ fn add_own<R: Files + AllocGlobal>(
 
 /// The ranks of the file system, and how many it is to have.
 fn ranks_of<R: Files + AllocGlobal>(rt: &R, folder: &str) -> Result<(FileSystemRanks, u8), Error> {
-    let path = format!(in rt.alloc(); "{folder}/fs.json")?;
-    let bytes = needed(rt, path.as_str())?;
-    let cluster = whole(path.as_str(), read_cluster(rt.alloc(), bytes.as_slice()))?;
+    let file = format_args!("{folder}/fs.json");
+    let cluster = read_file(rt, &file, read_cluster)?;
     match u8::try_from(cluster.size) {
         Ok(size) if size <= RANK_LIMIT => Ok((cluster, size)),
-        _ => bail!("{path}: more than 64 ranks"),
+        _ => bail!("{file}: more than 64 ranks"),
     }
 }
 
@@ -164,6 +174,36 @@ fn add_ranks<R: Files + AllocGlobal + Clock + Eprint>(
     Ok(())
 }
 
+/// How many samples the first of these ranks gave. It has to have one.
+fn sample_count<R: Files + AllocGlobal>(rt: &R, folder: &str, ranks: &[u32]) -> Result<u64, Error>
+    ensures { IfOk result (λ samples. 0 < samples) }
+{
+    let first = ranks.first().copied().unwrap_or(0);
+    let samples = samples_of(rt, folder, first)?;
+    if samples == 0 {
+        bail!("{folder}/loads.{first}.1.json: there is no such file");
+    }
+    Ok(samples)
+}
+
+/// What the dumps of these ranks say, what was listed over a mount, and which pins are those of an earlier plan.
+fn gathered<R: Files + AllocGlobal + Clock + Eprint>(
+    rt: &R,
+    progress: &mut Progress,
+    folder: &str,
+    own: Option<&str>,
+    ranks: &[u32],
+    samples: u64,
+) -> Result<Gathering, Error> {
+    let mut gathering = Gathering::new(rt.alloc())?;
+    add_ranks(rt, progress, &mut gathering, folder, ranks, samples)?;
+    add_listing(rt, &mut gathering, folder)?;
+    if let Some(path) = own {
+        add_own(rt, &mut gathering, path)?;
+    }
+    Ok(gathering)
+}
+
 /// Reads a folder, and the list of pins of an earlier plan if there is one.
 pub fn read_collected<R: Files + AllocGlobal + Clock + Eprint>(
     rt: &R,
@@ -173,17 +213,8 @@ pub fn read_collected<R: Files + AllocGlobal + Clock + Eprint>(
 ) -> Result<Collected, Error> {
     let (cluster, size) = ranks_of(rt, folder)?;
     let ranks = cluster.ranks.as_slice();
-    let first = ranks.first().copied().unwrap_or(0);
-    let samples = samples_of(rt, folder, first)?;
-    if samples == 0 {
-        bail!("{folder}/loads.{first}.1.json: there is no such file");
-    }
-    let mut gathering = Gathering::new(rt.alloc())?;
-    add_ranks(rt, progress, &mut gathering, folder, ranks, samples)?;
-    add_listing(rt, &mut gathering, folder)?;
-    if let Some(path) = own {
-        add_own(rt, &mut gathering, path)?;
-    }
+    let samples = sample_count(rt, folder, ranks)?;
+    let gathering = gathered(rt, progress, folder, own, ranks, samples)?;
     let snapshot = gathering.snapshot(samples, size)?;
     Ok(Collected {
         cluster,

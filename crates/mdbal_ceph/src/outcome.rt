@@ -80,7 +80,7 @@ fn usable(settings: &PlanSettings, collected: &Collected) -> Result<RankSet, Err
         → IfOk result (λ ranks. (rank : ℕ)
         → has_rank ranks rank ≡ (nat_lt rank collected.now.size && has_rank mask rank)) }
 {
-    let own = collected.cluster.mask.as_ref().map(|mask| mask.as_str());
+    let own = collected.cluster.mask.as_deref();
     match ranks_of(settings.mask, own, collected.size) {
         Some(ranks) => Ok(ranks),
         None => bail!(
@@ -291,8 +291,8 @@ pub fn carry_out<R: Files + AllocGlobal + Clock + Eprint>(
 ) -> Result<String, Error> {
     let mut progress = Progress::begin(rt);
     let collected = read_collected(rt, &mut progress, settings.folder, settings.own)?;
-    progress.tell(rt, "planning");
+    progress.tell(rt, &"planning");
     let outcome = planned(rt.alloc(), settings, collected)?;
-    progress.tell(rt, "writing");
+    progress.tell(rt, &"writing");
     written(rt, settings, &outcome)
 }

@@ -1,5 +1,6 @@
 //! Lines on standard error that say what a long run is at.
 
+use std::fmt::Display;
 use std::rt::Clock;
 use std::time::{Duration, Instant};
 
@@ -18,13 +19,11 @@ impl Progress {
     }
 
     /// Names the step that begins, if a second has gone since the last line. A clock that fails is silent.
-    pub fn tell<R: Clock + Eprint>(&mut self, rt: &R, step: &str) {
+    pub fn tell<R: Clock + Eprint, S: Display>(&mut self, rt: &R, step: &S) {
         let Some(since) = self.since else {
             return;
         };
-        let is_due = since
-            .elapsed(rt)
-            .is_ok_and(|passed| passed >= Duration::from_secs(1));
+        let is_due = matches!(since.elapsed(rt), Ok(passed) if passed >= Duration::from_secs(1));
         if is_due {
             let _ = eprintln!(rt; "mdbal_ceph: {step}");
             self.since = Instant::now(rt).ok();
