@@ -140,9 +140,9 @@ fn reads_subtrees(rt: HostRuntime) {
         (b"~mds0", (false, false, None)),
     ];
     same(&rt, &found.len(), &table.len());
-    for (root, (path, told)) in found.as_slice().iter().zip(table.as_slice()) {
-        same(&rt, &root.path.as_slice(), path);
-        same(&rt, &(root.is_here, root.is_spread, root.pin), told);
+    for (root, row) in found.as_slice().iter().zip(table.as_slice()) {
+        let told = (root.is_here, root.is_spread, root.pin);
+        same(&rt, &(root.path.as_slice(), told), row);
     }
 }
 
@@ -152,11 +152,7 @@ fn reads_ranks(rt: HostRuntime) {
     let found = read_cluster(rt.alloc(), text.as_slice()).sure(&rt);
     same(&rt, &found.size, &3);
     same(&rt, &found.ranks.as_slice(), &[0, 2].as_slice());
-    let mask = match &found.mask {
-        Some(mask) => mask.as_str(),
-        None => "none",
-    };
-    same(&rt, &mask, &"0x5");
+    same(&rt, &found.mask.as_deref(), &Some("0x5"));
 }
 
 #[test]

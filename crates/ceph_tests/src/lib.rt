@@ -4,6 +4,8 @@
 #[cfg(test)]
 mod dumps;
 #[cfg(test)]
+mod given;
+#[cfg(test)]
 mod packing;
 #[cfg(test)]
 mod pins;

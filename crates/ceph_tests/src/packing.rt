@@ -1,5 +1,6 @@
 //! Parts that are packed on ranks, and what that comes to.
 
+use crate::given::{by_rank, rank};
 use crate::same::{Sure, same};
 use ceph_packing::{Packing, are_parts, are_pinned, pack};
 use mds_types::{Problem, ProblemRow, Rank, RankSet};
@@ -14,7 +15,7 @@ fn rows_of(rt: &impl Abort, alloc: Global, given: &[(u64, u8)]) -> Vec<ProblemRo
             parent: 0,
             heat: *heat,
             inodes: 1,
-            now: Rank::new(*now).unwrap_or_default(),
+            now: rank(*now),
         })
         .sure(rt);
     }
@@ -29,17 +30,7 @@ fn numbers(rt: &impl Abort, alloc: Global, count: usize) -> Vec<u32> {
     numbers
 }
 
-fn by_rank(rt: &impl Abort, alloc: Global, pinned: &[(usize, u64)]) -> Vec<u64> {
-    let mut by_rank = vec![in alloc; 0u64; 64].sure(rt);
-    for (rank, heat) in pinned {
-        if let Some(place) = by_rank.get_mut(*rank) {
-            *place = *heat;
-        }
-    }
-    by_rank
-}
-
-fn packed(rt: &impl Abort, alloc: Global, given: &[(u64, u8)], pinned: &[(usize, u64)]) -> Packing {
+fn packed(rt: &impl Abort, alloc: Global, given: &[(u64, u8)], pinned: &[u64]) -> Packing {
     let part = numbers(rt, alloc, given.len());
     let by_rank = by_rank(rt, alloc, pinned);
     let ranks = RankSet::from_bits(7);
@@ -53,8 +44,8 @@ fn packed(rt: &impl Abort, alloc: Global, given: &[(u64, u8)], pinned: &[(usize,
     pack(alloc, rows, &part, 64, &by_rank, ranks, 0).sure(rt)
 }
 
-// (heats and present ranks, what is pinned, the ranks, the loads, the greatest, the bound)
-const PACKED: [(&[(u64, u8)], &[(usize, u64)], &[u8], [u64; 3], u64, u64); 4] = [
+// (heats and present ranks, what is pinned to the first ranks, the ranks, the loads, the greatest, the bound)
+const PACKED: [(&[(u64, u8)], &[u64], &[u8], [u64; 3], u64, u64); 4] = [
     (
         &[(0, 0), (7, 0), (6, 0), (5, 0), (4, 0), (3, 0)],
         &[],
@@ -66,18 +57,11 @@ const PACKED: [(&[(u64, u8)], &[(usize, u64)], &[u8], [u64; 3], u64, u64); 4] = 
     // among equals the rank that has most of the part
     (&[(0, 0), (7, 2)], &[], &[0, 2], [0, 0, 7], 7, 7),
     // a part stays where it is while another rank is hotter anyway
-    (
-        &[(3, 0), (5, 0)],
-        &[(1, 100)],
-        &[0, 0],
-        [8, 100, 0],
-        100,
-        100,
-    ),
+    (&[(3, 0), (5, 0)], &[0, 100], &[0, 0], [8, 100, 0], 100, 100),
     // and goes where the least is pinned otherwise
     (
         &[(3, 0), (99, 0)],
-        &[(1, 100)],
+        &[0, 100],
         &[0, 2],
         [3, 100, 99],
         100,

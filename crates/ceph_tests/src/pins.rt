@@ -1,5 +1,6 @@
 //! Pins and changes of pins on small trees.
 
+use crate::given::rank;
 use crate::same::{Sure, same};
 use ceph_pins::{Pin, PinChange, PinRow, are_rows, changes_for, pins_for};
 use mds_types::Rank;
@@ -8,10 +9,6 @@ use std::process::Abort;
 
 // A row's parent, target, foreign pin and resting rank; -1 is none.
 type Given = (u32, u8, i8, i8);
-
-fn rank(number: u8) -> Rank {
-    Rank::new(number).unwrap_or_default()
-}
 
 fn some_rank(number: i8) -> Option<Rank> {
     u8::try_from(number).ok().map(rank)

@@ -1,5 +1,6 @@
 //! Plans and proposals of small trees.
 
+use crate::given::by_rank;
 use crate::same::{Sure, same, same_in};
 use ceph_plan::{OwnPins, PartCount, PlanError, Proposal, choose_plan, propose};
 use mds_types::{ProblemRow, Rank, RankSet};
@@ -21,18 +22,9 @@ fn star(rt: &impl Abort, alloc: Global, heats: &[u64]) -> Vec<ProblemRow> {
     rows
 }
 
-/// What is pinned to each of 64 ranks, of which the first three have this.
-fn held(rt: &impl Abort, alloc: Global, pinned: [u64; 3]) -> Vec<u64> {
-    let mut held = vec![in alloc; 0u64; 64].sure(rt);
-    for (heat, more) in held.iter_mut().zip(pinned) {
-        *heat = more;
-    }
-    held
-}
-
-fn proposed(rt: &impl Abort, alloc: Global, heats: &[u64], pinned: [u64; 3]) -> Proposal {
+fn proposed(rt: &impl Abort, alloc: Global, heats: &[u64], pinned: &[u64]) -> Proposal {
     let rows = star(rt, alloc, heats);
-    let held = held(rt, alloc, pinned);
+    let held = by_rank(rt, alloc, pinned);
     let none = OwnPins {
         foreign: None,
         earlier: None,
@@ -45,14 +37,14 @@ fn proposed(rt: &impl Abort, alloc: Global, heats: &[u64], pinned: [u64; 3]) -> 
 
 #[test]
 fn plans_as_cool_as_can_be(rt: HostRuntime) {
-    // heats, pinned heats, the greatest load, the bound, the inodes that move
-    let table: [(&[u64], [u64; 3], u64, u64, u64); 4] = [
-        (&[0, 6, 5, 4, 3], [0, 0, 0], 7, 6, 20),
+    // heats, those pinned to the first ranks, the greatest load, the bound, the inodes that move
+    let table: [(&[u64], &[u64], u64, u64, u64); 4] = [
+        (&[0, 6, 5, 4, 3], &[], 7, 6, 20),
         // what is pinned counts
-        (&[0, 6, 6], [0, 6, 0], 6, 6, 10),
+        (&[0, 6, 6], &[0, 6], 6, 6, 10),
         // one hot child: the rest is divided all the same
-        (&[0, 90, 20, 20, 20, 20, 20, 20], [0, 60, 60], 120, 110, 50),
-        (&[0], [0, 0, 0], 0, 0, 0),
+        (&[0, 90, 20, 20, 20, 20, 20, 20], &[0, 60, 60], 120, 110, 50),
+        (&[0], &[], 0, 0, 0),
     ];
     for (heats, pinned, greatest, bound, moved) in table {
         let plan = proposed(&rt, rt.alloc(), heats, pinned).plan;
@@ -74,7 +66,7 @@ fn refusal(
     bits: u64,
 ) -> Option<PlanError> {
     let rows = star(rt, alloc, &[1, 2]);
-    let held = held(rt, alloc, [0, 0, 0]);
+    let held = by_rank(rt, alloc, &[]);
     let rows = rows.get(..few).unwrap_or(&rows);
     let held = held.get(..ranks).unwrap_or(&held);
     choose_plan(

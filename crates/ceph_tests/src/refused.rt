@@ -10,7 +10,7 @@ use mds_types::{ProblemRow, Rank, RankSet};
 use std::alloc::{AllocError, AllocFailed, Global};
 
 /// Why there was no answer.
-#[derive(Drop)]
+#[derive(Clone, Copy)]
 enum Refused {
     /// A growth was refused.
     Memory,

@@ -1,15 +1,12 @@
 //! Snapshots from dumps, and what pins hold in them.
 
+use crate::given::rank;
 use crate::same::{Sure, same, same_in};
 use ceph_dumps::{FragmentHeat, ListedDir, SubtreeRoot};
 use ceph_snapshot::{Directory, Gathering, Held, Snapshot, fold, held_heat, holds};
 use mds_types::Rank;
 use std::alloc::Global;
 use std::process::Abort;
-
-fn rank(number: u8) -> Rank {
-    Rank::new(number).unwrap_or_default()
-}
 
 /// Adds heats at a rank.
 fn add_loads(
@@ -96,14 +93,14 @@ fn heat_counts_at_the_rank_with_authority(rt: HostRuntime) {
         (b"/a/x", (200, 1, 1, false)),
     ];
     same(&rt, &snapshot.directories.len(), &table.len());
-    for (found, (path, wanted)) in snapshot.directories.iter().zip(table) {
-        let now = found.now.number();
-        same(&rt, &found.path.as_slice(), &path);
-        same(
-            &rt,
-            &(found.heat, found.inodes, now, found.is_spread),
-            &wanted,
+    for (found, row) in snapshot.directories.iter().zip(table) {
+        let told = (
+            found.heat,
+            found.inodes,
+            found.now.number(),
+            found.is_spread,
         );
+        same(&rt, &(found.path.as_slice(), told), &row);
     }
 }
 
@@ -147,9 +144,9 @@ fn cold_leaves_are_folded(rt: HostRuntime) {
         (b"/d", (9, 1, 0)),
     ];
     same(&rt, &kept.len(), &table.len());
-    for (found, (path, wanted)) in kept.iter().zip(table) {
-        same(&rt, &found.path.as_slice(), &path);
-        same(&rt, &(found.heat, found.inodes, found.parent), &wanted);
+    for (found, row) in kept.iter().zip(table) {
+        let told = (found.heat, found.inodes, found.parent);
+        same(&rt, &(found.path.as_slice(), told), &row);
     }
 }
 

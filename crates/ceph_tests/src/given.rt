@@ -1,0 +1,20 @@
+//! What the tests of several crates are given.
+
+use crate::same::Sure;
+use mds_types::Rank;
+use std::alloc::Global;
+use std::process::Abort;
+
+/// The rank of a number below 64.
+pub(crate) fn rank(number: u8) -> Rank {
+    Rank::new(number).unwrap_or_default()
+}
+
+/// A number for each of 64 ranks, of which the first have these.
+pub(crate) fn by_rank(rt: &impl Abort, alloc: Global, first: &[u64]) -> Vec<u64> {
+    let mut all = vec![in alloc; 0u64; 64].sure(rt);
+    for (place, number) in all.iter_mut().zip(first) {
+        *place = *number;
+    }
+    all
+}
