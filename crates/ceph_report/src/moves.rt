@@ -175,7 +175,7 @@ fn holders(
 ) -> Result<Vec<usize>, AllocError> {
     let mut holders = Vec::with_capacity(alloc, rows.len())?;
     for (at, row) in rows.iter().enumerate() {
-        let is_pinned = pins.get(at).is_some_and(|pin| pin.is_some());
+        let is_pinned = matches!(pins.get(at), Some(Some(_)));
         let above = holders.get(row.parent as usize).copied();
         let holder = match above {
             Some(above) if !is_pinned => above,
@@ -187,7 +187,7 @@ fn holders(
 }
 
 /// Heat, in thousandths, and inodes.
-#[derive(Clone, Copy, Default)]
+#[derive(Clone, Copy)]
 struct Amount {
     inodes: u64,
     heat: u64,
@@ -201,7 +201,8 @@ fn brought(
     rows: &[PinRow],
     holders: &[usize],
 ) -> Result<Vec<Amount>, AllocError> {
-    let mut brought = vec![in alloc; Amount::default(); rows.len()]?;
+    let nothing = Amount { inodes: 0, heat: 0 };
+    let mut brought = vec![in alloc; nothing; rows.len()]?;
     for (at, (directory, hold)) in directories.iter().zip(holds).enumerate() {
         let (Some(row), Some(holder)) = (rows.get(at), holders.get(at)) else {
             continue;

@@ -21,7 +21,7 @@ const HEIGHT: u64 = 18;
 const CHARACTER: u64 = 680;
 
 /// Where a directory's box is.
-#[derive(Clone, Copy, Default)]
+#[derive(Clone, Copy)]
 struct Place {
     /// The heat at and below the directory, in thousandths.
     heat: u64,
@@ -41,12 +41,19 @@ struct Place {
 }
 
 /// What the children of a directory come to that have no box of their own, with all below them.
-#[derive(Clone, Copy, Default)]
+#[derive(Clone, Copy)]
 struct Rest {
     count: u64,
     heat: u64,
     inodes: u64,
 }
+
+/// No such children.
+const NO_REST: Rest = Rest {
+    count: 0,
+    heat: 0,
+    inodes: 0,
+};
 
 /// Adds what is at and below a directory to its parent.
 fn add_below(places: &mut [Place], at: usize, parent: usize) {
@@ -67,8 +74,12 @@ fn sums_below(alloc: Global, directories: &[Directory]) -> Result<Vec<Place>, Al
         places.push(Place {
             heat: directory.heat,
             inodes: directory.inodes,
+            left: 0,
+            width: 0,
+            taken: 0,
+            depth: 0,
             count: 1,
-            ..Place::default()
+            rest: NO_REST,
         })?;
     }
     for (at, directory) in directories.iter().enumerate().rev() {
@@ -171,9 +182,9 @@ fn push_xml(text: &mut TextWriter, alloc: Global, path: &[u8], most: usize) {
 
 /// Adds a label and a number of hundredths.
 fn push_hundredths(text: &mut TextWriter, label: &str, hundredths: u64) {
-    text.number(label, hundredths / 100);
-    text.character('.');
-    text.two_digits(hundredths % 100);
+    let (whole, rest) = (hundredths / 100, hundredths % 100);
+    text.number(label, whole);
+    text.number(if rest < 10 { ".0" } else { "." }, rest);
 }
 
 /// Adds the beginning of a box, up to what it is filled with.

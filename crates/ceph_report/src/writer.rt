@@ -1,4 +1,5 @@
 //! Texts that are made piece by piece. No piece is an error of its own: where memory was refused, `finish` says so.
+ghost use Rattle.std.specs.Prelude.{◌≡◌, IsErr, IsOkAnd, false, true};
 
 use mds_types::Rank;
 use std::alloc::{AllocError, Global};
@@ -33,17 +34,12 @@ impl TextWriter {
     /// Adds a label and a number.
     pub(crate) fn number(&mut self, label: &str, number: u64) {
         self.text(label);
-        self.is_refused |= write!(self.text, "{number}").is_err();
+        self.columns(number, 0);
     }
 
     /// Adds a number at the right of so many columns.
     pub(crate) fn columns(&mut self, number: u64, width: usize) {
         self.is_refused |= write!(self.text, "{number:>width$}").is_err();
-    }
-
-    /// Adds a number of two digits at least.
-    pub(crate) fn two_digits(&mut self, number: u64) {
-        self.is_refused |= write!(self.text, "{number:02}").is_err();
     }
 
     /// Adds a byte as two hexadecimal digits.
@@ -68,7 +64,10 @@ impl TextWriter {
     }
 
     /// The text, unless memory was refused for any piece of it.
-    pub(crate) fn finish(self) -> Result<String, AllocError> {
+    pub(crate) fn finish(self) -> Result<String, AllocError>
+        ensures text { self.is_refused ≡ false → IsOkAnd result (λ text. text ≡ self.text) }
+        ensures refused { self.is_refused ≡ true → IsErr result }
+    {
         if self.is_refused {
             Err(AllocError)
         } else {
@@ -118,7 +117,10 @@ impl BytesWriter {
     }
 
     /// The bytes, unless memory was refused for any of them.
-    pub(crate) fn finish(self) -> Result<Vec<u8>, AllocError> {
+    pub(crate) fn finish(self) -> Result<Vec<u8>, AllocError>
+        ensures bytes { self.is_refused ≡ false → IsOkAnd result (λ bytes. bytes ≡ self.bytes) }
+        ensures refused { self.is_refused ≡ true → IsErr result }
+    {
         if self.is_refused {
             Err(AllocError)
         } else {
