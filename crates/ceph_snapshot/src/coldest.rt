@@ -15,7 +15,7 @@ use crate::gathering::SnapshotError;
 use std::alloc::{AllocError, Global};
 
 /// What a directory goes by. Those with the least go first: the coldest, and of two that are as cold the last.
-#[derive(Clone, Copy, Debug, PartialEq, Eq, PartialOrd, Ord)]
+#[derive(Clone, Copy, PartialEq, Eq, PartialOrd, Ord)]
 struct Key {
     /// The heat at and below it, in thousandths.
     heat: u64,

@@ -3,7 +3,7 @@
 use mds_types::Rank;
 
 /// A directory of a live CephFS, as its dumps show it.
-#[derive(Debug, Drop)]
+#[derive(Drop)]
 pub struct Directory {
     /// Its path: empty for the root, else it begins with a slash.
     pub path: Vec<u8>,

@@ -12,7 +12,7 @@ use std::alloc::{AllocError, AllocFailed, Global};
 use thiserror::Error;
 
 /// Why what was gathered makes no snapshot.
-#[derive(Clone, Copy, Debug, PartialEq, Eq, Error)]
+#[derive(Clone, Copy, Debug, Error)]
 pub enum SnapshotError {
     /// The allocator refused a growth.
     #[error("no memory")]
@@ -36,7 +36,7 @@ impl<T: Drop> From<AllocFailed<T>> for SnapshotError {
 }
 
 /// Heat that a rank has seen at a directory.
-#[derive(Clone, Copy, Debug)]
+#[derive(Clone, Copy)]
 pub(crate) struct Sighting {
     pub directory: u32,
     pub rank: Rank,
@@ -44,7 +44,7 @@ pub(crate) struct Sighting {
 }
 
 /// What is known of a directory while dumps are read.
-#[derive(Debug, Drop)]
+#[derive(Drop)]
 pub(crate) struct Node {
     pub directory: Directory,
     /// The rank that has the subtree whose root it is.

@@ -9,7 +9,7 @@ use mds_types::limits::{HEAT_LIMIT, RANK_LIMIT};
 use std::alloc::Global;
 
 /// The directories of a file system, parents before children.
-#[derive(Debug, Drop)]
+#[derive(Drop)]
 pub struct Snapshot {
     /// The directories.
     pub directories: Vec<Directory>,
