@@ -14,7 +14,7 @@ use mds_types::{Problem, ProblemRow, Rank, RankSet};
 use std::alloc::Global;
 
 /// Into how many parts the directories are divided.
-#[derive(Clone, Copy, Debug, PartialEq, Eq)]
+#[derive(Clone, Copy)]
 pub enum PartCount {
     /// As many as give the coolest plan, or one within 1 % of it that moves less.
     Auto,

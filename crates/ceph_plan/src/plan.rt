@@ -26,7 +26,7 @@ pub struct Planned {
 }
 
 /// How finely rows are divided.
-#[derive(Clone, Copy, Debug)]
+#[derive(Clone, Copy)]
 pub struct Size {
     /// At most so many parts.
     pub parts: u8,

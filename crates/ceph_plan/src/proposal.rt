@@ -15,7 +15,7 @@ use mds_types::{ProblemRow, Rank, RankSet};
 use std::alloc::{AllocError, Global};
 
 /// The pins that a directory has of its own now.
-#[derive(Clone, Copy, Debug, PartialEq, Eq)]
+#[derive(Clone, Copy)]
 pub struct OwnPins {
     /// A pin that is to stay as it is.
     pub foreign: Option<Rank>,
