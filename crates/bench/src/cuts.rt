@@ -6,9 +6,9 @@
 
 mod shape;
 
-use crate::clock::{nanos_since, now};
 use crate::cuts::shape::problem;
-use crate::told::{number_at, tell, tell_numbers, word_at};
+use bench_support::clock::{nanos_since, now};
+use bench_support::told::{number_at, tell, tell_numbers, word_at};
 use mds_types::Problem;
 use minmax_search::search;
 use residual_cut::cut_at;

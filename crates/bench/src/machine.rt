@@ -11,11 +11,11 @@ mod events;
 mod lists;
 mod runs;
 
-use crate::clock::{nanos_since, now};
 use crate::machine::events::print_list;
 use crate::machine::lists::{all_dirs, grown};
 use crate::machine::runs::{RUNS, after, time_list};
-use crate::told::{tell, word_at};
+use bench_support::clock::{nanos_since, now};
+use bench_support::told::{tell, word_at};
 use export_machine::{Cluster, Event};
 use mds_types::{Dir, Dirs, Rank};
 use std::alloc::{AllocError, Global};

@@ -5,14 +5,12 @@
 //! thread's processor, in nanoseconds where nothing else is said, the least of several runs.
 #![tactic(auto)]
 
-mod clock;
 mod cuts;
 mod machine;
 mod paths;
 mod plans;
-mod told;
 
-use crate::told::word_at;
+use bench_support::told::word_at;
 use std::io::{self, Write};
 
 fn main(rt: HostRuntime) -> io::Result<()> {

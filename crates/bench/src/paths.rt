@@ -11,7 +11,7 @@ mod steps;
 use crate::paths::finds::time_map;
 use crate::paths::hits::{open_ledger, time_ledger};
 use crate::paths::steps::keys;
-use crate::told::{number_at, tell, word_at};
+use bench_support::told::{number_at, tell, word_at};
 use mds_types::limits::DIR_LIMIT;
 use std::alloc::Global;
 use std::io::{self, Write};

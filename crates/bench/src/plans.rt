@@ -6,10 +6,10 @@
 mod call;
 mod given;
 
-use crate::clock::{nanos_since, now};
 use crate::plans::call::{Call, costs_of};
 use crate::plans::given::read_problem;
-use crate::told::{tell, word_at};
+use bench_support::clock::{nanos_since, now};
+use bench_support::told::{tell, word_at};
 use mds_types::{Plan, Problem};
 use planner::solve;
 use rank_assign::Costs;

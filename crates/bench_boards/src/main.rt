@@ -5,12 +5,10 @@
 #![tactic(auto)]
 
 mod board;
-mod clock;
 mod opened;
 mod threads;
-mod told;
 
-use crate::told::word_at;
+use bench_support::told::word_at;
 use std::io::{self, Write};
 
 fn main(rt: HostRuntime) -> io::Result<()> {

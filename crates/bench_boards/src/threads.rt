@@ -12,7 +12,7 @@ ghost use Rattle.std.specs.Prelude.{◌≤◌};
 use crate::opened::{Asked, time_named};
 pub use crate::threads::phases::{Phase, time_phase};
 use crate::threads::work::Work;
-use crate::told::{number_at, tell, word_at};
+use bench_support::told::{number_at, tell, word_at};
 use std::alloc::Global;
 use std::io::{self, Write};
 use std::marker::Sync;

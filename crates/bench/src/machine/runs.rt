@@ -1,8 +1,8 @@
 //! Runs of lists of events.
 
-use crate::clock::{nanos_since, now};
 use crate::machine::lists::{before, events_of};
-use crate::told::tell;
+use bench_support::clock::{nanos_since, now};
+use bench_support::told::tell;
 use export_machine::{Cluster, Event, Reply, StepError};
 use std::alloc::{AllocError, Global};
 use std::io::{self, Write};

@@ -1,9 +1,9 @@
 //! Times of the published map. What isn't done right takes for ever.
 ghost use Rattle.std.specs.Prelude.{◌<◌, ◌≡◌, ◌≤◌};
 
-use crate::clock::now;
 use crate::paths::steps::{RUNS, per_step, slowest};
 use authority_map::{Found, MapReader, MapWriter, NewMap, Publisher};
+use bench_support::clock::now;
 use mds_types::limits::DIR_LIMIT;
 use mds_types::{Dir, Rank};
 use naming::Naming;

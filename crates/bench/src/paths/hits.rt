@@ -5,9 +5,9 @@
 //! directory. What isn't done right takes for ever.
 ghost use Rattle.std.specs.Prelude.{◌≡◌, ◌≤◌};
 
-use crate::clock::now;
 use crate::paths::steps::{KEYS, RUNS, keys, per_step, slowest};
-use crate::told::tell;
+use bench_support::clock::now;
+use bench_support::told::tell;
 use heat_ledger::{Book, NewBook, Share};
 use mds_types::Dir;
 use mds_types::limits::DIR_LIMIT;

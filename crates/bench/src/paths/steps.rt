@@ -1,6 +1,6 @@
 //! Times of a step, and the directories that are asked for.
 
-use crate::clock::nanos_since;
+use bench_support::clock::nanos_since;
 use std::alloc::{AllocError, Global};
 use std::time::{CpuClock, Duration};
 

@@ -1,9 +1,9 @@
 //! Orders that are carried out.
 
 use crate::board::trees::grow_star;
-use crate::clock::{nanos_since, now};
 use crate::opened::{NEVER, Times};
 use authority_map::Publisher;
+use bench_support::clock::{nanos_since, now};
 use export_rounds::{Outcome, carry_out_orders};
 use mds_board::Board;
 use mds_types::limits::DIR_LIMIT;

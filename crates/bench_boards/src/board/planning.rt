@@ -2,9 +2,9 @@
 ghost use Rattle.std.specs.Prelude.{◌≡◌};
 
 use crate::board::trees::{grow, heat};
-use crate::clock::{nanos_since, now};
 use crate::opened::{NEVER, Times};
 use authority_map::Publisher;
+use bench_support::clock::{nanos_since, now};
 use board_state::Solver;
 use heat_ledger::Share;
 use mds_board::Board;

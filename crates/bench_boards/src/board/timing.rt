@@ -1,8 +1,8 @@
 //! Ticks, requests and stops.
 
-use crate::clock::{nanos_since, now};
 use crate::opened::{NEVER, Times};
 use authority_map::Publisher;
+use bench_support::clock::{nanos_since, now};
 use export_machine::{Event, Reply};
 use heat_decay::Heat;
 use heat_ledger::Share;
