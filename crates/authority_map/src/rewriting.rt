@@ -7,9 +7,10 @@ ghost use Rattle.std.specs.Prelude.{if◌then◌else◌, false, slice_index, sli
 ghost use Rattle.authority_map.specs.Operations.{names};
 ghost use Rattle.authority_map.specs.Runs.{IsIn, IsIndex, AreStarts, AreRuns, AreBefore, AreMarks, HasCells, HasFirst};
 
-use crate::runs::{BLOCK, run_of};
+use crate::runs::{BLOCK, Runs, run_of};
 use mds_types::Dir;
 use std::alloc::{AllocError, Global};
+use std::mem::swap;
 
 /// Whether each directory is among these.
 fn marks_of(alloc: Global, limit: u32, dirs: &[Dir]) -> Result<Vec<bool>, AllocError>
@@ -56,28 +57,23 @@ fn extend(starts: &mut Vec<u32>, cells: &mut Vec<u8>, limit: u32, dir: u32, cell
     }
 }
 
-// Runs of all directories: those with a mark have this cell, the others that of their run.
-fn rewritten(
-    alloc: Global,
-    starts: &[u32],
-    cells: &[u8],
-    limit: u32,
-    marks: &[bool],
-    cell: u8,
-) -> Result<(Vec<u32>, Vec<u8>), AllocError>
+// Makes the runs of all directories: those with a mark have this cell, the others that of their run.
+fn make_anew(made: &mut Runs, starts: &[u32], cells: &[u8], limit: u32, marks: &[bool], cell: u8)
     requires runs { AreRuns limit starts.now cells.now }
+    requires room { (limit ≤ vec_capacity made.old.starts) × (limit ≤ vec_capacity made.old.cells) }
     requires sized { length marks.now ≡ limit }
     requires small { cell ≤ 64 }
-    ensures runs { IfOk result (λ made. AreRuns limit made.0.items made.1.items) }
-    ensures room { IfOk result (λ made. (limit ≤ vec_capacity made.0) × (limit ≤ vec_capacity made.1)) }
-    ensures cells { IfOk result (λ made. (old : ℕ → ℕ) → HasCells limit starts.now cells.now old 0 0
-        → HasCells limit made.0.items made.1.items
-        (λ d. if slice_index_or marks.now d false then cell else old d) 0 0) }
+    ensures runs { AreRuns limit made.new.starts.items made.new.cells.items }
+    ensures room { (limit ≤ vec_capacity made.new.starts) × (limit ≤ vec_capacity made.new.cells) }
+    ensures cells { (old : ℕ → ℕ) → HasCells limit starts.now cells.now old 0 0
+        → HasCells limit made.new.starts.items made.new.cells.items
+        (λ d. if slice_index_or marks.now d false then cell else old d) 0 0 }
 {
-    let mut new_starts = Vec::with_capacity(alloc, limit as usize)?;
-    let mut new_cells = Vec::with_capacity(alloc, limit as usize)?;
-    new_starts.push_reserved(0);
-    new_cells.push_reserved(if marks[0] { cell } else { cells[0] });
+    made.starts.clear();
+    made.cells.clear();
+    made.starts.push_reserved(0);
+    made.cells
+        .push_reserved(if marks[0] { cell } else { cells[0] });
     let mut run = 0;
     for dir in 1..limit {
         run = run_after(starts, run, dir);
@@ -86,9 +82,8 @@ fn rewritten(
         } else {
             cells[run]
         };
-        extend(&mut new_starts, &mut new_cells, limit, dir, now);
+        extend(&mut made.starts, &mut made.cells, limit, dir, now);
     }
-    Ok((new_starts, new_cells))
 }
 
 // The index of these runs, in place of that of others.
@@ -105,31 +100,34 @@ fn index_again(starts: &[u32], index: &mut Vec<u32>, limit: u32)
     }
 }
 
-/// Writes the cell of each of these directories in one pass over all, or refuses and has changed nothing.
+/// Writes the cell of each of these directories in one pass over all, or refuses and has changed nothing. The runs are
+/// made in the spare room, and what they were made from is the spare room then.
 pub(crate) fn rewrite_all(
-    starts: &mut Vec<u32>,
-    cells: &mut Vec<u8>,
+    runs: &mut Runs,
+    spare: &mut Runs,
     index: &mut Vec<u32>,
     limit: u32,
     dirs: &[Dir],
     cell: u8,
 ) -> Result<(), AllocError>
-    requires runs { AreRuns limit starts.old.items cells.old.items }
-    requires index { IsIndex limit starts.old.items index.old.items }
+    requires runs { AreRuns limit runs.old.starts.items runs.old.cells.items }
+    requires index { IsIndex limit runs.old.starts.items index.old.items }
+    requires room { (limit ≤ vec_capacity runs.old.starts) × (limit ≤ vec_capacity runs.old.cells) }
+    requires spare { (limit ≤ vec_capacity spare.old.starts) × (limit ≤ vec_capacity spare.old.cells) }
     requires inside { All (λ dir. dir < limit) dirs.now }
     requires small { cell ≤ 64 }
-    ensures runs { OnOk result (AreRuns limit starts.new.items cells.new.items) }
-    ensures index { OnOk result (IsIndex limit starts.new.items index.new.items) }
-    ensures room { OnOk result ((limit ≤ vec_capacity starts.new) × (limit ≤ vec_capacity cells.new)) }
-    ensures cells { OnOk result ((old : ℕ → ℕ) → HasCells limit starts.old.items cells.old.items old 0 0
-        → HasCells limit starts.new.items cells.new.items (λ d. if names dirs.now d then cell else old d) 0 0) }
-    ensures unchanged { OnErr result ((starts.new ≡ starts.old) × (cells.new ≡ cells.old) × (index.new ≡ index.old)) }
+    ensures runs { OnOk result (AreRuns limit runs.new.starts.items runs.new.cells.items) }
+    ensures index { OnOk result (IsIndex limit runs.new.starts.items index.new.items) }
+    ensures room { (limit ≤ vec_capacity runs.new.starts) × (limit ≤ vec_capacity runs.new.cells) }
+    ensures spare { (limit ≤ vec_capacity spare.new.starts) × (limit ≤ vec_capacity spare.new.cells) }
+    ensures cells { OnOk result ((old : ℕ → ℕ) → HasCells limit runs.old.starts.items runs.old.cells.items old 0 0
+        → HasCells limit runs.new.starts.items runs.new.cells.items (λ d. if names dirs.now d then cell else old d) 0 0) }
+    ensures unchanged { OnErr result ((runs.new ≡ runs.old) × (index.new ≡ index.old)) }
 {
-    let alloc = *starts.allocator();
+    let alloc = *runs.starts.allocator();
     let marks = marks_of(alloc, limit, dirs)?;
-    let (new_starts, new_cells) = rewritten(alloc, starts, cells, limit, &marks, cell)?;
-    index_again(&new_starts, index, limit);
-    *starts = new_starts;
-    *cells = new_cells;
+    make_anew(spare, &runs.starts, &runs.cells, limit, &marks, cell);
+    index_again(&spare.starts, index, limit);
+    swap(runs, spare);
     Ok(())
 }

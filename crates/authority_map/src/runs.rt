@@ -7,13 +7,35 @@
 //! with neighbours that have the same cell. Where the directory is the first of several and the run
 //! before has the wanted cell, or the last of several and the run after has it, the border of the two
 //! runs moves by one instead, and no run comes or goes. There are never more runs than directories.
-ghost use Rattle.std.specs.Prelude.{◌≡◌, ◌≢◌, ◌↔◌, ℕ, ◌+◌, ◌-◌, ◌^◌, ◌==◌, ◌<◌, ◌≤◌, All, IsTrue, List, length};
+ghost use Rattle.std.specs.Prelude.{◌≡◌, ◌≢◌, ◌↔◌, [], IfOk, ℕ, ◌+◌, ◌-◌, ◌^◌, ◌==◌, ◌<◌, ◌≤◌, All, IsTrue, List, length};
 ghost use Rattle.std.specs.Prelude.{slice_index, if◌then◌else◌, vec_capacity};
 ghost use Rattle.authority_map.specs.Operations.{names};
 ghost use Rattle.authority_map.specs.Runs.{IsIn, IsAmong, IsIndex, IsOneMore, AreStarts, AreRuns, StartsAt, HasCells};
 
 use crate::rewriting::rewrite_all;
 use mds_types::Dir;
+use std::alloc::{AllocError, Global};
+
+/// Runs, or room for them.
+#[derive(Drop)]
+pub struct Runs {
+    // The first directory of each run.
+    pub(crate) starts: Vec<u32>,
+    // What its directories have: 0 for no rank, or the rank and one.
+    pub(crate) cells: Vec<u8>,
+}
+
+impl Runs {
+    /// Room for a run for each directory.
+    pub(crate) fn new(alloc: Global, limit: u32) -> Result<Runs, AllocError>
+        ensures room { IfOk result (λ runs. (limit ≤ vec_capacity runs.starts) × (limit ≤ vec_capacity runs.cells)) }
+        ensures none { IfOk result (λ runs. (runs.starts.items ≡ []) × (runs.cells.items ≡ [])) }
+    {
+        let starts = Vec::with_capacity(alloc, limit as usize)?;
+        let cells = Vec::with_capacity(alloc, limit as usize)?;
+        Ok(Runs { starts, cells })
+    }
+}
 
 /// How many directories a block has.
 pub(crate) const BLOCK: usize = 256;
@@ -308,30 +330,39 @@ pub(crate) fn write(
 /// Writes the cell of each of these directories: in one pass over all directories where that is less work and there is
 /// memory for it, else one after the other.
 pub(crate) fn write_all(
-    starts: &mut Vec<u32>,
-    cells: &mut Vec<u8>,
+    runs: &mut Runs,
+    spare: &mut Runs,
     index: &mut Vec<u32>,
     limit: u32,
     dirs: &[Dir],
     cell: u8,
 )
-    requires runs { AreRuns limit starts.old.items cells.old.items }
-    requires index { IsIndex limit starts.old.items index.old.items }
-    requires room { (limit ≤ vec_capacity starts.old) × (limit ≤ vec_capacity cells.old) }
+    requires runs { AreRuns limit runs.old.starts.items runs.old.cells.items }
+    requires index { IsIndex limit runs.old.starts.items index.old.items }
+    requires room { (limit ≤ vec_capacity runs.old.starts) × (limit ≤ vec_capacity runs.old.cells) }
+    requires spare { (limit ≤ vec_capacity spare.old.starts) × (limit ≤ vec_capacity spare.old.cells) }
     requires inside { All (λ dir. dir < limit) dirs.now }
     requires small { cell ≤ 64 }
-    ensures runs { AreRuns limit starts.new.items cells.new.items }
-    ensures index { IsIndex limit starts.new.items index.new.items }
-    ensures room { (limit ≤ vec_capacity starts.new) × (limit ≤ vec_capacity cells.new) }
-    ensures cells { (old : ℕ → ℕ) → HasCells limit starts.old.items cells.old.items old 0 0
-        → HasCells limit starts.new.items cells.new.items (λ d. if names dirs.now d then cell else old d) 0 0 }
+    ensures runs { AreRuns limit runs.new.starts.items runs.new.cells.items }
+    ensures index { IsIndex limit runs.new.starts.items index.new.items }
+    ensures room { (limit ≤ vec_capacity runs.new.starts) × (limit ≤ vec_capacity runs.new.cells) }
+    ensures spare { (limit ≤ vec_capacity spare.new.starts) × (limit ≤ vec_capacity spare.new.cells) }
+    ensures cells { (old : ℕ → ℕ) → HasCells limit runs.old.starts.items runs.old.cells.items old 0 0
+        → HasCells limit runs.new.starts.items runs.new.cells.items (λ d. if names dirs.now d then cell else old d) 0 0 }
 {
     // a directory that is written alone moves about half of the runs, many at a time
-    let moved = dirs.len().saturating_mul(starts.len()) / MOVED_IN_A_STEP;
-    if moved >= limit as usize && rewrite_all(starts, cells, index, limit, dirs, cell).is_ok() {
+    let moved = dirs.len().saturating_mul(runs.starts.len()) / MOVED_IN_A_STEP;
+    if moved >= limit as usize && rewrite_all(runs, spare, index, limit, dirs, cell).is_ok() {
         return;
     }
     for dir in dirs {
-        write(starts, cells, index, limit, dir.number(), cell);
+        write(
+            &mut runs.starts,
+            &mut runs.cells,
+            index,
+            limit,
+            dir.number(),
+            cell,
+        );
     }
 }

@@ -7,7 +7,7 @@ ghost use Rattle.authority_map.specs.Runs.{IsIndex};
 use crate::history::LogPrefix;
 use crate::operation::{MapOperation, OperationKind};
 use crate::queue::Logged;
-use crate::runs::{BLOCK, indexed_run_of, write, write_all};
+use crate::runs::{BLOCK, Runs, indexed_run_of, write, write_all};
 use left_right::Absorb;
 use mds_types::{Dir, Rank};
 use naming::Naming;
@@ -16,16 +16,16 @@ use std::alloc::{AllocError, Global};
 #[derive(Drop)]
 pub struct Table<J: Naming> {
     limit: u32,
-    // The first directory of each run.
-    starts: Vec<u32>,
-    // What its directories have: 0 for no rank, or the rank and one.
-    cells: Vec<u8>,
+    runs: Runs,
+    // Room in which runs are made anew. What stands there doesn't matter.
+    spare: Runs,
     // The run of each block's first directory.
     index: Vec<u32>,
     pub prefix: LogPrefix<J>,
-    ghost kept: { AreCells limit starts.items cells.items prefix },
-    ghost indexed: { IsIndex limit starts.items index.items },
-    ghost room: { (limit ≤ vec_capacity starts) × (limit ≤ vec_capacity cells) },
+    ghost kept: { AreCells limit runs.starts.items runs.cells.items prefix },
+    ghost indexed: { IsIndex limit runs.starts.items index.items },
+    ghost room: { (limit ≤ vec_capacity runs.starts) × (limit ≤ vec_capacity runs.cells) },
+    ghost spared: { (limit ≤ vec_capacity spare.starts) × (limit ≤ vec_capacity spare.cells) },
     ghost sized: { limit ≡ J.limit },
 }
 
@@ -43,15 +43,15 @@ impl<J: Naming> Table<J> {
         requires limit { (limit ≡ J.limit) × (1 ≤ limit) }
         ensures { IfOk result (λ t. t.prefix ≡ []) }
     {
-        let mut starts = Vec::with_capacity(alloc, limit as usize)?;
-        let mut cells = Vec::with_capacity(alloc, limit as usize)?;
+        let mut runs = Runs::new(alloc, limit)?;
+        let spare = Runs::new(alloc, limit)?;
         let index = vec![in alloc; 0u32; limit as usize / BLOCK + 2]?;
-        starts.push_reserved(0);
-        cells.push_reserved(0);
+        runs.starts.push_reserved(0);
+        runs.cells.push_reserved(0);
         Ok(Table {
             limit,
-            starts,
-            cells,
+            runs,
+            spare,
             index,
             prefix,
         })
@@ -63,7 +63,8 @@ impl<J: Naming> Table<J> {
         if dir.number() >= self.limit {
             return None;
         }
-        let cell = self.cells[indexed_run_of(&self.starts, &self.index, self.limit, dir.number())];
+        let run = indexed_run_of(&self.runs.starts, &self.index, self.limit, dir.number());
+        let cell = self.runs.cells[run];
         if cell == 0 { None } else { Rank::new(cell - 1) }
     }
 }
@@ -86,8 +87,8 @@ impl<J: Naming> Absorb<Logged<J>> for Table<J> {
                     return Err(AllocError);
                 }
                 write_all(
-                    &mut self.starts,
-                    &mut self.cells,
+                    &mut self.runs,
+                    &mut self.spare,
                     &mut self.index,
                     self.limit,
                     dirs.as_slice(),
@@ -101,8 +102,8 @@ impl<J: Naming> Absorb<Logged<J>> for Table<J> {
                     return Err(AllocError);
                 }
                 write(
-                    &mut self.starts,
-                    &mut self.cells,
+                    &mut self.runs.starts,
+                    &mut self.runs.cells,
                     &mut self.index,
                     self.limit,
                     dir.number(),

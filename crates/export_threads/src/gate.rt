@@ -3,7 +3,7 @@
 use mds_types::Rank;
 
 /// Is told of each request of a rank, by its number in the rank's script: before its hits, and after its end. In a
-/// phase of exports it is told of each turn of a rank, by its round. No lock is held then.
+/// phase of exports it is told of each turn of a rank, by its round. The board is not locked then.
 pub trait Gate {
     /// A request was asked for, and has counted no hit; or a turn begins.
     fn before(&self, rank: Rank, number: usize);

@@ -35,8 +35,8 @@ loop-dir-preserved c =
       c.write.ensures.runs,
       c.write.ensures.room.0,
       c.write.ensures.room.1,
-      λ old has. next_written c.args.limit c.loop-dir.starts.items c.loop-dir.cells.items c.write.new.starts.items c.write.new.cells.items dirs (drop (i + 1) dirs) c.number.result c.args.cell old
-          (subst (λ (l : List ℕ). IsWritten c.args.limit c.loop-dir.starts.items c.loop-dir.cells.items dirs l c.args.cell old) cut (c.loop-dir.invariant.3 old has)) c.write.ensures.cells,
+      λ old has. next_written c.args.limit c.loop-dir.runs.starts.items c.loop-dir.runs.cells.items c.write.new.starts.items c.write.new.cells.items dirs (drop (i + 1) dirs) c.number.result c.args.cell old
+          (subst (λ (l : List ℕ). IsWritten c.args.limit c.loop-dir.runs.starts.items c.loop-dir.runs.cells.items dirs l c.args.cell old) cut (c.loop-dir.invariant.3 old has)) c.write.ensures.cells,
       c.write.ensures.index,
     )
 
@@ -44,5 +44,5 @@ pub returns-clause-cells : goal.returns-clause-cells
 returns-clause-cells c old has =
     let dirs = c.args.dirs.now in
     let none : drop c.loop-dir.dir-index dirs ≡ [] = drop_all c.loop-dir.dir-index dirs c.loop-dir-test.false in
-    let done = subst (λ (l : List ℕ). IsWritten c.args.limit c.loop-dir.starts.items c.loop-dir.cells.items dirs l c.args.cell old) none (c.loop-dir.invariant.3 old has) in
-    same_cells c.args.limit c.loop-dir.starts.items c.loop-dir.cells.items done.now (λ d. if names dirs d then c.args.cell else old d) 0 0 done.has done.rest
+    let done = subst (λ (l : List ℕ). IsWritten c.args.limit c.loop-dir.runs.starts.items c.loop-dir.runs.cells.items dirs l c.args.cell old) none (c.loop-dir.invariant.3 old has) in
+    same_cells c.args.limit c.loop-dir.runs.starts.items c.loop-dir.runs.cells.items done.now (λ d. if names dirs d then c.args.cell else old d) 0 0 done.has done.rest

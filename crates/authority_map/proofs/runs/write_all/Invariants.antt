@@ -11,8 +11,8 @@ pub record IsWritten (limit : ℕ) (starts cells dirs left : List ℕ) (cell : �
 
 abbrev pub invariant-loop-dir : goal.invariant-loop-dir
 invariant-loop-dir l =
-    AreRuns l.limit l.starts.items l.cells.items
-    × (l.limit ≤ vec_capacity l.starts)
-    × (l.limit ≤ vec_capacity l.cells)
-    × ((old : ℕ → ℕ) → HasCells l.limit l.fn.starts.items l.fn.cells.items old 0 0 → IsWritten l.limit l.starts.items l.cells.items l.dirs (drop l.dir-index l.dirs) l.cell old)
-    × IsIndex l.limit l.starts.items l.index.items
+    AreRuns l.limit l.runs.starts.items l.runs.cells.items
+    × (l.limit ≤ vec_capacity l.runs.starts)
+    × (l.limit ≤ vec_capacity l.runs.cells)
+    × ((old : ℕ → ℕ) → HasCells l.limit l.fn.runs.starts.items l.fn.runs.cells.items old 0 0 → IsWritten l.limit l.runs.starts.items l.runs.cells.items l.dirs (drop l.dir-index l.dirs) l.cell old)
+    × IsIndex l.limit l.runs.starts.items l.index.items

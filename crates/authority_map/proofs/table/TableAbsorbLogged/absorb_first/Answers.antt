@@ -13,8 +13,8 @@ invariant_of-self-clause-kept g c =
     let front : c.copied.result ≡ t.prefix ++ c.entry.inside.operation ∷ [] = got ∙ c.entry.invariant ∙ ap (λ (l : List Operation). l ++ c.entry.inside.operation ∷ []) here in
     let below : All (λ d. d < t.limit) c.in-Set.dirs.items = search rules in
     let written = c.write_all.ensures.cells (λ d. cell_of (rank_after t.prefix d)) t.kept.held in
-    let new : HasCells t.limit c.write_all.new.starts.items c.write_all.new.cells.items (λ d. if names c.in-Set.dirs.items d then c.in-Set.rank + 1 else cell_of (rank_after t.prefix d)) 0 0 = rw (← c.as_slice-in-Set.ensures.value, ← c.number.ensures.value) written in
-    rw (front, ← c.entry-inside.view_is, c.in-Set.is) (cells_set t.limit c.write_all.new.starts.items c.write_all.new.cells.items c.in-Set.dirs.items c.in-Set.rank t.prefix c.write_all.ensures.runs below new t.kept.past)
+    let new : HasCells t.limit c.write_all.new.runs.starts.items c.write_all.new.runs.cells.items (λ d. if names c.in-Set.dirs.items d then c.in-Set.rank + 1 else cell_of (rank_after t.prefix d)) 0 0 = rw (← c.as_slice-in-Set.ensures.value, ← c.number.ensures.value) written in
+    rw (front, ← c.entry-inside.view_is, c.in-Set.is) (cells_set t.limit c.write_all.new.runs.starts.items c.write_all.new.runs.cells.items c.in-Set.dirs.items c.in-Set.rank t.prefix c.write_all.ensures.runs below new t.kept.past)
 
 pub invariant_of-self-in-Clear-clause-kept : goal.invariant_of-self-in-Clear-clause-kept
 invariant_of-self-in-Clear-clause-kept g c =
