@@ -1,7 +1,9 @@
 pub mod RowLemmas
 pub mod Padding
 pub mod Placing
+pub mod CountsLemmas
 pub mod Marks
+pub mod Joins
 pub mod Listed
 pub mod Totals
 pub mod Moves

@@ -1,5 +1,5 @@
 -- The directories that have a count, as a list of rows.
-use Rattle.std.proofs.Common.{◌≡◌, ◌≢◌, ℕ, zero, suc, ◌+◌, ◌-◌, ◌<◌, ◌≤◌, ◌==◌, Bool, true, cond, List, [], ◌∷◌, ◌++◌, map, filter, fold, nat_lt, set, length, get_or, refl, sym, ap, ◌∙◌, arith, subst, append_assoc}
+use Rattle.std.proofs.Common.{◌≡◌, ◌≢◌, ℕ, zero, suc, ◌+◌, ◌-◌, ◌<◌, ◌≤◌, ◌==◌, Bool, true, cond, List, [], ◌∷◌, ◌++◌, map, filter, fold, nat_lt, set, length, refl, sym, ap, ◌∙◌, arith, subst, append_assoc}
 use Rattle.std.proofs.lemmas.List.{set_at, get_or_at, length_push}
 use Rattle.std.proofs.lemmas.List.Recursion.{is_count_by}
 use Rattle.std.proofs.lemmas.List.Sorted.{sum_by-IsPermutation}
@@ -8,7 +8,7 @@ use Rattle.std.proofs.lemmas.Bool.Decides.{nat_tests}
 use native.Mathlib.Decide.{ℕ_discrete}
 use Rattle.heat_ledger.specs.Rows.{at, sums, numbered, counted_rows, with_row}
 use Rattle.heat_ledger.specs.Touched.{times, mark, IsTracked}
-use Rattle.heat_ledger.proofs.Marks.{times_same, times_other, times_more, times_at, times_none, tracked_once}
+use Rattle.heat_ledger.proofs.Marks.{times_same, times_other, times_more, times_at, tracked_once}
 
 -- they rise, from this number on
 abbrev pub RisesFrom : ℕ → List ℕ → Type 0

@@ -1,5 +1,5 @@
 -- Counts at places.
-use Rattle.std.proofs.Common.{◌≡◌, ◌≢◌, ℕ, zero, suc, ◌+◌, ◌-◌, ◌<◌, ◌≤◌, List, [], ◌∷◌, ◌++◌, map, set, length, replicate, refl, sym, ap, ◌∙◌, arith, subst, length-set}
+use Rattle.std.proofs.Common.{◌≡◌, ◌≢◌, ℕ, zero, suc, ◌+◌, ◌<◌, ◌≤◌, List, [], ◌∷◌, ◌++◌, set, length, refl, sym, ap, ◌∙◌, arith, subst, length-set}
 use Rattle.std.proofs.lemmas.List.{length_push}
 use native.Mathlib.Decide.{ℕ_discrete}
 use Rattle.heat_ledger.specs.Rows.{at, padded, raised_by}
@@ -157,3 +157,22 @@ added_view n old places reached kept given d place x more p q few within inside 
   where
     here : at (set kept place (x + more)) (at given d) ≡ at (padded n (counts_at old places)) d + more
     here = written_same kept given d place (x + more) q is ∙ ap (λ (y : ℕ). y + more) (had ∙ ap (at kept) is ∙ sym (given_count n old places reached kept given d p same still))
+
+-- the same of a column to which a count of 0 was added
+pub column_placed : (kept now ps : List ℕ) (d n : ℕ) → IsPlaced kept ps → d < length ps → at ps d ≡ 0 → n ≡ length kept → kept ++ 0 ∷ [] ≡ now → IsPlaced now (set ps d n)
+column_placed kept now ps d n p inside without is more = subst (λ (l : List ℕ). IsPlaced l (set ps d n)) more (placed_next kept ps d n p inside without is)
+
+pub column_same : (kept now ps : List ℕ) (d n e : ℕ) → IsPlaced kept ps → d < length ps → at ps d ≡ 0 → n ≡ length kept → kept ++ 0 ∷ [] ≡ now → at now (at (set ps d n) e) ≡ at kept (at ps e)
+column_same kept now ps d n e p inside without is more = subst (λ (l : List ℕ). at l (at (set ps d n) e) ≡ at kept (at ps e)) more (next_same kept ps d n e p inside without is (ℕ_discrete e d))
+
+-- no directory's count changes with its place
+pub same_view : (n : ℕ) (old places kept given : List ℕ) → IsPlaced old places → IsPlaced kept given → length places ≤ n → length given ≤ n → ((d : ℕ) → at kept (at given d) ≡ at old (at places d))
+    → padded n (counts_at kept given) ≡ padded n (counts_at old places)
+same_view n old places kept given p q few within still =
+    same_rows (padded n (counts_at kept given)) (padded n (counts_at old places)) (length_view n kept given within ∙ sym (length_view n old places few)) (λ d. at_view n kept given d q ∙ still d ∙ sym (at_view n old places d p))
+
+-- a directory gets so many more at the place that it has now
+pub more_view : (n : ℕ) (old places kept given : List ℕ) (d place x more : ℕ) → IsPlaced old places → IsPlaced kept given → length places ≤ n → length given ≤ n → d < n
+    → ((e : ℕ) → at kept (at given e) ≡ at old (at places e)) → place ≡ at given d → 1 ≤ place → x ≡ at kept place
+    → padded n (counts_at (set kept place (x + more)) given) ≡ raised_by (padded n (counts_at old places)) d more
+more_view n old places kept given d place x more p q few within inside still is some had = added_view n old places places kept given d place x more p q few within inside (λ e. refl) still is some had

@@ -1,6 +1,7 @@
 pub mod Rows
 pub mod Touched
 pub mod Placed
+pub mod Counts
 pub mod Tally
 pub mod Ledger
 pub mod Opening

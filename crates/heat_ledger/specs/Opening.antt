@@ -3,6 +3,7 @@ use Rattle.std.specs.Prelude.{◌≡◌, ℕ, replicate}
 use Rattle.std.specs.Arc.{arc_value}
 use Rattle.atomic_table.specs.Seated.{TableId}
 use Rattle.heat_ledger.specs.declared.opening.UnopenedShare.{UnopenedShare}
+use Rattle.heat_ledger.specs.Counts.{no_counts}
 use Rattle.heat_ledger.specs.Ledger.{ShareData}
 
 -- a share as it is opened, which has counted nothing
@@ -14,9 +15,7 @@ fresh_share limit = record {
   begun = replicate limit 0;
 }
 
--- rows for a share of this table, without counts
+-- what a share of this table will need, without counts
 pub record IsUnopened (tokens : TableId) (limit : ℕ) (unopened : UnopenedShare) : Type 0 where
   pub of_table : (arc_value unopened.tokens).shared.table_id ≡ tokens
-  pub hits : unopened.hits ≡ replicate limit 0
-  pub pending : unopened.pending ≡ replicate limit 0
-  pub begun : unopened.begun ≡ replicate limit 0
+  pub none : unopened.counts ≡ no_counts limit

@@ -5,7 +5,7 @@ ghost use Rattle.heat_ledger.specs.Tally.{most, share_state, after_issue};
 ghost use Rattle.heat_ledger.specs.Ledger.{IsTokenOf, laid_out};
 ghost use Rattle.heat_ledger.specs.Gathering.{IsAudited};
 
-use crate::row::Row;
+use crate::counts::Counts;
 use crate::share::Share;
 use crate::tally::{Amount, SharedTable, Token, issue, learn, take_back};
 use naming::Naming;
@@ -16,9 +16,7 @@ fn give<K: Amount>(
     tokens: &SharedTable,
     authority: &mut Token,
     _weight: u8,
-    _hits: &Row,
-    _pending: &Row,
-    _begun: &Row,
+    _counts: &Counts,
 ) -> Token
     requires table { (tokens.now.table_id.words ≡ 1) × (authority.old.table_id ≡ tokens.now.table_id) }
     requires authority { authority.old.me.0.has_totals ≡ true }
@@ -34,31 +32,24 @@ fn give<K: Amount>(
 }
 
 // Gives a share of these counts its token again.
-fn give_back(
-    tokens: &SharedTable,
-    authority: &mut Token,
-    weight: u8,
-    hits: &Row,
-    pending: &Row,
-    begun: &Row,
-) -> Token
+fn give_back(tokens: &SharedTable, authority: &mut Token, weight: u8, counts: &Counts) -> Token
     requires table { (tokens.now.table_id.words ≡ 1) × (authority.old.table_id ≡ tokens.now.table_id) }
     requires authority { authority.old.me.0.has_totals ≡ true }
     requires parts { weight ≤ authority.old.me.0.parts }
-    requires amounts { (k : ℕ) → at (laid_out hits.now pending.now begun.now) k ≤ at authority.old.me.0.amounts k }
-    requires backed { (k : ℕ) → at (laid_out hits.now pending.now begun.now) k ≤ weight * most }
+    requires amounts { (k : ℕ) → at (laid_out counts.now.hits counts.now.pending counts.now.begun) k ≤ at authority.old.me.0.amounts k }
+    requires backed { (k : ℕ) → at (laid_out counts.now.hits counts.now.pending counts.now.begun) k ≤ weight * most }
     requires rest { (k : ℕ) → at authority.old.me.0.amounts k
-        ≤ (authority.old.me.0.parts - weight) * most + at (laid_out hits.now pending.now begun.now) k }
+        ≤ (authority.old.me.0.parts - weight) * most + at (laid_out counts.now.hits counts.now.pending counts.now.begun) k }
     ensures table { (authority.new.table_id ≡ authority.old.table_id) × (result.table_id ≡ authority.old.table_id) }
     ensures none_out { (authority.new.me.1 ≡ authority.old.me.1) × (result.me.1 ≡ []) }
     ensures authority { (authority.new.me.0.has_totals ≡ true)
         × (authority.new.me.0.parts + weight ≡ authority.old.me.0.parts) }
-    ensures amounts { (k : ℕ) → at authority.new.me.0.amounts k + at (laid_out hits.now pending.now begun.now) k
+    ensures amounts { (k : ℕ) → at authority.new.me.0.amounts k + at (laid_out counts.now.hits counts.now.pending counts.now.begun) k
         ≡ at authority.old.me.0.amounts k }
     ensures totals { (k : ℕ) → at authority.new.me.0.totals k ≡ at authority.old.me.0.totals k }
-    ensures token { result.me.0 ≡ share_state weight (laid_out hits.now pending.now begun.now) }
+    ensures token { result.me.0 ≡ share_state weight (laid_out counts.now.hits counts.now.pending counts.now.begun) }
 {
-    give::<Brand>(tokens, authority, weight, hits, pending, begun)
+    give::<Brand>(tokens, authority, weight, counts)
 }
 
 /// Takes the shares' tokens to the authority's, learns what they have together, and gives each back.
@@ -83,21 +74,17 @@ pub(crate) fn audit_all<J: Naming>(
         tokens: own,
         token,
         weight,
-        hits,
-        pending,
-        begun,
+        counts,
         of,
     } = share;
     take_back(tokens, authority, token);
     audit_all::<J>(tokens, authority, shares);
-    let token = give_back(tokens, authority, weight, &hits, &pending, &begun);
+    let token = give_back(tokens, authority, weight, &counts);
     shares.push_reserved(Share {
         tokens: own,
         token,
         weight,
-        hits,
-        pending,
-        begun,
+        counts,
         of,
     });
 }

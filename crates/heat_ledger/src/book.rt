@@ -2,10 +2,10 @@
 
 use crate::auditing::audit_all;
 use crate::closing::{gather, missing, none_left};
+use crate::counts::Counts;
 use crate::missing::Missing;
 use crate::new_book::NewBook;
 use crate::opening::{Room, lay_out, open_shares};
-use crate::row::Row;
 use crate::share::Share;
 use crate::tally::{Token, TokenTable, grant, issue, learn, reissue};
 use mds_types::Dir;
@@ -141,13 +141,13 @@ impl<J: Naming> Book<J> {
         ensures book { self.new ≡ record self.old { counted = sums self.old.counted share.old.pending } }
         ensures share { share.new ≡ record share.old { pending = replicate J.limit 0 } }
     {
-        reissue::<Brand, Row>(
+        reissue::<Brand, Counts>(
             &self.tokens.shared,
             &mut self.token,
             &mut share.token,
-            &share.pending,
+            &share.counts,
         );
-        share.pending.move_into(&mut self.counted);
+        share.counts.settle(&mut self.counted);
     }
 
     /// Counts a request that begins.
@@ -160,7 +160,7 @@ impl<J: Naming> Book<J> {
         reissue::<Brand, Dir>(&self.tokens.shared, &mut self.token, &mut share.token, &dir);
         let row = dir.number() as usize;
         self.begun[row] += 1;
-        share.begun.raise(dir);
+        share.counts.raise_begun(dir, 1);
     }
 
     /// The totals of a book and all its shares, at any time until the book is closed. Nothing

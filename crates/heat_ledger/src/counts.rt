@@ -1,123 +1,250 @@
-//! A count for each directory below a limit, of which those alone are kept that were counted at some time.
+//! What a share counts, by directory.
 //!
-//! All memory is asked for at the beginning, and written as it is needed: four bytes for each directory up to the last
-//! one that was counted, and eight for each one that was.
-ghost use Rattle.std.specs.Prelude.{◌≡◌, ℕ, ◌<◌, ◌≤◌, ◌^◌, length, vec_capacity};
-ghost use Rattle.heat_ledger.specs.Rows.{at};
-ghost use Rattle.heat_ledger.specs.Placed.{IsPlaced, placed};
+//! A directory gets a place at its first count, one for all three counts. What is done with all counts takes time for
+//! the directories that were counted, and not for all that there could be.
+ghost use Rattle.std.specs.Prelude.{◌≡◌, ℕ, ◌+◌, ◌^◌, ◌<◌, ◌≤◌, IfOk, List, length, map, slice_set, vec_capacity, vec_len};
+ghost use Rattle.heat_ledger.specs.Rows.{at, padded, IsZero};
+ghost use Rattle.heat_ledger.specs.Placed.{IsPlaced, counts_at};
+ghost use Rattle.heat_ledger.specs.Touched.{IsTracked};
 
+use crate::places::{Columns, count_at, place_of, take_count};
+use mds_types::Dir;
 use std::alloc::{AllocError, Global};
 use std::marker::Model;
 
-/// A count for each directory below a limit. A contract sees the list of the counts.
+/// The hits, the pending hits and the begun requests of each directory below a limit.
 #[derive(Drop)]
 pub(crate) struct Counts {
     limit: u32,
-    // The place of each directory's count, up to the last directory that was counted, or not as far. 0 stands for none.
+    // The place of each directory's counts, up to the last directory that was counted, or not as far. 0 stands for none.
     places: Vec<u32>,
-    // 0, and then the counts, in the order in which their directories were first counted.
-    kept: Vec<u64>,
+    columns: Columns,
+    // The directories that have pending hits, in the order of their first ones.
+    unsettled: Vec<u32>,
 }
 
 impl Model for Counts {
-    ghost use Rattle.std.specs.Prelude.{List, ℕ, ◌<◌, ◌≤◌, length, vec_capacity};
+    ghost use Rattle.std.specs.Prelude.{ℕ, ◌<◌, ◌≤◌, length, vec_capacity};
     ghost use Rattle.heat_ledger.specs.Rows.{padded};
-    ghost use Rattle.heat_ledger.specs.Placed.{IsPlaced, counts_at};
+    ghost use Rattle.heat_ledger.specs.Counts.{CountsData};
+    ghost use Rattle.heat_ledger.specs.Placed.{AreColumns, HasRoom, counts_at};
+    ghost use Rattle.heat_ledger.specs.Touched.{IsTracked};
 
-    ghost Value = { List ℕ };
+    ghost Value = { CountsData };
 
-    ghost view = { λ counts. padded counts.limit (counts_at counts.kept.items counts.places.items) };
+    ghost view = { λ counts. record {
+      hits = padded counts.limit (counts_at counts.columns.hits.items counts.places.items);
+      pending = padded counts.limit (counts_at counts.columns.pending.items counts.places.items);
+      begun = padded counts.limit (counts_at counts.columns.begun.items counts.places.items);
+    } };
 
-    ghost invariant = { λ counts. IsPlaced counts.kept.items counts.places.items
-        × (length counts.places.items ≤ counts.limit) × (counts.limit ≤ vec_capacity counts.places)
-        × (counts.limit < vec_capacity counts.kept) };
+    ghost invariant = { λ counts. AreColumns counts.columns counts.places.items
+        × (length counts.places.items ≤ counts.limit)
+        × (counts.limit ≤ vec_capacity counts.places)
+        × HasRoom counts.limit counts.columns
+        × IsTracked (padded counts.limit (counts_at counts.columns.pending.items counts.places.items))
+        counts.unsettled.items
+        × (counts.limit ≤ vec_capacity counts.unsettled) };
 }
 
 impl Counts {
-    ghost use Rattle.std.specs.Prelude.{◌≡◌, ◌+◌, ◌^◌, ◌<◌, IfOk, length, replicate, slice_set};
-    ghost use Rattle.heat_ledger.specs.Rows.{at, raised_by};
+    ghost use Rattle.std.specs.Prelude.{◌≡◌, ℕ, ◌+◌, ◌^◌, ◌<◌, ◌↔◌, IsTrue, IfOk, length, replicate};
+    ghost use Rattle.heat_ledger.specs.Rows.{at, sums, raised_by, counted_rows, IsZero};
+    ghost use Rattle.heat_ledger.specs.Counts.{no_counts};
 
-    /// No directory has a count.
+    /// Nothing is counted.
     pub(crate) fn new(alloc: Global, limit: u32) -> Result<Counts, AllocError>
-        ensures { IfOk result (λ counts. counts ≡ replicate limit 0) }
+        ensures { IfOk result (λ counts. counts ≡ no_counts limit) }
     {
         let places = Vec::with_capacity(alloc, limit as usize)?;
-        let mut kept = Vec::with_capacity(alloc, limit as usize + 1)?;
-        kept.push_reserved(0);
+        let columns = Columns::new(alloc, limit)?;
+        let unsettled = Vec::with_capacity(alloc, limit as usize)?;
         Ok(Counts {
             limit,
             places,
-            kept,
+            columns,
+            unsettled,
         })
     }
 
     /// How many directories there are room for.
     pub(crate) fn len(&self) -> usize
-        ensures { result ≡ length self.now }
+        ensures hits { result ≡ length self.now.hits }
+        ensures pending { result ≡ length self.now.pending }
+        ensures begun { result ≡ length self.now.begun }
     {
         self.limit as usize
     }
 
-    /// The count of a directory, and 0 where there is none.
-    pub(crate) fn get(&self, dir: u32) -> u64
-        ensures { result ≡ at self.now dir }
+    /// The hits of a directory.
+    pub(crate) fn hits(&self, dir: Dir) -> u64
+        ensures { result ≡ at self.now.hits dir }
     {
-        let place = self.places.get(dir as usize).copied().unwrap_or(0);
-        self.kept[place as usize]
+        count_at(&self.places, &self.columns.hits, dir.number())
     }
 
-    /// So many more for a directory.
-    pub(crate) fn add(&mut self, dir: u32, more: u64)
-        requires inside { dir < length self.old }
-        requires fits { at self.old dir + more < 2 ^ 64 }
-        ensures { self.new ≡ raised_by self.old dir more }
+    /// The pending hits of a directory.
+    pub(crate) fn pending(&self, dir: Dir) -> u64
+        ensures { result ≡ at self.now.pending dir }
     {
-        reach(&mut self.places, dir as usize + 1);
-        give_place(&mut self.places, &mut self.kept, dir as usize);
-        let place = self.places[dir as usize];
-        self.kept[place as usize] += more;
+        count_at(&self.places, &self.columns.pending, dir.number())
     }
 
-    /// No count for a directory.
-    pub(crate) fn clear(&mut self, dir: u32)
-        ensures { self.new ≡ slice_set self.old dir 0 }
+    /// The begun requests of a directory.
+    pub(crate) fn begun(&self, dir: Dir) -> u64
+        ensures { result ≡ at self.now.begun dir }
     {
-        let place = self.places.get(dir as usize).copied().unwrap_or(0);
-        if place > 0 {
-            self.kept[place as usize] = 0;
+        count_at(&self.places, &self.columns.begun, dir.number())
+    }
+
+    /// So many more hits of a directory.
+    pub(crate) fn raise_hits(&mut self, dir: Dir, more: u64)
+        requires inside { dir < length self.old.hits }
+        requires fits { at self.old.hits dir + more < 2 ^ 64 }
+        ensures { self.new ≡ record self.old { hits = raised_by self.old.hits dir more } }
+    {
+        let place = place_of(
+            &mut self.places,
+            &mut self.columns,
+            self.limit,
+            dir.number(),
+        );
+        self.columns.hits[place] += more;
+    }
+
+    /// So many more pending hits of a directory, which may be none.
+    pub(crate) fn raise_pending(&mut self, dir: Dir, more: u64)
+        requires inside { dir < length self.old.pending }
+        requires fits { at self.old.pending dir + more < 2 ^ 64 }
+        ensures { self.new ≡ record self.old { pending = raised_by self.old.pending dir more } }
+    {
+        if more == 0 {
+            return;
+        }
+        let place = place_of(
+            &mut self.places,
+            &mut self.columns,
+            self.limit,
+            dir.number(),
+        );
+        let count = self.columns.pending[place];
+        note(&mut self.unsettled, dir.number(), count);
+        self.columns.pending[place] = count + more;
+    }
+
+    /// So many more begun requests of a directory.
+    pub(crate) fn raise_begun(&mut self, dir: Dir, more: u64)
+        requires inside { dir < length self.old.begun }
+        requires fits { at self.old.begun dir + more < 2 ^ 64 }
+        ensures { self.new ≡ record self.old { begun = raised_by self.old.begun dir more } }
+    {
+        let place = place_of(
+            &mut self.places,
+            &mut self.columns,
+            self.limit,
+            dir.number(),
+        );
+        self.columns.begun[place] += more;
+    }
+
+    /// Whether no directory has pending hits.
+    pub(crate) fn is_settled(&self) -> bool
+        ensures { IsTrue result ↔ IsZero self.now.pending }
+    {
+        self.unsettled.is_empty()
+    }
+
+    /// The directories that have pending hits, rising, each with their number.
+    pub(crate) fn pending_rows(&self, alloc: Global) -> Result<Vec<(Dir, u64)>, AllocError>
+        ensures { IfOk result (λ rows. rows.items ≡ counted_rows self.now.pending) }
+    {
+        let mut dirs = Vec::new(alloc);
+        dirs.extend_from_slice(self.unsettled.as_slice())?;
+        dirs.sort_unstable();
+        with_pending(alloc, dirs.as_slice(), self)
+    }
+
+    /// Adds the pending hits to a list, and makes them 0.
+    pub(crate) fn settle(&mut self, into: &mut Vec<u64>)
+        requires lengths { length into.old.items ≡ length self.old.pending }
+        requires fits { (dir : ℕ) → at into.old.items dir + at self.old.pending dir < 2 ^ 64 }
+        ensures into { into.new.items ≡ sums into.old.items self.old.pending }
+        ensures zero { self.new ≡ record self.old { pending = replicate (length self.old.pending) 0 } }
+    {
+        let (places, pending) = (&self.places, &mut self.columns.pending);
+        move_all(into, places, pending, self.limit, &self.unsettled);
+        self.unsettled.clear();
+    }
+
+    /// Adds the counts of another share to this one's.
+    pub(crate) fn join(&mut self, other: Counts)
+        requires lengths { (length other.hits ≡ length self.old.hits)
+            × (length other.pending ≡ length self.old.pending) × (length other.begun ≡ length self.old.begun) }
+        requires hits { (dir : ℕ) → at self.old.hits dir + at other.hits dir < 2 ^ 64 }
+        requires pending { (dir : ℕ) → at self.old.pending dir + at other.pending dir < 2 ^ 64 }
+        requires begun { (dir : ℕ) → at self.old.begun dir + at other.begun dir < 2 ^ 64 }
+        ensures { self.new ≡ record {
+          hits = sums self.old.hits other.hits;
+          pending = sums self.old.pending other.pending;
+          begun = sums self.old.begun other.begun;
+        } }
+    {
+        for j in 0..other.columns.dirs.len() {
+            let dir = Dir::new(other.columns.dirs[j]);
+            self.raise_hits(dir, other.hits(dir));
+            self.raise_pending(dir, other.pending(dir));
+            self.raise_begun(dir, other.begun(dir));
         }
     }
 }
 
-// Lets so many directories at least have a place or the mark for none.
-fn reach(places: &mut Vec<u32>, count: usize)
-    requires { count ≤ vec_capacity places.old }
-    ensures same { (dir : ℕ) → at places.new.items dir ≡ at places.old.items dir }
-    ensures placed { placed places.new.items ≡ placed places.old.items }
-    ensures reached { count ≤ length places.new.items }
-    ensures within { (limit : ℕ) → length places.old.items ≤ limit → count ≤ limit → length places.new.items ≤ limit }
-    ensures capacity { vec_capacity places.new ≡ vec_capacity places.old }
+// Notes a directory that has no count yet and gets one.
+fn note(noted: &mut Vec<u32>, dir: u32, count: u64)
+    requires room { count ≡ 0 → vec_len noted.old < vec_capacity noted.old }
+    ensures tracked { (counts : List ℕ) (now : ℕ) → IsTracked counts noted.old.items → dir < length counts
+        → at counts dir ≡ count → 1 ≤ now → IsTracked (slice_set counts dir now) noted.new.items }
+    ensures capacity { vec_capacity noted.new ≡ vec_capacity noted.old }
 {
-    while places.len() < count {
-        places.push_reserved(0);
+    if count == 0 {
+        noted.push_reserved(dir);
     }
 }
 
-// Gives a directory a place, where it has none.
-fn give_place(places: &mut Vec<u32>, kept: &mut Vec<u64>, dir: usize)
-    requires placed { IsPlaced kept.old.items places.old.items }
-    requires inside { dir < length places.old.items }
-    requires few { length places.old.items < 2 ^ 32 }
-    requires room { length places.old.items < vec_capacity kept.old }
-    ensures placed { IsPlaced kept.new.items places.new.items }
-    ensures some { 1 ≤ at places.new.items dir }
-    ensures same { (d : ℕ) → at kept.new.items (at places.new.items d) ≡ at kept.old.items (at places.old.items d) }
-    ensures length { length places.new.items ≡ length places.old.items }
-    ensures capacity { (vec_capacity places.new ≡ vec_capacity places.old)
-        × (vec_capacity kept.new ≡ vec_capacity kept.old) }
+// Moves the counts of the directories that have one.
+fn move_all(
+    into: &mut Vec<u64>,
+    places: &Vec<u32>,
+    kept: &mut Vec<u64>,
+    limit: u32,
+    touched: &Vec<u32>,
+)
+    requires placed { IsPlaced kept.old.items places.now.items }
+    requires few { length places.now.items ≤ limit }
+    requires lengths { limit ≤ length into.old.items }
+    requires fits { (dir : ℕ)
+        → at into.old.items dir + at (padded limit (counts_at kept.old.items places.now.items)) dir < 2 ^ 64 }
+    requires tracked { IsTracked (padded limit (counts_at kept.old.items places.now.items)) touched.now.items }
+    ensures sums { (dir : ℕ) → at into.new.items dir
+        ≡ at into.old.items dir + at (padded limit (counts_at kept.old.items places.now.items)) dir }
+    ensures zero { IsZero (padded limit (counts_at kept.new.items places.now.items)) }
+    ensures placed { IsPlaced kept.new.items places.now.items }
+    ensures length { length into.new.items ≡ length into.old.items }
+    ensures capacity { vec_capacity kept.new ≡ vec_capacity kept.old }
 {
-    if places[dir] == 0 {
-        places[dir] = kept.len() as u32;
-        kept.push_reserved(0);
+    for j in 0..touched.len() {
+        let dir = touched[j];
+        into[dir as usize] += take_count(places, kept, limit, dir);
     }
+}
+
+// These directories, each with its pending hits.
+fn with_pending(alloc: Global, dirs: &[u32], counts: &Counts) -> Result<Vec<(Dir, u64)>, AllocError>
+    ensures { IfOk result (λ rows. rows.items ≡ map (λ d. (d, at counts.now.pending d)) dirs.now) }
+{
+    let mut rows = Vec::with_capacity(alloc, dirs.len())?;
+    for dir in dirs {
+        let dir = Dir::new(*dir);
+        rows.push((dir, counts.pending(dir)))?;
+    }
+    Ok(rows)
 }

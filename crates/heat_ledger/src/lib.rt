@@ -15,7 +15,7 @@ mod hit_error;
 mod missing;
 mod new_book;
 mod opening;
-mod row;
+mod places;
 mod share;
 mod tally;
 

@@ -5,7 +5,7 @@ ghost use Rattle.heat_ledger.specs.Tally.{all_parts, authority_state};
 ghost use Rattle.heat_ledger.specs.Ledger.{IsTokenOf};
 ghost use Rattle.heat_ledger.specs.Opening.{IsUnopened, fresh_share};
 
-use crate::row::Row;
+use crate::counts::Counts;
 use crate::share::Share;
 use crate::tally::{Token, TokenTable, grant};
 use naming::Naming;
@@ -17,9 +17,7 @@ use std::sync::Arc;
 #[derive(Drop)]
 pub(crate) struct UnopenedShare {
     tokens: Arc<TokenTable, Global>,
-    hits: Row,
-    pending: Row,
-    begun: Row,
+    counts: Counts,
 }
 
 /// All memory that a book and its shares will need.
@@ -38,16 +36,9 @@ fn new_unopened(
 ) -> Result<UnopenedShare, AllocError>
     ensures { IfOk result (IsUnopened (arc_value tokens.now).shared.table_id limit) }
 {
-    let hits = Row::new(alloc, limit)?;
-    let pending = Row::new(alloc, limit)?;
-    let begun = Row::new(alloc, limit)?;
+    let counts = Counts::new(alloc, limit)?;
     let tokens = Arc::try_clone(tokens)?;
-    Ok(UnopenedShare {
-        tokens,
-        hits,
-        pending,
-        begun,
-    })
+    Ok(UnopenedShare { tokens, counts })
 }
 
 fn new_unopened_shares(
@@ -102,20 +93,13 @@ fn open_share<J: Naming>(authority: &mut Token, unopened: UnopenedShare) -> Shar
     ensures authority { authority.new.me.0 ≡ authority_state (authority.old.me.0.parts - 1) [] }
     ensures share { result ≡ fresh_share J.limit }
 {
-    let UnopenedShare {
-        tokens,
-        hits,
-        pending,
-        begun,
-    } = unopened;
-    let token = grant::<Brand, Row>(&tokens.shared, authority, &hits);
+    let UnopenedShare { tokens, counts } = unopened;
+    let token = grant::<Brand, Counts>(&tokens.shared, authority, &counts);
     Share {
         tokens,
         token,
         weight: 1,
-        hits,
-        pending,
-        begun,
+        counts,
         of: PhantomData,
     }
 }

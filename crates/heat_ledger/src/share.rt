@@ -1,7 +1,7 @@
 //! A share of the counting, which one thread has at a time.
 
+use crate::counts::Counts;
 use crate::hit_error::HitError;
-use crate::row::Row;
 use crate::tally::{Token, TokenTable, learn, merge};
 use mds_types::Dir;
 use naming::Naming;
@@ -16,17 +16,15 @@ pub const HIT_LIMIT: u64 = 1 << 56;
 /// by directory. A share that was opened has the weight 1, and shares that were joined have the
 /// sum of their weights.
 ///
-/// `J` names the board whose book it is. All memory was asked for when the book was opened: 48 bytes
-/// a directory. Of them a share writes 12 for each directory up to the last one that it counted, and
-/// 36 for each that it counted, so one that counts nothing takes up address space alone.
+/// `J` names the board whose book it is. All memory was asked for when the book was opened: 36 bytes
+/// a directory. Of them a share writes 4 for each directory up to the last one that it counted, and
+/// at most 32 for each that it counted, so one that counts nothing takes up address space alone.
 #[derive(Drop)]
 pub struct Share<J: Naming> {
     pub(crate) tokens: Arc<TokenTable, Global>,
     pub(crate) token: Token,
     pub(crate) weight: u8,
-    pub(crate) hits: Row,
-    pub(crate) pending: Row,
-    pub(crate) begun: Row,
+    pub(crate) counts: Counts,
     pub(crate) of: PhantomData<J>,
 }
 
@@ -39,14 +37,14 @@ impl<J: Naming> Model for Share<J> {
 
     ghost view = { λ share. record {
       weight = share.weight;
-      hits = share.hits;
-      pending = share.pending;
-      begun = share.begun;
+      hits = share.counts.hits;
+      pending = share.counts.pending;
+      begun = share.counts.begun;
     } };
 
     ghost invariant = { λ share. IsTokenOf (arc_value share.tokens).shared.table_id share.token
         × ((arc_value share.tokens).shared.table_id ≡ J.ledger)
-        × IsShare J.limit share.token.me.0 share.weight share.hits share.pending share.begun };
+        × IsShare J.limit share.token.me.0 share.weight share.counts.hits share.counts.pending share.counts.begun };
 }
 
 impl<J: Naming> Share<J> {
@@ -59,14 +57,14 @@ impl<J: Naming> Share<J> {
     pub fn hits(&self, dir: Dir) -> u64
         ensures { result ≡ at self.now.hits dir }
     {
-        self.hits.get(dir)
+        self.counts.hits(dir)
     }
 
     /// The hits on a directory that aren't deposited.
     pub fn pending(&self, dir: Dir) -> u64
         ensures { result ≡ at self.now.pending dir }
     {
-        self.pending.get(dir)
+        self.counts.pending(dir)
     }
 
     /// The directories with hits that aren't deposited, rising, each with their number. Counts to
@@ -77,14 +75,14 @@ impl<J: Naming> Share<J> {
         ensures sums { (counted : List ℕ) → length counted ≡ J.limit
             → fold with_row counted (counted_rows self.now.pending) ≡ sums counted self.now.pending }
     {
-        self.pending.rows(alloc)
+        self.counts.pending_rows(alloc)
     }
 
     /// The requests on a directory that were begun with this share.
     pub fn begun(&self, dir: Dir) -> u64
         ensures { result ≡ at self.now.begun dir }
     {
-        self.begun.get(dir)
+        self.counts.begun(dir)
     }
 
     /// How many of the shares that were opened this one is.
@@ -101,14 +99,14 @@ impl<J: Naming> Share<J> {
         ensures rows { (length self.now.hits ≡ J.limit) × (length self.now.pending ≡ J.limit)
             × (length self.now.begun ≡ J.limit) }
     {
-        self.hits.len()
+        self.counts.len()
     }
 
     /// Whether all hits are deposited.
     pub fn is_clean(&self) -> bool
         ensures { IsTrue result ↔ IsClean self.now }
     {
-        self.pending.is_zero()
+        self.counts.is_settled()
     }
 
     /// Counts a hit.
@@ -119,14 +117,14 @@ impl<J: Naming> Share<J> {
         ensures full { IsErrOf result HitError.ShareFull ↔ ((dir < J.limit) × (2 ^ 56 ≤ at self.old.hits dir)) }
         ensures err { OnErr result (self.new ≡ self.old) }
     {
-        if dir.number() as usize >= self.hits.len() {
+        if dir.number() as usize >= self.counts.len() {
             return Err(HitError::NoDir);
         }
-        if self.hits.get(dir) >= HIT_LIMIT {
+        if self.counts.hits(dir) >= HIT_LIMIT {
             return Err(HitError::ShareFull);
         }
-        self.hits.raise(dir);
-        self.pending.raise(dir);
+        self.counts.raise_hits(dir, 1);
+        self.counts.raise_pending(dir, 1);
         Ok(())
     }
 
@@ -138,10 +136,10 @@ impl<J: Naming> Share<J> {
         ensures share { self.new ≡ record self.old
             { hits = raised_by self.old.hits dir result; pending = raised_by self.old.pending dir result } }
     {
-        let room = HIT_LIMIT.saturating_sub(self.hits.get(dir));
+        let room = HIT_LIMIT.saturating_sub(self.counts.hits(dir));
         let counted = u64::from(hits).min(room);
-        self.hits.raise_by(dir, counted);
-        self.pending.raise_by(dir, counted);
+        self.counts.raise_hits(dir, counted);
+        self.counts.raise_pending(dir, counted);
         counted as u32
     }
 
@@ -158,17 +156,13 @@ impl<J: Naming> Share<J> {
             tokens: _tokens,
             token,
             weight,
-            hits,
-            pending,
-            begun,
+            counts,
             of: _of,
         } = other;
         merge(&self.tokens.shared, &mut self.token, token);
         learn(&self.tokens.shared, &mut self.token);
         self.weight += weight;
-        self.hits.join(hits);
-        self.pending.join(pending);
-        self.begun.join(begun);
+        self.counts.join(counts);
     }
 
     /// The share's token, with all that is known of it.
@@ -180,9 +174,7 @@ impl<J: Naming> Share<J> {
             tokens: _tokens,
             token,
             weight: _weight,
-            hits: _hits,
-            pending: _pending,
-            begun: _begun,
+            counts: _counts,
             of: _of,
         } = self;
         token

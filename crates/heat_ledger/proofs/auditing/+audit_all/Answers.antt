@@ -16,7 +16,7 @@ pub give_back-token-requires-clause-amounts : goal.give_back-token-requires-clau
 give_back-token-requires-clause-amounts g t c k =
     let s = c.share.inside in
     let both : c.take_back.new.authority.me.0 ≡ both_of c.args.authority.now.me.0 s.token.me.0 = search rules in
-    let l = laid_amounts g.J.Naming.limit s.token.me.0 s.weight s.hits s.pending s.begun c.share.invariant.2 k in
+    let l = laid_amounts g.J.Naming.limit s.token.me.0 s.weight s.counts.hits s.counts.pending s.counts.begun c.share.invariant.2 k in
     let a = ap (λ (h : TokenState). at h.amounts k) both ∙ at_sums c.args.authority.now.me.0.amounts s.token.me.0.amounts k in
     let b = c.audit_all.ensures.audited.amounts k in
     omega (arith, l, a, b)
@@ -24,7 +24,7 @@ give_back-token-requires-clause-amounts g t c k =
 pub give_back-token-requires-clause-backed : goal.give_back-token-requires-clause-backed
 give_back-token-requires-clause-backed g t c k =
     let s = c.share.inside in
-    let l = laid_amounts g.J.Naming.limit s.token.me.0 s.weight s.hits s.pending s.begun c.share.invariant.2 k in
+    let l = laid_amounts g.J.Naming.limit s.token.me.0 s.weight s.counts.hits s.counts.pending s.counts.begun c.share.invariant.2 k in
     let back = c.take_back.ensures.backed k in
     let weighs = ap (λ (n : ℕ). n * most) c.share.invariant.2.weighs in
     omega (arith, l, back, weighs)
@@ -33,14 +33,14 @@ pub give_back-token-requires-clause-rest : goal.give_back-token-requires-clause-
 give_back-token-requires-clause-rest g t c =
     let s = c.share.inside in
     let both : c.take_back.new.authority.me.0 ≡ both_of c.args.authority.now.me.0 s.token.me.0 = search rules in
-    rest_backed g.J.Naming.limit c.args.authority.now.me.0 s.token.me.0 c.take_back.new.authority.me.0 c.audit_all.new.authority.me.0 s.weight s.hits s.pending s.begun c.pop.new.self.items c.share.invariant.2 both c.audit_all.ensures.audited c.requires.backed
+    rest_backed g.J.Naming.limit c.args.authority.now.me.0 s.token.me.0 c.take_back.new.authority.me.0 c.audit_all.new.authority.me.0 s.weight s.counts.hits s.counts.pending s.counts.begun c.pop.new.self.items c.share.invariant.2 both c.audit_all.ensures.audited c.requires.backed
 
 pub invariant_of-push_reserved : goal.invariant_of-push_reserved
 invariant_of-push_reserved g t c =
     let s = c.share.inside in (
       search rules,
       search rules,
-      subst (λ (v : TokenState). IsShare g.J.Naming.limit v s.weight s.hits s.pending s.begun) (sym c.give_back-token.ensures.token) (laid_share g.J.Naming.limit s.token.me.0 s.weight s.hits s.pending s.begun c.share.invariant.2),
+      subst (λ (v : TokenState). IsShare g.J.Naming.limit v s.weight s.counts.hits s.counts.pending s.counts.begun) (sym c.give_back-token.ensures.token) (laid_share g.J.Naming.limit s.token.me.0 s.weight s.counts.hits s.counts.pending s.counts.begun c.share.invariant.2),
     )
 
 pub returns-clause-audited : goal.returns-clause-audited

@@ -6,19 +6,19 @@ use Rattle.heat_ledger.proofs.auditing.give_back.Goals as goal
 
 pub give-requires-clause-amounts : goal.give-requires-clause-amounts
 give-requires-clause-amounts c k =
-    let d = at_differences c.args.authority.now.me.0.amounts (laid_out c.args.hits.now c.args.pending.now c.args.begun.now) k in
+    let d = at_differences c.args.authority.now.me.0.amounts (laid_out c.args.counts.now.hits c.args.counts.now.pending c.args.counts.now.begun) k in
     let less = c.requires.amounts k in
     omega (arith, d, less)
 
 pub give-requires-clause-rest : goal.give-requires-clause-rest
 give-requires-clause-rest c k =
-    let d = at_differences c.args.authority.now.me.0.amounts (laid_out c.args.hits.now c.args.pending.now c.args.begun.now) k in
+    let d = at_differences c.args.authority.now.me.0.amounts (laid_out c.args.counts.now.hits c.args.counts.now.pending c.args.counts.now.begun) k in
     let less = c.requires.rest k in
     omega (arith, d, less)
 
 pub returns-clause-amounts : goal.returns-clause-amounts
 returns-clause-amounts c k =
-    let laid = laid_out c.args.hits.now c.args.pending.now c.args.begun.now in
+    let laid = laid_out c.args.counts.now.hits c.args.counts.now.pending c.args.counts.now.begun in
     let d = at_differences c.args.authority.now.me.0.amounts laid k in
     let less = c.requires.amounts k in
     let kept : c.give.new.authority.me.0.amounts ≡ differences c.args.authority.now.me.0.amounts laid = search rules in

@@ -1,5 +1,6 @@
-use Rattle.std.proofs.Common.{◌≡◌, ◌<◌, ◌∙◌, ℕ, List, length, ap, sym, rules, arith, subst}
+use Rattle.std.proofs.Common.{◌≡◌, ◌<◌, ◌∙◌, length, ap, sym, rules, arith, subst}
 use Rattle.heat_ledger.specs.declared.tally.TokenState.{TokenState}
+use Rattle.heat_ledger.specs.Counts.{CountsData}
 use Rattle.heat_ledger.specs.Rows.{at, sums, raised}
 use Rattle.heat_ledger.specs.Tally.{share_state, most}
 use Rattle.heat_ledger.specs.Ledger.{BookData, unit, begun_slot, IsShare}
@@ -13,12 +14,12 @@ reissue-requires-clause-amounts g c k = at_sums c.share.inside.token.me.0.amount
 
 pub reissue-requires-clause-backed : goal.reissue-requires-clause-backed
 reissue-requires-clause-backed g c k under was =
-    begin_backed g.J.Naming.limit c.share.inside.token.me.0 c.self.inside.token.me.0 c.share.inside.weight c.self.inside.shares c.share.inside.hits c.share.inside.pending c.share.inside.begun c.self.inside.counted.items c.self.inside.begun.items c.args.dir
+    begin_backed g.J.Naming.limit c.share.inside.token.me.0 c.self.inside.token.me.0 c.share.inside.weight c.self.inside.shares c.share.inside.counts.hits c.share.inside.counts.pending c.share.inside.counts.begun c.self.inside.counted.items c.self.inside.begun.items c.args.dir
     c.share.invariant.2 c.self.invariant.2 (subst (λ (b : BookData). at b.begun c.args.dir < most) (sym c.self.view_is) c.requires.room) k under was
 
-pub raise-requires-clause-fits : goal.raise-requires-clause-fits
-raise-requires-clause-fits g c =
-    begin_fits g.J.Naming.limit c.share.inside.token.me.0 c.share.inside.weight c.share.inside.hits c.share.inside.pending c.share.inside.begun c.args.dir c.share.invariant.2 (c.reissue.ensures.backed (begun_slot c.args.dir))
+pub raise_begun-requires-clause-fits : goal.raise_begun-requires-clause-fits
+raise_begun-requires-clause-fits g c =
+    begin_fits g.J.Naming.limit c.share.inside.token.me.0 c.share.inside.weight c.share.inside.counts.hits c.share.inside.counts.pending c.share.inside.counts.begun c.args.dir c.share.invariant.2 (c.reissue.ensures.backed (begun_slot c.args.dir))
 
 pub invariant_of-self : goal.invariant_of-self
 invariant_of-self g c =
@@ -41,6 +42,6 @@ invariant_of-share g c =
     let met : share_state s.token.me.0.parts (sums s.token.me.0.amounts (unit (begun_slot d))) ≡ c.reissue.new.token.me.0 = search rules in (
       search rules,
       search rules,
-      subst (λ (l : List ℕ). IsShare g.J.Naming.limit c.reissue.new.token.me.0 s.weight s.hits s.pending l) (sym c.raise.ensures)
-          (subst (λ (v : TokenState). IsShare g.J.Naming.limit v s.weight s.hits s.pending (raised s.begun d)) met (begin_share g.J.Naming.limit s.token.me.0 s.weight d s.hits s.pending s.begun c.share.invariant.2 c.requires.inside)),
+      subst (λ (v : CountsData). IsShare g.J.Naming.limit c.reissue.new.token.me.0 s.weight v.hits v.pending v.begun) (sym c.raise_begun.ensures)
+          (subst (λ (v : TokenState). IsShare g.J.Naming.limit v s.weight s.counts.hits s.counts.pending (raised s.counts.begun d)) met (begin_share g.J.Naming.limit s.token.me.0 s.weight d s.counts.hits s.counts.pending s.counts.begun c.share.invariant.2 c.requires.inside)),
     )

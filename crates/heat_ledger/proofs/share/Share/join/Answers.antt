@@ -6,13 +6,13 @@ use Rattle.heat_ledger.specs.Ledger.{IsShare}
 use Rattle.heat_ledger.proofs.Shares.{join_kept, join_fits}
 use Rattle.heat_ledger.proofs.share.Share.join.Goals as goal
 
-pub join-requires-3-clause-fits : goal.join-requires-3-clause-fits
-join-requires-3-clause-fits g c dir =
+pub join-requires-clause-begun : goal.join-requires-clause-begun
+join-requires-clause-begun g c dir =
     let s = c.self.inside in
     let t = c.other.inside in
     let met : c.merge.new.token.me.0 ≡ both_of s.token.me.0 t.token.me.0 = search rules in
     let l = subst IsLearned met c.learn.ensures.learned in
-    let fit = ((join_fits g.J.Naming.limit s.token.me.0 t.token.me.0 s.weight t.weight s.hits t.hits s.pending t.pending s.begun t.begun c.self.invariant.2 c.other.invariant.2 l).1 dir).2 in
+    let fit = ((join_fits g.J.Naming.limit s.token.me.0 t.token.me.0 s.weight t.weight s.counts.hits t.counts.hits s.counts.pending t.counts.pending s.counts.begun t.counts.begun c.self.invariant.2 c.other.invariant.2 l).1 dir).2 in
     omega (arith, fit)
 
 pub invariant_of-self : goal.invariant_of-self
@@ -24,6 +24,6 @@ invariant_of-self g c =
     let l = subst IsLearned met c.learn.ensures.learned in (
       search rules,
       search rules,
-      rw (c.join.ensures, c.join-2.ensures, c.join-3.ensures) (subst (λ (v : TokenState). IsShare g.J.Naming.limit v (s.weight + t.weight) (sums s.hits t.hits) (sums s.pending t.pending) (sums s.begun t.begun)) now
-          (join_kept g.J.Naming.limit s.token.me.0 t.token.me.0 s.weight t.weight s.hits t.hits s.pending t.pending s.begun t.begun c.self.invariant.2 c.other.invariant.2 l)),
+      rw c.join.ensures (subst (λ (v : TokenState). IsShare g.J.Naming.limit v (s.weight + t.weight) (sums s.counts.hits t.counts.hits) (sums s.counts.pending t.counts.pending) (sums s.counts.begun t.counts.begun)) now
+          (join_kept g.J.Naming.limit s.token.me.0 t.token.me.0 s.weight t.weight s.counts.hits t.counts.hits s.counts.pending t.counts.pending s.counts.begun t.counts.begun c.self.invariant.2 c.other.invariant.2 l)),
     )
