@@ -4,5 +4,6 @@ pub mod CertificateSame
 pub mod FieldLemmas
 pub mod LineSame
 pub mod NumberLemmas
+pub mod ReaderLemmas
 pub mod ReadingLemmas
 pub mod TableLemmas

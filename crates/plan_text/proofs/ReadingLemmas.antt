@@ -300,17 +300,16 @@ certificate_lines c = text c.problem c.plan
 four : (a b c d more : List ℕ) → (a ++ b ++ c ++ d) ++ more ≡ a ++ (b ++ (c ++ (d ++ more)))
 four a b c d more = simp append_assoc
 
-module _ (bytes : List ℕ) (c : Certificate) (more : List ℕ) where
-  abbrev pub behind_plan : List ℕ
-  behind_plan = line (codes "end") [] ++ more
+abbrev pub behind_plan : List ℕ → List ℕ
+behind_plan more = line (codes "end") [] ++ more
 
-  abbrev pub behind_problem : List ℕ
-  behind_problem = whole_plan_lines c.plan ++ behind_plan
+abbrev pub behind_problem : Certificate → List ℕ → List ℕ
+behind_problem c more = whole_plan_lines c.plan ++ behind_plan more
 
-  pub certificate_first : bytes ≡ text c.problem c.plan ++ more → first_at bytes ≡ Some (problem_lines c.problem ++ behind_problem)
-  certificate_first e =
-      ap first_at (e ∙ four (line (codes "certificate") (codes "1" ∷ [])) (problem_lines c.problem) (whole_plan_lines c.plan) (line (codes "end") []) more)
-      ∙ first_again (problem_lines c.problem ++ behind_problem)
+pub certificate_first : (bytes : List ℕ) (c : Certificate) (more : List ℕ) → bytes ≡ text c.problem c.plan ++ more → first_at bytes ≡ Some (problem_lines c.problem ++ behind_problem c more)
+certificate_first bytes c more e =
+    ap first_at (e ∙ four (line (codes "certificate") (codes "1" ∷ [])) (problem_lines c.problem) (whole_plan_lines c.plan) (line (codes "end") []) more)
+    ∙ first_again (problem_lines c.problem ++ behind_problem c more)
 
 abbrev certificate_of : ProblemData → PlanData → Certificate
 certificate_of problem plan = record { problem = problem; plan = plan }

@@ -108,24 +108,16 @@ fn mask(text: &[u8]) -> Option<(RankSet, &[u8])>
     Some((ranks, rest))
 }
 
-/// The ranks that may have a part, or the fault that there are none.
-fn allowed(text: &[u8]) -> Result<(RankSet, &[u8]), Fault>
-    ensures { Reads (λ ranks. ranks) result (mask_at text.now) }
-{
-    match mask(text) {
-        Some(found) => Ok(found),
-        None => Err(Fault::Expected(text.len(), Expected::Mask)),
-    }
-}
-
 /// The ranks and the rows of a problem.
 fn problem(alloc: Global, text: &[u8]) -> Result<(Problem, &[u8]), Fault>
     ensures { (x : ProblemData) (more : List ℕ) → FitsProblem x → text.now ≡ problem_lines x ++ more →
         Gives result x more }
 {
-    let (ranks, rest) = allowed(text)?;
-    let (rows, rest) = table(alloc, rest, b"rows", Expected::Rows)?;
-    match Problem::new(rows, ranks) {
+    let Some(ranks) = mask(text) else {
+        return Err(Fault::Expected(text.len(), Expected::Mask));
+    };
+    let (rows, rest) = table(alloc, ranks.1, b"rows", Expected::Rows)?;
+    match Problem::new(rows, ranks.0) {
         Ok(problem) => Ok((problem, rest)),
         Err(_) => Err(Fault::Expected(text.len(), Expected::Problem)),
     }
