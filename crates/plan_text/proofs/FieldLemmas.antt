@@ -1,12 +1,12 @@
 -- The fields of a line, read one by one from the front.
-use Rattle.std.proofs.Common.{◌≡◌, ◌∙◌, ℕ, zero, suc, ◌+◌, ◌-◌, ◌/◌, ◌%◌, ◌*◌, ◌<◌, ◌≤◌, ◌^◌, Bool, true, false, ◌||◌, cond, List, [], ◌∷◌, ◌++◌, codes, length, take, drop, get_or, refl, sym, ap, subst, arith, one-add, append_assoc, Option, Some, None}
-use Rattle.std.specs.Prelude.{◌==◌, nat_lt, decimal, ℤ, pos, negsuc, neg_ℤ}
+use Rattle.std.proofs.Common.{◌≡◌, ◌∙◌, ℕ, zero, suc, ◌+◌, ◌-◌, ◌/◌, ◌%◌, ◌*◌, ◌<◌, ◌≤◌, ◌^◌, Bool, true, false, cond, List, [], ◌∷◌, ◌++◌, codes, length, take, drop, refl, sym, ap, subst, arith, one-add, append_assoc, Option, Some, None}
+use Rattle.std.specs.Prelude.{◌==◌, decimal, ℤ, pos, negsuc, neg_ℤ}
 use Rattle.std.specs.Char.{digit_value}
 use Rattle.std.specs.Fmt.{digit_glyph, digits, digits_onto, signed_decimal}
 use Rattle.std.specs.Int.Signed.{mag}
 use Rattle.std.specs.List.{after_first, before_first, list_all, position_or_len}
 use Rattle.std.specs.Option.{option_and_then, option_map}
-use Rattle.std.specs.Str.{IsAscii, bytes_eq, is_utf8}
+use Rattle.std.specs.Str.{IsAscii, bytes_eq}
 use Rattle.std.specs.Str.Parse.{AllDigits, IsNumeral, digits_value, starts_with_minus, without_leading_plus}
 use Rattle.std.proofs.lemmas.Bool.{and_from, and_parts, eqb-false, le-leb}
 use Rattle.std.proofs.lemmas.Bool.Decides.{nat_tests}
@@ -14,8 +14,8 @@ use Rattle.std.proofs.lemmas.Fmt.{IsAscii-decimal, decimal_is_IsNumeral, digits_
 use Rattle.std.proofs.lemmas.Str.{IsUtf8-from_ascii, is_utf8-from_IsUtf8}
 use Rattle.std.proofs.lemmas.Slice.Eq.{bytes_eq-Decides}
 use Rattle.std.proofs.Math.Nat.{pow-succ'}
-use Rattle.mds_types.specs.Mask.{hex_bits, is_hex, mask_bits}
-use Rattle.plan_text.specs.Fields.{mask_in, Read, ends_field, number_in, number_of, signed_in, value_at, word_at}
+use Rattle.mds_types.specs.Mask.{is_hex, mask_bits}
+use Rattle.plan_text.specs.Fields.{mask_in, ends_field, number_in, number_of, signed_in, value_at, word_at}
 use Rattle.plan_text.specs.Text.{behind, line}
 use Rattle.plan_text.proofs.LineSame.{IsField, is_inside, decimal_field}
 use Rattle.plan_text.proofs.NumberLemmas.{digits_tested, lt-ltb, number_written}

@@ -1,5 +1,5 @@
 -- How many of the certificates of a text are read.
-use Rattle.std.proofs.Common.{◌≡◌, ◌==◌, Bool, true, false, ◌∙◌, ℕ, zero, suc, ◌+◌, ◌<◌, ◌≤◌, List, [], ◌∷◌, ◌++◌, All, length, take, drop, get_or, inl, inr, refl, sym, ap, subst, arith, add-one, length-append}
+use Rattle.std.proofs.Common.{◌≡◌, ◌==◌, Bool, true, false, ◌∙◌, ℕ, zero, suc, ◌+◌, ◌<◌, ◌≤◌, List, [], ◌∷◌, ◌++◌, All, length, take, drop, get_or, inl, inr, refl, sym, ap, arith, add-one, length-append}
 use Rattle.std.proofs.lemmas.Bool.{cases_lt, eqb-true, false≢true}
 use Rattle.std.proofs.lemmas.List.{drop_all, take_all}
 use Rattle.std.proofs.lemmas.List.Elements.{All-head, All-tail}

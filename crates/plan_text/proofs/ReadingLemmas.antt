@@ -1,5 +1,5 @@
 -- What is written is read again, whatever stands behind it.
-use Rattle.std.proofs.Common.{◌≡◌, ◌∙◌, ℕ, zero, suc, ◌-◌, ◌<◌, ◌≤◌, ◌^◌, ◌==◌, Bool, true, false, cond, List, [], ◌∷◌, ◌++◌, All, codes, length, refl, sym, ap, subst, arith, append_assoc, add-one, Option, Some, None}
+use Rattle.std.proofs.Common.{◌≡◌, ◌∙◌, ℕ, suc, ◌-◌, ◌<◌, ◌≤◌, ◌^◌, ◌==◌, Bool, true, false, cond, List, [], ◌∷◌, ◌++◌, All, codes, length, refl, sym, ap, subst, arith, append_assoc, Option, Some, None}
 use Rattle.std.specs.Prelude.{decimal, ℤ, nat_le, nat_lt}
 use Rattle.std.specs.Fmt.{digits, signed_decimal}
 use Rattle.std.specs.List.{flat_map, after_first, before_first}
@@ -20,8 +20,8 @@ use Rattle.plan_text.specs.declared.parser.Fault.{Fault}
 use Rattle.plan_text.specs.declared.parser.Fault.TheVariants.{Memory, Expected}
 use Rattle.plan_text.specs.Fields.{Read, ◌>>=◌, ends_field, mask_in, signed_in, value_at, word_at}
 use Rattle.plan_text.specs.Reading.{Fails, IsMemory, cell_at, cells_at, counted_at, cut_at, cut_of, dual_at, end_at, first_at, heavy_at, label_at, lines_at, mask_at, number_at, plan_at, price_at, rank_at, ranks_at, row_at, table_at, with_front}
-use Rattle.plan_text.specs.Text.{cell_line, cut_lines, dual_lines, line, mask_line, number_line, label_line, place_lines, whole_plan_lines, price_line, problem_lines, rank_line, row_line, sum_lines, table, text, texts}
-use Rattle.plan_text.specs.Writable.{FitsCell, FitsCut, FitsList, FitsPart, FitsPlan, FitsPrice, FitsProblem, FitsRank, FitsRow, IsWritable}
+use Rattle.plan_text.specs.Text.{cell_line, cut_lines, line, mask_line, number_line, label_line, whole_plan_lines, price_line, problem_lines, rank_line, row_line, table, text}
+use Rattle.plan_text.specs.Writable.{FitsCell, FitsCut, FitsList, FitsPart, FitsPlan, FitsPrice, FitsProblem, FitsRank, FitsRow}
 use Rattle.plan_text.proofs.FieldLemmas.{field_left, left, line_left, mask_again, number_left, signed_again, then_reads, value_left, word_left}
 use Rattle.plan_text.proofs.LineSame.{IsField, hex_field, signed_field}
 

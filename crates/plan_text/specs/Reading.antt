@@ -1,6 +1,6 @@
 -- What a text is read as: the parser on lists of bytes. `read` promises more than that it does these steps:
 -- see its clauses.
-use Rattle.std.specs.Prelude.{◌≡◌, ⊤, ℕ, zero, suc, ◌-◌, ◌^◌, ◌&&◌, ◌==◌, nat_lt, nat_le, if◌then◌else◌}
+use Rattle.std.specs.Prelude.{◌≡◌, ⊤, ℕ, zero, suc, ◌-◌, ◌^◌, ◌==◌, nat_lt, nat_le, if◌then◌else◌}
 use Rattle.std.specs.Prelude.{List, [], ◌∷◌, ◌++◌, length, codes, Option, Some, None, Result, Ok, Err, ℤ}
 use Rattle.std.specs.Borrow.{Bor}
 use Rattle.std.specs.List.{after_first, before_first}
@@ -11,8 +11,6 @@ use Rattle.mds_types.specs.declared.cut_proof.Row.{Row}
 use Rattle.mds_types.specs.declared.problem.ProblemRow.{ProblemRow}
 use Rattle.mds_types.specs.DualProof.{DualData}
 use Rattle.mds_types.specs.Plan.{PlanData}
-use Rattle.mds_types.specs.Problem.{ProblemData}
-use Rattle.plan_text.specs.declared.certificate.Certificate.{Certificate}
 use Rattle.plan_text.specs.declared.parser.Fault.{Fault}
 use Rattle.plan_text.specs.declared.parser.Fault.TheVariants.{Memory, Expected}
 use Rattle.plan_text.specs.Fields.{Read, ◌>>=◌, ends_field, mask_in, number_in, signed_in, value_at, word_at}

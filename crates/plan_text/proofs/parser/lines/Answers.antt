@@ -1,4 +1,4 @@
-use Rattle.std.proofs.Common.{◌≡◌, ◌∙◌, ◌+◌, ◌-◌, ap, arith, suc, sym}
+use Rattle.std.proofs.Common.{◌∙◌, ◌+◌, ◌-◌, ap, arith, sym}
 use Rattle.plan_text.specs.Reading.{lines_at, with_front}
 use Rattle.plan_text.proofs.ReadingLemmas.{lines_next, lines_none}
 use Rattle.plan_text.proofs.parser.lines.Goals as goal
