@@ -1,9 +1,11 @@
 -- What the checker's answer says of the bytes that it was given.
-use Rattle.std.specs.Prelude.{◌≡◌, ◌<◌, ℕ, Bool, List, [], ◌∷◌, ◌++◌, All, codes, length, if◌then◌else◌}
+use Rattle.std.specs.Prelude.{◌≡◌, ◌<◌, ⊤, ℕ, Bool, List, [], ◌∷◌, ◌++◌, All, codes, length, if◌then◌else◌}
 use Rattle.mds_types.specs.Certificate.{IsBest, IsCertified}
 use Rattle.plan_text.specs.Text.{texts}
 use Rattle.plan_text.specs.Writable.{IsWritable}
 use Rattle.plan_text.specs.declared.certificate.Certificate.{Certificate}
+use Rattle.plan_text.specs.declared.read_error.ReadError.{ReadError}
+use Rattle.plan_text.specs.declared.read_error.ReadError.TheVariants.{Line, Memory}
 
 -- the proofs of a certificate's plan hold
 abbrev pub ProofsHold : Certificate → Type 0
@@ -30,6 +32,11 @@ AllHold bytes = (cs : List Certificate) × AreTexts bytes cs × All ProofsHold c
 -- the bytes are certificates whose plans are all best
 abbrev pub AllBest : List ℕ → Type 0
 AllBest bytes = (cs : List Certificate) × AreTexts bytes cs × All HasBest cs
+
+-- an error says that the bytes are no certificates, unless memory was refused
+abbrev pub Refuses : List ℕ → ReadError → Type 0
+Refuses bytes Memory = ⊤
+Refuses bytes (Line line expected) = ¬ (AreCertificates bytes)
 
 -- what is printed for an answer, and the status for it
 abbrev pub answer_line : Bool → List ℕ

@@ -1,5 +1,5 @@
 //! The answer for bytes, as it is printed.
-ghost use Rattle.std.specs.Prelude.{◌≡◌, ◌⊎◌, false, true};
+ghost use Rattle.std.specs.Prelude.{◌≡◌, ◌≤◌, ◌⊎◌, false, true, IfOk, OnErr};
 ghost use Rattle.std.specs.Io.KnownBytes.{Appends};
 ghost use Rattle.certificate_judge.specs.Judged.{AllBest, AllHold, AreCertificates, answer_line, answer_status};
 
@@ -11,7 +11,7 @@ use std::io::Write;
 /// Prints whether the bytes of this file are certificates whose proofs all hold.
 ///
 /// Gives the status: 0 for yes, 1 for no, 2 where they are no certificates or memory is refused, and 3 where the answer
-/// could not be written.
+/// could not be written. Where the status is 2, nothing is printed but the reason, to `errors`.
 pub fn tell<W: Write, E: Write>(
     alloc: Global,
     name: &str,
@@ -24,8 +24,25 @@ pub fn tell<W: Write, E: Write>(
     ensures best { result ≡ 0 → AllBest bytes.now }
     ensures no { result ≡ 1 → AreCertificates bytes.now × ¬ (AllHold bytes.now)
         × Appends (W.contents writer.old) (W.contents writer.new) (answer_line false) }
+    ensures unprinted { result ≡ 2 → writer.new ≡ writer.old }
+    ensures unwritten { result ≡ 3 → AreCertificates bytes.now }
+    ensures few { result ≤ 3 }
 {
-    match judge(alloc, bytes) {
+    answer(judge(alloc, bytes), name, writer, errors)
+}
+
+/// Prints what was judged, or why nothing was, and gives the status.
+fn answer<W: Write, E: Write>(
+    judged: Result<bool, ReadError>,
+    name: &str,
+    writer: &mut W,
+    errors: &mut E,
+) -> u8
+    ensures answered { IfOk judged (λ yes. ((result ≡ answer_status yes)
+        × Appends (W.contents writer.old) (W.contents writer.new) (answer_line yes)) ⊎ (result ≡ 3)) }
+    ensures refused { OnErr judged ((result ≡ 2) × (writer.new ≡ writer.old)) }
+{
+    match judged {
         Ok(yes) => print_answer(yes, writer, errors),
         Err(ReadError::Memory) => {
             let _ = writeln!(errors, "mdbal_check: 0 Memory");

@@ -1,5 +1,9 @@
 pub mod AllLemmas
 pub mod BitsLemmas
 pub mod CertificateSame
+pub mod FieldLemmas
 pub mod LineSame
+pub mod NumberLemmas
+pub mod ReaderLemmas
+pub mod ReadingLemmas
 pub mod TableLemmas

@@ -1,2 +1,4 @@
+pub mod Fields
+pub mod Reading
 pub mod Text
 pub mod Writable

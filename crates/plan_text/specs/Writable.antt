@@ -1,12 +1,12 @@
 -- What the types of the values allow, which is what can be written.
-use Rattle.std.specs.Prelude.{◌<◌, ◌^◌, ⊤, ℕ, ℤ, List, All, length}
+use Rattle.std.specs.Prelude.{◌<◌, ◌≤◌, ◌^◌, ⊤, ℕ, ℤ, List, All, length}
 use Rattle.std.specs.Int.Signed.{mag}
 use Rattle.mds_types.specs.declared.cut_proof.CutProof.{CutProof}
 use Rattle.mds_types.specs.declared.cut_proof.CutProof.TheVariants.{Zero, Heavy, Table}
 use Rattle.mds_types.specs.declared.cut_proof.Row.{Row}
 use Rattle.mds_types.specs.declared.problem.ProblemRow.{ProblemRow}
 use Rattle.mds_types.specs.Plan.{PlanData}
-use Rattle.mds_types.specs.Problem.{ProblemData}
+use Rattle.mds_types.specs.Problem.{IsProblem, ProblemData}
 use Rattle.plan_text.specs.declared.certificate.Certificate.{Certificate}
 
 pub record FitsRow (row : ProblemRow) : Type 0 where
@@ -40,20 +40,24 @@ FitsCut Zero = ⊤
 FitsCut (Heavy row) = row < 2 ^ 32
 FitsCut (Table rows) = FitsList FitsCell rows
 
+-- parents stand before their children, rows and heats are within the limits, and there is a rank
 pub record FitsProblem (problem : ProblemData) : Type 0 where
+  pub sound : IsProblem problem
   pub rows : FitsList FitsRow problem.rows
   pub ranks : problem.ranks < 2 ^ 64
 
+-- a plan has at most 64 parts, each with its rank
 pub record FitsPlan (plan : PlanData) : Type 0 where
   pub part : FitsList FitsPart plan.part
   pub rank : FitsList FitsRank plan.rank
+  pub few : length plan.rank ≤ 64
   pub greatest : plan.greatest < 2 ^ 64
   pub moved : plan.moved < 2 ^ 64
   pub cut : FitsCut plan.cut
   pub part_price : FitsList FitsPrice plan.dual.part_price
   pub rank_price : FitsList FitsPrice plan.dual.rank_price
 
--- the numbers of a certificate are within their types
+-- a certificate that its types allow: a problem, and a plan whose numbers are within their types
 pub record IsWritable (c : Certificate) : Type 0 where
   pub problem : FitsProblem c.problem
   pub plan : FitsPlan c.plan

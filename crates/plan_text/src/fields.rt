@@ -1,37 +1,115 @@
-//! The fields of a text, and the numbers that they write.
-ghost use Rattle.std.specs.Prelude.{◌≤◌, IfSome};
+//! The fields of a text, one after another, and the numbers that they write.
+ghost use Rattle.std.specs.Prelude.{◌≡◌, ◌≤◌, ◌^◌, length, neg_ℤ, pos, IfSome, option_map};
+ghost use Rattle.std.specs.List.{after_first, before_first, position_or_len};
+ghost use Rattle.std.specs.Str.Parse.{starts_with_minus};
+ghost use Rattle.plan_text.specs.Fields.{ends_field, number_in, number_of, read_view, signed_in, value_at, word_at};
 
-use std::alloc::{AllocError, Global};
+/// Whether a byte ends a field.
+fn ends_field(byte: u8) -> bool
+    ensures { result ≡ ends_field byte }
+{
+    byte == b' ' || byte == b'\n'
+}
 
-/// What stands between blanks and newlines.
-pub(crate) fn fields(alloc: Global, text: &[u8]) -> Result<Vec<&[u8]>, AllocError> {
-    text.split(|byte| *byte == b' ' || *byte == b'\n')
-        .collect(alloc)
+/// How many bytes the first field has.
+fn field_length(text: &[u8]) -> usize
+    ensures value { result ≡ position_or_len ends_field text.now }
+    ensures within { result ≤ length text.now }
+{
+    for (i, byte) in text.iter().enumerate() {
+        if ends_field(*byte) {
+            return i;
+        }
+    }
+    text.len()
+}
+
+/// The first field, and what stands behind the byte that ends it.
+pub(crate) fn field(text: &[u8]) -> (&[u8], &[u8])
+    ensures first { result.0.now ≡ before_first ends_field text.now }
+    ensures rest { result.1.now ≡ after_first ends_field text.now }
+{
+    let length = field_length(text);
+    if length < text.len() {
+        (&text[..length], &text[length + 1..])
+    } else {
+        (text, &text[length..])
+    }
+}
+
+/// What stands behind a word.
+pub(crate) fn word<'a>(text: &'a [u8], name: &[u8]) -> Option<&'a [u8]>
+    ensures { option_map (λ rest. rest.now) result ≡ word_at name.now text.now }
+{
+    let (first, rest) = field(text);
+    if first == name { Some(rest) } else { None }
+}
+
+/// The number that a text writes, where it is at most `limit`.
+fn number_of(text: &str, limit: u64) -> Option<u64>
+    ensures value { result ≡ number_of limit text.now }
+    ensures small { IfSome result (λ n. n ≤ limit) }
+{
+    match text.parse::<u64>() {
+        Ok(number) if number <= limit => Some(number),
+        _ => None,
+    }
 }
 
 /// The number that a field writes, where it is at most `limit`.
-pub(crate) fn number(field: &[u8], limit: u64) -> Option<u64>
-    ensures { IfSome result (λ n. n ≤ limit) }
+pub(crate) fn number_in(field: &[u8], limit: u64) -> Option<u64>
+    ensures value { result ≡ number_in limit field.now }
+    ensures small { IfSome result (λ n. n ≤ limit) }
 {
     match str::from_utf8(field) {
-        Ok(text) => match text.parse::<u64>() {
-            Ok(number) if number <= limit => Some(number),
-            _ => None,
-        },
+        Ok(text) => number_of(text, limit),
         Err(_) => None,
     }
 }
 
+/// The number that the first field writes, where it is at most `limit`.
+pub(crate) fn number(text: &[u8], limit: u64) -> Option<(u64, &[u8])>
+    ensures value { read_view (λ n. n) result ≡ value_at (number_in limit) text.now }
+    ensures small { IfSome result (λ found. found.0 ≤ limit) }
+{
+    let (first, rest) = field(text);
+    let number = number_in(first, limit)?;
+    Some((number, rest))
+}
+
+/// The number below 0 of this size.
+fn negated(number: u64) -> i64
+    requires { number ≤ 2 ^ 63 }
+    ensures { result ≡ neg_ℤ (pos number) }
+{
+    (-i128::from(number)) as i64
+}
+
+fn begins_with_minus(field: &[u8]) -> bool
+    ensures { result ≡ starts_with_minus field.now }
+{
+    !field.is_empty() && field[0] == b'-'
+}
+
 /// The signed number that a field writes.
-pub(crate) fn signed(field: &[u8]) -> Option<i64> {
-    match field {
-        [b'-', digits @ ..] => match number(digits, 1 << 63) {
-            Some(number) => Some((-i128::from(number)) as i64),
-            None => None,
-        },
-        _ => match number(field, i64::MAX as u64) {
-            Some(number) => Some(number as i64),
-            None => None,
-        },
+#[tactic(auto, unfolding(crate::specs::Fields::signed_in))]
+fn signed_in(field: &[u8]) -> Option<i64>
+    ensures { result ≡ signed_in field.now }
+{
+    if begins_with_minus(field) {
+        let number = number_in(&field[1..], 1 << 63)?;
+        Some(negated(number))
+    } else {
+        let number = number_in(field, i64::MAX as u64)?;
+        Some(number as i64)
     }
+}
+
+/// The signed number that the first field writes.
+pub(crate) fn signed(text: &[u8]) -> Option<(i64, &[u8])>
+    ensures { read_view (λ z. z) result ≡ value_at signed_in text.now }
+{
+    let (first, rest) = field(text);
+    let number = signed_in(first)?;
+    Some((number, rest))
 }

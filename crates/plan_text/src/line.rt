@@ -1,18 +1,23 @@
 //! What has a line of its own in a certificate.
 ghost use Rattle.std.specs.Prelude.{◌≡◌, IfOk, string_bytes};
+ghost use Rattle.plan_text.specs.Fields.{read_view};
+ghost use Rattle.plan_text.specs.Reading.{cell_at, label_at, number_at, price_at, rank_at, row_at};
 ghost use Rattle.plan_text.specs.Text.{cell_line, label_line, price_line, rank_line, row_line};
 ghost use Rattle.plan_text.specs.Writable.{FitsCell, FitsPart, FitsPrice, FitsRank, FitsRow};
 
-use crate::fields::{number, signed};
+use crate::fields::{number, signed, word};
 use crate::read_error::Expected;
 use mds_types::{ProblemRow, Rank, Row};
 use std::alloc::{AllocError, Global};
 
 /// What has a line of its own in a certificate.
 pub(crate) trait Line: Copy {
-    ghost use Rattle.std.specs.Prelude.{ℕ, List};
+    ghost use Rattle.std.specs.Prelude.{◌≡◌, ℕ, List};
+    ghost use Rattle.plan_text.specs.Fields.{Read, read_view};
 
     ghost line: { Self → List ℕ };
+
+    ghost at: { List ℕ → Read Self };
 
     ghost fits: { Self → Type 0 };
 
@@ -20,8 +25,9 @@ pub(crate) trait Line: Copy {
     fn to_line(self, alloc: Global) -> Result<String, AllocError>
         ensures { IfOk result (λ made. string_bytes made ≡ line self) };
 
-    /// Reads it from the fields of its line, and hands back those behind them.
-    fn from_fields<'a, 'b>(fields: &'b [&'a [u8]]) -> Option<(Self, &'b [&'a [u8]])>;
+    /// Reads it from its line, and hands back the text behind it.
+    fn from_line(text: &[u8]) -> Option<(Self, &[u8])>
+        ensures { read_view (λ x. x) result ≡ at text.now };
 
     /// How its line is written.
     fn expected() -> Expected;
@@ -34,6 +40,8 @@ pub(crate) trait Line: Copy {
 impl Line for ProblemRow {
     ghost line = { row_line };
 
+    ghost at = { row_at };
+
     ghost fits = { FitsRow };
 
     fn to_line(self, alloc: Global) -> Result<String, AllocError> {
@@ -42,14 +50,22 @@ impl Line for ProblemRow {
         format!(in alloc; "row {parent} {heat} {inodes} {now}\n")
     }
 
-    fn from_fields<'a, 'b>(fields: &'b [&'a [u8]]) -> Option<(Self, &'b [&'a [u8]])> {
-        match fields {
-            [word, parent, heat, inodes, now, rest @ ..] if *word == b"row".as_slice() => {
-                let row = row(parent, heat, inodes, now)?;
-                Some((row, rest))
-            }
-            _ => None,
-        }
+    #[tactic(auto, unfolding(crate::specs::Reading::row_at))]
+    fn from_line(text: &[u8]) -> Option<(Self, &[u8])> {
+        let rest = word(text, b"row")?;
+        let (parent, rest) = number(rest, u64::from(u32::MAX))?;
+        let (heat, rest) = number(rest, u64::MAX)?;
+        let (inodes, rest) = number(rest, u64::from(u32::MAX))?;
+        let Some((now, rest)) = rank(rest) else {
+            return None;
+        };
+        let row = ProblemRow {
+            parent: parent as u32,
+            heat,
+            inodes: inodes as u32,
+            now,
+        };
+        Some((row, rest))
     }
 
     fn expected() -> Expected {
@@ -61,28 +77,19 @@ impl Line for ProblemRow {
     }
 }
 
-/// The row that these fields write.
-fn row(parent: &[u8], heat: &[u8], inodes: &[u8], now: &[u8]) -> Option<ProblemRow> {
-    let parent = number(parent, u64::from(u32::MAX))? as u32;
-    let heat = number(heat, u64::MAX)?;
-    let inodes = number(inodes, u64::from(u32::MAX))? as u32;
-    let now = rank(now)?;
-    Some(ProblemRow {
-        parent,
-        heat,
-        inodes,
-        now,
-    })
-}
-
-/// The rank that a field writes.
-fn rank(field: &[u8]) -> Option<Rank> {
-    let number = number(field, 63)?;
-    Rank::new(number as u8)
+/// The rank that the first field writes.
+fn rank(text: &[u8]) -> Option<(Rank, &[u8])>
+    ensures { read_view (λ rank. rank) result ≡ number_at 6 text.now }
+{
+    let (number, rest) = number(text, 63)?;
+    let rank = Rank::new(number as u8)?;
+    Some((rank, rest))
 }
 
 impl Line for u32 {
     ghost line = { label_line };
+
+    ghost at = { label_at };
 
     ghost fits = { FitsPart };
 
@@ -90,14 +97,11 @@ impl Line for u32 {
         format!(in alloc; "part {self}\n")
     }
 
-    fn from_fields<'a, 'b>(fields: &'b [&'a [u8]]) -> Option<(Self, &'b [&'a [u8]])> {
-        match fields {
-            [word, part, rest @ ..] if *word == b"part".as_slice() => {
-                let part = number(part, u64::from(u32::MAX))?;
-                Some((part as u32, rest))
-            }
-            _ => None,
-        }
+    #[tactic(auto, unfolding(crate::specs::Reading::label_at))]
+    fn from_line(text: &[u8]) -> Option<(Self, &[u8])> {
+        let rest = word(text, b"part")?;
+        let (part, rest) = number(rest, u64::from(u32::MAX))?;
+        Some((part as u32, rest))
     }
 
     fn expected() -> Expected {
@@ -110,6 +114,8 @@ impl Line for u32 {
 impl Line for Rank {
     ghost line = { rank_line };
 
+    ghost at = { rank_at };
+
     ghost fits = { FitsRank };
 
     fn to_line(self, alloc: Global) -> Result<String, AllocError> {
@@ -117,11 +123,10 @@ impl Line for Rank {
         format!(in alloc; "rank {number}\n")
     }
 
-    fn from_fields<'a, 'b>(fields: &'b [&'a [u8]]) -> Option<(Self, &'b [&'a [u8]])> {
-        match fields {
-            [word, number, rest @ ..] if *word == b"rank".as_slice() => Some((rank(number)?, rest)),
-            _ => None,
-        }
+    #[tactic(auto, unfolding(crate::specs::Reading::rank_at))]
+    fn from_line(text: &[u8]) -> Option<(Self, &[u8])> {
+        let rest = word(text, b"rank")?;
+        rank(rest)
     }
 
     fn expected() -> Expected {
@@ -136,6 +141,8 @@ impl Line for Rank {
 impl Line for Row {
     ghost line = { cell_line };
 
+    ghost at = { cell_at };
+
     ghost fits = { FitsCell };
 
     fn to_line(self, alloc: Global) -> Result<String, AllocError> {
@@ -144,13 +151,20 @@ impl Line for Row {
         format!(in alloc; "cell {cuts} {rest} {price} {cut}\n")
     }
 
-    fn from_fields<'a, 'b>(fields: &'b [&'a [u8]]) -> Option<(Self, &'b [&'a [u8]])> {
-        match fields {
-            [word, cuts, rest, price, cut, more @ ..] if *word == b"cell".as_slice() => {
-                Some((cell(cuts, rest, price, cut)?, more))
-            }
-            _ => None,
-        }
+    #[tactic(auto, unfolding(crate::specs::Reading::cell_at))]
+    fn from_line(text: &[u8]) -> Option<(Self, &[u8])> {
+        let text = word(text, b"cell")?;
+        let (cuts, text) = number(text, u64::from(u32::MAX))?;
+        let (rest, text) = number(text, u64::MAX)?;
+        let (price, text) = number(text, u64::MAX)?;
+        let (cut, text) = number(text, 1)?;
+        let row = Row {
+            rest,
+            price,
+            cuts: cuts as u32,
+            cut: cut == 1,
+        };
+        Some((row, text))
     }
 
     fn expected() -> Expected {
@@ -160,22 +174,10 @@ impl Line for Row {
     fn known(self) {}
 }
 
-/// The row of a table that these fields write.
-fn cell(cuts: &[u8], rest: &[u8], price: &[u8], cut: &[u8]) -> Option<Row> {
-    let cuts = number(cuts, u64::from(u32::MAX))? as u32;
-    let rest = number(rest, u64::MAX)?;
-    let price = number(price, u64::MAX)?;
-    let cut = number(cut, 1)? == 1;
-    Some(Row {
-        rest,
-        price,
-        cuts,
-        cut,
-    })
-}
-
 impl Line for i64 {
     ghost line = { price_line };
+
+    ghost at = { price_at };
 
     ghost fits = { FitsPrice };
 
@@ -183,14 +185,10 @@ impl Line for i64 {
         format!(in alloc; "price {self}\n")
     }
 
-    fn from_fields<'a, 'b>(fields: &'b [&'a [u8]]) -> Option<(Self, &'b [&'a [u8]])> {
-        match fields {
-            [word, price, rest @ ..] if *word == b"price".as_slice() => Some((
-                signed(price)?,
-                rest,
-            )),
-            _ => None,
-        }
+    #[tactic(auto, unfolding(crate::specs::Reading::price_at))]
+    fn from_line(text: &[u8]) -> Option<(Self, &[u8])> {
+        let rest = word(text, b"price")?;
+        signed(rest)
     }
 
     fn expected() -> Expected {

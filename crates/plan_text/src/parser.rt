@@ -1,62 +1,71 @@
-//! Values from the fields of a text.
+//! Values from a text, one after another from the front.
+ghost use Rattle.std.specs.Prelude.{◌≡◌, ◌++◌, ℕ, List, option_map};
+ghost use Rattle.mds_types.specs.Problem.{ProblemData};
+ghost use Rattle.plan_text.specs.Fields.{mask_in, read_view};
+ghost use Rattle.plan_text.specs.Reading.{Gives, Reads, cells_at, counted_at, cut_at, cut_of, dual_at, end_at};
+ghost use Rattle.plan_text.specs.Reading.{first_at, heavy_at, lines_at, mask_at, plan_at, ranks_at, table_at};
+ghost use Rattle.plan_text.specs.Text.{problem_lines, text as text_of};
+ghost use Rattle.plan_text.specs.Writable.{FitsProblem, IsWritable};
+ghost use Rattle.plan_text.specs.declared.certificate.Certificate.{Certificate};
 
 use crate::certificate::Certificate;
-use crate::fields::number;
+use crate::fields::{field, number, word};
 use crate::line::Line;
 use crate::read_error::Expected;
 use arrayvec::ArrayVec;
 use mds_types::{CutProof, CutTable, DualProof, Plan, Problem, Rank, RankSet};
 use std::alloc::{AllocFailed, Global};
 
-/// Why fields aren't those of a certificate.
+/// Why a text isn't that of a certificate.
 #[derive(Clone, Copy)]
 pub(crate) enum Fault {
     /// The allocator refused a growth.
     Memory,
-    /// Where so many fields are left, something else was expected.
+    /// Where so many bytes are left, something else was expected.
     Expected(usize, Expected),
 }
 
 impl<T: Drop> From<AllocFailed<T>> for Fault {
+    ghost use Rattle.std.specs.Prelude.{◌≡◌};
+    ghost use Rattle.plan_text.specs.declared.parser.Fault.TheVariants.{Memory};
+
+    ghost from_gives = { λ _ fault. fault ≡ Memory };
+
     fn from(_: AllocFailed<T>) -> Fault {
         Fault::Memory
     }
 }
 
 /// The number behind a word.
-fn counted<'a, 'b>(fields: &'b [&'a [u8]], name: &[u8]) -> Option<(u64, &'b [&'a [u8]])> {
-    match fields {
-        [word, field, rest @ ..] if *word == name => Some((number(field, u64::MAX)?, rest)),
-        _ => None,
-    }
+#[tactic(auto, unfolding(crate::specs::Reading::counted_at))]
+fn counted<'a>(text: &'a [u8], name: &[u8]) -> Option<(u64, &'a [u8])>
+    ensures { read_view (λ n. n) result ≡ counted_at name.now text.now }
+{
+    let rest = word(text, name)?;
+    number(rest, u64::MAX)
 }
 
 /// The number behind a word, or the fault that there is none.
-fn sum<'a, 'b>(
-    fields: &'b [&'a [u8]],
-    name: &[u8],
-    expected: Expected,
-) -> Result<(u64, &'b [&'a [u8]]), Fault> {
-    match counted(fields, name) {
+fn sum<'a>(text: &'a [u8], name: &[u8], expected: Expected) -> Result<(u64, &'a [u8]), Fault>
+    ensures { Reads (λ n. n) result (counted_at name.now text.now) }
+{
+    match counted(text, name) {
         Some(found) => Ok(found),
-        None => Err(Fault::Expected(fields.len(), expected)),
+        None => Err(Fault::Expected(text.len(), expected)),
     }
 }
 
-/// A list, with its name and length in front.
-fn table<'a, 'b, T: Line>(
-    alloc: Global,
-    fields: &'b [&'a [u8]],
-    name: &[u8],
-    expected: Expected,
-) -> Result<(Vec<T>, &'b [&'a [u8]]), Fault> {
-    let (count, mut rest) = sum(fields, name, expected)?;
+/// So many lines.
+fn lines<T: Line>(alloc: Global, text: &[u8], count: u64) -> Result<(Vec<T>, &[u8]), Fault>
+    ensures { Reads (λ items. items.items) result (lines_at T.at count text.now) }
+{
     let mut items = Vec::new(alloc);
+    let mut rest = text;
     for _ in 0..count {
-        match T::from_fields(rest) {
-            Some((item, more)) => {
-                items.push(item)?;
-                rest = more;
+        match T::from_line(rest) {
+            Some(found) => {
+                items.push(found.0)?;
+                rest = found.1;
             }
             None => return Err(Fault::Expected(rest.len(), T::expected())),
         }
@@ -64,82 +73,130 @@ fn table<'a, 'b, T: Line>(
     Ok((items, rest))
 }
 
-/// A set of ranks.
-fn mask<'a, 'b>(fields: &'b [&'a [u8]]) -> Option<(RankSet, &'b [&'a [u8]])> {
-    match fields {
-        [word, digits, rest @ ..] if *word == b"mask".as_slice() => match str::from_utf8(digits) {
-            Ok(digits) => match RankSet::parse(digits) {
-                Ok(ranks) => Some((ranks, rest)),
-                Err(_) => None,
-            },
-            Err(_) => None,
-        },
-        _ => None,
+/// A list, with its name and length in front.
+#[tactic(auto, unfolding(crate::specs::Reading::table_at))]
+fn table<'a, T: Line>(
+    alloc: Global,
+    text: &'a [u8],
+    name: &[u8],
+    expected: Expected,
+) -> Result<(Vec<T>, &'a [u8]), Fault>
+    ensures { Reads (λ items. items.items) result (table_at name.now T.at text.now) }
+{
+    let (count, rest) = sum(text, name, expected)?;
+    lines(alloc, rest, count)
+}
+
+/// The set of ranks that a field writes.
+fn mask_in(field: &[u8]) -> Option<RankSet>
+    ensures { result ≡ mask_in field.now }
+{
+    match str::from_utf8(field) {
+        Ok(digits) => RankSet::parse(digits).ok(),
+        Err(_) => None,
     }
 }
 
+/// A set of ranks.
+#[tactic(auto, unfolding(crate::specs::Reading::mask_at))]
+fn mask(text: &[u8]) -> Option<(RankSet, &[u8])>
+    ensures { read_view (λ ranks. ranks) result ≡ mask_at text.now }
+{
+    let rest = word(text, b"mask")?;
+    let (digits, rest) = field(rest);
+    let ranks = mask_in(digits)?;
+    Some((ranks, rest))
+}
+
 /// The ranks and the rows of a problem.
-fn problem<'a, 'b>(
-    alloc: Global,
-    fields: &'b [&'a [u8]],
-) -> Result<(Problem, &'b [&'a [u8]]), Fault> {
-    let Some((ranks, rest)) = mask(fields) else {
-        return Err(Fault::Expected(fields.len(), Expected::Mask));
+fn problem(alloc: Global, text: &[u8]) -> Result<(Problem, &[u8]), Fault>
+    ensures { (x : ProblemData) (more : List ℕ) → FitsProblem x → text.now ≡ problem_lines x ++ more →
+        Gives result x more }
+{
+    let Some(ranks) = mask(text) else {
+        return Err(Fault::Expected(text.len(), Expected::Mask));
     };
-    let (rows, rest) = table(alloc, rest, b"rows", Expected::Rows)?;
-    match Problem::new(rows, ranks) {
+    let (rows, rest) = table(alloc, ranks.1, b"rows", Expected::Rows)?;
+    match Problem::new(rows, ranks.0) {
         Ok(problem) => Ok((problem, rest)),
-        Err(_) => Err(Fault::Expected(fields.len(), Expected::Problem)),
+        Err(_) => Err(Fault::Expected(text.len(), Expected::Problem)),
     }
 }
 
 /// The ranks of the parts.
-fn ranks<'a, 'b>(
-    alloc: Global,
-    fields: &'b [&'a [u8]],
-) -> Result<(ArrayVec<Rank, 64>, &'b [&'a [u8]]), Fault> {
-    let (items, rest) = table(alloc, fields, b"ranks", Expected::Ranks)?;
+#[tactic(auto, unfolding(crate::specs::Reading::ranks_at))]
+fn ranks(alloc: Global, text: &[u8]) -> Result<(ArrayVec<Rank, 64>, &[u8]), Fault>
+    ensures { Reads (λ ranks. ranks.items) result (ranks_at text.now) }
+{
+    let (items, rest) = table(alloc, text, b"ranks", Expected::Ranks)?;
     let mut ranks = ArrayVec::new();
     match ranks.try_extend_from_slice(items.as_slice()) {
         Ok(()) => Ok((ranks, rest)),
-        Err(_) => Err(Fault::Expected(fields.len(), Expected::Ranks)),
-    }
-}
-
-/// A cut proof.
-fn cut<'a, 'b>(alloc: Global, fields: &'b [&'a [u8]]) -> Result<(CutProof, &'b [&'a [u8]]), Fault> {
-    match fields {
-        [word, kind, rest @ ..] if *word == b"cut".as_slice() && *kind == b"zero".as_slice() => {
-            Ok((CutProof::Zero, rest))
-        }
-        [word, kind, rest @ ..] if *word == b"cut".as_slice() && *kind == b"heavy".as_slice() => {
-            heavy(rest, fields.len())
-        }
-        [word, kind, rest @ ..] if *word == b"cut".as_slice() && *kind == b"table".as_slice() => {
-            let (rows, rest) = table(alloc, rest, b"cells", Expected::Cells)?;
-            Ok((CutProof::Table(CutTable::new(rows)), rest))
-        }
-        _ => Err(Fault::Expected(fields.len(), Expected::Cut)),
+        Err(_) => Err(Fault::Expected(text.len(), Expected::Ranks)),
     }
 }
 
 /// The proof by one row.
-fn heavy<'a, 'b>(fields: &'b [&'a [u8]], left: usize) -> Result<(CutProof, &'b [&'a [u8]]), Fault> {
-    match fields {
-        [row, rest @ ..] => match number(row, u64::from(u32::MAX)) {
-            Some(row) => Ok((CutProof::Heavy(row as u32), rest)),
-            None => Err(Fault::Expected(left, Expected::Cut)),
-        },
-        _ => Err(Fault::Expected(left, Expected::Cut)),
+#[tactic(auto, unfolding(crate::specs::Reading::heavy_at))]
+fn heavy(text: &[u8], left: usize) -> Result<(CutProof, &[u8]), Fault>
+    ensures { Reads (λ cut. cut) result (heavy_at text.now) }
+{
+    match number(text, u64::from(u32::MAX)) {
+        Some((row, rest)) => Ok((CutProof::Heavy(row as u32), rest)),
+        None => Err(Fault::Expected(left, Expected::Cut)),
+    }
+}
+
+/// The proof by a table.
+#[tactic(auto, unfolding(crate::specs::Reading::cells_at))]
+fn cells(alloc: Global, text: &[u8]) -> Result<(CutProof, &[u8]), Fault>
+    ensures { Reads (λ cut. cut) result (cells_at text.now) }
+{
+    let (rows, rest) = table(alloc, text, b"cells", Expected::Cells)?;
+    Ok((CutProof::Table(CutTable::new(rows)), rest))
+}
+
+/// The proof of this kind; its line begins where `left` bytes are left.
+#[tactic(auto, unfolding(crate::specs::Reading::cut_of))]
+fn cut_of<'a>(
+    alloc: Global,
+    kind: &[u8],
+    text: &'a [u8],
+    left: usize,
+) -> Result<(CutProof, &'a [u8]), Fault>
+    ensures { Reads (λ cut. cut) result (cut_of kind.now text.now) }
+{
+    if kind == b"zero".as_slice() {
+        Ok((CutProof::Zero, text))
+    } else if kind == b"heavy".as_slice() {
+        heavy(text, left)
+    } else if kind == b"table".as_slice() {
+        cells(alloc, text)
+    } else {
+        Err(Fault::Expected(left, Expected::Cut))
+    }
+}
+
+/// A cut proof.
+#[tactic(auto, unfolding(crate::specs::Reading::cut_at))]
+fn cut(alloc: Global, text: &[u8]) -> Result<(CutProof, &[u8]), Fault>
+    ensures { Reads (λ cut. cut) result (cut_at text.now) }
+{
+    match word(text, b"cut") {
+        Some(rest) => {
+            let (kind, rest) = field(rest);
+            cut_of(alloc, kind, rest, text.len())
+        }
+        None => Err(Fault::Expected(text.len(), Expected::Cut)),
     }
 }
 
 /// A dual proof.
-fn dual<'a, 'b>(
-    alloc: Global,
-    fields: &'b [&'a [u8]],
-) -> Result<(DualProof, &'b [&'a [u8]]), Fault> {
-    let (part_price, rest) = table(alloc, fields, b"part_prices", Expected::PartPrices)?;
+#[tactic(auto, unfolding(crate::specs::Reading::dual_at))]
+fn dual(alloc: Global, text: &[u8]) -> Result<(DualProof, &[u8]), Fault>
+    ensures { Reads (λ dual. dual) result (dual_at text.now) }
+{
+    let (part_price, rest) = table(alloc, text, b"part_prices", Expected::PartPrices)?;
     let (rank_price, rest) = table(alloc, rest, b"rank_prices", Expected::RankPrices)?;
     Ok((
         DualProof {
@@ -151,8 +208,11 @@ fn dual<'a, 'b>(
 }
 
 /// A plan with its proofs.
-fn plan<'a, 'b>(alloc: Global, fields: &'b [&'a [u8]]) -> Result<(Plan, &'b [&'a [u8]]), Fault> {
-    let (part, rest) = table(alloc, fields, b"parts", Expected::Parts)?;
+#[tactic(auto, unfolding(crate::specs::Reading::plan_at))]
+fn plan(alloc: Global, text: &[u8]) -> Result<(Plan, &[u8]), Fault>
+    ensures { Reads (λ plan. plan) result (plan_at text.now) }
+{
+    let (part, rest) = table(alloc, text, b"parts", Expected::Parts)?;
     let (rank, rest) = ranks(alloc, rest)?;
     let (greatest, rest) = sum(rest, b"greatest", Expected::Greatest)?;
     let (moved, rest) = sum(rest, b"moved", Expected::Moved)?;
@@ -171,22 +231,39 @@ fn plan<'a, 'b>(alloc: Global, fields: &'b [&'a [u8]]) -> Result<(Plan, &'b [&'a
     ))
 }
 
+/// What stands behind the first line of a certificate.
+#[tactic(auto, unfolding(crate::specs::Reading::first_at))]
+fn first_line(text: &[u8]) -> Option<&[u8]>
+    ensures { option_map (λ rest. rest.now) result ≡ first_at text.now }
+{
+    let rest = word(text, b"certificate")?;
+    word(rest, b"1")
+}
+
+/// What stands behind the last line, which a byte has to end.
+#[tactic(auto, unfolding(crate::specs::Reading::end_at))]
+fn end_line(text: &[u8]) -> Option<&[u8]>
+    ensures { option_map (λ rest. rest.now) result ≡ end_at text.now }
+{
+    if text.len() > 3 {
+        word(text, b"end")
+    } else {
+        None
+    }
+}
+
 /// The first certificate.
-pub(crate) fn certificate<'a, 'b>(
-    alloc: Global,
-    fields: &'b [&'a [u8]],
-) -> Result<(Certificate, &'b [&'a [u8]]), Fault> {
-    let rest = match fields {
-        [word, version, rest @ ..]
-            if *word == b"certificate".as_slice() && *version == b"1".as_slice() => rest,
-        _ => return Err(Fault::Expected(fields.len(), Expected::First)),
+pub(crate) fn certificate(alloc: Global, text: &[u8]) -> Result<(Certificate, &[u8]), Fault>
+    ensures { (c : Certificate) (more : List ℕ) → IsWritable c → text.now ≡ text_of c.problem c.plan ++ more →
+        Gives result c more }
+{
+    let Some(rest) = first_line(text) else {
+        return Err(Fault::Expected(text.len(), Expected::First));
     };
     let (problem, rest) = problem(alloc, rest)?;
     let (plan, rest) = plan(alloc, rest)?;
-    match rest {
-        [word, rest @ ..] if *word == b"end".as_slice() && !rest.is_empty() => {
-            Ok((Certificate { problem, plan }, rest))
-        }
-        _ => Err(Fault::Expected(rest.len(), Expected::End)),
+    match end_line(rest) {
+        Some(rest) => Ok((Certificate { problem, plan }, rest)),
+        None => Err(Fault::Expected(rest.len(), Expected::End)),
     }
 }

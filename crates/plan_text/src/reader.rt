@@ -1,11 +1,12 @@
 //! Reading certificates.
-ghost use Rattle.std.specs.Prelude.{◌≡◌, ◌<◌, All, IfOk, List, length, string_bytes};
+ghost use Rattle.std.specs.Prelude.{◌≡◌, ◌<◌, All, IfErr, IfOk, List, MatchResult, length, string_bytes};
+ghost use Rattle.plan_text.specs.Reading.{IsMemory};
 ghost use Rattle.plan_text.specs.Text.{texts};
 ghost use Rattle.plan_text.specs.Writable.{IsWritable};
 ghost use Rattle.plan_text.specs.declared.certificate.Certificate.{Certificate};
+ghost use Rattle.plan_text.specs.declared.read_error.ReadError.TheVariants.{Memory};
 
 use crate::certificate::Certificate;
-use crate::fields::fields;
 use crate::fits::all_writable;
 use crate::laws::texts_differ;
 use crate::parser::{Fault, certificate};
@@ -13,19 +14,13 @@ use crate::read_error::{Expected, ReadError};
 use crate::writer::write;
 use std::alloc::{AllocError, Global};
 
-/// The line, counted from 1, of the field behind so many.
-fn line_of_field(text: &[u8], before: usize) -> u64 {
+/// The line, counted from 1, in which the last `left` bytes begin.
+fn line_of(text: &[u8], left: usize) -> u64 {
+    let before = text.len().saturating_sub(left);
     let mut line: u64 = 1;
-    let mut left = before;
-    for byte in text {
-        if left == 0 {
-            break;
-        }
+    for byte in text.iter().take(before) {
         if *byte == b'\n' {
             line = line.saturating_add(1);
-        }
-        if *byte == b'\n' || *byte == b' ' {
-            left -= 1;
         }
     }
     line
@@ -45,23 +40,17 @@ fn first_other_line(text: &[u8], other: &[u8]) -> u64 {
     line
 }
 
-/// Whether nothing is left but what stands behind the last newline, which is nothing.
-fn is_over(fields: &[&[u8]]) -> bool {
-    match fields {
-        [last] => last.is_empty(),
-        _ => false,
-    }
-}
-
-/// The certificates that fields write, as far as a parser goes that doesn't mind what parts the fields.
-fn parsed<'a, 'b>(alloc: Global, fields: &'b [&'a [u8]]) -> Result<Vec<Certificate>, Fault>
+/// The certificates of a text, as far as a parser goes that doesn't mind what parts the fields.
+fn parsed(alloc: Global, text: &[u8]) -> Result<Vec<Certificate>, Fault>
     ensures some { IfOk result (λ found. 0 < length found.items) }
+    ensures again { (cs : List Certificate) → All IsWritable cs → 0 < length cs → text.now ≡ texts cs →
+        MatchResult result (λ found. found.items ≡ cs) IsMemory }
 {
-    let (first, mut rest) = certificate(alloc, fields)?;
+    let (first, mut rest) = certificate(alloc, text)?;
     let mut found = Vec::new(alloc);
     found.push(first)?;
-    for _ in 0..fields.len() {
-        if is_over(rest) {
+    for _ in 0..text.len() {
+        if rest.is_empty() {
             return Ok(found);
         }
         let (next, more) = certificate(alloc, rest)?;
@@ -89,14 +78,14 @@ pub fn read(alloc: Global, text: &[u8]) -> Result<Vec<Certificate>, ReadError>
     ensures writable { IfOk result (λ found. All IsWritable found.items) }
     ensures only { (cs : List Certificate) → All IsWritable cs → text.now ≡ texts cs →
         IfOk result (λ found. found.items ≡ cs) }
+    ensures accepts { (cs : List Certificate) → All IsWritable cs → 0 < length cs → text.now ≡ texts cs →
+        IfErr result (λ error. error ≡ Memory) }
 {
-    let fields = fields(alloc, text)?;
-    let found = match parsed(alloc, fields.as_slice()) {
+    let found = match parsed(alloc, text) {
         Ok(found) => found,
         Err(Fault::Memory) => return Err(ReadError::Memory),
         Err(Fault::Expected(left, expected)) => {
-            let line = line_of_field(text, fields.len().saturating_sub(left));
-            return Err(ReadError::Line(line, expected));
+            return Err(ReadError::Line(line_of(text, left), expected));
         }
     };
     let written = texts(alloc, found.as_slice())?;

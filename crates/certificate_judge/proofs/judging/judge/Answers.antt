@@ -15,4 +15,5 @@ returns-in-Ok c =
         (λ all. c.in-Ok.ensures.exact.1 (subst (All ProofsHold) (sym (items ∙ c.in_ok-certificates.ensures.only all.0 all.1.writable all.1.same)) all.2)),
       );
       best = λ yes. (cs, told, subst (All HasBest) items (c.in-Ok.ensures.best yes));
+      refused = tt;
     }
