@@ -32,7 +32,8 @@ read_value value text = do
 
 -- what stands behind a word
 abbrev pub behind_word : List ℕ → List ℕ → Option (List ℕ)
-behind_word word text = if bytes_eq (before_first ends_field text) word then Some (after_first ends_field text) else None
+behind_word word text =
+    if bytes_eq (before_first ends_field text) word then Some (after_first ends_field text) else None
 
 abbrev pub is_numeral : List ℕ → Bool
 is_numeral digits = nat_lt 0 (length digits) && list_all (λ c. nat_lt (digit_value c) 10) digits
