@@ -15,7 +15,7 @@ use Rattle.std.proofs.lemmas.Str.{IsUtf8-from_ascii, is_utf8-from_IsUtf8}
 use Rattle.std.proofs.lemmas.Slice.Eq.{bytes_eq-Decides}
 use Rattle.std.proofs.Math.Nat.{pow-succ'}
 use Rattle.mds_types.specs.Mask.{is_hex, mask_bits}
-use Rattle.plan_text.specs.Fields.{mask_in, ends_field, number_in, number_of, signed_in, value_at, word_at}
+use Rattle.plan_text.specs.Fields.{mask_in, ends_field, number_in, number_within, signed_in, read_value, behind_word}
 use Rattle.plan_text.specs.Text.{behind, line}
 use Rattle.plan_text.proofs.LineSame.{IsField, is_inside, decimal_field}
 use Rattle.plan_text.proofs.NumberLemmas.{digits_tested, lt-ltb, number_written}
@@ -60,7 +60,7 @@ field_left field (next ∷ fields) more f =
     let first = first_field field 32 ((next ++ behind fields) ++ more) f refl in
     (first.0, first.1 ∙ append_assoc next (behind fields) more)
 
-pub value_left : {A : Type 0} (value : List ℕ → Option A) (x : A) (field : List ℕ) (fields : List (List ℕ)) (more : List ℕ) → IsField field → value field ≡ Some x → value_at value (left (field ∷ fields) more) ≡ Some (x, left fields more)
+pub value_left : {A : Type 0} (value : List ℕ → Option A) (x : A) (field : List ℕ) (fields : List (List ℕ)) (more : List ℕ) → IsField field → value field ≡ Some x → read_value value (left (field ∷ fields) more) ≡ Some (x, left fields more)
 value_left {A} value x field fields more f is =
     let first = field_left field fields more f in
     then_reads (value (before_first ends_field (left (field ∷ fields) more))) x _ _ (ap value first.0 ∙ is) (ap (λ (rest : List ℕ). Some (x, rest)) first.1)
@@ -69,13 +69,13 @@ same_bytes : (a b : List ℕ) → a ≡ b → bytes_eq a b ≡ true
 same_bytes a b h = (bytes_eq-Decides a b).1 h
 
 -- a line's word, with the other fields behind it
-pub word_left : (word : List ℕ) (fields : List (List ℕ)) (more : List ℕ) → IsField word → word_at word (left (word ∷ fields) more) ≡ Some (left fields more)
+pub word_left : (word : List ℕ) (fields : List (List ℕ)) (more : List ℕ) → IsField word → behind_word word (left (word ∷ fields) more) ≡ Some (left fields more)
 word_left word fields more f =
     let first = field_left word fields more f in
     rw (same_bytes (before_first ends_field (left (word ∷ fields) more)) word first.0) (ap (λ (rest : List ℕ). Some rest) first.1)
 
-pub line_left : (word : List ℕ) (fields : List (List ℕ)) (more : List ℕ) → IsField word → word_at word (line word fields ++ more) ≡ Some (left fields more)
-line_left word fields more f = ap (word_at word) (append_assoc word (behind fields) more) ∙ word_left word fields more f
+pub line_left : (word : List ℕ) (fields : List (List ℕ)) (more : List ℕ) → IsField word → behind_word word (line word fields ++ more) ≡ Some (left fields more)
+line_left word fields more f = ap (behind_word word) (append_assoc word (behind fields) more) ∙ word_left word fields more f
 
 not_plus : (c : ℕ) → digit_value c < 10 → (c == 43) ≡ false
 not_plus c h = grind (arith, nat_tests)
@@ -97,11 +97,11 @@ number_again limit n small low =
     let own = decimal_is_IsNumeral n (omega arith) in
     let plain = no_plus (decimal n) own.0 in
     let text = is_utf8-from_IsUtf8 (decimal n) (IsUtf8-from_ascii (decimal n) (IsAscii-decimal n (omega arith))) in
-    ap (λ (b : Bool). cond b (number_of limit (decimal n)) None) text
+    ap (λ (b : Bool). cond b (number_within limit (decimal n)) None) text
     ∙ sym (number_written limit (decimal n) n (subst (IsNumeral 10) (sym plain) own.0) (sym (ap (digits_value 10) plain ∙ own.1)) small)
 
 -- a number that is left
-pub number_left : (limit n : ℕ) (fields : List (List ℕ)) (more : List ℕ) → n ≤ limit → limit < 2 ^ 64 → value_at (number_in limit) (left (decimal n ∷ fields) more) ≡ Some (n, left fields more)
+pub number_left : (limit n : ℕ) (fields : List (List ℕ)) (more : List ℕ) → n ≤ limit → limit < 2 ^ 64 → read_value (number_in limit) (left (decimal n ∷ fields) more) ≡ Some (n, left fields more)
 number_left limit n fields more small low = value_left (number_in limit) n (decimal n) fields more (decimal_field n (omega arith)) (number_again limit n small low)
 
 -- a signed number that is left

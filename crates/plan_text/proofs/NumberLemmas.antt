@@ -8,7 +8,7 @@ use Rattle.std.specs.Str.Parse.{AllDigits, IsNumeral, ParsesUnsigned, digits_val
 use Rattle.std.proofs.lemmas.Bool.{and_from, and_parts, le-leb, leb-true, ltb-true}
 use Rattle.std.proofs.lemmas.Result.{OkIff-at_ok, OkIff-at_err}
 use Rattle.std.proofs.lemmas.Str.{IsUtf8-from_is_utf8, is_utf8-from_IsUtf8}
-use Rattle.plan_text.specs.Fields.{is_numeral, number_of}
+use Rattle.plan_text.specs.Fields.{is_numeral, number_within}
 
 pub lt-ltb : (a b : ℕ) → a < b → nat_lt a b ≡ true
 lt-ltb a b h = le-leb (suc a) b h
@@ -36,23 +36,23 @@ guard_none true false x h = refl
 guard_none true true x h = absurd (h refl refl)
 
 -- a number within the limit is written
-pub number_written : (limit : ℕ) (text : List ℕ) (x : ℕ) → IsNumeral 10 (without_leading_plus text) → x ≡ digits_value 10 (without_leading_plus text) → x ≤ limit → Some x ≡ number_of limit text
-unfolding number_of
+pub number_written : (limit : ℕ) (text : List ℕ) (x : ℕ) → IsNumeral 10 (without_leading_plus text) → x ≡ digits_value 10 (without_leading_plus text) → x ≤ limit → Some x ≡ number_within limit text
+unfolding number_within
 number_written limit text x numeral value small =
     ap Some value ∙ guard_some _ _ _ (numeral_tested _ numeral) (le-leb (digits_value 10 (without_leading_plus text)) limit (subst (λ n. n ≤ limit) value small))
 
 module _ {E : Type 0} (limit : ℕ) (text : List ℕ) (r : Result ℕ E) (h : ParsesUnsigned 64 10 text r) where
-  pub number_parsed : (x : ℕ) → r ≡ Ok x → x ≤ limit → Some x ≡ number_of limit text
+  pub number_parsed : (x : ℕ) → r ≡ Ok x → x ≤ limit → Some x ≡ number_within limit text
   number_parsed x e small = let is = OkIff-at_ok r _ _ x h e in number_written limit text x is.0.0 is.1 small
 
-  pub number_large : (x : ℕ) → r ≡ Ok x → limit < x → None ≡ number_of limit text
-  unfolding number_of
+  pub number_large : (x : ℕ) → r ≡ Ok x → limit < x → None ≡ number_within limit text
+  unfolding number_within
   number_large x e large =
       let value : x ≡ digits_value 10 (without_leading_plus text) = (OkIff-at_ok r _ _ x h e).1 in
       guard_none _ _ _ (λ p q. let small : digits_value 10 (without_leading_plus text) ≤ limit = leb-true _ limit q in omega (arith, value, small, large))
 
-  pub number_refused : (e : E) → r ≡ Err e → limit < 2 ^ 64 → None ≡ number_of limit text
-  unfolding number_of
+  pub number_refused : (e : E) → r ≡ Err e → limit < 2 ^ 64 → None ≡ number_within limit text
+  unfolding number_within
   number_refused e is low =
       guard_none _ _ _ (λ p q. OkIff-at_err r _ _ e h is (tested_numeral _ p, (let small : digits_value 10 (without_leading_plus text) ≤ limit = leb-true _ limit q in omega (arith, small, low))))
 

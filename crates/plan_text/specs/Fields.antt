@@ -17,7 +17,7 @@ abbrev pub read_view : {A B : Type 0} → (A → B) → Option (A × Bor (List �
 read_view view r = option_map (λ p. (view p.0, p.1.now)) r
 
 infixl 10 ◌>>=◌
-abbrev pub ◌>>=◌ : {A B : Type 0} → Option A → (A → Option B) → Option B
+abbrev ◌>>=◌ : {A B : Type 0} → Option A → (A → Option B) → Option B
 o >>= f = option_and_then f o
 
 -- a blank or a newline
@@ -25,27 +25,28 @@ abbrev pub ends_field : ℕ → Bool
 ends_field b = (b == 32) || (b == 10)
 
 -- what the first field writes
-abbrev pub value_at : {A : Type 0} → (List ℕ → Option A) → List ℕ → Read A
-value_at value text = do
+abbrev pub read_value : {A : Type 0} → (List ℕ → Option A) → List ℕ → Read A
+read_value value text = do
   x ← value (before_first ends_field text)
   Some (x, after_first ends_field text)
 
 -- what stands behind a word
-abbrev pub word_at : List ℕ → List ℕ → Option (List ℕ)
-word_at word text = if bytes_eq (before_first ends_field text) word then Some (after_first ends_field text) else None
+abbrev pub behind_word : List ℕ → List ℕ → Option (List ℕ)
+behind_word word text =
+    if bytes_eq (before_first ends_field text) word then Some (after_first ends_field text) else None
 
 abbrev pub is_numeral : List ℕ → Bool
 is_numeral digits = nat_lt 0 (length digits) && list_all (λ c. nat_lt (digit_value c) 10) digits
 
 -- the number that a text writes, where it is at most the limit; a plus may stand in front
-unfoldable pub number_of : ℕ → List ℕ → Option ℕ
-number_of limit text =
+unfoldable pub number_within : ℕ → List ℕ → Option ℕ
+number_within limit text =
     let digits = without_leading_plus text in
     if is_numeral digits && nat_le (digits_value 10 digits) limit then Some (digits_value 10 digits) else None
 
 -- the number that a field writes
 unfoldable pub number_in : ℕ → List ℕ → Option ℕ
-number_in limit field = if is_utf8 field then number_of limit field else None
+number_in limit field = if is_utf8 field then number_within limit field else None
 
 -- the signed number of 64 bits that a field writes
 unfoldable pub signed_in : List ℕ → Option ℤ

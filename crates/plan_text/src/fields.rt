@@ -2,7 +2,8 @@
 ghost use Rattle.std.specs.Prelude.{◌≡◌, ◌≤◌, ◌^◌, length, neg_ℤ, pos, IfSome, option_map};
 ghost use Rattle.std.specs.List.{after_first, before_first, position_or_len};
 ghost use Rattle.std.specs.Str.Parse.{starts_with_minus};
-ghost use Rattle.plan_text.specs.Fields.{ends_field, number_in, number_of, read_view, signed_in, value_at, word_at};
+ghost use Rattle.plan_text.specs.Fields.{ends_field, number_in, number_within, read_view, signed_in, read_value};
+ghost use Rattle.plan_text.specs.Fields.{behind_word};
 
 /// Whether a byte ends a field.
 fn ends_field(byte: u8) -> bool
@@ -39,15 +40,15 @@ pub(crate) fn field(text: &[u8]) -> (&[u8], &[u8])
 
 /// What stands behind a word.
 pub(crate) fn word<'a>(text: &'a [u8], name: &[u8]) -> Option<&'a [u8]>
-    ensures { option_map (λ rest. rest.now) result ≡ word_at name.now text.now }
+    ensures { option_map (λ rest. rest.now) result ≡ behind_word name.now text.now }
 {
     let (first, rest) = field(text);
     if first == name { Some(rest) } else { None }
 }
 
 /// The number that a text writes, where it is at most `limit`.
-fn number_of(text: &str, limit: u64) -> Option<u64>
-    ensures value { result ≡ number_of limit text.now }
+fn number_within(text: &str, limit: u64) -> Option<u64>
+    ensures value { result ≡ number_within limit text.now }
     ensures small { IfSome result (λ n. n ≤ limit) }
 {
     match text.parse::<u64>() {
@@ -62,14 +63,14 @@ pub(crate) fn number_in(field: &[u8], limit: u64) -> Option<u64>
     ensures small { IfSome result (λ n. n ≤ limit) }
 {
     match str::from_utf8(field) {
-        Ok(text) => number_of(text, limit),
+        Ok(text) => number_within(text, limit),
         Err(_) => None,
     }
 }
 
 /// The number that the first field writes, where it is at most `limit`.
 pub(crate) fn number(text: &[u8], limit: u64) -> Option<(u64, &[u8])>
-    ensures value { read_view (λ n. n) result ≡ value_at (number_in limit) text.now }
+    ensures value { read_view (λ n. n) result ≡ read_value (number_in limit) text.now }
     ensures small { IfSome result (λ found. found.0 ≤ limit) }
 {
     let (first, rest) = field(text);
@@ -107,7 +108,7 @@ fn signed_in(field: &[u8]) -> Option<i64>
 
 /// The signed number that the first field writes.
 pub(crate) fn signed(text: &[u8]) -> Option<(i64, &[u8])>
-    ensures { read_view (λ z. z) result ≡ value_at signed_in text.now }
+    ensures { read_view (λ z. z) result ≡ read_value signed_in text.now }
 {
     let (first, rest) = field(text);
     let number = signed_in(first)?;

@@ -29,9 +29,9 @@
 //! end
 //! ```
 //!
-//! (What stands behind the fields here is not part of it.) `write` writes just this text, and bytes that
-//! `read` accepts are just the text of what it gives, and of nothing else. That `read` accepts each text that
-//! `write` writes is tested only.
+//! (What stands behind the fields here is not part of it.) `write` writes just this text. `read` accepts a
+//! text, as far as there is memory, if it is that of certificates, at least one, and gives just these; it
+//! refuses each other text.
 #![tactic(auto)]
 
 pub mod certificate;

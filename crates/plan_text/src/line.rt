@@ -1,7 +1,7 @@
 //! What has a line of its own in a certificate.
 ghost use Rattle.std.specs.Prelude.{◌≡◌, IfOk, string_bytes};
 ghost use Rattle.plan_text.specs.Fields.{read_view};
-ghost use Rattle.plan_text.specs.Reading.{cell_at, label_at, number_at, price_at, rank_at, row_at};
+ghost use Rattle.plan_text.specs.Reading.{read_cell, read_label, read_number, read_price, read_rank, read_row};
 ghost use Rattle.plan_text.specs.Text.{cell_line, label_line, price_line, rank_line, row_line};
 ghost use Rattle.plan_text.specs.Writable.{FitsCell, FitsPart, FitsPrice, FitsRank, FitsRow};
 
@@ -17,6 +17,7 @@ pub(crate) trait Line: Copy {
 
     ghost line: { Self → List ℕ };
 
+    // What the front of a text is read as.
     ghost at: { List ℕ → Read Self };
 
     ghost fits: { Self → Type 0 };
@@ -40,7 +41,7 @@ pub(crate) trait Line: Copy {
 impl Line for ProblemRow {
     ghost line = { row_line };
 
-    ghost at = { row_at };
+    ghost at = { read_row };
 
     ghost fits = { FitsRow };
 
@@ -50,7 +51,7 @@ impl Line for ProblemRow {
         format!(in alloc; "row {parent} {heat} {inodes} {now}\n")
     }
 
-    #[tactic(auto, unfolding(crate::specs::Reading::row_at))]
+    #[tactic(auto, unfolding(crate::specs::Reading::read_row))]
     fn from_line(text: &[u8]) -> Option<(Self, &[u8])> {
         let rest = word(text, b"row")?;
         let (parent, rest) = number(rest, u64::from(u32::MAX))?;
@@ -79,7 +80,7 @@ impl Line for ProblemRow {
 
 /// The rank that the first field writes.
 fn rank(text: &[u8]) -> Option<(Rank, &[u8])>
-    ensures { read_view (λ rank. rank) result ≡ number_at 6 text.now }
+    ensures { read_view (λ rank. rank) result ≡ read_number 6 text.now }
 {
     let (number, rest) = number(text, 63)?;
     let rank = Rank::new(number as u8)?;
@@ -89,7 +90,7 @@ fn rank(text: &[u8]) -> Option<(Rank, &[u8])>
 impl Line for u32 {
     ghost line = { label_line };
 
-    ghost at = { label_at };
+    ghost at = { read_label };
 
     ghost fits = { FitsPart };
 
@@ -97,7 +98,7 @@ impl Line for u32 {
         format!(in alloc; "part {self}\n")
     }
 
-    #[tactic(auto, unfolding(crate::specs::Reading::label_at))]
+    #[tactic(auto, unfolding(crate::specs::Reading::read_label))]
     fn from_line(text: &[u8]) -> Option<(Self, &[u8])> {
         let rest = word(text, b"part")?;
         let (part, rest) = number(rest, u64::from(u32::MAX))?;
@@ -114,7 +115,7 @@ impl Line for u32 {
 impl Line for Rank {
     ghost line = { rank_line };
 
-    ghost at = { rank_at };
+    ghost at = { read_rank };
 
     ghost fits = { FitsRank };
 
@@ -123,7 +124,7 @@ impl Line for Rank {
         format!(in alloc; "rank {number}\n")
     }
 
-    #[tactic(auto, unfolding(crate::specs::Reading::rank_at))]
+    #[tactic(auto, unfolding(crate::specs::Reading::read_rank))]
     fn from_line(text: &[u8]) -> Option<(Self, &[u8])> {
         let rest = word(text, b"rank")?;
         rank(rest)
@@ -141,7 +142,7 @@ impl Line for Rank {
 impl Line for Row {
     ghost line = { cell_line };
 
-    ghost at = { cell_at };
+    ghost at = { read_cell };
 
     ghost fits = { FitsCell };
 
@@ -151,7 +152,7 @@ impl Line for Row {
         format!(in alloc; "cell {cuts} {rest} {price} {cut}\n")
     }
 
-    #[tactic(auto, unfolding(crate::specs::Reading::cell_at))]
+    #[tactic(auto, unfolding(crate::specs::Reading::read_cell))]
     fn from_line(text: &[u8]) -> Option<(Self, &[u8])> {
         let text = word(text, b"cell")?;
         let (cuts, text) = number(text, u64::from(u32::MAX))?;
@@ -177,7 +178,7 @@ impl Line for Row {
 impl Line for i64 {
     ghost line = { price_line };
 
-    ghost at = { price_at };
+    ghost at = { read_price };
 
     ghost fits = { FitsPrice };
 
@@ -185,7 +186,7 @@ impl Line for i64 {
         format!(in alloc; "price {self}\n")
     }
 
-    #[tactic(auto, unfolding(crate::specs::Reading::price_at))]
+    #[tactic(auto, unfolding(crate::specs::Reading::read_price))]
     fn from_line(text: &[u8]) -> Option<(Self, &[u8])> {
         let rest = word(text, b"price")?;
         signed(rest)

@@ -2,8 +2,10 @@
 ghost use Rattle.std.specs.Prelude.{◌≡◌, ◌++◌, ℕ, List, option_map};
 ghost use Rattle.mds_types.specs.Problem.{ProblemData};
 ghost use Rattle.plan_text.specs.Fields.{mask_in, read_view};
-ghost use Rattle.plan_text.specs.Reading.{Gives, Reads, cells_at, counted_at, cut_at, cut_of, dual_at, end_at};
-ghost use Rattle.plan_text.specs.Reading.{first_at, heavy_at, lines_at, mask_at, plan_at, ranks_at, table_at};
+ghost use Rattle.plan_text.specs.Reading.{Returns, Reads, read_cells, read_counted, read_cut, cut_of, read_dual};
+ghost use Rattle.plan_text.specs.Reading.{read_end};
+ghost use Rattle.plan_text.specs.Reading.{read_first, read_heavy, read_lines, read_mask, read_plan, read_ranks};
+ghost use Rattle.plan_text.specs.Reading.{read_table};
 ghost use Rattle.plan_text.specs.Text.{problem_lines, text as text_of};
 ghost use Rattle.plan_text.specs.Writable.{FitsProblem, IsWritable};
 ghost use Rattle.plan_text.specs.declared.certificate.Certificate.{Certificate};
@@ -37,9 +39,9 @@ impl<T: Drop> From<AllocFailed<T>> for Fault {
 }
 
 /// The number behind a word.
-#[tactic(auto, unfolding(crate::specs::Reading::counted_at))]
+#[tactic(auto, unfolding(crate::specs::Reading::read_counted))]
 fn counted<'a>(text: &'a [u8], name: &[u8]) -> Option<(u64, &'a [u8])>
-    ensures { read_view (λ n. n) result ≡ counted_at name.now text.now }
+    ensures { read_view (λ n. n) result ≡ read_counted name.now text.now }
 {
     let rest = word(text, name)?;
     number(rest, u64::MAX)
@@ -47,7 +49,7 @@ fn counted<'a>(text: &'a [u8], name: &[u8]) -> Option<(u64, &'a [u8])>
 
 /// The number behind a word, or the fault that there is none.
 fn sum<'a>(text: &'a [u8], name: &[u8], expected: Expected) -> Result<(u64, &'a [u8]), Fault>
-    ensures { Reads (λ n. n) result (counted_at name.now text.now) }
+    ensures { Reads (λ n. n) result (read_counted name.now text.now) }
 {
     match counted(text, name) {
         Some(found) => Ok(found),
@@ -57,7 +59,7 @@ fn sum<'a>(text: &'a [u8], name: &[u8], expected: Expected) -> Result<(u64, &'a 
 
 /// So many lines.
 fn lines<T: Line>(alloc: Global, text: &[u8], count: u64) -> Result<(Vec<T>, &[u8]), Fault>
-    ensures { Reads (λ items. items.items) result (lines_at T.at count text.now) }
+    ensures { Reads (λ items. items.items) result (read_lines T.at count text.now) }
 {
     let mut items = Vec::new(alloc);
     let mut rest = text;
@@ -74,14 +76,14 @@ fn lines<T: Line>(alloc: Global, text: &[u8], count: u64) -> Result<(Vec<T>, &[u
 }
 
 /// A list, with its name and length in front.
-#[tactic(auto, unfolding(crate::specs::Reading::table_at))]
+#[tactic(auto, unfolding(crate::specs::Reading::read_table))]
 fn table<'a, T: Line>(
     alloc: Global,
     text: &'a [u8],
     name: &[u8],
     expected: Expected,
 ) -> Result<(Vec<T>, &'a [u8]), Fault>
-    ensures { Reads (λ items. items.items) result (table_at name.now T.at text.now) }
+    ensures { Reads (λ items. items.items) result (read_table name.now T.at text.now) }
 {
     let (count, rest) = sum(text, name, expected)?;
     lines(alloc, rest, count)
@@ -98,9 +100,9 @@ fn mask_in(field: &[u8]) -> Option<RankSet>
 }
 
 /// A set of ranks.
-#[tactic(auto, unfolding(crate::specs::Reading::mask_at))]
+#[tactic(auto, unfolding(crate::specs::Reading::read_mask))]
 fn mask(text: &[u8]) -> Option<(RankSet, &[u8])>
-    ensures { read_view (λ ranks. ranks) result ≡ mask_at text.now }
+    ensures { read_view (λ ranks. ranks) result ≡ read_mask text.now }
 {
     let rest = word(text, b"mask")?;
     let (digits, rest) = field(rest);
@@ -111,7 +113,7 @@ fn mask(text: &[u8]) -> Option<(RankSet, &[u8])>
 /// The ranks and the rows of a problem.
 fn problem(alloc: Global, text: &[u8]) -> Result<(Problem, &[u8]), Fault>
     ensures { (x : ProblemData) (more : List ℕ) → FitsProblem x → text.now ≡ problem_lines x ++ more →
-        Gives result x more }
+        Returns result x more }
 {
     let Some(ranks) = mask(text) else {
         return Err(Fault::Expected(text.len(), Expected::Mask));
@@ -124,9 +126,9 @@ fn problem(alloc: Global, text: &[u8]) -> Result<(Problem, &[u8]), Fault>
 }
 
 /// The ranks of the parts.
-#[tactic(auto, unfolding(crate::specs::Reading::ranks_at))]
+#[tactic(auto, unfolding(crate::specs::Reading::read_ranks))]
 fn ranks(alloc: Global, text: &[u8]) -> Result<(ArrayVec<Rank, 64>, &[u8]), Fault>
-    ensures { Reads (λ ranks. ranks.items) result (ranks_at text.now) }
+    ensures { Reads (λ ranks. ranks.items) result (read_ranks text.now) }
 {
     let (items, rest) = table(alloc, text, b"ranks", Expected::Ranks)?;
     let mut ranks = ArrayVec::new();
@@ -137,9 +139,9 @@ fn ranks(alloc: Global, text: &[u8]) -> Result<(ArrayVec<Rank, 64>, &[u8]), Faul
 }
 
 /// The proof by one row.
-#[tactic(auto, unfolding(crate::specs::Reading::heavy_at))]
+#[tactic(auto, unfolding(crate::specs::Reading::read_heavy))]
 fn heavy(text: &[u8], left: usize) -> Result<(CutProof, &[u8]), Fault>
-    ensures { Reads (λ cut. cut) result (heavy_at text.now) }
+    ensures { Reads (λ cut. cut) result (read_heavy text.now) }
 {
     match number(text, u64::from(u32::MAX)) {
         Some((row, rest)) => Ok((CutProof::Heavy(row as u32), rest)),
@@ -148,9 +150,9 @@ fn heavy(text: &[u8], left: usize) -> Result<(CutProof, &[u8]), Fault>
 }
 
 /// The proof by a table.
-#[tactic(auto, unfolding(crate::specs::Reading::cells_at))]
+#[tactic(auto, unfolding(crate::specs::Reading::read_cells))]
 fn cells(alloc: Global, text: &[u8]) -> Result<(CutProof, &[u8]), Fault>
-    ensures { Reads (λ cut. cut) result (cells_at text.now) }
+    ensures { Reads (λ cut. cut) result (read_cells text.now) }
 {
     let (rows, rest) = table(alloc, text, b"cells", Expected::Cells)?;
     Ok((CutProof::Table(CutTable::new(rows)), rest))
@@ -178,9 +180,9 @@ fn cut_of<'a>(
 }
 
 /// A cut proof.
-#[tactic(auto, unfolding(crate::specs::Reading::cut_at))]
+#[tactic(auto, unfolding(crate::specs::Reading::read_cut))]
 fn cut(alloc: Global, text: &[u8]) -> Result<(CutProof, &[u8]), Fault>
-    ensures { Reads (λ cut. cut) result (cut_at text.now) }
+    ensures { Reads (λ cut. cut) result (read_cut text.now) }
 {
     match word(text, b"cut") {
         Some(rest) => {
@@ -192,9 +194,9 @@ fn cut(alloc: Global, text: &[u8]) -> Result<(CutProof, &[u8]), Fault>
 }
 
 /// A dual proof.
-#[tactic(auto, unfolding(crate::specs::Reading::dual_at))]
+#[tactic(auto, unfolding(crate::specs::Reading::read_dual))]
 fn dual(alloc: Global, text: &[u8]) -> Result<(DualProof, &[u8]), Fault>
-    ensures { Reads (λ dual. dual) result (dual_at text.now) }
+    ensures { Reads (λ dual. dual) result (read_dual text.now) }
 {
     let (part_price, rest) = table(alloc, text, b"part_prices", Expected::PartPrices)?;
     let (rank_price, rest) = table(alloc, rest, b"rank_prices", Expected::RankPrices)?;
@@ -208,9 +210,9 @@ fn dual(alloc: Global, text: &[u8]) -> Result<(DualProof, &[u8]), Fault>
 }
 
 /// A plan with its proofs.
-#[tactic(auto, unfolding(crate::specs::Reading::plan_at))]
+#[tactic(auto, unfolding(crate::specs::Reading::read_plan))]
 fn plan(alloc: Global, text: &[u8]) -> Result<(Plan, &[u8]), Fault>
-    ensures { Reads (λ plan. plan) result (plan_at text.now) }
+    ensures { Reads (λ plan. plan) result (read_plan text.now) }
 {
     let (part, rest) = table(alloc, text, b"parts", Expected::Parts)?;
     let (rank, rest) = ranks(alloc, rest)?;
@@ -232,18 +234,18 @@ fn plan(alloc: Global, text: &[u8]) -> Result<(Plan, &[u8]), Fault>
 }
 
 /// What stands behind the first line of a certificate.
-#[tactic(auto, unfolding(crate::specs::Reading::first_at))]
+#[tactic(auto, unfolding(crate::specs::Reading::read_first))]
 fn first_line(text: &[u8]) -> Option<&[u8]>
-    ensures { option_map (λ rest. rest.now) result ≡ first_at text.now }
+    ensures { option_map (λ rest. rest.now) result ≡ read_first text.now }
 {
     let rest = word(text, b"certificate")?;
     word(rest, b"1")
 }
 
 /// What stands behind the last line, which a byte has to end.
-#[tactic(auto, unfolding(crate::specs::Reading::end_at))]
+#[tactic(auto, unfolding(crate::specs::Reading::read_end))]
 fn end_line(text: &[u8]) -> Option<&[u8]>
-    ensures { option_map (λ rest. rest.now) result ≡ end_at text.now }
+    ensures { option_map (λ rest. rest.now) result ≡ read_end text.now }
 {
     if text.len() > 3 {
         word(text, b"end")
@@ -255,7 +257,7 @@ fn end_line(text: &[u8]) -> Option<&[u8]>
 /// The first certificate.
 pub(crate) fn certificate(alloc: Global, text: &[u8]) -> Result<(Certificate, &[u8]), Fault>
     ensures { (c : Certificate) (more : List ℕ) → IsWritable c → text.now ≡ text_of c.problem c.plan ++ more →
-        Gives result c more }
+        Returns result c more }
 {
     let Some(rest) = first_line(text) else {
         return Err(Fault::Expected(text.len(), Expected::First));

@@ -1,5 +1,5 @@
 use Rattle.std.proofs.Common.{◌∙◌, ◌+◌, ◌-◌, ap, arith, sym}
-use Rattle.plan_text.specs.Reading.{lines_at, with_front}
+use Rattle.plan_text.specs.Reading.{read_lines, with_front}
 use Rattle.plan_text.proofs.ReadingLemmas.{lines_next, lines_none}
 use Rattle.plan_text.proofs.parser.lines.Goals as goal
 
@@ -10,6 +10,6 @@ returns-in-None g c =
 
 pub loop-preserved : goal.loop-preserved
 loop-preserved g c =
-    ap (λ items. with_front items (lines_at g.T.Line.at (c.args.count - (c.loop.counter + 1)) c.in-Some.found.1.now)) c.in_ok-push-in-Some.ensures.items
+    ap (λ items. with_front items (read_lines g.T.Line.at (c.args.count - (c.loop.counter + 1)) c.in-Some.found.1.now)) c.in_ok-push-in-Some.ensures.items
     ∙ (sym (lines_next g.T.Line.at c.loop.items.items c.in-Some.found.0 (c.args.count - c.loop.counter) (c.args.count - (c.loop.counter + 1)) c.loop.rest.now c.in-Some.found.1.now (omega arith) (sym c.in-Some.ensures))
     ∙ c.loop.invariant)

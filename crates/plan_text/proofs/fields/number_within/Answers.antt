@@ -1,6 +1,6 @@
 use Rattle.std.proofs.Common.{arith}
 use Rattle.plan_text.proofs.NumberLemmas.{number_large, number_parsed, number_refused}
-use Rattle.plan_text.proofs.fields.number_of.Goals as goal
+use Rattle.plan_text.proofs.fields.number_within.Goals as goal
 
 pub returns-in-Ok-clause-value : goal.returns-in-Ok-clause-value
 returns-in-Ok-clause-value c = number_parsed c.args.limit c.args.text.now c.parse.result c.parse.ensures.value.0 c.in-Ok.number c.in-Ok.is c.if-number-limit.true
