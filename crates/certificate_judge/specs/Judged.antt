@@ -1,5 +1,6 @@
 -- What the checker's answer says of the bytes that it was given.
-use Rattle.std.specs.Prelude.{◌≡◌, ◌<◌, ⊤, ℕ, Bool, List, [], ◌∷◌, ◌++◌, All, codes, length, if◌then◌else◌}
+use Rattle.std.specs.Prelude.{◌≡◌, ◌<◌, ⊤, ℕ, Bool, List, [], ◌∷◌, ◌++◌, Option, All, codes, length, if◌then◌else◌}
+use Rattle.std.specs.Io.KnownBytes.{Appends}
 use Rattle.mds_types.specs.Certificate.{IsBest, IsCertified}
 use Rattle.plan_text.specs.Text.{texts}
 use Rattle.plan_text.specs.Writable.{IsWritable}
@@ -44,3 +45,11 @@ answer_line answer = if answer then codes "yes" ++ 10 ∷ [] else codes "no" ++ 
 
 abbrev pub answer_status : Bool → ℕ
 answer_status answer = if answer then 0 else 1
+
+-- what is printed where memory is refused
+abbrev pub memory_line : List ℕ
+memory_line = codes "mdbal_check: 0 Memory" ++ 10 ∷ []
+
+-- known bytes grow by a front of a line: by all of it, unless a write fails
+abbrev pub GrowsByFront : Option (List ℕ) → Option (List ℕ) → List ℕ → Type 0
+GrowsByFront old new line = (front rest : List ℕ) × (front ++ rest ≡ line) × Appends old new front

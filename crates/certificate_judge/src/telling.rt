@@ -1,12 +1,14 @@
 //! The answer for bytes, as it is printed.
-ghost use Rattle.std.specs.Prelude.{◌≡◌, ◌≤◌, ◌⊎◌, false, true, IfOk, OnErr};
+ghost use Rattle.std.specs.Prelude.{◌≡◌, ◌≤◌, ◌⊎◌, false, true, IfErr, IfOk, OnErr};
 ghost use Rattle.std.specs.Io.KnownBytes.{Appends};
-ghost use Rattle.certificate_judge.specs.Judged.{AllBest, AllHold, AreCertificates, answer_line, answer_status};
+ghost use Rattle.certificate_judge.specs.Judged.{AllBest, AllHold, GrowsByFront, AreCertificates, answer_line};
+ghost use Rattle.certificate_judge.specs.Judged.{answer_status, memory_line};
+ghost use Rattle.plan_text.specs.declared.read_error.ReadError.TheVariants.{Memory};
 
 use crate::judging::judge;
 use plan_text::ReadError;
 use std::alloc::Global;
-use std::io::Write;
+use std::io::{ErrorKind, Write};
 
 /// Prints whether the bytes of this file are certificates whose proofs all hold.
 ///
@@ -25,6 +27,8 @@ pub fn tell<W: Write, E: Write>(
     ensures no { result ≡ 1 → AreCertificates bytes.now × ¬ (AllHold bytes.now)
         × Appends (W.contents writer.old) (W.contents writer.new) (answer_line false) }
     ensures unprinted { result ≡ 2 → writer.new ≡ writer.old }
+    ensures reason { result ≡ 2 → ¬ (AreCertificates bytes.now)
+        ⊎ GrowsByFront (E.contents errors.old) (E.contents errors.new) memory_line }
     ensures unwritten { result ≡ 3 → AreCertificates bytes.now }
     ensures few { result ≤ 3 }
 {
@@ -41,16 +45,38 @@ fn answer<W: Write, E: Write>(
     ensures answered { IfOk judged (λ yes. ((result ≡ answer_status yes)
         × Appends (W.contents writer.old) (W.contents writer.new) (answer_line yes)) ⊎ (result ≡ 3)) }
     ensures refused { OnErr judged ((result ≡ 2) × (writer.new ≡ writer.old)) }
+    ensures memory { IfErr judged (λ error. error ≡ Memory →
+        GrowsByFront (E.contents errors.old) (E.contents errors.new) memory_line) }
 {
     match judged {
         Ok(yes) => print_answer(yes, writer, errors),
         Err(ReadError::Memory) => {
-            let _ = writeln!(errors, "mdbal_check: 0 Memory");
+            print_line(errors, b"mdbal_check: 0 Memory\n");
             2
         }
         Err(ReadError::Line(line, expected)) => {
             let _ = writeln!(errors, "{name}:{line}: expected {expected}");
             2
+        }
+    }
+}
+
+/// Prints a line, as far as it can be written.
+fn print_line<E: Write>(errors: &mut E, line: &[u8])
+    ensures { GrowsByFront (E.contents errors.old) (E.contents errors.new) line.now }
+{
+    let mut rest = line;
+    for _ in 0..line.len() {
+        if rest.is_empty() {
+            return;
+        }
+        match errors.write(rest) {
+            Ok(count) => rest = &rest[count..],
+            Err(error) => {
+                if error.kind() != ErrorKind::Interrupted {
+                    return;
+                }
+            }
         }
     }
 }
