@@ -2,7 +2,7 @@
 
 use crate::given::{by_rank, rank};
 use crate::same::{Sure, same};
-use ceph_packing::{Packing, are_parts, are_pinned, pack};
+use ceph_plan::{Packing, are_parts, are_pinned, pack};
 use mds_types::{Problem, ProblemRow, Rank, RankSet};
 use std::alloc::Global;
 use std::process::Abort;

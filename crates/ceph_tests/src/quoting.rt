@@ -1,7 +1,7 @@
 //! Words that are quoted for sh.
 
 use crate::same::{Sure, same};
-use sh_quote::quoted;
+use ceph_plan::quoted;
 
 #[test]
 fn quotes(rt: HostRuntime) {
