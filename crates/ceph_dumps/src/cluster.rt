@@ -40,7 +40,7 @@ impl Members for MdsMap {
     ) -> Result<(), F::Error> {
         match at {
             0 => fill(&mut self.size, "max_mds", alloc, from),
-            1 => fill(&mut self.ranks, "in", alloc, from),
+            1 => fill(&mut self.ranks, "ranks", alloc, from),
             2 => fill(&mut self.mask, "bal_rank_mask", alloc, from),
             _ => from.skip(),
         }

@@ -27,6 +27,10 @@ impl Named for Counters {
     fn name() -> &'static str {
         "Decay Counters"
     }
+
+    fn told() -> &'static str {
+        "counters"
+    }
 }
 
 /// A fragment, as a rank tells it.

@@ -82,6 +82,11 @@ pub(crate) fn present<T: Drop, F: Format>(
 pub(crate) trait Named {
     /// The name.
     fn name() -> &'static str;
+
+    /// What an error calls it where it comes twice.
+    fn told() -> &'static str {
+        Self::name()
+    }
 }
 
 /// The one member that is read of an object.
@@ -96,7 +101,7 @@ impl<T: DeserializeOwned + Named> Members for Option<T> {
         from: &mut Deserializer<'_, '_, F>,
     ) -> Result<(), F::Error> {
         if at == 0 {
-            fill(self, T::name(), alloc, from)
+            fill(self, T::told(), alloc, from)
         } else {
             from.skip()
         }

@@ -14,7 +14,7 @@ fn some_rank(number: i8) -> Option<Rank> {
     u8::try_from(number).ok().map(rank)
 }
 
-const PINNED: [(&[Given], &[(u32, u8)]); 5] = [
+const PINNED: &[(&[Given], &[(u32, u8)])] = &[
     // all is where it is to be
     (&[(0, 0, -1, 0), (0, 0, -1, 0), (1, 0, -1, 0)], &[]),
     // the subtree of row 1 goes to rank 1, but for row 3
@@ -76,26 +76,28 @@ fn pins_where_a_rank_changes(rt: HostRuntime) {
         for pin in pins_of(&rt, rt.alloc(), given) {
             found.push((pin.row, pin.rank.number())).sure(&rt);
         }
-        same(&rt, &found.as_slice(), &expected);
+        same(&rt, &found.as_slice(), expected);
     }
 }
 
+// Row 1 goes from rank 1 to rank 2 and takes row 2 with it, row 3 is no longer apart, and row 4's pin stands already.
+const GIVEN: &[Given] = &[
+    (0, 0, -1, 0),
+    (0, 2, -1, 0),
+    (1, 2, -1, 0),
+    (2, 2, -1, 0),
+    (0, 1, -1, 0),
+];
+
+const EARLIER: &[i8] = &[-1, 1, -1, 0, 1];
+
 #[test]
 fn changes_earlier_pins(rt: HostRuntime) {
-    // row 1 goes from rank 1 to rank 2 and takes row 2 with it, row 3 is no longer
-    // apart, and row 4's pin stands already
-    let given: [Given; 5] = [
-        (0, 0, -1, 0),
-        (0, 2, -1, 0),
-        (1, 2, -1, 0),
-        (2, 2, -1, 0),
-        (0, 1, -1, 0),
-    ];
-    let rows = rows_of(&rt, rt.alloc(), &given, &[-1, 1, -1, 0, 1]);
-    let wanted: [(u32, Option<Rank>); 2] = [(1, Some(rank(2))), (3, None)];
+    let rows = rows_of(&rt, rt.alloc(), GIVEN, EARLIER);
     let mut found = Vec::new(rt.alloc());
     for change in changes_of(&rt, rt.alloc(), &rows) {
         found.push((change.row, change.pin)).sure(&rt);
     }
+    let wanted: [(u32, Option<Rank>); 2] = [(1, Some(rank(2))), (3, None)];
     same(&rt, &found.as_slice(), &wanted.as_slice());
 }
