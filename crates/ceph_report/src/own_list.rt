@@ -28,9 +28,9 @@ pub fn make_own_list(
 ) -> Result<Vec<u8>, AllocError> {
     let pins = pins_after(alloc, rows, changes)?;
     let mut list = BytesWriter::new(alloc);
-    for at in (0..directories.len()).rev() {
-        if let (Some(directory), Some(Some(rank))) = (directories.get(at), pins.get(at)) {
-            list.rank(*rank);
+    for (directory, pin) in directories.iter().zip(pins.as_slice()).rev() {
+        if let Some(rank) = *pin {
+            list.rank(rank);
             list.byte(b' ');
             push_name(&mut list, directory.path.as_slice());
             list.byte(b'\n');
