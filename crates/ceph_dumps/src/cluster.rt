@@ -2,22 +2,9 @@
 
 use crate::dump_error::DumpError;
 use crate::json::{read_json, text_of};
-use serde::Deserialize;
+use crate::members::{Member, Members, Named, fill, present, read_members};
+use serde::{DeserializeOwned, Deserializer, Format, Name};
 use std::alloc::Global;
-
-#[derive(Drop, Deserialize)]
-struct FileSystemDump {
-    mdsmap: MdsMapDump,
-}
-
-#[derive(Drop, Deserialize)]
-struct MdsMapDump {
-    max_mds: u32,
-    #[serde(rename = "in")]
-    ranks: Vec<u32>,
-    #[serde(default)]
-    bal_rank_mask: Option<String>,
-}
 
 /// The ranks of a file system.
 #[derive(Drop)]
@@ -30,18 +17,62 @@ pub struct FileSystemRanks {
     pub mask: Option<String>,
 }
 
+impl Named for FileSystemRanks {
+    fn name() -> &'static str {
+        "mdsmap"
+    }
+}
+
+/// The members of the map of a file system's ranks.
+#[derive(Drop)]
+struct MdsMap {
+    size: Option<u32>,
+    ranks: Option<Vec<u32>>,
+    mask: Option<Option<String>>,
+}
+
+impl Members for MdsMap {
+    fn take<F: Format>(
+        &mut self,
+        at: usize,
+        alloc: Global,
+        from: &mut Deserializer<'_, '_, F>,
+    ) -> Result<(), F::Error> {
+        match at {
+            0 => fill(&mut self.size, "max_mds", alloc, from),
+            1 => fill(&mut self.ranks, "ranks", alloc, from),
+            2 => fill(&mut self.mask, "bal_rank_mask", alloc, from),
+            _ => from.skip(),
+        }
+    }
+}
+
+impl DeserializeOwned for FileSystemRanks {
+    fn deserialize_owned<F: Format>(
+        alloc: Global,
+        from: &mut Deserializer<'_, '_, F>,
+    ) -> Result<FileSystemRanks, F::Error> {
+        let names = [
+            Name::exact("max_mds"),
+            Name::exact("in"),
+            Name::exact("bal_rank_mask"),
+        ];
+        let mut map = MdsMap {
+            size: None,
+            ranks: None,
+            mask: None,
+        };
+        read_members(&mut map, &names, alloc, from)?;
+        let size = present(map.size, "max_mds", from)?;
+        let ranks = present(map.ranks, "in", from)?;
+        let mask = map.mask.unwrap_or(None);
+        Ok(FileSystemRanks { size, ranks, mask })
+    }
+}
+
 /// The ranks of a file system.
 pub fn read_cluster(alloc: Global, bytes: &[u8]) -> Result<FileSystemRanks, DumpError> {
     let text = text_of(alloc, bytes)?;
-    let dump: FileSystemDump = read_json(alloc, text.as_slice())?;
-    let MdsMapDump {
-        max_mds,
-        ranks,
-        bal_rank_mask,
-    } = dump.mdsmap;
-    Ok(FileSystemRanks {
-        size: max_mds,
-        ranks,
-        mask: bal_rank_mask,
-    })
+    let Member(ranks) = read_json(alloc, text.as_slice())?;
+    Ok(ranks)
 }

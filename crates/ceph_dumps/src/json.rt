@@ -2,8 +2,9 @@
 
 use crate::bare_words::write_over_bare_words;
 use crate::dump_error::DumpError;
+use crate::members::Whole;
 use crate::wide_bytes::widened;
-use serde::Deserialize;
+use serde::DeserializeOwned;
 use std::alloc::{AllocError, Global};
 
 /// The column, from 1, of the byte that was widened to the one at this column of its widened line.
@@ -26,36 +27,42 @@ fn reason_of(alloc: Global, error: &serde_json::Error) -> Result<String, AllocEr
     }
 }
 
-/// The error of the reader of a text, with the column as the file has it.
-fn placed(alloc: Global, text: &[u8], error: serde_json::Error) -> Result<DumpError, AllocError> {
-    if error.is_memory() {
-        return Ok(DumpError::Memory);
-    }
-    let (line, wide) = (error.line(), error.column());
+/// The column as the file has it, where the reader of a text tells this place.
+fn column_in(text: &[u8], line: usize, wide: usize) -> usize {
     let mut column = wide;
     for (at, here) in text.split(|byte| *byte == b'\n').enumerate() {
         if at + 1 == line {
             column = column_of(here, wide);
         }
     }
+    column
+}
+
+/// The error of the reader of a text, with the column as the file has it.
+fn placed(alloc: Global, text: &[u8], error: &serde_json::Error) -> Result<DumpError, AllocError> {
+    if error.is_memory() {
+        return Ok(DumpError::Memory);
+    }
+    let line = error.line();
+    let reason = reason_of(alloc, error)?;
     Ok(DumpError::Json {
         line,
-        column,
-        reason: reason_of(alloc, &error)?,
+        column: column_in(text, line, error.column()),
+        reason,
     })
 }
 
 /// The text of a dump, in UTF-8 and without bare words.
-pub fn text_of(alloc: Global, bytes: &[u8]) -> Result<Vec<u8>, AllocError> {
+pub(crate) fn text_of(alloc: Global, bytes: &[u8]) -> Result<Vec<u8>, AllocError> {
     let mut text = widened(alloc, bytes)?;
     write_over_bare_words(text.as_mut_slice());
     Ok(text)
 }
 
 /// What the text of a dump says. Errors tell the place in the dump's own bytes.
-pub fn read_json<'a, T: Deserialize<'a>>(alloc: Global, text: &'a [u8]) -> Result<T, DumpError> {
+pub(crate) fn read_json<T: DeserializeOwned>(alloc: Global, text: &[u8]) -> Result<T, DumpError> {
     match serde_json::from_slice(alloc, text) {
-        Ok(value) => Ok(value),
-        Err(error) => Err(placed(alloc, text, error)?),
+        Ok(Whole(value)) => Ok(value),
+        Err(error) => Err(placed(alloc, text, &error)?),
     }
 }

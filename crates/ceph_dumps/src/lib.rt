@@ -11,6 +11,7 @@ pub mod dump_error;
 mod json;
 pub mod listing;
 pub mod loads;
+mod members;
 pub mod own_list;
 pub mod subtrees;
 pub mod wide_bytes;

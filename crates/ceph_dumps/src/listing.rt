@@ -70,17 +70,32 @@ fn values_of(line: &[u8]) -> Option<(Option<u64>, Option<u64>)> {
     Some((None, Some(number_of(digits)?)))
 }
 
+/// What a line of this number says of the directory that was named before.
+fn listed(
+    alloc: Global,
+    name: Option<&[u8]>,
+    line: &[u8],
+    number: usize,
+) -> Result<ListedDir, DumpError> {
+    let Some(name) = name else {
+        return Err(DumpError::Listing(number));
+    };
+    let Some((entries, pin)) = values_of(line) else {
+        return Err(DumpError::Value(number));
+    };
+    let path = path_of(alloc, name)?;
+    Ok(ListedDir { path, entries, pin })
+}
+
 /// What a listing says, in its order.
 pub fn read_listing(alloc: Global, bytes: &[u8]) -> Result<Vec<ListedDir>, DumpError> {
     let mut found = Vec::new(alloc);
-    let mut path = None;
+    let mut name = None;
     for (at, line) in bytes.split(|byte| *byte == b'\n').enumerate() {
-        if let Some(name) = line.strip_prefix(b"# file: ") {
-            path = Some(path_of(alloc, name)?);
+        if let Some(here) = line.strip_prefix(b"# file: ") {
+            name = Some(here);
         } else if !line.is_empty() && line != b"--".as_slice() {
-            let path = path.take().ok_or(DumpError::Listing(at + 1))?;
-            let (entries, pin) = values_of(line).ok_or(DumpError::Value(at + 1))?;
-            found.push(ListedDir { path, entries, pin })?;
+            found.push(listed(alloc, name.take(), line, at + 1)?)?;
         }
     }
     Ok(found)

@@ -15,7 +15,9 @@ pub fn read_own_list(alloc: Global, bytes: &[u8]) -> Result<Vec<Vec<u8>>, DumpEr
     let mut found = Vec::new(alloc);
     for (at, line) in bytes.split(|byte| *byte == b'\n').enumerate() {
         if !line.is_empty() {
-            let name = name_of(line).ok_or(DumpError::Own(at + 1))?;
+            let Some(name) = name_of(line) else {
+                return Err(DumpError::Own(at + 1));
+            };
             found.push(path_of(alloc, name)?)?;
         }
     }

@@ -2,27 +2,10 @@
 
 use crate::dump_error::DumpError;
 use crate::json::{read_json, text_of};
+use crate::members::{Member, Members, Named, fill, present, read_members};
 use crate::wide_bytes::narrowed;
-use serde::Deserialize;
+use serde::{DeserializeOwned, Deserializer, Format, Name};
 use std::alloc::Global;
-
-#[derive(Drop, Deserialize)]
-struct RootDump {
-    is_auth: bool,
-    auth_first: i64,
-    #[serde(default)]
-    export_pin: Option<i64>,
-    #[serde(default)]
-    distributed_ephemeral_pin: bool,
-    #[serde(default)]
-    random_ephemeral_pin: bool,
-    dir: DirDump,
-}
-
-#[derive(Drop, Deserialize)]
-struct DirDump {
-    path: String,
-}
 
 /// The root of a subtree, as one rank knows it.
 #[derive(Drop)]
@@ -39,19 +22,108 @@ pub struct SubtreeRoot {
     pub is_spread: bool,
 }
 
+impl Named for String {
+    fn name() -> &'static str {
+        "path"
+    }
+}
+
+/// The members of a root.
+#[derive(Drop)]
+struct Root {
+    is_here: Option<bool>,
+    rank: Option<i64>,
+    pin: Option<Option<i64>>,
+    is_distributed: Option<bool>,
+    is_random: Option<bool>,
+    dir: Option<Member<String>>,
+}
+
+impl Members for Root {
+    fn take<F: Format>(
+        &mut self,
+        at: usize,
+        alloc: Global,
+        from: &mut Deserializer<'_, '_, F>,
+    ) -> Result<(), F::Error> {
+        match at {
+            0 => fill(&mut self.is_here, "is_auth", alloc, from),
+            1 => fill(&mut self.rank, "auth_first", alloc, from),
+            2 => fill(&mut self.pin, "export_pin", alloc, from),
+            3 => fill(
+                &mut self.is_distributed,
+                "distributed_ephemeral_pin",
+                alloc,
+                from,
+            ),
+            4 => fill(&mut self.is_random, "random_ephemeral_pin", alloc, from),
+            5 => fill(&mut self.dir, "dir", alloc, from),
+            _ => from.skip(),
+        }
+    }
+}
+
+impl Root {
+    /// No member yet.
+    fn empty() -> Root {
+        Root {
+            is_here: None,
+            rank: None,
+            pin: None,
+            is_distributed: None,
+            is_random: None,
+            dir: None,
+        }
+    }
+
+    /// The root, once all members are read.
+    fn whole<F: Format>(
+        self,
+        alloc: Global,
+        from: &Deserializer<'_, '_, F>,
+    ) -> Result<SubtreeRoot, F::Error> {
+        let is_here = present(self.is_here, "is_auth", from)?;
+        let rank = present(self.rank, "auth_first", from)?;
+        let Member(path) = present(self.dir, "dir", from)?;
+        let pin = match self.pin {
+            Some(Some(rank)) if rank >= 0 => Some(rank),
+            _ => None,
+        };
+        let is_spread = self.is_distributed == Some(true) || self.is_random == Some(true);
+        match narrowed(alloc, path.as_bytes()) {
+            Ok(path) => Ok(SubtreeRoot {
+                path,
+                is_here,
+                rank,
+                pin,
+                is_spread,
+            }),
+            Err(_) => Err(from.no_memory()),
+        }
+    }
+}
+
+impl DeserializeOwned for SubtreeRoot {
+    fn deserialize_owned<F: Format>(
+        alloc: Global,
+        from: &mut Deserializer<'_, '_, F>,
+    ) -> Result<SubtreeRoot, F::Error> {
+        let names = [
+            Name::exact("is_auth"),
+            Name::exact("auth_first"),
+            Name::exact("export_pin"),
+            Name::exact("distributed_ephemeral_pin"),
+            Name::exact("random_ephemeral_pin"),
+            Name::exact("dir"),
+        ];
+        let mut root = Root::empty();
+        read_members(&mut root, &names, alloc, from)?;
+        root.whole(alloc, from)
+    }
+}
+
 /// The roots of the subtrees that a rank knows.
 pub fn read_subtrees(alloc: Global, bytes: &[u8]) -> Result<Vec<SubtreeRoot>, DumpError> {
     let text = text_of(alloc, bytes)?;
-    let dump: Vec<RootDump> = read_json(alloc, text.as_slice())?;
-    let mut found = Vec::with_capacity(alloc, dump.len())?;
-    for root in dump.as_slice() {
-        found.push(SubtreeRoot {
-            path: narrowed(alloc, root.dir.path.as_bytes())?,
-            is_here: root.is_auth,
-            rank: root.auth_first,
-            pin: root.export_pin.filter(|rank| *rank >= 0),
-            is_spread: root.distributed_ephemeral_pin || root.random_ephemeral_pin,
-        })?;
-    }
-    Ok(found)
+    read_json(alloc, text.as_slice())
 }

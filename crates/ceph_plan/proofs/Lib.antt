@@ -1,3 +1,13 @@
+pub mod Bounds
 pub mod CappedRows
+pub mod Climbs
+pub mod Found
+pub mod Held
+pub mod Least
+pub mod Moves
+pub mod PinList
+pub mod Quoting
 pub mod RankCounts
+pub mod Script
+pub mod ScriptEnds
 pub mod Weighed

@@ -2,11 +2,11 @@
 use Rattle.std.specs.Prelude.{◌≡◌, ◌==◌, ◌<◌, ◌⊎◌, ℕ, List, length, slice_index_or, take, Some, None, if◌then◌else◌}
 use Rattle.mds_types.specs.declared.problem.ProblemRow.{ProblemRow}
 use Rattle.mds_types.specs.Problem.{parent_at}
-use Rattle.ceph_pins.specs.declared.row.PinChange.{PinChange}
-use Rattle.ceph_pins.specs.declared.row.PinRow.{PinRow}
-use Rattle.ceph_pins.specs.Changes.{applied, before_pin}
-use Rattle.ceph_pins.specs.Rule.{IsNearest, row_at}
-use Rattle.ceph_packing.specs.Packing.{packed_rank}
+use Rattle.ceph_plan.specs.declared.row.PinChange.{PinChange}
+use Rattle.ceph_plan.specs.declared.row.PinRow.{PinRow}
+use Rattle.ceph_plan.specs.Changes.{applied, before_pin}
+use Rattle.ceph_plan.specs.Rule.{IsNearest, row_at}
+use Rattle.ceph_plan.specs.Packing.{packed_rank}
 use Rattle.ceph_plan.specs.declared.proposal.OwnPins.{OwnPins}
 
 -- what stands past the last row

@@ -1,4 +1,9 @@
 pub mod Asked
+pub mod Changes
 pub mod Choice
+pub mod Holds
+pub mod Packing
 pub mod Plans
 pub mod Proposals
+pub mod Rule
+pub mod Words

@@ -5,7 +5,7 @@ use Rattle.mds_types.specs.declared.problem.ProblemRow.{ProblemRow}
 use Rattle.mds_types.specs.Division.{IsDivision, IsLeast, IsWithin}
 use Rattle.mds_types.specs.Problem.{IsForest, heat_at, inodes_at, now_at}
 use Rattle.mds_types.specs.Sums.{sum_below}
-use Rattle.ceph_packing.specs.Packing.{IsAsGreatAsThree, IsLowerBound, IsPacking, packed_rank}
+use Rattle.ceph_plan.specs.Packing.{IsAsGreatAsThree, IsLowerBound, IsPacking, packed_rank}
 use Rattle.ceph_plan.specs.declared.plan.Planned.{Planned}
 
 -- the inodes of the first n rows that go to another rank than the one that has them

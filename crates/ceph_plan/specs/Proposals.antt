@@ -1,8 +1,8 @@
 -- A plan with the changes of pins that do it.
 use Rattle.std.specs.Prelude.{ℕ, List, length}
 use Rattle.mds_types.specs.declared.problem.ProblemRow.{ProblemRow}
-use Rattle.ceph_pins.specs.Changes.{AreNeeded, applied, before_pin}
-use Rattle.ceph_pins.specs.Rule.{IsRealized}
+use Rattle.ceph_plan.specs.Changes.{AreNeeded, applied, before_pin}
+use Rattle.ceph_plan.specs.Rule.{IsRealized}
 use Rattle.ceph_plan.specs.declared.choice.PartCount.{PartCount}
 use Rattle.ceph_plan.specs.declared.proposal.OwnPins.{OwnPins}
 use Rattle.ceph_plan.specs.declared.proposal.Proposal.{Proposal}

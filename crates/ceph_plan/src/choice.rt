@@ -6,9 +6,10 @@ ghost use Rattle.mds_types.specs.RankSet.{has_rank};
 ghost use Rattle.ceph_plan.specs.Choice.{AreWeighed, IsAsked, IsBest, IsChosen, greatest_at, moved_at, size_of};
 ghost use Rattle.ceph_plan.specs.Plans.{IsPlan};
 
+use crate::bound::total_heat;
+use crate::packing::are_pinned;
 use crate::plan::{Planned, Size, plan_parts};
 use crate::plan_error::PlanError;
-use ceph_packing::{are_pinned, total_heat};
 use mds_types::limits::RANK_LIMIT;
 use mds_types::{Problem, ProblemRow, Rank, RankSet};
 use std::alloc::Global;

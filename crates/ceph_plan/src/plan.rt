@@ -4,8 +4,8 @@ ghost use Rattle.mds_types.specs.Problem.{IsForest, heat_at};
 ghost use Rattle.mds_types.specs.RankSet.{has_rank, rank_count};
 ghost use Rattle.ceph_plan.specs.Plans.{IsPlanOf, capped_rows, moved_inodes};
 
+use crate::packing::{Packing, pack};
 use crate::plan_error::PlanError;
-use ceph_packing::{Packing, pack};
 use mds_types::{Problem, ProblemRow, Rank, RankSet};
 use minmax_search::{BestCut, search};
 use std::alloc::{AllocError, Global};

@@ -1,16 +1,18 @@
 //! The changes of export pins that bring each directory to the rank that a plan gives it.
 ghost use Rattle.std.specs.Prelude.{◌≡◌, ◌<◌, ℕ, length, slice_index, false, IfOk, IsErrOf};
 ghost use Rattle.mds_types.specs.RankSet.{has_rank};
-ghost use Rattle.ceph_pins.specs.Rule.{IsRealized};
-ghost use Rattle.ceph_pins.specs.Changes.{AreNeeded, applied, before_pin};
+ghost use Rattle.ceph_plan.specs.Rule.{IsRealized};
+ghost use Rattle.ceph_plan.specs.Changes.{AreNeeded, applied, before_pin};
 ghost use Rattle.ceph_plan.specs.Asked.{ArePinRows, MovesOnce};
 ghost use Rattle.ceph_plan.specs.Choice.{IsAsked};
 ghost use Rattle.ceph_plan.specs.Plans.{IsPlan};
 
+use crate::changes::changes_for;
 use crate::choice::{PartCount, choose_plan};
+use crate::pins::are_rows;
 use crate::plan::Planned;
 use crate::plan_error::PlanError;
-use ceph_pins::{PinChange, PinRow, are_rows, changes_for};
+use crate::row::{PinChange, PinRow};
 use mds_types::{ProblemRow, Rank, RankSet};
 use std::alloc::{AllocError, Global};
 

@@ -1,8 +1,8 @@
 -- Where directories are to be, and what each rank has now.
 use Rattle.std.specs.Prelude.{◌≡◌, ◌==◌, ◌&&◌, ◌<◌, ℕ, not, List, length, min, slice_index, if◌then◌else◌}
 use Rattle.mds_types.specs.Sums.{sum_below}
-use Rattle.ceph_pins.specs.declared.row.PinRow.{PinRow}
-use Rattle.ceph_pins.specs.Rule.{target_at}
+use Rattle.ceph_plan.specs.declared.row.PinRow.{PinRow}
+use Rattle.ceph_plan.specs.Rule.{target_at}
 use Rattle.ceph_snapshot.specs.declared.directory.Directory.{Directory}
 use Rattle.ceph_snapshot.specs.declared.held.Held.{Held}
 use Rattle.ceph_snapshot.specs.declared.held.Held.TheVariants.{Free, Pinned, Spread}

@@ -1,7 +1,7 @@
 -- The pins that directories have of their own, as the planner of pins takes them.
 use Rattle.std.specs.Prelude.{◌≡◌, ◌==◌, ◌<◌, ℕ, List, length, slice_get, Option, Some, None, if◌then◌else◌}
 use Rattle.std.specs.Option.{option_map_or}
-use Rattle.ceph_pins.specs.Rule.{first_of}
+use Rattle.ceph_plan.specs.Rule.{first_of}
 use Rattle.ceph_plan.specs.declared.proposal.OwnPins.{OwnPins}
 use Rattle.ceph_plan.specs.Asked.{own_at}
 use Rattle.ceph_snapshot.specs.declared.directory.Directory.{Directory}

@@ -1,9 +1,9 @@
 -- Which pins of an earlier plan stand as they are.
 use Rattle.std.specs.Prelude.{◌==◌, ◌&&◌, ℕ, Bool, not, is_some, List}
 use Rattle.std.specs.List.{list_any}
-use Rattle.ceph_pins.specs.declared.row.PinChange.{PinChange}
-use Rattle.ceph_pins.specs.declared.row.PinRow.{PinRow}
-use Rattle.ceph_pins.specs.Rule.{row_at}
+use Rattle.ceph_plan.specs.declared.row.PinChange.{PinChange}
+use Rattle.ceph_plan.specs.declared.row.PinRow.{PinRow}
+use Rattle.ceph_plan.specs.Rule.{row_at}
 
 -- some change is one of row i
 abbrev pub is_changed : List PinChange → ℕ → Bool

@@ -4,7 +4,7 @@
 
 use crate::report::{Facts, is_told, number_at};
 use crate::writer::TextWriter;
-use ceph_pins::PinChange;
+use ceph_plan::PinChange;
 use std::alloc::{AllocError, Global};
 
 /// Adds a path as a string.

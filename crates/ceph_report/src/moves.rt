@@ -5,7 +5,7 @@ ghost use Rattle.ceph_snapshot.specs.Rows.{is_free};
 ghost use Rattle.ceph_report.specs.Amounts.{AreAmounts, goal_at, goal_of, going_of, heat_now, inodes_from, inodes_to};
 
 use crate::pins::pins_after;
-use ceph_pins::{PinChange, PinRow};
+use ceph_plan::{PinChange, PinRow};
 use ceph_snapshot::{Directory, Held};
 use mds_types::Rank;
 use mds_types::limits::RANK_LIMIT;

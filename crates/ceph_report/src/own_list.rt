@@ -2,7 +2,7 @@
 
 use crate::pins::pins_after;
 use crate::writer::BytesWriter;
-use ceph_pins::{PinChange, PinRow};
+use ceph_plan::{PinChange, PinRow};
 use ceph_snapshot::Directory;
 use std::alloc::{AllocError, Global};
 

@@ -4,7 +4,7 @@ ghost use Rattle.mds_types.specs.Sums.{count_below};
 ghost use Rattle.ceph_report.specs.Standing.{is_changed, is_standing};
 ghost use Rattle.ceph_snapshot.specs.Folding.{is_marked};
 
-use ceph_pins::{PinChange, PinRow};
+use ceph_plan::{PinChange, PinRow};
 use mds_types::Rank;
 use std::alloc::{AllocError, Global};
 

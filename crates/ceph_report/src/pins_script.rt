@@ -3,9 +3,8 @@
 //! Each path is quoted for `sh` whatever its bytes. A directory that is gone is told and passed over.
 
 use crate::writer::BytesWriter;
-use ceph_pins::PinChange;
+use ceph_plan::{PinChange, quoted};
 use ceph_snapshot::Directory;
-use sh_quote::quoted;
 use std::alloc::{AllocError, Global};
 
 /// What stands before the lines.

@@ -1,7 +1,7 @@
 //! Dumps as Ceph prints them, whole, cut and broken.
 
 use crate::same::{Sure, holds_in, same, same_in};
-use ceph_dumps::{read_cluster, read_listing, read_loads, read_own_list, read_subtrees};
+use ceph_dumps::{DumpError, read_cluster, read_listing, read_loads, read_own_list, read_subtrees};
 use std::alloc::Global;
 use std::process::Abort;
 
@@ -13,16 +13,18 @@ const LOADS: &[u8] = b"\n{\"dirfrags\":[{\"path\":\"\",\"dirfrag\":\"0x1\",\
 {\"path\":\"/h/new\\nline \\\"-inf\\\"\",\"pop_me\":{\"Decay Counters\":[]}}],\
 \"mds_load\":{\"mds.0\":{\"halflife\":-inf}}}";
 
+/// What it says: paths and heats.
+const HEATS: &[(&[u8], u64)] = &[
+    (b"", 5500),
+    (b"/h/bad-\xff\xc3", 1000),
+    (b"/h/new\nline \"-inf\"", 0),
+];
+
 #[test]
 fn reads_loads(rt: HostRuntime) {
     let found = read_loads(rt.alloc(), LOADS).sure(&rt);
-    let table: [(&[u8], u64); 3] = [
-        (b"", 5500),
-        (b"/h/bad-\xff\xc3", 1000),
-        (b"/h/new\nline \"-inf\"", 0),
-    ];
-    same(&rt, &found.len(), &table.len());
-    for (fragment, row) in found.as_slice().iter().zip(table.as_slice()) {
+    same(&rt, &found.len(), &HEATS.len());
+    for (fragment, row) in found.iter().zip(HEATS) {
         same(&rt, &(fragment.path.as_slice(), fragment.heat), row);
     }
 }
@@ -41,11 +43,17 @@ fn cut(text: &[u8], end: usize) -> &[u8] {
     text.get(..end.min(most)).unwrap_or(text)
 }
 
+/// Whether a call was refused.
+fn is_refused<T: Drop>(answer: Result<T, DumpError>) -> bool {
+    answer.is_err()
+}
+
 /// Whether each of the three dumps is refused where it ends after so many bytes.
 fn are_refused(alloc: Global, end: usize) -> bool {
-    read_loads(alloc, cut(LOADS, end)).is_err()
-        && read_subtrees(alloc, cut(SUBTREES, end)).is_err()
-        && read_cluster(alloc, cut(CLUSTER, end)).is_err()
+    let loads = is_refused(read_loads(alloc, cut(LOADS, end)));
+    let subtrees = is_refused(read_subtrees(alloc, cut(SUBTREES, end)));
+    let cluster = is_refused(read_cluster(alloc, cut(CLUSTER, end)));
+    loads && subtrees && cluster
 }
 
 #[test]
@@ -128,19 +136,22 @@ fn tells_where_a_dump_is_broken(rt: HostRuntime) {
     }
 }
 
-#[test]
-fn reads_subtrees(rt: HostRuntime) {
-    let text = b"[{\"is_auth\":true,\"auth_first\":1,\"auth_second\":-2,\"export_pin\":2,\
+/// Two roots: one that is here and spread, and a rank's own directory.
+const ROOTS: &[u8] = b"[{\"is_auth\":true,\"auth_first\":1,\"auth_second\":-2,\"export_pin\":2,\
 \"distributed_ephemeral_pin\":true,\"dir\":{\"path\":\"/u\"}},\
 {\"is_auth\":false,\"auth_first\":0,\"auth_second\":-2,\"export_pin\":-1,\"dir\":{\"path\":\"~mds0\"}}]";
-    let found = read_subtrees(rt.alloc(), text.as_slice()).sure(&rt);
-    // path, whether it is here and spread, pin
-    let table: [(&[u8], (bool, bool, Option<i64>)); 2] = [
-        (b"/u", (true, true, Some(2))),
-        (b"~mds0", (false, false, None)),
-    ];
-    same(&rt, &found.len(), &table.len());
-    for (root, row) in found.as_slice().iter().zip(table.as_slice()) {
+
+/// What they say: the path, whether it is here and spread, and the pin.
+const TOLD_ROOTS: &[(&[u8], (bool, bool, Option<i64>))] = &[
+    (b"/u", (true, true, Some(2))),
+    (b"~mds0", (false, false, None)),
+];
+
+#[test]
+fn reads_subtrees(rt: HostRuntime) {
+    let found = read_subtrees(rt.alloc(), ROOTS).sure(&rt);
+    same(&rt, &found.len(), &TOLD_ROOTS.len());
+    for (root, row) in found.iter().zip(TOLD_ROOTS) {
         let told = (root.is_here, root.is_spread, root.pin);
         same(&rt, &(root.path.as_slice(), told), row);
     }
@@ -155,25 +166,26 @@ fn reads_ranks(rt: HostRuntime) {
     same(&rt, &found.mask.as_deref(), &Some("0x5"));
 }
 
+/// A listing of four directories.
+const LISTING: &[u8] =
+    b"# file: .\nceph.dir.entries=\"7\"\n\n# file: h/cr\\015ret \\134\nceph.dir.entries=\"4\"\n\n\
+# file: h\nceph.dir.pin=\"2\"\n\n# file: w\nceph.dir.pin=\"-1\"\n";
+
+/// What it says: paths, entries and pins.
+const LISTED: &[(&[u8], Option<u64>, Option<u64>)] = &[
+    (b"", Some(7), None),
+    (b"/h/cr\rret \\", Some(4), None),
+    (b"/h", None, Some(2)),
+    (b"/w", None, None),
+];
+
 #[test]
 fn reads_listings(rt: HostRuntime) {
-    let text =
-        b"# file: .\nceph.dir.entries=\"7\"\n\n# file: h/cr\\015ret \\134\nceph.dir.entries=\"4\"\n\n\
-# file: h\nceph.dir.pin=\"2\"\n\n# file: w\nceph.dir.pin=\"-1\"\n";
-    let found = read_listing(rt.alloc(), text.as_slice()).sure(&rt);
-    let table: [(&[u8], Option<u64>, Option<u64>); 4] = [
-        (b"", Some(7), None),
-        (b"/h/cr\rret \\", Some(4), None),
-        (b"/h", None, Some(2)),
-        (b"/w", None, None),
-    ];
-    same(&rt, &found.len(), &table.len());
-    for (listed, row) in found.as_slice().iter().zip(table.as_slice()) {
-        same(
-            &rt,
-            &(listed.path.as_slice(), listed.entries, listed.pin),
-            row,
-        );
+    let found = read_listing(rt.alloc(), LISTING).sure(&rt);
+    same(&rt, &found.len(), &LISTED.len());
+    for (listed, row) in found.iter().zip(LISTED) {
+        let told = (listed.path.as_slice(), listed.entries, listed.pin);
+        same(&rt, &told, row);
     }
 }
 
@@ -186,12 +198,14 @@ fn refuses_broken_lists(rt: HostRuntime) {
     holds_in(&rt, read_own_list(rt.alloc(), b"1\n").is_err(), &"1");
 }
 
+/// The paths of a list of own pins.
+const OWN: &[&[u8]] = &[b"/a b", b"/x\ny"];
+
 #[test]
 fn reads_lists_of_own_pins(rt: HostRuntime) {
     let found = read_own_list(rt.alloc(), b"1 /a b\n0 /x\\012y\n").sure(&rt);
-    let table: [&[u8]; 2] = [b"/a b", b"/x\ny"];
-    same(&rt, &found.len(), &table.len());
-    for (path, wanted) in found.as_slice().iter().zip(table.as_slice()) {
+    same(&rt, &found.len(), &OWN.len());
+    for (path, wanted) in found.iter().zip(OWN) {
         same(&rt, &path.as_slice(), wanted);
     }
 }

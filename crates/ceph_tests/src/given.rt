@@ -1,6 +1,7 @@
 //! What the tests of several crates are given.
 
 use crate::same::Sure;
+use ceph_plan::{PinChange, PinRow, are_rows, changes_for};
 use mds_types::Rank;
 use std::alloc::Global;
 use std::process::Abort;
@@ -17,4 +18,10 @@ pub(crate) fn by_rank(rt: &impl Abort, alloc: Global, first: &[u64]) -> Vec<u64>
         *place = *number;
     }
     all
+}
+
+/// The changes that put each row at its target.
+pub(crate) fn changes_of(rt: &impl Abort, alloc: Global, rows: &[PinRow]) -> Vec<PinChange> {
+    assert!(rt; are_rows(rows));
+    changes_for(alloc, rows).sure(rt)
 }

@@ -1,8 +1,8 @@
 //! Parts that are packed on ranks, and what that comes to.
 
 use crate::given::{by_rank, rank};
-use crate::same::{Sure, same};
-use ceph_packing::{Packing, are_parts, are_pinned, pack};
+use crate::same::{Sure, same, same_in};
+use ceph_plan::{Packing, are_parts, are_pinned, pack};
 use mds_types::{Problem, ProblemRow, Rank, RankSet};
 use std::alloc::Global;
 use std::process::Abort;
@@ -44,41 +44,42 @@ fn packed(rt: &impl Abort, alloc: Global, given: &[(u64, u8)], pinned: &[u64]) -
     pack(alloc, rows, &part, 64, &by_rank, ranks, 0).sure(rt)
 }
 
-// (heats and present ranks, what is pinned to the first ranks, the ranks, the loads, the greatest, the bound)
-const PACKED: [(&[(u64, u8)], &[u64], &[u8], [u64; 3], u64, u64); 4] = [
+// (heats and present ranks, what is pinned to the first ranks, the ranks, and the loads, the greatest and the bound)
+type Packed<'a> = (&'a [(u64, u8)], &'a [u64], &'a [u8], (&'a [u64], u64, u64));
+
+const PACKED: &[Packed<'static>] = &[
     (
         &[(0, 0), (7, 0), (6, 0), (5, 0), (4, 0), (3, 0)],
         &[],
         &[0, 0, 1, 2, 2, 1],
-        [7, 9, 9],
-        9,
-        9,
+        (&[7, 9, 9], 9, 9),
     ),
     // among equals the rank that has most of the part
-    (&[(0, 0), (7, 2)], &[], &[0, 2], [0, 0, 7], 7, 7),
+    (&[(0, 0), (7, 2)], &[], &[0, 2], (&[0, 0, 7], 7, 7)),
     // a part stays where it is while another rank is hotter anyway
-    (&[(3, 0), (5, 0)], &[0, 100], &[0, 0], [8, 100, 0], 100, 100),
+    (
+        &[(3, 0), (5, 0)],
+        &[0, 100],
+        &[0, 0],
+        (&[8, 100, 0], 100, 100),
+    ),
     // and goes where the least is pinned otherwise
     (
         &[(3, 0), (99, 0)],
         &[0, 100],
         &[0, 2],
-        [3, 100, 99],
-        100,
-        100,
+        (&[3, 100, 99], 100, 100),
     ),
 ];
 
 #[test]
 fn packs_the_hottest_first(rt: HostRuntime) {
-    for (given, pinned, ranks, loads, greatest, bound) in PACKED {
+    for (given, pinned, ranks, wanted) in PACKED {
         let packing = packed(&rt, rt.alloc(), given, pinned);
-        let mut found = Vec::new(rt.alloc());
-        for rank in packing.rank.as_slice().iter().take(given.len()) {
-            found.push(rank.number()).sure(&rt);
+        for (found, number) in packing.rank.iter().zip(*ranks) {
+            same_in(&rt, &found.number(), number, given);
         }
-        same(&rt, &found.as_slice(), &ranks);
-        same(&rt, &packing.load.get(..3), &Some(loads.as_slice()));
-        same(&rt, &(packing.greatest, packing.bound), &(greatest, bound));
+        let loads = packing.load.get(..3).unwrap_or(&[]);
+        same(&rt, &(loads, packing.greatest, packing.bound), wanted);
     }
 }

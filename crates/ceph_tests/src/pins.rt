@@ -1,8 +1,8 @@
 //! Pins and changes of pins on small trees.
 
-use crate::given::rank;
+use crate::given::{changes_of, rank};
 use crate::same::{Sure, same};
-use ceph_pins::{Pin, PinChange, PinRow, are_rows, changes_for, pins_for};
+use ceph_plan::{Pin, PinRow, are_rows, pins_for};
 use mds_types::Rank;
 use std::alloc::Global;
 use std::process::Abort;
@@ -14,7 +14,7 @@ fn some_rank(number: i8) -> Option<Rank> {
     u8::try_from(number).ok().map(rank)
 }
 
-const PINNED: [(&[Given], &[(u32, u8)]); 5] = [
+const PINNED: &[(&[Given], &[(u32, u8)])] = &[
     // all is where it is to be
     (&[(0, 0, -1, 0), (0, 0, -1, 0), (1, 0, -1, 0)], &[]),
     // the subtree of row 1 goes to rank 1, but for row 3
@@ -47,16 +47,26 @@ const PINNED: [(&[Given], &[(u32, u8)]); 5] = [
     ),
 ];
 
-/// A row with its earlier pin too, or -1.
-fn row(given: Given, earlier: i8) -> PinRow {
-    let (parent, target, foreign, rest) = given;
-    PinRow {
-        parent,
-        target: rank(target),
-        foreign: some_rank(foreign),
-        earlier: some_rank(earlier),
-        rest: some_rank(rest),
+/// Rows, the first of which have these earlier pins; -1 is none.
+fn rows_of(rt: &impl Abort, alloc: Global, given: &[Given], earlier: &[i8]) -> Vec<PinRow> {
+    let mut rows = Vec::new(alloc);
+    for (at, (parent, target, foreign, rest)) in given.iter().enumerate() {
+        let row = PinRow {
+            parent: *parent,
+            target: rank(*target),
+            foreign: some_rank(*foreign),
+            earlier: some_rank(earlier.get(at).copied().unwrap_or(-1)),
+            rest: some_rank(*rest),
+        };
+        rows.push(row).sure(rt);
     }
+    rows
+}
+
+fn pins_of(rt: &impl Abort, alloc: Global, given: &[Given]) -> Vec<Pin> {
+    let rows = rows_of(rt, alloc, given, &[]);
+    assert!(rt; are_rows(&rows));
+    pins_for(alloc, &rows).sure(rt)
 }
 
 #[test]
@@ -66,42 +76,28 @@ fn pins_where_a_rank_changes(rt: HostRuntime) {
         for pin in pins_of(&rt, rt.alloc(), given) {
             found.push((pin.row, pin.rank.number())).sure(&rt);
         }
-        same(&rt, &found.as_slice(), &expected);
+        same(&rt, &found.as_slice(), expected);
     }
 }
 
-fn pins_of(rt: &impl Abort, alloc: Global, given: &[Given]) -> Vec<Pin> {
-    let mut rows = Vec::new(alloc);
-    for one in given {
-        rows.push(row(*one, -1)).sure(rt);
-    }
-    assert!(rt; are_rows(&rows));
-    pins_for(alloc, &rows).sure(rt)
-}
+// Row 1 goes from rank 1 to rank 2 and takes row 2 with it, row 3 is no longer apart, and row 4's pin stands already.
+const GIVEN: &[Given] = &[
+    (0, 0, -1, 0),
+    (0, 2, -1, 0),
+    (1, 2, -1, 0),
+    (2, 2, -1, 0),
+    (0, 1, -1, 0),
+];
+
+const EARLIER: &[i8] = &[-1, 1, -1, 0, 1];
 
 #[test]
 fn changes_earlier_pins(rt: HostRuntime) {
-    // parents, targets and earlier pins: row 1 goes from rank 1 to rank 2 and takes row 2 with it, row 3 is no longer
-    // apart, and row 4's pin stands already
-    let given: [(u32, u8, i8); 5] = [(0, 0, -1), (0, 2, 1), (1, 2, -1), (2, 2, 0), (0, 1, 1)];
+    let rows = rows_of(&rt, rt.alloc(), GIVEN, EARLIER);
     let mut found = Vec::new(rt.alloc());
-    for change in changes_of(&rt, rt.alloc(), given.as_slice()) {
-        found
-            .push((change.row, change.pin.map(Rank::number)))
-            .sure(&rt);
+    for change in changes_of(&rt, rt.alloc(), &rows) {
+        found.push((change.row, change.pin)).sure(&rt);
     }
-    same(
-        &rt,
-        &found.as_slice(),
-        &[(1, Some(2)), (3, None)].as_slice(),
-    );
-}
-
-fn changes_of(rt: &impl Abort, alloc: Global, given: &[(u32, u8, i8)]) -> Vec<PinChange> {
-    let mut rows = Vec::new(alloc);
-    for (parent, target, earlier) in given {
-        rows.push(row((*parent, *target, -1, 0), *earlier)).sure(rt);
-    }
-    assert!(rt; are_rows(&rows));
-    changes_for(alloc, &rows).sure(rt)
+    let wanted: [(u32, Option<Rank>); 2] = [(1, Some(rank(2))), (3, None)];
+    same(&rt, &found.as_slice(), &wanted.as_slice());
 }

@@ -35,25 +35,26 @@ fn proposed(rt: &impl Abort, alloc: Global, heats: &[u64], pinned: &[u64]) -> Pr
     propose(alloc, &rows, PartCount::Auto, &held, ranks, 0, &own).sure(rt)
 }
 
+/// Heats, those pinned to the first ranks, and then the greatest load, the bound, and the inodes that move.
+const PLANNED: &[(&[u64], &[u64], (u64, u64, u64))] = &[
+    (&[0, 6, 5, 4, 3], &[], (7, 6, 20)),
+    // what is pinned counts
+    (&[0, 6, 6], &[0, 6], (6, 6, 10)),
+    // one hot child: the rest is divided all the same
+    (
+        &[0, 90, 20, 20, 20, 20, 20, 20],
+        &[0, 60, 60],
+        (120, 110, 50),
+    ),
+    (&[0], &[], (0, 0, 0)),
+];
+
 #[test]
 fn plans_as_cool_as_can_be(rt: HostRuntime) {
-    // heats, those pinned to the first ranks, the greatest load, the bound, the inodes that move
-    let table: [(&[u64], &[u64], u64, u64, u64); 4] = [
-        (&[0, 6, 5, 4, 3], &[], 7, 6, 20),
-        // what is pinned counts
-        (&[0, 6, 6], &[0, 6], 6, 6, 10),
-        // one hot child: the rest is divided all the same
-        (&[0, 90, 20, 20, 20, 20, 20, 20], &[0, 60, 60], 120, 110, 50),
-        (&[0], &[], 0, 0, 0),
-    ];
-    for (heats, pinned, greatest, bound, moved) in table {
+    for (heats, pinned, wanted) in PLANNED {
         let plan = proposed(&rt, rt.alloc(), heats, pinned).plan;
-        same_in(
-            &rt,
-            &(plan.packing.greatest, plan.packing.bound, plan.moved),
-            &(greatest, bound, moved),
-            &heats,
-        );
+        let found = (plan.packing.greatest, plan.packing.bound, plan.moved);
+        same_in(&rt, &found, wanted, heats);
     }
 }
 
@@ -80,15 +81,16 @@ fn refusal(
     .err()
 }
 
+/// How many rows, how many pinned heats and which ranks are refused, and why.
+const REFUSED: &[(usize, usize, u64, Option<PlanError>)] = &[
+    (2, 64, 6, Some(PlanError::NoRankZero)),
+    (0, 64, 7, Some(PlanError::NoDirectory)),
+    (2, 63, 7, Some(PlanError::PinnedTooHot)),
+];
+
 #[test]
 fn refuses_what_it_cant_plan(rt: HostRuntime) {
-    let table: [(usize, usize, u64, PlanError); 3] = [
-        (2, 64, 6, PlanError::NoRankZero),
-        (0, 64, 7, PlanError::NoDirectory),
-        (2, 63, 7, PlanError::PinnedTooHot),
-    ];
-    for (few, ranks, bits, error) in table {
-        let found = refusal(&rt, rt.alloc(), few, ranks, bits);
-        same(&rt, &found, &Some(error));
+    for (few, ranks, bits, error) in REFUSED {
+        same(&rt, &refusal(&rt, rt.alloc(), *few, *ranks, *bits), error);
     }
 }

@@ -1,21 +1,23 @@
 //! Words that are quoted for sh.
 
 use crate::same::{Sure, same};
-use sh_quote::quoted;
+use ceph_plan::quoted;
+
+/// Bytes and their words.
+const WORDS: &[(&[u8], &[u8])] = &[
+    (b"", b"''"),
+    (b"/a b", b"'/a b'"),
+    (b"it's", b"'it'\\''s'"),
+    (b"'", b"''\\'''"),
+    (b"$(rm -r *)\n\\\xff-n", b"'$(rm -r *)\n\\\xff-n'"),
+];
 
 #[test]
 fn quotes(rt: HostRuntime) {
-    let table: [(&[u8], &[u8]); 5] = [
-        (b"", b"''"),
-        (b"/a b", b"'/a b'"),
-        (b"it's", b"'it'\\''s'"),
-        (b"'", b"''\\'''"),
-        (b"$(rm -r *)\n\\\xff-n", b"'$(rm -r *)\n\\\xff-n'"),
-    ];
-    for (bytes, word) in table {
+    for (bytes, word) in WORDS {
         if bytes.iter().all(|byte| *byte > 0) {
             let found = quoted(rt.alloc(), bytes).sure(&rt);
-            same(&rt, &found.as_slice(), &word);
+            same(&rt, &found.as_slice(), word);
         }
     }
 }

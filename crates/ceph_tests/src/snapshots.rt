@@ -46,27 +46,29 @@ fn add_roots(
     all.add_subtrees(at, &roots).sure(rt);
 }
 
+/// The roots of ranks 0 and 1, with their pins.
+const FIRST_ROOTS: &[(&[u8], Option<i64>)] = &[(b"", None), (b"/u", None)];
+
+const SECOND_ROOTS: &[(&[u8], Option<i64>)] = &[(b"/a", Some(1)), (b"/u", None)];
+
+/// The heat that they have seen.
+const FIRST_LOADS: &[(&[u8], u64)] = &[
+    (b"", 100),
+    (b"/a", 900),
+    (b"/b", 300),
+    (b"/u", 40),
+    (b"~mds0", 7),
+];
+
+const SECOND_LOADS: &[(&[u8], u64)] = &[(b"/a", 700), (b"/a/x", 200), (b"/u", 60)];
+
 /// Rank 0 has the root and a fragment of `/u`, rank 1 has `/a`, which is pinned, and the other fragment of `/u`.
 fn gathered(rt: &impl Abort, alloc: Global) -> Snapshot {
     let mut all = Gathering::new(alloc).sure(rt);
-    add_roots(rt, alloc, &mut all, rank(0), &[(b"", None), (b"/u", None)]);
-    add_roots(
-        rt,
-        alloc,
-        &mut all,
-        rank(1),
-        &[(b"/a", Some(1)), (b"/u", None)],
-    );
-    let first: [(&[u8], u64); 5] = [
-        (b"", 100),
-        (b"/a", 900),
-        (b"/b", 300),
-        (b"/u", 40),
-        (b"~mds0", 7),
-    ];
-    add_loads(rt, alloc, &mut all, rank(0), first.as_slice());
-    let second: [(&[u8], u64); 3] = [(b"/a", 700), (b"/a/x", 200), (b"/u", 60)];
-    add_loads(rt, alloc, &mut all, rank(1), second.as_slice());
+    add_roots(rt, alloc, &mut all, rank(0), FIRST_ROOTS);
+    add_roots(rt, alloc, &mut all, rank(1), SECOND_ROOTS);
+    add_loads(rt, alloc, &mut all, rank(0), FIRST_LOADS);
+    add_loads(rt, alloc, &mut all, rank(1), SECOND_LOADS);
     add_entries(rt, alloc, &mut all);
     all.snapshot(1, 2).sure(rt)
 }
@@ -81,26 +83,27 @@ fn add_entries(rt: &impl Abort, alloc: Global, all: &mut Gathering) {
     all.add_listing(&[listed]).sure(rt);
 }
 
+/// Paths with heat, inodes, rank, and whether each is spread.
+const SEEN: &[(&[u8], (u64, u64, u8, bool))] = &[
+    (b"", (100, 1, 0, false)),
+    (b"/u", (100, 1, 1, true)),
+    (b"/a", (700, 1, 1, false)),
+    (b"/b", (300, 12, 0, false)),
+    (b"/a/x", (200, 1, 1, false)),
+];
+
 #[test]
 fn heat_counts_at_the_rank_with_authority(rt: HostRuntime) {
     let snapshot = gathered(&rt, rt.alloc());
-    // path, heat, inodes, rank, whether it is spread
-    let table: [(&[u8], (u64, u64, u8, bool)); 5] = [
-        (b"", (100, 1, 0, false)),
-        (b"/u", (100, 1, 1, true)),
-        (b"/a", (700, 1, 1, false)),
-        (b"/b", (300, 12, 0, false)),
-        (b"/a/x", (200, 1, 1, false)),
-    ];
-    same(&rt, &snapshot.directories.len(), &table.len());
-    for (found, row) in snapshot.directories.iter().zip(table) {
+    same(&rt, &snapshot.directories.len(), &SEEN.len());
+    for (found, row) in snapshot.directories.iter().zip(SEEN) {
         let told = (
             found.heat,
             found.inodes,
             found.now.number(),
             found.is_spread,
         );
-        same(&rt, &(found.path.as_slice(), told), &row);
+        same(&rt, &(found.path.as_slice(), told), row);
     }
 }
 
@@ -130,23 +133,26 @@ fn heat_of(rt: &impl Abort, alloc: Global, snapshot: &Snapshot) -> Vec<u64> {
     held_heat(alloc, &snapshot.directories, &holds, &snapshot.spread).sure(rt)
 }
 
+/// Five directories with their heat.
+const LEAVES: &[(&[u8], u64)] = &[(b"", 1), (b"/a/c", 5), (b"/b", 3), (b"/a", 7), (b"/d", 9)];
+
+/// Those that are left of them, with heat, inodes and parent.
+const LEFT: &[(&[u8], (u64, u64, u32))] = &[
+    (b"", (4, 2, 0)),
+    (b"/a", (12, 2, 0)),
+    (b"/d", (9, 1, 0)),
+];
+
 #[test]
 fn cold_leaves_are_folded(rt: HostRuntime) {
-    let given: [(&[u8], u64); 5] = [(b"", 1), (b"/a/c", 5), (b"/b", 3), (b"/a", 7), (b"/d", 9)];
     let mut all = Gathering::new(rt.alloc()).sure(&rt);
-    add_loads(&rt, rt.alloc(), &mut all, rank(0), given.as_slice());
+    add_loads(&rt, rt.alloc(), &mut all, rank(0), LEAVES);
     let directories = all.snapshot(1, 1).sure(&rt).directories;
     let (kept, folded) = folded(&rt, rt.alloc(), directories, 3);
-    same(&rt, &folded, &2);
-    let table: [(&[u8], (u64, u64, u32)); 3] = [
-        (b"", (4, 2, 0)),
-        (b"/a", (12, 2, 0)),
-        (b"/d", (9, 1, 0)),
-    ];
-    same(&rt, &kept.len(), &table.len());
-    for (found, row) in kept.iter().zip(table) {
+    same(&rt, &(kept.len(), folded), &(LEFT.len(), 2));
+    for (found, row) in kept.iter().zip(LEFT) {
         let told = (found.heat, found.inodes, found.parent);
-        same(&rt, &(found.path.as_slice(), told), &row);
+        same(&rt, &(found.path.as_slice(), told), row);
     }
 }
 

@@ -1,6 +1,6 @@
 use Rattle.std.proofs.Common.{◌≡◌, ◌<◌, ◌≤◌, ◌+◌, ◌∙◌, ◌∷◌, ◌++◌, ℕ, Bool, List, [], Vec, Global, ap, subst, sym, arith}
 use Rattle.mds_types.specs.declared.problem.ProblemRow.{ProblemRow}
-use Rattle.ceph_packing.proofs.Bounds.{count-positive}
+use Rattle.ceph_plan.proofs.Bounds.{count-positive}
 use Rattle.ceph_plan.specs.declared.plan.Planned.{Planned}
 use Rattle.ceph_plan.specs.Choice.{AreWeighed}
 use Rattle.ceph_plan.proofs.Weighed.{IsSoFar, more-so_far, passed-so_far, some_weighed}

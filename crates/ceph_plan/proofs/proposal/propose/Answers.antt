@@ -1,7 +1,7 @@
 use Rattle.std.proofs.Common.{List, subst}
-use Rattle.ceph_pins.specs.declared.row.PinRow.{PinRow}
-use Rattle.ceph_pins.specs.Rule.{IsRealized}
-use Rattle.ceph_pins.specs.Changes.{AreNeeded, applied, before_pin}
+use Rattle.ceph_plan.specs.declared.row.PinRow.{PinRow}
+use Rattle.ceph_plan.specs.Rule.{IsRealized}
+use Rattle.ceph_plan.specs.Changes.{AreNeeded, applied, before_pin}
 use Rattle.ceph_plan.specs.Asked.{MovesOnce}
 use Rattle.ceph_plan.proofs.proposal.propose.Goals as goal
 

@@ -1,0 +1,205 @@
+-- The contract of the changes, and one more row.
+use Rattle.std.proofs.Common.{◌≡◌, ◌≢◌, ℕ, zero, suc, ◌+◌, ◌-◌, ◌<◌, ◌≤◌, List, [], ◌∷◌, ◌++◌, length, take, true, false, cond, not, ◌&&◌, Option, Some, None, refl, ap, sym, ◌∙◌, arith, ⊎_elim, ◌⊎◌, inl, inr, subst}
+use Rattle.std.specs.Prelude.{is_some, is_none}
+use Rattle.std.proofs.lemmas.Bool.{and_from, and_parts, both_ways, cases_Bool, cases_lt, eq-eqb, eqb-true, not-true, not_from_false, lt-ltb, le-ltb}
+use Rattle.std.proofs.lemmas.List.{append_assoc, get_or_past}
+use Rattle.std.proofs.lemmas.List.Elements.{All-append, All-cons, All-nil}
+use Rattle.ceph_plan.specs.declared.row.PinRow.{PinRow}
+use Rattle.ceph_plan.specs.declared.row.PinChange.{PinChange}
+use Rattle.ceph_plan.specs.declared.hold.Hold.{Hold}
+use Rattle.ceph_plan.specs.declared.hold.Hold.TheVariants.{Free, Own}
+use Rattle.ceph_plan.specs.Rule.{AreRows, IsNearest, IsRealized, first_of, foreign_at, no_row, own_pin, row_at, target_at}
+use Rattle.ceph_plan.specs.Holds.{AreHolds, hold_at, is_own, pins_below, rests_at}
+use Rattle.ceph_plan.specs.Changes.{AreNeeded, applied, before_pin, drops_from, is_dropped, is_set, sets_below, stands, while_set, while_unset}
+use Rattle.ceph_plan.proofs.Held.{IsHeld, IsOwnBy, own_by, own_held}
+use Rattle.ceph_plan.proofs.Held as held
+use Rattle.ceph_plan.proofs.Script.{AreSame, AreStates, ends, once, same_at, same_near}
+
+abbrev pub new_pin : List PinRow → List Hold → ℕ → Option ℕ
+new_pin rows holds = own_pin rows (pins_below rows holds (length rows))
+
+some_or_none : (o : Option ℕ) → ((r : ℕ) × (o ≡ Some r)) ⊎ (o ≡ None)
+some_or_none None = inr refl
+some_or_none (Some r) = inl (r, refl)
+
+is_none_none : (o : Option ℕ) → is_none o ≡ true → o ≡ None
+is_none_none None e = refl
+is_none_none (Some r) e = absurd (both_ways false refl e)
+
+rests_true : (o : Option ℕ) (target : ℕ) → rests_at o target ≡ true → o ≡ Some target
+rests_true None target is = absurd (both_ways false refl is)
+rests_true (Some rank) target is = ap (λ (r : ℕ). Some r) (eqb-true rank target is)
+
+rank_in : Option ℕ → ℕ
+rank_in None = 0
+rank_in (Some rank) = rank
+
+rests_false : (o : Option ℕ) (target : ℕ) → rests_at o target ≡ false → o ≢ Some target
+unfolding rank_in
+rests_false None target is same = both_ways (is_none (Some target)) refl (ap is_none (sym same))
+rests_false (Some rank) target is same = both_ways (rests_at (Some rank) target) is (eq-eqb rank target (ap rank_in same))
+
+-- a new pin that isn't set stands already
+standing_is : (row : PinRow) (hold : Hold) → is_own hold ≡ true → is_set row hold ≡ false → first_of row.foreign row.earlier ≡ Some row.target
+standing_is row hold own is =
+    ⊎_elim (λ (yes : stands row ≡ true). rests_true (first_of row.foreign row.earlier) row.target yes)
+    (λ (no : stands row ≡ false). absurd (both_ways (is_set row hold) is (and_from (is_own hold) (not (stands row)) own (not_from_false (stands row) no))))
+    (cases_Bool (stands row))
+
+pub states : (rows : List PinRow) (holds : List Hold) → AreRows rows → AreHolds rows holds (length rows) → length holds ≡ length rows → AreStates rows holds (before_pin rows) (new_pin rows holds)
+states rows holds are holds_are size =
+    let by : IsOwnBy rows holds (new_pin rows holds) = own_by rows holds size in
+    let mine_none : (i : ℕ) → foreign_at rows i ≡ None → is_own (hold_at holds i) ≡ false → new_pin rows holds i ≡ None =
+    λ i none is. by.mine i none ∙ (rw is refl) in
+    record {
+      set = λ i is.
+          let own : is_own (hold_at holds i) ≡ true = (and_parts (is_own (hold_at holds i)) (not (stands (row_at rows i))) is).0 in
+          let here : IsHeld rows (new_pin rows holds) i Own = own_held rows holds (new_pin rows holds) i are holds_are size by own in here.1;
+      not_set = λ i is.
+          ⊎_elim (λ (some : (r : ℕ) × (foreign_at rows i ≡ Some r)).
+          let after : new_pin rows holds i ≡ Some some.0 = by.foreign i some.0 some.1 in
+          let before : before_pin rows i ≡ Some some.0 = ap (λ (o : Option ℕ). first_of o (row_at rows i).earlier) some.1 in
+          ap (λ (o : Option ℕ). first_of o (before_pin rows i)) after ∙ sym before)
+          (λ (none : foreign_at rows i ≡ None).
+          ⊎_elim (λ (own : is_own (hold_at holds i) ≡ true).
+          let after : new_pin rows holds i ≡ Some (target_at rows i) = by.mine i none ∙ (rw own refl) in
+          let before : before_pin rows i ≡ Some (target_at rows i) = standing_is (row_at rows i) (hold_at holds i) own is in
+          ap (λ (o : Option ℕ). first_of o (before_pin rows i)) after ∙ sym before)
+          (λ (own : is_own (hold_at holds i) ≡ false). ap (λ (o : Option ℕ). first_of o (before_pin rows i)) (mine_none i none own))
+          (cases_Bool (is_own (hold_at holds i))))
+          (some_or_none (foreign_at rows i));
+      dropped = λ i is.
+          let parts = and_parts (is_none (foreign_at rows i)) (is_some (row_at rows i).earlier && not (is_own (hold_at holds i))) is in
+          let own = not-true (is_own (hold_at holds i)) (and_parts (is_some (row_at rows i).earlier) (not (is_own (hold_at holds i))) parts.1).1 in
+          mine_none i (is_none_none (foreign_at rows i) parts.0) own;
+      not_dropped = λ i is.
+          ⊎_elim (λ (some : (r : ℕ) × (foreign_at rows i ≡ Some r)).
+          let after : new_pin rows holds i ≡ Some some.0 = by.foreign i some.0 some.1 in
+          ap (λ (o : Option ℕ). first_of o (before_pin rows i)) after ∙ sym after)
+          (λ (none : foreign_at rows i ≡ None).
+          ⊎_elim (λ (own : is_own (hold_at holds i) ≡ true).
+          let after : new_pin rows holds i ≡ Some (target_at rows i) = by.mine i none ∙ (rw own refl) in
+          ap (λ (o : Option ℕ). first_of o (before_pin rows i)) after ∙ sym after)
+          (λ (own : is_own (hold_at holds i) ≡ false).
+          let after : new_pin rows holds i ≡ None = mine_none i none own in
+          let before : before_pin rows i ≡ (row_at rows i).earlier = ap (λ (o : Option ℕ). first_of o (row_at rows i).earlier) none in
+          ⊎_elim (λ (some : (r : ℕ) × ((row_at rows i).earlier ≡ Some r)).
+          let yes : is_dropped (row_at rows i) (hold_at holds i) ≡ true =
+          and_from (is_none (foreign_at rows i)) (is_some (row_at rows i).earlier && not (is_own (hold_at holds i))) (ap is_none none)
+          (and_from (is_some (row_at rows i).earlier) (not (is_own (hold_at holds i))) (ap is_some some.1) (not_from_false (is_own (hold_at holds i)) own)) in
+          absurd (both_ways (is_dropped (row_at rows i) (hold_at holds i)) is yes))
+          (λ (no : (row_at rows i).earlier ≡ None).
+          ap (λ (o : Option ℕ). first_of o (before_pin rows i)) after ∙ (before ∙ (no ∙ sym after)))
+          (some_or_none (row_at rows i).earlier))
+          (cases_Bool (is_own (hold_at holds i))))
+          (some_or_none (foreign_at rows i));
+    }
+
+start : (rows : List PinRow) (holds : List Hold) (old new : ℕ → Option ℕ) → length holds ≡ length rows → AreStates rows holds old new → AreSame old (while_set old new (length rows))
+start rows holds old new size states = record {
+  same = λ j.
+      ⊎_elim (λ (low : j < length rows). rw (lt-ltb j (length rows) low) refl)
+      (λ (high : length rows ≤ j).
+      let free : hold_at holds j ≡ Free = get_or_past holds j Free (omega (arith, size, high)) in
+      rw (le-ltb j (length rows) high) (sym (states.not_set j (ap (λ (hold : Hold). is_set (row_at rows j) hold) free))))
+      (cases_lt j (length rows));
+}
+
+finish : (rows : List PinRow) (holds : List Hold) (old new : ℕ → Option ℕ) (n : ℕ) → n ≡ length rows → AreStates rows holds old new → AreSame (while_unset old new n) new
+finish rows holds old new n is states = record {
+  same = λ j.
+      ⊎_elim (λ (low : j < n). rw (lt-ltb j n low) refl)
+      (λ (high : n ≤ j).
+      let none : row_at rows j ≡ no_row = get_or_past rows j no_row (omega (arith, is, high)) in
+      let kept : is_dropped (row_at rows j) (hold_at holds j) ≡ false = ap (λ (row : PinRow). is_dropped row (hold_at holds j)) none in
+      rw (le-ltb j n high) (states.not_dropped j kept))
+      (cases_lt j n);
+}
+
+-- the whole list
+pub record AreChanges (rows : List PinRow) (holds : List Hold) (changes : List PinChange) : Type 0 where
+  pub are : AreRows rows
+  pub holds_are : AreHolds rows holds (length rows)
+  pub size : length holds ≡ length rows
+  pub changes_are : changes ≡ sets_below rows holds (length rows) ++ drops_from rows holds (length rows) 0
+
+in_the_end : (rows : List PinRow) (holds : List Hold) (changes : List PinChange) → AreChanges rows holds changes → AreSame (applied (before_pin rows) changes) (new_pin rows holds)
+in_the_end rows holds changes f =
+    let is = states rows holds f.are f.holds_are f.size in
+    let begin = start rows holds (before_pin rows) (new_pin rows holds) f.size is in
+    let near = ends rows holds (before_pin rows) (new_pin rows holds) is begin in
+    let last = finish rows holds (before_pin rows) (new_pin rows holds) (0 + length rows) (omega arith) is in
+    subst (λ (cs : List PinChange). AreSame (applied (before_pin rows) cs) (new_pin rows holds)) (sym f.changes_are)
+    (record { same = λ j. near.same j ∙ last.same j })
+
+back : (own other : ℕ → Option ℕ) → AreSame own other → AreSame other own
+back own other s = record { same = λ j. sym (s.same j) }
+
+pub realized : (rows : List PinRow) (holds : List Hold) (changes : List PinChange) → AreChanges rows holds changes → IsRealized rows (applied (before_pin rows) changes)
+realized rows holds changes f i ours =
+    same_at rows (new_pin rows holds) (applied (before_pin rows) changes) i (target_at rows i) (back (applied (before_pin rows) changes) (new_pin rows holds) (in_the_end rows holds changes f))
+    (held.realized rows holds (new_pin rows holds) f.are f.holds_are (own_by rows holds f.size) i ours)
+
+pub moves_once : (rows : List PinRow) (holds : List Hold) (changes : List PinChange) → AreChanges rows holds changes → (k i r : ℕ) → i < length rows → IsNearest rows (applied (before_pin rows) (take k changes)) i r → IsNearest rows (before_pin rows) i r ⊎ IsNearest rows (applied (before_pin rows) changes) i r
+moves_once rows holds changes f k i r l near =
+    let is = states rows holds f.are f.holds_are f.size in
+    let begin = start rows holds (before_pin rows) (new_pin rows holds) f.size is in
+    elim (once rows holds (before_pin rows) (new_pin rows holds) k i r f.are is begin l
+    (subst (λ (cs : List PinChange). IsNearest rows (applied (before_pin rows) (take k cs)) i r) f.changes_are near)) [
+      | inl before ↦ inl before
+      | inr after ↦ inr (same_near rows (new_pin rows holds) (applied (before_pin rows) changes) i r (back (applied (before_pin rows) changes) (new_pin rows holds) (in_the_end rows holds changes f)) after)
+    ]
+
+sets-split : (rows : List PinRow) (holds : List Hold) (i : ℕ) → 0 < i → sets_below rows holds i ≡ cond (is_set (row_at rows (i - 1)) (hold_at holds (i - 1))) (record { row = i - 1; pin = Some (target_at rows (i - 1)) } ∷ []) [] ++ sets_below rows holds (i - 1)
+sets-split rows holds i l =
+    let more : i ≡ suc (i - 1) = omega (arith, l) in
+    subst (λ (n : ℕ). sets_below rows holds n ≡ cond (is_set (row_at rows (i - 1)) (hold_at holds (i - 1))) (record { row = i - 1; pin = Some (target_at rows (i - 1)) } ∷ []) [] ++ sets_below rows holds (i - 1)) (sym more) refl
+
+pub with_no_set : (rows : List PinRow) (holds : List Hold) (done all : List PinChange) (i : ℕ) → 0 < i → done ++ sets_below rows holds i ≡ all → is_set (row_at rows (i - 1)) (hold_at holds (i - 1)) ≡ false → done ++ sets_below rows holds (i - 1) ≡ all
+with_no_set rows holds done all i l is set =
+    ap (λ (cs : List PinChange). done ++ cs) (sym (sets-split rows holds i l ∙ (rw set refl))) ∙ is
+
+drops-split : (rows : List PinRow) (holds : List Hold) (n m i : ℕ) → i < n → m ≡ i → drops_from rows holds (n - i) m ≡ cond (is_dropped (row_at rows m) (hold_at holds m)) (record { row = m; pin = None } ∷ []) [] ++ drops_from rows holds (n - (i + 1)) (m + 1)
+drops-split rows holds n m i l e =
+    let more : n - i ≡ suc (n - (i + 1)) = omega (arith, l) in
+    let next : m + 1 ≡ suc m = omega arith in
+    rw (more, next) refl
+
+pub with_drop : (rows : List PinRow) (holds : List Hold) (done all : List PinChange) (n i : ℕ) → i < n → done ++ drops_from rows holds (n - i) i ≡ all → is_dropped (row_at rows i) (hold_at holds i) ≡ true → (done ++ record { row = i; pin = None } ∷ []) ++ drops_from rows holds (n - (i + 1)) (i + 1) ≡ all
+with_drop rows holds done all n i l is drop =
+    append_assoc done (record { row = i; pin = None } ∷ []) (drops_from rows holds (n - (i + 1)) (i + 1))
+    ∙ (ap (λ (cs : List PinChange). done ++ cs) (sym (drops-split rows holds n i i l refl ∙ (rw drop refl))) ∙ is)
+
+pub with_none : (rows : List PinRow) (holds : List Hold) (done all : List PinChange) (n i : ℕ) → i < n → done ++ drops_from rows holds (n - i) i ≡ all → is_dropped (row_at rows i) (hold_at holds i) ≡ false → done ++ drops_from rows holds (n - (i + 1)) (i + 1) ≡ all
+with_none rows holds done all n i l is drop =
+    ap (λ (cs : List PinChange). done ++ cs) (sym (drops-split rows holds n i i l refl ∙ (rw drop refl))) ∙ is
+
+needed_sets : (rows : List PinRow) (holds : List Hold) (n : ℕ) → AreNeeded rows (sets_below rows holds n)
+needed_sets rows holds zero = All-nil (λ (change : PinChange). before_pin rows change.row ≢ change.pin)
+needed_sets rows holds (suc n) =
+    ⊎_elim (λ (is : is_set (row_at rows n) (hold_at holds n) ≡ true).
+    let other : stands (row_at rows n) ≡ false = not-true (stands (row_at rows n)) (and_parts (is_own (hold_at holds n)) (not (stands (row_at rows n))) is).1 in
+    rw is (All-cons (λ (change : PinChange). before_pin rows change.row ≢ change.pin) (record { row = n; pin = Some (target_at rows n) }) (sets_below rows holds n)
+    (rests_false (before_pin rows n) (target_at rows n) other)
+    (needed_sets rows holds n)))
+    (λ (is : is_set (row_at rows n) (hold_at holds n) ≡ false). rw is (needed_sets rows holds n))
+    (cases_Bool (is_set (row_at rows n) (hold_at holds n)))
+
+needed_drops : (rows : List PinRow) (holds : List Hold) (n m : ℕ) → AreNeeded rows (drops_from rows holds n m)
+needed_drops rows holds zero m = All-nil (λ (change : PinChange). before_pin rows change.row ≢ change.pin)
+needed_drops rows holds (suc n) m =
+    ⊎_elim (λ (is : is_dropped (row_at rows m) (hold_at holds m) ≡ true).
+    let parts = and_parts (is_none (foreign_at rows m)) (is_some (row_at rows m).earlier && not (is_own (hold_at holds m))) is in
+    let some = (and_parts (is_some (row_at rows m).earlier) (not (is_own (hold_at holds m))) parts.1).0 in
+    let before : before_pin rows m ≡ (row_at rows m).earlier = ap (λ (o : Option ℕ). first_of o (row_at rows m).earlier) (is_none_none (foreign_at rows m) parts.0) in
+    rw is (All-cons (λ (change : PinChange). before_pin rows change.row ≢ change.pin) (record { row = m; pin = None }) (drops_from rows holds n (suc m))
+    (λ same. both_ways (is_some (row_at rows m).earlier) (ap is_some (sym before ∙ same)) some)
+    (needed_drops rows holds n (suc m))))
+    (λ (is : is_dropped (row_at rows m) (hold_at holds m) ≡ false). rw is (needed_drops rows holds n (suc m)))
+    (cases_Bool (is_dropped (row_at rows m) (hold_at holds m)))
+
+pub needed : (rows : List PinRow) (holds : List Hold) (changes : List PinChange) → AreChanges rows holds changes → AreNeeded rows changes
+needed rows holds changes f =
+    subst (λ (cs : List PinChange). AreNeeded rows cs) (sym f.changes_are)
+    (All-append (λ (change : PinChange). before_pin rows change.row ≢ change.pin) (sets_below rows holds (length rows)) (drops_from rows holds (length rows) 0)
+    (needed_sets rows holds (length rows)) (needed_drops rows holds (length rows) 0))

@@ -1,0 +1,10 @@
+use Rattle.std.proofs.Common.{◌≡◌, ◌≤◌, ◌*◌, ◌^◌, slice_index, if◌then◌else◌}
+use Rattle.mds_types.specs.RankSet.{has_rank}
+use Rattle.mds_types.specs.Sums.{sum_below}
+use Rattle.ceph_plan.proofs.bound.total.Given as goal
+
+abbrev pub invariant-loop-number : goal.invariant-loop-number
+invariant-loop-number l = record {
+  total : l.total ≡ sum_below l.number (λ r. if has_rank l.ranks r then slice_index l.numbers r else 0);
+  small : l.total ≤ l.number * 2 ^ 57;
+}

@@ -1,0 +1,64 @@
+-- The rows' own pins while they are changed.
+use Rattle.std.specs.Prelude.{◌≢◌, All, ℕ, zero, suc, Bool, ◌==◌, ◌&&◌, ◌++◌, not, is_some, is_none}
+use Rattle.std.specs.Prelude.{List, [], ◌∷◌, Option, Some, None, nat_lt, if◌then◌else◌}
+use Rattle.ceph_plan.specs.declared.hold.Hold.{Hold}
+use Rattle.ceph_plan.specs.declared.row.PinChange.{PinChange}
+use Rattle.ceph_plan.specs.declared.row.PinRow.{PinRow}
+use Rattle.ceph_plan.specs.Rule.{first_of, foreign_at, row_at, target_at}
+use Rattle.ceph_plan.specs.Holds.{hold_at, is_own, rests_at}
+
+-- the rows' own pins before: foreign ones, and those of an earlier plan
+abbrev pub before_pin : List PinRow → ℕ → Option ℕ
+before_pin rows i = first_of (foreign_at rows i) (row_at rows i).earlier
+
+-- the pins once one change is made, and once all are made
+abbrev pub changed : (ℕ → Option ℕ) → PinChange → ℕ → Option ℕ
+changed own change i = if change.row == i then change.pin else own i
+
+abbrev pub applied : (ℕ → Option ℕ) → List PinChange → ℕ → Option ℕ
+applied own [] = own
+applied own (change ∷ changes) = applied (changed own change) changes
+
+-- each change gives its row another pin than it had before, or takes the one that it had
+abbrev pub AreNeeded : List PinRow → List PinChange → Type 0
+AreNeeded rows changes = All (λ change. before_pin rows change.row ≢ change.pin) changes
+
+-- the new pins are set at the rows from this one on; the old ones still stand
+abbrev pub while_set : (ℕ → Option ℕ) → (ℕ → Option ℕ) → ℕ → ℕ → Option ℕ
+while_set old new at j = if nat_lt j at then old j else first_of (new j) (old j)
+
+-- all new pins are set; the old ones are taken away at the rows below this one
+abbrev pub while_unset : (ℕ → Option ℕ) → (ℕ → Option ℕ) → ℕ → ℕ → Option ℕ
+while_unset old new at j = if nat_lt j at then new j else first_of (new j) (old j)
+
+-- a row's own pin is its target already
+abbrev pub stands : PinRow → Bool
+stands row = rests_at (first_of row.foreign row.earlier) row.target
+
+-- a new pin that doesn't stand already
+abbrev pub is_set : PinRow → Hold → Bool
+is_set row hold = is_own hold && not (stands row)
+
+-- an earlier pin that is no longer wanted
+abbrev pub is_dropped : PinRow → Hold → Bool
+is_dropped row hold = is_none row.foreign && (is_some row.earlier && not (is_own hold))
+
+-- the new pins of the rows below n that don't stand already, by falling rows
+abbrev pub sets_below : List PinRow → List Hold → ℕ → List PinChange
+sets_below rows holds zero = []
+sets_below rows holds (suc n) =
+    (if is_set (row_at rows n) (hold_at holds n) then record {
+      row =
+          n;
+      pin = Some (target_at rows n);
+    } ∷ [] else []) ++ sets_below rows holds n
+
+-- the pins of n rows from m on that are taken away, by rising rows
+abbrev pub drops_from : List PinRow → List Hold → ℕ → ℕ → List PinChange
+drops_from rows holds zero m = []
+drops_from rows holds (suc n) m =
+    (if is_dropped (row_at rows m) (hold_at holds m) then record {
+      row =
+          m;
+      pin = None;
+    } ∷ [] else []) ++ drops_from rows holds n (suc m)

@@ -1,0 +1,107 @@
+//! What no assignment of whole directories to ranks can get below.
+ghost use Rattle.std.specs.Prelude.{◌≡◌, ◌<◌, ◌≤◌, ◌+◌, ◌*◌, ◌^◌, ℕ, All, length, slice_index, true, if◌then◌else◌};
+ghost use Rattle.mds_types.specs.Problem.{IsForest, heat_at};
+ghost use Rattle.mds_types.specs.RankSet.{has_rank};
+ghost use Rattle.mds_types.specs.Sums.{max_below, sum_below};
+ghost use Rattle.ceph_plan.specs.Packing.{IsAsGreatAsThree, IsLowerBound, greatest_of, total_of};
+
+use mds_types::{ProblemRow, Rank, RankSet};
+
+/// Whether the set has the rank of this number.
+pub fn has_number(ranks: RankSet, number: u8) -> bool
+    requires { number < 64 }
+    ensures { result ≡ has_rank ranks number }
+{
+    match Rank::new(number) {
+        Some(rank) => ranks.has(rank),
+        None => unreachable!(),
+    }
+}
+
+/// The greatest of the numbers at the ranks of the set.
+pub fn most(numbers: &[u64], ranks: RankSet) -> u64
+    requires { length numbers.now ≡ 64 }
+    ensures { result ≡ greatest_of ranks (slice_index numbers.now) }
+{
+    let mut most = 0;
+    for number in 0..64u8 {
+        if has_number(ranks, number) {
+            most = numbers[usize::from(number)].max(most);
+        }
+    }
+    most
+}
+
+/// The least of the numbers at the ranks of the set.
+fn least(numbers: &[u64], ranks: RankSet) -> u64
+    requires size { length numbers.now ≡ 64 }
+    requires zero { has_rank ranks 0 ≡ true }
+    ensures least { (r : ℕ) → has_rank ranks r ≡ true → result ≤ slice_index numbers.now r }
+    ensures one { (r : ℕ) × (has_rank ranks r ≡ true) × (slice_index numbers.now r ≡ result) }
+{
+    let mut least = numbers[0];
+    for number in 0..64u8 {
+        if has_number(ranks, number) {
+            least = numbers[usize::from(number)].min(least);
+        }
+    }
+    least
+}
+
+/// The sum of the numbers at the ranks of the set.
+fn total(numbers: &[u64], ranks: RankSet) -> u64
+    requires size { length numbers.now ≡ 64 }
+    requires small { All (λ n. n ≤ 2 ^ 57) numbers.now }
+    ensures total { result ≡ total_of ranks (slice_index numbers.now) }
+    ensures small { result ≤ 2 ^ 63 }
+{
+    let mut total = 0;
+    for number in 0..64u8 {
+        if has_number(ranks, number) {
+            total += numbers[usize::from(number)];
+        }
+    }
+    total
+}
+
+/// The heat of all rows.
+pub fn total_heat(rows: &[ProblemRow]) -> u64
+    requires { IsForest rows.now }
+    ensures total { result ≡ sum_below (length rows.now) (heat_at rows.now) }
+    ensures small { result ≤ 2 ^ 56 }
+{
+    let mut total = 0;
+    for row in rows {
+        total += row.heat;
+    }
+    total
+}
+
+/// The heat of the hottest row.
+fn hottest(rows: &[ProblemRow]) -> u64
+    requires { IsForest rows.now }
+    ensures hottest { result ≡ max_below (length rows.now) (heat_at rows.now) }
+    ensures small { result ≤ 2 ^ 40 }
+{
+    let mut hottest = 0;
+    for row in rows {
+        hottest = row.heat.max(hottest);
+    }
+    hottest
+}
+
+/// The greatest of three: the mean load, rounded up; the hottest row where least is pinned; the most that is
+/// pinned. Each assignment of rows to ranks, connected or not, has a rank that is loaded at least so much.
+pub fn lower_bound(rows: &[ProblemRow], pinned: &[u64], ranks: RankSet) -> u64
+    requires forest { IsForest rows.now }
+    requires size { length pinned.now ≡ 64 }
+    requires small { All (λ n. n ≤ 2 ^ 57) pinned.now }
+    requires zero { has_rank ranks 0 ≡ true }
+    ensures lower { IsLowerBound ranks pinned.now rows.now result }
+    ensures three { IsAsGreatAsThree ranks pinned.now rows.now result }
+{
+    let count = u64::from(ranks.len());
+    let mean = (total_heat(rows) + total(pinned, ranks)).div_ceil(count);
+    let single = hottest(rows) + least(pinned, ranks);
+    mean.max(single).max(most(pinned, ranks))
+}

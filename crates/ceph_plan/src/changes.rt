@@ -1,0 +1,97 @@
+//! The changes from the pins of an earlier plan to those of a new one.
+ghost use Rattle.std.specs.Prelude.{◌≡◌, ◌<◌, ◌≤◌, ◌⊎◌, ◌++◌, ◌^◌, ℕ, length, take, IfOk, OnOk};
+ghost use Rattle.ceph_plan.specs.Rule.{AreRows, IsNearest, IsRealized};
+ghost use Rattle.ceph_plan.specs.Changes.{AreNeeded, applied, before_pin, drops_from};
+ghost use Rattle.ceph_plan.specs.Changes.{is_dropped, is_set, sets_below, stands};
+
+use crate::hold::{Hold, holds_of};
+use crate::row::{PinChange, PinRow};
+use std::alloc::{AllocError, Global};
+
+/// Whether a row's own pin is its target already.
+fn is_standing(row: PinRow) -> bool
+    ensures { result ≡ stands row }
+{
+    row.foreign.or(row.earlier) == Some(row.target)
+}
+
+/// Whether a row is to get a new pin that doesn't stand already.
+fn sets(row: PinRow, hold: Hold) -> bool
+    ensures { result ≡ is_set row hold }
+{
+    hold.is_new() && !is_standing(row)
+}
+
+/// A new pin for each row that has one which doesn't stand already, by falling rows.
+fn push_sets(
+    changes: &mut Vec<PinChange>,
+    rows: &[PinRow],
+    holds: &[Hold],
+) -> Result<(), AllocError>
+    requires size { length holds.now ≡ length rows.now }
+    requires few { length rows.now ≤ 2 ^ 32 }
+    ensures { OnOk result (changes.new.items ≡ changes.old.items ++ sets_below rows.now holds.now (length rows.now)) }
+{
+    let mut i = rows.len();
+    while i > 0 {
+        i -= 1;
+        if sets(rows[i], holds[i]) {
+            changes.push(PinChange {
+                row: i as u32,
+                pin: Some(rows[i].target),
+            })?;
+        }
+    }
+    Ok(())
+}
+
+/// Whether a row's earlier pin is to be taken away.
+fn drops(row: PinRow, hold: Hold) -> bool
+    ensures { result ≡ is_dropped row hold }
+{
+    row.foreign.is_none() && row.earlier.is_some() && !hold.is_new()
+}
+
+/// No pin for each row whose earlier one is no longer wanted, by rising rows.
+fn push_drops(
+    changes: &mut Vec<PinChange>,
+    rows: &[PinRow],
+    holds: &[Hold],
+) -> Result<(), AllocError>
+    requires size { length holds.now ≡ length rows.now }
+    requires few { length rows.now ≤ 2 ^ 32 }
+    ensures { OnOk result (changes.new.items ≡ changes.old.items ++ drops_from rows.now holds.now (length rows.now) 0) }
+{
+    let mut i = 0;
+    while i < rows.len() {
+        if drops(rows[i], holds[i]) {
+            changes.push(PinChange {
+                row: i as u32,
+                pin: None,
+            })?;
+        }
+        i += 1;
+    }
+    Ok(())
+}
+
+/// The changes that put each row at its target, in an order in which no row goes by way of a third rank. A pin that
+/// stands already is left as it is.
+pub fn changes_for(alloc: Global, rows: &[PinRow]) -> Result<Vec<PinChange>, AllocError>
+    requires { AreRows rows.now }
+    // once all are made, each row of ours is at its target
+    ensures realized { IfOk result (λ changes. IsRealized rows.now (applied (before_pin rows.now) changes.items)) }
+    // once some are made, the nearest pin of each row is where it was, or where it is in the end
+    ensures once { IfOk result (λ changes. (k i r : ℕ) → i < length rows.now
+        → IsNearest rows.now (applied (before_pin rows.now) (take k changes.items)) i r
+        → IsNearest rows.now (before_pin rows.now) i r
+        ⊎ IsNearest rows.now (applied (before_pin rows.now) changes.items) i r) }
+    // each changes its row's pin
+    ensures needed { IfOk result (λ changes. AreNeeded rows.now changes.items) }
+{
+    let holds = holds_of(alloc, rows)?;
+    let mut changes = Vec::new(alloc);
+    push_sets(&mut changes, rows, &holds)?;
+    push_drops(&mut changes, rows, &holds)?;
+    Ok(changes)
+}

@@ -1,0 +1,19 @@
+//! The order in which pins are changed: first the new ones are set, from the last row to the first, and then those that
+//! are no longer wanted are taken away, from the first row to the last. No row goes by way of a third rank.
+ghost use Rattle.std.specs.Prelude.{◌≡◌, ◌<◌, ◌⊎◌, ℕ, List, Option, length};
+ghost use Rattle.ceph_plan.specs.declared.row.PinRow.{PinRow};
+ghost use Rattle.ceph_plan.specs.Rule.{AreRows, IsFree, IsNearest};
+ghost use Rattle.ceph_plan.specs.Changes.{while_set, while_unset};
+
+/// At each moment the nearest pin of each row is on the rank that it was on before, or on the one that it is on in the
+/// end; and where there is none, there was none before, or is none in the end.
+pub fn each_row_moves_once()
+    ensures set { (rows : List PinRow) (old new : ℕ → Option ℕ) (at i r : ℕ) → AreRows rows → i < length rows
+        → IsNearest rows (while_set old new at) i r → IsNearest rows old i r ⊎ IsNearest rows new i r }
+    ensures set_free { (rows : List PinRow) (old new : ℕ → Option ℕ) (at i : ℕ) → IsFree rows (while_set old new at) i
+        → IsFree rows old i }
+    ensures unset { (rows : List PinRow) (old new : ℕ → Option ℕ) (at i r : ℕ) → AreRows rows → i < length rows
+        → IsNearest rows (while_unset old new at) i r → IsNearest rows old i r ⊎ IsNearest rows new i r }
+    ensures unset_free { (rows : List PinRow) (old new : ℕ → Option ℕ) (at i : ℕ)
+        → IsFree rows (while_unset old new at) i → IsFree rows new i }
+{}
