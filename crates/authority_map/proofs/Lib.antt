@@ -6,3 +6,4 @@ pub mod CellLemmas
 pub mod HistoryLemmas
 pub mod WriterLemmas
 pub mod Extending
+pub mod Listed

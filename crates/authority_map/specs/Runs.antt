@@ -1,7 +1,5 @@
 -- Runs of neighbouring directories that have the same cell.
-use Rattle.std.specs.Prelude.{◌≡◌, ◌≢◌, ℕ, Bool, false, ◌+◌, ◌*◌, ◌/◌, ◌<◌, ◌≤◌, List, length}
-use Rattle.std.specs.Prelude.{slice_index, slice_index_or}
-use Rattle.authority_map.specs.Operations.{names}
+use Rattle.std.specs.Prelude.{◌≡◌, ◌≢◌, ℕ, ◌+◌, ◌*◌, ◌/◌, ◌<◌, ◌≤◌, List, length, slice_index}
 
 -- the directory is in this run, which goes on until the next one starts
 pub record IsIn (starts : List ℕ) (run dir : ℕ) : Type 0 where
@@ -61,7 +59,8 @@ pub record HasFirst (count : ℕ) (starts cells : List ℕ) (cell : ℕ → ℕ)
   pub each : (run dir : ℕ) → dir < count → IsIn starts run dir → slice_index cells run ≡ cell dir
   pub apart : (run : ℕ) → run + 1 < length starts → slice_index cells run ≢ slice_index cells (run + 1)
 
--- each directory below the limit is marked exactly if it is among these
-pub record AreMarks (limit : ℕ) (dirs : List ℕ) (marks : List Bool) : Type 0 where
-  pub sized : length marks ≡ limit
-  pub each : (dir : ℕ) → dir < limit → slice_index_or marks dir false ≡ names dirs dir
+-- the first of these directories, so many of them, come before this one, and no other does
+pub record ComeBefore (dirs : List ℕ) (count dir : ℕ) : Type 0 where
+  pub within : count ≤ length dirs
+  pub before : (k : ℕ) → k < count → slice_index dirs k < dir
+  pub after : (k : ℕ) → count ≤ k → k < length dirs → dir ≤ slice_index dirs k

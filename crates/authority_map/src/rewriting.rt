@@ -1,27 +1,35 @@
 //! Writing a long list of directories at once.
 //!
-//! A directory that is written alone may move all runs after its own. Where that would cost more than one pass over all
-//! directories, the runs are made anew: directory by directory, a run is begun wherever the cell changes.
-ghost use Rattle.std.specs.Prelude.{◌≡◌, ◌≢◌, ℕ, ◌+◌, ◌-◌, ◌/◌, ◌<◌, ◌≤◌, All, IfOk, OnErr, OnOk, length};
-ghost use Rattle.std.specs.Prelude.{if◌then◌else◌, false, slice_index, slice_index_or, vec_capacity};
+//! A directory that is written alone may move all runs after its own. A long list that rises is written in one pass
+//! over the runs and the list: together they part the directories into pieces, each of them a listed directory or
+//! neighbours in one run of which none is listed, and the runs are made anew, piece by piece.
+ghost use Rattle.std.specs.Prelude.{◌≡◌, ℕ, ◌+◌, ◌-◌, ◌/◌, ◌<◌, ◌≤◌, All, IsTrue, length};
+ghost use Rattle.std.specs.Prelude.{if◌then◌else◌, slice_index, vec_capacity};
+ghost use Rattle.std.specs.List.Sorted.{IsStrictlyIncreasing};
 ghost use Rattle.authority_map.specs.Operations.{names};
-ghost use Rattle.authority_map.specs.Runs.{IsIn, IsIndex, AreStarts, AreRuns, AreBefore, AreMarks, HasCells, HasFirst};
+ghost use Rattle.authority_map.specs.Runs.{IsIn, IsIndex, AreStarts, AreRuns, AreBefore, ComeBefore, HasCells};
+ghost use Rattle.authority_map.specs.Runs.{HasFirst};
 
-use crate::runs::{BLOCK, Runs, run_of};
+use crate::runs::{BLOCK, Runs, run_end, run_of, write};
 use mds_types::Dir;
-use std::alloc::{AllocError, Global};
 use std::mem::swap;
 
-/// Whether each directory is among these.
-fn marks_of(alloc: Global, limit: u32, dirs: &[Dir]) -> Result<Vec<bool>, AllocError>
-    requires { All (λ dir. dir < limit) dirs.now }
-    ensures { IfOk result (λ marks. AreMarks limit dirs.now marks.items) }
+/// How many runs are moved in the time that a pass takes for one of them.
+const MOVED_IN_A_STEP: usize = 16;
+
+// Whether each directory comes after the one before it.
+fn is_rising(dirs: &[Dir]) -> bool
+    ensures { IsTrue result → IsStrictlyIncreasing dirs.now }
 {
-    let mut marks = vec![in alloc; false; limit as usize]?;
-    for dir in dirs {
-        marks[dir.number() as usize] = true;
-    }
-    Ok(marks)
+    dirs.is_sorted_by(|dir, next| dir.number() < next.number())
+}
+
+// The directory at this place of the list, or the limit where the list has ended.
+fn listed_at(dirs: &[Dir], place: usize, limit: u32) -> u32
+    ensures there { place < length dirs.now → result ≡ slice_index dirs.now place }
+    ensures past { length dirs.now ≤ place → result ≡ limit }
+{
+    dirs.get(place).map_or(limit, |dir| dir.number())
 }
 
 // The run of a directory, by that of the directory before it.
@@ -38,51 +46,79 @@ fn run_after(starts: &[u32], run: usize, dir: u32) -> usize
     }
 }
 
-// The runs go on with a directory that has this cell.
-fn extend(starts: &mut Vec<u32>, cells: &mut Vec<u8>, limit: u32, dir: u32, cell: u8)
-    requires runs { AreRuns limit starts.old.items cells.old.items }
-    requires room { (limit ≤ vec_capacity starts.old) × (limit ≤ vec_capacity cells.old) }
-    requires before { AreBefore dir starts.old.items }
-    requires below { dir < limit }
+// The runs go on with directories that have this cell.
+fn extend(made: &mut Runs, limit: u32, first: u32, end: u32, cell: u8)
+    requires runs { AreRuns limit made.old.starts.items made.old.cells.items }
+    requires room { (limit ≤ vec_capacity made.old.starts) × (limit ≤ vec_capacity made.old.cells) }
+    requires before { AreBefore first made.old.starts.items }
+    requires some { (first < end) × (end ≤ limit) }
     requires small { cell ≤ 64 }
-    ensures runs { AreRuns limit starts.new.items cells.new.items }
-    ensures room { (limit ≤ vec_capacity starts.new) × (limit ≤ vec_capacity cells.new) }
-    ensures before { AreBefore (dir + 1) starts.new.items }
-    ensures cells { (want : ℕ → ℕ) → HasFirst dir starts.old.items cells.old.items want → want dir ≡ cell
-        → HasFirst (dir + 1) starts.new.items cells.new.items want }
+    ensures runs { AreRuns limit made.new.starts.items made.new.cells.items }
+    ensures room { (limit ≤ vec_capacity made.new.starts) × (limit ≤ vec_capacity made.new.cells) }
+    ensures before { AreBefore end made.new.starts.items }
+    ensures cells { (want : ℕ → ℕ) → HasFirst first made.old.starts.items made.old.cells.items want
+        → ((d : ℕ) → first ≤ d → d < end → want d ≡ cell)
+        → HasFirst end made.new.starts.items made.new.cells.items want }
 {
-    if cells[cells.len() - 1] != cell {
-        starts.push_reserved(dir);
-        cells.push_reserved(cell);
+    if made.cells[made.cells.len() - 1] != cell {
+        made.starts.push_reserved(first);
+        made.cells.push_reserved(cell);
     }
 }
 
-// Makes the runs of all directories: those with a mark have this cell, the others that of their run.
-fn make_anew(made: &mut Runs, starts: &[u32], cells: &[u8], limit: u32, marks: &[bool], cell: u8)
+// The runs begin with directory 0, which has the first of these cells if it is listed, and else the second. It tells how
+// many listed directories are in them.
+fn begin(made: &mut Runs, limit: u32, dirs: &[Dir], listed: u8, unlisted: u8) -> usize
+    requires limit { 1 ≤ limit }
+    requires room { (limit ≤ vec_capacity made.old.starts) × (limit ≤ vec_capacity made.old.cells) }
+    requires rising { IsStrictlyIncreasing dirs.now }
+    requires small { (listed ≤ 64) × (unlisted ≤ 64) }
+    ensures runs { AreRuns limit made.new.starts.items made.new.cells.items }
+    ensures room { (limit ≤ vec_capacity made.new.starts) × (limit ≤ vec_capacity made.new.cells) }
+    ensures before { AreBefore 1 made.new.starts.items }
+    ensures listed { ComeBefore dirs.now result 1 }
+    ensures cells { (want : ℕ → ℕ) → want 0 ≡ (if names dirs.now 0 then listed else unlisted)
+        → HasFirst 1 made.new.starts.items made.new.cells.items want }
+{
+    made.starts.clear();
+    made.cells.clear();
+    made.starts.push_reserved(0);
+    if listed_at(dirs, 0, 1) == 0 {
+        made.cells.push_reserved(listed);
+        return 1;
+    }
+    made.cells.push_reserved(unlisted);
+    0
+}
+
+// Makes the runs of all directories: those on the list have this cell, the others that of their run.
+fn make_anew(made: &mut Runs, starts: &[u32], cells: &[u8], limit: u32, dirs: &[Dir], cell: u8)
     requires runs { AreRuns limit starts.now cells.now }
     requires room { (limit ≤ vec_capacity made.old.starts) × (limit ≤ vec_capacity made.old.cells) }
-    requires sized { length marks.now ≡ limit }
+    requires inside { All (λ dir. dir < limit) dirs.now }
+    requires rising { IsStrictlyIncreasing dirs.now }
     requires small { cell ≤ 64 }
     ensures runs { AreRuns limit made.new.starts.items made.new.cells.items }
     ensures room { (limit ≤ vec_capacity made.new.starts) × (limit ≤ vec_capacity made.new.cells) }
     ensures cells { (old : ℕ → ℕ) → HasCells limit starts.now cells.now old 0 0
         → HasCells limit made.new.starts.items made.new.cells.items
-        (λ d. if slice_index_or marks.now d false then cell else old d) 0 0 }
+        (λ d. if names dirs.now d then cell else old d) 0 0 }
 {
-    made.starts.clear();
-    made.cells.clear();
-    made.starts.push_reserved(0);
-    made.cells
-        .push_reserved(if marks[0] { cell } else { cells[0] });
+    let mut next = begin(made, limit, dirs, cell, cells[0]);
     let mut run = 0;
-    for dir in 1..limit {
-        run = run_after(starts, run, dir);
-        let now = if marks[dir as usize] {
-            cell
+    let mut done = 1;
+    while done < limit {
+        run = run_after(starts, run, done);
+        let listed = listed_at(dirs, next, limit);
+        if listed == done {
+            extend(made, limit, done, done + 1, cell);
+            next += 1;
+            done += 1;
         } else {
-            cells[run]
-        };
-        extend(&mut made.starts, &mut made.cells, limit, dir, now);
+            let end = run_end(starts, limit, run).min(listed);
+            extend(made, limit, done, end, cells[run]);
+            done = end;
+        }
     }
 }
 
@@ -100,34 +136,40 @@ fn index_again(starts: &[u32], index: &mut Vec<u32>, limit: u32)
     }
 }
 
-/// Writes the cell of each of these directories in one pass over all, or refuses and has changed nothing. The runs are
-/// made in the spare room, and what they were made from is the spare room then.
-pub(crate) fn rewrite_all(
+/// Writes the cell of each of these directories: in one pass over the runs where that is less work, else one after the
+/// other. Runs are made anew in the spare room, and what they were made from is the spare room then.
+pub(crate) fn write_all(
     runs: &mut Runs,
     spare: &mut Runs,
     index: &mut Vec<u32>,
     limit: u32,
     dirs: &[Dir],
     cell: u8,
-) -> Result<(), AllocError>
+)
     requires runs { AreRuns limit runs.old.starts.items runs.old.cells.items }
     requires index { IsIndex limit runs.old.starts.items index.old.items }
     requires room { (limit ≤ vec_capacity runs.old.starts) × (limit ≤ vec_capacity runs.old.cells) }
     requires spare { (limit ≤ vec_capacity spare.old.starts) × (limit ≤ vec_capacity spare.old.cells) }
     requires inside { All (λ dir. dir < limit) dirs.now }
     requires small { cell ≤ 64 }
-    ensures runs { OnOk result (AreRuns limit runs.new.starts.items runs.new.cells.items) }
-    ensures index { OnOk result (IsIndex limit runs.new.starts.items index.new.items) }
+    ensures runs { AreRuns limit runs.new.starts.items runs.new.cells.items }
+    ensures index { IsIndex limit runs.new.starts.items index.new.items }
     ensures room { (limit ≤ vec_capacity runs.new.starts) × (limit ≤ vec_capacity runs.new.cells) }
     ensures spare { (limit ≤ vec_capacity spare.new.starts) × (limit ≤ vec_capacity spare.new.cells) }
-    ensures cells { OnOk result ((old : ℕ → ℕ) → HasCells limit runs.old.starts.items runs.old.cells.items old 0 0
-        → HasCells limit runs.new.starts.items runs.new.cells.items (λ d. if names dirs.now d then cell else old d) 0 0) }
-    ensures unchanged { OnErr result ((runs.new ≡ runs.old) × (index.new ≡ index.old)) }
+    ensures cells { (old : ℕ → ℕ) → HasCells limit runs.old.starts.items runs.old.cells.items old 0 0
+        → HasCells limit runs.new.starts.items runs.new.cells.items
+        (λ d. if names dirs.now d then cell else old d) 0 0 }
 {
-    let alloc = *runs.starts.allocator();
-    let marks = marks_of(alloc, limit, dirs)?;
-    make_anew(spare, &runs.starts, &runs.cells, limit, &marks, cell);
-    index_again(&spare.starts, index, limit);
-    swap(runs, spare);
-    Ok(())
+    let count = runs.starts.len();
+    // a directory that is written alone moves about half of the runs, many at a time
+    let moved = dirs.len().saturating_mul(count) / MOVED_IN_A_STEP;
+    if moved >= dirs.len().saturating_add(count) && is_rising(dirs) {
+        make_anew(spare, &runs.starts, &runs.cells, limit, dirs, cell);
+        index_again(&spare.starts, index, limit);
+        swap(runs, spare);
+        return;
+    }
+    for dir in dirs {
+        write(runs, index, limit, dir.number(), cell);
+    }
 }

@@ -7,12 +7,10 @@
 //! with neighbours that have the same cell. Where the directory is the first of several and the run
 //! before has the wanted cell, or the last of several and the run after has it, the border of the two
 //! runs moves by one instead, and no run comes or goes. There are never more runs than directories.
-ghost use Rattle.std.specs.Prelude.{◌≡◌, ◌≢◌, ◌↔◌, [], IfOk, ℕ, ◌+◌, ◌-◌, ◌^◌, ◌==◌, ◌<◌, ◌≤◌, All, IsTrue, List, length};
+ghost use Rattle.std.specs.Prelude.{◌≡◌, ◌≢◌, ◌↔◌, [], IfOk, ℕ, ◌+◌, ◌-◌, ◌^◌, ◌==◌, ◌<◌, ◌≤◌, All, List, length};
 ghost use Rattle.std.specs.Prelude.{slice_index, if◌then◌else◌, vec_capacity};
-ghost use Rattle.authority_map.specs.Operations.{names};
 ghost use Rattle.authority_map.specs.Runs.{IsIn, IsAmong, IsIndex, IsOneMore, AreStarts, AreRuns, StartsAt, HasCells};
 
-use crate::rewriting::rewrite_all;
 use mds_types::Dir;
 use std::alloc::{AllocError, Global};
 
@@ -39,9 +37,6 @@ impl Runs {
 
 /// How many directories a block has.
 pub(crate) const BLOCK: usize = 256;
-
-/// How many runs are moved in the time that a pass over all directories takes for one of them.
-const MOVED_IN_A_STEP: usize = 16;
 
 // 1 where this start isn't past the directory, and else 0. It takes no branch, which would be guessed
 // wrong every other time.
@@ -112,110 +107,100 @@ fn index_one_fewer(index: &mut Vec<u32>, first: usize)
 }
 
 // A run more, which starts inside this one and has its cell.
-fn cut(
-    starts: &mut Vec<u32>,
-    cells: &mut Vec<u8>,
-    index: &mut Vec<u32>,
-    limit: u32,
-    run: usize,
-    dir: u32,
-)
-    requires runs { AreRuns limit starts.old.items cells.old.items }
-    requires index { IsIndex limit starts.old.items index.old.items }
-    requires room { (limit ≤ vec_capacity starts.old) × (limit ≤ vec_capacity cells.old) }
-    requires inside { IsIn starts.old.items run dir }
-    requires later { slice_index starts.old.items run < dir }
+fn cut(runs: &mut Runs, index: &mut Vec<u32>, limit: u32, run: usize, dir: u32)
+    requires runs { AreRuns limit runs.old.starts.items runs.old.cells.items }
+    requires index { IsIndex limit runs.old.starts.items index.old.items }
+    requires room { (limit ≤ vec_capacity runs.old.starts) × (limit ≤ vec_capacity runs.old.cells) }
+    requires inside { IsIn runs.old.starts.items run dir }
+    requires later { slice_index runs.old.starts.items run < dir }
     requires below { dir < limit }
-    ensures runs { AreRuns limit starts.new.items cells.new.items }
-    ensures index { IsIndex limit starts.new.items index.new.items }
-    ensures room { (limit ≤ vec_capacity starts.new) × (limit ≤ vec_capacity cells.new) }
-    ensures starts { StartsAt starts.new.items dir }
-    ensures others { (other : ℕ) → StartsAt starts.old.items other → StartsAt starts.new.items other }
-    ensures cells { (cell : ℕ → ℕ) (this : ℕ) → HasCells limit starts.old.items cells.old.items cell this this
-        → HasCells limit starts.new.items cells.new.items cell this dir }
+    ensures runs { AreRuns limit runs.new.starts.items runs.new.cells.items }
+    ensures index { IsIndex limit runs.new.starts.items index.new.items }
+    ensures room { (limit ≤ vec_capacity runs.new.starts) × (limit ≤ vec_capacity runs.new.cells) }
+    ensures starts { StartsAt runs.new.starts.items dir }
+    ensures others { (other : ℕ) → StartsAt runs.old.starts.items other → StartsAt runs.new.starts.items other }
+    ensures cells { (cell : ℕ → ℕ) (this : ℕ) → HasCells limit runs.old.starts.items runs.old.cells.items cell this this
+        → HasCells limit runs.new.starts.items runs.new.cells.items cell this dir }
 {
-    let cell = cells[run];
-    let Ok(()) = starts.insert(run + 1, dir) else {
+    let cell = runs.cells[run];
+    let Ok(()) = runs.starts.insert(run + 1, dir) else {
         unreachable!();
     };
-    let Ok(()) = cells.insert(run + 1, cell) else {
+    let Ok(()) = runs.cells.insert(run + 1, cell) else {
         unreachable!();
     };
     index_one_more(index, (dir as usize + BLOCK - 1) / BLOCK);
 }
 
 // Sees to it that a run starts at this directory.
-fn split(starts: &mut Vec<u32>, cells: &mut Vec<u8>, index: &mut Vec<u32>, limit: u32, dir: u32)
-    requires runs { AreRuns limit starts.old.items cells.old.items }
-    requires index { IsIndex limit starts.old.items index.old.items }
-    requires room { (limit ≤ vec_capacity starts.old) × (limit ≤ vec_capacity cells.old) }
-    ensures runs { AreRuns limit starts.new.items cells.new.items }
-    ensures index { IsIndex limit starts.new.items index.new.items }
-    ensures room { (limit ≤ vec_capacity starts.new) × (limit ≤ vec_capacity cells.new) }
-    ensures starts { dir < limit → StartsAt starts.new.items dir }
-    ensures others { (other : ℕ) → StartsAt starts.old.items other → StartsAt starts.new.items other }
-    ensures cells { (cell : ℕ → ℕ) (this : ℕ) → HasCells limit starts.old.items cells.old.items cell this this
-        → HasCells limit starts.new.items cells.new.items cell this dir }
+fn split(runs: &mut Runs, index: &mut Vec<u32>, limit: u32, dir: u32)
+    requires runs { AreRuns limit runs.old.starts.items runs.old.cells.items }
+    requires index { IsIndex limit runs.old.starts.items index.old.items }
+    requires room { (limit ≤ vec_capacity runs.old.starts) × (limit ≤ vec_capacity runs.old.cells) }
+    ensures runs { AreRuns limit runs.new.starts.items runs.new.cells.items }
+    ensures index { IsIndex limit runs.new.starts.items index.new.items }
+    ensures room { (limit ≤ vec_capacity runs.new.starts) × (limit ≤ vec_capacity runs.new.cells) }
+    ensures starts { dir < limit → StartsAt runs.new.starts.items dir }
+    ensures others { (other : ℕ) → StartsAt runs.old.starts.items other → StartsAt runs.new.starts.items other }
+    ensures cells { (cell : ℕ → ℕ) (this : ℕ) → HasCells limit runs.old.starts.items runs.old.cells.items cell this this
+        → HasCells limit runs.new.starts.items runs.new.cells.items cell this dir }
 {
     if dir >= limit {
         return;
     }
-    let run = run_of(starts, dir);
-    if starts[run] < dir {
-        cut(starts, cells, index, limit, run, dir);
+    let run = run_of(&runs.starts, dir);
+    if runs.starts[run] < dir {
+        cut(runs, index, limit, run, dir);
     }
 }
 
 // Puts a run to the one before it, which has the same cell.
-fn unite(starts: &mut Vec<u32>, cells: &mut Vec<u8>, index: &mut Vec<u32>, limit: u32, run: usize)
-    requires runs { AreRuns limit starts.old.items cells.old.items }
-    requires index { IsIndex limit starts.old.items index.old.items }
+fn unite(runs: &mut Runs, index: &mut Vec<u32>, limit: u32, run: usize)
+    requires runs { AreRuns limit runs.old.starts.items runs.old.cells.items }
+    requires index { IsIndex limit runs.old.starts.items index.old.items }
     requires some { 1 ≤ run }
-    requires there { run < length starts.old.items }
-    requires alike { slice_index cells.old.items (run - 1) ≡ slice_index cells.old.items run }
-    ensures runs { AreRuns limit starts.new.items cells.new.items }
-    ensures index { IsIndex limit starts.new.items index.new.items }
-    ensures room { (vec_capacity starts.new ≡ vec_capacity starts.old)
-        × (vec_capacity cells.new ≡ vec_capacity cells.old) }
+    requires there { run < length runs.old.starts.items }
+    requires alike { slice_index runs.old.cells.items (run - 1) ≡ slice_index runs.old.cells.items run }
+    ensures runs { AreRuns limit runs.new.starts.items runs.new.cells.items }
+    ensures index { IsIndex limit runs.new.starts.items index.new.items }
+    ensures room { (vec_capacity runs.new.starts ≡ vec_capacity runs.old.starts)
+        × (vec_capacity runs.new.cells ≡ vec_capacity runs.old.cells) }
     ensures cells { (cell : ℕ → ℕ) (this : ℕ)
-        → HasCells limit starts.old.items cells.old.items cell this (slice_index starts.old.items run)
-        → HasCells limit starts.new.items cells.new.items cell this this }
+        → HasCells limit runs.old.starts.items runs.old.cells.items cell this (slice_index runs.old.starts.items run)
+        → HasCells limit runs.new.starts.items runs.new.cells.items cell this this }
 {
-    let start = starts.remove(run);
-    let _cell = cells.remove(run);
+    let start = runs.starts.remove(run);
+    let _cell = runs.cells.remove(run);
     index_one_fewer(index, (start as usize + BLOCK - 1) / BLOCK);
 }
 
 // Puts the run that starts at this directory to the one before it, if that has the same cell.
-fn join(starts: &mut Vec<u32>, cells: &mut Vec<u8>, index: &mut Vec<u32>, limit: u32, dir: u32)
-    requires runs { AreRuns limit starts.old.items cells.old.items }
-    requires index { IsIndex limit starts.old.items index.old.items }
-    requires room { (limit ≤ vec_capacity starts.old) × (limit ≤ vec_capacity cells.old) }
-    ensures runs { AreRuns limit starts.new.items cells.new.items }
-    ensures index { IsIndex limit starts.new.items index.new.items }
-    ensures room { (limit ≤ vec_capacity starts.new) × (limit ≤ vec_capacity cells.new) }
-    ensures cells { (cell : ℕ → ℕ) (this : ℕ) → HasCells limit starts.old.items cells.old.items cell this dir
-        → HasCells limit starts.new.items cells.new.items cell this this }
+fn join(runs: &mut Runs, index: &mut Vec<u32>, limit: u32, dir: u32)
+    requires runs { AreRuns limit runs.old.starts.items runs.old.cells.items }
+    requires index { IsIndex limit runs.old.starts.items index.old.items }
+    requires room { (limit ≤ vec_capacity runs.old.starts) × (limit ≤ vec_capacity runs.old.cells) }
+    ensures runs { AreRuns limit runs.new.starts.items runs.new.cells.items }
+    ensures index { IsIndex limit runs.new.starts.items index.new.items }
+    ensures room { (limit ≤ vec_capacity runs.new.starts) × (limit ≤ vec_capacity runs.new.cells) }
+    ensures cells { (cell : ℕ → ℕ) (this : ℕ) → HasCells limit runs.old.starts.items runs.old.cells.items cell this dir
+        → HasCells limit runs.new.starts.items runs.new.cells.items cell this this }
 {
-    let run = run_of(starts, dir);
-    if starts[run] == dir && run > 0 && cells[run - 1] == cells[run] {
-        unite(starts, cells, index, limit, run);
+    let run = run_of(&runs.starts, dir);
+    if runs.starts[run] == dir && run > 0 && runs.cells[run - 1] == runs.cells[run] {
+        unite(runs, index, limit, run);
     }
 }
 
-// Whether the directory after this one is in the same run.
+/// Where a run ends: at the start of the next one, or at the limit.
 #[inline(always)]
-fn has_next(starts: &[u32], limit: u32, run: usize, dir: u32) -> bool
+pub(crate) fn run_end(starts: &[u32], limit: u32, run: usize) -> u32
     requires starts { (k : ℕ) → k < length starts.now → slice_index starts.now k < limit }
-    requires inside { IsIn starts.now run dir }
-    requires below { dir < limit }
-    ensures { IsTrue result ↔ ((dir + 1 < limit) × IsIn starts.now run (dir + 1)) }
+    requires there { run < length starts.now }
+    ensures inside { (dir : ℕ) → (slice_index starts.now run ≤ dir) × (dir < result)
+        ↔ (dir < limit) × IsIn starts.now run dir }
+    ensures within { result ≤ limit }
 {
-    if run + 1 < starts.len() {
-        dir + 1 < starts[run + 1]
-    } else {
-        dir + 1 < limit
-    }
+    starts.get(run + 1).map_or(limit, |start| *start)
 }
 
 // The first directory of a run, which has another, goes to the run before.
@@ -259,53 +244,40 @@ fn shift_back(starts: &mut Vec<u32>, index: &mut Vec<u32>, limit: u32, run: usiz
 }
 
 // Writes a directory's cell by way of a run that has it alone.
-fn write_alone(
-    starts: &mut Vec<u32>,
-    cells: &mut Vec<u8>,
-    index: &mut Vec<u32>,
-    limit: u32,
-    dir: u32,
-    cell: u8,
-)
-    requires runs { AreRuns limit starts.old.items cells.old.items }
-    requires index { IsIndex limit starts.old.items index.old.items }
-    requires room { (limit ≤ vec_capacity starts.old) × (limit ≤ vec_capacity cells.old) }
+fn write_alone(runs: &mut Runs, index: &mut Vec<u32>, limit: u32, dir: u32, cell: u8)
+    requires runs { AreRuns limit runs.old.starts.items runs.old.cells.items }
+    requires index { IsIndex limit runs.old.starts.items index.old.items }
+    requires room { (limit ≤ vec_capacity runs.old.starts) × (limit ≤ vec_capacity runs.old.cells) }
     requires inside { dir < limit }
     requires small { cell ≤ 64 }
-    ensures runs { AreRuns limit starts.new.items cells.new.items }
-    ensures index { IsIndex limit starts.new.items index.new.items }
-    ensures room { (limit ≤ vec_capacity starts.new) × (limit ≤ vec_capacity cells.new) }
-    ensures cells { (old : ℕ → ℕ) → HasCells limit starts.old.items cells.old.items old 0 0
-        → HasCells limit starts.new.items cells.new.items (λ d. if d == dir then cell else old d) 0 0 }
+    ensures runs { AreRuns limit runs.new.starts.items runs.new.cells.items }
+    ensures index { IsIndex limit runs.new.starts.items index.new.items }
+    ensures room { (limit ≤ vec_capacity runs.new.starts) × (limit ≤ vec_capacity runs.new.cells) }
+    ensures cells { (old : ℕ → ℕ) → HasCells limit runs.old.starts.items runs.old.cells.items old 0 0
+        → HasCells limit runs.new.starts.items runs.new.cells.items (λ d. if d == dir then cell else old d) 0 0 }
 {
-    split(starts, cells, index, limit, dir);
-    split(starts, cells, index, limit, dir + 1);
-    let alone = run_of(starts, dir);
-    cells[alone] = cell;
-    join(starts, cells, index, limit, dir + 1);
-    join(starts, cells, index, limit, dir);
+    split(runs, index, limit, dir);
+    split(runs, index, limit, dir + 1);
+    let alone = run_of(&runs.starts, dir);
+    runs.cells[alone] = cell;
+    join(runs, index, limit, dir + 1);
+    join(runs, index, limit, dir);
 }
 
 /// Writes a directory's cell.
-pub(crate) fn write(
-    starts: &mut Vec<u32>,
-    cells: &mut Vec<u8>,
-    index: &mut Vec<u32>,
-    limit: u32,
-    dir: u32,
-    cell: u8,
-)
-    requires runs { AreRuns limit starts.old.items cells.old.items }
-    requires index { IsIndex limit starts.old.items index.old.items }
-    requires room { (limit ≤ vec_capacity starts.old) × (limit ≤ vec_capacity cells.old) }
+pub(crate) fn write(runs: &mut Runs, index: &mut Vec<u32>, limit: u32, dir: u32, cell: u8)
+    requires runs { AreRuns limit runs.old.starts.items runs.old.cells.items }
+    requires index { IsIndex limit runs.old.starts.items index.old.items }
+    requires room { (limit ≤ vec_capacity runs.old.starts) × (limit ≤ vec_capacity runs.old.cells) }
     requires inside { dir < limit }
     requires small { cell ≤ 64 }
-    ensures runs { AreRuns limit starts.new.items cells.new.items }
-    ensures index { IsIndex limit starts.new.items index.new.items }
-    ensures room { (limit ≤ vec_capacity starts.new) × (limit ≤ vec_capacity cells.new) }
-    ensures cells { (old : ℕ → ℕ) → HasCells limit starts.old.items cells.old.items old 0 0
-        → HasCells limit starts.new.items cells.new.items (λ d. if d == dir then cell else old d) 0 0 }
+    ensures runs { AreRuns limit runs.new.starts.items runs.new.cells.items }
+    ensures index { IsIndex limit runs.new.starts.items index.new.items }
+    ensures room { (limit ≤ vec_capacity runs.new.starts) × (limit ≤ vec_capacity runs.new.cells) }
+    ensures cells { (old : ℕ → ℕ) → HasCells limit runs.old.starts.items runs.old.cells.items old 0 0
+        → HasCells limit runs.new.starts.items runs.new.cells.items (λ d. if d == dir then cell else old d) 0 0 }
 {
+    let Runs { starts, cells } = runs;
     let run = run_of(starts, dir);
     if cells[run] == cell {
         return;
@@ -313,7 +285,7 @@ pub(crate) fn write(
     if starts[run] == dir
         && run > 0
         && cells[run - 1] == cell
-        && has_next(starts, limit, run, dir)
+        && dir + 1 < run_end(starts, limit, run)
     {
         shift(starts, index, limit, run, dir);
     } else if starts[run] < dir
@@ -323,46 +295,6 @@ pub(crate) fn write(
     {
         shift_back(starts, index, limit, run, dir);
     } else {
-        write_alone(starts, cells, index, limit, dir, cell);
-    }
-}
-
-/// Writes the cell of each of these directories: in one pass over all directories where that is less work and there is
-/// memory for it, else one after the other.
-pub(crate) fn write_all(
-    runs: &mut Runs,
-    spare: &mut Runs,
-    index: &mut Vec<u32>,
-    limit: u32,
-    dirs: &[Dir],
-    cell: u8,
-)
-    requires runs { AreRuns limit runs.old.starts.items runs.old.cells.items }
-    requires index { IsIndex limit runs.old.starts.items index.old.items }
-    requires room { (limit ≤ vec_capacity runs.old.starts) × (limit ≤ vec_capacity runs.old.cells) }
-    requires spare { (limit ≤ vec_capacity spare.old.starts) × (limit ≤ vec_capacity spare.old.cells) }
-    requires inside { All (λ dir. dir < limit) dirs.now }
-    requires small { cell ≤ 64 }
-    ensures runs { AreRuns limit runs.new.starts.items runs.new.cells.items }
-    ensures index { IsIndex limit runs.new.starts.items index.new.items }
-    ensures room { (limit ≤ vec_capacity runs.new.starts) × (limit ≤ vec_capacity runs.new.cells) }
-    ensures spare { (limit ≤ vec_capacity spare.new.starts) × (limit ≤ vec_capacity spare.new.cells) }
-    ensures cells { (old : ℕ → ℕ) → HasCells limit runs.old.starts.items runs.old.cells.items old 0 0
-        → HasCells limit runs.new.starts.items runs.new.cells.items (λ d. if names dirs.now d then cell else old d) 0 0 }
-{
-    // a directory that is written alone moves about half of the runs, many at a time
-    let moved = dirs.len().saturating_mul(runs.starts.len()) / MOVED_IN_A_STEP;
-    if moved >= limit as usize && rewrite_all(runs, spare, index, limit, dirs, cell).is_ok() {
-        return;
-    }
-    for dir in dirs {
-        write(
-            &mut runs.starts,
-            &mut runs.cells,
-            index,
-            limit,
-            dir.number(),
-            cell,
-        );
+        write_alone(runs, index, limit, dir, cell);
     }
 }

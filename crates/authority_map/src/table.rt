@@ -7,7 +7,8 @@ ghost use Rattle.authority_map.specs.Runs.{IsIndex};
 use crate::history::LogPrefix;
 use crate::operation::{MapOperation, OperationKind};
 use crate::queue::Logged;
-use crate::runs::{BLOCK, Runs, indexed_run_of, write, write_all};
+use crate::rewriting::write_all;
+use crate::runs::{BLOCK, Runs, indexed_run_of, write};
 use left_right::Absorb;
 use mds_types::{Dir, Rank};
 use naming::Naming;
@@ -101,14 +102,7 @@ impl<J: Naming> Absorb<Logged<J>> for Table<J> {
                 if dir.number() >= self.limit {
                     return Err(AllocError);
                 }
-                write(
-                    &mut self.runs.starts,
-                    &mut self.runs.cells,
-                    &mut self.index,
-                    self.limit,
-                    dir.number(),
-                    0,
-                );
+                write(&mut self.runs, &mut self.index, self.limit, dir.number(), 0);
                 self.prefix = entry.after.copied();
                 Ok(())
             }

@@ -36,16 +36,17 @@ fn give_back(tokens: &SharedTable, authority: &mut Token, weight: u8, counts: &C
     requires table { (tokens.now.table_id.words ≡ 1) × (authority.old.table_id ≡ tokens.now.table_id) }
     requires authority { authority.old.me.0.has_totals ≡ true }
     requires parts { weight ≤ authority.old.me.0.parts }
-    requires amounts { (k : ℕ) → at (laid_out counts.now.hits counts.now.pending counts.now.begun) k ≤ at authority.old.me.0.amounts k }
+    requires amounts { (k : ℕ) →
+        at (laid_out counts.now.hits counts.now.pending counts.now.begun) k ≤ at authority.old.me.0.amounts k }
     requires backed { (k : ℕ) → at (laid_out counts.now.hits counts.now.pending counts.now.begun) k ≤ weight * most }
-    requires rest { (k : ℕ) → at authority.old.me.0.amounts k
-        ≤ (authority.old.me.0.parts - weight) * most + at (laid_out counts.now.hits counts.now.pending counts.now.begun) k }
+    requires rest { (k : ℕ) → at authority.old.me.0.amounts k ≤ (authority.old.me.0.parts - weight) * most
+        + at (laid_out counts.now.hits counts.now.pending counts.now.begun) k }
     ensures table { (authority.new.table_id ≡ authority.old.table_id) × (result.table_id ≡ authority.old.table_id) }
     ensures none_out { (authority.new.me.1 ≡ authority.old.me.1) × (result.me.1 ≡ []) }
     ensures authority { (authority.new.me.0.has_totals ≡ true)
         × (authority.new.me.0.parts + weight ≡ authority.old.me.0.parts) }
-    ensures amounts { (k : ℕ) → at authority.new.me.0.amounts k + at (laid_out counts.now.hits counts.now.pending counts.now.begun) k
-        ≡ at authority.old.me.0.amounts k }
+    ensures amounts { (k : ℕ) → at authority.new.me.0.amounts k
+        + at (laid_out counts.now.hits counts.now.pending counts.now.begun) k ≡ at authority.old.me.0.amounts k }
     ensures totals { (k : ℕ) → at authority.new.me.0.totals k ≡ at authority.old.me.0.totals k }
     ensures token { result.me.0 ≡ share_state weight (laid_out counts.now.hits counts.now.pending counts.now.begun) }
 {

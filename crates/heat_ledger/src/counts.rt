@@ -2,7 +2,8 @@
 //!
 //! A directory gets a place at its first count, one for all three counts. What is done with all counts takes time for
 //! the directories that were counted, and not for all that there could be.
-ghost use Rattle.std.specs.Prelude.{◌≡◌, ℕ, ◌+◌, ◌^◌, ◌<◌, ◌≤◌, IfOk, List, length, map, slice_set, vec_capacity, vec_len};
+ghost use Rattle.std.specs.Prelude.{◌≡◌, ℕ, ◌+◌, ◌^◌, ◌<◌, ◌≤◌, IfOk, List, length, map, slice_set};
+ghost use Rattle.std.specs.Prelude.{vec_capacity, vec_len};
 ghost use Rattle.heat_ledger.specs.Rows.{at, padded, IsZero};
 ghost use Rattle.heat_ledger.specs.Placed.{IsPlaced, counts_at};
 ghost use Rattle.heat_ledger.specs.Touched.{IsTracked};
@@ -16,7 +17,7 @@ use std::marker::Model;
 #[derive(Drop)]
 pub(crate) struct Counts {
     limit: u32,
-    // The place of each directory's counts, up to the last directory that was counted, or not as far. 0 stands for none.
+    // The place of each directory's counts, up to the last directory that was counted, or not as far. 0 is none.
     places: Vec<u32>,
     columns: Columns,
     // The directories that have pending hits, in the order of their first ones.

@@ -1,16 +1,21 @@
-use Rattle.std.proofs.Common.{◌≤◌, ◌-◌, ℕ, false, if◌then◌else◌, slice_index_or, vec_capacity}
-use Rattle.authority_map.specs.Runs.{IsIn, AreBefore, AreRuns, HasCells, HasFirst}
+use Rattle.std.proofs.Common.{◌≤◌, ◌-◌, ℕ, if◌then◌else◌, vec_capacity}
+use Rattle.authority_map.specs.Operations.{names}
+use Rattle.authority_map.specs.Runs.{IsIn, AreBefore, AreRuns, ComeBefore, HasCells, HasFirst}
 use Rattle.authority_map.proofs.rewriting.make_anew.Given as goal
 
 -- the runs of the directories before this one are made
-abbrev pub invariant-loop-dir : goal.invariant-loop-dir
-invariant-loop-dir l = record {
-  some : 1 ≤ l.dir;
-  within : l.dir ≤ l.limit;
-  inside : IsIn l.starts l.run (l.dir - 1);
+abbrev pub invariant-loop-done : goal.invariant-loop-done
+invariant-loop-done l = record {
+  some : 1 ≤ l.done;
+  within : l.done ≤ l.limit;
+  inside : IsIn l.starts l.run (l.done - 1);
+  listed : ComeBefore l.dirs l.next l.done;
   runs : AreRuns l.limit l.made.starts.items l.made.cells.items;
   room : (l.limit ≤ vec_capacity l.made.starts) × (l.limit ≤ vec_capacity l.made.cells);
-  before : AreBefore l.dir l.made.starts.items;
+  before : AreBefore l.done l.made.starts.items;
   cells : (old : ℕ → ℕ) → HasCells l.limit l.starts l.cells old 0 0
-      → HasFirst l.dir l.made.starts.items l.made.cells.items (λ d. if slice_index_or l.marks d false then l.cell else old d);
+      → HasFirst l.done l.made.starts.items l.made.cells.items (λ d. if names l.dirs d then l.cell else old d);
 }
+
+abbrev pub decreases-loop-done : goal.decreases-loop-done
+decreases-loop-done l = l.limit - l.done

@@ -7,8 +7,8 @@ use Rattle.authority_map.proofs.runs.join.Goals.{else-index-dir-via-then-index-d
 
 pub returns-else-index-dir-clause-cells : goal.returns-else-index-dir-clause-cells
 returns-else-index-dir-clause-cells c =
-    let starts = c.args.starts.now.items in
-    let cells = c.args.cells.now.items in
+    let starts = c.args.runs.now.starts.items in
+    let cells = c.args.runs.now.cells.items in
     let run = c.run_of-run.result in
     let inside : IsIn starts run c.args.dir = rw c.deref.ensures.value at c.run_of-run.ensures in
     let read : c.index.result.now ≡ get_or starts run 0 = get_or_read starts run c.index.result.now inside.there c.index.ensures 0 in

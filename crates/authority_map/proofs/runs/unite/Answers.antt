@@ -5,25 +5,25 @@ use Rattle.authority_map.proofs.runs.unite.Goals as goal
 
 pub returns-clause-runs : goal.returns-clause-runs
 returns-clause-runs c =
-    let starts = c.args.starts.now.items in
-    let cells = c.args.cells.now.items in
+    let starts = c.args.runs.now.starts.items in
+    let cells = c.args.runs.now.cells.items in
     rw (c.remove-start.ensures.items, c.remove-cell.ensures.items) (runs_united c.args.limit starts cells c.args.run c.requires.runs c.requires.some c.requires.there c.requires.alike)
 
 pub returns-clause-cells : goal.returns-clause-cells
 returns-clause-cells c cell this has =
-    let starts = c.args.starts.now.items in
-    let cells = c.args.cells.now.items in
+    let starts = c.args.runs.now.starts.items in
+    let cells = c.args.runs.now.cells.items in
     rw (c.remove-start.ensures.items, c.remove-cell.ensures.items) (cells_united c.args.limit starts cells c.args.run c.requires.runs c.requires.some c.requires.there c.requires.alike cell this has)
 
 pub index_one_fewer-requires : goal.index_one_fewer-requires
 index_one_fewer-requires c =
-    let starts = c.args.starts.now.items in
+    let starts = c.args.runs.now.starts.items in
     let read : c.remove-start.result ≡ get_or starts c.args.run 0 = get_or_read starts c.args.run c.remove-start.result c.requires.there c.remove-start.ensures.value 0 in
-    index_some c.args.limit starts c.args.cells.now.items c.args.run c.requires.runs c.requires.some c.requires.there c.requires.alike c.args.index.now.items ((c.remove-start.result + 256 - 1) / 256) (omega (arith, ap (λ (n : ℕ). (n + 255) / 256) read)) c.requires.index
+    index_some c.args.limit starts c.args.runs.now.cells.items c.args.run c.requires.runs c.requires.some c.requires.there c.requires.alike c.args.index.now.items ((c.remove-start.result + 256 - 1) / 256) (omega (arith, ap (λ (n : ℕ). (n + 255) / 256) read)) c.requires.index
 
 pub returns-clause-index : goal.returns-clause-index
 returns-clause-index c =
-    let starts = c.args.starts.now.items in
+    let starts = c.args.runs.now.starts.items in
     let read : c.remove-start.result ≡ get_or starts c.args.run 0 = get_or_read starts c.args.run c.remove-start.result c.requires.there c.remove-start.ensures.value 0 in
     rw c.remove-start.ensures.items
-    (index_united c.args.limit starts c.args.cells.now.items c.args.run c.requires.runs c.requires.some c.requires.there c.requires.alike c.args.index.now.items c.index_one_fewer.new.index.items ((c.remove-start.result + 256 - 1) / 256) (omega (arith, ap (λ (n : ℕ). (n + 255) / 256) read)) c.requires.index c.index_one_fewer.ensures)
+    (index_united c.args.limit starts c.args.runs.now.cells.items c.args.run c.requires.runs c.requires.some c.requires.there c.requires.alike c.args.index.now.items c.index_one_fewer.new.index.items ((c.remove-start.result + 256 - 1) / 256) (omega (arith, ap (λ (n : ℕ). (n + 255) / 256) read)) c.requires.index c.index_one_fewer.ensures)

@@ -7,13 +7,13 @@ pub returns-clause-cells : goal.returns-clause-cells
 returns-clause-cells c old has =
     let limit = c.args.limit in
     let dir = c.args.dir in
-    let starts = c.split-2.new.starts.items in
-    let cells = c.split-2.new.cells.items in
+    let starts = c.split-2.new.runs.starts.items in
+    let cells = c.split-2.new.runs.cells.items in
     let run = c.run_of-alone.result in
-    let first = but_first limit c.split.new.starts.items c.split.new.cells.items old dir c.split.ensures.runs (c.split.ensures.cells old 0 has) in
+    let first = but_first limit c.split.new.runs.starts.items c.split.new.runs.cells.items old dir c.split.ensures.runs (c.split.ensures.cells old 0 has) in
     let second : HasCells limit starts cells old dir (dir + 1) = c.split-2.ensures.cells old dir first in
     let inside : IsIn starts run dir = rw c.deref.ensures.value at c.run_of-alone.ensures in
     let here : StartsAt starts dir = c.split-2.ensures.others dir (c.split.ensures.starts c.requires.inside) in
     let written = cells_written limit starts cells run dir c.args.cell c.split-2.ensures.runs inside here c.split-2.ensures.starts c.requires.inside old second in
     let joined = c.join.ensures.cells (λ d. if d == dir then c.args.cell else old d) dir written in
-    c.join-2.ensures.cells (λ d. if d == dir then c.args.cell else old d) 0 (first_but limit c.join.new.starts.items c.join.new.cells.items (λ d. if d == dir then c.args.cell else old d) dir joined)
+    c.join-2.ensures.cells (λ d. if d == dir then c.args.cell else old d) 0 (first_but limit c.join.new.runs.starts.items c.join.new.runs.cells.items (λ d. if d == dir then c.args.cell else old d) dir joined)

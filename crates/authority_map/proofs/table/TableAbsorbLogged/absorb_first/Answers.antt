@@ -25,5 +25,5 @@ invariant_of-self-in-Clear-clause-kept g c =
     let dir : c.number-in-Clear-2.result ≡ c.in-Clear.dir = search rules in
     let below : c.in-Clear.dir < t.limit = omega (arith, c.if-number-self.false, c.number-in-Clear.ensures) in
     let written = c.write.ensures.cells (λ d. cell_of (rank_after t.prefix d)) t.kept.held in
-    let new : HasCells t.limit c.write.new.starts.items c.write.new.cells.items (λ d. if d == c.in-Clear.dir then 0 else cell_of (rank_after t.prefix d)) 0 0 = rw (← dir) written in
-    rw (front, ← c.entry-inside.view_is, c.in-Clear.is) (cells_clear t.limit c.write.new.starts.items c.write.new.cells.items c.in-Clear.dir t.prefix c.write.ensures.runs below new t.kept.past)
+    let new : HasCells t.limit c.write.new.runs.starts.items c.write.new.runs.cells.items (λ d. if d == c.in-Clear.dir then 0 else cell_of (rank_after t.prefix d)) 0 0 = rw (← dir) written in
+    rw (front, ← c.entry-inside.view_is, c.in-Clear.is) (cells_clear t.limit c.write.new.runs.starts.items c.write.new.runs.cells.items c.in-Clear.dir t.prefix c.write.ensures.runs below new t.kept.past)

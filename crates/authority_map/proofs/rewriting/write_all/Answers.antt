@@ -3,9 +3,9 @@ use Rattle.std.proofs.lemmas.List.{drop_more, drop_all, get_or_read}
 use Rattle.std.proofs.lemmas.Bool.Decides.{nat_tests}
 use Rattle.authority_map.specs.Operations.{names}
 use Rattle.authority_map.specs.Runs.{HasCells}
-use Rattle.authority_map.proofs.RunLemmas.{same_cells}
-use Rattle.authority_map.proofs.runs.write_all.Invariants.{IsWritten}
-use Rattle.authority_map.proofs.runs.write_all.Goals as goal
+use Rattle.authority_map.proofs.RunLemmas.{few_runs, same_cells}
+use Rattle.authority_map.proofs.rewriting.write_all.Invariants.{IsWritten}
+use Rattle.authority_map.proofs.rewriting.write_all.Goals as goal
 
 either_way : (b c : Bool) (x y : ℕ) → (if c then x else (if b then x else y)) ≡ (if (b || c) then x else y)
 either_way true true x y = refl
@@ -35,7 +35,7 @@ loop-dir-preserved c =
       c.write.ensures.runs,
       c.write.ensures.room.0,
       c.write.ensures.room.1,
-      λ old has. next_written c.args.limit c.loop-dir.runs.starts.items c.loop-dir.runs.cells.items c.write.new.starts.items c.write.new.cells.items dirs (drop (i + 1) dirs) c.number.result c.args.cell old
+      λ old has. next_written c.args.limit c.loop-dir.runs.starts.items c.loop-dir.runs.cells.items c.write.new.runs.starts.items c.write.new.runs.cells.items dirs (drop (i + 1) dirs) c.number.result c.args.cell old
           (subst (λ (l : List ℕ). IsWritten c.args.limit c.loop-dir.runs.starts.items c.loop-dir.runs.cells.items dirs l c.args.cell old) cut (c.loop-dir.invariant.3 old has)) c.write.ensures.cells,
       c.write.ensures.index,
     )
@@ -46,3 +46,8 @@ returns-clause-cells c old has =
     let none : drop c.loop-dir.dir-index dirs ≡ [] = drop_all c.loop-dir.dir-index dirs c.loop-dir-test.false in
     let done = subst (λ (l : List ℕ). IsWritten c.args.limit c.loop-dir.runs.starts.items c.loop-dir.runs.cells.items dirs l c.args.cell old) none (c.loop-dir.invariant.3 old has) in
     same_cells c.args.limit c.loop-dir.runs.starts.items c.loop-dir.runs.cells.items done.now (λ d. if names dirs d then c.args.cell else old d) 0 0 done.has done.rest
+
+pub index_again-requires-clause-few : goal.index_again-requires-clause-few
+index_again-requires-clause-few c =
+    rw c.deref-then-is_rising-2.ensures.value
+    (few_runs c.args.limit c.make_anew.new.made.starts.items c.make_anew.new.made.cells.items c.make_anew.ensures.runs)

@@ -1,7 +1,7 @@
 use Rattle.std.proofs.Common.{◌≡◌, ◌≤◌, ℕ, List, drop, if◌then◌else◌, vec_capacity}
 use Rattle.authority_map.specs.Operations.{names}
 use Rattle.authority_map.specs.Runs.{AreRuns, IsIndex, HasCells}
-use Rattle.authority_map.proofs.runs.write_all.Given as goal
+use Rattle.authority_map.proofs.rewriting.write_all.Given as goal
 
 -- the cells have some directories to be written still
 pub record IsWritten (limit : ℕ) (starts cells dirs left : List ℕ) (cell : ℕ) (old : ℕ → ℕ) : Type 0 where
