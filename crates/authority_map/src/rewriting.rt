@@ -66,8 +66,8 @@ fn extend(made: &mut Runs, limit: u32, first: u32, end: u32, cell: u8)
     }
 }
 
-// The runs begin with directory 0, which has the first of these cells if it is listed, and else the second. It tells how
-// many listed directories are in them.
+// The runs begin with directory 0, which has the first of these cells if it is listed, and else the second. It tells
+// how many listed directories are in them.
 fn begin(made: &mut Runs, limit: u32, dirs: &[Dir], listed: u8, unlisted: u8) -> usize
     requires limit { 1 ≤ limit }
     requires room { (limit ≤ vec_capacity made.old.starts) × (limit ≤ vec_capacity made.old.cells) }
