@@ -4,6 +4,8 @@
 #[cfg(test)]
 mod grown_orders;
 #[cfg(test)]
+mod long_lists;
+#[cfg(test)]
 mod maps;
 #[cfg(test)]
 mod orders;

@@ -46,27 +46,6 @@ pub(crate) fn give_two<J: Naming, M: Publisher<J>>(
     Ok(())
 }
 
-/// The same by a list that names each of the two time and again, which is long for a map of four directories.
-pub(crate) fn give_often<J: Naming, M: Publisher<J>>(
-    alloc: Global,
-    writer: &mut M,
-    a: Dir,
-    b: Dir,
-    rank: Rank,
-) -> Result<(), MapError>
-    requires { (a < J.limit) × (b < J.limit) }
-{
-    let often = [
-        a, b, a, b, a, b, a, b, a, b, a, b, a, b, a, b, a, b, a, b, a, b, a, b,
-    ];
-    let Ok(dirs) = Vec::from_array(alloc, often) else {
-        return Err(MapError::Memory);
-    };
-    writer.reserve()?;
-    writer.set(dirs, rank);
-    Ok(())
-}
-
 /// A directory loses its rank, from the next publish on.
 pub(crate) fn clear<J: Naming, M: Publisher<J>>(writer: &mut M, dir: Dir) -> Result<(), MapError>
     requires { dir < J.limit }

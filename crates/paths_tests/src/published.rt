@@ -1,7 +1,7 @@
 //! What readers find of a map, before and after each publish.
 ghost use Rattle.std.specs.Prelude.{◌≡◌};
 
-use crate::maps::{all_found, clear, give, give_often, give_two, hear, look, rank, show};
+use crate::maps::{all_found, clear, give, give_two, hear, look, rank, show};
 use crate::same::{Sure, same};
 use authority_map::{Found, MapError, MapReader, MapWriter, NewMap, Publisher};
 use mds_types::{Dir, Rank};
@@ -18,7 +18,6 @@ enum Case {
     FindsTheLatest,
     Changes,
     Joins,
-    TakesLongLists,
 }
 
 // Rank 0 is published, rank 1 at first not; the reader is told; the directory loses its rank.
@@ -108,24 +107,6 @@ fn join<J: Naming, M: Publisher<J>>(
     Ok(all_found(reader))
 }
 
-// Directories 1 and 3 at rank 0, then 2 and 3 at rank 1, then 1 and 2 at rank 0, the last two by lists so long that the
-// whole map is written anew.
-fn take_long_lists<J: Naming, M: Publisher<J>>(
-    alloc: Global,
-    writer: &mut M,
-    reader: &mut MapReader<J>,
-) -> Result<[[Found; 5]; 2], MapError>
-    requires { J.limit ≡ 4 }
-{
-    give_two::<J, M>(alloc, writer, Dir::new(1), Dir::new(3), rank(0))?;
-    give_often::<J, M>(alloc, writer, Dir::new(2), Dir::new(3), rank(1))?;
-    show::<J, M>(writer)?;
-    let first = all_found(reader);
-    give_often::<J, M>(alloc, writer, Dir::new(1), Dir::new(2), rank(0))?;
-    show::<J, M>(writer)?;
-    Ok([first, all_found(reader)])
-}
-
 // Whether the reader found what it is to find.
 fn is_found<J: Naming, M: Publisher<J>>(
     alloc: Global,
@@ -156,11 +137,6 @@ fn is_found<J: Naming, M: Publisher<J>>(
         Case::Joins => {
             let wanted = [none, none, r0, r0, none];
             let found = join::<J, M>(alloc, writer, reader)?;
-            Ok(found == wanted)
-        }
-        Case::TakesLongLists => {
-            let wanted = [[none, r0, r1, r1, none], [none, r0, r0, r1, none]];
-            let found = take_long_lists::<J, M>(alloc, writer, reader)?;
             Ok(found == wanted)
         }
     }
@@ -210,11 +186,6 @@ fn operations_change_their_directories(rt: HostRuntime) {
 #[test]
 fn directories_between_others_join_them(rt: HostRuntime) {
     on_a_map(&rt, &rt, rt.alloc(), Case::Joins)
-}
-
-#[test]
-fn long_lists_change_their_directories_alone(rt: HostRuntime) {
-    on_a_map(&rt, &rt, rt.alloc(), Case::TakesLongLists)
 }
 
 #[test]
