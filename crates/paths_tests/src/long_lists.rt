@@ -1,4 +1,4 @@
-//! Long lists of directories: one that rises is written in one pass over the map's runs, another directory by directory.
+//! Long lists of directories: one that rises is written in one pass over the map's runs, another one by one.
 ghost use Rattle.std.specs.Prelude.{◌≡◌, ◌<◌, ◌≤◌, All, IfOk};
 
 use crate::maps::{look, rank, show};
