@@ -47,15 +47,20 @@ fn zero_over(word: &mut [u8])
     }
 }
 
+/// Whether these bytes are `inf` or `nan`.
+#[inline(always)]
+fn is_word(a: u8, b: u8, c: u8) -> bool {
+    let is_inf = (a == b'i') & (b == b'n') & (c == b'f');
+    let is_nan = (a == b'n') & (b == b'a') & (c == b'n');
+    is_inf | is_nan
+}
+
 /// Whether `inf` or `nan` stands anywhere, in strings or not. All places are looked
 /// at, which a processor does for many at once.
 fn may_have_words(text: &[u8]) -> bool {
-    let (second, third) = (text.get(1..).unwrap_or(&[]), text.get(2..).unwrap_or(&[]));
     let mut found = false;
-    for ((a, b), c) in text.iter().zip(second).zip(third) {
-        let is_inf = (*a == b'i') & (*b == b'n') & (*c == b'f');
-        let is_nan = (*a == b'n') & (*b == b'a') & (*c == b'n');
-        found |= is_inf | is_nan;
+    for last in 2..text.len() {
+        found |= is_word(text[last - 2], text[last - 1], text[last]);
     }
     found
 }

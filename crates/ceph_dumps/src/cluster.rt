@@ -1,8 +1,8 @@
 //! The ranks of a file system: what `ceph fs get NAME -f json` answers.
 
 use crate::dump_error::DumpError;
-use crate::json::{read_json, text_of};
-use crate::members::{Member, Members, Named, fill, present, read_members};
+use crate::json::read_json;
+use crate::members::{Member, Members, Named, fill, present, with_members};
 use serde::{DeserializeOwned, Deserializer, Format, Name};
 use std::alloc::Global;
 
@@ -18,9 +18,7 @@ pub struct FileSystemRanks {
 }
 
 impl Named for FileSystemRanks {
-    fn name() -> &'static str {
-        "mdsmap"
-    }
+    const NAME: &'static str = "mdsmap";
 }
 
 /// The members of the map of a file system's ranks.
@@ -47,6 +45,16 @@ impl Members for MdsMap {
     }
 }
 
+impl MdsMap {
+    /// The ranks, once all members are read.
+    fn whole<F: Format>(self, from: &Deserializer<'_, '_, F>) -> Result<FileSystemRanks, F::Error> {
+        let size = present(self.size, "max_mds", from)?;
+        let ranks = present(self.ranks, "in", from)?;
+        let mask = self.mask.unwrap_or(None);
+        Ok(FileSystemRanks { size, ranks, mask })
+    }
+}
+
 impl DeserializeOwned for FileSystemRanks {
     fn deserialize_owned<F: Format>(
         alloc: Global,
@@ -57,22 +65,17 @@ impl DeserializeOwned for FileSystemRanks {
             Name::exact("in"),
             Name::exact("bal_rank_mask"),
         ];
-        let mut map = MdsMap {
+        let none = MdsMap {
             size: None,
             ranks: None,
             mask: None,
         };
-        read_members(&mut map, &names, alloc, from)?;
-        let size = present(map.size, "max_mds", from)?;
-        let ranks = present(map.ranks, "in", from)?;
-        let mask = map.mask.unwrap_or(None);
-        Ok(FileSystemRanks { size, ranks, mask })
+        with_members(none, &names, alloc, from)?.whole(from)
     }
 }
 
 /// The ranks of a file system.
 pub fn read_cluster(alloc: Global, bytes: &[u8]) -> Result<FileSystemRanks, DumpError> {
-    let text = text_of(alloc, bytes)?;
-    let Member(ranks) = read_json(alloc, text.as_slice())?;
+    let Member(ranks) = read_json(alloc, bytes)?;
     Ok(ranks)
 }

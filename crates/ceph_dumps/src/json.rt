@@ -2,6 +2,7 @@
 
 use crate::bare_words::write_over_bare_words;
 use crate::dump_error::DumpError;
+use crate::listing::is_newline;
 use crate::members::Whole;
 use crate::wide_bytes::widened;
 use serde::DeserializeOwned;
@@ -10,7 +11,7 @@ use std::alloc::{AllocError, Global};
 /// The column, from 1, of the byte that was widened to the one at this column of its widened line.
 fn column_of(line: &[u8], wide: usize) -> usize {
     let mut column = 0usize;
-    for byte in line.iter().take(wide) {
+    for byte in line.get(..wide).unwrap_or(line) {
         if !matches!(*byte, 128..=191) {
             column = column.saturating_add(1);
         }
@@ -30,7 +31,7 @@ fn reason_of(alloc: Global, error: &serde_json::Error) -> Result<String, AllocEr
 /// The column as the file has it, where the reader of a text tells this place.
 fn column_in(text: &[u8], line: usize, wide: usize) -> usize {
     let mut column = wide;
-    for (at, here) in text.split(|byte| *byte == b'\n').enumerate() {
+    for (at, here) in text.split(is_newline).enumerate() {
         if at + 1 == line {
             column = column_of(here, wide);
         }
@@ -53,16 +54,22 @@ fn placed(alloc: Global, text: &[u8], error: &serde_json::Error) -> Result<DumpE
 }
 
 /// The text of a dump, in UTF-8 and without bare words.
-pub(crate) fn text_of(alloc: Global, bytes: &[u8]) -> Result<Vec<u8>, AllocError> {
+fn text_of(alloc: Global, bytes: &[u8]) -> Result<Vec<u8>, AllocError> {
     let mut text = widened(alloc, bytes)?;
     write_over_bare_words(text.as_mut_slice());
     Ok(text)
 }
 
 /// What the text of a dump says. Errors tell the place in the dump's own bytes.
-pub(crate) fn read_json<T: DeserializeOwned>(alloc: Global, text: &[u8]) -> Result<T, DumpError> {
+fn read_text<T: DeserializeOwned>(alloc: Global, text: &[u8]) -> Result<T, DumpError> {
     match serde_json::from_slice(alloc, text) {
         Ok(Whole(value)) => Ok(value),
         Err(error) => Err(placed(alloc, text, &error)?),
     }
+}
+
+/// What a dump says.
+pub(crate) fn read_json<T: DeserializeOwned>(alloc: Global, bytes: &[u8]) -> Result<T, DumpError> {
+    let text = text_of(alloc, bytes)?;
+    read_text(alloc, text.as_slice())
 }

@@ -18,6 +18,11 @@ pub struct ListedDir {
     pub pin: Option<u64>,
 }
 
+/// Whether a line ends at a byte.
+pub(crate) fn is_newline(byte: &u8) -> bool {
+    *byte == b'\n'
+}
+
 /// The byte that three octal digits behind a backslash stand for.
 fn octal(text: &[u8]) -> Option<u8> {
     match text {
@@ -39,12 +44,11 @@ pub fn path_of(alloc: Global, name: &[u8]) -> Result<Vec<u8>, AllocError> {
     for at in 0..name.len() {
         if passed > 0 {
             passed -= 1;
-        } else if let Some(byte) = octal(&name[at..]) {
-            path.push(byte)?;
-            passed = 3;
-        } else {
-            path.push(name[at])?;
+            continue;
         }
+        let read = octal(&name[at..]);
+        path.push(read.unwrap_or(name[at]))?;
+        passed = if read.is_some() { 3 } else { 0 };
     }
     Ok(path)
 }
@@ -87,16 +91,22 @@ fn listed(
     Ok(ListedDir { path, entries, pin })
 }
 
-/// What a listing says, in its order.
-pub fn read_listing(alloc: Global, bytes: &[u8]) -> Result<Vec<ListedDir>, DumpError> {
-    let mut found = Vec::new(alloc);
+/// Adds what a listing says, in its order.
+fn add_listed(alloc: Global, found: &mut Vec<ListedDir>, bytes: &[u8]) -> Result<(), DumpError> {
     let mut name = None;
-    for (at, line) in bytes.split(|byte| *byte == b'\n').enumerate() {
+    for (at, line) in bytes.split(is_newline).enumerate() {
         if let Some(here) = line.strip_prefix(b"# file: ") {
             name = Some(here);
         } else if !line.is_empty() && line != b"--".as_slice() {
             found.push(listed(alloc, name.take(), line, at + 1)?)?;
         }
     }
+    Ok(())
+}
+
+/// What a listing says, in its order.
+pub fn read_listing(alloc: Global, bytes: &[u8]) -> Result<Vec<ListedDir>, DumpError> {
+    let mut found = Vec::new(alloc);
+    add_listed(alloc, &mut found, bytes)?;
     Ok(found)
 }

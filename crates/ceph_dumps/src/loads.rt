@@ -3,8 +3,8 @@ ghost use Rattle.std.specs.Prelude.{◌≤◌, All, IfOk};
 ghost use Rattle.mds_types.specs.declared.limits.TheConstants.{HEAT_LIMIT};
 
 use crate::dump_error::DumpError;
-use crate::json::{read_json, text_of};
-use crate::members::{Member, Members, Named, fill, present, read_members};
+use crate::json::read_json;
+use crate::members::{Member, Members, Named, fill, present, with_members};
 use crate::wide_bytes::narrowed;
 use mds_types::limits::HEAT_LIMIT;
 use serde::{DeserializeOwned, Deserializer, Format, Name};
@@ -18,32 +18,17 @@ const WEIGHTS: [f64; 5] = [1.0, 2.0, 1.0, 2.0, 4.0];
 type Counters = Vec<Member<f64>>;
 
 impl Named for f64 {
-    fn name() -> &'static str {
-        "value"
-    }
+    const NAME: &'static str = "value";
 }
 
 impl Named for Counters {
-    fn name() -> &'static str {
-        "Decay Counters"
-    }
+    const NAME: &'static str = "Decay Counters";
 
-    fn told() -> &'static str {
-        "counters"
-    }
+    const TOLD: &'static str = "counters";
 }
 
-/// A fragment, as a rank tells it.
-#[derive(Drop)]
-struct FragmentDump {
-    path: String,
-    counters: Counters,
-}
-
-impl Named for Vec<FragmentDump> {
-    fn name() -> &'static str {
-        "dirfrags"
-    }
+impl Named for Vec<FragmentHeat> {
+    const NAME: &'static str = "dirfrags";
 }
 
 /// The members of a fragment.
@@ -68,20 +53,34 @@ impl Members for Fragment {
     }
 }
 
-impl DeserializeOwned for FragmentDump {
+impl Fragment {
+    /// The fragment, once all members are read.
+    fn whole<F: Format>(
+        &self,
+        alloc: Global,
+        from: &Deserializer<'_, '_, F>,
+    ) -> Result<FragmentHeat, F::Error> {
+        let path = present(self.path.as_deref(), "path", from)?;
+        let counters = present(self.counters.as_ref(), "pop_me", from)?;
+        let heat = heat_of(counters.0.as_slice());
+        match narrowed(alloc, path.as_bytes()) {
+            Ok(path) => Ok(FragmentHeat { path, heat }),
+            Err(_) => Err(from.no_memory()),
+        }
+    }
+}
+
+impl DeserializeOwned for FragmentHeat {
     fn deserialize_owned<F: Format>(
         alloc: Global,
         from: &mut Deserializer<'_, '_, F>,
-    ) -> Result<FragmentDump, F::Error> {
+    ) -> Result<FragmentHeat, F::Error> {
         let names = [Name::exact("path"), Name::exact("pop_me")];
-        let mut fragment = Fragment {
+        let none = Fragment {
             path: None,
             counters: None,
         };
-        read_members(&mut fragment, &names, alloc, from)?;
-        let path = present(fragment.path, "path", from)?;
-        let Member(counters) = present(fragment.counters, "pop_me", from)?;
-        Ok(FragmentDump { path, counters })
+        with_members(none, &names, alloc, from)?.whole(alloc, from)
     }
 }
 
@@ -94,29 +93,29 @@ pub struct FragmentHeat {
     pub heat: u64,
 }
 
-/// The heat of five counters, in thousandths, at most `HEAT_LIMIT`.
-fn heat_of(counters: &[Member<f64>]) -> u64
-    ensures { result ≤ HEAT_LIMIT }
-{
+/// The heat of five counters, in thousandths.
+fn heat_of(counters: &[Member<f64>]) -> u64 {
     let mut heat = 0.0;
     for (counter, weight) in counters.iter().zip(WEIGHTS.as_slice()) {
         heat += counter.0 * *weight;
     }
-    saturating_f64_to_u64(heat * 1000.0).min(HEAT_LIMIT)
+    saturating_f64_to_u64(heat * 1000.0)
+}
+
+/// Puts each heat that is past the limit at the limit.
+fn limit(fragments: &mut [FragmentHeat])
+    ensures { All (λ fragment. fragment.heat ≤ HEAT_LIMIT) fragments.new }
+{
+    for fragment in fragments {
+        fragment.heat = fragment.heat.min(HEAT_LIMIT);
+    }
 }
 
 /// The heat of each directory fragment that a rank names.
 pub fn read_loads(alloc: Global, bytes: &[u8]) -> Result<Vec<FragmentHeat>, DumpError>
     ensures { IfOk result (λ found. All (λ fragment. fragment.heat ≤ HEAT_LIMIT) found.items) }
 {
-    let text = text_of(alloc, bytes)?;
-    let dump: Member<Vec<FragmentDump>> = read_json(alloc, text.as_slice())?;
-    let mut found = Vec::with_capacity(alloc, dump.0.len())?;
-    for fragment in dump.0.as_slice() {
-        found.push(FragmentHeat {
-            path: narrowed(alloc, fragment.path.as_bytes())?,
-            heat: heat_of(fragment.counters.as_slice()),
-        })?;
-    }
+    let Member(mut found): Member<Vec<FragmentHeat>> = read_json(alloc, bytes)?;
+    limit(&mut found);
     Ok(found)
 }

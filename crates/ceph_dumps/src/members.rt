@@ -14,42 +14,52 @@ pub(crate) trait Members: Drop {
     ) -> Result<(), F::Error>;
 }
 
-/// The place of the next item of a list of so many members, if there is one.
-fn next_item<F: Format>(
-    place: usize,
-    count: usize,
+/// The place of the next member, if there is one: by its name, or in a list that so many came before.
+fn next_member<F: Format>(
+    is_list: bool,
+    before: usize,
+    names: &[Name<'_>],
     from: &mut Deserializer<'_, '_, F>,
 ) -> Result<Option<usize>, F::Error> {
+    if !is_list {
+        return from.next_key(names);
+    }
     if !from.next_item()? {
         return Ok(None);
     }
-    if place < count {
-        Ok(Some(place))
+    if before < names.len() {
+        Ok(Some(before))
     } else {
         Err(from.wrong_len())
     }
 }
 
 /// Reads the members of an object that have these names. A list of them, in this order, is taken too.
-pub(crate) fn read_members<M: Members, F: Format>(
+fn read_members<M: Members, F: Format>(
     members: &mut M,
     names: &[Name<'_>],
     alloc: Global,
     from: &mut Deserializer<'_, '_, F>,
 ) -> Result<(), F::Error> {
     let is_list = from.begin_struct()?;
-    for place in 0..usize::MAX {
-        let next = if is_list {
-            next_item(place, names.len(), from)
-        } else {
-            from.next_key(names)
-        };
-        let Some(at) = next? else {
+    for before in 0..usize::MAX {
+        let Some(at) = next_member(is_list, before, names, from)? else {
             break;
         };
         members.take(at, alloc, from)?;
     }
     Ok(())
+}
+
+/// What is read of an object, where it is this before the object's members are read.
+pub(crate) fn with_members<M: Members, F: Format>(
+    mut members: M,
+    names: &[Name<'_>],
+    alloc: Global,
+    from: &mut Deserializer<'_, '_, F>,
+) -> Result<M, F::Error> {
+    read_members(&mut members, names, alloc, from)?;
+    Ok(members)
 }
 
 /// Reads a member that hasn't come before.
@@ -81,12 +91,10 @@ pub(crate) fn present<T: Drop, F: Format>(
 /// What always stands in a member of one name, alone of its object's members.
 pub(crate) trait Named {
     /// The name.
-    fn name() -> &'static str;
+    const NAME: &'static str;
 
     /// What an error calls it where it comes twice.
-    fn told() -> &'static str {
-        Self::name()
-    }
+    const TOLD: &'static str = Self::NAME;
 }
 
 /// The one member that is read of an object.
@@ -101,7 +109,7 @@ impl<T: DeserializeOwned + Named> Members for Option<T> {
         from: &mut Deserializer<'_, '_, F>,
     ) -> Result<(), F::Error> {
         if at == 0 {
-            fill(self, T::told(), alloc, from)
+            fill(self, T::TOLD, alloc, from)
         } else {
             from.skip()
         }
@@ -113,10 +121,9 @@ impl<T: DeserializeOwned + Named> DeserializeOwned for Member<T> {
         alloc: Global,
         from: &mut Deserializer<'_, '_, F>,
     ) -> Result<Member<T>, F::Error> {
-        let name = T::name();
-        let mut slot: Option<T> = None;
-        read_members(&mut slot, &[Name::exact(name)], alloc, from)?;
-        Ok(Member(present(slot, name, from)?))
+        let none: Option<T> = None;
+        let slot = with_members(none, &[Name::exact(T::NAME)], alloc, from)?;
+        Ok(Member(present(slot, T::NAME, from)?))
     }
 }
 

@@ -1,8 +1,8 @@
 //! Authority: what a rank answers to `get subtrees`.
 
 use crate::dump_error::DumpError;
-use crate::json::{read_json, text_of};
-use crate::members::{Member, Members, Named, fill, present, read_members};
+use crate::json::read_json;
+use crate::members::{Member, Members, Named, fill, present, with_members};
 use crate::wide_bytes::narrowed;
 use serde::{DeserializeOwned, Deserializer, Format, Name};
 use std::alloc::Global;
@@ -23,8 +23,45 @@ pub struct SubtreeRoot {
 }
 
 impl Named for String {
-    fn name() -> &'static str {
-        "path"
+    const NAME: &'static str = "path";
+}
+
+/// The members of a root that say what pins it.
+#[derive(Clone, Copy)]
+struct Pins {
+    export: Option<Option<i64>>,
+    is_distributed: Option<bool>,
+    is_random: Option<bool>,
+}
+
+impl Members for Pins {
+    fn take<F: Format>(
+        &mut self,
+        at: usize,
+        alloc: Global,
+        from: &mut Deserializer<'_, '_, F>,
+    ) -> Result<(), F::Error> {
+        match at {
+            2 => fill(&mut self.export, "export_pin", alloc, from),
+            3 => fill(
+                &mut self.is_distributed,
+                "distributed_ephemeral_pin",
+                alloc,
+                from,
+            ),
+            4 => fill(&mut self.is_random, "random_ephemeral_pin", alloc, from),
+            _ => from.skip(),
+        }
+    }
+}
+
+impl Pins {
+    /// The export pin, where there is one.
+    fn pin(self) -> Option<i64> {
+        match self.export {
+            Some(Some(rank)) if rank >= 0 => Some(rank),
+            _ => None,
+        }
     }
 }
 
@@ -33,9 +70,7 @@ impl Named for String {
 struct Root {
     is_here: Option<bool>,
     rank: Option<i64>,
-    pin: Option<Option<i64>>,
-    is_distributed: Option<bool>,
-    is_random: Option<bool>,
+    pins: Pins,
     dir: Option<Member<String>>,
 }
 
@@ -49,16 +84,8 @@ impl Members for Root {
         match at {
             0 => fill(&mut self.is_here, "is_auth", alloc, from),
             1 => fill(&mut self.rank, "auth_first", alloc, from),
-            2 => fill(&mut self.pin, "export_pin", alloc, from),
-            3 => fill(
-                &mut self.is_distributed,
-                "distributed_ephemeral_pin",
-                alloc,
-                from,
-            ),
-            4 => fill(&mut self.is_random, "random_ephemeral_pin", alloc, from),
             5 => fill(&mut self.dir, "dir", alloc, from),
-            _ => from.skip(),
+            _ => self.pins.take(at, alloc, from),
         }
     }
 }
@@ -69,33 +96,32 @@ impl Root {
         Root {
             is_here: None,
             rank: None,
-            pin: None,
-            is_distributed: None,
-            is_random: None,
+            pins: Pins {
+                export: None,
+                is_distributed: None,
+                is_random: None,
+            },
             dir: None,
         }
     }
 
     /// The root, once all members are read.
     fn whole<F: Format>(
-        self,
+        &self,
         alloc: Global,
         from: &Deserializer<'_, '_, F>,
     ) -> Result<SubtreeRoot, F::Error> {
         let is_here = present(self.is_here, "is_auth", from)?;
         let rank = present(self.rank, "auth_first", from)?;
-        let Member(path) = present(self.dir, "dir", from)?;
-        let pin = match self.pin {
-            Some(Some(rank)) if rank >= 0 => Some(rank),
-            _ => None,
-        };
-        let is_spread = self.is_distributed == Some(true) || self.is_random == Some(true);
-        match narrowed(alloc, path.as_bytes()) {
+        let dir = present(self.dir.as_ref(), "dir", from)?;
+        let pins = self.pins;
+        let is_spread = pins.is_distributed == Some(true) || pins.is_random == Some(true);
+        match narrowed(alloc, dir.0.as_bytes()) {
             Ok(path) => Ok(SubtreeRoot {
                 path,
                 is_here,
                 rank,
-                pin,
+                pin: pins.pin(),
                 is_spread,
             }),
             Err(_) => Err(from.no_memory()),
@@ -116,14 +142,11 @@ impl DeserializeOwned for SubtreeRoot {
             Name::exact("random_ephemeral_pin"),
             Name::exact("dir"),
         ];
-        let mut root = Root::empty();
-        read_members(&mut root, &names, alloc, from)?;
-        root.whole(alloc, from)
+        with_members(Root::empty(), &names, alloc, from)?.whole(alloc, from)
     }
 }
 
 /// The roots of the subtrees that a rank knows.
 pub fn read_subtrees(alloc: Global, bytes: &[u8]) -> Result<Vec<SubtreeRoot>, DumpError> {
-    let text = text_of(alloc, bytes)?;
-    read_json(alloc, text.as_slice())
+    read_json(alloc, bytes)
 }

@@ -54,6 +54,18 @@ inside_more homes home n size before here i l =
     omega (arith, at, before i inside))
     (cases_eq i n)
 
+-- one more amount behind those of the first n
+pub amounts_more : (amount : ℕ → ℕ) (xs : List ℕ) (x n : ℕ) → length xs ≡ n
+    → ((i : ℕ) → i < n → slice_index xs i ≡ amount i) → x ≡ amount n
+    → (i : ℕ) → i < n + 1 → slice_index (xs ++ x ∷ []) i ≡ amount i
+amounts_more amount xs x n size before here i l =
+    ⊎_elim (λ (same : i ≡ n).
+    subst (λ (k : ℕ). slice_index (xs ++ x ∷ []) k ≡ amount k) (sym same) (get_or_push xs x 0 n size ∙ here))
+    (λ (other : i ≢ n).
+    let inside : i < n = omega (arith, other, l) in
+    get_or_append_left xs (x ∷ []) 0 i (omega (arith, inside, size)) ∙ before i inside)
+    (cases_eq i n)
+
 -- new places
 pub kept_more : (gone : ℕ → Bool) (n : ℕ) → gone n ≡ false → kept_below gone (n + 1) ≡ kept_below gone n + 1
 kept_more gone n kept = let next : n + 1 ≡ suc n = omega arith in rw (next, kept) refl

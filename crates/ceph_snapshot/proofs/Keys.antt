@@ -7,7 +7,7 @@ use Rattle.std.specs.List.Sorted.{IsPermutation, IsSorted}
 use Rattle.std.proofs.Common.{Ordering, Equal, Greater, Less}
 use Rattle.std.specs.Ordering.{is_le, is_lt, ordering_reverse}
 use Rattle.std.proofs.lemmas.Bool.{cases_Bool, cases_eq}
-use Rattle.std.proofs.lemmas.List.{get_or-set_other, get_or-set_same}
+use Rattle.std.proofs.lemmas.List.{get_or-set_other, get_or-set_same, get_or_append_left, get_or_push}
 use Rattle.std.proofs.lemmas.List.Sorted.{length_permutation, ranks_by, sorted_far, sum_by-IsPermutation}
 use Rattle.std.proofs.lemmas.List.Sums.{sum_by-cons}
 use Rattle.mds_types.specs.Sums.{count_below, sum_below}
@@ -98,6 +98,18 @@ stays_passed heats stays last at stay =
     let same : goes heats stays last at ≡ false = rw stay refl in
     count_below_more at (goes heats stays last)
     ∙ (ap (λ (b : Bool). count_below at (goes heats stays last) + cond b 1 0) same ∙ add-zero (count_below at (goes heats stays last)))
+
+-- one more mark behind those of the first n
+pub marks_more : (marked : ℕ → Bool) (marks : List Bool) (mark : Bool) (n : ℕ) → length marks ≡ n
+    → ((i : ℕ) → i < n → is_marked marks i ≡ marked i) → mark ≡ marked n
+    → (i : ℕ) → i < n + 1 → is_marked (marks ++ mark ∷ []) i ≡ marked i
+marks_more marked marks mark n size before here i l =
+    ⊎_elim (λ (same : i ≡ n).
+    subst (λ (k : ℕ). is_marked (marks ++ mark ∷ []) k ≡ marked k) (sym same) (get_or_push marks mark false n size ∙ here))
+    (λ (other : i ≢ n).
+    let inside : i < n = omega (arith, other, l) in
+    get_or_append_left marks (mark ∷ []) false i (omega (arith, inside, size)) ∙ before i inside)
+    (cases_eq i n)
 
 -- marks stay when more are set
 still : (marks : List Bool) (k i : ℕ) → k < length marks → is_marked marks i ≡ true → is_marked (set marks k true) i ≡ true

@@ -120,6 +120,13 @@ fn last_key(mut keys: Vec<Key>, count: usize) -> Result<Option<Key>, AllocError>
     Ok(Some(keys[count - 1]))
 }
 
+/// Whether a key is at most the last.
+fn is_within(key: Key, last: Key) -> bool
+    ensures { result ≡ is_at_most key last }
+{
+    key <= last
+}
+
 /// Which directories go: those that don't stay, with a key of at most `last`.
 fn marks(alloc: Global, heats: &[u64], stays: &[bool], last: Key) -> Result<Vec<bool>, AllocError>
     requires { length stays.now ≡ length heats.now }
@@ -129,7 +136,7 @@ fn marks(alloc: Global, heats: &[u64], stays: &[bool], last: Key) -> Result<Vec<
 {
     let mut marks = Vec::with_capacity(alloc, heats.len())?;
     for at in 0..heats.len() {
-        marks.push(!stays[at] && key_of(heats, at) <= last)?;
+        marks.push(!stays[at] && is_within(key_of(heats, at), last))?;
     }
     Ok(marks)
 }

@@ -1,7 +1,10 @@
 //! Dumps as Ceph prints them, whole, cut and broken.
 
-use crate::same::{Sure, holds_in, same, same_in};
-use ceph_dumps::{DumpError, read_cluster, read_listing, read_loads, read_own_list, read_subtrees};
+use crate::same::{Row, Sure, holds_in, same, same_rows};
+use ceph_dumps::{
+    DumpError, FileSystemRanks, FragmentHeat, ListedDir, SubtreeRoot, read_cluster, read_listing,
+    read_loads, read_own_list, read_subtrees,
+};
 use std::alloc::Global;
 use std::process::Abort;
 
@@ -20,13 +23,16 @@ const HEATS: &[(&[u8], u64)] = &[
     (b"/h/new\nline \"-inf\"", 0),
 ];
 
+impl<'a> Row<(&'a [u8], u64)> for FragmentHeat {
+    fn same_as<R: Abort>(&self, rt: &R, row: &(&'a [u8], u64)) {
+        same(rt, &(self.path.as_slice(), self.heat), row);
+    }
+}
+
 #[test]
 fn reads_loads(rt: HostRuntime) {
     let found = read_loads(rt.alloc(), LOADS).sure(&rt);
-    same(&rt, &found.len(), &HEATS.len());
-    for (fragment, row) in found.iter().zip(HEATS) {
-        same(&rt, &(fragment.path.as_slice(), fragment.heat), row);
-    }
+    same_rows(&rt, &found, HEATS);
 }
 
 /// The subtrees of a rank, as Ceph prints them.
@@ -63,16 +69,21 @@ fn refuses_dumps_that_are_cut(rt: HostRuntime) {
     }
 }
 
-/// How many paths are told where a byte is another; 0 where it is refused.
+/// How many paths are told; 0 where the dump is refused.
+fn told(alloc: Global, text: &[u8]) -> usize {
+    match read_loads(alloc, text) {
+        Ok(found) => found.len(),
+        Err(_) => 0,
+    }
+}
+
+/// How many paths are told where a byte is another.
 fn told_with(rt: &impl Abort, alloc: Global, at: usize, byte: u8) -> usize {
     let mut text = Vec::from_slice(alloc, LOADS).sure(rt);
     if let Some(place) = text.get_mut(at) {
         *place = byte;
     }
-    match read_loads(alloc, text.as_slice()) {
-        Ok(found) => found.len(),
-        Err(_) => 0,
-    }
+    told(alloc, &text)
 }
 
 #[test]
@@ -107,32 +118,34 @@ fn loads_of(rt: &impl Abort, alloc: Global, path: &[u8]) -> Vec<u8> {
     text
 }
 
+/// A dump of loads of this path is read.
+fn reads_path(rt: &impl Abort, alloc: Global, path: &[u8]) {
+    let text = loads_of(rt, alloc, path);
+    let found = read_loads(alloc, &text).sure(rt);
+    same_rows(rt, &found, &[(path, 3000)]);
+}
+
 #[test]
 fn reads_long_names_of_any_bytes(rt: HostRuntime) {
     for at in 0..600usize {
-        let path = long_path(&rt, rt.alloc(), at);
-        let text = loads_of(&rt, rt.alloc(), path.as_slice());
-        let found = read_loads(rt.alloc(), text.as_slice()).sure(&rt);
-        same(&rt, &found.len(), &1);
-        for fragment in found.as_slice() {
-            same_in(
-                &rt,
-                &(fragment.path.as_slice(), fragment.heat),
-                &(path.as_slice(), 3000),
-                &at,
-            );
-        }
+        reads_path(&rt, rt.alloc(), &long_path(&rt, rt.alloc(), at));
     }
+}
+
+/// A number where an object should be, behind a byte that isn't ASCII.
+const WRONG_COUNTERS: &[u8] = b"{\"dirfrags\":[\n{\"path\":\"\xff\",\"pop_me\":1}]}";
+
+/// The place of the refusal is told.
+fn tells_place(rt: &impl Abort, alloc: Global, refused: &DumpError) {
+    let told = format!(in alloc; "{refused}").sure(rt);
+    holds_in(rt, told.starts_with("line 2, column 2"), &told);
 }
 
 #[test]
 fn tells_where_a_dump_is_broken(rt: HostRuntime) {
-    let text = b"{\"dirfrags\":[\n{\"path\":\"\xff\",\"pop_me\":1}]}";
-    if let Err(refused) = read_loads(rt.alloc(), text.as_slice()) {
-        let told = format!(in rt.alloc(); "{refused}").sure(&rt);
-        holds_in(&rt, told.starts_with("line 2, column 2"), &told);
-    } else {
-        holds_in(&rt, false, &"read");
+    match read_loads(rt.alloc(), WRONG_COUNTERS) {
+        Ok(_) => holds_in(&rt, false, &"read"),
+        Err(refused) => tells_place(&rt, rt.alloc(), &refused),
     }
 }
 
@@ -141,29 +154,43 @@ const ROOTS: &[u8] = b"[{\"is_auth\":true,\"auth_first\":1,\"auth_second\":-2,\"
 \"distributed_ephemeral_pin\":true,\"dir\":{\"path\":\"/u\"}},\
 {\"is_auth\":false,\"auth_first\":0,\"auth_second\":-2,\"export_pin\":-1,\"dir\":{\"path\":\"~mds0\"}}]";
 
-/// What they say: the path, whether it is here and spread, and the pin.
-const TOLD_ROOTS: &[(&[u8], (bool, bool, Option<i64>))] = &[
+/// The path of a root, whether it is here and spread, and the pin.
+type Root<'a> = (&'a [u8], (bool, bool, Option<i64>));
+
+/// What they say.
+const TOLD_ROOTS: &[Root<'static>] = &[
     (b"/u", (true, true, Some(2))),
     (b"~mds0", (false, false, None)),
 ];
 
-#[test]
-fn reads_subtrees(rt: HostRuntime) {
-    let found = read_subtrees(rt.alloc(), ROOTS).sure(&rt);
-    same(&rt, &found.len(), &TOLD_ROOTS.len());
-    for (root, row) in found.iter().zip(TOLD_ROOTS) {
-        let told = (root.is_here, root.is_spread, root.pin);
-        same(&rt, &(root.path.as_slice(), told), row);
+impl<'a> Row<Root<'a>> for SubtreeRoot {
+    fn same_as<R: Abort>(&self, rt: &R, row: &Root<'a>) {
+        let told = (self.is_here, self.is_spread, self.pin);
+        same(rt, &(self.path.as_slice(), told), row);
     }
 }
 
 #[test]
+fn reads_subtrees(rt: HostRuntime) {
+    let found = read_subtrees(rt.alloc(), ROOTS).sure(&rt);
+    same_rows(&rt, &found, TOLD_ROOTS);
+}
+
+/// The ranks of a file system, behind an empty line.
+const RANKS: &[u8] =
+    b"\n{\"mdsmap\":{\"max_mds\":3,\"in\":[0,2],\"bal_rank_mask\":\"0x5\"},\"id\":1}";
+
+/// The ranks are as told.
+fn same_ranks(rt: &impl Abort, found: &FileSystemRanks) {
+    same(rt, &found.size, &3);
+    same(rt, &found.ranks.as_slice(), &[0, 2].as_slice());
+    same(rt, &found.mask.as_deref(), &Some("0x5"));
+}
+
+#[test]
 fn reads_ranks(rt: HostRuntime) {
-    let text = b"\n{\"mdsmap\":{\"max_mds\":3,\"in\":[0,2],\"bal_rank_mask\":\"0x5\"},\"id\":1}";
-    let found = read_cluster(rt.alloc(), text.as_slice()).sure(&rt);
-    same(&rt, &found.size, &3);
-    same(&rt, &found.ranks.as_slice(), &[0, 2].as_slice());
-    same(&rt, &found.mask.as_deref(), &Some("0x5"));
+    let found = read_cluster(rt.alloc(), RANKS).sure(&rt);
+    same_ranks(&rt, &found);
 }
 
 /// A listing of four directories.
@@ -171,41 +198,52 @@ const LISTING: &[u8] =
     b"# file: .\nceph.dir.entries=\"7\"\n\n# file: h/cr\\015ret \\134\nceph.dir.entries=\"4\"\n\n\
 # file: h\nceph.dir.pin=\"2\"\n\n# file: w\nceph.dir.pin=\"-1\"\n";
 
-/// What it says: paths, entries and pins.
-const LISTED: &[(&[u8], Option<u64>, Option<u64>)] = &[
+/// A path, entries and a pin.
+type Listed<'a> = (&'a [u8], Option<u64>, Option<u64>);
+
+/// What it says.
+const LISTED: &[Listed<'static>] = &[
     (b"", Some(7), None),
     (b"/h/cr\rret \\", Some(4), None),
     (b"/h", None, Some(2)),
     (b"/w", None, None),
 ];
 
-#[test]
-fn reads_listings(rt: HostRuntime) {
-    let found = read_listing(rt.alloc(), LISTING).sure(&rt);
-    same(&rt, &found.len(), &LISTED.len());
-    for (listed, row) in found.iter().zip(LISTED) {
-        let told = (listed.path.as_slice(), listed.entries, listed.pin);
-        same(&rt, &told, row);
+impl<'a> Row<Listed<'a>> for ListedDir {
+    fn same_as<R: Abort>(&self, rt: &R, row: &Listed<'a>) {
+        let told = (self.path.as_slice(), self.entries, self.pin);
+        same(rt, &told, row);
     }
 }
 
 #[test]
+fn reads_listings(rt: HostRuntime) {
+    let found = read_listing(rt.alloc(), LISTING).sure(&rt);
+    same_rows(&rt, &found, LISTED);
+}
+
+/// Listings without a name, and with a value that is no number.
+const BROKEN: &[&[u8]] = &[b"ceph.dir.pin=\"2\"\n", b"# file: h\nceph.dir.pin=\"x\"\n"];
+
+#[test]
 fn refuses_broken_lists(rt: HostRuntime) {
-    let texts: [&[u8]; 2] = [b"ceph.dir.pin=\"2\"\n", b"# file: h\nceph.dir.pin=\"x\"\n"];
-    for text in texts {
-        holds_in(&rt, read_listing(rt.alloc(), text).is_err(), &text);
+    for text in BROKEN {
+        holds_in(&rt, is_refused(read_listing(rt.alloc(), text)), text);
     }
-    holds_in(&rt, read_own_list(rt.alloc(), b"1\n").is_err(), &"1");
+    holds_in(&rt, is_refused(read_own_list(rt.alloc(), b"1\n")), &"1");
 }
 
 /// The paths of a list of own pins.
 const OWN: &[&[u8]] = &[b"/a b", b"/x\ny"];
 
+impl<'a> Row<&'a [u8]> for Vec<u8> {
+    fn same_as<R: Abort>(&self, rt: &R, row: &&'a [u8]) {
+        same(rt, &self.as_slice(), row);
+    }
+}
+
 #[test]
 fn reads_lists_of_own_pins(rt: HostRuntime) {
     let found = read_own_list(rt.alloc(), b"1 /a b\n0 /x\\012y\n").sure(&rt);
-    same(&rt, &found.len(), &OWN.len());
-    for (path, wanted) in found.iter().zip(OWN) {
-        same(&rt, &path.as_slice(), wanted);
-    }
+    same_rows(&rt, &found, OWN);
 }

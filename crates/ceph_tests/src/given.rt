@@ -13,10 +13,8 @@ pub(crate) fn rank(number: u8) -> Rank {
 
 /// A number for each of 64 ranks, of which the first have these.
 pub(crate) fn by_rank(rt: &impl Abort, alloc: Global, first: &[u64]) -> Vec<u64> {
-    let mut all = vec![in alloc; 0u64; 64].sure(rt);
-    for (place, number) in all.iter_mut().zip(first) {
-        *place = *number;
-    }
+    let mut all = Vec::from_slice(alloc, first).sure(rt);
+    all.resize(64, 0).sure(rt);
     all
 }
 

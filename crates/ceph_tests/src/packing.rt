@@ -1,7 +1,7 @@
 //! Parts that are packed on ranks, and what that comes to.
 
 use crate::given::{by_rank, rank};
-use crate::same::{Sure, same, same_in};
+use crate::same::{Row, Sure, same, same_rows};
 use ceph_plan::{Packing, are_parts, are_pinned, pack};
 use mds_types::{Problem, ProblemRow, Rank, RankSet};
 use std::alloc::Global;
@@ -30,22 +30,35 @@ fn numbers(rt: &impl Abort, alloc: Global, count: usize) -> Vec<u32> {
     numbers
 }
 
-fn packed(rt: &impl Abort, alloc: Global, given: &[(u64, u8)], pinned: &[u64]) -> Packing {
-    let part = numbers(rt, alloc, given.len());
-    let by_rank = by_rank(rt, alloc, pinned);
-    let ranks = RankSet::from_bits(7);
-    assert!(rt; are_parts(&part, 64));
-    assert!(rt; are_pinned(&by_rank));
-    assert!(rt; ranks.has(Rank::default()));
-    let problem = Problem::new(rows_of(rt, alloc, given), ranks).expect(rt, "no problem");
+fn packed_rows(
+    rt: &impl Abort,
+    alloc: Global,
+    problem: &Problem,
+    part: &[u32],
+    by_rank: &[u64],
+) -> Packing {
     let rows = problem.rows();
+    let ranks = problem.ranks();
+    assert!(rt; are_parts(part, 64));
+    assert!(rt; are_pinned(by_rank));
+    assert!(rt; ranks.has(Rank::default()));
     assert!(rt; !rows.is_empty());
     assert!(rt; rows.len() == part.len());
-    pack(alloc, rows, &part, 64, &by_rank, ranks, 0).sure(rt)
+    pack(alloc, rows, part, 64, by_rank, ranks, 0).sure(rt)
 }
 
-// (heats and present ranks, what is pinned to the first ranks, the ranks, and the loads, the greatest and the bound)
-type Packed<'a> = (&'a [(u64, u8)], &'a [u64], &'a [u8], (&'a [u64], u64, u64));
+fn packed(rt: &impl Abort, alloc: Global, given: &[(u64, u8)], pinned: &[u64]) -> Packing {
+    let ranks = RankSet::from_bits(7);
+    let problem = Problem::new(rows_of(rt, alloc, given), ranks).sure(rt);
+    let part = numbers(rt, alloc, given.len());
+    packed_rows(rt, alloc, &problem, &part, &by_rank(rt, alloc, pinned))
+}
+
+// the loads of the first ranks, the greatest and the bound
+type Loads = (&'static [u64], u64, u64);
+
+// (heats and present ranks, what is pinned to the first ranks, the ranks, and what that comes to)
+type Packed<'a> = (&'a [(u64, u8)], &'a [u64], &'a [u8], Loads);
 
 const PACKED: &[Packed<'static>] = &[
     (
@@ -72,14 +85,24 @@ const PACKED: &[Packed<'static>] = &[
     ),
 ];
 
+impl Row<u8> for Rank {
+    fn same_as<R: Abort>(&self, rt: &R, row: &u8) {
+        same(rt, &self.number(), row);
+    }
+}
+
+/// The first parts are at these ranks, and the ranks have these loads.
+fn same_packing(rt: &impl Abort, found: &Packing, ranks: &[u8], wanted: &Loads) {
+    let first = found.rank.get(..ranks.len()).unwrap_or(&[]);
+    same_rows(rt, first, ranks);
+    let loads = found.load.get(..3).unwrap_or(&[]);
+    same(rt, &(loads, found.greatest, found.bound), wanted);
+}
+
 #[test]
 fn packs_the_hottest_first(rt: HostRuntime) {
     for (given, pinned, ranks, wanted) in PACKED {
         let packing = packed(&rt, rt.alloc(), given, pinned);
-        for (found, number) in packing.rank.iter().zip(*ranks) {
-            same_in(&rt, &found.number(), number, given);
-        }
-        let loads = packing.load.get(..3).unwrap_or(&[]);
-        same(&rt, &(loads, packing.greatest, packing.bound), wanted);
+        same_packing(&rt, &packing, ranks, wanted);
     }
 }

@@ -1,8 +1,8 @@
 //! Pins and changes of pins on small trees.
 
 use crate::given::{changes_of, rank};
-use crate::same::{Sure, same};
-use ceph_plan::{Pin, PinRow, are_rows, pins_for};
+use crate::same::{Row, Sure, same, same_rows};
+use ceph_plan::{Pin, PinChange, PinRow, are_rows, pins_for};
 use mds_types::Rank;
 use std::alloc::Global;
 use std::process::Abort;
@@ -69,14 +69,16 @@ fn pins_of(rt: &impl Abort, alloc: Global, given: &[Given]) -> Vec<Pin> {
     pins_for(alloc, &rows).sure(rt)
 }
 
+impl Row<(u32, u8)> for Pin {
+    fn same_as<R: Abort>(&self, rt: &R, row: &(u32, u8)) {
+        same(rt, &(self.row, self.rank.number()), row);
+    }
+}
+
 #[test]
 fn pins_where_a_rank_changes(rt: HostRuntime) {
-    for (given, expected) in PINNED {
-        let mut found = Vec::new(rt.alloc());
-        for pin in pins_of(&rt, rt.alloc(), given) {
-            found.push((pin.row, pin.rank.number())).sure(&rt);
-        }
-        same(&rt, &found.as_slice(), expected);
+    for (given, wanted) in PINNED {
+        same_rows(&rt, &pins_of(&rt, rt.alloc(), given), wanted);
     }
 }
 
@@ -91,13 +93,17 @@ const GIVEN: &[Given] = &[
 
 const EARLIER: &[i8] = &[-1, 1, -1, 0, 1];
 
+/// The rows whose pins change, and their new pins; -1 is none.
+const CHANGED: &[(u32, i8)] = &[(1, 2), (3, -1)];
+
+impl Row<(u32, i8)> for PinChange {
+    fn same_as<R: Abort>(&self, rt: &R, row: &(u32, i8)) {
+        same(rt, &(self.row, self.pin), &(row.0, some_rank(row.1)));
+    }
+}
+
 #[test]
 fn changes_earlier_pins(rt: HostRuntime) {
     let rows = rows_of(&rt, rt.alloc(), GIVEN, EARLIER);
-    let mut found = Vec::new(rt.alloc());
-    for change in changes_of(&rt, rt.alloc(), &rows) {
-        found.push((change.row, change.pin)).sure(&rt);
-    }
-    let wanted: [(u32, Option<Rank>); 2] = [(1, Some(rank(2))), (3, None)];
-    same(&rt, &found.as_slice(), &wanted.as_slice());
+    same_rows(&rt, &changes_of(&rt, rt.alloc(), &rows), CHANGED);
 }

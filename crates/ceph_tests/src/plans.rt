@@ -52,9 +52,10 @@ const PLANNED: &[(&[u64], &[u64], (u64, u64, u64))] = &[
 #[test]
 fn plans_as_cool_as_can_be(rt: HostRuntime) {
     for (heats, pinned, wanted) in PLANNED {
-        let plan = proposed(&rt, rt.alloc(), heats, pinned).plan;
-        let found = (plan.packing.greatest, plan.packing.bound, plan.moved);
-        same_in(&rt, &found, wanted, heats);
+        let found = proposed(&rt, rt.alloc(), heats, pinned);
+        let packing = &found.plan.packing;
+        let told = (packing.greatest, packing.bound, found.plan.moved);
+        same_in(&rt, &told, wanted, heats);
     }
 }
 

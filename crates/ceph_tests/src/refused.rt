@@ -4,7 +4,7 @@ use crate::same::{holds_in, same};
 use ceph_dumps::{DumpError, read_listing, read_loads, read_subtrees};
 use ceph_plan::{OwnPins, PartCount, PlanError, Proposal, propose};
 use ceph_snapshot::{
-    Directory, Gathering, Snapshot, SnapshotError, fold, held_heat, holds, rows_of,
+    Directory, Gathering, Held, Snapshot, SnapshotError, fold, held_heat, holds, rows_of,
 };
 use mds_types::{ProblemRow, Rank, RankSet};
 use std::alloc::{AllocError, AllocFailed, Global};
@@ -72,69 +72,100 @@ const SUBTREES: &[u8] =
 /// The entries of one directory.
 const LISTING: &[u8] = b"# file: c\nceph.dir.entries=\"7\"\n";
 
-/// Adds the roots and the heat.
-fn add_rank(alloc: Global, all: &mut Gathering) -> Result<(), Refused> {
+/// Adds the roots.
+fn add_roots(alloc: Global, all: &mut Gathering) -> Result<(), Refused> {
     let roots = read_subtrees(alloc, SUBTREES)?;
-    all.add_subtrees(Rank::default(), &roots)?;
+    Ok(all.add_subtrees(Rank::default(), &roots)?)
+}
+
+/// Adds the heat.
+fn add_loads(alloc: Global, all: &mut Gathering) -> Result<(), Refused> {
     let loads = read_loads(alloc, LOADS)?;
-    all.add_loads(Rank::default(), &loads)?;
-    Ok(())
+    Ok(all.add_loads(Rank::default(), &loads)?)
+}
+
+/// Adds the entries.
+fn add_listing(alloc: Global, all: &mut Gathering) -> Result<(), Refused> {
+    let listing = read_listing(alloc, LISTING)?;
+    Ok(all.add_listing(&listing)?)
+}
+
+/// Adds all that the dumps tell.
+fn add_all(alloc: Global, all: &mut Gathering) -> Result<(), Refused> {
+    add_roots(alloc, all)?;
+    add_loads(alloc, all)?;
+    add_listing(alloc, all)
 }
 
 /// The directories, as the dumps tell them.
 fn gathered(alloc: Global) -> Result<Snapshot, Refused> {
     let mut all = Gathering::new(alloc)?;
-    add_rank(alloc, &mut all)?;
-    let listing = read_listing(alloc, LISTING)?;
-    all.add_listing(&listing)?;
+    add_all(alloc, &mut all)?;
     Ok(all.snapshot(1, 3)?)
 }
 
-/// What is planned, and the heat that is pinned to each rank.
-fn problem(
-    alloc: Global,
-    directories: &[Directory],
-    spread: &[u64],
-) -> Result<(Vec<ProblemRow>, Vec<u64>), Refused> {
-    let holds = holds(alloc, directories)?;
-    if spread.len() != 64 {
-        return Err(Refused::Wrong);
+/// The directories that are left where one is folded.
+fn left(alloc: Global, directories: Vec<Directory>) -> Result<Vec<Directory>, Refused> {
+    let (left, folded) = fold(alloc, directories, 5)?;
+    if folded == 1 {
+        Ok(left)
+    } else {
+        Err(Refused::Wrong)
     }
-    let pinned = held_heat(alloc, directories, &holds, spread)?;
-    Ok((rows_of(alloc, directories, &holds)?, pinned))
 }
 
-/// A plan of these directories for three ranks, where nothing is pinned yet.
-fn proposed(alloc: Global, directories: &[Directory], spread: &[u64]) -> Result<Proposal, Refused> {
-    let (rows, pinned) = problem(alloc, directories, spread)?;
+/// A plan of these rows for three ranks, where nothing is pinned yet.
+fn proposed(alloc: Global, rows: &[ProblemRow], pinned: &[u64]) -> Result<Proposal, Refused> {
     let none = OwnPins {
         foreign: None,
         earlier: None,
     };
     let own = vec![in alloc; none; rows.len()]?;
-    let ranks = RankSet::from_bits(7);
     if own.len() != rows.len() {
         return Err(Refused::Wrong);
     }
-    Ok(propose(alloc, &rows, PartCount::Auto, &pinned, ranks, 0, &own)?)
+    let ranks = RankSet::from_bits(7);
+    Ok(propose(alloc, rows, PartCount::Auto, pinned, ranks, 0, &own)?)
+}
+
+/// A plan of these directories, of which these are held.
+fn planned(
+    alloc: Global,
+    directories: &[Directory],
+    holds: &[Held],
+    spread: &[u64],
+) -> Result<Proposal, Refused> {
+    if holds.len() != directories.len() || spread.len() != 64 {
+        return Err(Refused::Wrong);
+    }
+    let pinned = held_heat(alloc, directories, holds, spread)?;
+    let rows = rows_of(alloc, directories, holds)?;
+    proposed(alloc, &rows, &pinned)
 }
 
 /// How many directories are left of six, the greatest load, the bound, the inodes that move, and the changes of pins.
-fn answer(alloc: Global) -> Result<(usize, u64, u64, u64, usize), Refused> {
-    let snapshot = gathered(alloc)?;
-    let (directories, folded) = fold(alloc, snapshot.directories, 5)?;
-    if folded != 1 {
-        return Err(Refused::Wrong);
-    }
-    let found = proposed(alloc, directories.as_slice(), snapshot.spread.as_slice())?;
+type Answer = (usize, u64, u64, u64, usize);
+
+/// The answer for the directories that are left.
+fn answer_of(alloc: Global, left: &[Directory], spread: &[u64]) -> Result<Answer, Refused> {
+    let holds = holds(alloc, left)?;
+    let found = planned(alloc, left, &holds, spread)?;
     let packing = &found.plan.packing;
+    let (greatest, bound) = (packing.greatest, packing.bound);
     Ok((
-        directories.len(),
-        packing.greatest,
-        packing.bound,
+        left.len(),
+        greatest,
+        bound,
         found.plan.moved,
         found.changes.len(),
     ))
+}
+
+/// The answer from the dumps on.
+fn answer(alloc: Global) -> Result<Answer, Refused> {
+    let snapshot = gathered(alloc)?;
+    let left = left(alloc, snapshot.directories)?;
+    answer_of(alloc, &left, &snapshot.spread)
 }
 
 // With `rt try --test --fail-alloc N`, the N-th growth is refused: one turn at most

@@ -26,6 +26,20 @@ pub(crate) fn holds_in<R: Debug>(rt: &impl Abort, is_so: bool, row: &R) {
     assert!(rt; is_so, "it is not so in row {row:?}");
 }
 
+/// What is compared with a row of a table.
+pub(crate) trait Row<W> {
+    /// It is as the row says.
+    fn same_as<R: Abort>(&self, rt: &R, row: &W);
+}
+
+/// There is one for each row of a table, as it says.
+pub(crate) fn same_rows<T: Row<W>, W>(rt: &impl Abort, found: &[T], table: &[W]) {
+    same(rt, &found.len(), &table.len());
+    for (value, row) in found.iter().zip(table) {
+        value.same_as(rt, row);
+    }
+}
+
 /// A call that is to succeed.
 pub(crate) trait Sure {
     /// What it gives.

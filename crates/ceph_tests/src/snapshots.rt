@@ -1,8 +1,8 @@
 //! Snapshots from dumps, and what pins hold in them.
 
 use crate::given::rank;
-use crate::same::{Sure, same, same_in};
-use ceph_dumps::{FragmentHeat, ListedDir, SubtreeRoot};
+use crate::same::{Row, Sure, same, same_in, same_rows};
+use ceph_dumps::{FragmentHeat, SubtreeRoot, read_listing};
 use ceph_snapshot::{Directory, Gathering, Held, Snapshot, fold, held_heat, holds};
 use mds_types::Rank;
 use std::alloc::Global;
@@ -75,16 +75,14 @@ fn gathered(rt: &impl Abort, alloc: Global) -> Snapshot {
 
 /// Adds the entries of `/b`.
 fn add_entries(rt: &impl Abort, alloc: Global, all: &mut Gathering) {
-    let listed = ListedDir {
-        path: Vec::from_slice(alloc, b"/b").sure(rt),
-        entries: Some(12),
-        pin: None,
-    };
-    all.add_listing(&[listed]).sure(rt);
+    let listing = read_listing(alloc, b"# file: b\nceph.dir.entries=\"12\"\n").sure(rt);
+    all.add_listing(&listing).sure(rt);
 }
 
-/// Paths with heat, inodes, rank, and whether each is spread.
-const SEEN: &[(&[u8], (u64, u64, u8, bool))] = &[
+/// A path with heat, inodes, rank, and whether it is spread.
+type Seen<'a> = (&'a [u8], (u64, u64, u8, bool));
+
+const SEEN: &[Seen<'static>] = &[
     (b"", (100, 1, 0, false)),
     (b"/u", (100, 1, 1, true)),
     (b"/a", (700, 1, 1, false)),
@@ -92,24 +90,22 @@ const SEEN: &[(&[u8], (u64, u64, u8, bool))] = &[
     (b"/a/x", (200, 1, 1, false)),
 ];
 
-#[test]
-fn heat_counts_at_the_rank_with_authority(rt: HostRuntime) {
-    let snapshot = gathered(&rt, rt.alloc());
-    same(&rt, &snapshot.directories.len(), &SEEN.len());
-    for (found, row) in snapshot.directories.iter().zip(SEEN) {
-        let told = (
-            found.heat,
-            found.inodes,
-            found.now.number(),
-            found.is_spread,
-        );
-        same(&rt, &(found.path.as_slice(), told), row);
+impl<'a> Row<Seen<'a>> for Directory {
+    fn same_as<R: Abort>(&self, rt: &R, row: &Seen<'a>) {
+        let now = self.now.number();
+        let told = (self.heat, self.inodes, now, self.is_spread);
+        same(rt, &(self.path.as_slice(), told), row);
     }
 }
 
 #[test]
-fn pinned_and_spread_heat_is_held(rt: HostRuntime) {
+fn heat_counts_at_the_rank_with_authority(rt: HostRuntime) {
     let snapshot = gathered(&rt, rt.alloc());
+    same_rows(&rt, &snapshot.directories, SEEN);
+}
+
+/// What holds the directories that were seen.
+fn same_holds(rt: &impl Abort, found: &[Held]) {
     let table = [
         Held::Free,
         Held::Spread(rank(1)),
@@ -117,52 +113,52 @@ fn pinned_and_spread_heat_is_held(rt: HostRuntime) {
         Held::Free,
         Held::Pinned(rank(1)),
     ];
-    let holds = held(&rt, rt.alloc(), &snapshot.directories);
-    same(&rt, &holds.as_slice(), &table.as_slice());
-    let heat = heat_of(&rt, rt.alloc(), &snapshot);
-    same(&rt, &heat.get(..2), &Some([40, 960].as_slice()));
+    same(rt, &found, &table.as_slice());
 }
 
-fn held(rt: &impl Abort, alloc: Global, directories: &[Directory]) -> Vec<Held> {
-    holds(alloc, directories).sure(rt)
-}
-
-fn heat_of(rt: &impl Abort, alloc: Global, snapshot: &Snapshot) -> Vec<u64> {
-    let holds = holds(alloc, &snapshot.directories).expect(rt, "not held");
+/// The heat that is held at the first ranks.
+fn same_held_heat(rt: &impl Abort, alloc: Global, snapshot: &Snapshot, holds: &[Held]) {
+    assert!(rt; holds.len() == snapshot.directories.len());
     assert!(rt; snapshot.spread.len() == 64);
-    held_heat(alloc, &snapshot.directories, &holds, &snapshot.spread).sure(rt)
+    let heat = held_heat(alloc, &snapshot.directories, holds, &snapshot.spread).sure(rt);
+    same(rt, &heat.get(..2), &Some([40, 960].as_slice()));
+}
+
+#[test]
+fn pinned_and_spread_heat_is_held(rt: HostRuntime) {
+    let snapshot = gathered(&rt, rt.alloc());
+    let holds = holds(rt.alloc(), &snapshot.directories).sure(&rt);
+    same_holds(&rt, &holds);
+    same_held_heat(&rt, rt.alloc(), &snapshot, &holds);
 }
 
 /// Five directories with their heat.
 const LEAVES: &[(&[u8], u64)] = &[(b"", 1), (b"/a/c", 5), (b"/b", 3), (b"/a", 7), (b"/d", 9)];
 
-/// Those that are left of them, with heat, inodes and parent.
-const LEFT: &[(&[u8], (u64, u64, u32))] = &[
-    (b"", (4, 2, 0)),
-    (b"/a", (12, 2, 0)),
-    (b"/d", (9, 1, 0)),
-];
+/// A path with heat, inodes and parent.
+type Left<'a> = (&'a [u8], (u64, u64, u32));
 
-#[test]
-fn cold_leaves_are_folded(rt: HostRuntime) {
-    let mut all = Gathering::new(rt.alloc()).sure(&rt);
-    add_loads(&rt, rt.alloc(), &mut all, rank(0), LEAVES);
-    let directories = all.snapshot(1, 1).sure(&rt).directories;
-    let (kept, folded) = folded(&rt, rt.alloc(), directories, 3);
-    same(&rt, &(kept.len(), folded), &(LEFT.len(), 2));
-    for (found, row) in kept.iter().zip(LEFT) {
-        let told = (found.heat, found.inodes, found.parent);
-        same(&rt, &(found.path.as_slice(), told), row);
+/// Those that are left of them.
+const LEFT: &[Left<'static>] = &[(b"", (4, 2, 0)), (b"/a", (12, 2, 0)), (b"/d", (9, 1, 0))];
+
+fn leaves(rt: &impl Abort, alloc: Global) -> Vec<Directory> {
+    let mut all = Gathering::new(alloc).sure(rt);
+    add_loads(rt, alloc, &mut all, rank(0), LEAVES);
+    all.snapshot(1, 1).sure(rt).directories
+}
+
+impl<'a> Row<Left<'a>> for Directory {
+    fn same_as<R: Abort>(&self, rt: &R, row: &Left<'a>) {
+        let told = (self.heat, self.inodes, self.parent);
+        same(rt, &(self.path.as_slice(), told), row);
     }
 }
 
-fn folded(
-    rt: &impl Abort,
-    alloc: Global,
-    directories: Vec<Directory>,
-    limit: usize,
-) -> (Vec<Directory>, usize) {
-    fold(alloc, directories, limit).sure(rt)
+#[test]
+fn cold_leaves_are_folded(rt: HostRuntime) {
+    let (kept, folded) = fold(rt.alloc(), leaves(&rt, rt.alloc()), 3).sure(&rt);
+    same(&rt, &folded, &2);
+    same_rows(&rt, &kept, LEFT);
 }
 
 /// Heat and inodes of all directories.
@@ -175,30 +171,35 @@ fn sums(directories: &[Directory]) -> (u64, u64) {
     (heat, inodes)
 }
 
+/// Adds a directory of this number with heat.
+fn add_number(rt: &impl Abort, alloc: Global, all: &mut Gathering, number: u64) {
+    let (high, low) = (number / 9, number % 9);
+    let path = format!(in alloc; "/a{high}/b{low}/c{}", number % 4).sure(rt);
+    let given = [(path.as_bytes(), number.wrapping_mul(37) % 101)];
+    add_loads(rt, alloc, all, rank(0), given.as_slice());
+}
+
 /// 59 directories with heat, in up to seven by nine by four.
 fn many(rt: &impl Abort, alloc: Global) -> Vec<Directory> {
     let mut all = Gathering::new(alloc).sure(rt);
     for number in 1..60u64 {
-        let (high, low) = (number / 9, number % 9);
-        let path = format!(in alloc; "/a{high}/b{low}/c{}", number % 4).sure(rt);
-        let given = [(path.as_bytes(), number * 37 % 101)];
-        add_loads(rt, alloc, &mut all, rank(0), given.as_slice());
+        add_number(rt, alloc, &mut all, number);
     }
     all.snapshot(1, 1).sure(rt).directories
+}
+
+/// Folds so many directories: heat and inodes stay, and so many are left.
+fn keeps_sums(rt: &impl Abort, alloc: Global, directories: Vec<Directory>, limit: usize) {
+    let (before, count) = (sums(&directories), directories.len());
+    let (kept, folded) = fold(alloc, directories, limit).sure(rt);
+    let counts = (kept.len(), kept.len().saturating_add(folded));
+    let wanted = (limit.min(count), count);
+    same_in(rt, &(sums(&kept), counts), &(before, wanted), &limit);
 }
 
 #[test]
 fn folding_keeps_heat_and_inodes(rt: HostRuntime) {
     for limit in 1..60usize {
-        let directories = many(&rt, rt.alloc());
-        let before = sums(directories.as_slice());
-        let count = directories.len();
-        let (kept, folded) = folded(&rt, rt.alloc(), directories, limit);
-        same_in(&rt, &sums(kept.as_slice()), &before, &limit);
-        same(
-            &rt,
-            &(kept.len(), kept.len().saturating_add(folded)),
-            &(limit.min(count), count),
-        );
+        keeps_sums(&rt, rt.alloc(), many(&rt, rt.alloc()), limit);
     }
 }

@@ -1,0 +1,23 @@
+use Rattle.std.proofs.Common.{◌≡◌, ◌<◌, ◌+◌, ◌++◌, ◌∷◌, [], ◌∙◌, ℕ, List, Option, Some, length, slice_get, slice_index, ap, refl, sym, subst}
+use Rattle.std.specs.Option.{option_map_or}
+use Rattle.std.proofs.lemmas.List.{length_push}
+use Rattle.std.proofs.lemmas.Option.{slice_get_read}
+use Rattle.ceph_snapshot.specs.declared.directory.Directory.{Directory}
+use Rattle.ceph_snapshot.specs.Holding.{inodes_at}
+use Rattle.ceph_snapshot.proofs.Folds.{amounts_more}
+use Rattle.ceph_snapshot.proofs.amounts.own_inodes.Goals as goal
+
+pub loop-directory-preserved : goal.loop-directory-preserved
+loop-directory-preserved c =
+    let ds : List Directory = c.args.directories.now in
+    let inodes : List ℕ = c.loop-directory.inodes.items in
+    let at : ℕ = c.loop-directory.directory-index in
+    let one : Directory = c.directory-item.result in
+    let pushed : c.push.new.self.items ≡ inodes ++ one.inodes ∷ [] = c.in_ok-push.ensures.items in
+    let read : slice_get ds at ≡ Some one = slice_get_read ds (length ds) at one refl c.loop-directory-test.true c.directory-item.is in
+    let here : inodes_at ds at ≡ one.inodes = ap (λ (o : Option Directory). option_map_or (λ (d : Directory). d.inodes) o 0) read in
+    record {
+      size = ap length pushed ∙ (length_push inodes one.inodes ∙ ap (λ (n : ℕ). n + 1) c.loop-directory.invariant.size);
+      inodes = subst (λ (xs : List ℕ). (i : ℕ) → i < at + 1 → slice_index xs i ≡ inodes_at ds i) (sym pushed)
+          (amounts_more (inodes_at ds) inodes one.inodes at c.loop-directory.invariant.size c.loop-directory.invariant.inodes (sym here));
+    }
