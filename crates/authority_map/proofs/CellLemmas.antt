@@ -1,5 +1,5 @@
 -- The runs' cells follow the operations.
-use Rattle.std.proofs.Common.{◌≡◌, ℕ, zero, suc, ◌+◌, ◌-◌, ◌<◌, ◌≤◌, ◌≢◌, Bool, true, false, ◌==◌, if◌then◌else◌, List, [], ◌∷◌, ◌++◌, get_or, refl, sym, ap, ◌∙◌, arith, Option, Some, None, All}
+use Rattle.std.proofs.Common.{◌≡◌, ℕ, zero, suc, ◌+◌, ◌-◌, ◌<◌, ◌≤◌, ◌≢◌, Bool, true, false, ◌==◌, if◌then◌else◌, List, [], ◌∷◌, ◌++◌, length, get_or, refl, sym, ap, ◌∙◌, arith, Option, Some, None, All}
 use Rattle.std.proofs.lemmas.List.Sums.{fold-append}
 use Rattle.std.proofs.lemmas.Bool.Decides.{nat_tests}
 use Rattle.authority_map.specs.Operations.{Operation, SetTo, Clear, names, entry_after, rank_after}
@@ -29,13 +29,10 @@ differs d e n = grind (arith, nat_tests)
 turned : (d e : ℕ) → (d == e) ≡ (e == d)
 turned d e = grind (arith, nat_tests)
 
--- a directory past the limit isn't named
-not_named : (dirs : List ℕ) (limit dir : ℕ) → All (λ d. d < limit) dirs → limit ≤ dir → names dirs dir ≡ false
-not_named [] limit dir below past = refl
-not_named (d ∷ ds) limit dir below past =
-    let n : (d == dir) ≡ false = differs d dir (λ e. absurd (omega (arith, below 0 0 (omega arith)))) in
-    let rest : names ds dir ≡ false = not_named ds limit dir (λ k e less. below (suc k) e (omega arith)) past in
-    rw n rest
+-- a list doesn't name what differs from all that stands on it
+pub not_named : (dirs : List ℕ) (d : ℕ) → ((k : ℕ) → k < length dirs → get_or dirs k 0 ≢ d) → names dirs d ≡ false
+not_named [] d h = refl
+not_named (x ∷ xs) d h = rw (differs x d (h 0 (omega arith)), not_named xs d (λ k l. h (suc k) (omega arith))) refl
 
 pub cells_set : (limit : ℕ) (starts cells dirs : List ℕ) (rank : ℕ) (ops : List Operation) → AreRuns limit starts cells → All (λ d. d < limit) dirs
     → HasCells limit starts cells (λ d. if names dirs d then rank + 1 else cell_of (rank_after ops d)) 0 0 → ((d : ℕ) → limit ≤ d → rank_after ops d ≡ None) → AreCells limit starts cells (ops ++ SetTo dirs rank ∷ [])
@@ -43,7 +40,7 @@ cells_set limit starts cells dirs rank ops runs below new past = record {
   shape = runs;
   held = same_cells limit starts cells (λ d. if names dirs d then rank + 1 else cell_of (rank_after ops d)) (λ d. cell_of (rank_after (ops ++ SetTo dirs rank ∷ []) d)) 0 0 new
       (λ d. sym (ap cell_of (rank_after-snoc ops (SetTo dirs rank) d) ∙ cell_of_if (names dirs d) rank (rank_after ops d)));
-  past = λ d h. rank_after-snoc ops (SetTo dirs rank) d ∙ ap (λ (b : Bool). (if b then Some rank else rank_after ops d)) (not_named dirs limit d below h) ∙ past d h;
+  past = λ d h. rank_after-snoc ops (SetTo dirs rank) d ∙ ap (λ (b : Bool). (if b then Some rank else rank_after ops d)) (not_named dirs d (λ k inside e. absurd (omega (arith, below k 0 inside, e, h)))) ∙ past d h;
 }
 
 pub cells_clear : (limit : ℕ) (starts cells : List ℕ) (dir : ℕ) (ops : List Operation) → AreRuns limit starts cells → dir < limit

@@ -7,3 +7,4 @@ pub mod HistoryLemmas
 pub mod WriterLemmas
 pub mod Extending
 pub mod Listed
+pub mod Appending

@@ -1,10 +1,11 @@
 -- A list of directories that rises, beside a directory that parts it.
-use Rattle.std.proofs.Common.{◌≡◌, ◌≢◌, ◌⊎◌, ℕ, zero, suc, ◌+◌, ◌-◌, ◌<◌, ◌≤◌, ◌==◌, ◌||◌, Bool, true, false, if◌then◌else◌, List, [], ◌∷◌, length, get_or, min, refl, sym, ◌∙◌, arith, subst, inl, inr}
+use Rattle.std.proofs.Common.{◌≡◌, ◌≢◌, ◌⊎◌, ℕ, zero, suc, ◌+◌, ◌-◌, ◌<◌, ◌≤◌, ◌==◌, ◌||◌, Bool, true, false, if◌then◌else◌, List, [], ◌∷◌, length, get_or, refl, sym, ◌∙◌, arith, subst, inl, inr}
 use Rattle.std.proofs.lemmas.Bool.Decides.{nat_tests, leb_tells}
 use Rattle.std.specs.List.Sorted.{IsStrictlyIncreasing}
 use lib.Dec.{leb}
 use Rattle.authority_map.specs.Operations.{names}
-use Rattle.authority_map.specs.Runs.{IsIn, ComeBefore, HasCells}
+use Rattle.authority_map.specs.Runs.{ComeBefore}
+use Rattle.authority_map.proofs.CellLemmas.{not_named}
 use Rattle.authority_map.proofs.Extending.{HaveAll}
 
 -- what stands on a list is named by it
@@ -19,14 +20,6 @@ named (x ∷ xs) (suc k) h = rw (named xs k (omega arith)) (either (x == get_or 
     either : (b : Bool) → (b || true) ≡ true
     either true = refl
     either false = refl
-
--- what differs from all that stands on a list isn't
-not_named : (dirs : List ℕ) (d : ℕ) → ((k : ℕ) → k < length dirs → get_or dirs k 0 ≢ d) → names dirs d ≡ false
-not_named [] d h = refl
-not_named (x ∷ xs) d h = rw (differs x d (h 0 (omega arith)), not_named xs d (λ k l. h (suc k) (omega arith))) refl
-  where
-    differs : (m n : ℕ) → m ≢ n → (m == n) ≡ false
-    differs m n h = grind (arith, nat_tests)
 
 -- no directory is listed where none more comes before a later one
 pub unnamed : (dirs : List ℕ) (count first end d : ℕ) → ComeBefore dirs count first → ComeBefore dirs count end → first ≤ d → d < end → names dirs d ≡ false
@@ -80,28 +73,16 @@ still_there dirs place found limit past below = elim (leb_tells (length dirs) pl
   | inr less ↦ less.1
 ]
 
--- what is found at a place, or the limit past the list's end, isn't below what stands there
-pub up_to_next : (dirs : List ℕ) (place found end : ℕ) → (place < length dirs → found ≡ get_or dirs place 0) → end ≤ found → place < length dirs → end ≤ get_or dirs place 0
-up_to_next dirs place found end there le h = omega (arith, there h, le)
-
--- what is found isn't below a directory that no more than these come before
-found_after : (dirs : List ℕ) (place found limit dir : ℕ) → ComeBefore dirs place dir → dir ≤ limit → (place < length dirs → found ≡ get_or dirs place 0) → (length dirs ≤ place → found ≡ limit) → dir ≤ found
-found_after dirs place found limit dir come within there past = elim (leb_tells (length dirs) place) [
-  | inl le ↦ omega (arith, past le.1, within)
-  | inr less ↦ omega (arith, there less.1, come.after place (omega arith) less.1)
-]
-
 -- the listed directory is to have the list's cell
 pub listed_cell : (dirs : List ℕ) (cell : ℕ) (old : ℕ → ℕ) (place dir : ℕ) → place < length dirs → get_or dirs place 0 ≡ dir → HaveAll dir (dir + 1) cell (λ d. if names dirs d then cell else old d)
 listed_cell dirs cell old place dir there here d from until =
     let e : d ≡ get_or dirs place 0 = omega (arith, from, until, here) in
     rw (e, named dirs place there) refl
 
--- directories of one run, of which none is listed, are to have the run's cell
-pub run_cell : (limit : ℕ) (starts cells dirs : List ℕ) (cell : ℕ) (old : ℕ → ℕ) (count run first end : ℕ) → HasCells limit starts cells old 0 0 → ComeBefore dirs count first → ComeBefore dirs count end
-    → ((d : ℕ) → first ≤ d → d < end → (d < limit) × IsIn starts run d) → HaveAll first end (get_or cells run 0) (λ d. if names dirs d then cell else old d)
-run_cell limit starts cells dirs cell old count run first end has lower upper inside d from until =
-    rw (unnamed dirs count first end d lower upper from until) (sym (has.each run d (inside d from until).0 (inside d from until).1))
+-- directories of which none is listed are to have the cells that they had
+pub unlisted_cell : (dirs : List ℕ) (cell : ℕ) (old : ℕ → ℕ) (count first end : ℕ) → ComeBefore dirs count first → ComeBefore dirs count end
+    → (d : ℕ) → first ≤ d → d < end → (if names dirs d then cell else old d) ≡ old d
+unlisted_cell dirs cell old count first end lower upper d from until = rw (unnamed dirs count first end d lower upper from until) refl
 
 -- whether directory 0 is listed is seen at the list's first place
 pub first_listed : (dirs : List ℕ) → IsStrictlyIncreasing dirs → (found : ℕ) → (0 < length dirs → found ≡ get_or dirs 0 0) → (length dirs ≤ 0 → found ≡ 1) → found ≡ 0 → (names dirs 0 ≡ true) × ComeBefore dirs 1 1
@@ -114,8 +95,3 @@ pub first_unlisted : (dirs : List ℕ) → IsStrictlyIncreasing dirs → (found 
 first_unlisted dirs up found there some_found =
     let come : ComeBefore dirs 0 1 = come_on dirs up 0 0 1 (come_none dirs) (omega arith) (λ h. omega (arith, there h, some_found)) in
     (unnamed dirs 0 0 1 0 (come_none dirs) come (omega arith) (omega arith), come)
-
--- a piece that begins with a directory that isn't listed has that directory
-pub piece_later : (dirs : List ℕ) (place found limit dir last end : ℕ) → ComeBefore dirs place dir → dir ≤ limit → (place < length dirs → found ≡ get_or dirs place 0) → (length dirs ≤ place → found ≡ limit) → found ≢ dir → dir < last → end ≡ min last found → dir < end
-piece_later dirs place found limit dir last end come within there past differs less is =
-    omega (arith, found_after dirs place found limit dir come within there past, differs, less, is)

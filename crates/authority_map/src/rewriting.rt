@@ -1,14 +1,12 @@
 //! Writing a long list of directories at once.
 //!
-//! A directory that is written alone may move all runs after its own. A long list that rises is written in one pass
-//! over the runs and the list: together they part the directories into pieces, each of them a listed directory or
-//! neighbours in one run of which none is listed, and the runs are made anew, piece by piece.
+//! A directory that is written alone may move all runs after its own. For a long list that rises the runs are made
+//! anew: those between two listed directories are copied, and each listed one joins the run before or begins one.
 ghost use Rattle.std.specs.Prelude.{◌≡◌, ℕ, ◌+◌, ◌-◌, ◌/◌, ◌<◌, ◌≤◌, All, IsTrue, length};
 ghost use Rattle.std.specs.Prelude.{if◌then◌else◌, slice_index, vec_capacity};
 ghost use Rattle.std.specs.List.Sorted.{IsStrictlyIncreasing};
 ghost use Rattle.authority_map.specs.Operations.{names};
-ghost use Rattle.authority_map.specs.Runs.{IsIn, IsIndex, AreStarts, AreRuns, AreBefore, ComeBefore, HasCells};
-ghost use Rattle.authority_map.specs.Runs.{HasFirst};
+ghost use Rattle.authority_map.specs.Runs.{IsIndex, AreStarts, AreRuns, AreBefore, ComeBefore, HasCells, HasFirst};
 
 use crate::runs::{BLOCK, Runs, run_end, run_of, write};
 use mds_types::Dir;
@@ -32,20 +30,6 @@ fn listed_at(dirs: &[Dir], place: usize, limit: u32) -> u32
     dirs.get(place).map_or(limit, |dir| dir.number())
 }
 
-// The run of a directory, by that of the directory before it.
-fn run_after(starts: &[u32], run: usize, dir: u32) -> usize
-    requires order { AreStarts starts.now }
-    requires some { 1 ≤ dir }
-    requires before { IsIn starts.now run (dir - 1) }
-    ensures { IsIn starts.now result dir }
-{
-    if run + 1 < starts.len() && starts[run + 1] == dir {
-        run + 1
-    } else {
-        run
-    }
-}
-
 // The runs go on with directories that have this cell.
 fn extend(made: &mut Runs, limit: u32, first: u32, end: u32, cell: u8)
     requires runs { AreRuns limit made.old.starts.items made.old.cells.items }
@@ -56,6 +40,7 @@ fn extend(made: &mut Runs, limit: u32, first: u32, end: u32, cell: u8)
     ensures runs { AreRuns limit made.new.starts.items made.new.cells.items }
     ensures room { (limit ≤ vec_capacity made.new.starts) × (limit ≤ vec_capacity made.new.cells) }
     ensures before { AreBefore end made.new.starts.items }
+    ensures last { slice_index made.new.cells.items (length made.new.cells.items - 1) ≡ cell }
     ensures cells { (want : ℕ → ℕ) → HasFirst first made.old.starts.items made.old.cells.items want
         → ((d : ℕ) → first ≤ d → d < end → want d ≡ cell)
         → HasFirst end made.new.starts.items made.new.cells.items want }
@@ -64,6 +49,37 @@ fn extend(made: &mut Runs, limit: u32, first: u32, end: u32, cell: u8)
         made.starts.push_reserved(first);
         made.cells.push_reserved(cell);
     }
+}
+
+// The runs go on with directories that have the cells that they had.
+fn keep(made: &mut Runs, starts: &[u32], cells: &[u8], limit: u32, first: u32, end: u32)
+    requires old { AreRuns limit starts.now cells.now }
+    requires runs { AreRuns limit made.old.starts.items made.old.cells.items }
+    requires room { (limit ≤ vec_capacity made.old.starts) × (limit ≤ vec_capacity made.old.cells) }
+    requires before { AreBefore first made.old.starts.items }
+    requires order { (first ≤ end) × (end ≤ limit) }
+    ensures runs { AreRuns limit made.new.starts.items made.new.cells.items }
+    ensures room { (limit ≤ vec_capacity made.new.starts) × (limit ≤ vec_capacity made.new.cells) }
+    ensures before { AreBefore end made.new.starts.items }
+    ensures cells { (old want : ℕ → ℕ) → HasCells limit starts.now cells.now old 0 0
+        → HasFirst first made.old.starts.items made.old.cells.items want
+        → ((d : ℕ) → first ≤ d → d < end → want d ≡ old d)
+        → HasFirst end made.new.starts.items made.new.cells.items want }
+{
+    if first == end {
+        return;
+    }
+    let run = run_of(starts, first);
+    let last = run_of(starts, end - 1);
+    let middle = run_end(starts, limit, run).min(end);
+    extend(made, limit, first, middle, cells[run]);
+    let (more, more_cells) = (&starts[run + 1..last + 1], &cells[run + 1..last + 1]);
+    let Ok(()) = made.starts.extend_from_slice(more) else {
+        unreachable!();
+    };
+    let Ok(()) = made.cells.extend_from_slice(more_cells) else {
+        unreachable!();
+    };
 }
 
 // The runs begin with directory 0, which has the first of these cells if it is listed, and else the second. It tells
@@ -104,22 +120,15 @@ fn make_anew(made: &mut Runs, starts: &[u32], cells: &[u8], limit: u32, dirs: &[
         → HasCells limit made.new.starts.items made.new.cells.items
         (λ d. if names dirs.now d then cell else old d) 0 0 }
 {
-    let mut next = begin(made, limit, dirs, cell, cells[0]);
-    let mut run = 0;
+    let next = begin(made, limit, dirs, cell, cells[0]);
     let mut done = 1;
-    while done < limit {
-        run = run_after(starts, run, done);
-        let listed = listed_at(dirs, next, limit);
-        if listed == done {
-            extend(made, limit, done, done + 1, cell);
-            next += 1;
-            done += 1;
-        } else {
-            let end = run_end(starts, limit, run).min(listed);
-            extend(made, limit, done, end, cells[run]);
-            done = end;
-        }
+    for place in next..dirs.len() {
+        let dir = dirs[place].number();
+        keep(made, starts, cells, limit, done, dir);
+        extend(made, limit, dir, dir + 1, cell);
+        done = dir + 1;
     }
+    keep(made, starts, cells, limit, done, limit);
 }
 
 // The index of these runs, in place of that of others.
@@ -136,8 +145,7 @@ fn index_again(starts: &[u32], index: &mut Vec<u32>, limit: u32)
     }
 }
 
-/// Writes the cell of each of these directories: in one pass over the runs where that is less work, else one after the
-/// other. Runs are made anew in the spare room, and what they were made from is the spare room then.
+/// Writes the cell of each of these directories: in the spare room, which becomes the runs, or else one by one.
 pub(crate) fn write_all(
     runs: &mut Runs,
     spare: &mut Runs,

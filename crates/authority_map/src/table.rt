@@ -30,7 +30,6 @@ pub struct Table<J: Naming> {
     ghost sized: { limit ≡ J.limit },
 }
 
-// Whether the directories are below the limit.
 fn are_below(dirs: &[Dir], limit: u32) -> bool
     ensures { IsTrue result ↔ All (λ d. d < limit) dirs.now }
 {

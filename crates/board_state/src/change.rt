@@ -6,40 +6,6 @@ use std::alloc::{AllocError, Global};
 use std::marker::Model;
 use std::sync::Arc;
 
-/// The name of a directory. To a contract it is its bytes.
-#[derive(Drop)]
-pub struct Name {
-    text: String,
-}
-
-impl Model for Name {
-    ghost use Rattle.std.specs.Prelude.{List, ℕ, string_bytes};
-
-    ghost Value = { List ℕ };
-
-    ghost view = { λ name. string_bytes name.text };
-}
-
-impl Name {
-    ghost use Rattle.std.specs.Prelude.{◌≡◌, IfOk};
-
-    /// The same name, on memory of its own.
-    pub fn new(alloc: Global, name: &str) -> Result<Name, AllocError>
-        ensures { IfOk result (λ kept. kept ≡ name.now) }
-    {
-        Ok(Name {
-            text: String::from_str(alloc, name)?,
-        })
-    }
-
-    /// Its text.
-    pub fn as_str(&self) -> &str
-        ensures { result.now ≡ self.now }
-    {
-        self.text.as_str()
-    }
-}
-
 /// Hits on directories, by rising directory, none of them 0. To a contract it is the list of them.
 #[derive(Drop)]
 pub struct Hits {

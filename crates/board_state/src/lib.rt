@@ -19,7 +19,7 @@ mod stepping;
 
 pub use balancing::Balanced;
 pub use board_error::BoardError;
-pub use change::{Answer, Change, Hits, KeptEvent, KeptPlan, KeptProblem, Name, Orders};
+pub use change::{Answer, Change, Hits, KeptEvent, KeptPlan, KeptProblem, Orders};
 pub use making::BoardParts;
 pub use opening::{InForce, OpenProblem};
 pub use solver::Solver;

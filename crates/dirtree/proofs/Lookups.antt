@@ -1,5 +1,5 @@
 -- What a look-up by way of a chain finds.
-use Rattle.std.proofs.Common.{◌≡◌, ◌≢◌, ℕ, ◌<◌, ◌≤◌, List, sym, ap, ◌∙◌, refl, arith, true, Option, Some, None, inl, inr, get_or, length, string_bytes, subst}
+use Rattle.std.proofs.Common.{◌≡◌, ◌≢◌, ℕ, ◌<◌, ◌≤◌, List, sym, ap, ◌∙◌, refl, arith, true, Option, Some, None, inl, inr, get_or, length, subst}
 use Rattle.std.specs.Option.{option_map}
 use Rattle.std.proofs.lemmas.Bool.{cases_lt}
 use Rattle.std.specs.Prelude.{is_some}
@@ -58,8 +58,8 @@ no_child es p name none = elim (child_of es p name) as (λ o. child_of es p name
 ] refl
 
 -- a node that was read, under the name that it has
-pub named_here : (nodes : List (Option Node)) (d p : ℕ) (name : List ℕ) (n : Node) → get_or nodes d None ≡ Some n → n.parent ≡ p → string_bytes n.name ≡ name → key_at (entries_of nodes) d ≡ Some (key p name)
-named_here nodes d p name n is up same = node_key nodes d n is ∙ ap (λ (q : ℕ). Some (key q (string_bytes n.name))) up ∙ ap (λ (text : List ℕ). Some (key p text)) same
+pub named_here : (nodes : List (Option Node)) (d p : ℕ) (name : List ℕ) (n : Node) → get_or nodes d None ≡ Some n → n.parent ≡ p → n.name ≡ name → key_at (entries_of nodes) d ≡ Some (key p name)
+named_here nodes d p name n is up same = node_key nodes d n is ∙ ap (λ (q : ℕ). Some (key q n.name)) up ∙ ap (λ (text : List ℕ). Some (key p text)) same
 
 -- numbers fall along a chain
 pub next_below : (place : ℕ → Option ℕ) (next head : ℕ → ℕ) (d chain : ℕ) → IsChained place next head → 0 < d → place d ≡ Some chain → next d < d
@@ -79,7 +79,7 @@ next_is place next head low d chain chained some above is here =
     record { placed = (chained.follows d chain (omega (arith, some, above)) here (omega (arith, some, near))).1; reach = near }
 
 -- the chain of a node that was read
-pub node_placed : (h : FoldHasher) (nodes : List (Option Node)) (d chain : ℕ) (n : Node) (name : List ℕ) → get_or nodes d None ≡ Some n → name ≡ string_bytes n.name → chain ≡ chain_of h n.parent name → place_at h (entries_of nodes) d ≡ Some chain
+pub node_placed : (h : FoldHasher) (nodes : List (Option Node)) (d chain : ℕ) (n : Node) (name : List ℕ) → get_or nodes d None ≡ Some n → name ≡ n.name → chain ≡ chain_of h n.parent name → place_at h (entries_of nodes) d ≡ Some chain
 node_placed h nodes d chain n name is same at = key_placed h (entries_of nodes) d n.parent (entry_of n).name (node_key nodes d n is) ∙ ap (λ (text : List ℕ). Some (chain_of h n.parent text)) (sym same) ∙ ap Some (sym at)
 
 -- a child that was found

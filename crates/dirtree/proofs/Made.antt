@@ -1,5 +1,5 @@
 -- What `make` leaves of a tree's nodes and chains is sound.
-use Rattle.std.proofs.Common.{◌≡◌, ◌≢◌, ℕ, ◌<◌, ◌≤◌, ◌+◌, ◌^◌, List, length, sym, ap, ◌∙◌, refl, arith, inl, inr, [], ◌∷◌, ◌++◌, set, true, false, cond, subst, Bool, Option, Some, None, get_or, string_bytes, length-set, get_or-set_same, get_or-set_other}
+use Rattle.std.proofs.Common.{◌≡◌, ◌≢◌, ℕ, ◌<◌, ◌≤◌, ◌+◌, ◌^◌, List, length, sym, ap, ◌∙◌, refl, arith, inl, inr, [], ◌∷◌, ◌++◌, set, true, false, cond, subst, Bool, Option, Some, None, get_or, length-set, get_or-set_same, get_or-set_other}
 use Rattle.std.proofs.lemmas.Grind.{common_steps}
 use Rattle.std.proofs.lemmas.List.{map-append}
 use Rattle.std.proofs.lemmas.Bool.{false≢true}
@@ -37,7 +37,7 @@ module _ (limit : ℕ) (h : FoldHasher) (nodes after : List (Option Node)) (head
     (there : is_there (entries_of nodes) n.parent ≡ true)
     (room : length nodes < limit)
     (grows : IsTree (entries_of nodes ++ Some (entry_of n) ∷ []))
-    (fresh : n.children ≡ 0) (leads : n.next ≡ head_at heads (chain_of h n.parent (string_bytes n.name))) (short : chain_of h n.parent (string_bytes n.name) < 2 ^ 16)
+    (fresh : n.children ≡ 0) (leads : n.next ≡ head_at heads (chain_of h n.parent n.name)) (short : chain_of h n.parent n.name < 2 ^ 16)
     (entries : entries_of after ≡ entries_of nodes)
     (children : (d : ℕ) → children_at after d ≡ cond (nat_eq d n.parent) (children_at nodes d + 1) (children_at nodes d))
     (nexts : (d : ℕ) → next_at after d ≡ next_at nodes d) where
@@ -78,9 +78,9 @@ module _ (limit : ℕ) (h : FoldHasher) (nodes after : List (Option Node)) (head
       ]
 
   abbrev chain : ℕ
-  chain = chain_of h n.parent (string_bytes n.name)
+  chain = chain_of h n.parent n.name
 
-  chained : IsChained (place_at h (entries_of nodes ++ Some (entry_of n) ∷ [])) (next_at (after ++ Some n ∷ [])) (head_at (set heads (chain_of h n.parent (string_bytes n.name)) (length nodes)))
+  chained : IsChained (place_at h (entries_of nodes ++ Some (entry_of n) ∷ [])) (next_at (after ++ Some n ∷ [])) (head_at (set heads (chain_of h n.parent n.name) (length nodes)))
   chained =
       let below = inside (entries_of nodes) n.parent there in
       let count = length-entries nodes in
@@ -112,20 +112,20 @@ module _ (limit : ℕ) (h : FoldHasher) (nodes after : List (Option Node)) (head
       fronts : (c : ℕ) → c ≢ chain → head_at (set heads chain (length nodes)) c ≡ head_at heads c
       fronts c other = get_or-set_other heads chain c (length nodes) 0 other
 
-  pub sound_more : IsSound limit h (after ++ Some n ∷ []) (set heads (chain_of h n.parent (string_bytes n.name)) (length nodes))
+  pub sound_more : IsSound limit h (after ++ Some n ∷ []) (set heads (chain_of h n.parent n.name) (length nodes))
   sound_more = record {
     small = sound.small;
     within = let longer = made_length (entries_of nodes) (Some (entry_of n)) in let all : length (after ++ Some n ∷ []) ≡ length nodes + 1 = sym (length-entries (after ++ Some n ∷ [])) ∙ ap (λ (es : List (Option Entry)). length es) split ∙ longer ∙ ap (λ (k : ℕ). k + 1) (length-entries nodes) in omega (arith, all, room);
     wide = simp length-set sound.wide;
     tree = subst (λ (es : List (Option Entry)). IsTree es) (sym split) grows;
     counted = subst (λ (es : List (Option Entry)). (d : ℕ) → is_there es d ≡ true → children_at (after ++ Some n ∷ []) d ≡ children_of es d) (sym split) counted;
-    chained = subst (λ (es : List (Option Entry)). IsChained (place_at h es) (next_at (after ++ Some n ∷ [])) (head_at (set heads (chain_of h n.parent (string_bytes n.name)) (length nodes)))) (sym split) chained;
+    chained = subst (λ (es : List (Option Entry)). IsChained (place_at h es) (next_at (after ++ Some n ∷ [])) (head_at (set heads (chain_of h n.parent n.name) (length nodes)))) (sym split) chained;
   }
 
 -- what `make` leaves, from what it was told by each of its steps
 pub sound_made : (limit : ℕ) (h : FoldHasher) (nodes reserved after pushed : List (Option Node)) (heads : List ℕ) (n : Node) (t : Directories) (parent at first number : ℕ) (name : List ℕ)
     → IsSound limit h nodes heads → record { limit = limit; entries = entries_of nodes } ≡ t → make_refusal t parent name ≡ None
-    → n.parent ≡ parent → string_bytes n.name ≡ name → n.children ≡ 0 → n.next ≡ head_at heads first → first ≡ chain_of h parent name → first < 2 ^ 16
+    → n.parent ≡ parent → n.name ≡ name → n.children ≡ 0 → n.next ≡ head_at heads first → first ≡ chain_of h parent name → first < 2 ^ 16
     → number ≡ length nodes → reserved ≡ nodes → at ≡ parent
     → entries_of after ≡ entries_of reserved
     → ((d : ℕ) → children_at after d ≡ cond (nat_eq d at) (children_at reserved d + 1) (children_at reserved d))
@@ -136,10 +136,10 @@ sound_made limit h nodes reserved after pushed heads n t parent at first number 
     let may : MayMake (record { limit = limit; entries = entries_of nodes }) parent name = subst (λ (t : Directories). MayMake t parent name) (sym view) (may_make t parent name allowed) in
     let there : is_there (entries_of nodes) n.parent ≡ true = ap (is_there (entries_of nodes)) up ∙ may.there in
     let few : length (entries_of nodes) < limit = may.room in
-    let refused : make_refusal (record { limit = limit; entries = entries_of nodes }) n.parent (string_bytes n.name) ≡ None = subst (λ (t : Directories). make_refusal t n.parent (string_bytes n.name) ≡ None) (sym view) (rw (up, named) allowed) in
-    let grows : IsTree (entries_of nodes ++ Some (entry_of n) ∷ []) = made_tree (record { limit = limit; entries = entries_of nodes }) n.parent (string_bytes n.name) n.inodes sound.tree refused in
-    let stands : first ≡ chain_of h n.parent (string_bytes n.name) = rw (up, named) is_chain in
-    let all : IsSound limit h (after ++ Some n ∷ []) (set heads (chain_of h n.parent (string_bytes n.name)) (length nodes)) =
+    let refused : make_refusal (record { limit = limit; entries = entries_of nodes }) n.parent n.name ≡ None = subst (λ (t : Directories). make_refusal t n.parent n.name ≡ None) (sym view) (rw (up, named) allowed) in
+    let grows : IsTree (entries_of nodes ++ Some (entry_of n) ∷ []) = made_tree (record { limit = limit; entries = entries_of nodes }) n.parent n.name n.inodes sound.tree refused in
+    let stands : first ≡ chain_of h n.parent n.name = rw (up, named) is_chain in
+    let all : IsSound limit h (after ++ Some n ∷ []) (set heads (chain_of h n.parent n.name) (length nodes)) =
     sound_more limit h nodes after heads n sound there (omega (arith, few, length-entries nodes)) grows fresh
     (leads ∙ ap (head_at heads) stands) (subst (λ (k : ℕ). k < 2 ^ 16) stands short)
     (entries ∙ ap entries_of same)

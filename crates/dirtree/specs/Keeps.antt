@@ -1,6 +1,6 @@
 -- How a tree keeps its directories.
 use Rattle.std.specs.Prelude.{◌≡◌, ℕ, ◌<◌, ◌≤◌, ◌/◌, ◌^◌, ◌==◌, Bool, true, false, List, map, length, drop}
-use Rattle.std.specs.Prelude.{count_by, fold, slice_index_or, Option, Some, None, string_bytes}
+use Rattle.std.specs.Prelude.{count_by, fold, slice_index_or, Option, Some, None}
 use Rattle.std.specs.Option.{option_map, option_map_or}
 use Rattle.std.specs.Hash as fed
 use Rattle.std.specs.Hash.FoldHasher as folding
@@ -9,7 +9,7 @@ use Rattle.dirtree.specs.declared.node.Node.{Node}
 use Rattle.dirtree.specs.Tree.{Entry, IsTree, entry_at, is_there}
 
 abbrev pub entry_of : Node → Entry
-entry_of n = record { parent = n.parent; name = string_bytes n.name; inodes = n.inodes }
+entry_of n = record { parent = n.parent; name = n.name; inodes = n.inodes }
 
 abbrev pub entries_of : List (Option Node) → List (Option Entry)
 entries_of nodes = map (option_map entry_of) nodes

@@ -1,7 +1,9 @@
 -- The names of directories.
-use Rattle.std.specs.Prelude.{ℕ, Bool, not, ◌&&◌, ◌||◌, ◌==◌, nat_lt, nat_le, List, length, codes}
+use Rattle.std.specs.Prelude.{ℕ, Bool, not, string_bytes, ◌&&◌, ◌||◌, ◌==◌, nat_lt, nat_le, List, length, codes}
 use Rattle.std.specs.List.{list_all}
 use Rattle.std.specs.Str.{bytes_eq}
+use Rattle.dirtree.specs.declared.name.Kept.{Kept}
+use Rattle.dirtree.specs.declared.name.Kept.TheVariants.{Short, Long}
 
 -- a byte that is seen in print, but no slash
 abbrev pub is_name_byte : ℕ → Bool
@@ -17,3 +19,8 @@ is_dots text = bytes_eq text (codes ".") || bytes_eq text (codes "..")
 
 abbrev pub is_name : List ℕ → Bool
 is_name text = has_name_length text && (list_all is_name_byte text && not (is_dots text))
+
+-- the bytes of a name, however it is kept
+unfoldable pub bytes_of : Kept → List ℕ
+bytes_of (Short short) = short.bytes
+bytes_of (Long long) = string_bytes long

@@ -10,7 +10,7 @@ pub mod path_guesses;
 pub mod tree;
 pub mod tree_error;
 
-pub use name::is_name;
+pub use name::{Name, is_name};
 pub use name_key::NameKey;
 pub use path_guesses::PathGuesses;
 pub use tree::{Tree, TreeRow};

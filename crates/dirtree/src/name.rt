@@ -3,6 +3,10 @@ ghost use Rattle.std.specs.Prelude.{◌≡◌};
 ghost use Rattle.std.specs.List.{list_all};
 ghost use Rattle.dirtree.specs.Name.{has_name_length, is_dots, is_name, is_name_byte};
 
+use arrayvec::ArrayString;
+use std::alloc::{AllocError, Global};
+use std::marker::Model;
+
 fn is_name_byte(byte: u8) -> bool
     ensures { result ≡ is_name_byte byte }
 {
@@ -33,4 +37,63 @@ pub fn is_name(text: &str) -> bool
     ensures { result ≡ is_name text.now }
 {
     has_name_length(text) && has_name_bytes(text) && !is_dots(text)
+}
+
+// Most names have 16 bytes at most, and lie in the value itself: whoever compares one reads no other memory.
+#[derive(Drop)]
+enum Kept {
+    Short(ArrayString<16>),
+    Long(String),
+}
+
+/// A name, on memory of its own. To a contract it is its bytes.
+#[derive(Drop)]
+pub struct Name {
+    kept: Kept,
+}
+
+impl Model for Name {
+    ghost use Rattle.std.specs.Prelude.{List, ℕ};
+    ghost use Rattle.dirtree.specs.Name.{bytes_of};
+
+    ghost Value = { List ℕ };
+
+    ghost view = { λ name. bytes_of name.kept };
+}
+
+impl Name {
+    ghost use Rattle.std.specs.Prelude.{◌≡◌, [], IfOk};
+
+    /// The name of the root, which has no byte.
+    pub fn empty() -> Name
+        ensures { result ≡ [] }
+    {
+        Name {
+            kept: Kept::Short(ArrayString::new()),
+        }
+    }
+
+    /// The same name, on memory of its own.
+    pub fn new(alloc: Global, text: &str) -> Result<Name, AllocError>
+        ensures { IfOk result (λ name. name ≡ text.now) }
+    {
+        match ArrayString::from(text) {
+            Ok(short) => Ok(Name {
+                kept: Kept::Short(short),
+            }),
+            Err(_) => Ok(Name {
+                kept: Kept::Long(String::from_str(alloc, text)?),
+            }),
+        }
+    }
+
+    /// Its text.
+    pub fn as_str(&self) -> &str
+        ensures { result.now ≡ self.now }
+    {
+        match &self.kept {
+            Kept::Short(short) => short.as_str(),
+            Kept::Long(long) => long.as_str(),
+        }
+    }
 }

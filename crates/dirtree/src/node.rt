@@ -6,16 +6,17 @@
 //! A look-up, a new directory and a removal each go through one chain at most. It has about one directory, unless names
 //! were picked that share a hash: a tree with a secret key (`NameKey`) leaves nobody the means for that.
 ghost use Rattle.std.specs.Prelude.{◌≡◌, ℕ, ◌+◌, ◌<◌, ◌==◌, ◌^◌, length, OnOk, Some, true, if◌then◌else◌};
-ghost use Rattle.std.specs.Prelude.{slice_set, slice_index_or, vec_capacity, IsTrue, ◌↔◌, string_bytes};
+ghost use Rattle.std.specs.Prelude.{slice_set, slice_index_or, vec_capacity, IsTrue, ◌↔◌};
 ghost use Rattle.dirtree.specs.Tree.{child_of, IsTree, is_there};
 ghost use Rattle.dirtree.specs.Keeps.{chain_of, children_at, entries_of, head_at, IsChained, next_at, place_at};
 
+use crate::name::Name;
 use std::hash::{FoldHasher, Hasher};
 
 /// A directory, with how many children it has, and the next directory in its chain.
 #[derive(Drop)]
 pub struct Node {
-    pub name: String,
+    pub name: Name,
     pub parent: u32,
     pub inodes: u32,
     pub children: u32,
@@ -48,7 +49,7 @@ pub fn standing(nodes: &[Option<Node>], dir: u32) -> &Node
 }
 
 fn is_named(node: &Node, parent: u32, name: &str) -> bool
-    ensures { IsTrue result ↔ ((node.now.parent ≡ parent) × (string_bytes node.now.name ≡ name.now)) }
+    ensures { IsTrue result ↔ ((node.now.parent ≡ parent) × (node.now.name ≡ name.now)) }
 {
     node.parent == parent && node.name.as_str() == name
 }

@@ -88,7 +88,7 @@ impl Tree {
             let Some(node) = self.node(at) else {
                 unreachable!()
             };
-            let Some(above) = before_name(rest, node.name.as_bytes()) else {
+            let Some(above) = before_name(rest, node.name.as_str().as_bytes()) else {
                 return false;
             };
             rest = above;

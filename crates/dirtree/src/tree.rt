@@ -3,7 +3,7 @@ ghost use Rattle.std.specs.Prelude.{◌≡◌, ℕ, ◌+◌, ◌<◌, ◌≤◌,
 ghost use Rattle.std.specs.Prelude.{map, IfOk, IfErr, IfSome, OnErr, OnOk, IsTrue, ◌↔◌, IsOkUnless};
 ghost use Rattle.std.specs.Option.{option_map};
 
-use crate::name::is_name;
+use crate::name::{Name, is_name};
 use crate::name_key::NameKey;
 use crate::node::{
     CHAINS, Node, chain, child_in_chain, count_child, discount_child, place_in_chain, set_next,
@@ -66,7 +66,7 @@ impl Tree {
     {
         let mut nodes = Vec::new(alloc);
         nodes.push(Some(Node {
-            name: String::new(alloc),
+            name: Name::empty(),
             parent: 0,
             inodes: 1,
             children: 0,
@@ -207,7 +207,7 @@ impl Tree {
         let number = self.nodes.len() as u32;
         let chain = chain(self.hasher, parent.number(), name);
         let node = Node {
-            name: String::from_str(alloc, name)?,
+            name: Name::new(alloc, name)?,
             parent: parent.number(),
             inodes,
             children: 0,

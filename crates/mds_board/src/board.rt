@@ -14,9 +14,9 @@ use crate::entry::Entry;
 use crate::keeping::{keep, keep_both, keep_step};
 use authority_map::Publisher;
 use board_state::{
-    Answer, BoardError, BoardParts, BoardState, Change, KeptEvent, KeptPlan, Name, Solver,
-    or_memory,
+    Answer, BoardError, BoardParts, BoardState, Change, KeptEvent, KeptPlan, Solver, or_memory,
 };
+use dirtree::Name;
 use export_machine::{Event, Reply};
 use heat_ledger::{Missing, Share};
 use mds_types::{Dir, Order, Plan, Problem, Rank, RankSet};

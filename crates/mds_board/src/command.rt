@@ -1,6 +1,6 @@
 //! What a list asks of a board.
 
-use board_state::Name;
+use dirtree::Name;
 use export_machine::Event;
 use mds_types::{Dir, RankSet};
 

@@ -5,6 +5,7 @@ ghost use Rattle.std.specs.List.{list_all, position_or_len};
 ghost use Rattle.script_commands.specs.Commands.{is_blank, is_empty, is_plain, fields};
 
 use arrayvec::ArrayVec;
+use memchr::memchr3;
 use std::alloc::{AllocError, Global};
 
 /// How many fields of a line tell what it asks for, where it doesn't ask for a cost.
@@ -75,12 +76,10 @@ fn field_length(line: &[u8]) -> usize
     ensures value { result ≡ position_or_len is_blank line.now }
     ensures within { result ≤ length line.now }
 {
-    for (i, byte) in line.iter().enumerate() {
-        if is_blank(*byte) {
-            return i;
-        }
+    match memchr3(b' ', b'\t', b'\r', line) {
+        Some(end) => end,
+        None => line.len(),
     }
-    line.len()
 }
 
 // The first field of a line, and what stands behind it.

@@ -1,5 +1,6 @@
-use Rattle.std.proofs.Common.{◌≡◌, ◌≢◌, ◌-◌, ℕ, length, get_or, sym, ap, ◌∙◌, arith}
-use Rattle.std.proofs.lemmas.List.{get_or_read}
+use Rattle.std.proofs.Common.{◌≡◌, ◌≢◌, ◌-◌, ◌++◌, ◌∷◌, [], ℕ, length, get_or, sym, ap, ◌∙◌, arith}
+use Rattle.std.proofs.lemmas.List.{get_or_read, length-append}
+use Rattle.std.proofs.Math.Seq.{get_or-append_seam}
 use Rattle.authority_map.proofs.Extending.{before_extended, before_kept, cells_extended, cells_kept, few_before, runs_extended}
 use Rattle.authority_map.proofs.rewriting.extend.Goals as goal
 
@@ -48,3 +49,16 @@ returns-else-index-cell-clause-cells c =
     let read : c.index.result.now ≡ get_or cells (c.len.result - 1) 0 = get_or_read cells (c.len.result - 1) c.index.result.now (omega (arith, len, c.requires.runs.sized, c.requires.runs.order.some)) c.index.ensures 0 in
     let last : get_or cells (length cells - 1) 0 ≡ c.args.cell = sym (ap (λ (n : ℕ). get_or cells (n - 1) 0) len) ∙ (sym read ∙ c.if-index-cell.false) in
     cells_kept c.args.limit made.starts.items cells c.args.first c.args.end c.args.cell c.requires.runs c.requires.before c.requires.some.0 c.requires.some.1 c.requires.small last
+
+pub returns-then-index-cell-clause-last : goal.returns-then-index-cell-clause-last
+returns-then-index-cell-clause-last c =
+    let cells = c.args.made.now.cells.items in
+    let last : length (cells ++ c.args.cell ∷ []) - 1 ≡ length cells = omega (arith, length-append cells (c.args.cell ∷ [])) in
+    rw c.push_reserved-then-index-cell.ensures.items (ap (λ (n : ℕ). get_or (cells ++ c.args.cell ∷ []) n 0) last ∙ get_or-append_seam cells c.args.cell [] 0)
+
+pub returns-else-index-cell-clause-last : goal.returns-else-index-cell-clause-last
+returns-else-index-cell-clause-last c =
+    let cells = c.args.made.now.cells.items in
+    let len : c.len.result ≡ length cells = omega (arith, c.len.ensures, c.args.made.now.cells.ok) in
+    let read : c.index.result.now ≡ get_or cells (c.len.result - 1) 0 = get_or_read cells (c.len.result - 1) c.index.result.now (omega (arith, len, c.requires.runs.sized, c.requires.runs.order.some)) c.index.ensures 0 in
+    sym (ap (λ (n : ℕ). get_or cells (n - 1) 0) len) ∙ (sym read ∙ c.if-index-cell.false)

@@ -1,82 +1,66 @@
-use Rattle.std.proofs.Common.{◌≡◌, ◌+◌, ◌-◌, ◌<◌, ◌≤◌, ℕ, List, length, get_or, sym, ap, ◌∙◌, arith, if◌then◌else◌}
+use Rattle.std.proofs.Common.{◌≡◌, ◌<◌, ◌≤◌, ℕ, List, get_or, sym, ap, ◌∙◌, arith, if◌then◌else◌}
+use Rattle.std.proofs.lemmas.List.{get_or_read}
 use Rattle.authority_map.specs.Operations.{names}
-use Rattle.authority_map.specs.Runs.{IsIn, AreStarts, ComeBefore}
-use Rattle.authority_map.proofs.Listed.{come_on, come_past, listed_cell, piece_later, run_cell, still_there}
+use Rattle.authority_map.specs.Runs.{IsIn, AreStarts, ComeBefore, HasCells, HasFirst}
+use Rattle.authority_map.proofs.Listed.{come_on, come_past, listed_cell, unlisted_cell}
 use Rattle.authority_map.proofs.rewriting.make_anew.Goals as goal
+
+all_first : (limit : ℕ) (starts cells : List ℕ) (want : ℕ → ℕ) → HasFirst limit starts cells want → HasCells limit starts cells want 0 0
+all_first limit starts cells want first = record { each = λ run d h i. first.each run d h i; apart = λ run h a b. first.apart run h }
 
 in_first : (starts : List ℕ) → AreStarts starts → IsIn starts 0 0
 in_first starts order = record { there = omega (arith, order.some); from = omega (arith, order.first); until = λ h. omega (arith, order.rising 0 h) }
 
-pub loop-done-init : goal.loop-done-init
-loop-done-init c =
+pub loop-place-init : goal.loop-place-init
+loop-place-init c =
     let dirs = c.args.dirs.now in
     let runs = c.requires.runs in
-    let inside : IsIn c.args.starts.now 0 0 = in_first c.args.starts.now runs.order in
     let some : 0 < c.args.limit = omega (arith, runs.below 0 runs.order.some) in
     record {
       some = omega arith;
       within = some;
-      inside = inside;
       listed = c.begin-next.ensures.listed;
       runs = c.begin-next.ensures.runs;
       room = c.begin-next.ensures.room;
       before = c.begin-next.ensures.before;
       cells = λ old has. c.begin-next.ensures.cells (λ d. if names dirs d then c.args.cell else old d)
-          (ap (λ (n : ℕ). (if names dirs 0 then c.args.cell else n)) (sym (has.each 0 0 some inside)));
+          (ap (λ (n : ℕ). (if names dirs 0 then c.args.cell else n)) (sym (has.each 0 0 some (in_first c.args.starts.now runs.order))));
     }
 
-pub loop-done-preserved-then-listed-done : goal.loop-done-preserved-then-listed-done
-loop-done-preserved-then-listed-done c =
-    let l = c.loop-done in
+pub keep-requires-clause-order : goal.keep-requires-clause-order
+keep-requires-clause-order c =
+    let l = c.loop-place in
     let dirs = c.args.dirs.now in
-    let there : l.next < length dirs = still_there dirs l.next c.listed_at-listed.result c.args.limit c.listed_at-listed.ensures.past (omega (arith, c.if-listed-done.true, c.loop-done-test.true)) in
-    let here : get_or dirs l.next 0 ≡ l.done = sym (c.listed_at-listed.ensures.there there) ∙ c.if-listed-done.true in
-    let same : l.done + 1 - 1 ≡ l.done = omega arith in
+    let here : c.number-dir.result ≡ get_or dirs l.place 0 = c.number-dir.ensures ∙ get_or_read dirs l.place c.index-dirs-place.result c.loop-place-test.true c.index-dirs-place.is 0 in
+    let below : get_or dirs l.place 0 < c.args.limit = c.requires.inside l.place 0 c.loop-place-test.true in
+    (omega (arith, here, l.invariant.listed.after l.place (omega arith) c.loop-place-test.true), omega (arith, here, below))
+
+pub loop-place-preserved : goal.loop-place-preserved
+loop-place-preserved c =
+    let l = c.loop-place in
+    let dirs = c.args.dirs.now in
+    let dir = c.number-dir.result in
+    let here : dir ≡ get_or dirs l.place 0 = c.number-dir.ensures ∙ get_or_read dirs l.place c.index-dirs-place.result c.loop-place-test.true c.index-dirs-place.is 0 in
+    let below : get_or dirs l.place 0 < c.args.limit = c.requires.inside l.place 0 c.loop-place-test.true in
+    let later : l.done ≤ dir = omega (arith, here, l.invariant.listed.after l.place (omega arith) c.loop-place-test.true) in
+    let come : ComeBefore dirs l.place dir = come_on dirs c.requires.rising l.place l.done dir l.invariant.listed later (λ h. omega (arith, here)) in
     record {
       some = omega arith;
-      within = omega (arith, c.loop-done-test.true);
-      inside = rw same c.run_after-run.ensures;
-      listed = come_past dirs c.requires.rising l.next l.done l.invariant.listed there here;
+      within = omega (arith, here, below);
+      listed = come_past dirs c.requires.rising l.place dir come c.loop-place-test.true (sym here);
       runs = c.extend.ensures.runs;
       room = c.extend.ensures.room;
       before = c.extend.ensures.before;
-      cells = λ old has. c.extend.ensures.cells (λ d. if names dirs d then c.args.cell else old d) (l.invariant.cells old has) (listed_cell dirs c.args.cell old l.next l.done there here);
+      cells = λ old has. c.extend.ensures.cells (λ d. if names dirs d then c.args.cell else old d)
+          (c.keep.ensures.cells old (λ d. if names dirs d then c.args.cell else old d) has (l.invariant.cells old has) (unlisted_cell dirs c.args.cell old l.place l.done dir l.invariant.listed come))
+          (listed_cell dirs c.args.cell old l.place dir c.loop-place-test.true (sym here));
     }
 
-pub extend-requires-else-listed-done-clause-some : goal.extend-requires-else-listed-done-clause-some
-extend-requires-else-listed-done-clause-some c =
-    let l = c.loop-done in
-    let in_run : l.done < c.run_end.result = ((c.run_end.ensures.inside l.done).1 (c.loop-done-test.true, c.run_after-run.ensures)).1 in (
-      piece_later c.args.dirs.now l.next c.listed_at-listed.result c.args.limit l.done c.run_end.result c.min-end.result l.invariant.listed l.invariant.within c.listed_at-listed.ensures.there c.listed_at-listed.ensures.past c.if-listed-done.false in_run c.min-end.ensures,
-      omega (arith, c.min-end.ensures, c.run_end.ensures.within),
-    )
-
-pub loop-done-smaller : goal.loop-done-smaller
-loop-done-smaller c =
-    let l = c.loop-done in
-    let in_run : l.done < c.run_end.result = ((c.run_end.ensures.inside l.done).1 (c.loop-done-test.true, c.run_after-run.ensures)).1 in
-    let later : l.done < c.min-end.result = piece_later c.args.dirs.now l.next c.listed_at-listed.result c.args.limit l.done c.run_end.result c.min-end.result l.invariant.listed l.invariant.within c.listed_at-listed.ensures.there c.listed_at-listed.ensures.past c.if-listed-done.false in_run c.min-end.ensures in
-    omega (arith, later, c.loop-done-test.true)
-
-pub loop-done-preserved : goal.loop-done-preserved
-loop-done-preserved c =
-    let l = c.loop-done in
+pub returns-clause-cells : goal.returns-clause-cells
+returns-clause-cells c old has =
+    let l = c.loop-place in
     let dirs = c.args.dirs.now in
-    let run = c.run_after-run.result in
-    let end = c.min-end.result in
-    let in_run : l.done < c.run_end.result = ((c.run_end.ensures.inside l.done).1 (c.loop-done-test.true, c.run_after-run.ensures)).1 in
-    let later : l.done < end = piece_later dirs l.next c.listed_at-listed.result c.args.limit l.done c.run_end.result end l.invariant.listed l.invariant.within c.listed_at-listed.ensures.there c.listed_at-listed.ensures.past c.if-listed-done.false in_run c.min-end.ensures in
-    let inside : (d : ℕ) → l.done ≤ d → d < end → (d < c.args.limit) × IsIn c.args.starts.now run d = λ d from until.
-    (c.run_end.ensures.inside d).0 (omega (arith, c.run_after-run.ensures.from, from), omega (arith, until, c.min-end.ensures)) in
-    let come : ComeBefore dirs l.next end = come_on dirs c.requires.rising l.next l.done end l.invariant.listed (omega (arith, later)) (λ h. omega (arith, c.min-end.ensures, c.listed_at-listed.ensures.there h)) in
-    record {
-      some = omega (arith, later);
-      within = omega (arith, c.min-end.ensures, c.run_end.ensures.within);
-      inside = (inside (end - 1) (omega (arith, later)) (omega (arith, later))).1;
-      listed = come;
-      runs = c.extend-else-listed-done.ensures.runs;
-      room = c.extend-else-listed-done.ensures.room;
-      before = c.extend-else-listed-done.ensures.before;
-      cells = λ old has. c.extend-else-listed-done.ensures.cells (λ d. if names dirs d then c.args.cell else old d) (l.invariant.cells old has)
-          (run_cell c.args.limit c.args.starts.now c.args.cells.now dirs c.args.cell old l.next run l.done end has l.invariant.listed come inside);
-    }
+    let want = λ (d : ℕ). (if names dirs d then c.args.cell else old d) in
+    let come : ComeBefore dirs l.place c.args.limit = come_on dirs c.requires.rising l.place l.done c.args.limit l.invariant.listed l.invariant.within (λ h. absurd (omega (arith, h, c.loop-place-test.false))) in
+    all_first c.args.limit c.keep-2.new.made.starts.items c.keep-2.new.made.cells.items want
+    (c.keep-2.ensures.cells old want has (l.invariant.cells old has) (unlisted_cell dirs c.args.cell old l.place l.done c.args.limit l.invariant.listed come))

@@ -7,7 +7,7 @@ use Rattle.dirtree.proofs.node.place_in_chain.Goals as goal
 pub loop-at-init : goal.loop-at-init
 loop-at-init c =
     let es : List (Option Entry) = entries_of c.args.nodes.now in
-    let is : place_at c.args.hasher es c.args.dir ≡ Some c.chain-chain.result = node_placed c.args.hasher c.args.nodes.now c.args.dir c.chain-chain.result c.standing-node.result.now c.as_str.result.now c.standing-node.ensures c.as_str.ensures.value c.chain-chain.ensures.value in
+    let is : place_at c.args.hasher es c.args.dir ≡ Some c.chain-chain.result = node_placed c.args.hasher c.args.nodes.now c.args.dir c.chain-chain.result c.standing-node.result.now c.as_str.result.now c.standing-node.ensures c.as_str.ensures c.chain-chain.ensures.value in
     let top : c.args.dir ≤ head_at c.args.heads.now c.chain-chain.result = c.requires.chained.greatest c.args.dir c.chain-chain.result c.requires.some is in
     record {
       here = c.requires.chained.begins c.chain-chain.result (omega (arith, top, c.requires.some));
@@ -28,7 +28,7 @@ loop-at-smaller c =
 pub loop-at-preserved : goal.loop-at-preserved
 loop-at-preserved c =
     let es : List (Option Entry) = entries_of c.args.nodes.now in
-    let is : place_at c.args.hasher es c.args.dir ≡ Some c.chain-chain.result = node_placed c.args.hasher c.args.nodes.now c.args.dir c.chain-chain.result c.standing-node.result.now c.as_str.result.now c.standing-node.ensures c.as_str.ensures.value c.chain-chain.ensures.value in
+    let is : place_at c.args.hasher es c.args.dir ≡ Some c.chain-chain.result = node_placed c.args.hasher c.args.nodes.now c.args.dir c.chain-chain.result c.standing-node.result.now c.as_str.result.now c.standing-node.ensures c.as_str.ensures c.chain-chain.ensures.value in
     let above : c.args.dir < c.loop-at.at = omega (arith, c.loop-at.invariant.reach, c.loop-at-test.true) in
     let next : next_at c.args.nodes.now c.loop-at.at ≡ c.standing.result.now.next = node_next c.args.nodes.now c.loop-at.at c.standing.result.now c.standing.ensures in
     let step : IsNext (place_at c.args.hasher es) c.args.dir c.standing.result.now.next c.chain-chain.result = subst (λ (k : ℕ). IsNext (place_at c.args.hasher es) c.args.dir k c.chain-chain.result) next

@@ -1,4 +1,4 @@
-use Rattle.std.proofs.Common.{rules, tests, List, ℕ, not}
+use Rattle.std.proofs.Common.{rules, tests, not}
 use Rattle.std.proofs.lemmas.Iterator.Consumers.{map_from_collect, YieldsList-from_filter, YieldsList-at}
 use Rattle.std.proofs.lemmas.Iterator.Splits.{YieldsList-from_slice_split}
 use Rattle.script_commands.specs.Commands.{is_blank, is_empty}

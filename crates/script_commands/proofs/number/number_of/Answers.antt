@@ -1,4 +1,4 @@
-use Rattle.std.proofs.Common.{ℕ, List, ◌≤◌, arith, get_or, ap, ◌∙◌}
+use Rattle.std.proofs.Common.{ℕ, List, arith, get_or, ap, ◌∙◌}
 use Rattle.std.proofs.lemmas.Bool.{false≢true}
 use Rattle.script_commands.proofs.NumberLemmas.{number_parsed, number_outside, number_refused}
 use Rattle.script_commands.proofs.number.number_of.Goals as goal
