@@ -21,6 +21,6 @@ abbrev pub is_name : List ℕ → Bool
 is_name text = has_name_length text && (list_all is_name_byte text && not (is_dots text))
 
 -- the bytes of a name, however it is kept
-unfoldable pub bytes_of : Kept → List ℕ
-bytes_of (Short short) = short.bytes
-bytes_of (Long long) = string_bytes long
+unfoldable pub name_bytes : Kept → List ℕ
+name_bytes (Short short) = short.bytes
+name_bytes (Long long) = string_bytes long

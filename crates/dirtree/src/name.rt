@@ -54,11 +54,11 @@ pub struct Name {
 
 impl Model for Name {
     ghost use Rattle.std.specs.Prelude.{List, ℕ};
-    ghost use Rattle.dirtree.specs.Name.{bytes_of};
+    ghost use Rattle.dirtree.specs.Name.{name_bytes};
 
     ghost Value = { List ℕ };
 
-    ghost view = { λ name. bytes_of name.kept };
+    ghost view = { λ name. name_bytes name.kept };
 }
 
 impl Name {

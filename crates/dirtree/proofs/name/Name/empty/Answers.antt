@@ -1,6 +1,6 @@
-use Rattle.dirtree.specs.Name.{bytes_of}
+use Rattle.dirtree.specs.Name.{name_bytes}
 use Rattle.dirtree.proofs.name.Name.empty.Goals as goal
 
 pub returns : goal.returns
-unfolding bytes_of
+unfolding name_bytes
 returns c = c.new.ensures
