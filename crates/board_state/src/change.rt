@@ -1,5 +1,6 @@
 //! Changes of a board, and the replies to them.
 
+use dirtree::Name;
 use export_machine::{Event, Reply};
 use mds_types::{Dir, Order, Plan, Problem, RankSet};
 use std::alloc::{AllocError, Global};

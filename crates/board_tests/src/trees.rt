@@ -18,8 +18,16 @@ fn tree_with(alloc: Global, limit: u32, names: &[(u32, &str)]) -> Result<Tree, T
     Ok(tree)
 }
 
-/// Numbers from 0: `/`, `/a`, `/a/b`, `/a/b/c`, `/a/d`, `/e`.
-const NAMES: [(u32, &str); 5] = [(0, "a"), (1, "b"), (2, "c"), (1, "d"), (0, "e")];
+/// Numbers from 0: `/`, `/a`, `/a/b`, `/a/b/c`, `/a/d`, `/e`, and names of 16 and 17 bytes, one below the other.
+const NAMES: [(u32, &str); 7] = [
+    (0, "a"),
+    (1, "b"),
+    (2, "c"),
+    (1, "d"),
+    (0, "e"),
+    (0, "name-of-16-bytes"),
+    (6, "a-name-of-17-byte"),
+];
 
 fn has_path(tree: &Tree, alloc: Global, number: u32, path: &str) -> Result<bool, TreeError> {
     let found = tree.path(alloc, Dir::new(number))?;
@@ -29,7 +37,7 @@ fn has_path(tree: &Tree, alloc: Global, number: u32, path: &str) -> Result<bool,
 #[test]
 fn finds_each_directory_by_its_path(rt: HostRuntime) {
     let tree = tree_with(rt.alloc(), 16, &NAMES).sure(&rt);
-    same(&rt, &tree.numbers(), &6);
+    same(&rt, &tree.numbers(), &8);
     same(&rt, &tree.limit(), &16);
     // (number, path)
     let table = [
@@ -39,6 +47,8 @@ fn finds_each_directory_by_its_path(rt: HostRuntime) {
         (3, "/a/b/c"),
         (4, "/a/d"),
         (5, "/e"),
+        (6, "/name-of-16-bytes"),
+        (7, "/name-of-16-bytes/a-name-of-17-byte"),
     ];
     for (number, path) in table {
         same_in(&rt, &tree.find(path), &Ok(Dir::new(number)), &path);
@@ -49,7 +59,7 @@ fn finds_each_directory_by_its_path(rt: HostRuntime) {
         );
         holds_in(&rt, tree.contains(Dir::new(number)), &path);
     }
-    assert!(rt; !tree.contains(Dir::new(6)));
+    assert!(rt; !tree.contains(Dir::new(8)));
 }
 
 #[test]
@@ -70,13 +80,15 @@ fn the_first_component_that_fails_decides(rt: HostRuntime) {
         ("/a/b/d", TreeError::NoDir),
         ("/zz/..", TreeError::NoDir),
         ("/../zz", TreeError::BadName),
+        ("/name-of-16-byte", TreeError::NoDir),
+        ("/name-of-16-bytes/a-name-of-17-bytf", TreeError::NoDir),
     ];
     for (path, refusal) in table {
         same_in(&rt, &tree.find(path), &Err(refusal), &path);
     }
     same(
         &rt,
-        &tree.path(rt.alloc(), Dir::new(6)).err(),
+        &tree.path(rt.alloc(), Dir::new(8)).err(),
         &Some(TreeError::NoDir),
     );
 }
@@ -138,7 +150,7 @@ fn removing_refuses_in_order(rt: HostRuntime) {
     // (directory, answer)
     let table = [
         (0, Err(TreeError::IsRoot)),
-        (6, Err(TreeError::NoDir)),
+        (8, Err(TreeError::NoDir)),
         (1, Err(TreeError::NotEmpty)),
         (2, Err(TreeError::NotEmpty)),
         (3, Ok(())),
@@ -154,7 +166,7 @@ fn removing_refuses_in_order(rt: HostRuntime) {
         same_in(&rt, &tree.can_remove(Dir::new(number)), &answer, &number);
         same_in(&rt, &tree.remove(Dir::new(number)), &answer, &number);
     }
-    same(&rt, &tree.numbers(), &6);
+    same(&rt, &tree.numbers(), &8);
 }
 
 #[test]
