@@ -2,7 +2,7 @@
 
 use crate::dump_error::DumpError;
 use crate::json::read_json;
-use crate::members::{Member, Members, Named, fill, present, with_members};
+use crate::members::{Member, Members, Named, fill, present, read_object};
 use serde::{DeserializeOwned, Deserializer, Format, Name};
 use std::alloc::Global;
 
@@ -30,6 +30,8 @@ struct MdsMap {
 }
 
 impl Members for MdsMap {
+    type Whole = FileSystemRanks;
+
     fn take<F: Format>(
         &mut self,
         at: usize,
@@ -43,14 +45,15 @@ impl Members for MdsMap {
             _ => from.skip(),
         }
     }
-}
 
-impl MdsMap {
-    /// The ranks, once all members are read.
-    fn whole<F: Format>(self, from: &Deserializer<'_, '_, F>) -> Result<FileSystemRanks, F::Error> {
+    fn whole<F: Format>(
+        &mut self,
+        _alloc: Global,
+        from: &Deserializer<'_, '_, F>,
+    ) -> Result<FileSystemRanks, F::Error> {
         let size = present(self.size, "max_mds", from)?;
-        let ranks = present(self.ranks, "in", from)?;
-        let mask = self.mask.unwrap_or(None);
+        let ranks = present(self.ranks.take(), "in", from)?;
+        let mask = self.mask.take().unwrap_or(None);
         Ok(FileSystemRanks { size, ranks, mask })
     }
 }
@@ -70,7 +73,7 @@ impl DeserializeOwned for FileSystemRanks {
             ranks: None,
             mask: None,
         };
-        with_members(none, &names, alloc, from)?.whole(from)
+        read_object(none, &names, alloc, from)
     }
 }
 

@@ -4,7 +4,7 @@ ghost use Rattle.mds_types.specs.declared.limits.TheConstants.{HEAT_LIMIT};
 
 use crate::dump_error::DumpError;
 use crate::json::read_json;
-use crate::members::{Member, Members, Named, fill, present, with_members};
+use crate::members::{Member, Members, Named, fill, present, read_object};
 use crate::wide_bytes::narrowed;
 use mds_types::limits::HEAT_LIMIT;
 use serde::{DeserializeOwned, Deserializer, Format, Name};
@@ -39,6 +39,8 @@ struct Fragment {
 }
 
 impl Members for Fragment {
+    type Whole = FragmentHeat;
+
     fn take<F: Format>(
         &mut self,
         at: usize,
@@ -51,12 +53,9 @@ impl Members for Fragment {
             _ => from.skip(),
         }
     }
-}
 
-impl Fragment {
-    /// The fragment, once all members are read.
     fn whole<F: Format>(
-        &self,
+        &mut self,
         alloc: Global,
         from: &Deserializer<'_, '_, F>,
     ) -> Result<FragmentHeat, F::Error> {
@@ -80,7 +79,7 @@ impl DeserializeOwned for FragmentHeat {
             path: None,
             counters: None,
         };
-        with_members(none, &names, alloc, from)?.whole(alloc, from)
+        read_object(none, &names, alloc, from)
     }
 }
 

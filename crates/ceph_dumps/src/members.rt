@@ -5,6 +5,9 @@ use std::alloc::Global;
 
 /// What is read of an object.
 pub(crate) trait Members: Drop {
+    /// What the object says.
+    type Whole;
+
     /// Reads the member at this place among those that are read, or passes over one without a place.
     fn take<F: Format>(
         &mut self,
@@ -12,6 +15,13 @@ pub(crate) trait Members: Drop {
         alloc: Global,
         from: &mut Deserializer<'_, '_, F>,
     ) -> Result<(), F::Error>;
+
+    /// What the object says, once all members are read. It is taken out of them.
+    fn whole<F: Format>(
+        &mut self,
+        alloc: Global,
+        from: &Deserializer<'_, '_, F>,
+    ) -> Result<Self::Whole, F::Error>;
 }
 
 /// The place of the next member, if there is one: by its name, or in a list that so many came before.
@@ -51,15 +61,15 @@ fn read_members<M: Members, F: Format>(
     Ok(())
 }
 
-/// What is read of an object, where it is this before the object's members are read.
-pub(crate) fn with_members<M: Members, F: Format>(
+/// Reads an object, of which this is what is read before any of its members.
+pub(crate) fn read_object<M: Members, F: Format>(
     mut members: M,
     names: &[Name<'_>],
     alloc: Global,
     from: &mut Deserializer<'_, '_, F>,
-) -> Result<M, F::Error> {
+) -> Result<M::Whole, F::Error> {
     read_members(&mut members, names, alloc, from)?;
-    Ok(members)
+    members.whole(alloc, from)
 }
 
 /// Reads a member that hasn't come before.
@@ -102,6 +112,8 @@ pub(crate) trait Named {
 pub(crate) struct Member<T>(pub(crate) T);
 
 impl<T: DeserializeOwned + Named> Members for Option<T> {
+    type Whole = Member<T>;
+
     fn take<F: Format>(
         &mut self,
         at: usize,
@@ -114,6 +126,14 @@ impl<T: DeserializeOwned + Named> Members for Option<T> {
             from.skip()
         }
     }
+
+    fn whole<F: Format>(
+        &mut self,
+        _alloc: Global,
+        from: &Deserializer<'_, '_, F>,
+    ) -> Result<Member<T>, F::Error> {
+        Ok(Member(present(self.take(), T::NAME, from)?))
+    }
 }
 
 impl<T: DeserializeOwned + Named> DeserializeOwned for Member<T> {
@@ -122,8 +142,7 @@ impl<T: DeserializeOwned + Named> DeserializeOwned for Member<T> {
         from: &mut Deserializer<'_, '_, F>,
     ) -> Result<Member<T>, F::Error> {
         let none: Option<T> = None;
-        let slot = with_members(none, &[Name::exact(T::NAME)], alloc, from)?;
-        Ok(Member(present(slot, T::NAME, from)?))
+        read_object(none, &[Name::exact(T::NAME)], alloc, from)
     }
 }
 

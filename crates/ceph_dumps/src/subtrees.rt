@@ -2,7 +2,7 @@
 
 use crate::dump_error::DumpError;
 use crate::json::read_json;
-use crate::members::{Member, Members, Named, fill, present, with_members};
+use crate::members::{Member, Members, Named, fill, present, read_object};
 use crate::wide_bytes::narrowed;
 use serde::{DeserializeOwned, Deserializer, Format, Name};
 use std::alloc::Global;
@@ -34,7 +34,8 @@ struct Pins {
     is_random: Option<bool>,
 }
 
-impl Members for Pins {
+impl Pins {
+    /// Reads the member at this place among those of a root, or passes over one without a place.
     fn take<F: Format>(
         &mut self,
         at: usize,
@@ -53,9 +54,7 @@ impl Members for Pins {
             _ => from.skip(),
         }
     }
-}
 
-impl Pins {
     /// The export pin, where there is one.
     fn pin(self) -> Option<i64> {
         match self.export {
@@ -75,6 +74,8 @@ struct Root {
 }
 
 impl Members for Root {
+    type Whole = SubtreeRoot;
+
     fn take<F: Format>(
         &mut self,
         at: usize,
@@ -88,26 +89,9 @@ impl Members for Root {
             _ => self.pins.take(at, alloc, from),
         }
     }
-}
 
-impl Root {
-    /// No member yet.
-    fn empty() -> Root {
-        Root {
-            is_here: None,
-            rank: None,
-            pins: Pins {
-                export: None,
-                is_distributed: None,
-                is_random: None,
-            },
-            dir: None,
-        }
-    }
-
-    /// The root, once all members are read.
     fn whole<F: Format>(
-        &self,
+        &mut self,
         alloc: Global,
         from: &Deserializer<'_, '_, F>,
     ) -> Result<SubtreeRoot, F::Error> {
@@ -129,6 +113,22 @@ impl Root {
     }
 }
 
+impl Root {
+    /// No member yet.
+    fn empty() -> Root {
+        Root {
+            is_here: None,
+            rank: None,
+            pins: Pins {
+                export: None,
+                is_distributed: None,
+                is_random: None,
+            },
+            dir: None,
+        }
+    }
+}
+
 impl DeserializeOwned for SubtreeRoot {
     fn deserialize_owned<F: Format>(
         alloc: Global,
@@ -142,7 +142,7 @@ impl DeserializeOwned for SubtreeRoot {
             Name::exact("random_ephemeral_pin"),
             Name::exact("dir"),
         ];
-        with_members(Root::empty(), &names, alloc, from)?.whole(alloc, from)
+        read_object(Root::empty(), &names, alloc, from)
     }
 }
 

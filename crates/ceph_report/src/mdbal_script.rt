@@ -28,7 +28,9 @@ fn push_line(script: &mut TextWriter, word: &str, path: &[u8], number: u64) {
 }
 
 /// Adds the lines that make a directory, and pin it where it is held but its parent isn't.
-fn push_directory(script: &mut TextWriter, directory: &Directory, hold: Held, above: Held) {
+fn push_directory(script: &mut TextWriter, directory: &Directory, holds: &[Held], hold: Held) {
+    let above = holds.get(directory.parent as usize).copied();
+    let above = above.unwrap_or(Held::Free);
     let path = directory.path.as_slice();
     push_line(
         script,
@@ -69,9 +71,10 @@ pub fn make_script(
     let mut script = TextWriter::new(alloc);
     script.number("ranks ", u64::from(ranks));
     script.text("\nmask -1\n");
-    for (directory, hold) in directories.iter().zip(holds).skip(1) {
-        let above = holds.get(directory.parent as usize).copied();
-        push_directory(&mut script, directory, *hold, above.unwrap_or(Held::Free));
+    for at in 1..directories.len() {
+        if let Some(hold) = holds.get(at) {
+            push_directory(&mut script, &directories[at], holds, *hold);
+        }
     }
     for directory in directories {
         push_load(&mut script, directory.path.as_slice(), directory.heat);

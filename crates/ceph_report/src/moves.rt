@@ -193,28 +193,79 @@ struct Amount {
     heat: u64,
 }
 
+impl Amount {
+    /// Adds what a directory has.
+    fn add(&mut self, directory: &Directory) {
+        self.inodes = self.inodes.saturating_add(directory.inodes);
+        self.heat = self.heat.saturating_add(directory.heat);
+    }
+}
+
+/// The directory at a place, if it goes to another rank.
+fn leaving_at<'a>(
+    directories: &'a [Directory],
+    holds: &[Held],
+    rows: &[PinRow],
+    at: usize,
+) -> Option<&'a Directory> {
+    let directory = directories.get(at)?;
+    let (hold, row) = (holds.get(at)?, rows.get(at)?);
+    if is_leaving(directory.now, *hold, row.target) {
+        Some(directory)
+    } else {
+        None
+    }
+}
+
 /// What each directory's pin brings, at the place of the directory.
 fn brought(
     alloc: Global,
     directories: &[Directory],
     holds: &[Held],
     rows: &[PinRow],
-    holders: &[usize],
+    pins: &[Option<Rank>],
 ) -> Result<Vec<Amount>, AllocError> {
+    let holders = holders(alloc, rows, pins)?;
     let nothing = Amount { inodes: 0, heat: 0 };
     let mut brought = vec![in alloc; nothing; rows.len()]?;
-    for (at, (directory, hold)) in directories.iter().zip(holds).enumerate() {
-        let (Some(row), Some(holder)) = (rows.get(at), holders.get(at)) else {
-            continue;
-        };
-        if directory.now != row.target && *hold == Held::Free {
+    for (at, holder) in holders.iter().enumerate() {
+        if let Some(directory) = leaving_at(directories, holds, rows, at) {
             if let Some(sum) = brought.get_mut(*holder) {
-                sum.inodes = sum.inodes.saturating_add(directory.inodes);
-                sum.heat = sum.heat.saturating_add(directory.heat);
+                sum.add(directory);
             }
         }
     }
     Ok(brought)
+}
+
+/// What the pin of the directory at a place brings, if it has one that brings inodes.
+fn move_at(pins: &[Option<Rank>], brought: &[Amount], at: usize) -> Option<Move> {
+    let to = (*pins.get(at)?)?;
+    let sum = brought.get(at)?;
+    if sum.inodes == 0 {
+        return None;
+    }
+    Some(Move {
+        inodes: sum.inodes,
+        heat: sum.heat,
+        directory: at,
+        to,
+    })
+}
+
+/// What pins bring that bring inodes, in the order of the rows.
+fn gathered(
+    alloc: Global,
+    pins: &[Option<Rank>],
+    brought: &[Amount],
+) -> Result<Vec<Move>, AllocError> {
+    let mut moves = Vec::new(alloc);
+    for at in 0..pins.len() {
+        if let Some(one) = move_at(pins, brought, at) {
+            moves.push(one)?;
+        }
+    }
+    Ok(moves)
 }
 
 /// What each pin of this program brings to its rank once the changes are made, the most inodes first. Pins that bring
@@ -227,21 +278,8 @@ pub fn moves_of(
     changes: &[PinChange],
 ) -> Result<Vec<Move>, AllocError> {
     let pins = pins_after(alloc, rows, changes)?;
-    let holders = holders(alloc, rows, pins.as_slice())?;
-    let brought = brought(alloc, directories, holds, rows, holders.as_slice())?;
-    let mut moves = Vec::new(alloc);
-    for (at, (pin, sum)) in pins.iter().zip(brought.as_slice()).enumerate() {
-        if let Some(to) = *pin {
-            if sum.inodes > 0 {
-                moves.push(Move {
-                    inodes: sum.inodes,
-                    heat: sum.heat,
-                    directory: at,
-                    to,
-                })?;
-            }
-        }
-    }
+    let brought = brought(alloc, directories, holds, rows, pins.as_slice())?;
+    let mut moves = gathered(alloc, pins.as_slice(), brought.as_slice())?;
     moves.sort_by_key(|one| u64::MAX - one.inodes)?;
     Ok(moves)
 }

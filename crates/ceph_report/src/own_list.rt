@@ -4,6 +4,7 @@ use crate::pins::pins_after;
 use crate::writer::BytesWriter;
 use ceph_plan::{PinChange, PinRow};
 use ceph_snapshot::Directory;
+use mds_types::Rank;
 use std::alloc::{AllocError, Global};
 
 /// Adds a name: backslash, newline and return as three octal digits, all else as it is.
@@ -18,6 +19,14 @@ fn push_name(list: &mut BytesWriter, path: &[u8]) {
     }
 }
 
+/// Adds the line of a pin.
+fn push_pin(list: &mut BytesWriter, rank: Rank, path: &[u8]) {
+    list.rank(rank);
+    list.byte(b' ');
+    push_name(list, path);
+    list.byte(b'\n');
+}
+
 /// The list of the pins of this program once the changes are made: those that stand
 /// already and those that are set, deepest first.
 pub fn make_own_list(
@@ -28,12 +37,9 @@ pub fn make_own_list(
 ) -> Result<Vec<u8>, AllocError> {
     let pins = pins_after(alloc, rows, changes)?;
     let mut list = BytesWriter::new(alloc);
-    for (directory, pin) in directories.iter().zip(pins.as_slice()).rev() {
-        if let Some(rank) = *pin {
-            list.rank(rank);
-            list.byte(b' ');
-            push_name(&mut list, directory.path.as_slice());
-            list.byte(b'\n');
+    for at in (0..pins.len()).rev() {
+        if let (Some(rank), Some(directory)) = (pins[at], directories.get(at)) {
+            push_pin(&mut list, rank, directory.path.as_slice());
         }
     }
     list.finish()

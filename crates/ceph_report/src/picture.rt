@@ -303,6 +303,22 @@ fn is_cut(ranks: &[Rank], parent: usize, rank: Rank) -> bool {
     }
 }
 
+/// Adds the box of the directory at a place.
+fn push_directory(
+    text: &mut TextWriter,
+    alloc: Global,
+    directories: &[Directory],
+    ranks: &[Rank],
+    at: usize,
+    place: &Place,
+) {
+    if let (Some(directory), Some(rank)) = (directories.get(at), ranks.get(at)) {
+        let is_cut = is_cut(ranks, directory.parent as usize, *rank);
+        push_title(text, alloc, directory, place, *rank);
+        push_box(text, alloc, directory.path.as_slice(), place, *rank, is_cut);
+    }
+}
+
 /// The picture, as SVG. `ranks[i]` is the rank that directory i is to be at.
 pub fn make_picture(
     alloc: Global,
@@ -316,12 +332,9 @@ pub fn make_picture(
     if let Some(root) = places.first() {
         all = root.heat;
     }
-    for (directory, (place, rank)) in directories.iter().zip(places.iter().zip(ranks)) {
+    for (at, place) in places.iter().enumerate() {
         if place.width >= LEAST_WIDTH {
-            let path = directory.path.as_slice();
-            let is_cut = is_cut(ranks, directory.parent as usize, *rank);
-            push_title(&mut text, alloc, directory, place, *rank);
-            push_box(&mut text, alloc, path, place, *rank, is_cut);
+            push_directory(&mut text, alloc, directories, ranks, at, place);
             push_rest(&mut text, place, all);
         }
     }

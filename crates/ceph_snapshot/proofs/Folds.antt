@@ -122,12 +122,6 @@ take_front (x ∷ xs) ys = ap (λ (zs : List _). x ∷ zs) (take_front xs ys)
 pub handed_back : {X : Type 0} (xs ys : List X) (n : ℕ) → length xs ≡ n → take n (xs ++ ys) ≡ xs
 handed_back xs ys n size = ap (λ (k : ℕ). take k (xs ++ ys)) (sym size) ∙ take_front xs ys
 
--- each amount comes to its home
-pub home_amounts : (amount other : ℕ → ℕ) (home : ℕ → ℕ) (m n there : ℕ) → m ≡ n → ((i : ℕ) → i < n → amount i ≡ other i) → brought amount home m there ≡ brought other home n there
-home_amounts amount other home m n there all same =
-    ap (λ (k : ℕ). brought amount home k there) all
-    ∙ sum_below-same n (λ j. cond (eqb (home j) there) (amount j) 0) (λ j. cond (eqb (home j) there) (other j) 0) (λ j l. ap (λ (k : ℕ). cond (eqb (home j) there) k 0) (same j l))
-
 -- what is left once the places are closed up and cut
 pub has_left : (ds closed left : List Directory) (gone : List Bool) (homes parents heats inodes : List ℕ) (kept : ℕ)
     → ((i : ℕ) → i < length ds → IsHome ds (is_marked gone) i (slice_index homes i))

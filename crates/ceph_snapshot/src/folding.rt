@@ -6,7 +6,7 @@ ghost use Rattle.ceph_snapshot.specs.Folding.{HasLeft, IsFolded, IsHome, all_hea
 ghost use Rattle.ceph_snapshot.specs.Folding.{kept_below, put_together, with_amounts};
 ghost use Rattle.ceph_snapshot.specs.Holding.{AreParentsFirst, parent_at};
 
-use crate::amounts::{heats_home, inodes_home};
+use crate::amounts::{Amount, brought_home};
 use crate::coldest::coldest;
 use crate::directory::Directory;
 use crate::gathering::SnapshotError;
@@ -147,8 +147,8 @@ fn folded(
     let before = directories.as_slice();
     let homes = homes(alloc, before, gone)?;
     let at_home = homes.as_slice();
-    let heats = heats_home(alloc, before, at_home)?;
-    let inodes = inodes_home(alloc, before, at_home)?;
+    let heats = brought_home(alloc, before, at_home, Amount::Heat)?;
+    let inodes = brought_home(alloc, before, at_home, Amount::Inodes)?;
     let parents = new_parents(alloc, before, gone)?;
     let kept = close_up(&mut directories, gone, &parents, &heats, &inodes);
     directories.truncate(kept);

@@ -1,6 +1,6 @@
 //! The directories, from what was gathered of them.
 
-ghost use Rattle.std.specs.Prelude.{◌<◌};
+ghost use Rattle.std.specs.Prelude.{◌≡◌, ◌<◌, length, IfOk};
 
 use crate::directory::Directory;
 use crate::gathering::{Gathering, Node, Sighting, SnapshotError};
@@ -88,6 +88,7 @@ impl Gathering {
     /// The snapshot of what was gathered, where each rank gave so many samples and there are so many ranks.
     pub fn snapshot(self, samples: u64, ranks: u8) -> Result<Snapshot, SnapshotError>
         requires { 0 < samples }
+        ensures { IfOk result (λ snapshot. length snapshot.spread.items ≡ 64) }
     {
         let Gathering {
             alloc,
@@ -118,6 +119,7 @@ fn see_all(
     samples: u64,
 ) -> Result<Vec<u64>, SnapshotError>
     requires { 0 < samples }
+    ensures { IfOk result (λ spread. length spread.items ≡ 64) }
 {
     let mut spread = vec![in alloc; 0u64; usize::from(RANK_LIMIT)]?;
     for seen in sightings {

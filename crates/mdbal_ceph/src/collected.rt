@@ -1,5 +1,5 @@
 //! Reads the files that `ceph/collect` wrote.
-ghost use Rattle.std.specs.Prelude.{◌<◌, IfOk};
+ghost use Rattle.std.specs.Prelude.{◌≡◌, ◌<◌, length, IfOk};
 
 use crate::progress::Progress;
 use anyhow::{Context, Error, bail};
@@ -44,11 +44,11 @@ where
     let bytes: io::Result<Vec<u8>> = fs::read(rt, path.as_str());
     match bytes {
         Ok(bytes) => {
-            let found = read(rt.alloc(), bytes.as_slice()).context(format_args!("{path}"))?;
-            Ok(Some(found))
+            let found = read(rt.alloc(), bytes.as_slice()).map(Some);
+            found.context(format_args!("{path}"))
         }
         Err(error) if error.kind() == ErrorKind::NotFound => Ok(None),
-        Err(error) => Err(Error::from(error)).context(format_args!("{path}")),
+        Err(error) => Err(error).context(format_args!("{path}")),
     }
 }
 
@@ -86,7 +86,8 @@ fn add_subtrees<R: Files + AllocGlobal>(
 ) -> Result<(), Error> {
     let file = format_args!("{folder}/subtrees.{}.json", rank.number());
     let roots = read_file(rt, &file, read_subtrees)?;
-    Ok(gathering.add_subtrees(rank, roots.as_slice())?)
+    let added = gathering.add_subtrees(rank, roots.as_slice());
+    added.map_err(Error::from)
 }
 
 /// Adds a sample of a rank's heat.
@@ -101,7 +102,8 @@ fn add_loads<R: Files + AllocGlobal + Clock + Eprint>(
     let file = format_args!("{folder}/loads.{}.{sample}.json", rank.number());
     progress.tell(rt, &file);
     let loads = read_file(rt, &file, read_loads)?;
-    Ok(gathering.add_loads(rank, loads.as_slice())?)
+    let added = gathering.add_loads(rank, loads.as_slice());
+    added.map_err(Error::from)
 }
 
 /// Adds the dumps of a rank.
@@ -126,11 +128,13 @@ fn add_listing<R: Files + AllocGlobal>(
     gathering: &mut Gathering,
     folder: &str,
 ) -> Result<(), Error> {
-    let listing = read_if_there(rt, &format_args!("{folder}/dirs"), read_listing)?;
-    if let Some(listing) = listing {
-        gathering.add_listing(listing.as_slice())?;
+    match read_if_there(rt, &format_args!("{folder}/dirs"), read_listing)? {
+        Some(listing) => {
+            let added = gathering.add_listing(listing.as_slice());
+            added.map_err(Error::from)
+        }
+        None => Ok(()),
     }
-    Ok(())
 }
 
 /// Adds the pins of an earlier plan.
@@ -186,22 +190,22 @@ fn sample_count<R: Files + AllocGlobal>(rt: &R, folder: &str, ranks: &[u32]) -> 
     Ok(samples)
 }
 
-/// What the dumps of these ranks say, what was listed over a mount, and which pins are those of an earlier plan.
-fn gathered<R: Files + AllocGlobal + Clock + Eprint>(
+/// Adds the dumps of these ranks, what was listed over a mount, and which pins are those of an earlier plan.
+fn add_all<R: Files + AllocGlobal + Clock + Eprint>(
     rt: &R,
     progress: &mut Progress,
+    gathering: &mut Gathering,
     folder: &str,
     own: Option<&str>,
     ranks: &[u32],
     samples: u64,
-) -> Result<Gathering, Error> {
-    let mut gathering = Gathering::new(rt.alloc())?;
-    add_ranks(rt, progress, &mut gathering, folder, ranks, samples)?;
-    add_listing(rt, &mut gathering, folder)?;
-    if let Some(path) = own {
-        add_own(rt, &mut gathering, path)?;
+) -> Result<(), Error> {
+    add_ranks(rt, progress, gathering, folder, ranks, samples)?;
+    add_listing(rt, gathering, folder)?;
+    match own {
+        Some(path) => add_own(rt, gathering, path),
+        None => Ok(()),
     }
-    Ok(gathering)
 }
 
 /// Reads a folder, and the list of pins of an earlier plan if there is one.
@@ -210,11 +214,14 @@ pub fn read_collected<R: Files + AllocGlobal + Clock + Eprint>(
     progress: &mut Progress,
     folder: &str,
     own: Option<&str>,
-) -> Result<Collected, Error> {
+) -> Result<Collected, Error>
+    ensures { IfOk result (λ collected. length collected.snapshot.spread.items ≡ 64) }
+{
     let (cluster, size) = ranks_of(rt, folder)?;
     let ranks = cluster.ranks.as_slice();
     let samples = sample_count(rt, folder, ranks)?;
-    let gathering = gathered(rt, progress, folder, own, ranks, samples)?;
+    let mut gathering = Gathering::new(rt.alloc())?;
+    add_all(rt, progress, &mut gathering, folder, own, ranks, samples)?;
     let snapshot = gathering.snapshot(samples, size)?;
     Ok(Collected {
         cluster,

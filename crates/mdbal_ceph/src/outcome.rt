@@ -17,7 +17,7 @@ use ceph_report::{
     make_pins_script, make_report, make_script, moves_of, own_pins, standing_pins, sums_of,
 };
 use ceph_snapshot::{Directory, Held, SnapshotError, fold, held_heat, holds, rows_of};
-use mds_types::limits::{DIR_LIMIT, RANK_LIMIT};
+use mds_types::limits::DIR_LIMIT;
 use mds_types::{Rank, RankSet};
 use std::alloc::{AllocError, Global};
 use std::fs;
@@ -135,6 +135,7 @@ fn folded(
 
 /// Plans what was collected.
 fn planned(alloc: Global, settings: &PlanSettings, collected: Collected) -> Result<Outcome, Error>
+    requires { length collected.snapshot.spread.items ≡ 64 }
     ensures outcome { IfOk result (IsOutcome collected.snapshot.directories.items collected.snapshot.spread.items
         settings.now.parts) }
     ensures ranks { IfOk result (λ outcome. (mask : ℕ) → settings.now.mask ≡ Some mask → (rank : ℕ)
@@ -146,9 +147,6 @@ fn planned(alloc: Global, settings: &PlanSettings, collected: Collected) -> Resu
     let (size, samples) = (collected.size, collected.samples);
     let spread = collected.snapshot.spread;
     let (directories, folded) = folded(alloc, collected.snapshot.directories)?;
-    if spread.len() != usize::from(RANK_LIMIT) {
-        bail!("there aren't 64 ranks");
-    }
     let decision = decided(alloc, settings, ranks, &directories, &spread)?;
     Ok(Outcome {
         size,

@@ -18,9 +18,9 @@ returns c =
     let nearest : (i : ℕ) → i < length ds → IsHome ds (is_marked gone) i (slice_index homes i) = rw c.as_slice-before.ensures.value at c.in_ok-homes.ensures.homes in
     let inside : (i : ℕ) → i < length ds → slice_index homes i < length ds = rw c.as_slice-before.ensures.value at c.in_ok-homes.ensures.inside in
     let warm : (i : ℕ) → i < length ds → slice_index heats i ≡ brought (heat_at ds) (slice_index homes) (length ds) i =
-    rw (c.as_slice-before.ensures.value, c.as_slice-at_home.ensures.value) at c.in_ok-heats.ensures.heats in
+    rw (c.as_slice-before.ensures.value, c.as_slice-at_home.ensures.value) at c.in_ok-heats.ensures.sums in
     let many : (i : ℕ) → i < length ds → slice_index inodes i ≡ brought (inodes_at ds) (slice_index homes) (length ds) i =
-    rw (c.as_slice-before.ensures.value, c.as_slice-at_home.ensures.value) at c.in_ok-inodes.ensures.inodes in
+    rw (c.as_slice-before.ensures.value, c.as_slice-at_home.ensures.value) at c.in_ok-inodes.ensures.sums in
     let ups : (i : ℕ) → i < length ds → slice_index parents i ≡ kept_below (is_marked gone) (parent_at ds i) = rw c.as_slice-before.ensures.value at c.in_ok-parents.ensures.parents in
     let count : kept ≡ kept_below (is_marked gone) (length ds) = rw c.deref_mut.ensures.value at c.close_up-kept.ensures.count in
     let closes : (i : ℕ) → i < length ds → is_marked gone i ≡ false → slice_get closed (kept_below (is_marked gone) i) ≡ put_together ds parents heats inodes i =
