@@ -62,7 +62,7 @@ impl Model for Name {
 }
 
 impl Name {
-    ghost use Rattle.std.specs.Prelude.{◌≡◌, [], IfOk};
+    ghost use Rattle.std.specs.Prelude.{◌≡◌, ◌≤◌, [], IfOk, IsOk, length};
 
     /// The name of the root, which has no byte.
     pub fn empty() -> Name
@@ -73,9 +73,10 @@ impl Name {
         }
     }
 
-    /// The same name, on memory of its own.
+    /// The same name, on memory of its own. None is asked for where it has 16 bytes at most.
     pub fn new(alloc: Global, text: &str) -> Result<Name, AllocError>
-        ensures { IfOk result (λ name. name ≡ text.now) }
+        ensures same { IfOk result (λ name. name ≡ text.now) }
+        ensures short { length text.now ≤ 16 → IsOk result }
     {
         match ArrayString::from(text) {
             Ok(short) => Ok(Name {

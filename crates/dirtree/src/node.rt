@@ -20,7 +20,7 @@ pub struct Node {
     pub parent: u32,
     pub inodes: u32,
     pub children: u32,
-    pub next: u32,
+    pub next: u16,
 }
 
 /// How many chains there are: as many as a tree has directories at most, so the heads never have to grow.
@@ -57,7 +57,7 @@ fn is_named(node: &Node, parent: u32, name: &str) -> bool
 /// The child of this name: its chain is gone through, and each directory there tested.
 pub fn child_in_chain(
     nodes: &[Option<Node>],
-    heads: &[u32],
+    heads: &[u16],
     hasher: FoldHasher,
     parent: u32,
     name: &str,
@@ -67,13 +67,13 @@ pub fn child_in_chain(
     requires chained { IsChained (place_at hasher (entries_of nodes.now)) (next_at nodes.now) (head_at heads.now) }
     ensures { result ≡ child_of (entries_of nodes.now) parent name.now }
 {
-    let mut at = heads[chain(hasher, parent, name)];
+    let mut at = heads[chain(hasher, parent, name)] as u32;
     while at != 0 {
         let node = standing(nodes, at);
         if is_named(node, parent, name) {
             return Some(at);
         }
-        at = node.next;
+        at = node.next as u32;
     }
     None
 }
@@ -81,7 +81,7 @@ pub fn child_in_chain(
 /// The chain in which a directory stands, and the directory before it there, or 0 if the chain begins with it.
 pub fn place_in_chain(
     nodes: &[Option<Node>],
-    heads: &[u32],
+    heads: &[u16],
     hasher: FoldHasher,
     dir: u32,
 ) -> (usize, u32)
@@ -98,16 +98,16 @@ pub fn place_in_chain(
     let node = standing(nodes, dir);
     let chain = chain(hasher, node.parent, node.name.as_str());
     let mut before = 0;
-    let mut at = heads[chain];
+    let mut at = heads[chain] as u32;
     while at != dir {
         before = at;
-        at = standing(nodes, at).next;
+        at = standing(nodes, at).next as u32;
     }
     (chain, before)
 }
 
 /// Tells a directory which one follows it in its chain.
-pub fn set_next(nodes: &mut Vec<Option<Node>>, dir: u32, next: u32)
+pub fn set_next(nodes: &mut Vec<Option<Node>>, dir: u32, next: u16)
     requires there { is_there (entries_of nodes.old.items) dir ≡ true }
     ensures entries { entries_of nodes.new.items ≡ entries_of nodes.old.items }
     ensures children { (d : ℕ) → children_at nodes.new.items d ≡ children_at nodes.old.items d }

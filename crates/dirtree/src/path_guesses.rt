@@ -1,7 +1,8 @@
 //! Guesses of where paths lead, for whoever looks up the same paths time and again.
 //!
 //! A guess is an answer only where the names up to the root are those of the path. So what is told here changes how
-//! long a look-up takes, and never its answer: `find` answers as `Tree::find` does.
+//! long a look-up takes, and never its answer: `find` answers as `Tree::find` does. No guess is kept of a path that has
+//! one name, as the tree itself finds that in one look-up.
 ghost use Rattle.std.specs.Prelude.{◌≡◌, ◌<◌, ◌^◌, IfOk, IfSome, Ok, true};
 ghost use Rattle.dirtree.specs.Path.{find};
 ghost use Rattle.dirtree.specs.Tree.{is_there};
@@ -44,6 +45,9 @@ impl PathGuesses {
 
     /// Keeps the guess that a path leads to this directory, in the place of another guess where there is no room.
     pub fn tell(&mut self, path: &str, dir: Dir) {
+        if has_one_name(path) {
+            return;
+        }
         let Ok(dir) = u16::try_from(dir.number()) else {
             return;
         };
@@ -77,6 +81,9 @@ impl PathGuesses {
         ensures below { IfOk result (λ dir. dir < tree.now.limit) }
         ensures there { IfOk result (λ dir. is_there tree.now.entries dir ≡ true) }
     {
+        if has_one_name(path) {
+            return tree.find(path);
+        }
         match self.guessed(tree, path) {
             Some(dir) => Ok(dir),
             None => tree.find(path),
@@ -102,6 +109,14 @@ impl PathGuesses {
             }
         }
         None
+    }
+}
+
+// Whether no slash stands behind a path's first byte.
+fn has_one_name(path: &str) -> bool {
+    match path.as_bytes() {
+        [_, names @ ..] => !names.contains(&b'/'),
+        [] => true,
     }
 }
 

@@ -28,7 +28,7 @@ pub struct Tree {
     limit: u32,
     hasher: FoldHasher,
     nodes: Vec<Option<Node>>,
-    heads: Vec<u32>,
+    heads: Vec<u16>,
 }
 
 impl Model for Tree {
@@ -216,7 +216,7 @@ impl Tree {
         self.nodes.reserve(1)?;
         count_child(&mut self.nodes, parent.number());
         self.nodes.push_reserved(Some(node));
-        self.heads[chain] = number;
+        self.heads[chain] = number as u16;
         Ok(Dir::new(number))
     }
 

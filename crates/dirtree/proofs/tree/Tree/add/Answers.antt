@@ -16,5 +16,5 @@ invariant_of-self-2 c =
     let chain : c.chain-chain.result ≡ chain_of c.self.inside.hasher c.args.parent c.args.name.now = rw c.number.ensures at c.chain-chain.ensures.value in
     sound_made c.self.inside.limit c.self.inside.hasher c.self.inside.nodes.items c.reserve.new.self.items c.count_child.new.nodes.items c.push_reserved.new.self.items c.self.inside.heads.items n
     c.args.self.now c.args.parent c.number-3.result c.chain-chain.result c.len-number.result c.args.name.now
-    c.self.invariant c.self.view_is c.requires c.number-2.ensures c.in_ok-new.ensures refl leads chain c.chain-chain.ensures.below
+    c.self.invariant c.self.view_is c.requires c.number-2.ensures c.in_ok-new.ensures.same refl leads chain c.chain-chain.ensures.below
     count c.in_ok-reserve.ensures.items c.number-3.ensures c.count_child.ensures.entries c.count_child.ensures.children c.count_child.ensures.nexts c.push_reserved.ensures.items
