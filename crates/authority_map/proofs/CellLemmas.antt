@@ -1,5 +1,5 @@
 -- The runs' cells follow the operations.
-use Rattle.std.proofs.Common.{◌≡◌, ℕ, zero, suc, ◌+◌, ◌-◌, ◌<◌, ◌≤◌, ◌≢◌, Bool, true, false, ◌==◌, if◌then◌else◌, List, [], ◌∷◌, ◌++◌, length, get_or, refl, sym, ap, ◌∙◌, arith, Option, Some, None, All}
+use Rattle.std.proofs.Common.{◌≡◌, ℕ, zero, suc, ◌+◌, ◌-◌, ◌<◌, ◌≤◌, ◌≢◌, Bool, true, false, ◌==◌, ◌||◌, if◌then◌else◌, List, [], ◌∷◌, ◌++◌, length, get_or, refl, sym, ap, ◌∙◌, arith, Option, Some, None, All}
 use Rattle.std.proofs.lemmas.List.Sums.{fold-append}
 use Rattle.std.proofs.lemmas.Bool.Decides.{nat_tests}
 use Rattle.authority_map.specs.Operations.{Operation, SetTo, Clear, names, entry_after, rank_after}
@@ -23,33 +23,41 @@ cell_of_clear : (b : Bool) (entry : Option ℕ) → cell_of (if b then None else
 cell_of_clear true entry = refl
 cell_of_clear false entry = refl
 
+or_false : (b : Bool) → (b || false) ≡ b
+or_false true = refl
+or_false false = refl
+
 differs : (d e : ℕ) → d ≢ e → (d == e) ≡ false
 differs d e n = grind (arith, nat_tests)
-
-turned : (d e : ℕ) → (d == e) ≡ (e == d)
-turned d e = grind (arith, nat_tests)
 
 -- a list doesn't name what differs from all that stands on it
 pub not_named : (dirs : List ℕ) (d : ℕ) → ((k : ℕ) → k < length dirs → get_or dirs k 0 ≢ d) → names dirs d ≡ false
 not_named [] d h = refl
 not_named (x ∷ xs) d h = rw (differs x d (h 0 (omega arith)), not_named xs d (λ k l. h (suc k) (omega arith))) refl
 
-pub cells_set : (limit : ℕ) (starts cells dirs : List ℕ) (rank : ℕ) (ops : List Operation) → AreRuns limit starts cells → All (λ d. d < limit) dirs
-    → HasCells limit starts cells (λ d. if names dirs d then rank + 1 else cell_of (rank_after ops d)) 0 0 → ((d : ℕ) → limit ≤ d → rank_after ops d ≡ None) → AreCells limit starts cells (ops ++ SetTo dirs rank ∷ [])
-cells_set limit starts cells dirs rank ops runs below new past = record {
-  shape = runs;
-  held = same_cells limit starts cells (λ d. if names dirs d then rank + 1 else cell_of (rank_after ops d)) (λ d. cell_of (rank_after (ops ++ SetTo dirs rank ∷ []) d)) 0 0 new
-      (λ d. sym (ap cell_of (rank_after-snoc ops (SetTo dirs rank) d) ∙ cell_of_if (names dirs d) rank (rank_after ops d)));
-  past = λ d h. rank_after-snoc ops (SetTo dirs rank) d ∙ ap (λ (b : Bool). (if b then Some rank else rank_after ops d)) (not_named dirs d (λ k inside e. absurd (omega (arith, below k 0 inside, e, h)))) ∙ past d h;
-}
+-- what one operation does to the cells
+pub cell_set : (ops : List Operation) (dirs : List ℕ) (rank d : ℕ) → cell_of (rank_after (ops ++ SetTo dirs rank ∷ []) d) ≡ (if names dirs d then rank + 1 else cell_of (rank_after ops d))
+cell_set ops dirs rank d = ap cell_of (rank_after-snoc ops (SetTo dirs rank) d) ∙ cell_of_if (names dirs d) rank (rank_after ops d)
 
-pub cells_clear : (limit : ℕ) (starts cells : List ℕ) (dir : ℕ) (ops : List Operation) → AreRuns limit starts cells → dir < limit
-    → HasCells limit starts cells (λ d. if d == dir then 0 else cell_of (rank_after ops d)) 0 0 → ((d : ℕ) → limit ≤ d → rank_after ops d ≡ None) → AreCells limit starts cells (ops ++ Clear dir ∷ [])
-cells_clear limit starts cells dir ops runs inside new past = record {
+pub cell_cleared : (ops : List Operation) (dir d : ℕ) → cell_of (rank_after (ops ++ Clear dir ∷ []) d) ≡ (if names (dir ∷ []) d then 0 else cell_of (rank_after ops d))
+cell_cleared ops dir d =
+    ap cell_of (rank_after-snoc ops (Clear dir) d) ∙ cell_of_clear (dir == d) (rank_after ops d)
+    ∙ ap (λ (b : Bool). (if b then 0 else cell_of (rank_after ops d))) (sym (or_false (dir == d)))
+
+no_cell : (entry : Option ℕ) → cell_of entry ≡ 0 → entry ≡ None
+no_cell None e = refl
+no_cell (Some rank) e = absurd (omega arith)
+
+-- the cells after an operation that writes those of the listed directories
+pub cells_written : (limit : ℕ) (starts cells dirs : List ℕ) (cell : ℕ) (ops after : List Operation) → AreRuns limit starts cells → All (λ d. d < limit) dirs
+    → HasCells limit starts cells (λ d. if names dirs d then cell else cell_of (rank_after ops d)) 0 0
+    → ((d : ℕ) → cell_of (rank_after after d) ≡ (if names dirs d then cell else cell_of (rank_after ops d)))
+    → ((d : ℕ) → limit ≤ d → rank_after ops d ≡ None) → AreCells limit starts cells after
+cells_written limit starts cells dirs cell ops after runs below new step past = record {
   shape = runs;
-  held = same_cells limit starts cells (λ d. if d == dir then 0 else cell_of (rank_after ops d)) (λ d. cell_of (rank_after (ops ++ Clear dir ∷ []) d)) 0 0 new
-      (λ d. sym (ap cell_of (rank_after-snoc ops (Clear dir) d) ∙ cell_of_clear (dir == d) (rank_after ops d) ∙ ap (λ (b : Bool). (if b then 0 else cell_of (rank_after ops d))) (turned dir d)));
-  past = λ d h. rank_after-snoc ops (Clear dir) d ∙ ap (λ (b : Bool). (if b then None else rank_after ops d)) (differs dir d (λ e. absurd (omega arith))) ∙ past d h;
+  held = same_cells limit starts cells (λ d. if names dirs d then cell else cell_of (rank_after ops d)) (λ d. cell_of (rank_after after d)) 0 0 new (λ d. sym (step d));
+  past = λ d h. no_cell (rank_after after d)
+      (step d ∙ ap (λ (b : Bool). (if b then cell else cell_of (rank_after ops d))) (not_named dirs d (λ k inside e. absurd (omega (arith, below k 0 inside, e, h)))) ∙ ap cell_of (past d h));
 }
 
 lone : (x k : ℕ) → get_or (x ∷ []) k x ≡ x

@@ -1,5 +1,5 @@
 -- Runs of the first directories go on with more directories of one cell.
-use Rattle.std.proofs.Common.{◌≡◌, ◌≢◌, ◌⊎◌, ℕ, zero, suc, ◌+◌, ◌-◌, ◌<◌, ◌≤◌, ◌++◌, ◌∷◌, [], true, false, List, length, get_or, refl, sym, ap, ◌∙◌, arith, subst, inl, inr}
+use Rattle.std.proofs.Common.{◌≡◌, ◌≢◌, ◌⊎◌, ℕ, ◌+◌, ◌-◌, ◌<◌, ◌≤◌, ◌++◌, ◌∷◌, [], true, false, List, length, get_or, sym, ap, ◌∙◌, arith, subst, inl, inr}
 use Rattle.std.proofs.lemmas.List.{get_or_append_left, get_or_past, length-append}
 use Rattle.std.proofs.lemmas.Bool.Decides.{leb_tells}
 use Rattle.std.proofs.Math.Seq.{get_or-append_seam}
@@ -121,22 +121,7 @@ module _ (limit : ℕ) (starts cells : List ℕ) (first end cell : ℕ) (runs : 
   pub before_kept : AreBefore end starts
   before_kept k h = omega (arith, before k h, some)
 
--- the runs of directory 0 alone
-one_cell : (cell k : ℕ) → cell ≤ 64 → get_or (cell ∷ []) k 0 ≤ 64
-one_cell cell zero low = low
-one_cell cell (suc k) low = omega arith
-
-pub first_runs : (limit cell : ℕ) → 1 ≤ limit → cell ≤ 64 → AreRuns limit (0 ∷ []) (cell ∷ [])
-first_runs limit cell some low = record {
-  order = record { some = omega arith; first = refl; rising = λ run h. absurd (omega arith) };
-  sized = refl;
-  below = λ run h. let e : run ≡ 0 = omega arith in rw e (omega arith);
-  small = λ run. one_cell cell run low;
-}
-
-pub first_before : AreBefore 1 (0 ∷ [])
-first_before run h = let e : run ≡ 0 = omega arith in rw e (omega arith)
-
+-- the run of directory 0 alone
 pub first_cell : (cell : ℕ) (want : ℕ → ℕ) → want 0 ≡ cell → HasFirst 1 (0 ∷ []) (cell ∷ []) want
 first_cell cell want is = record {
   each = λ run d h i. let e : d ≡ 0 = omega arith in let f : run ≡ 0 = omega (arith, i.there) in rw (e, f) (sym is);

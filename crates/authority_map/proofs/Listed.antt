@@ -1,5 +1,5 @@
 -- A list of directories that rises, beside a directory that parts it.
-use Rattle.std.proofs.Common.{◌≡◌, ◌≢◌, ◌⊎◌, ℕ, zero, suc, ◌+◌, ◌-◌, ◌<◌, ◌≤◌, ◌==◌, ◌||◌, Bool, true, false, if◌then◌else◌, List, [], ◌∷◌, length, get_or, refl, sym, ◌∙◌, arith, subst, inl, inr}
+use Rattle.std.proofs.Common.{◌≡◌, ◌≢◌, ◌⊎◌, ℕ, zero, suc, ◌+◌, ◌-◌, ◌<◌, ◌≤◌, ◌==◌, ◌||◌, Bool, true, false, if◌then◌else◌, List, [], ◌∷◌, length, get_or, refl, arith, subst, inl, inr}
 use Rattle.std.proofs.lemmas.Bool.Decides.{nat_tests, leb_tells}
 use Rattle.std.specs.List.Sorted.{IsStrictlyIncreasing}
 use lib.Dec.{leb}
@@ -66,13 +66,6 @@ come_past dirs up count dir come there here = record {
 pub come_none : (dirs : List ℕ) → ComeBefore dirs 0 0
 come_none dirs = record { within = omega arith; before = λ k h. absurd (omega arith); after = λ k le h. omega arith }
 
--- a place at which a directory below the limit is found is a place of the list
-pub still_there : (dirs : List ℕ) (place found limit : ℕ) → (length dirs ≤ place → found ≡ limit) → found < limit → place < length dirs
-still_there dirs place found limit past below = elim (leb_tells (length dirs) place) [
-  | inl le ↦ absurd (omega (arith, past le.1, below))
-  | inr less ↦ less.1
-]
-
 -- the listed directory is to have the list's cell
 pub listed_cell : (dirs : List ℕ) (cell : ℕ) (old : ℕ → ℕ) (place dir : ℕ) → place < length dirs → get_or dirs place 0 ≡ dir → HaveAll dir (dir + 1) cell (λ d. if names dirs d then cell else old d)
 listed_cell dirs cell old place dir there here d from until =
@@ -85,13 +78,11 @@ pub unlisted_cell : (dirs : List ℕ) (cell : ℕ) (old : ℕ → ℕ) (count fi
 unlisted_cell dirs cell old count first end lower upper d from until = rw (unnamed dirs count first end d lower upper from until) refl
 
 -- whether directory 0 is listed is seen at the list's first place
-pub first_listed : (dirs : List ℕ) → IsStrictlyIncreasing dirs → (found : ℕ) → (0 < length dirs → found ≡ get_or dirs 0 0) → (length dirs ≤ 0 → found ≡ 1) → found ≡ 0 → (names dirs 0 ≡ true) × ComeBefore dirs 1 1
-first_listed dirs up found there past zero_found =
-    let some : 0 < length dirs = still_there dirs 0 found 1 past (omega (arith, zero_found)) in
-    let here : get_or dirs 0 0 ≡ 0 = sym (there some) ∙ zero_found in
+pub first_listed : (dirs : List ℕ) → IsStrictlyIncreasing dirs → 0 < length dirs → get_or dirs 0 0 ≡ 0 → (names dirs 0 ≡ true) × ComeBefore dirs 1 1
+first_listed dirs up some here =
     (subst (λ (d : ℕ). names dirs d ≡ true) here (named dirs 0 some), come_past dirs up 0 0 (come_none dirs) some here)
 
-pub first_unlisted : (dirs : List ℕ) → IsStrictlyIncreasing dirs → (found : ℕ) → (0 < length dirs → found ≡ get_or dirs 0 0) → found ≢ 0 → (names dirs 0 ≡ false) × ComeBefore dirs 0 1
-first_unlisted dirs up found there some_found =
-    let come : ComeBefore dirs 0 1 = come_on dirs up 0 0 1 (come_none dirs) (omega arith) (λ h. omega (arith, there h, some_found)) in
+pub first_unlisted : (dirs : List ℕ) → IsStrictlyIncreasing dirs → (0 < length dirs → get_or dirs 0 0 ≢ 0) → (names dirs 0 ≡ false) × ComeBefore dirs 0 1
+first_unlisted dirs up other =
+    let come : ComeBefore dirs 0 1 = come_on dirs up 0 0 1 (come_none dirs) (omega arith) (λ h. omega (arith, other h)) in
     (unnamed dirs 0 0 1 0 (come_none dirs) come (omega arith) (omega arith), come)

@@ -1,6 +1,6 @@
 -- Runs of neighbours: where a directory is, and what a run more or less leaves.
 use Rattle.std.proofs.Common.{◌≡◌, ◌≢◌, ◌⊎◌, ℕ, zero, suc, ◌+◌, ◌-◌, ◌*◌, ◌/◌, ◌<◌, ◌≤◌, ◌==◌, Bool, true, false, if◌then◌else◌, List, length, get_or, set, sym, ap, ◌∙◌, arith, subst, inl, inr}
-use Rattle.std.proofs.lemmas.List.{length-set, get_or-set_same, get_or-set_other, get_or_past}
+use Rattle.std.proofs.lemmas.List.{get_or-set_same, get_or-set_other, get_or_past}
 use Rattle.std.proofs.lemmas.Bool.Decides.{nat_tests, leb_tells}
 use native.Mathlib.Decide.{ℕ_discrete}
 use lib.Dec.{leb}
@@ -46,9 +46,6 @@ but_first limit starts cells cell that runs has = record { each = has.each; apar
 pub first_but : (limit : ℕ) (starts cells : List ℕ) (cell : ℕ → ℕ) (that : ℕ) → HasCells limit starts cells cell that that → HasCells limit starts cells cell 0 that
 first_but limit starts cells cell that has = record { each = has.each; apart = λ run h a b. has.apart run h b b }
 
-pub but_more : (limit : ℕ) (starts cells : List ℕ) (cell : ℕ → ℕ) (this that : ℕ) → HasCells limit starts cells cell this this → HasCells limit starts cells cell this that
-but_more limit starts cells cell this that has = record { each = has.each; apart = λ run h a b. has.apart run h a a }
-
 -- there are no more runs than directories
 pub start_above : (starts : List ℕ) → AreStarts starts → (run : ℕ) → run < length starts → run ≤ get_or starts run 0
 start_above starts order zero h = omega arith
@@ -74,13 +71,6 @@ module _ (limit : ℕ) (starts cells : List ℕ) (run dir value : ℕ) (runs : A
       step (inl le) =
           let more : IsIn starts run (dir + 1) = record { there = p.there; from = omega (arith, inside.from); until = λ h. omega (arith, p.until h, le.1) } in
           absurd (omega (arith, here run inside, next (omega (arith, le.1)) run more))
-
-  pub runs_written : value ≤ 64 → AreRuns limit starts (set cells run value)
-  runs_written low = record { order = runs.order; sized = length-set cells run value ∙ runs.sized; below = runs.below; small = λ k. small k (ℕ_discrete k run) }
-    where
-      small : (k : ℕ) → Dec (k ≡ run) → get_or (set cells run value) k 0 ≤ 64
-      small k (yes e) = let there : run < length cells = omega (arith, inside.there, runs.sized) in omega (arith, ap (λ (k : ℕ). get_or (set cells run value) k 0) e, get_or-set_same cells run value 0 there)
-      small k (no n) = omega (arith, get_or-set_other cells run k value 0 n, runs.small k)
 
   pub cells_written : (old : ℕ → ℕ) → HasCells limit starts cells old dir (dir + 1) → HasCells limit starts (set cells run value) (λ d. if d == dir then value else old d) dir (dir + 1)
   cells_written old has = record { each = λ k d low p. each k d low p (ℕ_discrete k run); apart = λ k h a b. apart k h a b (ℕ_discrete k run) (ℕ_discrete (k + 1) run) }
@@ -121,44 +111,6 @@ none_alike limit starts cells run dir runs inside differ cell this has = record 
         let same : k + 1 ≡ run = one_run limit starts cells runs (k + 1) run dir there inside in
         let before : run - 1 ≡ k = omega (arith, same) in
         λ alike. differ (ap (λ (k : ℕ). get_or starts k 0) (sym same) ∙ e) (omega (arith, same)) (ap (λ (k : ℕ). get_or cells k 0) before ∙ alike ∙ ap (λ (k : ℕ). get_or cells k 0) same)
-
--- half of the runs are left, those from the middle on where the middle one is reached
-pub halved : (starts : List ℕ) (run count dir half step : ℕ) → AreStarts starts → IsAmong starts run count dir → 1 < count → half ≡ count / 2
-    → (get_or starts (run + half) 0 ≤ dir → step ≡ 1) → (dir < get_or starts (run + half) 0 → step ≡ 0) → IsAmong starts (run + half * step) (count - half) dir
-halved starts run count dir half step order was more is reached past = go (leb_tells (get_or starts (run + half) 0) dir) (ℕ_discrete (count - half) half)
-  where
-    go : ((leb (get_or starts (run + half) 0) dir ≡ true) × (get_or starts (run + half) 0 ≤ dir)) ⊎ ((leb (get_or starts (run + half) 0) dir ≡ false) × (dir < get_or starts (run + half) 0)) → Dec (count - half ≡ half)
-        → IsAmong starts (run + half * step) (count - half) dir
-    go (inl le) o =
-        let all : half * step ≡ half = omega (arith, ap (λ (n : ℕ). half * n) (reached le.1)) in
-        let here : run + half * step ≡ run + half = omega (arith, all) in
-        let end : run + half * step + (count - half) ≡ run + count = omega (arith, all, is) in
-        record {
-          some = omega (arith, is, more);
-          within = omega (arith, end, was.within);
-          from = omega (arith, le.1, ap (λ (k : ℕ). get_or starts k 0) here);
-          until = λ h. omega (arith, was.until (omega (arith, end)), ap (λ (k : ℕ). get_or starts k 0) end);
-        }
-    go (inr less) (yes even) =
-        let none : half * step ≡ 0 = omega (arith, ap (λ (n : ℕ). half * n) (past less.1)) in
-        let here : run + half * step ≡ run = omega (arith, none) in
-        let end : run + half * step + (count - half) ≡ run + half = omega (arith, none, even) in
-        record {
-          some = omega (arith, is, more);
-          within = omega (arith, end, was.within, is, more);
-          from = omega (arith, was.from, ap (λ (k : ℕ). get_or starts k 0) here);
-          until = λ h. omega (arith, less.1, ap (λ (k : ℕ). get_or starts k 0) end);
-        }
-    go (inr less) (no odd) =
-        let none : half * step ≡ 0 = omega (arith, ap (λ (n : ℕ). half * n) (past less.1)) in
-        let here : run + half * step ≡ run = omega (arith, none) in
-        let end : run + half * step + (count - half) ≡ run + half + 1 = omega (arith, none, odd, is) in
-        record {
-          some = omega (arith, is, more);
-          within = omega (arith, end, was.within, is, more);
-          from = omega (arith, was.from, ap (λ (k : ℕ). get_or starts k 0) here);
-          until = λ h. omega (arith, less.1, order.rising (run + half) (omega (arith, end)), ap (λ (k : ℕ). get_or starts k 0) end);
-        }
 
 -- a directory further on is in no run before
 pub not_sooner : (starts : List ℕ) → AreStarts starts → (i j dir next : ℕ) → IsIn starts i dir → IsIn starts j next → dir ≤ next → i ≤ j

@@ -1,12 +1,13 @@
 -- What an operation in memory stands for.
 use Rattle.std.specs.Prelude.{List, ◌∷◌, [], map, Option, Some, None}
 use Rattle.authority_map.specs.declared.operation.OperationKind.{OperationKind}
-use Rattle.authority_map.specs.declared.operation.OperationKind.TheVariants.{Set, Clear}
+use Rattle.authority_map.specs.declared.operation.OperationKind.TheVariants.{Set, SetOne, Clear}
 use Rattle.authority_map.specs.Operations.{Operation}
 use Rattle.authority_map.specs.Operations as op
 
 abbrev pub operation_of : OperationKind → Operation
 operation_of (Set dirs rank) = op.SetTo dirs.items rank
+operation_of (SetOne dir rank) = op.SetTo (dir ∷ []) rank
 operation_of (Clear dir) = op.Clear dir
 
 -- one more operation, with all that came before it

@@ -13,8 +13,7 @@ use mds_types::{Dir, Rank};
 use naming::Naming;
 use std::marker::Model;
 
-/// A reader, which one thread has at a time. A contract sees the list of operations that its
-/// answers hold.
+/// A reader, which one thread has at a time. A contract sees the list of operations that its answers hold.
 #[derive(Drop)]
 pub struct MapReader<J: Naming> {
     handle: ReadHandle<Table<J>>,
@@ -109,9 +108,8 @@ impl<J: Naming> MapReader<J> {
         self.prefix.is_same(&published.prefix)
     }
 
-    /// The rank of a directory in all that is published, for a reader beside the writer. It is what
-    /// the reader finds. Where the reader is closed or holds more, which a writer that lives rules
-    /// out, the writer's own copy answers.
+    /// The rank of a directory in all that is published, for a reader beside the writer. It is what the reader finds.
+    /// Where the reader is closed or holds more, which a writer that lives rules out, the writer's own copy answers.
     pub fn find_latest<P: Publisher<J>>(&mut self, publisher: &P, dir: Dir) -> Option<Rank>
         ensures rank { result ≡ rank_after (P.published publisher.now) dir }
         ensures prefix { IsPrefix self.old self.new }

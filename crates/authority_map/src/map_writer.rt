@@ -105,6 +105,10 @@ impl<J: Naming, R: Wait + Drop> Publisher<J> for WriterOf<J, Table<J>, Logged<J>
         self.queue.push(OperationKind::Set(dirs, rank));
     }
 
+    fn set_one(&mut self, dir: Dir, rank: Rank) {
+        self.queue.push(OperationKind::SetOne(dir, rank));
+    }
+
     fn clear(&mut self, dir: Dir) {
         self.queue.push(OperationKind::Clear(dir));
     }

@@ -35,6 +35,14 @@ pub trait Publisher<J: Naming> {
         ensures room { room self.new ≡ room self.old - 1 }
         ensures published { published self.new ≡ published self.old };
 
+    /// Gives one directory the rank, from the next `publish` on.
+    fn set_one(&mut self, dir: Dir, rank: Rank)
+        requires room { 1 ≤ room self.old }
+        requires inside { dir < J.limit }
+        ensures appended { pending self.new ≡ pending self.old ++ SetTo (dir ∷ []) rank ∷ [] }
+        ensures room { room self.new ≡ room self.old - 1 }
+        ensures published { published self.new ≡ published self.old };
+
     /// Takes the directory's rank away, from the next `publish` on.
     fn clear(&mut self, dir: Dir)
         requires room { 1 ≤ room self.old }

@@ -148,22 +148,9 @@ fn next_entry<J: Naming>(
     ensures before { IfSome result (λ entry. entry.before ≡ end.now) }
     ensures none { IfNone result ((ready.new ≡ ready.old) × (waiting.new.items ≡ waiting.old.items)) }
 {
-    match ready.take() {
-        Some(entry) => Some(entry),
-        None => first_entry(count, end, waiting),
+    if let Some(entry) = ready.take() {
+        return Some(entry);
     }
-}
-
-// The first operation that waits, which is in the list from now on.
-fn first_entry<J: Naming>(
-    count: &Count<J>,
-    end: &LogPrefix<J>,
-    waiting: &mut VecDeque<MapOperation>,
-) -> Option<Logged<J>>
-    ensures some { IfSome result (λ entry. entry.operation ∷ waiting.new.items ≡ waiting.old.items) }
-    ensures before { IfSome result (λ entry. entry.before ≡ end.now) }
-    ensures none { IfNone result (waiting.new.items ≡ waiting.old.items) }
-{
     if end.len() >= OPERATION_LIMIT {
         return None;
     }

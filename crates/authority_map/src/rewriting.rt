@@ -22,14 +22,6 @@ fn is_rising(dirs: &[Dir]) -> bool
     dirs.is_sorted_by(|dir, next| dir.number() < next.number())
 }
 
-// The directory at this place of the list, or the limit where the list has ended.
-fn listed_at(dirs: &[Dir], place: usize, limit: u32) -> u32
-    ensures there { place < length dirs.now → result ≡ slice_index dirs.now place }
-    ensures past { length dirs.now ≤ place → result ≡ limit }
-{
-    dirs.get(place).map_or(limit, |dir| dir.number())
-}
-
 // The runs go on with directories that have this cell.
 fn extend(made: &mut Runs, limit: u32, first: u32, end: u32, cell: u8)
     requires runs { AreRuns limit made.old.starts.items made.old.cells.items }
@@ -99,12 +91,16 @@ fn begin(made: &mut Runs, limit: u32, dirs: &[Dir], listed: u8, unlisted: u8) ->
     made.starts.clear();
     made.cells.clear();
     made.starts.push_reserved(0);
-    if listed_at(dirs, 0, 1) == 0 {
-        made.cells.push_reserved(listed);
-        return 1;
+    match dirs.first() {
+        Some(dir) if dir.number() == 0 => {
+            made.cells.push_reserved(listed);
+            1
+        }
+        _ => {
+            made.cells.push_reserved(unlisted);
+            0
+        }
     }
-    made.cells.push_reserved(unlisted);
-    0
 }
 
 // Makes the runs of all directories: those on the list have this cell, the others that of their run.

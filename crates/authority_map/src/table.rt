@@ -5,10 +5,10 @@ ghost use Rattle.authority_map.specs.Cells.{AreCells};
 ghost use Rattle.authority_map.specs.Runs.{IsIndex};
 
 use crate::history::LogPrefix;
-use crate::operation::{MapOperation, OperationKind};
+use crate::operation::MapOperation;
 use crate::queue::Logged;
 use crate::rewriting::write_all;
-use crate::runs::{BLOCK, Runs, indexed_run_of, write};
+use crate::runs::{BLOCK, Runs, indexed_run_of};
 use left_right::Absorb;
 use mds_types::{Dir, Rank};
 use naming::Naming;
@@ -78,33 +78,19 @@ impl<J: Naming> Absorb<Logged<J>> for Table<J> {
     ghost applied = { λ xs x. xs ++ x.operation ∷ [] };
 
     fn absorb_first(&mut self, entry: &Logged<J>, _other: &Table<J>) -> Result<(), AllocError> {
-        if !entry.before.is_same(&self.prefix) {
+        let (dirs, cell) = entry.operation.written();
+        if !entry.before.is_same(&self.prefix) || !are_below(dirs, self.limit) {
             return Err(AllocError);
         }
-        match &entry.operation.kind {
-            OperationKind::Set(dirs, rank) => {
-                if !are_below(dirs.as_slice(), self.limit) {
-                    return Err(AllocError);
-                }
-                write_all(
-                    &mut self.runs,
-                    &mut self.spare,
-                    &mut self.index,
-                    self.limit,
-                    dirs.as_slice(),
-                    rank.number() + 1,
-                );
-                self.prefix = entry.after.copied();
-                Ok(())
-            }
-            OperationKind::Clear(dir) => {
-                if dir.number() >= self.limit {
-                    return Err(AllocError);
-                }
-                write(&mut self.runs, &mut self.index, self.limit, dir.number(), 0);
-                self.prefix = entry.after.copied();
-                Ok(())
-            }
-        }
+        write_all(
+            &mut self.runs,
+            &mut self.spare,
+            &mut self.index,
+            self.limit,
+            dirs,
+            cell,
+        );
+        self.prefix = entry.after.copied();
+        Ok(())
     }
 }

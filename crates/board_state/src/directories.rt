@@ -1,5 +1,5 @@
 //! Directories are made and removed.
-ghost use Rattle.std.specs.Prelude.{◌≡◌, ◌<◌, ◌≤◌, ◌∷◌, [], ◌++◌, ℕ, IfOk, OnOk, Option, vec_capacity};
+ghost use Rattle.std.specs.Prelude.{◌≡◌, ◌<◌, ◌≤◌, ◌∷◌, [], ◌++◌, ℕ, IfOk, OnOk, Option};
 ghost use Rattle.board_state.specs.State.{refusal, happens, set_for};
 ghost use Rattle.board_state.specs.Steps.{IsStep, spelled};
 
@@ -46,11 +46,7 @@ impl<J: Naming, M: Publisher<J>> BoardState<J, M> {
             return Err(error);
         }
         let made = Event::Made(parent);
-        let (Ok(dirs), Ok(()), Ok(())) = (
-            Vec::with_capacity(alloc, 1),
-            self.map.reserve(),
-            self.cluster.reserve(&made),
-        ) else {
+        let (Ok(()), Ok(())) = (self.map.reserve(), self.cluster.reserve(&made)) else {
             return Err(BoardError::Memory);
         };
         let Ok(dir) = self.tree.add(alloc, parent, name, inodes) else {
@@ -61,7 +57,7 @@ impl<J: Naming, M: Publisher<J>> BoardState<J, M> {
         self.cluster.reached();
         recorded();
         self.cluster.happen(made);
-        give::<J, M>(&mut self.map, dirs, dir, rank);
+        give::<J, M>(&mut self.map, dir, rank);
         mark(&mut self.opened, self.events);
         self.events += 1;
         Ok(dir)
@@ -110,16 +106,13 @@ impl<J: Naming, M: Publisher<J>> BoardState<J, M> {
 }
 
 // A new directory gets its parent's rank on the map.
-fn give<J: Naming, M: Publisher<J>>(map: &mut M, dirs: Vec<Dir>, dir: Dir, rank: Option<Rank>)
-    requires empty { (dirs.items ≡ []) × (1 ≤ vec_capacity dirs) }
+fn give<J: Naming, M: Publisher<J>>(map: &mut M, dir: Dir, rank: Option<Rank>)
     requires room { 1 ≤ M.room map.old }
     requires inside { dir < J.limit }
     ensures appended { M.pending map.new ≡ M.pending map.old ++ set_for (dir ∷ []) rank }
     ensures published { M.published map.new ≡ M.published map.old }
 {
-    let mut dirs = dirs;
     if let Some(rank) = rank {
-        dirs.push_reserved(dir);
-        map.set(dirs, rank);
+        map.set_one(dir, rank);
     }
 }

@@ -1,5 +1,5 @@
 //! A new board.
-ghost use Rattle.std.specs.Prelude.{◌≡◌, ◌≤◌, [], ◌∷◌, IfOk, OnOk, replicate, true, vec_capacity, Some};
+ghost use Rattle.std.specs.Prelude.{◌≡◌, ◌≤◌, [], ◌∷◌, IfOk, replicate, true, Some};
 ghost use Rattle.dirtree.specs.Tree.{root};
 ghost use Rattle.dir_pins.specs.Pins.{no_pins};
 ghost use Rattle.heat_decay.specs.Heat.{all_cold};
@@ -97,18 +97,14 @@ impl<J: Naming, M: Publisher<J>> BoardState<J, M> {
             key,
             of: _of,
         } = parts;
-        let (Ok(mut root), Ok(tables)) = (
-            room_for_root::<J, M>(alloc, &mut map),
-            Tables::new(alloc, limit, active, key),
-        ) else {
+        let (Ok(()), Ok(tables)) = (map.reserve(), Tables::new(alloc, limit, active, key)) else {
             return Err(BoardParts::keyed(book, map, key));
         };
         let (book, shares) = match Book::open(alloc, book, limit, active) {
             Ok(opened) => opened,
             Err(failed) => return Err(BoardParts::keyed(failed.value, map, key)),
         };
-        root.push_reserved(Dir::ROOT);
-        map.set(root, Rank::default());
+        map.set_one(Dir::ROOT, Rank::default());
         let Tables {
             tree,
             pins,
@@ -157,21 +153,5 @@ impl Tables {
             heat: Heat::new(alloc, limit)?,
             cluster: Cluster::new(alloc, limit, active)?,
         })
-    }
-}
-
-// Room for an operation on the root, and for the root's number.
-fn room_for_root<J: Naming, M: Publisher<J>>(
-    alloc: Global,
-    map: &mut M,
-) -> Result<Vec<Dir>, AllocError>
-    ensures dirs { IfOk result (λ dirs. (dirs.items ≡ []) × (1 ≤ vec_capacity dirs)) }
-    ensures room { OnOk result (1 ≤ M.room map.new) }
-    ensures same { (M.published map.new ≡ M.published map.old) × (M.pending map.new ≡ M.pending map.old) }
-{
-    let dirs = Vec::with_capacity(alloc, 1)?;
-    match map.reserve() {
-        Ok(()) => Ok(dirs),
-        Err(_) => Err(AllocError),
     }
 }

@@ -31,7 +31,7 @@ add-requires g c =
     subst (λ (p : Present). make_refusal p.state.directories c.args.parent c.args.name.now ≡ None) (sym c.self.view_is) may
 
 pub happen-requires-clause-room : goal.happen-requires-clause-room
-happen-requires-clause-room g c = c.in-Ok-Ok-Ok.ensures''.room (happen-requires-clause-accepted g c)
+happen-requires-clause-room g c = c.in-Ok-Ok.ensures'.room (happen-requires-clause-accepted g c)
 
 pub invariant_of-self-2 : goal.invariant_of-self-2
 invariant_of-self-2 g c =

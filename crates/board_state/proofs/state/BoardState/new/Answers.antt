@@ -11,9 +11,9 @@ unfolding machine.start
 invariant_of-state g c =
     let t = c.in-Ok-Ok.ensures' in
     let first : c.default.result ≡ 0 = search rules in
-    let published : g.M.Publisher.published c.set.new.self ≡ [] = rw (c.set.ensures.published, c.room_for_root.ensures.same.0) c.args.parts.unwritten.0 in
-    let pending : g.M.Publisher.pending c.set.new.self ≡ SetTo (0 ∷ []) 0 ∷ [] =
-    rw (c.set.ensures.appended, c.room_for_root.ensures.same.1, c.args.parts.unwritten.1, c.push_reserved.ensures.items, c.in-Ok-Ok.ensures.dirs.0, first) refl in (
+    let published : g.M.Publisher.published c.set_one.new.self ≡ [] = rw (c.set_one.ensures.published, c.reserve.ensures.same.0) c.args.parts.unwritten.0 in
+    let pending : g.M.Publisher.pending c.set_one.new.self ≡ SetTo (0 ∷ []) 0 ∷ [] =
+    rw (c.set_one.ensures.appended, c.reserve.ensures.same.1, c.args.parts.unwritten.1, first) refl in (
       record {
         few_ticks = rw t.heat (omega arith);
         pins_limit = rw (t.pins, t.tree) (length-replicate c.args.limit None);
