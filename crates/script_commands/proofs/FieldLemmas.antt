@@ -1,10 +1,10 @@
 -- The fields of a line, taken one by one from the front, and how many of them a command looks at.
-use Rattle.std.proofs.Common.{◌≡◌, ℕ, zero, suc, ◌-◌, ◌<◌, ◌≤◌, Bool, true, false, not, List, [], ◌∷◌, ◌++◌, length, take, drop, refl, sym, ap, ◌∙◌, subst, arith, one-add, length-append, Bor, map, codes, bytes_eq}
+use Rattle.std.proofs.Common.{◌≡◌, ℕ, zero, suc, ◌-◌, ◌<◌, ◌≤◌, Bool, true, false, not, List, [], ◌∷◌, length, take, drop, refl, sym, ap, ◌∙◌, subst, arith, one-add}
 use Rattle.std.specs.Prelude.{filter}
-use Rattle.std.specs.List.{slice_split, position_or_len}
-use Rattle.std.proofs.lemmas.List.{map-append, take_rest}
+use Rattle.std.specs.List.{slice_split, onto_first, position_or_len}
+use Rattle.std.proofs.lemmas.List.{take_rest}
 use Rattle.std.proofs.lemmas.List.Sums.{prefix_len-le-length}
-use Rattle.script_commands.specs.Commands.{is_blank, is_empty, fields, command}
+use Rattle.script_commands.specs.Commands.{is_blank, is_empty, fields}
 
 -- the parts between the elements that pass that aren't empty
 abbrev fields_at : (ℕ → Bool) → List ℕ → List (List ℕ)
@@ -25,6 +25,32 @@ no_field p (b ∷ line) none = elim (p b) as (λ v. p b ≡ v → fields_at p (b
   | true ↦ λ e. rw e (no_field p line (rw (e, one-add) at none))
   | false ↦ λ e. absurd (let some = rw (e, e) at none in omega arith)
 ] refl
+
+-- blanks alone have no field
+all_blank : (p : ℕ → Bool) (line : List ℕ) → position_or_len (λ b. not (p b)) line ≡ length line → fields_at p line ≡ []
+all_blank p [] e = refl
+all_blank p (b ∷ line) e = elim (p b) as (λ v. p b ≡ v → fields_at p (b ∷ line) ≡ []) [
+  | true ↦ λ t. rw t (all_blank p line (let more = rw (t, one-add) at e in omega arith))
+  | false ↦ λ f. absurd (let none = rw f at e in omega arith)
+] refl
+
+-- a byte that doesn't part fields makes one
+kept_byte : (b : ℕ) (parts : List (List ℕ)) → filter (λ part. not (is_empty part)) (onto_first b parts) ≡ [] → ⊥
+kept_byte b [] e = cc
+kept_byte b (part ∷ parts) e = cc
+
+without_fields : (p : ℕ → Bool) (line : List ℕ) → fields_at p line ≡ [] → position_or_len (λ b. not (p b)) line ≡ length line
+without_fields p [] e = refl
+without_fields p (b ∷ line) e = elim (p b) as (λ v. p b ≡ v → position_or_len (λ b. not (p b)) (b ∷ line) ≡ length (b ∷ line)) [
+  | true ↦ λ t. let more = without_fields p line (rw t at e) in rw (t, one-add) (ap suc more)
+  | false ↦ λ f. absurd (kept_byte b (slice_split p line) (rw f at e))
+] refl
+
+pub blank_line : (line : List ℕ) → position_or_len (λ b. not (is_blank b)) line ≡ length line → fields line ≡ []
+blank_line line e = all_blank is_blank line e
+
+pub no_fields : (line : List ℕ) → fields line ≡ [] → position_or_len (λ b. not (is_blank b)) line ≡ length line
+no_fields line e = without_fields is_blank line e
 
 -- the first part, and the parts behind it
 first_part : (p : ℕ → Bool) (line : List ℕ) → (parts : List (List ℕ)) × (slice_split p line ≡ take (position_or_len p line) line ∷ parts) × (filter (λ part. not (is_empty part)) parts ≡ fields_at p (drop (position_or_len p line) line))
@@ -60,41 +86,3 @@ module _ (line : List ℕ) (n k : ℕ) (blanks : n ≡ position_or_len (λ b. no
   field_and_rest some =
       let first = first_kept is_blank (tail n line) (subst (λ (m : ℕ). 0 < m) bytes some) in
       sym (after_blanks is_blank line) ∙ ap (fields_at is_blank) (sym behind) ∙ subst (λ (m : ℕ). fields (tail n line) ≡ take m (tail n line) ∷ fields (drop m (tail n line))) (sym bytes) first ∙ ap (λ (rest : List ℕ). take k (tail n line) ∷ fields rest) (sym (take_rest (tail n line) k))
-
--- one more of the first elements
-one_more : (xs : List (List ℕ)) (n : ℕ) (x : List ℕ) (rest : List (List ℕ)) → drop n xs ≡ x ∷ rest → (take (suc n) xs ≡ take n xs ++ x ∷ []) × (drop (suc n) xs ≡ rest)
-one_more [] zero x rest e = cc
-one_more [] (suc n) x rest e = cc
-one_more (y ∷ xs) zero x rest e = (cc, cc)
-one_more (y ∷ xs) (suc n) x rest e = let more = one_more xs n x rest e in (ap (λ (ys : List (List ℕ)). y ∷ ys) more.0, more.1)
-
--- one more field is found, and those behind it are left
-pub found_more : (found more : List (Bor (List ℕ))) (field : Bor (List ℕ)) (all left rest : List (List ℕ)) → more ≡ found ++ field ∷ [] → map (λ (part : Bor (List ℕ)). part.now) found ≡ take (length found) all → left ≡ drop (length found) all → left ≡ field.now ∷ rest → (map (λ (part : Bor (List ℕ)). part.now) more ≡ take (length more) all) × (rest ≡ drop (length more) all)
-found_more found more field all left rest pushed told is split =
-    let count : length more ≡ suc (length found) = omega (arith, ap (λ (parts : List (Bor (List ℕ))). length parts) pushed, length-append found (field ∷ [])) in
-    let next = one_more all (length found) field.now rest (sym is ∙ split) in
-    let now = λ (part : Bor (List ℕ)). part.now in
-    (ap (map now) pushed ∙ map-append now found (field ∷ []) ∙ ap (λ (parts : List (List ℕ)). parts ++ field.now ∷ []) told ∙ sym next.0 ∙ ap (λ (n : ℕ). take n all) (sym count), sym next.1 ∙ ap (λ (n : ℕ). drop n all) (sym count))
-
--- where nothing is left, the first elements are all
-pub none_left : (xs : List (List ℕ)) (n m : ℕ) → drop n xs ≡ [] → n ≤ m → take n xs ≡ take m xs
-none_left [] zero zero e le = refl
-none_left [] zero (suc m) e le = refl
-none_left [] (suc n) zero e le = refl
-none_left [] (suc n) (suc m) e le = refl
-none_left (x ∷ xs) zero m e le = cc
-none_left (x ∷ xs) (suc n) zero e le = absurd (omega arith)
-none_left (x ∷ xs) (suc n) (suc m) e le = ap (λ (ys : List (List ℕ)). x ∷ ys) (none_left xs n m e (omega arith))
-
--- the first four fields are the first one and three behind it
-pub word_taken : (parts : List (List ℕ)) (word : List ℕ) (rest : List (List ℕ)) → take 4 parts ≡ word ∷ rest → (all : List (List ℕ)) × (parts ≡ word ∷ all) × (take 3 all ≡ rest)
-word_taken [] word rest e = cc
-word_taken (first ∷ all) word rest e = (all, cc, cc)
-
--- a command other than `cost` is decided by three fields behind its word
-pub command_taken : (word : List ℕ) (rest : List (List ℕ)) → bytes_eq word (codes "cost") ≡ false → command (word ∷ take 3 rest) ≡ command (word ∷ rest)
-command_taken word [] other = refl
-command_taken word (a ∷ []) other = refl
-command_taken word (a ∷ b ∷ []) other = refl
-command_taken word (a ∷ b ∷ c ∷ []) other = refl
-command_taken word (a ∷ b ∷ c ∷ d ∷ rest) other = rw other refl

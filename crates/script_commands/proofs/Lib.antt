@@ -1,4 +1,3 @@
 pub mod FieldLemmas
-pub mod LineLemmas
 pub mod NumberLemmas
 pub mod PlainLemmas

@@ -1,12 +1,12 @@
 //! The commands, each with what its word asks of the fields behind it.
-ghost use Rattle.std.specs.Prelude.{◌≡◌, ◌∷◌, bytes_eq, codes, drop, map, IfOk, false, true};
+ghost use Rattle.std.specs.Prelude.{◌≡◌, ◌∷◌, bytes_eq, codes, map, IfOk, false, true};
 ghost use Rattle.std.specs.List.{list_all};
 ghost use Rattle.std.specs.Option.{option_map};
 ghost use Rattle.script_commands.specs.Commands.{alone, command, fields, is_plain, load, make_dir, mask, pin};
 ghost use Rattle.script_commands.specs.Commands.{rank_of, ranks, remove_dir, restart, stop};
 ghost use Rattle.script_commands.specs.View.{view};
 
-use crate::fields::{fields, text};
+use crate::fields::{fields, is_blank_line, one_field, text, two_fields};
 use crate::number::{number, pin_value};
 use crate::rank_count::RankCount;
 use mds_types::Rank;
@@ -44,16 +44,13 @@ pub enum Command<'a> {
     Stat,
 }
 
-fn ranks<'a>(rest: &[&'a [u8]]) -> Option<Command<'a>>
-    ensures { option_map view result ≡ ranks (map (λ field. field.now) rest.now) }
+fn ranks(rest: &[u8]) -> Option<Command<'_>>
+    ensures { option_map view result ≡ ranks (fields rest.now) }
 {
-    match rest {
-        [n] => match number(n, 1, 64) {
-            Some(n) => Some(Command::Ranks(RankCount { number: n as u8 })),
-            None => None,
-        },
-        _ => None,
-    }
+    let number = number(one_field(rest)?, 1, 64)?;
+    Some(Command::Ranks(RankCount {
+        number: number as u8,
+    }))
 }
 
 // A rank by its number, 0 to 63.
@@ -66,102 +63,71 @@ fn rank(field: &[u8]) -> Option<Rank>
     }
 }
 
-fn stop<'a>(rest: &[&'a [u8]]) -> Option<Command<'a>>
-    ensures { option_map view result ≡ stop (map (λ field. field.now) rest.now) }
+fn stop(rest: &[u8]) -> Option<Command<'_>>
+    ensures { option_map view result ≡ stop (fields rest.now) }
 {
-    match rest {
-        [number] => match rank(number) {
-            Some(rank) => Some(Command::Stop(rank)),
-            None => None,
-        },
-        _ => None,
-    }
+    let rank = rank(one_field(rest)?)?;
+    Some(Command::Stop(rank))
 }
 
-fn restart<'a>(rest: &[&'a [u8]]) -> Option<Command<'a>>
-    ensures { option_map view result ≡ restart (map (λ field. field.now) rest.now) }
+fn restart(rest: &[u8]) -> Option<Command<'_>>
+    ensures { option_map view result ≡ restart (fields rest.now) }
 {
-    match rest {
-        [number] => match rank(number) {
-            Some(rank) => Some(Command::Restart(rank)),
-            None => None,
-        },
-        _ => None,
-    }
+    let rank = rank(one_field(rest)?)?;
+    Some(Command::Restart(rank))
 }
 
-fn mask<'a>(rest: &[&'a [u8]]) -> Option<Command<'a>>
-    requires { list_all (list_all is_plain) (map (λ field. field.now) rest.now) ≡ true }
-    ensures { option_map view result ≡ mask (map (λ field. field.now) rest.now) }
+fn mask(rest: &[u8]) -> Option<Command<'_>>
+    requires { list_all (list_all is_plain) (fields rest.now) ≡ true }
+    ensures { option_map view result ≡ mask (fields rest.now) }
 {
-    match rest {
-        [bits] => match text(bits) {
-            Some(bits) => Some(Command::Mask(bits)),
-            None => None,
-        },
-        _ => None,
-    }
+    let bits = one_field(rest)?;
+    Some(Command::Mask(text(bits)))
 }
 
-fn make_dir<'a>(rest: &[&'a [u8]]) -> Option<Command<'a>>
-    requires { list_all (list_all is_plain) (map (λ field. field.now) rest.now) ≡ true }
-    ensures { option_map view result ≡ make_dir (map (λ field. field.now) rest.now) }
+fn make_dir(rest: &[u8]) -> Option<Command<'_>>
+    requires { list_all (list_all is_plain) (fields rest.now) ≡ true }
+    ensures { option_map view result ≡ make_dir (fields rest.now) }
 {
-    match rest {
-        [path, n] => match (text(path), number(n, 0, u32::MAX)) {
-            (Some(path), Some(n)) => Some(Command::MakeDir(path, n)),
-            _ => None,
-        },
-        _ => None,
-    }
+    let (path, inodes) = two_fields(rest)?;
+    let inodes = number(inodes, 0, u32::MAX)?;
+    Some(Command::MakeDir(text(path), inodes))
 }
 
-fn remove_dir<'a>(rest: &[&'a [u8]]) -> Option<Command<'a>>
-    requires { list_all (list_all is_plain) (map (λ field. field.now) rest.now) ≡ true }
-    ensures { option_map view result ≡ remove_dir (map (λ field. field.now) rest.now) }
+fn remove_dir(rest: &[u8]) -> Option<Command<'_>>
+    requires { list_all (list_all is_plain) (fields rest.now) ≡ true }
+    ensures { option_map view result ≡ remove_dir (fields rest.now) }
 {
-    match rest {
-        [path] => match text(path) {
-            Some(path) => Some(Command::RemoveDir(path)),
-            None => None,
-        },
-        _ => None,
-    }
+    let path = one_field(rest)?;
+    Some(Command::RemoveDir(text(path)))
 }
 
-fn pin<'a>(rest: &[&'a [u8]]) -> Option<Command<'a>>
-    requires { list_all (list_all is_plain) (map (λ field. field.now) rest.now) ≡ true }
-    ensures { option_map view result ≡ pin (map (λ field. field.now) rest.now) }
+fn pin(rest: &[u8]) -> Option<Command<'_>>
+    requires { list_all (list_all is_plain) (fields rest.now) ≡ true }
+    ensures { option_map view result ≡ pin (fields rest.now) }
 {
-    match rest {
-        [path, value] => match (text(path), pin_value(value)) {
-            (Some(path), Some(value)) => Some(Command::Pin(path, value)),
-            _ => None,
-        },
-        _ => None,
-    }
+    let (path, value) = two_fields(rest)?;
+    let value = pin_value(value)?;
+    Some(Command::Pin(text(path), value))
 }
 
-fn load<'a>(rest: &[&'a [u8]]) -> Option<Command<'a>>
-    requires { list_all (list_all is_plain) (map (λ field. field.now) rest.now) ≡ true }
-    ensures { option_map view result ≡ load (map (λ field. field.now) rest.now) }
+fn load(rest: &[u8]) -> Option<Command<'_>>
+    requires { list_all (list_all is_plain) (fields rest.now) ≡ true }
+    ensures { option_map view result ≡ load (fields rest.now) }
 {
-    match rest {
-        [path, n] => match (text(path), number(n, 1, 1_000_000)) {
-            (Some(path), Some(n)) => Some(Command::Load(path, n)),
-            _ => None,
-        },
-        _ => None,
-    }
+    let (path, hits) = two_fields(rest)?;
+    let hits = number(hits, 1, 1_000_000)?;
+    Some(Command::Load(text(path), hits))
 }
 
 /// A command that has no fields behind its word.
-fn alone<'a>(command: Command<'a>, rest: &[&'a [u8]]) -> Option<Command<'a>>
-    ensures { option_map view result ≡ alone (view command.entry) (map (λ field. field.now) rest.now) }
+fn alone<'a>(command: Command<'a>, rest: &[u8]) -> Option<Command<'a>>
+    ensures { option_map view result ≡ alone (view command.entry) (fields rest.now) }
 {
-    match rest {
-        [] => Some(command),
-        _ => None,
+    if is_blank_line(rest) {
+        Some(command)
+    } else {
+        None
     }
 }
 
@@ -171,10 +137,7 @@ fn texts<'a>(alloc: Global, rest: &[&'a [u8]]) -> Result<Vec<&'a str>, AllocErro
 {
     let mut paths = Vec::with_capacity(alloc, rest.len())?;
     for field in rest {
-        let Some(path) = text(field) else {
-            unreachable!()
-        };
-        paths.push(path)?;
+        paths.push(text(field))?;
     }
     Ok(paths)
 }
@@ -187,35 +150,31 @@ pub(crate) fn is_cost(word: &[u8]) -> bool
 }
 
 /// The fields behind a line's first word, as texts.
-pub(crate) fn tops(alloc: Global, line: &[u8]) -> Result<Vec<&str>, AllocError>
-    requires { list_all is_plain line.now ≡ true }
-    ensures { IfOk result (λ paths. map (λ path. path.now) paths.items ≡ drop 1 (fields line.now)) }
+pub(crate) fn tops(alloc: Global, rest: &[u8]) -> Result<Vec<&str>, AllocError>
+    requires { list_all (list_all is_plain) (fields rest.now) ≡ true }
+    ensures { IfOk result (λ paths. map (λ path. path.now) paths.items ≡ fields rest.now) }
 {
-    let parts = fields(alloc, line)?;
-    match parts.split_first() {
-        Some((_, rest)) => texts(alloc, rest),
-        None => Ok(Vec::new(alloc)),
-    }
+    texts(alloc, &fields(alloc, rest)?)
 }
 
 /// The command that a word other than `cost` and the fields behind it spell, if they spell one.
-pub(crate) fn find_command<'a>(word: &[u8], rest: &[&'a [u8]]) -> Option<Command<'a>>
+pub(crate) fn find_command<'a>(word: &[u8], rest: &'a [u8]) -> Option<Command<'a>>
     requires other { bytes_eq word.now (codes "cost") ≡ false }
-    requires plain { list_all (list_all is_plain) (map (λ field. field.now) rest.now) ≡ true }
-    ensures { option_map view result ≡ command (word.now ∷ map (λ field. field.now) rest.now) }
+    requires plain { list_all (list_all is_plain) (fields rest.now) ≡ true }
+    ensures { option_map view result ≡ command (word.now ∷ fields rest.now) }
 {
-    if word == b"ranks".as_slice() {
+    if word == b"load".as_slice() {
+        load(rest)
+    } else if word == b"dir".as_slice() {
+        make_dir(rest)
+    } else if word == b"ranks".as_slice() {
         ranks(rest)
     } else if word == b"mask".as_slice() {
         mask(rest)
-    } else if word == b"dir".as_slice() {
-        make_dir(rest)
     } else if word == b"rmdir".as_slice() {
         remove_dir(rest)
     } else if word == b"pin".as_slice() {
         pin(rest)
-    } else if word == b"load".as_slice() {
-        load(rest)
     } else if word == b"go".as_slice() {
         alone(Command::Go, rest)
     } else if word == b"tick".as_slice() {

@@ -1,17 +1,11 @@
 //! The fields of a line: the parts between spaces, tabs and carriage returns.
-ghost use Rattle.std.specs.Prelude.{◌≡◌, ◌↔◌, ◌≤◌, [], ◌∷◌, length, not, map, take, IfOk, IfSome};
-ghost use Rattle.std.specs.Prelude.{IsSome, IsTrue, MatchOption, slice_index, true};
+ghost use Rattle.std.specs.Prelude.{◌≡◌, ◌≢◌, ◌↔◌, ◌≤◌, ℕ, List, [], ◌∷◌, length, not, map, IfOk, IsTrue};
+ghost use Rattle.std.specs.Prelude.{MatchOption, slice_index, true};
 ghost use Rattle.std.specs.List.{list_all, position_or_len};
 ghost use Rattle.script_commands.specs.Commands.{is_blank, is_empty, is_plain, fields};
 
-use arrayvec::ArrayVec;
 use memchr::memchr3;
 use std::alloc::{AllocError, Global};
-
-/// How many fields of a line tell what it asks for, where it doesn't ask for a cost.
-///
-/// No other command takes more than two fields behind its word, so a fourth field tells that there are too many.
-pub const FIRST_FIELDS: usize = 4;
 
 /// Whether a byte parts fields.
 pub fn is_blank(byte: u8) -> bool
@@ -23,20 +17,21 @@ pub fn is_blank(byte: u8) -> bool
 fn is_plain(byte: u8) -> bool
     ensures { result ≡ is_plain byte }
 {
-    is_blank(byte) || (byte > 0x20 && byte < 0x7f)
+    (byte >= b' ' && byte < 0x7f) || byte == b'\t' || byte == b'\r'
 }
 
 /// Whether a line holds no byte beside those that are seen in print and those that part fields.
 ///
-/// It doesn't end at the first other byte, so that many bytes can be looked at in one step.
+/// The loop doesn't end at the first other byte, so that many bytes can be looked at in one step, and it leaves tabs
+/// and carriage returns, which few lines have, to a second look.
 pub fn is_plain_line(line: &[u8]) -> bool
     ensures { result ≡ list_all is_plain line.now }
 {
-    let mut plain = true;
+    let mut printed = true;
     for byte in line {
-        plain = plain & is_plain(*byte);
+        printed = printed & (*byte >= b' ' && *byte < 0x7f);
     }
-    plain
+    printed || line.iter().all(|byte| is_plain(*byte))
 }
 
 /// Whether a part between blanks is a field.
@@ -71,7 +66,8 @@ fn blank_count(line: &[u8]) -> usize
     line.len()
 }
 
-// How many bytes stand before a line's first blank.
+// How many bytes stand before a line's first blank. Not inlined: its callers take more instructions with it.
+#[inline(never)]
 fn field_length(line: &[u8]) -> usize
     ensures value { result ≡ position_or_len is_blank line.now }
     ensures within { result ≤ length line.now }
@@ -82,9 +78,10 @@ fn field_length(line: &[u8]) -> usize
     }
 }
 
-// The first field of a line, and what stands behind it.
-fn split_field(line: &[u8]) -> Option<(&[u8], &[u8])>
-    ensures { MatchOption result (fields line.now ≡ []) (λ split. fields line.now ≡ split.0.now ∷ fields split.1.now) }
+/// The first field of a line, and what stands behind it.
+pub fn split_field(line: &[u8]) -> Option<(&[u8], &[u8])>
+    ensures { MatchOption result (fields line.now ≡ [])
+        (λ split. fields line.now ≡ split.0.now ∷ fields split.1.now) }
 {
     let rest = &line[blank_count(line)..];
     let length = field_length(rest);
@@ -94,20 +91,34 @@ fn split_field(line: &[u8]) -> Option<(&[u8], &[u8])>
     Some((&rest[..length], &rest[length..]))
 }
 
-/// The first fields of a line. They need no memory.
-pub fn first_fields(line: &[u8]) -> ArrayVec<&[u8], FIRST_FIELDS>
-    ensures { map (λ part. part.now) result.items ≡ take FIRST_FIELDS (fields line.now) }
+/// Whether a line has no fields.
+pub fn is_blank_line(line: &[u8]) -> bool
+    ensures { IsTrue result ↔ (fields line.now ≡ []) }
 {
-    let mut parts = ArrayVec::new();
-    let mut rest = line;
-    while !parts.is_full() {
-        let Some((field, more)) = split_field(rest) else {
-            return parts;
-        };
-        parts.push(field);
-        rest = more;
+    blank_count(line) == line.len()
+}
+
+/// A line's field, where it has just one.
+pub fn one_field(line: &[u8]) -> Option<&[u8]>
+    ensures { MatchOption result ((field : List ℕ) → fields line.now ≢ field ∷ [])
+        (λ field. fields line.now ≡ field.now ∷ []) }
+{
+    let (field, rest) = split_field(line)?;
+    if is_blank_line(rest) {
+        Some(field)
+    } else {
+        None
     }
-    parts
+}
+
+/// A line's fields, where it has just two.
+pub fn two_fields(line: &[u8]) -> Option<(&[u8], &[u8])>
+    ensures { MatchOption result ((first second : List ℕ) → fields line.now ≢ first ∷ second ∷ [])
+        (λ pair. fields line.now ≡ pair.0.now ∷ pair.1.now ∷ []) }
+{
+    let (first, rest) = split_field(line)?;
+    let second = one_field(rest)?;
+    Some((first, second))
 }
 
 /// Whether a word begins a comment.
@@ -117,13 +128,11 @@ pub fn begins_with_hash(word: &[u8]) -> bool
     !word.is_empty() && word[0] == b'#'
 }
 
-/// A field as text. Each field of a plain line is.
-pub fn text(field: &[u8]) -> Option<&str>
-    ensures same { IfSome result (λ text. text.now ≡ field.now) }
-    ensures plain { list_all is_plain field.now ≡ true → IsSome result }
+/// A field of a plain line, as text.
+pub fn text(field: &[u8]) -> &str
+    requires { list_all is_plain field.now ≡ true }
+    ensures { result.now ≡ field.now }
 {
-    match str::from_utf8(field) {
-        Ok(text) => Some(text),
-        Err(_) => None,
-    }
+    // what is plain is ASCII, so this call's condition, that the bytes are UTF-8, is proved
+    unsafe { str::from_utf8_unchecked(field) }
 }

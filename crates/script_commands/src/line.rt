@@ -4,7 +4,7 @@ ghost use Rattle.script_commands.specs.Commands.{asked, fields};
 ghost use Rattle.script_commands.specs.View.{asked_view};
 
 use crate::command::{Command, find_command, is_cost, tops};
-use crate::fields::{begins_with_hash, first_fields, is_plain_line};
+use crate::fields::{begins_with_hash, is_plain_line, split_field};
 use std::alloc::{AllocError, Global};
 
 /// What a line asks for.
@@ -22,8 +22,7 @@ pub fn read_line(alloc: Global, line: &[u8]) -> Result<Asked<'_>, AllocError>
     ensures asked { IfOk result (λ found. asked_view found ≡ asked line.now) }
     ensures memory { OnErr result ((tops : List (List ℕ)) × (fields line.now ≡ codes "cost" ∷ tops)) }
 {
-    let parts = first_fields(line);
-    let Some((word, rest)) = parts.split_first() else {
+    let Some((word, rest)) = split_field(line) else {
         return Ok(Asked::Nothing);
     };
     if begins_with_hash(word) {
@@ -33,7 +32,7 @@ pub fn read_line(alloc: Global, line: &[u8]) -> Result<Asked<'_>, AllocError>
         return Ok(Asked::Syntax);
     }
     if is_cost(word) {
-        return Ok(Asked::Asks(Command::Cost(tops(alloc, line)?)));
+        return Ok(Asked::Asks(Command::Cost(tops(alloc, rest)?)));
     }
     match find_command(word, rest) {
         Some(found) => Ok(Asked::Asks(found)),

@@ -1,27 +1,6 @@
 //! Numbers in a script: digits only, leading zeros allowed, within a stated range.
-ghost use Rattle.std.specs.Prelude.{◌≡◌, ◌↔◌, ◌≤◌, IfSome, IsTrue, slice_index};
+ghost use Rattle.std.specs.Prelude.{◌≡◌, ◌≤◌, IfSome};
 ghost use Rattle.script_commands.specs.Commands.{number, pin_value};
-
-fn begins_with_plus(bytes: &[u8]) -> bool
-    ensures { IsTrue result ↔ (slice_index bytes.now 0 ≡ 43) }
-{
-    !bytes.is_empty() && bytes[0] == b'+'
-}
-
-// `parse` takes a sign, which a number of a script hasn't.
-fn number_of(field: &str, low: u32, high: u32) -> Option<u32>
-    ensures value { result ≡ number low high field.now }
-    ensures bound { IfSome result (λ n. n ≤ high) }
-    ensures least { IfSome result (λ n. low ≤ n) }
-{
-    if begins_with_plus(field.as_bytes()) {
-        return None;
-    }
-    match field.parse::<u32>() {
-        Ok(value) if low <= value && value <= high => Some(value),
-        _ => None,
-    }
-}
 
 /// The number that a field spells, if it is one from `low` to `high`.
 pub fn number(field: &[u8], low: u32, high: u32) -> Option<u32>
@@ -29,10 +8,20 @@ pub fn number(field: &[u8], low: u32, high: u32) -> Option<u32>
     ensures bound { IfSome result (λ n. n ≤ high) }
     ensures least { IfSome result (λ n. low ≤ n) }
 {
-    match str::from_utf8(field) {
-        Ok(text) => number_of(text, low, high),
-        Err(_) => None,
+    let mut value = 0u64;
+    for byte in field {
+        if !byte.is_ascii_digit() {
+            return None;
+        }
+        value = 10 * value + (*byte - b'0') as u64;
+        if value > high as u64 {
+            return None;
+        }
     }
+    if field.is_empty() || value < low as u64 {
+        return None;
+    }
+    Some(value as u32)
 }
 
 /// The value of an export pin: -1, or a number up to 2147483647.

@@ -1,8 +1,8 @@
-use Rattle.std.proofs.Common.{◌≡◌, take}
+use Rattle.std.proofs.Common.{◌≡◌, take, true}
 use Rattle.std.specs.List.{list_all}
 use Rattle.script_commands.specs.Commands.{is_plain}
 use Rattle.script_commands.proofs.fields.is_plain_line.Given as goal
 
--- the bytes so far
+-- where the bytes so far are seen in print, they are plain
 abbrev pub invariant-loop-byte : goal.invariant-loop-byte
-invariant-loop-byte l = l.plain ≡ list_all is_plain (take l.byte-index l.line)
+invariant-loop-byte l = l.printed ≡ true → list_all is_plain (take l.byte-index l.line) ≡ true
