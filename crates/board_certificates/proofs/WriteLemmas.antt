@@ -1,5 +1,5 @@
 -- Certificates that are written one after another.
-use Rattle.std.proofs.Common.{◌≡◌, ◌∙◌, ℕ, ◌+◌, ◌<◌, ◌≤◌, List, [], ◌∷◌, ◌++◌, Option, Some, None, length, drop, get_or, refl, sym, ap, append_assoc, append-nil, subst}
+use Rattle.std.proofs.Common.{◌≡◌, ◌∙◌, ℕ, ◌+◌, ◌<◌, ◌≤◌, List, [], ◌∷◌, ◌++◌, Option, Some, length, drop, get_or, refl, sym, ap, append_assoc, append-nil, subst}
 use Rattle.std.proofs.KnownBytes.{Appends-nil, Appends-trans}
 use Rattle.std.proofs.lemmas.List.{drop_all, drop_more}
 use Rattle.std.proofs.lemmas.List.Concat.{flat_map-append}
@@ -19,9 +19,6 @@ use Rattle.script_engine.specs.Known.{AppendsFront}
 pub one : (last : Option ProblemData) (change : Change) (problem : ProblemData) (plan : PlanData) → last ≡ Some problem → change ≡ Adopt plan
     → texts (certified_by last change) ≡ text problem plan
 one last change problem plan l c = rw (l, c) (append-nil (text problem plan))
-
-texts_of : List Certificate → List Certificate → List ℕ
-texts_of cs ds = texts cs ++ texts ds
 
 texts_parted : (cs ds : List Certificate) → texts (cs ++ ds) ≡ texts cs ++ texts ds
 texts_parted cs ds = flat_map-append (λ (c : Certificate). text c.problem c.plan) cs ds

@@ -1,6 +1,6 @@
 -- What is weighed, with one more number of parts.
 use Rattle.std.proofs.Common.{◌≡◌, ◌∙◌, ◌<◌, ◌≤◌, ◌+◌, ◌%◌, ◌==◌, ◌⊎◌, ◌||◌, ◌≢◌, ℕ, zero, suc, Bool, true, false, List, [], ◌∷◌, ◌++◌, length, Option, Some, None, inl, inr, ⊎_elim, ap, sym, subst, refl, arith}
-use Rattle.std.proofs.lemmas.Bool.{cases_Bool, cases_eq, eq-eqb, ne_eqb}
+use Rattle.std.proofs.lemmas.Bool.{cases_Bool, cases_eq, eq-eqb}
 use Rattle.std.proofs.lemmas.Option.{slice_get_within}
 use Rattle.std.specs.List.{slice_get}
 use Rattle.std.specs.Option.{option_map_or}
@@ -54,14 +54,6 @@ heavy_later ranks pinned rows plans parts next le has = record {
   there = has.there;
   of = has.of;
   heavy = has.heavy;
-}
-
--- nothing is weighed at first
-pub weighed_none : (ranks : ℕ) (pinned : List ℕ) (rows : List ProblemRow) (n : ℕ) → n ≡ rank_count ranks → AreWeighed ranks pinned rows [] n
-weighed_none ranks pinned rows n is = record {
-  all = λ k plan there. cc;
-  each = λ parts low high. absurd (omega (arith, is, low, high));
-  capped = λ parts low high multiple. absurd (omega (arith, is, low, high));
 }
 
 -- a number that is no multiple is passed over

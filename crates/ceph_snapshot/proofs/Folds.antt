@@ -1,14 +1,14 @@
 -- Homes, new places, and what is added up.
-use Rattle.std.proofs.Common.{◌≡◌, ◌≢◌, ◌∙◌, ℕ, zero, suc, ◌+◌, ◌<◌, ◌≤◌, ◌++◌, Bool, true, false, not, cond, eqb, List, [], ◌∷◌, length, slice_get, slice_index, get_or, take, Option, Some, None, refl, ap, sym, subst, ⊎_elim, arith}
+use Rattle.std.proofs.Common.{◌≡◌, ◌≢◌, ◌∙◌, ℕ, zero, suc, ◌+◌, ◌<◌, ◌≤◌, ◌++◌, Bool, true, false, not, cond, eqb, List, [], ◌∷◌, length, slice_get, slice_index, take, Option, Some, None, refl, ap, sym, subst, ⊎_elim, arith}
 use Rattle.std.specs.List.{sum_by}
 use Rattle.std.specs.Option.{option_map, option_map_or}
 use Rattle.std.proofs.lemmas.Bool.{cases_Bool, cases_eq, eq-eqb, ne_eqb}
 use Rattle.std.proofs.lemmas.List.{get_or_append_left, get_or_push}
 use Rattle.std.proofs.lemmas.List.Sums.{sum_by-cons}
-use Rattle.mds_types.specs.Sums.{count_below, sum_below}
+use Rattle.mds_types.specs.Sums.{sum_below}
 use Rattle.mds_types.proofs.SumsLemmas.{count_below-le, sum_below-fewer, sum_below-only, sum_below-pick, sum_below-same, sum_below-swap, sum_below-zero}
 use Rattle.ceph_snapshot.specs.declared.directory.Directory.{Directory}
-use Rattle.ceph_snapshot.specs.Folding.{AreGone, HasLeft, IsFolded, IsHome, IsPlain, all_heat, all_inodes, brought, folded, is_marked, kept_below, put_together, with_amounts}
+use Rattle.ceph_snapshot.specs.Folding.{HasLeft, IsFolded, IsHome, all_heat, all_inodes, brought, is_marked, kept_below, put_together, with_amounts}
 use Rattle.ceph_snapshot.specs.Holding.{climb, heat_at, inodes_at, parent_at}
 use Rattle.ceph_snapshot.proofs.Keys.{sum_front}
 
@@ -52,18 +52,6 @@ inside_more homes home n size before here i l =
     let inside : i < n = omega (arith, other, l) in
     let at : slice_index (homes ++ home ∷ []) i ≡ slice_index homes i = get_or_append_left homes (home ∷ []) 0 i (omega (arith, inside, size)) in
     omega (arith, at, before i inside))
-    (cases_eq i n)
-
--- one more amount behind those of the first n
-pub amounts_more : (amount : ℕ → ℕ) (xs : List ℕ) (x n : ℕ) → length xs ≡ n
-    → ((i : ℕ) → i < n → slice_index xs i ≡ amount i) → x ≡ amount n
-    → (i : ℕ) → i < n + 1 → slice_index (xs ++ x ∷ []) i ≡ amount i
-amounts_more amount xs x n size before here i l =
-    ⊎_elim (λ (same : i ≡ n).
-    subst (λ (k : ℕ). slice_index (xs ++ x ∷ []) k ≡ amount k) (sym same) (get_or_push xs x 0 n size ∙ here))
-    (λ (other : i ≢ n).
-    let inside : i < n = omega (arith, other, l) in
-    get_or_append_left xs (x ∷ []) 0 i (omega (arith, inside, size)) ∙ before i inside)
     (cases_eq i n)
 
 -- new places

@@ -1,5 +1,5 @@
 -- Which directories go: keys, and how many are at most one of them.
-use Rattle.std.proofs.Common.{◌≡◌, ◌≢◌, ◌∙◌, ℕ, zero, suc, ◌+◌, ◌-◌, ◌*◌, ◌^◌, ◌<◌, ◌≤◌, ◌&&◌, Bool, true, false, not, cond, slice_index, List, [], ◌∷◌, ◌++◌, add_assoc, add-zero, length, get_or, set, refl, ap, sym, subst, ⊎_elim, arith}
+use Rattle.std.proofs.Common.{◌≡◌, ◌≢◌, ◌∙◌, ℕ, zero, suc, ◌+◌, ◌-◌, ◌<◌, ◌≤◌, Bool, true, false, not, cond, List, [], ◌∷◌, ◌++◌, add_assoc, add-zero, length, get_or, set, refl, ap, sym, subst, ⊎_elim, arith}
 use Rattle.std.specs.Cmp.{IsTotalOrder}
 use Rattle.std.proofs.lemmas.Cmp.{nat_cmp_total, on_total, then_total}
 use Rattle.std.specs.List.{count_by, sum_by}
@@ -99,16 +99,16 @@ stays_passed heats stays last at stay =
     count_below_more at (goes heats stays last)
     ∙ (ap (λ (b : Bool). count_below at (goes heats stays last) + cond b 1 0) same ∙ add-zero (count_below at (goes heats stays last)))
 
--- one more mark behind those of the first n
-pub marks_more : (marked : ℕ → Bool) (marks : List Bool) (mark : Bool) (n : ℕ) → length marks ≡ n
-    → ((i : ℕ) → i < n → is_marked marks i ≡ marked i) → mark ≡ marked n
-    → (i : ℕ) → i < n + 1 → is_marked (marks ++ mark ∷ []) i ≡ marked i
-marks_more marked marks mark n size before here i l =
+-- one more value behind those of the first n
+pub values_more : {A : Type 0} (none : A) (value : ℕ → A) (xs : List A) (x : A) (n : ℕ) → length xs ≡ n
+    → ((i : ℕ) → i < n → get_or xs i none ≡ value i) → x ≡ value n
+    → (i : ℕ) → i < n + 1 → get_or (xs ++ x ∷ []) i none ≡ value i
+values_more none value xs x n size before here i l =
     ⊎_elim (λ (same : i ≡ n).
-    subst (λ (k : ℕ). is_marked (marks ++ mark ∷ []) k ≡ marked k) (sym same) (get_or_push marks mark false n size ∙ here))
+    subst (λ (k : ℕ). get_or (xs ++ x ∷ []) k none ≡ value k) (sym same) (get_or_push xs x none n size ∙ here))
     (λ (other : i ≢ n).
     let inside : i < n = omega (arith, other, l) in
-    get_or_append_left marks (mark ∷ []) false i (omega (arith, inside, size)) ∙ before i inside)
+    get_or_append_left xs (x ∷ []) none i (omega (arith, inside, size)) ∙ before i inside)
     (cases_eq i n)
 
 -- marks stay when more are set

@@ -51,9 +51,6 @@ pub unpinned_by_parent : (es : List (Option Entry)) (own : List (Option ℕ)) (d
 unpinned_by_parent es own d tree some there free =
     rw (tree.parents d there, there) (ap is_none (sym (parent_holds es own d tree some free)))
 
-pub unpinned_root : (es : List (Option Entry)) (own : List (Option ℕ)) → is_there es 0 ≡ true → own_pin own 0 ≡ None → is_unpinned es own 0 ≡ true
-unpinned_root es own there free = rw there (ap is_none (at_root es own ∙ free))
-
 pub pinned : (es : List (Option Entry)) (own : List (Option ℕ)) (d rank : ℕ) → IsTree es → own_pin own d ≡ Some rank → is_unpinned es own d ≡ false
 pinned es own d rank tree h = and_right (is_there es d) (is_none (nearest_pin es own d)) (ap is_none (own_holds es own d rank tree h))
 

@@ -3,7 +3,7 @@ use Rattle.std.proofs.Common.{◌≡◌, ℕ, ◌+◌, ◌*◌, ◌<◌, ◌≤�
 use native.Mathlib.Decide.{ℕ_discrete}
 use Rattle.heat_ledger.specs.declared.tally.TokenState.{TokenState}
 use Rattle.heat_ledger.specs.Rows.{at, sums, raised}
-use Rattle.heat_ledger.specs.Tally.{most, all_parts}
+use Rattle.heat_ledger.specs.Tally.{most}
 use Rattle.heat_ledger.specs.Ledger.{hit_slot, begun_slot, spread, unit, IsShare, IsBook}
 use Rattle.heat_ledger.proofs.RowLemmas.{at_sums, at_raised_same, at_raised_other, length-raised, length-sums}
 use Rattle.heat_ledger.proofs.Slots.{at_spread_hits, at_spread_begun, at_unit_same, at_unit_other, entry_is}
@@ -39,11 +39,6 @@ deposit_book limit v w shares counted begun pending b l has_totals out parts tot
   as_counted = length-sums counted pending (l ∙ sym b.as_counted) ∙ b.as_counted;
   as_begun = b.as_begun;
 }
-
--- what the book counts then fits
-pub deposit_fits : (limit : ℕ) (v w : TokenState) (shares : ℕ) (counted begun pending : List ℕ) → IsBook limit v shares counted begun → ((k : ℕ) → at w.totals k ≡ at v.totals k + at (spread pending) k) → ((k : ℕ) → at w.totals k ≤ all_parts * most)
-    → (d : ℕ) → at counted d + at pending d < 18446744073709551616
-deposit_fits limit v w shares counted begun pending b totals fits d = let t = totals (hit_slot d) in let s = at_spread_hits pending d (hit_slot d) refl in let k = b.known d in let f = fits (hit_slot d) in omega arith
 
 -- a share's amounts rest on its weight after a request
 pub begin_backed : (limit : ℕ) (v w : TokenState) (weight shares : ℕ) (hits pending begun counted booked : List ℕ) (dir : ℕ) → IsShare limit v weight hits pending begun → IsBook limit w shares counted booked → at booked dir < most

@@ -9,14 +9,6 @@ use Rattle.heat_ledger.specs.Ledger.{ShareData, IsClean, weight_of, hits_of, beg
 use Rattle.heat_ledger.specs.Gathering.{IsGathered}
 use Rattle.heat_ledger.proofs.RowLemmas.{at_sums}
 
-pub gathered_none : (v : TokenState) (all : List ShareData) → v.amounts ≡ [] → IsGathered v.parts v all all
-gathered_none v all none = record {
-  weights = refl;
-  hits = λ d. (let e : at v.amounts (hit_slot d) ≡ 0 = ap (λ xs. at xs (hit_slot d)) none in omega arith);
-  begun = λ d. (let e : at v.amounts (begun_slot d) ≡ 0 = ap (λ xs. at xs (begun_slot d)) none in omega arith);
-  backed = λ k. (let e : at v.amounts k ≡ 0 = ap (λ xs. at xs k) none in omega arith);
-}
-
 -- the authority has one share more
 pub gathered_more : (limit parts : ℕ) (v u w : TokenState) (all rest left : List ShareData) (x : ShareData) → rest ≡ left ++ x ∷ [] → IsGathered parts v all rest → IsClean x
     → IsShare limit u x.weight x.hits x.pending x.begun → ((k : ℕ) → at u.amounts k ≤ u.parts * most) → w ≡ both_of v u → IsGathered parts w all left

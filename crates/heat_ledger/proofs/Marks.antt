@@ -1,10 +1,10 @@
 -- Directories that stand in a list once.
-use Rattle.std.proofs.Common.{◌≡◌, ◌≢◌, ℕ, zero, suc, ◌+◌, ◌<◌, ◌≤◌, ◌==◌, List, [], ◌∷◌, ◌++◌, Bool, true, false, if◌then◌else◌, set, length, replicate, refl, sym, ap, ◌∙◌, arith, subst, inl, inr}
+use Rattle.std.proofs.Common.{◌≡◌, ◌≢◌, ℕ, zero, suc, ◌+◌, ◌<◌, ◌≤◌, ◌==◌, List, [], ◌∷◌, ◌++◌, Bool, true, false, if◌then◌else◌, set, length, refl, sym, ap, ◌∙◌, arith, subst, inl, inr}
 use Rattle.std.proofs.lemmas.Bool.Decides.{nat_tests, leb_tells}
 use native.Mathlib.Decide.{ℕ_discrete}
 use Rattle.heat_ledger.specs.Rows.{at, IsZero}
 use Rattle.heat_ledger.specs.Touched.{times, mark, IsTracked}
-use Rattle.heat_ledger.proofs.RowLemmas.{at_set_same, at_set_other, at_past, at_replicate}
+use Rattle.heat_ledger.proofs.RowLemmas.{at_set_same, at_set_other, at_past}
 
 pub times_same : (d : ℕ) (ds : List ℕ) → times (d ∷ ds) d ≡ 1 + times ds d
 times_same d ds = grind (arith, nat_tests)
@@ -140,9 +140,6 @@ tracked_room counts touched d t inside none =
     past e h (yes s) = absurd (omega arith)
     past e h (no n) = times_other d e touched n ∙ t.once e ∙ ap mark (at_past counts e h)
 
-pub tracked_none : (n : ℕ) → IsTracked (replicate n 0) []
-tracked_none n = record { once = λ d. ap mark (sym (at_replicate n d)) }
-
 pub tracked_zero : (counts : List ℕ) → IsZero counts → IsTracked counts []
 tracked_zero counts none = record { once = λ d. ap mark (sym (none d)) }
 
@@ -167,14 +164,6 @@ tracked_first counts touched d y t inside was now = record { once = λ e. each e
 pub settled : (new old touched : List ℕ) (d : ℕ) → IsTracked old touched → at new d ≤ at old d → ((k : ℕ) → k < length touched → at new (at touched k) ≡ 0) → Dec (at new d ≡ 0) → at new d ≡ 0
 settled new old touched d t less zeros (yes e) = e
 settled new old touched d t less zeros (no n) = let o = tracked_others old touched d t (λ j h e. n (ap (at new) (sym e) ∙ zeros j h)) in omega arith
-
--- where the noted entries were added, and the others stayed, all were added
-pub added_all : (new old others touched : List ℕ) (d : ℕ) → IsTracked others touched → ((k : ℕ) → k < length touched → at new (at touched k) ≡ at old (at touched k) + at others (at touched k))
-    → (((k : ℕ) → k < length touched → at touched k ≢ d) → at new d ≡ at old d) → Dec (at new d ≡ at old d + at others d) → at new d ≡ at old d + at others d
-added_all new old others touched d t done rest (yes e) = e
-added_all new old others touched d t done rest (no n) =
-    let away : (k : ℕ) → k < length touched → at touched k ≢ d = (λ k h e. n (subst (λ (x : ℕ). at new x ≡ at old x + at others x) e (done k h))) in
-    omega (arith, rest away, tracked_others others touched d t away)
 
 -- nothing is noted where nothing has a count
 pub zero_tracked : (counts touched : List ℕ) → IsTracked counts touched → IsZero counts → length touched ≡ 0

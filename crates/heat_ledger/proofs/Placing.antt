@@ -72,15 +72,6 @@ placed_set (suc p ∷ ps) zero v inside none some = absurd (omega arith)
 placed_set (zero ∷ ps) (suc d) v inside none some = placed_set ps d v (omega arith) none some
 placed_set (suc p ∷ ps) (suc d) v inside none some = omega (arith, placed_set ps d v (omega arith) none some)
 
--- the same places, of which further ones may be told
-pub placed_same : (kept old new : List ℕ) → IsPlaced kept old → ((d : ℕ) → at new d ≡ at old d) → placed new ≡ placed old → IsPlaced kept new
-placed_same kept old new p same count = record {
-  none = p.none;
-  size = omega (arith, p.size, count);
-  inside = λ d. omega (arith, p.inside d, same d);
-  apart = λ d e n s. same d ∙ p.apart d e n (sym (same d) ∙ s ∙ same e);
-}
-
 -- a directory gets the next place
 pub placed_next : (kept ps : List ℕ) (d n : ℕ) → IsPlaced kept ps → d < length ps → at ps d ≡ 0 → n ≡ length kept → IsPlaced (kept ++ 0 ∷ []) (set ps d n)
 placed_next kept ps d n p inside without is = record {

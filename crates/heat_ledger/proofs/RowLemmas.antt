@@ -24,12 +24,6 @@ at_raised_other xs d k n = at_set_other xs d (at xs d + 1) k n
 pub length-raised : (xs : List ℕ) (d : ℕ) → length (raised xs d) ≡ length xs
 length-raised xs d = length-set xs d (at xs d + 1)
 
-pub at_raised_by_same : (xs : List ℕ) (d n : ℕ) → d < length xs → at (raised_by xs d n) d ≡ at xs d + n
-at_raised_by_same xs d n h = at_set_same xs d (at xs d + n) h
-
-pub at_raised_by_other : (xs : List ℕ) (d n k : ℕ) → k ≢ d → at (raised_by xs d n) k ≡ at xs k
-at_raised_by_other xs d n k m = at_set_other xs d (at xs d + n) k m
-
 pub length-raised_by : (xs : List ℕ) (d n : ℕ) → length (raised_by xs d n) ≡ length xs
 length-raised_by xs d n = length-set xs d (at xs d + n)
 

@@ -1,50 +1,12 @@
 -- What keeps a share a share.
-use Rattle.std.proofs.Common.{◌≡◌, ◌≢◌, ℕ, ◌+◌, ◌*◌, ◌<◌, ◌≤◌, List, length, replicate, refl, sym, ap, ◌∙◌, arith}
+use Rattle.std.proofs.Common.{◌≡◌, ◌≢◌, ℕ, ◌+◌, ◌*◌, ◌<◌, ◌≤◌, List, replicate, refl, sym, ap, ◌∙◌, arith}
 use native.Mathlib.Decide.{ℕ_discrete}
 use Rattle.heat_ledger.specs.declared.tally.TokenState.{TokenState}
-use Rattle.heat_ledger.specs.Rows.{at, sums, raised, raised_by}
+use Rattle.heat_ledger.specs.Rows.{at, sums, raised}
 use Rattle.heat_ledger.specs.Tally.{most, both_of, share_state, IsLearned}
 use Rattle.heat_ledger.specs.Ledger.{hit_slot, begun_slot, spread, unit, IsShare}
-use Rattle.heat_ledger.proofs.RowLemmas.{at_sums, at_raised_same, at_raised_other, at_raised_by_same, at_raised_by_other, at_replicate, length-raised, length-raised_by, length-sums, length-replicate}
+use Rattle.heat_ledger.proofs.RowLemmas.{at_sums, at_raised_same, at_raised_other, at_replicate, length-raised, length-sums, length-replicate}
 use Rattle.heat_ledger.proofs.Slots.{at_spread_hits, at_spread_begun, at_unit_same, at_unit_other}
-
--- a share that counts so many hits of a directory stays one, while they find room
-pub count_kept : (limit : ℕ) (state : TokenState) (weight d n : ℕ) (hits pending begun : List ℕ) → IsShare limit state weight hits pending begun → d < limit → at hits d + n ≤ weight * most
-    → IsShare limit state weight (raised_by hits d n) (raised_by pending d n) begun
-count_kept limit state weight d n hits pending begun s inside fits = record {
-  holds = s.holds;
-  weighs = s.weighs;
-  some = s.some;
-  light = s.light;
-  known = λ k. known k (ℕ_discrete k d);
-  begins = s.begins;
-  room = λ k. room k (ℕ_discrete k d);
-  as_hits = length-raised_by hits d n ∙ s.as_hits;
-  as_pending = length-raised_by pending d n ∙ s.as_pending;
-  as_begun = s.as_begun;
-}
-  where
-    in_hits : d < length hits
-    in_hits = let e = s.as_hits in omega arith
-
-    in_pending : d < length pending
-    in_pending = let e = s.as_pending in omega arith
-
-    known : (k : ℕ) → Dec (k ≡ d) → at state.amounts (hit_slot k) + at (raised_by pending d n) k ≡ at (raised_by hits d n) k
-    known k (yes e) =
-        let p : at (raised_by pending d n) k ≡ at pending d + n = ap (at (raised_by pending d n)) e ∙ at_raised_by_same pending d n in_pending in
-        let q : at (raised_by hits d n) k ≡ at hits d + n = ap (at (raised_by hits d n)) e ∙ at_raised_by_same hits d n in_hits in
-        let r = s.known k in let u : at pending k ≡ at pending d = ap (at pending) e in let v : at hits k ≡ at hits d = ap (at hits) e in
-        omega arith
-    known k (no m) = let p = at_raised_by_other pending d n k m in let q = at_raised_by_other hits d n k m in let r = s.known k in omega arith
-
-    room : (k : ℕ) → Dec (k ≡ d) → at (raised_by hits d n) k ≤ weight * most
-    room k (yes e) = let q : at (raised_by hits d n) k ≡ at hits d + n = ap (at (raised_by hits d n)) e ∙ at_raised_by_same hits d n in_hits in omega arith
-    room k (no m) = let q = at_raised_by_other hits d n k m in let r = s.room k in omega arith
-
-pub hit_kept : (limit : ℕ) (state : TokenState) (weight d : ℕ) (hits pending begun : List ℕ) → IsShare limit state weight hits pending begun → d < limit → at hits d < most
-    → IsShare limit state weight (raised hits d) (raised pending d) begun
-hit_kept limit state weight d hits pending begun s inside less = count_kept limit state weight d 1 hits pending begun s inside (let w = s.some in omega arith)
 
 -- what a directory's counts are at most
 pub hits_fit : (limit : ℕ) (state : TokenState) (weight : ℕ) (hits pending begun : List ℕ) → IsShare limit state weight hits pending begun → (d : ℕ) → (at hits d ≤ 65 * most) × (at pending d ≤ 65 * most)

@@ -78,14 +78,3 @@ pub read_in_force : (w : World) (found : Option (Bor Plan)) → IsShown w.histor
     → MatchOption found (w.state.in_force ≡ None) (λ plan. IsBestInForce w.state.in_force plan.now)
 read_in_force w None h is = none_is_none w.history w.state.in_force h (sym is)
 read_in_force w (Some plan) h is = read_is_best w.history w.state.in_force plan.now h (sym is)
-
-pub none_adopted : (c : Change) → ((plan : Plan) → c ≡ Adopt plan → ⊥) → adopted c ≡ None
-none_adopted (Make parent name inodes) h = refl
-none_adopted (Remove d) h = refl
-none_adopted (change.Pin d value) h = refl
-none_adopted (Mask bits) h = refl
-none_adopted (Deposit hits) h = refl
-none_adopted Tick h = refl
-none_adopted (Step e) h = refl
-none_adopted Open h = refl
-none_adopted (Adopt plan) h = absurd (h plan refl)

@@ -1,5 +1,5 @@
 -- What answers count in a share, one after another.
-use Rattle.std.proofs.Common.{◌≡◌, ◌≢◌, ℕ, zero, suc, ◌+◌, ◌<◌, ◌==◌, Bool, true, false, List, [], ◌∷◌, ◌++◌, length, set, Some, None, refl, sym, ap, ◌∙◌, arith}
+use Rattle.std.proofs.Common.{◌≡◌, ◌≢◌, ℕ, zero, suc, ◌+◌, ◌<◌, ◌==◌, Bool, true, false, List, [], ◌∷◌, ◌++◌, length, set, Some, refl, sym, ap, ◌∙◌, arith}
 use Rattle.std.proofs.lemmas.Bool.Decides.{nat_tests}
 use Rattle.std.specs.Prelude.{if◌then◌else◌}
 use Rattle.heat_ledger.specs.Ledger.{ShareData}
@@ -8,7 +8,7 @@ use Rattle.heat_ledger.proofs.RowLemmas.{at_set_same, at_set_other}
 use Rattle.rank_threads.specs.declared.work.Work.{Work}
 use Rattle.rank_threads.specs.declared.work.WorkAnswer.{WorkAnswer}
 use Rattle.rank_threads.proofs.Returning.{all_short_stay, zip_length, zip_more}
-use Rattle.rank_threads.specs.Serving.{Fits, IsServed, IsShort, Counted, after_hits, hits_on, begun_on, if_on}
+use Rattle.rank_threads.specs.Serving.{Fits, IsServed, IsShort, Counted, after_hits, hits_on, begun_on}
 
 set_none : (xs : List ℕ) (d : ℕ) → set xs d (at xs d + 0) ≡ xs
 set_none [] d = refl
@@ -23,9 +23,6 @@ set_more (x ∷ xs) (suc d) n = ap (λ (ys : List ℕ). x ∷ ys) (set_more xs d
 pub hits_none : (share : ShareData) (d : ℕ) → share ≡ after_hits share d 0
 hits_none share d = rw (set_none share.hits d, set_none share.pending d) refl
 
-pub hits_more : (share mid : ShareData) (d n : ℕ) → mid ≡ after_hits share d n → record mid { hits = raised mid.hits d; pending = raised mid.pending d } ≡ after_hits share d (n + 1)
-hits_more share mid d n is = rw (is, set_more share.hits d n, set_more share.pending d n) refl
-
 -- a row with more on one directory
 row_at : (xs : List ℕ) (k n d : ℕ) → d < length xs → at (with_row xs (k, n)) d ≡ at xs d + (if k == d then n else 0)
 row_at xs k n d inside = on (k == d) refl
@@ -36,13 +33,6 @@ row_at xs k n d inside = on (k == d) refl
         let other : d ≢ k = λ here. (let there : k ≡ d = sym here in let bad : (k == d) ≡ true = grind (arith, nat_tests) in let no = sym is ∙ bad in cc) in
         let none : at xs d + 0 ≡ at xs d = omega arith in at_set_other xs k (at xs k + n) d other ∙ sym none
 
-none_on : (d : ℕ) (w : Work) → if_on d w 0 ≡ 0
-none_on d w = on (w.dir == d) 0
-  where
-    on : (b : Bool) (n : ℕ) → (if b then n else n) ≡ n
-    on true n = refl
-    on false n = refl
-
 -- a request that began
 pub counted_one : (limit n t : ℕ) (s : ShareData) (w : Work) (a : WorkAnswer) → length s.hits ≡ limit → length s.pending ≡ limit → length s.begun ≡ limit
     → a.ticket ≡ Some t → a.hits ≡ n
@@ -52,15 +42,6 @@ counted_one limit n t s w a lh lp lb ticket hits = record {
   hits = λ d inside. (let near : d < length s.hits = omega arith in let e = row_at s.hits w.dir n d near in rw hits (omega arith));
   pending = λ d inside. (let near : d < length s.pending = omega arith in let e = row_at s.pending w.dir n d near in rw hits (omega arith));
   begun = λ d inside. (let near : d < length s.begun = omega arith in let e = row_at s.begun w.dir 1 d near in rw ticket (omega arith));
-}
-
--- a request that didn't begin
-pub counted_refused : (limit : ℕ) (s : ShareData) (w : Work) (a : WorkAnswer) → a.ticket ≡ None → a.hits ≡ 0 → Counted limit s (w ∷ []) (a ∷ []) s
-counted_refused limit s w a ticket hits = record {
-  weight = refl;
-  hits = λ d inside. (let e = none_on d w in rw hits (omega arith));
-  pending = λ d inside. (let e = none_on d w in rw hits (omega arith));
-  begun = λ d inside. (let e = none_on d w in rw ticket (omega arith));
 }
 
 hits_on_more : (d : ℕ) (works : List Work) (answers : List WorkAnswer) (w : Work) (a : WorkAnswer) → length works ≡ length answers

@@ -1,6 +1,6 @@
 -- A board goes on by a step or a deposit.
 use Rattle.std.proofs.Common.{◌≡◌, true, List, [], ◌∷◌, ◌++◌, length, take, drop, Result, Ok, Err, None, refl, sym, ap, subst}
-use Rattle.std.proofs.lemmas.List.Elements.{All-nil, All-push}
+use Rattle.std.proofs.lemmas.List.Elements.{All-push}
 use Rattle.board_state.specs.declared.board_error.BoardError.{BoardError}
 use Rattle.board_state.specs.declared.change.Answer.{Answer}
 use Rattle.board_state.specs.declared.change.Change.{Change}
@@ -17,16 +17,6 @@ drop_all (e ∷ es) = drop_all es
 take_all : (es : List Entry) → take (length es) es ≡ es
 take_all [] = refl
 take_all (e ∷ es) = ap (λ (l : List Entry). e ∷ l) (take_all es)
-
--- nothing happened yet
-pub went_nowhere : (w : World) → WentOn w w
-went_nowhere w = record {
-  kept = take_all w.history;
-  alone = rw (drop_all w.history) (All-nil (λ e. is_of_requests e.change ≡ true));
-  replay = rw (drop_all w.history) refl;
-  same_book = (refl, refl);
-  same_map = refl;
-}
 
 take_longer : (old es more : List Entry) → take (length old) es ≡ old → take (length old) (es ++ more) ≡ old
 take_longer [] es more h = refl

@@ -1,5 +1,5 @@
 -- Requests that are dealt one after another, and the refusals that they met.
-use Rattle.std.proofs.Common.{add-one, ◌≡◌, ◌≢◌, ◌==◌, ℕ, zero, suc, ◌<◌, ◌+◌, Bool, true, false, cond, List, Vec, Global, [], ◌∷◌, ◌++◌, length, map, take, set, get_or, length-set, refl, sym, ap, ◌∙◌, arith, subst, inl, inr, append-nil, append_assoc}
+use Rattle.std.proofs.Common.{add-one, ◌≡◌, ◌==◌, ℕ, zero, suc, ◌<◌, ◌+◌, Bool, true, false, cond, List, Vec, Global, [], ◌∷◌, ◌++◌, length, map, take, set, get_or, length-set, refl, sym, ap, ◌∙◌, arith, subst, inl, inr, append-nil, append_assoc}
 use Rattle.std.specs.Prelude.{filter}
 use Rattle.std.proofs.lemmas.Bool.{cases_eq, ne_eqb}
 use Rattle.std.proofs.lemmas.Bool.Decides.{Decides-eqb}
@@ -20,9 +20,6 @@ empty_more [] none zero = refl
 empty_more [] none (suc rank) = refl
 empty_more (s ∷ scripts) none zero = none zero
 empty_more (s ∷ scripts) none (suc rank) = empty_more scripts (λ r. none (suc r)) rank
-
-pub dealt_none : (w : World) (ranks : ℕ) (scripts : List (List Work)) → length scripts ≡ ranks → ((rank : ℕ) → script_at scripts rank ≡ []) → IsDealt w ranks [] scripts []
-dealt_none w ranks scripts size none = record { as_many = size; each = λ rank inside. none rank; found = refl }
 
 works_more : (w : World) (ranks rank : ℕ) (ls : List Load) (l : Load)
     → works_at w ranks rank (ls ++ l ∷ []) ≡ works_at w ranks rank ls ++ cond (asked_rank w ranks l.dir == rank) (work_of l ∷ []) []

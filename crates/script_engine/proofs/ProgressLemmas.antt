@@ -26,10 +26,6 @@ some_more : (rest part : List ℕ) → rest ≢ [] → (rest ++ part) ≢ []
 some_more [] part some e = some refl
 some_more (b ∷ rest) part some e = cc
 
-more_some : (rest part : List ℕ) → part ≢ [] → (rest ++ part) ≢ []
-more_some [] part some e = some e
-more_some (b ∷ rest) part some e = cc
-
 -- bytes behind the rest
 split_rest : (bytes front rest part : List ℕ) → bytes ≡ front ++ rest → bytes ++ part ≡ front ++ (rest ++ part)
 split_rest bytes front rest part e = ap (λ (t : List ℕ). t ++ part) e ∙ append_assoc front rest part
@@ -177,14 +173,6 @@ whole_rest xs n = take_all _ _ (omega (arith, length-drop n xs))
 pub piece_whole : (bytes read line left piece : List ℕ) → (read ++ line) ++ left ≡ piece → ((bytes ++ read) ++ line) ++ left ≡ bytes ++ piece
 piece_whole bytes read line left piece e =
     ap (λ (t : List ℕ). t ++ left) (append_assoc bytes read line) ∙ append_assoc bytes (read ++ line) left ∙ ap (λ (t : List ℕ). bytes ++ t) e
-
--- the buffer after bytes that found room
-pub holds_more : (rest buffer after part : List ℕ) (was now : Bool) → was ≡ true → now ≡ true → after ≡ buffer ++ part → Holds rest buffer was → Holds (rest ++ part) after now
-holds_more rest buffer after part was now w n e h = record { kept = λ r. e ∙ ap (λ (t : List ℕ). t ++ part) (h.kept w); lost = λ f. absurd (both now n f) }
-
--- after bytes that found none
-pub holds_lost : (rest after part : List ℕ) (now : Bool) → part ≢ [] → now ≡ false → Holds (rest ++ part) after now
-holds_lost rest after part now some f = record { kept = λ r. absurd (both now r f); lost = λ r. more_some rest part some }
 
 -- and after bytes of a line that found none before
 pub holds_over : (rest buffer part : List ℕ) (now : Bool) → now ≡ false → Holds rest buffer now → Holds (rest ++ part) buffer now

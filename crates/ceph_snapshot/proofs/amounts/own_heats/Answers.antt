@@ -4,7 +4,7 @@ use Rattle.std.proofs.lemmas.List.{length_push}
 use Rattle.std.proofs.lemmas.Option.{slice_get_read}
 use Rattle.ceph_snapshot.specs.declared.directory.Directory.{Directory}
 use Rattle.ceph_snapshot.specs.Holding.{heat_at}
-use Rattle.ceph_snapshot.proofs.Folds.{amounts_more}
+use Rattle.ceph_snapshot.proofs.Keys.{values_more}
 use Rattle.ceph_snapshot.proofs.amounts.own_heats.Goals as goal
 
 pub loop-directory-preserved : goal.loop-directory-preserved
@@ -19,5 +19,5 @@ loop-directory-preserved c =
     record {
       size = ap length pushed ∙ (length_push heats one.heat ∙ ap (λ (n : ℕ). n + 1) c.loop-directory.invariant.size);
       heats = subst (λ (xs : List ℕ). (i : ℕ) → i < at + 1 → slice_index xs i ≡ heat_at ds i) (sym pushed)
-          (amounts_more (heat_at ds) heats one.heat at c.loop-directory.invariant.size c.loop-directory.invariant.heats (sym here));
+          (values_more 0 (heat_at ds) heats one.heat at c.loop-directory.invariant.size c.loop-directory.invariant.heats (sym here));
     }

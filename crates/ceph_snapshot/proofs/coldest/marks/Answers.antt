@@ -1,8 +1,8 @@
-use Rattle.std.proofs.Common.{rules, ◌≡◌, ◌<◌, ◌+◌, ◌∙◌, ℕ, Bool, List, length, ap, sym, subst}
+use Rattle.std.proofs.Common.{rules, ◌≡◌, ◌<◌, ◌+◌, ◌∙◌, ℕ, Bool, false, List, length, ap, sym, subst}
 use Rattle.std.proofs.lemmas.List.{length_push}
 use Rattle.ceph_snapshot.specs.Folding.{is_marked}
 use Rattle.ceph_snapshot.specs.Keys.{goes}
-use Rattle.ceph_snapshot.proofs.Keys.{marks_more}
+use Rattle.ceph_snapshot.proofs.Keys.{values_more}
 use Rattle.ceph_snapshot.proofs.coldest.marks.Goals as goal
 
 pub loop-at-preserved : goal.loop-at-preserved
@@ -13,5 +13,5 @@ loop-at-preserved c =
     record {
       size = ap length c.in_ok-push.ensures.items ∙ (length_push marks _ ∙ ap (λ (n : ℕ). n + 1) c.loop-at.invariant.size);
       marks = subst (λ (xs : List Bool). (i : ℕ) → i < at + 1 → is_marked xs i ≡ marked i) (sym c.in_ok-push.ensures.items)
-          (marks_more marked marks _ at c.loop-at.invariant.size c.loop-at.invariant.marks (search rules));
+          (values_more false marked marks _ at c.loop-at.invariant.size c.loop-at.invariant.marks (search rules));
     }

@@ -5,8 +5,7 @@ use Rattle.std.proofs.lemmas.Option.{slice_get_read}
 use Rattle.ceph_snapshot.specs.declared.directory.Directory.{Directory}
 use Rattle.ceph_snapshot.specs.Folding.{is_marked, kept_below}
 use Rattle.ceph_snapshot.specs.Holding.{parent_at}
-use Rattle.ceph_snapshot.proofs.Folds.{amounts_more}
-use Rattle.ceph_snapshot.proofs.Keys.{parent_le}
+use Rattle.ceph_snapshot.proofs.Keys.{parent_le, values_more}
 use Rattle.ceph_snapshot.proofs.folding.new_parents.Goals as goal
 
 pub loop-at-preserved : goal.loop-at-preserved
@@ -32,5 +31,5 @@ loop-at-preserved c =
     record {
       size = ap length pushed ∙ (length_push parents place ∙ ap (λ (n : ℕ). n + 1) c.loop-at.invariant.size);
       parents = subst (λ (xs : List ℕ). (i : ℕ) → i < at + 1 → slice_index xs i ≡ new i) (sym pushed)
-          (amounts_more new parents place at c.loop-at.invariant.size c.loop-at.invariant.parents here);
+          (values_more 0 new parents place at c.loop-at.invariant.size c.loop-at.invariant.parents here);
     }
