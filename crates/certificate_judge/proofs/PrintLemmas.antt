@@ -5,10 +5,6 @@ use Rattle.std.specs.Io.KnownBytes.{Appends, Keeps}
 use Rattle.std.proofs.lemmas.List.{take_rest}
 use Rattle.certificate_judge.specs.Judged.{GrowsByFront}
 
-pub nothing_appended : (old : Option (List ℕ)) → Appends old old []
-nothing_appended None = tt
-nothing_appended (Some xs) = sym (append-nil xs)
-
 appends_more : (a b c : Option (List ℕ)) (xs ys : List ℕ) → Appends a b xs → Appends b c ys → Appends a c (xs ++ ys)
 appends_more None b c xs ys h k = tt
 appends_more (Some xa) (Some xb) (Some xc) xs ys h k = k ∙ (ap (λ (t : List ℕ). t ++ ys) h ∙ append_assoc xa xs ys)
@@ -32,9 +28,6 @@ one_piece a b c line rest more n is grown left =
       append_assoc is.0 (take n rest) more ∙ (ap (λ (t : List ℕ). is.0 ++ (take n rest ++ t)) tail ∙ (ap (λ (t : List ℕ). is.0 ++ t) (take-append-drop n rest) ∙ is.1)),
       appends_more a b c is.0 (take n rest) is.2 grown,
     )
-
-pub left_front : (old new : Option (List ℕ)) (line rest : List ℕ) → IsLeft old new line rest → GrowsByFront old new line
-left_front old new line rest is = (is.0, rest, is.1, is.2)
 
 pub no_piece : (a b c : Option (List ℕ)) (line rest more : List ℕ) → IsLeft a b line rest → Keeps b c → more ≡ rest → IsLeft a c line more
 no_piece a b c line rest more is same left = (is.0, ap (λ (t : List ℕ). is.0 ++ t) left ∙ is.1, kept a b c is.0 is.2 same)

@@ -97,10 +97,6 @@ module _ (w : World) (r : ℕ) where
   restart_grows k true = refl
   restart_grows k false = refl
 
-made_journals : (w : World) (o : Option ℕ) (e : JournalEntry) (ps ns : List (Option ℕ)) → (record (journaled_by w o e) { parents = ps; named = ns }).journals ≡ (journaled_by w o e).journals
-made_journals w None e ps ns = refl
-made_journals w (Some a) e ps ns = refl
-
 -- a message names no directory
 module _ (w : World) where
   pub delivered_named : (d : ℕ) (o : Option Message) → named_of w d ≡ named_by w d (delivered_entry w o)

@@ -14,10 +14,6 @@ use Rattle.plan_checker.specs.Table.{all_cuts, capped, cuts_of_children, kept_of
 abbrev pub got_from : List ProblemRow → (ℕ → ℕ) → ℕ → ℕ → ℕ
 got_from rows amount v m = sum_from (length rows - m) m (λ x. cond (is_child rows v x) (amount x) 0)
 
--- past the last row there is none
-pub got_none : (rows : List ProblemRow) (amount : ℕ → ℕ) (v m : ℕ) → length rows ≤ m → got_from rows amount v m ≡ 0
-got_none rows amount v m le = let none : length rows - m ≡ 0 = omega arith in rw none refl
-
 -- one row more
 got_more : (rows : List ProblemRow) (amount : ℕ → ℕ) (v i : ℕ) → i < length rows
     → got_from rows amount v i ≡ cond (is_child rows v i) (amount i) 0 + got_from rows amount v (i + 1)

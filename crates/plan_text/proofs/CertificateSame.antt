@@ -160,9 +160,6 @@ problem_same a b r s p q h =
     a.ranks b.ranks a.rows b.rows r s p.ranks q.ranks p.rows q.rows h in
     (problem_eq a b same.1 same.0, same.2)
 
-zero_line : List ℕ
-zero_line = line (codes "cut") (codes "zero" ∷ [])
-
 cut_same : Reads FitsCut cut_lines
 cut_same Zero Zero r s p q h =
     (refl, (line_same (codes "cut") (codes "cut") (codes "zero" ∷ []) (codes "zero" ∷ []) r s refl refl (refl, tt) (refl, tt) h).2)

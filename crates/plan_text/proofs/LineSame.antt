@@ -33,9 +33,6 @@ differ m n less same = omega arith
 inside_above : (c : ℕ) → is_inside c ≡ true → 32 < c
 inside_above c h = grind (arith, nat_tests)
 
-above_inside : (c : ℕ) → 32 < c → is_inside c ≡ true
-above_inside c h = grind (arith, nat_tests)
-
 not_inside : (c : ℕ) (field text : List ℕ) → IsField (c ∷ field) → Parts (c ∷ text) → ⊥
 not_inside c field text f p = let above : 32 < c = inside_above c (and_parts (is_inside c) (list_all is_inside field) f).0 in omega (arith, above, p)
 

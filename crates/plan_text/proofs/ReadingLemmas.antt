@@ -294,10 +294,6 @@ module _ (x : ProblemData) (rows : List ProblemRow) (ranks : ℕ) where
   pub no_fault : (fault : ProblemError) → IsProblem x → rows ≡ x.rows → ranks ≡ x.ranks → IsFirstFault rows ranks fault → ⊥
   no_fault fault is r s h = faultless x fault is (subst (λ (ys : List ProblemRow). IsFirstFault ys x.ranks fault) r (subst (λ (n : ℕ). IsFirstFault rows n fault) s h))
 
--- the text of a certificate
-abbrev certificate_lines : Certificate → List ℕ
-certificate_lines c = text c.problem c.plan
-
 four : (a b c d more : List ℕ) → (a ++ b ++ c ++ d) ++ more ≡ a ++ (b ++ (c ++ (d ++ more)))
 four a b c d more = simp append_assoc
 

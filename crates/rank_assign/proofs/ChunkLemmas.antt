@@ -7,31 +7,10 @@ use Rattle.mds_types.specs.declared.problem.ProblemRow.{ProblemRow}
 use Rattle.cost_table.proofs.BetweenLemmas.{no_rows, no_sums, rows_joined, sums_joined}
 use Rattle.rank_assign.specs.Chunks.{edge, AreSummed}
 
-pub edge_start : (rows first chunk : ℕ) → first ≤ rows → edge rows first chunk 0 ≡ first
-edge_start rows first chunk inside =
-    let none : 0 * chunk ≡ 0 = omega arith in
-    rw none (omega (arith, inside))
-
 pub edge_rises : (rows first chunk k : ℕ) → edge rows first chunk k ≤ edge rows first chunk (k + 1)
 edge_rises rows first chunk k =
     let more : k * chunk ≤ (k + 1) * chunk = mul-le k chunk (k + 1) chunk (omega arith) (omega arith) in
     omega (arith, more)
-
--- chunks take a step
-pub edge_after : (rows first chunk chunks : ℕ) → first < rows → 0 < chunk → 0 < chunks → first < edge rows first chunk chunks
-edge_after rows first chunk chunks inside some many =
-    let one : 1 * 1 ≤ chunks * chunk = mul-le 1 1 chunks chunk many some in
-    omega (arith, one, inside)
-
--- no rows, and nothing of them
-pub nothing_summed : (rows : List ProblemRow) (part : List ℕ) (count : ℕ) → AreSummed rows part count 0 0 (replicate (count * 64) 0)
-nothing_summed rows part count =
-    let size : length (replicate (count * 64) 0) ≡ count * 64 = length-replicate (count * 64) 0 in
-    record {
-      added = no_sums rows (slice_index part) count 0 (replicate (count * 64) 0) size
-          (λ j d l. get_or-replicate (count * 64) j 0 d (omega (arith, l, size)));
-      known = no_rows rows 0;
-    }
 
 module _
     (rows : List ProblemRow) (part : List ℕ) (count mid to : ℕ) (a b : List ℕ) (rise : mid ≤ to)
