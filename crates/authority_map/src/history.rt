@@ -68,8 +68,7 @@ impl Plain<MapOperation, MapOperation, u64> for Append {
     ghost state = { λ _. None };
 }
 
-/// What a map begins with. Its one value in a contract is the name that a program picks for its
-/// board. There are no operations.
+/// What a map begins with, no operation. Its one value in a contract is the name that a program picks for its board.
 #[derive(Drop)]
 pub struct NewMap {
     count: Word<MapOperation, u64, Counted>,
@@ -203,8 +202,7 @@ impl<J: Naming> LogPrefix<J> {
         self.count == other.count
     }
 
-    /// This beginning with one operation more, or `None` where the list is longer already. That
-    /// doesn't happen to the one writer, which has the word to itself.
+    /// This beginning with one operation more, or `None` where the list is longer already, as its one writer never sees.
     pub(crate) fn with(&self, count: &Count<J>, operation: &MapOperation) -> Option<LogPrefix<J>>
         requires { length self.now < 2 ^ 62 }
         ensures { IfSome result (λ prefix. prefix ≡ self.now ++ operation.now ∷ []) }

@@ -12,7 +12,7 @@ use std::slice;
 pub enum OperationKind {
     /// Give the directories the rank.
     Set(Vec<Dir>, Rank),
-    /// Give one directory the rank. It takes no memory.
+    /// Give one directory the rank, without a list of one.
     SetOne(Dir, Rank),
     /// Take the directory's rank away.
     Clear(Dir),

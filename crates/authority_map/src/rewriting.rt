@@ -8,7 +8,7 @@ ghost use Rattle.std.specs.List.Sorted.{IsStrictlyIncreasing};
 ghost use Rattle.authority_map.specs.Operations.{names};
 ghost use Rattle.authority_map.specs.Runs.{IsIndex, AreStarts, AreRuns, AreBefore, ComeBefore, HasCells, HasFirst};
 
-use crate::runs::{BLOCK, Runs, run_end, run_of, write};
+use crate::runs::{BLOCK, Runs, indexed_run_of, run_end, run_of, write};
 use mds_types::Dir;
 use std::mem::swap;
 
@@ -44,8 +44,9 @@ fn extend(made: &mut Runs, limit: u32, first: u32, end: u32, cell: u8)
 }
 
 // The runs go on with directories that have the cells that they had.
-fn keep(made: &mut Runs, starts: &[u32], cells: &[u8], limit: u32, first: u32, end: u32)
-    requires old { AreRuns limit starts.now cells.now }
+fn keep(made: &mut Runs, runs: &Runs, index: &[u32], limit: u32, first: u32, end: u32)
+    requires index { IsIndex limit runs.now.starts.items index.now }
+    requires old { AreRuns limit runs.now.starts.items runs.now.cells.items }
     requires runs { AreRuns limit made.old.starts.items made.old.cells.items }
     requires room { (limit ≤ vec_capacity made.old.starts) × (limit ≤ vec_capacity made.old.cells) }
     requires before { AreBefore first made.old.starts.items }
@@ -53,7 +54,7 @@ fn keep(made: &mut Runs, starts: &[u32], cells: &[u8], limit: u32, first: u32, e
     ensures runs { AreRuns limit made.new.starts.items made.new.cells.items }
     ensures room { (limit ≤ vec_capacity made.new.starts) × (limit ≤ vec_capacity made.new.cells) }
     ensures before { AreBefore end made.new.starts.items }
-    ensures cells { (old want : ℕ → ℕ) → HasCells limit starts.now cells.now old 0 0
+    ensures cells { (old want : ℕ → ℕ) → HasCells limit runs.now.starts.items runs.now.cells.items old 0 0
         → HasFirst first made.old.starts.items made.old.cells.items want
         → ((d : ℕ) → first ≤ d → d < end → want d ≡ old d)
         → HasFirst end made.new.starts.items made.new.cells.items want }
@@ -61,8 +62,9 @@ fn keep(made: &mut Runs, starts: &[u32], cells: &[u8], limit: u32, first: u32, e
     if first == end {
         return;
     }
-    let run = run_of(starts, first);
-    let last = run_of(starts, end - 1);
+    let (starts, cells) = (runs.starts.as_slice(), runs.cells.as_slice());
+    let run = indexed_run_of(starts, index, limit, first);
+    let last = indexed_run_of(starts, index, limit, end - 1);
     let middle = run_end(starts, limit, run).min(end);
     extend(made, limit, first, middle, cells[run]);
     let (more, more_cells) = (&starts[run + 1..last + 1], &cells[run + 1..last + 1]);
@@ -104,27 +106,28 @@ fn begin(made: &mut Runs, limit: u32, dirs: &[Dir], listed: u8, unlisted: u8) ->
 }
 
 // Makes the runs of all directories: those on the list have this cell, the others that of their run.
-fn make_anew(made: &mut Runs, starts: &[u32], cells: &[u8], limit: u32, dirs: &[Dir], cell: u8)
-    requires runs { AreRuns limit starts.now cells.now }
+fn make_anew(made: &mut Runs, runs: &Runs, index: &[u32], limit: u32, dirs: &[Dir], cell: u8)
+    requires index { IsIndex limit runs.now.starts.items index.now }
+    requires runs { AreRuns limit runs.now.starts.items runs.now.cells.items }
     requires room { (limit ≤ vec_capacity made.old.starts) × (limit ≤ vec_capacity made.old.cells) }
     requires inside { All (λ dir. dir < limit) dirs.now }
     requires rising { IsStrictlyIncreasing dirs.now }
     requires small { cell ≤ 64 }
     ensures runs { AreRuns limit made.new.starts.items made.new.cells.items }
     ensures room { (limit ≤ vec_capacity made.new.starts) × (limit ≤ vec_capacity made.new.cells) }
-    ensures cells { (old : ℕ → ℕ) → HasCells limit starts.now cells.now old 0 0
+    ensures cells { (old : ℕ → ℕ) → HasCells limit runs.now.starts.items runs.now.cells.items old 0 0
         → HasCells limit made.new.starts.items made.new.cells.items
         (λ d. if names dirs.now d then cell else old d) 0 0 }
 {
-    let next = begin(made, limit, dirs, cell, cells[0]);
+    let next = begin(made, limit, dirs, cell, runs.cells[0]);
     let mut done = 1;
     for place in next..dirs.len() {
         let dir = dirs[place].number();
-        keep(made, starts, cells, limit, done, dir);
+        keep(made, runs, index, limit, done, dir);
         extend(made, limit, dir, dir + 1, cell);
         done = dir + 1;
     }
-    keep(made, starts, cells, limit, done, limit);
+    keep(made, runs, index, limit, done, limit);
 }
 
 // The index of these runs, in place of that of others.
@@ -168,7 +171,7 @@ pub(crate) fn write_all(
     // a directory that is written alone moves about half of the runs, many at a time
     let moved = dirs.len().saturating_mul(count) / MOVED_IN_A_STEP;
     if moved >= dirs.len().saturating_add(count) && is_rising(dirs) {
-        make_anew(spare, &runs.starts, &runs.cells, limit, dirs, cell);
+        make_anew(spare, runs, index, limit, dirs, cell);
         index_again(&spare.starts, index, limit);
         swap(runs, spare);
         return;

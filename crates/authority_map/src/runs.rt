@@ -147,7 +147,7 @@ fn split(runs: &mut Runs, index: &mut Vec<u32>, limit: u32, dir: u32)
     if dir >= limit {
         return;
     }
-    let run = run_of(&runs.starts, dir);
+    let run = indexed_run_of(&runs.starts, index, limit, dir);
     if runs.starts[run] < dir {
         cut(runs, index, limit, run, dir);
     }
@@ -257,7 +257,7 @@ fn write_alone(runs: &mut Runs, index: &mut Vec<u32>, limit: u32, dir: u32, cell
 {
     split(runs, index, limit, dir);
     split(runs, index, limit, dir + 1);
-    let alone = run_of(&runs.starts, dir);
+    let alone = indexed_run_of(&runs.starts, index, limit, dir);
     runs.cells[alone] = cell;
     join(runs, index, limit, dir + 1);
     join(runs, index, limit, dir);
@@ -277,7 +277,7 @@ pub(crate) fn write(runs: &mut Runs, index: &mut Vec<u32>, limit: u32, dir: u32,
         → HasCells limit runs.new.starts.items runs.new.cells.items (λ d. if d == dir then cell else old d) 0 0 }
 {
     let Runs { starts, cells } = runs;
-    let run = run_of(starts, dir);
+    let run = indexed_run_of(starts, index, limit, dir);
     if cells[run] == cell {
         return;
     }

@@ -1,5 +1,5 @@
 //! The names of directories.
-ghost use Rattle.std.specs.Prelude.{◌≡◌};
+ghost use Rattle.std.specs.Prelude.{◌≡◌, ◌↔◌, IsTrue};
 ghost use Rattle.std.specs.List.{list_all};
 ghost use Rattle.dirtree.specs.Name.{has_name_length, is_dots, is_name, is_name_byte};
 
@@ -62,7 +62,7 @@ impl Model for Name {
 }
 
 impl Name {
-    ghost use Rattle.std.specs.Prelude.{◌≡◌, ◌≤◌, [], IfOk, IsOk, length};
+    ghost use Rattle.std.specs.Prelude.{◌≡◌, ◌↔◌, ◌≤◌, [], IfOk, IsOk, IsTrue, length};
 
     /// The name of the root, which has no byte.
     pub fn empty() -> Name
@@ -97,4 +97,27 @@ impl Name {
             Kept::Long(long) => long.as_str(),
         }
     }
+
+    /// Whether it has these bytes.
+    pub fn is(&self, bytes: &[u8]) -> bool
+        ensures { IsTrue result ↔ (self.now ≡ bytes.now) }
+    {
+        are_same(self.as_str().as_bytes(), bytes)
+    }
+}
+
+// Whether two texts are the same. Most names are short, and for these a look at byte after byte takes fewer
+// instructions than `==`.
+fn are_same(first: &[u8], second: &[u8]) -> bool
+    ensures { IsTrue result ↔ (first.now ≡ second.now) }
+{
+    if first.len() != second.len() {
+        return false;
+    }
+    for i in 0..first.len() {
+        if first[i] != second[i] {
+            return false;
+        }
+    }
+    true
 }

@@ -51,7 +51,7 @@ pub fn standing(nodes: &[Option<Node>], dir: u32) -> &Node
 fn is_named(node: &Node, parent: u32, name: &str) -> bool
     ensures { IsTrue result ↔ ((node.now.parent ≡ parent) × (node.now.name ≡ name.now)) }
 {
-    node.parent == parent && node.name.as_str() == name
+    node.parent == parent && node.name.is(name.as_bytes())
 }
 
 /// The child of this name: its chain is gone through, and each directory there tested.

@@ -116,7 +116,7 @@ module _ {S : Type 0} (answers : S → ℕ → List ℕ → Answer → S → Typ
       (s.replies, subst (λ (ls : List (List ℕ)). Run answers strict start 1 ls s.replies now) (sym (lines_whole bytes s.lines s.rest s.split s.are_lines s.is_line)) s.run, subst (λ (t : List ℕ). Appends u w t) s.written written)
 
   -- all lines were accepted before the last piece came
-  pub stopped : (bytes last text : List ℕ) (now : S) (p : Progress) → Stands answers strict start bytes text now p → strict ≡ true → (strict && not p.accepted) ≡ false → length last ≤ 4096 → AcceptsUpTo answers strict start bytes last
+  pub stopped : (bytes last text : List ℕ) (now : S) (p : Progress) → Stands answers strict start bytes text now p → strict ≡ true → (strict && not p.accepted) ≡ false → length last ≤ 16384 → AcceptsUpTo answers strict start bytes last
   stopped bytes last text now p s is going few =
       (few, (s.replies, now, subst (λ (ls : List (List ℕ)). Run answers strict start 1 ls s.replies now) (sym (lines_whole bytes s.lines s.rest s.split s.are_lines s.is_line)) s.run, sym s.good ∙ went_well strict p.accepted is going))
 

@@ -36,8 +36,8 @@ module _ {S : Type 0} (answers : S → ℕ → List ℕ → Answer → S → Typ
       ≡ lines ++ more)
       × Run answers strict old 1 lines replies last × AppendsFront before after (text_of replies)
 
-  -- The whole lines of some bytes are all accepted, and no more than 4096 bytes follow.
+  -- The whole lines of some bytes are all accepted, and no more than 16384 bytes follow.
   abbrev pub AcceptsUpTo : List ℕ → List ℕ → Type 0
   AcceptsUpTo front last =
-      (length last ≤ 4096) × ((replies : List Answer) × (mid : S)
+      (length last ≤ 16384) × ((replies : List Answer) × (mid : S)
       × Run answers strict old 1 (whole_lines front) replies mid × (all_accepted replies ≡ true))

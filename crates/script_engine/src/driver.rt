@@ -72,7 +72,7 @@ pub fn run_script<
     // It takes no memory to begin.
     ensures begun { IsErrOf result RunError.Memory → ⊥ }
 {
-    let mut buffer = [0u8; 4096];
+    let mut buffer = [0u8; 16384];
     let mut progress = Progress {
         line: Vec::new(alloc),
         has_room: true,

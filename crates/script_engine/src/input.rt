@@ -58,7 +58,7 @@ impl<R: Read> Input<R> {
     }
 
     /// Reads once. The count is that of the bytes at the buffer's front that came, 0 at the end of the input alone.
-    pub fn read(&mut self, buffer: &mut [u8; 4096]) -> Result<usize, ReadFailed>
+    pub fn read(&mut self, buffer: &mut [u8; 16384]) -> Result<usize, ReadFailed>
         requires { self.old.reads < 2 ^ 40 }
         ensures bound { ReadsAtMost result buffer.new }
         ensures bytes { ReadConsumes (R.remaining self.old.reader) (R.remaining self.new.reader) result buffer.new }

@@ -28,6 +28,6 @@ module _ (limit : ℕ) (strict : Bool) where
   abbrev pub SomeAnswered : List ℕ → Option (List ℕ) → Option (List ℕ) → Type 0
   SomeAnswered = AnswersSome answers strict (beginning limit)
 
-  -- the whole lines of some bytes are all accepted, and no more than 4096 bytes follow
+  -- the whole lines of some bytes are all accepted, and no more than 16384 bytes follow
   abbrev pub AcceptedUpTo : List ℕ → List ℕ → Type 0
   AcceptedUpTo = AcceptsUpTo answers strict (beginning limit)

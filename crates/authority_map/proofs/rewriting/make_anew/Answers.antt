@@ -24,7 +24,7 @@ loop-place-init c =
       room = c.begin-next.ensures.room;
       before = c.begin-next.ensures.before;
       cells = λ old has. c.begin-next.ensures.cells (λ d. if names dirs d then c.args.cell else old d)
-          (ap (λ (n : ℕ). (if names dirs 0 then c.args.cell else n)) (sym (has.each 0 0 some (in_first c.args.starts.now runs.order))));
+          (ap (λ (n : ℕ). (if names dirs 0 then c.args.cell else n)) (sym (get_or_read c.args.runs.now.cells.items 0 c.index.result.now (omega (arith, runs.sized, runs.order.some)) c.index.ensures 0 ∙ has.each 0 0 some (in_first c.args.runs.now.starts.items runs.order))));
     }
 
 pub keep-requires-clause-order : goal.keep-requires-clause-order

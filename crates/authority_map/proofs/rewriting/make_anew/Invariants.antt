@@ -12,6 +12,6 @@ invariant-loop-place l = record {
   runs : AreRuns l.limit l.made.starts.items l.made.cells.items;
   room : (l.limit ≤ vec_capacity l.made.starts) × (l.limit ≤ vec_capacity l.made.cells);
   before : AreBefore l.done l.made.starts.items;
-  cells : (old : ℕ → ℕ) → HasCells l.limit l.starts l.cells old 0 0
+  cells : (old : ℕ → ℕ) → HasCells l.limit l.runs.starts.items l.runs.cells.items old 0 0
       → HasFirst l.done l.made.starts.items l.made.cells.items (λ d. if names l.dirs d then l.cell else old d);
 }

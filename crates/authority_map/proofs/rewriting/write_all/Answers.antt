@@ -49,5 +49,5 @@ returns-clause-cells c old has =
 
 pub index_again-requires-clause-few : goal.index_again-requires-clause-few
 index_again-requires-clause-few c =
-    rw c.deref-then-is_rising-2.ensures.value
+    rw c.deref-then-is_rising.ensures.value
     (few_runs c.args.limit c.make_anew.new.made.starts.items c.make_anew.new.made.cells.items c.make_anew.ensures.runs)
