@@ -202,7 +202,7 @@ impl<J: Naming> LogPrefix<J> {
         self.count == other.count
     }
 
-    /// This beginning with one operation more, or `None` where the list is longer already, as its one writer never sees.
+    /// This beginning with one operation more, or `None` where the list is longer already: its writer never sees that.
     pub(crate) fn with(&self, count: &Count<J>, operation: &MapOperation) -> Option<LogPrefix<J>>
         requires { length self.now < 2 ^ 62 }
         ensures { IfSome result (λ prefix. prefix ≡ self.now ++ operation.now ∷ []) }

@@ -51,7 +51,7 @@ pub trait Publisher<J: Naming> {
         ensures room { room self.new ≡ room self.old - 1 }
         ensures published { published self.new ≡ published self.old };
 
-    /// Shows readers all that is pending. It waits for readers that are still in the copy of the publish before the last.
+    /// Shows readers all that is pending. It waits for readers still in the copy of the publish before the last.
     fn publish(&mut self) -> Result<(), MapError>
         ensures ok { OnOk result ((published self.new ≡ published self.old ++ pending self.old)
             × (pending self.new ≡ [])) }
