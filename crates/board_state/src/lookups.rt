@@ -39,6 +39,13 @@ impl<J: Naming, M: Publisher<J>> BoardState<J, M> {
         self.heat.heat(dir)
     }
 
+    /// The rank of a directory in all that is published of the map, which any reader finds.
+    pub fn rank_published(&self, dir: Dir) -> Option<Rank>
+        ensures { result ≡ rank_after self.now.published dir }
+    {
+        self.map.rank_of(dir)
+    }
+
     /// The rank that a reader finds for a directory in all that is published of the map.
     pub fn find_published(&self, reader: &mut MapReader<J>, dir: Dir) -> Option<Rank>
         ensures { result ≡ rank_after self.now.published dir }

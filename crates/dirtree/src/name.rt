@@ -28,7 +28,10 @@ fn has_name_bytes(text: &str) -> bool
 fn is_dots(text: &str) -> bool
     ensures { result ≡ is_dots text.now }
 {
-    text == "." || text == ".."
+    match text.as_bytes() {
+        b"." | b".." => true,
+        _ => false,
+    }
 }
 
 /// Whether the text may name a directory: 1 to 255 bytes of 0x21 to 0x7E without `/`, and neither

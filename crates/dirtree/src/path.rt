@@ -1,6 +1,6 @@
 //! Paths of directories, and where they lead.
-ghost use Rattle.std.specs.Prelude.{◌≡◌, ◌≢◌, ◌↔◌, ◌<◌, ◌==◌, ◌++◌, ◌∷◌, [], ℕ, List, Ok, Err, IfOk, IsOkUnless};
-ghost use Rattle.std.specs.Prelude.{IsTrue, MatchOption, OnErr, OnOk, map, reverse, string_bytes, true, false};
+ghost use Rattle.std.specs.Prelude.{◌≡◌, ◌≢◌, ◌↔◌, ◌<◌, ◌==◌, ◌++◌, ◌∷◌, [], ℕ, All, List, Ok, Err, IfOk, IsOkUnless};
+ghost use Rattle.std.specs.Prelude.{IsTrue, MatchOption, OnErr, OnOk, drop, map, reverse, string_bytes, true, false};
 ghost use Rattle.std.specs.List.{flat_map, slice_split};
 ghost use Rattle.dirtree.specs.Path.{find, names_up, path_of, walk};
 ghost use Rattle.dirtree.specs.Tree.{is_there};
@@ -31,6 +31,23 @@ impl Tree {
             return Ok(Dir::ROOT);
         }
         self.walk(names)
+    }
+
+    /// The directory that a path names behind whose first byte no slash stands, as `find` answers.
+    pub(crate) fn find_below_root(&self, path: &str) -> Result<Dir, TreeError>
+        requires { All (λ byte. (byte == 47) ≡ false) (drop 1 path.now) }
+        ensures dir { result ≡ find self.now.entries path.now }
+        ensures below { IfOk result (λ dir. dir < self.now.limit) }
+        ensures there { IfOk result (λ dir. is_there self.now.entries dir ≡ true) }
+    {
+        let Some(name) = path.strip_prefix('/') else {
+            return Err(TreeError::BadName);
+        };
+        if name.is_empty() {
+            let _ = self.numbers();
+            return Ok(Dir::ROOT);
+        }
+        self.step(Dir::ROOT, name)
     }
 
     fn walk(&self, names: &str) -> Result<Dir, TreeError>

@@ -3,7 +3,7 @@
 //! A guess is an answer only where the names up to the root are those of the path. So what is told here changes how
 //! long a look-up takes, and never its answer: `find` answers as `Tree::find` does. No guess is kept of a path that has
 //! one name, as the tree itself finds that in one look-up.
-ghost use Rattle.std.specs.Prelude.{◌≡◌, ◌<◌, ◌^◌, IfOk, IfSome, Ok, true};
+ghost use Rattle.std.specs.Prelude.{◌≡◌, ◌<◌, ◌==◌, ◌^◌, All, IfOk, IfSome, IsTrue, Ok, drop, false, true};
 ghost use Rattle.dirtree.specs.Path.{find};
 ghost use Rattle.dirtree.specs.Tree.{is_there};
 
@@ -82,7 +82,7 @@ impl PathGuesses {
         ensures there { IfOk result (λ dir. is_there tree.now.entries dir ≡ true) }
     {
         if has_one_name(path) {
-            return tree.find(path);
+            return tree.find_below_root(path);
         }
         match self.guessed(tree, path) {
             Some(dir) => Ok(dir),
@@ -113,7 +113,9 @@ impl PathGuesses {
 }
 
 // Whether no slash stands behind a path's first byte.
-fn has_one_name(path: &str) -> bool {
+fn has_one_name(path: &str) -> bool
+    ensures { IsTrue result → All (λ byte. (byte == 47) ≡ false) (drop 1 path.now) }
+{
     match path.as_bytes() {
         [_, names @ ..] => !names.contains(&b'/'),
         [] => true,

@@ -36,6 +36,13 @@ impl<J: Naming, M: Publisher<J>> Board<J, M> {
         self.state.heat_of(dir)
     }
 
+    /// The rank of a directory in all that is published of the map, which any reader finds.
+    pub fn rank_published(&self, dir: Dir) -> Option<Rank>
+        ensures { result ≡ rank_after self.now.published dir }
+    {
+        self.state.rank_published(dir)
+    }
+
     /// The rank that a reader finds for a directory in all that is published of the map.
     pub fn find_published(&self, reader: &mut MapReader<J>, dir: Dir) -> Option<Rank>
         ensures { result ≡ rank_after self.now.published dir }

@@ -8,7 +8,7 @@ ghost use Rattle.script_board.specs.Serve.{IsDealt, asked_rank, refusal_at, refu
 use crate::fault::Fault;
 use crate::load::Load;
 use crate::script_board::ScriptBoard;
-use authority_map::{MapReader, Publisher};
+use authority_map::Publisher;
 use mds_board::Board;
 use mds_types::{Dir, Rank};
 use naming::Naming;
@@ -34,7 +34,6 @@ pub(crate) struct Dealt {
 // The rank that is asked: the one that the map names, or rank 0 where it names none of so many.
 fn asked_rank<J: Naming, M: Publisher<J>>(
     board: &Board<J, M>,
-    reader: &mut MapReader<J>,
     ranks: usize,
     dir: Dir,
 ) -> usize
@@ -42,7 +41,7 @@ fn asked_rank<J: Naming, M: Publisher<J>>(
     ensures rank { result ≡ asked_rank board.now ranks dir }
     ensures inside { result < ranks }
 {
-    let named = board.find_published(reader, dir);
+    let named = board.rank_published(dir);
     let rank = named.map_or(0, |rank: Rank| usize::from(rank.number()));
     if rank < ranks { rank } else { 0 }
 }
@@ -115,7 +114,6 @@ impl<J: Naming, M: Publisher<J>> ScriptBoard<J, M> {
 pub(crate) fn deal<J: Naming, M: Publisher<J>>(
     alloc: Global,
     board: &Board<J, M>,
-    reader: &mut MapReader<J>,
     ranks: usize,
     loads: &[Load],
 ) -> Result<Dealt, AllocError>
@@ -129,7 +127,7 @@ pub(crate) fn deal<J: Naming, M: Publisher<J>>(
         if !board.tree().contains(load.dir) {
             continue;
         }
-        let rank = asked_rank(board, reader, ranks, load.dir);
+        let rank = asked_rank(board, ranks, load.dir);
         dealt.add(rank, *load)?;
     }
     Ok(dealt)

@@ -28,7 +28,7 @@ impl<J: Naming + Send + Sync, M: Publisher<J> + Send> ScriptBoard<J, M> {
         ensures done { IfOk result.1 (λ refused. IsGone self refused.items result.0) }
         ensures unchanged { OnErr result.1 (result.0 ≡ self) }
     {
-        let mut before = self;
+        let before = self;
         let (dealt, refused) = match before.prepare(alloc) {
             Ok(prepared) => prepared,
             Err(error) => return (before, Err(error)),
@@ -73,15 +73,14 @@ impl<J: Naming + Send + Sync, M: Publisher<J> + Send> ScriptBoard<J, M> {
 
 impl<J: Naming, M: Publisher<J>> ScriptBoard<J, M> {
     // Deals the waiting requests to the ranks, and asks for room for the refusals that may be met.
-    fn prepare(&mut self, alloc: Global) -> Result<(Dealt, Vec<Fault>), AllocError>
-        ensures dealt { IfOk result (λ r. IsDealt self.old.world (length self.old.shares) (waiting self.old)
+    fn prepare(&self, alloc: Global) -> Result<(Dealt, Vec<Fault>), AllocError>
+        ensures dealt { IfOk result (λ r. IsDealt self.now.world (length self.now.shares) (waiting self.now)
             (map (λ s. s.items) r.0.scripts.items) r.0.seats.items) }
         ensures none { IfOk result (λ r. r.1.items ≡ []) }
         ensures room { IfOk result (λ r. length r.0.seats.items + 2 ≤ vec_capacity r.1) }
-        ensures same { self.new ≡ self.old }
     {
         let ranks = self.shares.len();
-        let dealt = deal(alloc, &self.board, &mut self.reader, ranks, &self.loads)?;
+        let dealt = deal(alloc, &self.board, ranks, &self.loads)?;
         let refused = Vec::with_capacity(alloc, dealt.seats.len() + 2)?;
         Ok((dealt, refused))
     }
