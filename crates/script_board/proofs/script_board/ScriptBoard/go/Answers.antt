@@ -32,7 +32,7 @@ invariant_of-after-2 g c =
 pub returns-clause-done : goal.returns-clause-done
 returns-clause-done g c =
     let old : BoardData = record { world = c.before-2.inside.board; shares = c.before-2.inside.shares.items; loads = c.before-2.inside.loads.items; kept = c.before-2.inside.kept.items } in
-    let as_before : old ≡ c.args.self = c.before-2.view_is ∙ c.in-Ok.ensures.same in
+    let as_before : old ≡ c.args.self = c.before-2.view_is in
     let new : List ShareData → BoardData = λ shares. record { world = c.serve_with_totals-board.result.0; shares = shares; loads = c.clear.new.self.items; kept = c.before-2.inside.kept.items } in
     let limit : g.J.Naming.limit ≡ old.world.state.directories.limit = sym c.limit-limit.ensures.named ∙ c.limit-limit.ensures.limit in
     let seats : List Seat = c.in-Ok.prepared.0.seats.items in
