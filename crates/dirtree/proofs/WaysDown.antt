@@ -1,6 +1,6 @@
 -- The names down to a directory, each behind a slash, and when a text is that.
-use Rattle.std.proofs.Common.{◌≡◌, ◌≢◌, ◌==◌, ◌↔◌, ℕ, zero, suc, ◌<◌, List, [], ◌∷◌, ◌++◌, sym, ap, ◌∙◌, refl, arith, true, Option, Ok}
-use Rattle.std.specs.Prelude.{reverse, is_some, Bool, length}
+use Rattle.std.proofs.Common.{◌≡◌, ◌≢◌, ◌==◌, ◌↔◌, ℕ, zero, suc, ◌<◌, List, [], ◌∷◌, ◌++◌, sym, ap, ◌∙◌, refl, arith, true, append_assoc, Bor, Option, Some, None, Ok}
+use Rattle.std.specs.Prelude.{reverse, is_some, MatchOption, Bool, length}
 use Rattle.std.specs.List.{flat_map}
 use Rattle.std.proofs.lemmas.Bool.Decides.{Decides-eqb}
 use Rattle.std.proofs.lemmas.Grind.{reverse_onto, flat_map-append}
@@ -43,6 +43,16 @@ one_up es d text above tree some ends = (
 
 pub no_way : (es : List (Option Entry)) (d : ℕ) (text : List ℕ) → IsTree es → 0 < d → ((front : List ℕ) → text ≢ front ++ 47 ∷ name_of es d) → text ≢ way_down es d
 no_way es d text tree some other = λ h. other (way_down es (parent_of es d)) (h ∙ way_down-step es d tree some)
+
+-- a text that ends in a name, and a slash before that
+pub slash_and_name : (text above name : List ℕ) (r : Option (Bor (List ℕ))) → text ≡ above ++ name
+    → MatchOption r ((front : List ℕ) → above ≢ front ++ 47 ∷ []) (λ front. above ≡ front.now ++ 47 ∷ [])
+    → MatchOption r ((front : List ℕ) → text ≢ front ++ 47 ∷ name) (λ front. text ≡ front.now ++ 47 ∷ name)
+slash_and_name text above name None ends none = λ front is. none front (append_cancel_right above (front ++ 47 ∷ []) name (sym ends ∙ is ∙ sym (append_assoc front (47 ∷ []) name)))
+slash_and_name text above name (Some front) ends is = ends ∙ ap (λ (xs : List ℕ). xs ++ name) is ∙ append_assoc front.now (47 ∷ []) name
+
+pub no_name : (text name : List ℕ) → ((front : List ℕ) → text ≢ front ++ name) → (front : List ℕ) → text ≢ front ++ 47 ∷ name
+no_name text name other front is = other (front ++ 47 ∷ []) (is ∙ sym (append_assoc front (47 ∷ []) name))
 
 pub empty_or_not : (text : List ℕ) (b : Bool) → b ≡ (length text == 0) → (b ≡ true) ↔ (text ≡ [])
 empty_or_not [] b h = (λ is. refl, λ is. h)

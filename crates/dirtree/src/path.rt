@@ -5,7 +5,7 @@ ghost use Rattle.std.specs.List.{flat_map, slice_split};
 ghost use Rattle.dirtree.specs.Path.{find, names_up, path_of, walk};
 ghost use Rattle.dirtree.specs.Tree.{is_there};
 
-use crate::name::{Name, is_name};
+use crate::name::is_name;
 use crate::tree::Tree;
 use crate::tree_error::TreeError;
 use mds_types::Dir;
@@ -105,7 +105,7 @@ impl Tree {
             let Some(node) = self.node(at) else {
                 unreachable!()
             };
-            let Some(above) = before_name(rest, &node.name) else {
+            let Some(above) = before_name(rest, node.name.as_str().as_bytes()) else {
                 return false;
             };
             rest = above;
@@ -182,14 +182,12 @@ impl Tree {
 }
 
 // What stands before a slash and this name at the end of a path.
-fn before_name<'a>(path: &'a [u8], name: &Name) -> Option<&'a [u8]>
+fn before_name<'a>(path: &'a [u8], name: &[u8]) -> Option<&'a [u8]>
     ensures { MatchOption result ((front : List ℕ) → path.now ≢ front ++ 47 ∷ name.now)
         (λ front. path.now ≡ front.now ++ 47 ∷ name.now) }
 {
-    let slash = path.len().checked_sub(name.as_str().len() + 1)?;
-    if path[slash] == b'/' && name.is(&path[slash + 1..]) {
-        Some(&path[..slash])
-    } else {
-        None
+    match path.strip_suffix(name) {
+        Some(above) => above.strip_suffix(b"/"),
+        None => None,
     }
 }
