@@ -32,11 +32,7 @@ pub(crate) struct Dealt {
 }
 
 // The rank that is asked: the one that the map names, or rank 0 where it names none of so many.
-fn asked_rank<J: Naming, M: Publisher<J>>(
-    board: &Board<J, M>,
-    ranks: usize,
-    dir: Dir,
-) -> usize
+fn asked_rank<J: Naming, M: Publisher<J>>(board: &Board<J, M>, ranks: usize, dir: Dir) -> usize
     requires some { 0 < ranks }
     ensures rank { result ≡ asked_rank board.now ranks dir }
     ensures inside { result < ranks }
