@@ -146,7 +146,10 @@ fn texts<'a>(alloc: Global, rest: &[&'a [u8]]) -> Result<Vec<&'a str>, AllocErro
 pub(crate) fn is_cost(word: &[u8]) -> bool
     ensures { result ≡ bytes_eq word.now (codes "cost") }
 {
-    word == b"cost".as_slice()
+    match word {
+        b"cost" => true,
+        _ => false,
+    }
 }
 
 /// The fields behind a line's first word, as texts.
@@ -163,11 +166,24 @@ pub(crate) fn find_command<'a>(word: &[u8], rest: &'a [u8]) -> Option<Command<'a
     requires plain { list_all (list_all is_plain) (fields rest.now) ≡ true }
     ensures { option_map view result ≡ command (word.now ∷ fields rest.now) }
 {
-    if word == b"load".as_slice() {
-        load(rest)
-    } else if word == b"dir".as_slice() {
-        make_dir(rest)
-    } else if word == b"ranks".as_slice() {
+    match word {
+        b"load" => load(rest),
+        b"dir" => make_dir(rest),
+        _ => find_rarer_command(word, rest),
+    }
+}
+
+// The same for a word other than `load` and `dir` too, of which a script has few. Not inlined, since room for what each
+// of these words spells would be made for each line.
+#[inline(never)]
+fn find_rarer_command<'a>(word: &[u8], rest: &'a [u8]) -> Option<Command<'a>>
+    requires other { bytes_eq word.now (codes "cost") ≡ false }
+    requires no_load { bytes_eq word.now (codes "load") ≡ false }
+    requires no_dir { bytes_eq word.now (codes "dir") ≡ false }
+    requires plain { list_all (list_all is_plain) (fields rest.now) ≡ true }
+    ensures { option_map view result ≡ command (word.now ∷ fields rest.now) }
+{
+    if word == b"ranks".as_slice() {
         ranks(rest)
     } else if word == b"mask".as_slice() {
         mask(rest)

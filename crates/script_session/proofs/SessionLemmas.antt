@@ -1,24 +1,31 @@
 -- What a session answers.
-use Rattle.std.proofs.Common.{◌≡◌, ◌==◌, ℕ, ◌<◌, Bool, true, false, cond, List, refl, sym, ap, ◌∙◌, ◌⊎◌, inl, inr, length, take, Option, Some, None}
-use Rattle.script_commands.specs.Commands.{asked}
+use Rattle.std.proofs.Common.{◌≡◌, ◌==◌, ℕ, ◌<◌, Bool, true, false, cond, List, refl, sym, ap, subst, ◌∙◌, ◌⊎◌, inl, inr, length, take, Option, Some, None}
+use Rattle.script_commands.specs.Commands.{Asked, asked}
 use Rattle.script_engine.specs.Answers.{Answer, Takes, fault_text, no_room}
 use Rattle.script_board.specs.declared.fault.Fault.{Fault}
+use Rattle.script_board.specs.declared.fault.Fault.TheVariants.{Memory}
 use Rattle.script_board.specs.Board.{BoardData}
 use Rattle.script_session.specs.declared.done.Done.{Done}
 use Rattle.script_session.specs.declared.done.Done.TheVariants.{Served, Planned, Lines}
+use Rattle.script_session.specs.Does.{IsCaused}
 use Rattle.script_session.specs.Done.{refused_by, shown_at}
 use Rattle.script_session.specs.Fault.{words}
 use Rattle.script_session.specs.Printed.{Printed}
-use Rattle.script_session.specs.Session.{IsCausedOrNoRoom, IsDone, IsTold, SessionData, answers, asked_cause, cut_answer, done_answer, fault_answer, out_of_memory, published}
+use Rattle.script_session.specs.Session.{IsDone, IsTold, SessionData, answers, asked_cause, cut_answer, done_answer, fault_answer, out_of_memory, published}
 
-pub answered : (old mid new : SessionData) (number : ℕ) (bytes : List ℕ) (p : Printed) (ample : Bool) (a : Answer) → IsDone old (asked bytes) p ample mid → IsTold number p ample mid a new → Takes answers old number bytes a new
-answered old mid new number bytes p ample a done told = inl (inl (p, ample, mid, done, told))
+pub answered : (old mid new : SessionData) (number : ℕ) (bytes : List ℕ) (what : Asked) (p : Printed) (ample : Bool) (a : Answer) → asked bytes ≡ what → IsDone old what p ample mid → IsTold number p ample mid a new
+    → Takes answers old number bytes a new
+answered old mid new number bytes what p ample a same done told = inl (inl (p, ample, mid, subst (λ (w : Asked). IsDone old w p ample mid) (sym same) done, told))
 
-pub answered_fault : (old new : SessionData) (number : ℕ) (bytes : List ℕ) (fault : Fault) → new ≡ old → IsCausedOrNoRoom (asked_cause old (asked bytes)) fault
+pub answered_fault : (old new : SessionData) (number : ℕ) (bytes : List ℕ) (what : Asked) (fault : Fault) → asked bytes ≡ what → new ≡ old → IsCaused (asked_cause old what) fault
     → (a : Answer) × Takes answers old number bytes a new × (false ≡ a.accepted) × (fault_text number (words fault) ≡ a.text)
-answered_fault old new number bytes fault same (inl (inl due)) = (fault_answer number fault, inl (inr (inl (fault, due, refl, same))), refl, refl)
-answered_fault old new number bytes fault same (inl (inr memory)) = (out_of_memory number, inl (inr (inr (memory.1, refl, same))), refl, rw (memory.0) refl)
-answered_fault old new number bytes fault same (inr memory) = (no_room number, inr (refl, same), refl, rw memory refl)
+answered_fault old new number bytes what fault asks same (inl due) = (fault_answer number fault, inl (inr (inl (fault, ap (asked_cause old) asks ∙ due, refl, same))), refl, refl)
+answered_fault old new number bytes what fault asks same (inr memory) = (out_of_memory number, inl (inr (inr (ap (asked_cause old) asks ∙ memory.1, refl, same))), refl, rw (memory.0) refl)
+
+-- the fields of the line found no room
+pub answered_no_room : (old new : SessionData) (number : ℕ) (bytes : List ℕ) (fault : Fault) → new ≡ old → fault ≡ Memory
+    → (a : Answer) × Takes answers old number bytes a new × (false ≡ a.accepted) × (fault_text number (words fault) ≡ a.text)
+answered_no_room old new number bytes fault same memory = (no_room number, inr (refl, same), refl, rw memory refl)
 
 pub shown_refused : (board : Option BoardData) (done : Done) → (shown_at board done).refused ≡ refused_by done
 shown_refused None done = refl

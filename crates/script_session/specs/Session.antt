@@ -11,7 +11,7 @@ use Rattle.script_board.specs.declared.fault.Fault.TheVariants.{Syntax, NoRanks,
 use Rattle.script_board.specs.Board.{BoardData, empty_board, publish}
 use Rattle.script_board.specs.Fault.{is_memory}
 use Rattle.script_replies.specs.Printed.{joined}
-use Rattle.script_session.specs.Does.{Does, IsCaused, cause}
+use Rattle.script_session.specs.Does.{Does, cause}
 use Rattle.script_session.specs.Fault.{words}
 use Rattle.script_session.specs.Printed.{Printed, only_lines}
 
@@ -47,10 +47,6 @@ IsDone s line.Nothing p ample new = IsStill s p ample new
 IsDone s line.Syntax p ample new = ⊥
 IsDone s (line.Asks command) p ample new =
     (b : BoardData) × DoesAt s.limit s.board command p ample b × (new ≡ record s { board = Some b })
-
--- the same of a fault, also for a line that found no room for its fields, whatever it says
-abbrev pub IsCausedOrNoRoom : Option Fault → Fault → Type 0
-IsCausedOrNoRoom stands fault = IsCaused stands fault ⊎ (fault ≡ Memory)
 
 -- a line for each refusal
 abbrev pub refusal_lines : ℕ → List Fault → List ℕ

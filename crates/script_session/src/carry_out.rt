@@ -1,8 +1,9 @@
 //! What each command does to a board.
-ghost use Rattle.std.specs.Prelude.{◌≡◌, Bool, IfErr, IfOk, OnErr, false, true};
+ghost use Rattle.std.specs.Prelude.{◌≡◌, Bool, [], IfErr, IfOk, IfSome, None, OnErr, OnOk, false, true};
 ghost use Rattle.script_commands.specs.View.{view};
 ghost use Rattle.script_session.specs.Does.{Does, IsCaused, cause, is_by_threads};
 ghost use Rattle.script_session.specs.Done.{IsShowable, shown};
+ghost use Rattle.script_session.specs.Printed.{only_lines};
 
 use crate::done::Done;
 use authority_map::Publisher;
@@ -100,4 +101,24 @@ pub fn change<J: Naming, M: Publisher<J>, R: Threads>(
         Command::Go | Command::Move => unreachable!(),
     }
     Ok(Done::Lines(CommandReply::Nothing))
+}
+
+/// Makes a directory or lets a request wait, and says how that went. Most commands are these two, and they print
+/// nothing. Any other is left alone.
+pub fn change_quietly<J: Naming, M: Publisher<J>>(
+    board: &mut ScriptBoard<J, M>,
+    alloc: Global,
+    command: &Command<'_>,
+) -> Option<Result<(), Fault>>
+    ensures done { IfSome result (λ changed. OnOk changed
+        (Does board.old (view command.now) (only_lines []) true board.new)) }
+    ensures fault { IfSome result (λ changed. IfErr changed (IsCaused (cause board.old (view command.now)))) }
+    ensures unchanged { IfSome result (λ changed. OnErr changed (board.new ≡ board.old)) }
+    ensures left { result ≡ None → board.new ≡ board.old }
+{
+    match command {
+        Command::MakeDir(path, inodes) => Some(board.make_dir(alloc, path, *inodes)),
+        Command::Load(path, hits) => Some(board.load(path, *hits)),
+        _ => None,
+    }
 }

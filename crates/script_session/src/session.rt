@@ -1,23 +1,25 @@
 //! A session: the board that `ranks` makes, and the lines that come before it.
-ghost use Rattle.std.specs.Prelude.{◌≡◌, ◌<◌, ◌≤◌, ◌⊎◌, ℕ, Bool, IfErr, IfOk, IsErrOf};
-ghost use Rattle.std.specs.Prelude.{OnErr, OnOk, Some, None, [], length, take, true};
+ghost use Rattle.std.specs.Prelude.{◌≡◌, ◌<◌, ◌≤◌, ◌⊎◌, ℕ, Bool, List, IfErr, IfOk, IfSome, IsErrOf};
+ghost use Rattle.std.specs.Prelude.{OnErr, OnOk, Some, None, [], length, take, false, true};
 ghost use Rattle.script_commands.specs.Commands.{Ranks, asked};
 ghost use Rattle.script_commands.specs.Commands as words;
 ghost use Rattle.script_commands.specs.View.{asked_view, view};
 ghost use Rattle.script_session.specs.Does.{IsCaused, is_by_threads};
 ghost use Rattle.script_session.specs.Done.{IsShowable, IsShowableAt, shown, shown_at};
 ghost use Rattle.script_replies.specs.Printed.{joined};
+ghost use Rattle.script_engine.specs.Answers.{fault_text};
 ghost use Rattle.script_engine.specs.Known.{AppendsFront};
 ghost use Rattle.std.specs.Io.KnownBytes.{Appends};
+ghost use Rattle.script_session.specs.Fault.{words as fault_words};
 ghost use Rattle.script_session.specs.Proofs.{IsProved};
 ghost use Rattle.script_session.specs.Script.{IsKeptAt};
 ghost use Rattle.std.specs.Option.{option_and_then};
 ghost use Rattle.script_session.specs.Printed.{only_lines};
 ghost use Rattle.script_engine.specs.Telling.{Tells};
-ghost use Rattle.script_session.specs.Session.{DoesAt, IsCausedOrNoRoom, IsDone, IsTold, answers};
+ghost use Rattle.script_session.specs.Session.{DoesAt, IsDone, IsTold, answers};
 ghost use Rattle.script_session.specs.Session.{asked_cause, beginning, cause_at, published};
 
-use crate::carry_out::{carry_out_by_threads, change, is_by_threads};
+use crate::carry_out::{carry_out_by_threads, change, change_quietly, is_by_threads};
 use crate::done::Done;
 use crate::report::{write_fault, write_refused};
 use authority_map::Publisher;
@@ -278,21 +280,46 @@ impl<'r, J: Naming + Send + Sync, M: Publisher<J> + Send, R: Threads + Wait + Sy
         }
     }
 
-    // Reads a line, carries out what it asks for, and answers what it prints. Where the fields of a line that asks for
-    // a cost find no room, it is refused whatever they say.
-    fn take_line(&mut self, alloc: Global, line: &[u8]) -> Result<Done, Fault>
-        ensures done { IfOk result (λ done. (ample : Bool)
-            × IsDone self.old (asked line.now) (shown_at self.new.board done) ample self.new) }
-        ensures showable { IfOk result (IsShowableAt self.new.board) }
-        ensures fault { IfErr result (IsCausedOrNoRoom (asked_cause self.old (asked line.now))) }
-        ensures unchanged { OnErr result (self.new ≡ self.old) }
+    // Carries out what a line asks for where that is a directory to make or a request that is to wait, and there is a
+    // board. Most lines are such, and print nothing: no room is made for a reply. All else is left alone.
+    fn change_quietly(&mut self, alloc: Global, what: &Asked<'_>) -> Option<Result<(), Fault>>
+        ensures done { IfSome result (λ changed. OnOk changed
+            (IsDone self.old (asked_view what.now) (only_lines []) true self.new)) }
+        ensures fault { IfSome result (λ changed. IfErr changed
+            (IsCaused (asked_cause self.old (asked_view what.now)))) }
+        ensures unchanged { IfSome result (λ changed. OnErr changed (self.new ≡ self.old)) }
+        ensures left { result ≡ None → self.new ≡ self.old }
     {
-        let what = read_line(alloc, line)?;
-        self.carry_asked(alloc, what)
+        let Asked::Asks(command) = what else {
+            return None;
+        };
+        let Some(board) = &mut self.board else {
+            return None;
+        };
+        change_quietly(board, alloc, command)
+    }
+
+    // Carries out what any line asks for, and writes what that prints.
+    #[inline(never)]
+    fn answer_fully<W: Write>(
+        &mut self,
+        alloc: Global,
+        number: u64,
+        what: Asked<'_>,
+        writer: &mut W,
+    ) -> Result<bool, WriteFailed>
+        ensures { (line : List ℕ) → asked line ≡ asked_view what.entry
+            → Tells answers W.contents self.old number line writer.old result self.new writer.new }
+    {
+        match self.carry_asked(alloc, what) {
+            Ok(done) => self.settle(alloc, number, &done, writer),
+            Err(fault) => refuse(writer, number, fault),
+        }
     }
 
     /// Answers a line: carries out what it asks for, writes what that prints, and publishes the map if the line is
-    /// accepted. It says whether it is.
+    /// accepted. It says whether it is. Where the fields of a line that asks for a cost find no room, it is refused
+    /// whatever they say.
     pub fn answer<W: Write>(
         &mut self,
         alloc: Global,
@@ -302,14 +329,30 @@ impl<'r, J: Naming + Send + Sync, M: Publisher<J> + Send, R: Threads + Wait + Sy
     ) -> Result<bool, WriteFailed>
         ensures { Tells answers W.contents self.old number line.now writer.old result self.new writer.new }
     {
-        match self.take_line(alloc, line) {
-            Ok(done) => self.settle(alloc, number, &done, writer),
-            Err(fault) => {
-                write_fault(writer, number, fault)?;
-                Ok(false)
+        let what = match read_line(alloc, line) {
+            Ok(what) => what,
+            Err(error) => return refuse(writer, number, Fault::from(error)),
+        };
+        match self.change_quietly(alloc, &what) {
+            Some(Ok(())) => {
+                self.publish();
+                Ok(true)
             }
+            Some(Err(fault)) => refuse(writer, number, fault),
+            None => self.answer_fully(alloc, number, what, writer),
         }
     }
+}
+
+// Writes why a line is refused, which isn't accepted then.
+fn refuse<W: Write>(writer: &mut W, number: u64, fault: Fault) -> Result<bool, WriteFailed>
+    ensures ok { IfOk result (λ accepted. (accepted ≡ false) × Appends (W.contents writer.old) (W.contents writer.new)
+        (fault_text number (fault_words fault))) }
+    ensures err { OnErr result (AppendsFront (W.contents writer.old) (W.contents writer.new)
+        (fault_text number (fault_words fault))) }
+{
+    write_fault(writer, number, fault)?;
+    Ok(false)
 }
 
 // Writes the lines of what was done to a board.

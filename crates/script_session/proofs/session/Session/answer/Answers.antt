@@ -1,21 +1,31 @@
-use Rattle.std.proofs.lemmas.Result.{err_from_is_err_and, IfOk-weaker, on_err_weaker}
-use Rattle.script_session.proofs.SessionLemmas.{answered, answered_fault}
+use Rattle.std.proofs.Common.{◌∙◌, sym, refl, true, []}
+use Rattle.std.proofs.KnownBytes.{Appends-nil}
+use Rattle.std.proofs.lemmas.Result.{IfOk-weaker, MatchResult-at_err, MatchResult-at_ok, on_err_weaker}
+use Rattle.script_session.specs.Printed.{only_lines}
+use Rattle.script_session.proofs.SessionLemmas.{answered, answered_fault, answered_no_room, told_accepted}
 use Rattle.script_session.proofs.session.Session.answer.Goals as goal
 
-pub returns-in-Ok : goal.returns-in-Ok
-returns-in-Ok g c =
-    let done = c.in-Ok.ensures.done in (
-      IfOk-weaker c.settle.result _ _ (λ accepted told. let t = told done.0 in (t.0, answered c.args.self.now c.take_line.new.self c.settle.new.self c.args.number c.args.line.now _ done.0 t.0 done.1 t.1, t.2, t.3)) c.settle.ensures.ok,
-      on_err_weaker c.settle.result (λ told. let t = told done.0 in (t.0, answered c.args.self.now c.take_line.new.self c.settle.new.self c.args.number c.args.line.now _ done.0 t.0 done.1 t.1, t.2)) c.settle.ensures.err,
+pub returns-in-Err : goal.returns-in-Err
+returns-in-Err g c =
+    let a = answered_no_room c.args.self.now c.args.self.now c.args.number c.args.line.now c.from.result refl c.from.ensures in (
+      IfOk-weaker c.refuse.result _ _ (λ accepted told. (a.0, a.1, told.0 ∙ a.2, rw (← a.3) told.1)) c.refuse.ensures.ok,
+      on_err_weaker c.refuse.result (λ told. (a.0, a.1, rw (← a.3) told)) c.refuse.ensures.err,
     )
 
-pub returns-in_err-write_fault-in-Err : goal.returns-in_err-write_fault-in-Err
-returns-in_err-write_fault-in-Err g c =
-    let p = err_from_is_err_and c.from_residual.result c.from_residual.ensures.1 in
-    let a = answered_fault c.args.self.now c.take_line.new.self c.args.number c.args.line.now c.in-Err.fault c.in-Err.ensures.unchanged c.in-Err.ensures.fault in
-    rw p.1 (tt, (a.0, a.1, rw (← a.3) c.in_err-write_fault-in-Err.ensures.err))
+pub returns-in-Some-Ok : goal.returns-in-Some-Ok
+returns-in-Some-Ok g c =
+    let told = told_accepted c.args.number (only_lines []) true c.change_quietly.new.self c.publish.new.self refl c.publish.ensures in
+    let done = MatchResult-at_ok _ _ _ c.in-Some-Ok.field-0-is c.in-Some-Ok.ensures.done in
+    ((told.0, answered c.args.self.now c.change_quietly.new.self c.publish.new.self c.args.number c.args.line.now _ (only_lines []) true told.0 (sym c.in-Ok.ensures.asked) done told.1, told.2, rw told.3 (Appends-nil (g.W.Write.contents c.args.writer.now))), tt)
 
-pub returns-in_ok-write_fault-in-Err : goal.returns-in_ok-write_fault-in-Err
-returns-in_ok-write_fault-in-Err g c =
-    let a = answered_fault c.args.self.now c.take_line.new.self c.args.number c.args.line.now c.in-Err.fault c.in-Err.ensures.unchanged c.in-Err.ensures.fault in
-    ((a.0, a.1, a.2, rw (← a.3) c.in_ok-write_fault-in-Err.ensures.ok), tt)
+pub returns-in-Some-Err : goal.returns-in-Some-Err
+returns-in-Some-Err g c =
+    let same = MatchResult-at_err _ _ _ c.in-Some-Err.field-0-is c.in-Some-Err.ensures.unchanged in
+    let due = MatchResult-at_err _ _ _ c.in-Some-Err.field-0-is c.in-Some-Err.ensures.fault in
+    let a = answered_fault c.args.self.now c.change_quietly.new.self c.args.number c.args.line.now _ c.in-Some-Err.fault (sym c.in-Ok.ensures.asked) same due in (
+      IfOk-weaker c.refuse-in-Some-Err.result _ _ (λ accepted told. (a.0, a.1, told.0 ∙ a.2, rw (← a.3, ← c.in-Some-Err.fault-is) told.1)) c.refuse-in-Some-Err.ensures.ok,
+      on_err_weaker c.refuse-in-Some-Err.result (λ told. (a.0, a.1, rw (← a.3, ← c.in-Some-Err.fault-is) told)) c.refuse-in-Some-Err.ensures.err,
+    )
+
+pub returns : goal.returns
+returns g c = rw (← c.change_quietly.ensures.left c.in-None.is) (c.answer_fully.ensures c.args.line.now (sym c.in-Ok.ensures.asked))
