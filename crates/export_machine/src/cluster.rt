@@ -172,15 +172,14 @@ impl Cluster {
         self.records.logs_export(event)
     }
 
-    /// Takes the memory that an `apply` of this event as the next change needs.
+    /// Takes the memory that an event needs as the next change, of which no cause stands to refuse it: then it can
+    /// `happen`.
     pub fn reserve(&mut self, event: &Event) -> Result<(), AllocError>
+        requires { refusal self.old.world (event.now) ≡ None }
         ensures world { self.new.world ≡ self.old.world }
-        ensures room { OnOk result (refusal self.new.world (event.now) ≡ None → is_ready self.new (event.now) ≡ true) }
+        ensures room { OnOk result (is_ready self.new (event.now) ≡ true) }
         ensures spare { KeepsRoom self.old self.new }
     {
-        if self.records.check_by_marks(event).is_err() {
-            return Ok(());
-        }
         self.records.grow(event)
     }
 

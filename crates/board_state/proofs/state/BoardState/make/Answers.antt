@@ -19,6 +19,11 @@ overflow_add-self g c =
     let same = ap (λ (p : Present). p.state.events) c.self.view_is in
     omega (arith, place, same)
 
+pub reserve-2-requires : goal.reserve-2-requires
+reserve-2-requires g c =
+    let may = (may_make _ _ _ 0 (sym (c.in_default.ensures 0))).1 in
+    subst (λ (p : Present). machine.refusal p.state.cluster (Made c.args.parent) ≡ None) (sym c.self.view_is) may
+
 pub happen-requires-clause-accepted : goal.happen-requires-clause-accepted
 happen-requires-clause-accepted g c =
     let may = (may_make _ _ _ 0 (sym (c.in_default.ensures 0))).1 in
@@ -31,7 +36,7 @@ add-requires g c =
     subst (λ (p : Present). make_refusal p.state.directories c.args.parent c.args.name.now ≡ None) (sym c.self.view_is) may
 
 pub happen-requires-clause-room : goal.happen-requires-clause-room
-happen-requires-clause-room g c = c.in-Ok-Ok.ensures'.room (happen-requires-clause-accepted g c)
+happen-requires-clause-room g c = c.in-Ok-Ok.ensures'.room
 
 pub invariant_of-self-2 : goal.invariant_of-self-2
 invariant_of-self-2 g c =

@@ -25,6 +25,11 @@ unreachable-requires g c =
     let here = subst (λ (p : Present). tree.remove_refusal p.state.directories c.args.dir ≡ None) (sym c.self.view_is) may in
     let bad = sym here ∙ c.in_default-remove.ensures.refused in cc
 
+pub reserve-2-requires : goal.reserve-2-requires
+reserve-2-requires g c =
+    let may = (may_remove _ _ (sym c.in_default.ensures)).1 in
+    subst (λ (p : Present). machine.refusal p.state.cluster (Gone c.args.dir) ≡ None) (sym c.self.view_is) may
+
 pub happen-requires-clause-accepted : goal.happen-requires-clause-accepted
 happen-requires-clause-accepted g c =
     let may = (may_remove _ _ (sym c.in_default.ensures)).1 in
@@ -32,7 +37,7 @@ happen-requires-clause-accepted g c =
     subst (λ (w : World). machine.refusal w (Gone c.args.dir) ≡ None) (sym c.reserve-2.ensures.world) here
 
 pub happen-requires-clause-room : goal.happen-requires-clause-room
-happen-requires-clause-room g c = c.in-Ok-Ok.ensures'.room (happen-requires-clause-accepted g c)
+happen-requires-clause-room g c = c.in-Ok-Ok.ensures'.room
 
 pub clear-requires-clause-inside : goal.clear-requires-clause-inside
 clear-requires-clause-inside g c = subst (λ (l : ℕ). c.args.dir < l) c.self.invariant.1 c.in-Ok.ensures.below
