@@ -19,8 +19,8 @@ overflow_add-self g c =
     let same = ap (λ (p : Present). p.state.events) c.self.view_is in
     omega (arith, place, same)
 
-pub reserve-2-requires : goal.reserve-2-requires
-reserve-2-requires g c =
+pub reserve-requires-2 : goal.reserve-requires-2
+reserve-requires-2 g c =
     let may = (may_make _ _ _ 0 (sym (c.in_default.ensures 0))).1 in
     subst (λ (p : Present). machine.refusal p.state.cluster (Made c.args.parent) ≡ None) (sym c.self.view_is) may
 

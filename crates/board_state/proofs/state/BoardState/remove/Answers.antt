@@ -25,8 +25,8 @@ unreachable-requires g c =
     let here = subst (λ (p : Present). tree.remove_refusal p.state.directories c.args.dir ≡ None) (sym c.self.view_is) may in
     let bad = sym here ∙ c.in_default-remove.ensures.refused in cc
 
-pub reserve-2-requires : goal.reserve-2-requires
-reserve-2-requires g c =
+pub reserve-requires-2 : goal.reserve-requires-2
+reserve-requires-2 g c =
     let may = (may_remove _ _ (sym c.in_default.ensures)).1 in
     subst (λ (p : Present). machine.refusal p.state.cluster (Gone c.args.dir) ≡ None) (sym c.self.view_is) may
 
