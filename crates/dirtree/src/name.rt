@@ -109,8 +109,7 @@ impl Name {
     }
 }
 
-// Whether two texts are the same. Most names are short, and for these a look at byte after byte takes fewer
-// instructions than `==`.
+// Whether two texts are the same. Most names are short, so byte after byte is looked at.
 fn are_same(first: &[u8], second: &[u8]) -> bool
     ensures { IsTrue result ↔ (first.now ≡ second.now) }
 {

@@ -1,8 +1,8 @@
 //! Guesses of where paths lead, for whoever looks up the same paths time and again.
 //!
 //! A guess is an answer only where the names up to the root are those of the path. So what is told here changes how
-//! long a look-up takes, and never its answer: `find` answers as `Tree::find` does. No guess is kept of a path that has
-//! one name, as the tree itself finds that in one look-up.
+//! long a look-up takes, and never its answer: `find` answers as `Tree::find` does. No guess is asked for a path that
+//! has one name, as the tree itself finds that in one look-up.
 ghost use Rattle.std.specs.Prelude.{◌≡◌, ◌<◌, ◌==◌, ◌^◌, All, IfOk, IfSome, IsTrue, Ok, drop, false, true};
 ghost use Rattle.dirtree.specs.Path.{find};
 ghost use Rattle.dirtree.specs.Tree.{is_there};
@@ -43,11 +43,9 @@ impl PathGuesses {
         }
     }
 
-    /// Keeps the guess that a path leads to this directory, in the place of another guess where there is no room.
+    /// Keeps the guess that a path leads to this directory, in the place of another guess where there is no room. That
+    /// of a path of one name would never be asked for, and only take a place.
     pub fn tell(&mut self, path: &str, dir: Dir) {
-        if has_one_name(path) {
-            return;
-        }
         let Ok(dir) = u16::try_from(dir.number()) else {
             return;
         };
@@ -117,7 +115,7 @@ fn has_one_name(path: &str) -> bool
     ensures { IsTrue result → All (λ byte. (byte == 47) ≡ false) (drop 1 path.now) }
 {
     match path.as_bytes() {
-        [_, names @ ..] => !names.contains(&b'/'),
+        [_, names @ ..] => names.iter().all(|byte| *byte != b'/'),
         [] => true,
     }
 }
@@ -144,13 +142,13 @@ fn mix(text: &[u8]) -> u64 {
     mix_bytes(mixed, rest)
 }
 
-// The bytes at a text's end that fill no word.
+// The bytes at a text's end that fill no word, as one word.
 fn mix_bytes(before: u64, bytes: &[u8]) -> u64 {
-    let mut mixed = before;
+    let mut word = 0u64;
     for byte in bytes {
-        mixed = mix_word(mixed, u64::from(*byte));
+        word = (word << 8) | u64::from(*byte);
     }
-    mixed
+    mix_word(before, word)
 }
 
 // The factor is an odd number with about as many ones as zeros.

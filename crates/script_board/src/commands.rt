@@ -51,7 +51,7 @@ impl<J: Naming, M: Publisher<J>> ScriptBoard<J, M> {
         self.find(above)
     }
 
-    // Makes the child of this name, and tells the guesses its path.
+    // Makes the child of this name, and tells the guesses its path, unless that is one name.
     fn make_child(
         &mut self,
         alloc: Global,
@@ -66,7 +66,9 @@ impl<J: Naming, M: Publisher<J>> ScriptBoard<J, M> {
     {
         let dir = self.board.make(alloc, parent, name, inodes)?;
         self.kept.clear();
-        self.guesses.tell(path, dir);
+        if parent != Dir::ROOT {
+            self.guesses.tell(path, dir);
+        }
         Ok(())
     }
 
