@@ -37,7 +37,7 @@ module _ (limit : ℕ) (h : FoldHasher) (nodes after : List (Option Node)) (head
     (there : is_there (entries_of nodes) n.parent ≡ true)
     (room : length nodes < limit)
     (grows : IsTree (entries_of nodes ++ Some (entry_of n) ∷ []))
-    (fresh : n.children ≡ 0) (leads : n.next ≡ head_at heads (chain_of h n.parent n.name)) (short : chain_of h n.parent n.name < 2 ^ 16)
+    (fresh : n.children ≡ 0) (leads : n.next ≡ head_at heads (chain_of h n.parent n.name)) (short : chain_of h n.parent n.name < 2 ^ 17)
     (entries : entries_of after ≡ entries_of nodes)
     (children : (d : ℕ) → children_at after d ≡ cond (nat_eq d n.parent) (children_at nodes d + 1) (children_at nodes d))
     (nexts : (d : ℕ) → next_at after d ≡ next_at nodes d) where
@@ -125,7 +125,7 @@ module _ (limit : ℕ) (h : FoldHasher) (nodes after : List (Option Node)) (head
 -- what `make` leaves, from what it was told by each of its steps
 pub sound_made : (limit : ℕ) (h : FoldHasher) (nodes reserved after pushed : List (Option Node)) (heads : List ℕ) (n : Node) (t : Directories) (parent at first number : ℕ) (name : List ℕ)
     → IsSound limit h nodes heads → record { limit = limit; entries = entries_of nodes } ≡ t → make_refusal t parent name ≡ None
-    → n.parent ≡ parent → n.name ≡ name → n.children ≡ 0 → n.next ≡ head_at heads first → first ≡ chain_of h parent name → first < 2 ^ 16
+    → n.parent ≡ parent → n.name ≡ name → n.children ≡ 0 → n.next ≡ head_at heads first → first ≡ chain_of h parent name → first < 2 ^ 17
     → number ≡ length nodes → reserved ≡ nodes → at ≡ parent
     → entries_of after ≡ entries_of reserved
     → ((d : ℕ) → children_at after d ≡ cond (nat_eq d at) (children_at reserved d + 1) (children_at reserved d))
@@ -141,7 +141,7 @@ sound_made limit h nodes reserved after pushed heads n t parent at first number 
     let stands : first ≡ chain_of h n.parent n.name = rw (up, named) is_chain in
     let all : IsSound limit h (after ++ Some n ∷ []) (set heads (chain_of h n.parent n.name) (length nodes)) =
     sound_more limit h nodes after heads n sound there (omega (arith, few, length-entries nodes)) grows fresh
-    (leads ∙ ap (head_at heads) stands) (subst (λ (k : ℕ). k < 2 ^ 16) stands short)
+    (leads ∙ ap (head_at heads) stands) (subst (λ (k : ℕ). k < 2 ^ 17) stands short)
     (entries ∙ ap entries_of same)
     (λ d. children d ∙ rw (here, same, up) refl)
     (λ d. nexts d ∙ ap (λ (ns : List (Option Node)). next_at ns d) same) in

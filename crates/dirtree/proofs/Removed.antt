@@ -99,7 +99,7 @@ module _ (limit : ℕ) (h : FoldHasher) (nodes : List (Option Node)) (heads : Li
         stood : is_there (entries_of nodes) d ≡ true
         stood = ap is_some (sym (stays (entries_of nodes) d gone other)) ∙ stands
 
-    pub sound_less : length heads_ ≡ 2 ^ 16 → IsChained (place_at h (set (entries_of nodes) gone None)) (next_at after) (head_at heads_) → IsSound limit h after heads_
+    pub sound_less : length heads_ ≡ 2 ^ 17 → IsChained (place_at h (set (entries_of nodes) gone None)) (next_at after) (head_at heads_) → IsSound limit h after heads_
     sound_less wide chained = record {
       small = sound.small;
       within =
@@ -122,7 +122,7 @@ module _ (limit : ℕ) (h : FoldHasher) (nodes : List (Option Node)) (heads : Li
     nexts_stay d other = ap (λ (m : Option Node). option_map_or (λ n. n.next) m 0) (node_stays nodes d gone other)
 
     -- it stood first in its chain
-    pub first_gone : chain < 2 ^ 16 → head_at heads chain ≡ gone → heads_ ≡ set heads chain n.next
+    pub first_gone : chain < 2 ^ 17 → head_at heads chain ≡ gone → heads_ ≡ set heads chain n.next
         → ((d : ℕ) → next_at after d ≡ next_at (set nodes gone None) d) → IsSound limit h after heads_
     first_gone short first told nexts = sound_less (ap (λ (hs : List ℕ). length hs) told ∙ simp length-set sound.wide)
         (chained_first (place_at h (entries_of nodes)) (place_at h (set (entries_of nodes) gone None)) (next_at nodes) (next_at after) (head_at heads) (head_at heads_) gone chain

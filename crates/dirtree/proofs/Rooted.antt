@@ -30,7 +30,7 @@ root_tree = record {
     up (suc d) there = absurd (false≢true there)
 
 pub sound_root : (limit : ℕ) (h : FoldHasher) (n : Node) (heads : List ℕ) → 1 ≤ limit → limit ≤ 65536 → entry_of n ≡ root → n.children ≡ 0
-    → length heads ≡ 2 ^ 16 → ((chain : ℕ) → head_at heads chain ≡ 0) → IsSound limit h (Some n ∷ []) heads
+    → length heads ≡ 2 ^ 17 → ((chain : ℕ) → head_at heads chain ≡ 0) → IsSound limit h (Some n ∷ []) heads
 sound_root limit h n heads low high is_root fresh wide empty = record {
   small = high;
   within = low;

@@ -30,7 +30,7 @@ key_at entries d = option_map key_of (entry_at entries d)
 
 -- the chain of a parent and a name
 unfoldable pub chain_of : FoldHasher → ℕ → List ℕ → ℕ
-chain_of hasher p name = folding.finish (folding.write (fold folding.write hasher (fed.u32 p)) name) / 2 ^ 48
+chain_of hasher p name = folding.finish (folding.write (fold folding.write hasher (fed.u32 p)) name) / 2 ^ 47
 
 -- the chain in which a directory stands, if it is there
 abbrev pub place_at : FoldHasher → List (Option Entry) → ℕ → Option ℕ
@@ -62,7 +62,7 @@ pub record IsChained (place : ℕ → Option ℕ) (next head : ℕ → ℕ) : Ty
 pub record IsSound (limit : ℕ) (hasher : FoldHasher) (nodes : List (Option Node)) (heads : List ℕ) : Type 0 where
   pub small : limit ≤ 65536
   pub within : length nodes ≤ limit
-  pub wide : length heads ≡ 2 ^ 16
+  pub wide : length heads ≡ 2 ^ 17
   pub tree : IsTree (entries_of nodes)
   pub counted : (d : ℕ) → is_there (entries_of nodes) d ≡ true → children_at nodes d ≡ children_of (entries_of nodes) d
   pub chained : IsChained (place_at hasher (entries_of nodes)) (next_at nodes) (head_at heads)

@@ -3,8 +3,8 @@
 //! A directory stands in the chain of its parent and name, by falling numbers: the heads tell with which directory a
 //! chain begins, and each directory which one follows. The root stands in no chain, so 0 ends one.
 //!
-//! A look-up, a new directory and a removal each go through one chain at most. It has about one directory, unless names
-//! were picked that share a hash: a tree with a secret key (`NameKey`) leaves nobody the means for that.
+//! A look-up, a new directory and a removal each go through one chain at most. It mostly has one directory or none,
+//! unless names were picked that share a hash: a tree with a secret key (`NameKey`) leaves nobody the means for that.
 ghost use Rattle.std.specs.Prelude.{◌≡◌, ℕ, ◌+◌, ◌<◌, ◌==◌, ◌^◌, length, OnOk, Some, true, if◌then◌else◌};
 ghost use Rattle.std.specs.Prelude.{slice_set, slice_index_or, vec_capacity, IsTrue, ◌↔◌};
 ghost use Rattle.dirtree.specs.Tree.{child_of, IsTree, is_there};
@@ -23,18 +23,19 @@ pub struct Node {
     pub next: u16,
 }
 
-/// How many chains there are: as many as a tree has directories at most, so the heads never have to grow.
-pub const CHAINS: usize = 1 << 16;
+/// How many chains there are: twice as many as a tree has directories at most, so the heads never have to grow, and a
+/// name that isn't there mostly leads to no directory.
+pub const CHAINS: usize = 1 << 17;
 
 /// The chain of a parent and a name.
 pub fn chain(hasher: FoldHasher, parent: u32, name: &str) -> usize
     ensures value { result ≡ chain_of hasher parent name.now }
-    ensures below { result < 2 ^ 16 }
+    ensures below { result < 2 ^ 17 }
 {
     let mut fed = hasher;
     fed.write_u32(parent);
     fed.write(name.as_bytes());
-    (fed.finish() >> 48) as usize
+    (fed.finish() >> 47) as usize
 }
 
 /// The directory of this number, which is there.
@@ -62,7 +63,7 @@ pub fn child_in_chain(
     parent: u32,
     name: &str,
 ) -> Option<u32>
-    requires wide { length heads.now ≡ 2 ^ 16 }
+    requires wide { length heads.now ≡ 2 ^ 17 }
     requires tree { IsTree (entries_of nodes.now) }
     requires chained { IsChained (place_at hasher (entries_of nodes.now)) (next_at nodes.now) (head_at heads.now) }
     ensures { result ≡ child_of (entries_of nodes.now) parent name.now }
@@ -85,11 +86,11 @@ pub fn place_in_chain(
     hasher: FoldHasher,
     dir: u32,
 ) -> (usize, u32)
-    requires wide { length heads.now ≡ 2 ^ 16 }
+    requires wide { length heads.now ≡ 2 ^ 17 }
     requires some { 0 < dir }
     requires there { is_there (entries_of nodes.now) dir ≡ true }
     requires chained { IsChained (place_at hasher (entries_of nodes.now)) (next_at nodes.now) (head_at heads.now) }
-    ensures below { result.0 < 2 ^ 16 }
+    ensures below { result.0 < 2 ^ 17 }
     ensures chain { place_at hasher (entries_of nodes.now) dir ≡ Some result.0 }
     ensures head { result.1 ≡ 0 → head_at heads.now result.0 ≡ dir }
     ensures before { 0 < result.1 → (next_at nodes.now result.1 ≡ dir)

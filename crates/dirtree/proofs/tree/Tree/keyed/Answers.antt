@@ -12,11 +12,11 @@ rooted n parent inodes name = rw (parent, inodes, name) refl
 pub invariant_of-result : goal.invariant_of-result
 invariant_of-result c =
     let n : Node = record { name = c.empty.result; parent = 0; inodes = 1; children = 0; next = 0 } in
-    let zeros : c.in_ok-vec.field-0.items ≡ replicate 65536 0 = c.in_ok-vec.ensures.items_if_clones_equal (λ y same. same) in
+    let zeros : c.in_ok-vec.field-0.items ≡ replicate 131072 0 = c.in_ok-vec.ensures.items_if_clones_equal (λ y same. same) in
     rw (c.in_ok-push.ensures.items, c.new-nodes.ensures.items)
     (sound_root c.args.limit c.hasher.result n c.in_ok-vec.field-0.items c.requires.low c.requires.high (rooted n refl refl c.empty.ensures) refl
-    (ap (λ (hs : List ℕ). length hs) zeros ∙ length-replicate {A = ℕ} 65536 0)
-    (λ chain. ap (λ (hs : List ℕ). head_at hs chain) zeros ∙ zero_at 65536 chain))
+    (ap (λ (hs : List ℕ). length hs) zeros ∙ length-replicate {A = ℕ} 131072 0)
+    (λ chain. ap (λ (hs : List ℕ). head_at hs chain) zeros ∙ zero_at 131072 chain))
 
 pub returns : goal.returns
 returns c =
