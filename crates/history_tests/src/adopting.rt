@@ -9,7 +9,7 @@ use authority_map::{MapReader, Publisher};
 use board_state::{Answer, BoardError};
 use export_machine::{Event, Reply};
 use heat_ledger::Share;
-use mds_board::Board;
+use mds_board::{Board, Shown};
 use mds_types::{CutProof, Dir, DualProof, Order, Plan, Rank, RankSet};
 use naming::Naming;
 use std::alloc::{AllocError, Global};
@@ -85,8 +85,11 @@ fn adopt<J: Naming, M: Publisher<J>>(rt: &impl Abort, alloc: Global, board: &mut
 
 // The history has the orders that were answered.
 fn kept<J: Naming, M: Publisher<J>>(rt: &impl Abort, board: &Board<J, M>, orders: &[Order]) {
-    let reply = board.history().last().map(|entry| &entry.reply);
-    assert!(rt; matches!(reply, Some(Answer::Orders(kept)) if kept.as_slice() == orders));
+    let last = board.history().len().wrapping_sub(1);
+    let Some(Shown::Other(entry)) = board.history().get(last) else {
+        panic!(rt; "no orders");
+    };
+    assert!(rt; matches!(&entry.reply, Answer::Orders(kept) if kept.as_slice() == orders));
 }
 
 // A pin asks for an order, until the directory is there.

@@ -10,7 +10,7 @@ use dir_pins::PinError;
 use dirtree::TreeError;
 use export_machine::{Reply, StepError};
 use heat_ledger::Share;
-use mds_board::Board;
+use mds_board::{Board, Shown};
 use mds_types::{Dir, RankSet};
 use naming::Naming;
 use std::alloc::Global;
@@ -77,7 +77,15 @@ fn use_it<J: Naming, M: Publisher<J>>(
     );
 }
 
-fn word(change: &Change) -> &'static str {
+fn word(entry: Shown<'_>) -> &'static str {
+    match entry {
+        Shown::Began(_, _, _) => "begin",
+        Shown::Ended(_) => "end",
+        Shown::Other(entry) => word_of(&entry.change),
+    }
+}
+
+fn word_of(change: &Change) -> &'static str {
     match change {
         Change::Make(_, _, _) => "make",
         Change::Remove(_) => "remove",
@@ -93,12 +101,13 @@ fn word(change: &Change) -> &'static str {
 
 // The accepted changes are in the history, and no others.
 fn look_back<J: Naming, M: Publisher<J>>(rt: &impl Abort, board: &Board<J, M>) {
-    let wanted = ["make", "pin", "mask", "deposit", "tick", "step"];
+    let wanted = ["make", "pin", "mask", "deposit", "tick", "begin"];
     same(rt, &board.history().len(), &6);
-    for (entry, want) in board.history().iter().zip(&wanted) {
-        same(rt, &word(&entry.change), want);
+    for (number, want) in wanted.iter().enumerate() {
+        let entry = board.history().get(number).ok_or("no entry").sure(rt);
+        same(rt, &word(entry), want);
     }
-    let Some(entry) = board.history().first() else {
+    let Some(Shown::Other(entry)) = board.history().get(0) else {
         panic!(rt; "no entry");
     };
     let (Change::Make(parent, name, inodes), Answer::Dir(dir)) = (&entry.change, &entry.reply)

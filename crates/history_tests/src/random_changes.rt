@@ -13,7 +13,7 @@ use authority_map::{MapReader, MapWriter, Publisher};
 use board_state::{BoardError, BoardParts, Change};
 use export_machine::{Event, ExporterState, ImporterState};
 use heat_ledger::Share;
-use mds_board::{Board, Entry};
+use mds_board::{Board, History, Shown};
 use mds_types::{Dir, Dirs, Order, Plan, RankSet};
 use naming::Naming;
 use std::alloc::Global;
@@ -353,10 +353,13 @@ fn aborted(plain: &Plain) -> u32 {
 }
 
 /// How many plans were adopted and how many pins set.
-fn decided(history: &[Entry]) -> (u32, u32) {
+fn decided(history: &History) -> (u32, u32) {
     let mut adopted: u32 = 0;
     let mut pinned: u32 = 0;
-    for entry in history {
+    for number in 0..history.len() {
+        let Shown::Other(entry) = history.at(number) else {
+            continue;
+        };
         match &entry.change {
             Change::Adopt(_) => adopted = adopted.saturating_add(1),
             Change::Pin(_, _) => pinned = pinned.saturating_add(1),
@@ -367,7 +370,7 @@ fn decided(history: &[Entry]) -> (u32, u32) {
 }
 
 /// Enough of each kind of change was accepted: else the choices above are too narrow.
-fn is_varied(history: &[Entry], plain: &Plain) -> bool {
+fn is_varied(history: &History, plain: &Plain) -> bool {
     let (imported, dropped) = ended(plain);
     let (adopted, pinned) = decided(history);
     plain.requests.len() > 50

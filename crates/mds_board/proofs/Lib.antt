@@ -2,3 +2,4 @@ pub mod Forced
 pub mod Headline
 pub mod Listing
 pub mod Replays
+pub mod Stored

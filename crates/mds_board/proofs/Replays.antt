@@ -1,9 +1,12 @@
 -- A history goes on by an accepted change.
-use Rattle.std.proofs.Common.{◌≡◌, List, [], ◌∷◌, ◌++◌, Ok, None, refl, sym, ap, ◌∙◌, subst, arith, length-append, append_assoc}
+use Rattle.std.proofs.Common.{◌≡◌, ℕ, List, [], ◌∷◌, ◌++◌, Ok, None, refl, sym, ap, ◌∙◌, subst, arith, length-append, append_assoc}
 use Rattle.mds_types.specs.declared.order.Order.{Order}
 use Rattle.mds_types.specs.declared.plan.Plan.{Plan}
 use Rattle.mds_types.specs.Problem.{ProblemData}
 use Rattle.mds_types.specs.Certificate.{IsBest}
+use Rattle.export_machine.specs.declared.event.Event.TheVariants.{End}
+use Rattle.export_machine.specs.declared.event.Reply.TheVariants.{Changed}
+use Rattle.export_machine.specs.Step as machine
 use Rattle.board_state.specs.declared.change.Answer.{Answer}
 use Rattle.board_state.specs.declared.change.Answer.TheVariants as answer
 use Rattle.board_state.specs.declared.change.Change.{Change}
@@ -97,3 +100,8 @@ balance_recorded old new history kept problem plan orders b is =
 pub balance_reply : (s : State) (plan : Plan) → (happens (next s Open) (Adopt plan)).reply ≡ answer.Orders (plan_orders s (dirs_of s) plan)
 unfolding happens
 balance_reply s plan = refl
+
+-- there is nothing to name where a request ends
+pub end_changes : (s : State) (ticket : ℕ) → (happens s (Step (End ticket))).reply ≡ answer.Reply Changed
+unfolding happens machine.happens
+end_changes s ticket = refl

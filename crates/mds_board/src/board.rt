@@ -1,5 +1,5 @@
 //! The board.
-ghost use Rattle.std.specs.Prelude.{◌≡◌, ◌⊎◌, ℕ, ◌+◌, [], All, IfOk, IfErr, IsErr, OnOk, OnErr};
+ghost use Rattle.std.specs.Prelude.{◌≡◌, ◌≤◌, ◌⊎◌, ℕ, ◌+◌, [], All, IfOk, IfErr, IsErr, OnOk, OnErr};
 ghost use Rattle.std.specs.Prelude.{MatchBool, None, Some, false, replicate, true};
 ghost use Rattle.mds_types.specs.Certificate.{IsBest, IsCertified};
 ghost use Rattle.mds_types.specs.declared.plan.Plan.{Plan};
@@ -9,9 +9,9 @@ ghost use Rattle.heat_ledger.specs.Rows.{at, counted_rows, raised};
 ghost use Rattle.board_state.specs.State.{balance_refusal, happens, next, problem_of, refusal, start};
 ghost use Rattle.board_state.specs.Steps.{is_inner, spelled};
 ghost use Rattle.mds_board.specs.History.{IsAnswer, recorded};
+ghost use Rattle.mds_board.specs.Stored.{HasRoom};
 
-use crate::entry::Entry;
-use crate::keeping::{keep, keep_both, keep_step};
+use crate::history::History;
 use authority_map::Publisher;
 use board_state::{
     Answer, BoardError, BoardParts, BoardState, Change, KeptEvent, KeptPlan, Solver, or_memory,
@@ -30,7 +30,7 @@ use std::marker::Model;
 /// dropped, only ended, as it has the map's writer.
 pub struct Board<J: Naming, M: Publisher<J>> {
     pub(crate) state: BoardState<J, M>,
-    pub(crate) history: Vec<Entry>,
+    pub(crate) history: History,
 }
 
 impl<J: Naming, M: Publisher<J>> Model for Board<J, M> {
@@ -38,9 +38,9 @@ impl<J: Naming, M: Publisher<J>> Model for Board<J, M> {
 
     ghost Value = { World };
 
-    ghost view = { λ b. world_of b.state b.history.items };
+    ghost view = { λ b. world_of b.state b.history.entries };
 
-    ghost invariant = { λ b. IsHistory b.state.state b.history.items };
+    ghost invariant = { λ b. IsHistory b.state.state b.history.entries };
 }
 
 impl<J: Naming, M: Publisher<J>> Board<J, M> {
@@ -69,7 +69,7 @@ impl<J: Naming, M: Publisher<J>> Board<J, M> {
         match BoardState::new(alloc, parts, limit, active) {
             Err(parts) => Err(parts),
             Ok((state, shares)) => {
-                let history = Vec::new(alloc);
+                let history = History::new(alloc);
                 Ok((Board { state, history }, shares))
             }
         }
@@ -83,7 +83,7 @@ impl<J: Naming, M: Publisher<J>> Board<J, M> {
             return Err(or_memory(self.state.tick_refusal()));
         }
         self.state.tick()?;
-        keep(&mut self.history, Change::Tick, Answer::Done);
+        self.history.keep(Change::Tick, Answer::Done);
         Ok(())
     }
 
@@ -102,11 +102,8 @@ impl<J: Naming, M: Publisher<J>> Board<J, M> {
             return Err(or_memory(self.state.make_refusal(parent, name)));
         };
         let dir = self.state.make(alloc, parent, name, inodes)?;
-        keep(
-            &mut self.history,
-            Change::Make(parent, kept, inodes),
-            Answer::Dir(dir),
-        );
+        self.history
+            .keep(Change::Make(parent, kept, inodes), Answer::Dir(dir));
         Ok(dir)
     }
 
@@ -118,7 +115,7 @@ impl<J: Naming, M: Publisher<J>> Board<J, M> {
             return Err(or_memory(self.state.remove_refusal(dir)));
         }
         self.state.remove(dir)?;
-        keep(&mut self.history, Change::Remove(dir), Answer::Done);
+        self.history.keep(Change::Remove(dir), Answer::Done);
         Ok(())
     }
 
@@ -130,7 +127,7 @@ impl<J: Naming, M: Publisher<J>> Board<J, M> {
             return Err(or_memory(self.state.pin_refusal(dir, pin)));
         }
         self.state.set_pin(dir, pin)?;
-        keep(&mut self.history, Change::Pin(dir, pin), Answer::Done);
+        self.history.keep(Change::Pin(dir, pin), Answer::Done);
         Ok(())
     }
 
@@ -142,7 +139,7 @@ impl<J: Naming, M: Publisher<J>> Board<J, M> {
             return Err(or_memory(self.state.mask_refusal(mask)));
         }
         self.state.set_mask(mask)?;
-        keep(&mut self.history, Change::Mask(mask), Answer::Done);
+        self.history.keep(Change::Mask(mask), Answer::Done);
         Ok(())
     }
 
@@ -157,11 +154,12 @@ impl<J: Naming, M: Publisher<J>> Board<J, M> {
             return Err(or_memory(self.state.deposit_refusal()));
         }
         let hits = self.state.deposit(alloc, share)?;
-        keep(&mut self.history, Change::Deposit(hits), Answer::Done);
+        self.history.keep(Change::Deposit(hits), Answer::Done);
         Ok(())
     }
 
     /// A request on a directory begins at a rank, and is counted in a share.
+    #[tactic(auto, unfolding(board_state::specs::State::happens, export_machine::specs::Step::happens))]
     pub fn begin(&mut self, share: &mut Share<J>, rank: Rank, dir: Dir) -> Result<Reply, BoardError>
         ensures answer { IsAnswer self.old (Change.Step (Event.Begin rank dir)) (spelled Answer.Reply result) self.new }
         ensures share { OnOk result (share.new ≡ record share.old { begun = raised share.old.begun dir }) }
@@ -171,8 +169,11 @@ impl<J: Naming, M: Publisher<J>> Board<J, M> {
             return Err(or_memory(self.state.begin_refusal(rank, dir)));
         }
         let reply = self.state.begin(share, rank, dir)?;
-        let begin = KeptEvent::new(Event::Begin(rank, dir));
-        Ok(keep_step(&mut self.history, begin, reply))
+        let Reply::Ticket(ticket) = reply else {
+            unreachable!()
+        };
+        self.history.keep_begin(rank, dir, ticket);
+        Ok(reply)
     }
 
     /// An event of the cluster that neither makes nor removes a directory nor begins a request: `make`, `remove` and
@@ -181,11 +182,35 @@ impl<J: Naming, M: Publisher<J>> Board<J, M> {
         requires inner { is_inner event ≡ true }
         ensures { IsAnswer self.old (Change.Step event) (spelled Answer.Reply result) self.new }
     {
+        match event {
+            Event::End(ticket) => self.end_request(alloc, ticket),
+            event => self.step_kept(alloc, event),
+        }
+    }
+
+    // The request of a ticket ends.
+    #[tactic(auto, unfolding(board_state::specs::State::happens, export_machine::specs::Step::happens))]
+    fn end_request(&mut self, alloc: Global, ticket: u32) -> Result<Reply, BoardError>
+        ensures { IsAnswer self.old (Change.Step (Event.End ticket)) (spelled Answer.Reply result) self.new }
+    {
+        if self.history.reserve(1).is_err() {
+            return Err(or_memory(self.state.step_refusal(&Event::End(ticket))));
+        }
+        let reply = self.state.step(alloc, Event::End(ticket))?;
+        self.history.keep_end(ticket);
+        Ok(reply)
+    }
+
+    // An event whose entry has a place for it.
+    fn step_kept(&mut self, alloc: Global, event: Event) -> Result<Reply, BoardError>
+        requires inner { is_inner event ≡ true }
+        ensures { IsAnswer self.old (Change.Step event) (spelled Answer.Reply result) self.new }
+    {
         let Ok(kept) = room_for_event(alloc, &mut self.history, &event) else {
             return Err(or_memory(self.state.step_refusal(&event)));
         };
         let reply = self.state.step(alloc, event)?;
-        Ok(keep_step(&mut self.history, kept, reply))
+        Ok(self.history.keep_step(kept, reply))
     }
 
     /// Opens the problem of the directories that no pin holds, with their heats and authorities as they are.
@@ -196,7 +221,7 @@ impl<J: Naming, M: Publisher<J>> Board<J, M> {
             return Err(or_memory(self.state.open_refusal()));
         }
         let (given, kept) = self.state.open_problem(alloc)?;
-        keep(&mut self.history, Change::Open, Answer::Problem(kept));
+        self.history.keep(Change::Open, Answer::Problem(kept));
         Ok(given)
     }
 
@@ -210,11 +235,8 @@ impl<J: Naming, M: Publisher<J>> Board<J, M> {
             return Err(or_memory(self.state.adopt_refusal()));
         };
         let (given, orders) = self.state.adopt(alloc, kept.plan())?;
-        keep(
-            &mut self.history,
-            Change::Adopt(kept),
-            Answer::Orders(orders),
-        );
+        self.history
+            .keep(Change::Adopt(kept), Answer::Orders(orders));
         Ok(given)
     }
 
@@ -238,7 +260,7 @@ impl<J: Naming, M: Publisher<J>> Board<J, M> {
             return Err(or_memory(self.state.balance_refusal()));
         }
         let done = self.state.balance(alloc, solver)?;
-        Ok(keep_both(&mut self.history, done))
+        Ok(self.history.keep_both(done))
     }
 
     /// Publishes the map, and says whether memory sufficed. It is no event.
@@ -288,9 +310,9 @@ impl<J: Naming, M: Publisher<J>> Board<J, M> {
 }
 
 // Room for an entry, and a name for it.
-fn room_for_name(alloc: Global, history: &mut Vec<Entry>, name: &str) -> Result<Name, AllocError>
-    ensures same { history.new.items ≡ history.old.items }
-    ensures room { OnOk result (vec_len history.new < vec_capacity history.new) }
+fn room_for_name(alloc: Global, history: &mut History, name: &str) -> Result<Name, AllocError>
+    ensures same { history.new.entries ≡ history.old.entries }
+    ensures room { OnOk result (HasRoom 1 history.new) }
     ensures name { IfOk result (λ kept. kept ≡ name.now) }
 {
     history.reserve(1)?;
@@ -300,11 +322,11 @@ fn room_for_name(alloc: Global, history: &mut Vec<Entry>, name: &str) -> Result<
 // Room for an entry, and an event for it.
 fn room_for_event(
     alloc: Global,
-    history: &mut Vec<Entry>,
+    history: &mut History,
     event: &Event,
 ) -> Result<KeptEvent, AllocError>
-    ensures same { history.new.items ≡ history.old.items }
-    ensures room { OnOk result (vec_len history.new < vec_capacity history.new) }
+    ensures same { history.new.entries ≡ history.old.entries }
+    ensures room { OnOk result (HasRoom 1 history.new) }
     ensures event { IfOk result (λ kept. kept ≡ event.now) }
 {
     history.reserve(1)?;
@@ -312,17 +334,11 @@ fn room_for_event(
 }
 
 // Room for an entry, and a place for a plan.
-fn room_for_plan(
-    alloc: Global,
-    history: &mut Vec<Entry>,
-    plan: Plan,
-) -> Result<KeptPlan, AllocError>
-    ensures same { history.new.items ≡ history.old.items }
-    ensures room { OnOk result (vec_len history.new < vec_capacity history.new) }
+fn room_for_plan(alloc: Global, history: &mut History, plan: Plan) -> Result<KeptPlan, AllocError>
+    ensures same { history.new.entries ≡ history.old.entries }
+    ensures room { OnOk result (HasRoom 1 history.new) }
     ensures plan { IfOk result (λ kept. kept ≡ plan) }
 {
     history.reserve(1)?;
     KeptPlan::new(alloc, plan)
 }
-
-ghost use Rattle.std.specs.Prelude.{◌<◌, ◌≤◌, vec_len, vec_capacity};

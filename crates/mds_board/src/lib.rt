@@ -7,7 +7,7 @@
 pub mod board;
 pub mod command;
 pub mod entry;
-mod keeping;
+pub mod history;
 mod lookups;
 mod reads;
 mod running;
@@ -15,3 +15,4 @@ mod running;
 pub use board::Board;
 pub use command::BoardCommand;
 pub use entry::Entry;
+pub use history::{History, Shown};

@@ -3,12 +3,13 @@ ghost use Rattle.std.specs.Prelude.{◌≡◌, ◌++◌, IfOk, MatchOption, None
 ghost use Rattle.std.specs.Option.{option_map};
 ghost use Rattle.heat_ledger.specs.Rows.{at};
 ghost use Rattle.board_state.specs.State.{pin_orders, usable};
-ghost use Rattle.mds_board.specs.InForce.{IsBestInForce, adopted_at, plan_in_force};
+ghost use Rattle.mds_board.specs.InForce.{IsBestInForce, adopted, adopted_at, plan_in_force};
 ghost use Rattle.export_machine.specs.Step.{run, start};
 ghost use Rattle.mds_board.specs.Promises.{IsKept, cluster_event, cluster_events};
+ghost use Rattle.mds_board.specs.Stored.{shown_entry};
 
 use crate::board::Board;
-use crate::entry::Entry;
+use crate::history::{History, Shown};
 use authority_map::{Published, Publisher};
 use board_state::{Change, InForce, OpenProblem};
 use dir_pins::Pins;
@@ -21,8 +22,8 @@ use std::alloc::{AllocError, Global};
 
 impl<J: Naming, M: Publisher<J>> Board<J, M> {
     /// The accepted changes, each with its reply, in order.
-    pub fn history(&self) -> &[Entry]
-        ensures { result.now ≡ self.now.history }
+    pub fn history(&self) -> &History
+        ensures { result.now.entries ≡ self.now.history }
     {
         &self.history
     }
@@ -35,8 +36,8 @@ impl<J: Naming, M: Publisher<J>> Board<J, M> {
             found.items ≡ self.now.state.cluster) }
     {
         let mut events = Vec::new(alloc);
-        for entry in &self.history {
-            list_event(alloc, &mut events, &entry.change)?;
+        for number in 0..self.history.len() {
+            list_event(alloc, &mut events, &self.history.at(number))?;
         }
         Ok(events)
     }
@@ -139,25 +140,39 @@ impl<J: Naming, M: Publisher<J>> Board<J, M> {
     }
 }
 
-// The plan that an event adopted.
-fn adopted_at(history: &[Entry], event: usize) -> Option<&Plan>
-    ensures { option_map (λ plan. plan.now) result ≡ adopted_at history.now event }
+// The plan that a change adopts.
+fn adopted(change: &Change) -> Option<&Plan>
+    ensures { option_map (λ plan. plan.now) result ≡ adopted change.now }
 {
-    match &history.get(event)?.change {
+    match change {
         Change::Adopt(plan) => Some(plan.plan()),
         _ => None,
     }
 }
 
-// Lists the event of the cluster that a change makes, if it makes one.
-fn list_event(alloc: Global, events: &mut Vec<Event>, change: &Change) -> Result<(), AllocError>
-    ensures { OnOk result (events.new.items ≡ events.old.items ++ cluster_event change.now) }
+// The plan that an event adopted.
+fn adopted_at(history: &History, event: usize) -> Option<&Plan>
+    ensures { option_map (λ plan. plan.now) result ≡ adopted_at history.now.entries event }
 {
-    match change {
-        Change::Make(parent, _, _) => events.push(Event::Made(*parent))?,
-        Change::Remove(dir) => events.push(Event::Gone(*dir))?,
-        Change::Step(event) => events.push(event.event().copied(alloc)?)?,
-        _ => {}
+    match history.get(event) {
+        Some(Shown::Other(entry)) => adopted(&entry.change),
+        _ => None,
+    }
+}
+
+// Lists the event of the cluster that an entry makes, if it makes one.
+fn list_event(alloc: Global, events: &mut Vec<Event>, entry: &Shown<'_>) -> Result<(), AllocError>
+    ensures { OnOk result (events.new.items ≡ events.old.items ++ cluster_event (shown_entry entry.now).change) }
+{
+    match entry {
+        Shown::Began(rank, dir, _) => events.push(Event::Begin(*rank, *dir))?,
+        Shown::Ended(ticket) => events.push(Event::End(*ticket))?,
+        Shown::Other(entry) => match &entry.change {
+            Change::Make(parent, _, _) => events.push(Event::Made(*parent))?,
+            Change::Remove(dir) => events.push(Event::Gone(*dir))?,
+            Change::Step(event) => events.push(event.event().copied(alloc)?)?,
+            _ => {}
+        },
     }
     Ok(())
 }

@@ -3,10 +3,9 @@ ghost use Rattle.std.specs.Prelude.{◌≡◌, ◌≤◌};
 
 use crate::gates::JitterGate;
 use authority_map::{MapWriter, Publisher};
-use board_state::{BoardParts, Change};
-use export_machine::Event;
+use board_state::BoardParts;
 use heat_ledger::Share;
-use mds_board::Board;
+use mds_board::{Board, Shown};
 use mds_types::{Dir, Dirs, Order, Rank};
 use naming::Naming;
 use rank_threads::{OrderOutcome, Outcome, Ranks, Work, WorkAnswer, serve_phase};
@@ -130,13 +129,11 @@ pub(crate) fn serve<J: Naming + Send + Sync, M: Publisher<J> + Send, R: Threads 
 /// How many more requests began than ended by an end of their own.
 pub(crate) fn running<J: Naming, M: Publisher<J>>(board: &Board<J, M>) -> u32 {
     let mut running: u32 = 0;
-    for entry in board.history() {
-        if let Change::Step(step) = &entry.change {
-            match step.event() {
-                Event::Begin(_, _) => running = running.wrapping_add(1),
-                Event::End(_) => running = running.wrapping_sub(1),
-                _ => {}
-            }
+    for number in 0..board.history().len() {
+        match board.history().at(number) {
+            Shown::Began(_, _, _) => running = running.wrapping_add(1),
+            Shown::Ended(_) => running = running.wrapping_sub(1),
+            Shown::Other(_) => {}
         }
     }
     running

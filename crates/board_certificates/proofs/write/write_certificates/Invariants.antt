@@ -6,7 +6,7 @@ use Rattle.board_certificates.proofs.write.write_certificates.Given as goal
 use Rattle.plan_text.specs.Text.{texts}
 
 -- what was written, and what is left to write
-abbrev pub invariant-loop-entry : goal.invariant-loop-entry
-invariant-loop-entry g l =
-    IsPartly (g.W.Write.contents l.initial.writer) (g.W.Write.contents l.writer) (texts (certificates None l.history))
-    (texts (certificates (option_map (λ problem. problem.now) l.last) (drop l.entry-index l.history)))
+abbrev pub invariant-loop-number : goal.invariant-loop-number
+invariant-loop-number g l =
+    IsPartly (g.W.Write.contents l.initial.writer) (g.W.Write.contents l.writer) (texts (certificates None l.history.entries))
+    (texts (certificates (option_map (λ problem. problem.now) l.last) (drop l.number l.history.entries)))

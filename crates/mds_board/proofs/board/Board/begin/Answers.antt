@@ -1,5 +1,6 @@
-use Rattle.std.proofs.Common.{◌∙◌, ◌++◌, ◌∷◌, [], List, ap}
-use Rattle.export_machine.specs.declared.event.Event.{Event}
+use Rattle.std.proofs.Common.{◌∙◌, ◌++◌, ◌∷◌, [], List, ap, sym}
+use Rattle.export_machine.specs.declared.event.Event.TheVariants as Event
+use Rattle.export_machine.specs.declared.event.Reply.{Reply}
 use Rattle.board_state.specs.declared.change.Answer.TheVariants as answer
 use Rattle.board_state.specs.declared.change.Change.TheVariants as change
 use Rattle.mds_board.specs.declared.entry.Entry.{Entry}
@@ -8,5 +9,5 @@ use Rattle.mds_board.proofs.board.Board.begin.Goals as goal
 
 pub invariant_of-self-2 : goal.invariant_of-self-2
 invariant_of-self-2 g c =
-    keeps c.self.inside.state c.begin.new.self c.self.inside.history.items c.keep_step.new.history.items (change.Step (Event.Begin c.args.rank c.args.dir)) (answer.Reply c.in_ok-reply.reply) c.self.invariant c.in_ok-reply.ensures.step
-    (c.keep_step.ensures.kept ∙ (ap (λ (e : Event). c.reserve.new.self.items ++ record { change = change.Step e; reply = answer.Reply c.in_ok-reply.reply } ∷ []) c.new-begin.ensures ∙ ap (λ (es : List Entry). es ++ record { change = change.Step (Event.Begin c.args.rank c.args.dir); reply = answer.Reply c.in_ok-reply.reply } ∷ []) c.reserve.ensures.items))
+    keeps c.self.inside.state c.begin.new.self c.self.inside.history.entries c.keep_begin.new.self.entries (change.Step (Event.Begin c.args.rank c.args.dir)) (answer.Reply c.in_ok-reply.reply) c.self.invariant c.in_ok-reply.ensures.step
+    (c.keep_begin.ensures ∙ (ap (λ (r : Reply). c.reserve.new.self.entries ++ record { change = change.Step (Event.Begin c.args.rank c.args.dir); reply = answer.Reply r } ∷ []) (sym c.in-Ticket.is) ∙ ap (λ (es : List Entry). es ++ record { change = change.Step (Event.Begin c.args.rank c.args.dir); reply = answer.Reply c.in_ok-reply.reply } ∷ []) c.reserve.ensures.same))
