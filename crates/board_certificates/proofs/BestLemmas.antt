@@ -1,5 +1,5 @@
 -- The plans of a history's certificates are best.
-use Rattle.std.proofs.Common.{◌≡◌, Bool, true, false, ℕ, List, [], ◌∷◌, ◌++◌, All, Option, Some, None, refl, sym, subst}
+use Rattle.std.proofs.Common.{◌≡◌, Bool, true, false, ℕ, List, [], ◌∷◌, All, Option, Some, None, refl, sym, subst}
 use Rattle.std.proofs.lemmas.List.Elements.{All-append, All-cons, All-nil}
 use Rattle.board_certificates.specs.Certificates.{certified_by, certificates, opened}
 use Rattle.board_state.specs.declared.change.Answer.{Answer}

@@ -1,5 +1,5 @@
 -- The certificates of the plans that a history adopts.
-use Rattle.std.specs.Prelude.{List, [], ◌∷◌, ◌++◌, Option, Some, None}
+use Rattle.std.specs.Prelude.{List, [], ◌∷◌, ◌++◌, Option, Some}
 use Rattle.board_state.specs.declared.change.Answer.{Answer}
 use Rattle.board_state.specs.declared.change.Answer.TheVariants.{Problem}
 use Rattle.board_state.specs.declared.change.Change.{Change}

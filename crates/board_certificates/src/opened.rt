@@ -20,11 +20,11 @@ fn opened<'a>(last: Option<&'a Problem>, reply: &'a Answer) -> Option<&'a Proble
 }
 
 /// The problem that was opened last, once this entry was kept.
-pub(crate) fn opened_by<'a>(last: Option<&'a Problem>, entry: Shown<'a>) -> Option<&'a Problem>
+pub(crate) fn opened_by<'a>(last: Option<&'a Problem>, kept: Shown<'a>) -> Option<&'a Problem>
     ensures { option_map (λ problem. problem.now) result ≡ opened (option_map
-        (λ problem. problem.now) last.entry) (shown_entry entry).reply }
+        (λ problem. problem.now) last.entry) (shown_entry kept.entry).reply }
 {
-    match entry {
+    match kept {
         Shown::Other(entry) => opened(last, &entry.reply),
         Shown::Began(_, _, _) | Shown::Ended(_) => last,
     }
