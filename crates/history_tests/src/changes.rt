@@ -10,7 +10,7 @@ use dir_pins::PinError;
 use dirtree::TreeError;
 use export_machine::{Reply, StepError};
 use heat_ledger::Share;
-use mds_board::{Board, Shown};
+use mds_board::{Board, History, Shown};
 use mds_types::{Dir, RankSet};
 use naming::Naming;
 use std::alloc::Global;
@@ -77,11 +77,12 @@ fn use_it<J: Naming, M: Publisher<J>>(
     );
 }
 
-fn word(entry: Shown<'_>) -> &'static str {
-    match entry {
-        Shown::Began(_, _, _) => "begin",
-        Shown::Ended(_) => "end",
-        Shown::Other(entry) => word_of(&entry.change),
+fn word_at(history: &History, number: usize) -> &'static str {
+    match history.get(number) {
+        Some(Shown::Began(_, _, _)) => "begin",
+        Some(Shown::Ended(_)) => "end",
+        Some(Shown::Other(entry)) => word_of(&entry.change),
+        None => "nothing",
     }
 }
 
@@ -104,8 +105,7 @@ fn look_back<J: Naming, M: Publisher<J>>(rt: &impl Abort, board: &Board<J, M>) {
     let wanted = ["make", "pin", "mask", "deposit", "tick", "begin"];
     same(rt, &board.history().len(), &6);
     for (number, want) in wanted.iter().enumerate() {
-        let entry = board.history().get(number).ok_or("no entry").sure(rt);
-        same(rt, &word(entry), want);
+        same(rt, &word_at(board.history(), number), want);
     }
     let Some(Shown::Other(entry)) = board.history().get(0) else {
         panic!(rt; "no entry");
