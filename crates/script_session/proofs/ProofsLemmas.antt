@@ -1,5 +1,5 @@
 -- The certificates of a session's board, or of none.
-use Rattle.std.proofs.Common.{◌≡◌, ℕ, All, Bool, List, Option, None, Some, Ok, Err, IfOk}
+use Rattle.std.proofs.Common.{◌≡◌, ℕ, All, Bool, List, Option, None, Some, Ok, Err, IfOk, IsErrOf}
 use Rattle.std.proofs.KnownBytes.{Appends-nil}
 use Rattle.std.proofs.lemmas.List.Elements.{All-nil}
 use Rattle.board_certificates.specs.Certificates.{certificates}
@@ -7,7 +7,10 @@ use Rattle.mds_board.specs.History.{World}
 use Rattle.mds_board.specs.Promises.{IsKept}
 use Rattle.plan_text.specs.declared.certificate.Certificate.{Certificate}
 use Rattle.script_board.specs.Board.{BoardData}
-use Rattle.script_engine.specs.declared.driver.RunError.TheVariants.{Memory}
+use Rattle.script_engine.specs.Devices.{Reading}
+use Rattle.script_engine.specs.declared.driver.RunError.{RunError}
+use Rattle.script_engine.specs.declared.driver.RunError.TheVariants.{Memory, Read, Write}
+use Rattle.script_session.specs.Ending.{IsRunOf}
 use Rattle.script_session.specs.Proofs.{IsProved, certificates_at}
 use Rattle.script_session.specs.Script.{IsKeptAt}
 use Rattle.script_session.specs.Session.{SessionData, beginning}
@@ -17,6 +20,25 @@ use Rattle.script_session.specs.declared.script.Ended.{Ended}
 pub none_proved : (ended : Ended) (before : Option (List ℕ)) (Leads : SessionData → Bool → Type 0) → ended ≡ record { answered = Err Memory; proved = Ok tt }
     → (last : SessionData) × IsKeptAt last.board × IsProved ended.proved before before last.board × IfOk ended.answered (Leads last)
 none_proved ended before Leads is = rw is (beginning 1, tt, (Appends-nil before, tt), tt)
+
+-- and nothing was read or written
+pub nothing_run : {R : Type 0} (remaining : R → Option (List ℕ)) (limit : ℕ) (strict : Bool) (input : Reading R) (before proofs : Option (List ℕ)) (ended : Ended)
+    → ended ≡ record { answered = Err Memory; proved = Ok tt } → IsRunOf remaining limit strict input input before before proofs proofs ended
+nothing_run remaining limit strict input before proofs ended is = rw is
+    (record {
+      done = tt;
+      given = tt;
+      stops = tt;
+      read = λ same. absurd (not_read same);
+      write = λ same. absurd (not_write same);
+      proofs = (beginning 1, tt, (Appends-nil proofs, tt), tt);
+    })
+  where
+    not_read : IsErrOf {T = Bool} {E = RunError} (Err Memory) Read → ⊥
+    not_read same = cc
+
+    not_write : IsErrOf {T = Bool} {E = RunError} (Err Memory) Write → ⊥
+    not_write same = cc
 
 -- what holds of the certificates of every board
 pub at_board : (P : Certificate → Type 0) → ((w : World) → IsKept w → All P (certificates None w.history)) → (board : Option BoardData) → IsKeptAt board → All P (certificates_at board)

@@ -1,5 +1,6 @@
 pub mod Does
 pub mod Done
+pub mod Ending
 pub mod Fault
 pub mod History
 pub mod Outcome

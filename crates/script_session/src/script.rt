@@ -1,16 +1,17 @@
 //! A whole script from a reader, with its answers to a writer.
 ghost use Rattle.std.specs.Option.{option_and_then};
-ghost use Rattle.std.specs.Prelude.{◌≡◌, ℕ, ◌≤◌, ◌++◌, List, Err, Ok, IfOk, IfSome, IsErrOf, true, false, not, ◌&&◌};
+ghost use Rattle.std.specs.Prelude.{◌≡◌, ℕ, ◌≤◌, ◌++◌, [], List, Err, Ok, IfOk, IfSome, IsErrOf, true, false, not, ◌&&◌, vec_len};
 ghost use Rattle.script_engine.specs.Lines.{lines_of};
 ghost use Rattle.script_engine.specs.Runs.{Gives, IsEnded};
 ghost use Rattle.script_engine.specs.Telling.{Tells};
+ghost use Rattle.script_session.specs.Ending.{IsRunOf};
 ghost use Rattle.script_session.specs.Session.{SessionData, answers};
 ghost use Rattle.script_session.specs.Proofs.{IsProved, LeadsTo};
 ghost use Rattle.script_session.specs.Script.{AcceptedUpTo, AllAnswered, IsKeptAt, SomeAnswered, WholeAnswered};
 
 use crate::hints::{Hinted, Hints};
 use crate::session::Session;
-use authority_map::MapWriter;
+use authority_map::{MapReader, MapWriter, Publisher};
 use board_certificates::Unwritten;
 use board_state::BoardParts;
 use dirtree::NameKey;
@@ -112,7 +113,8 @@ pub fn run<T: Threads + Wait + Sync, R: Read, W: Write, P: Write, H: Hints>(
     run_named::<Brand, T, R, W, P, H>(rt, alloc, book, map, input, writer, proofs, hints, options)
 }
 
-// The same for a board whose name was picked.
+// The same for a board whose name was picked. It alone names the type of the board's map, and hands the rest on: a
+// function that names it takes long to prove.
 fn run_named<
     J: Naming + Send + Sync,
     T: Threads + Wait + Sync,
@@ -137,45 +139,64 @@ fn run_named<
     requires some { 1 ≤ options.limit }
     requires few { options.limit ≤ 65536 }
     requires unread { input.old.reads ≡ 0 }
-    ensures done { IfOk result.answered (λ accepted. IfSome (R.remaining input.old.reader) (λ all.
-        AllAnswered options.limit options.strict (lines_of all) accepted
-        (W.contents writer.old) (W.contents writer.new))) }
-    // The same for the bytes that came, of any reader.
-    ensures given { IfOk result.answered (λ accepted. (bytes : List ℕ) × Gives R.remaining input.old input.new bytes
-        × ((options.strict && not accepted) ≡ false → IsEnded R.remaining input.new)
-        × AllAnswered options.limit options.strict (lines_of bytes) accepted
-        (W.contents writer.old) (W.contents writer.new)) }
-    // A strict run reads nothing behind the read in which its last line ends.
-    ensures stops { IfOk result.answered (λ accepted. (options.strict && not accepted) ≡ true → (front : List ℕ)
-        × (last : List ℕ)
-        × Gives R.remaining input.old input.new (front ++ last)
-        × AcceptedUpTo options.limit options.strict front last) }
-    // Where a read fails, the lines that were whole were answered.
-    ensures read { IsErrOf result.answered RunError.Read → (bytes : List ℕ)
-        × Gives R.remaining input.old input.new bytes
-        × WholeAnswered options.limit options.strict bytes (W.contents writer.old) (W.contents writer.new) }
-    // Where a write fails, a beginning of what is due for the lines so far was written.
-    ensures write { IsErrOf result.answered RunError.Write → (bytes : List ℕ)
-        × Gives R.remaining input.old input.new bytes
-        × SomeAnswered options.limit options.strict bytes (W.contents writer.old) (W.contents writer.new) }
-    // Where there is no memory to begin with, no device was touched.
+    ensures run { IsRunOf R.remaining options.limit options.strict input.old input.new
+        (W.contents writer.old) (W.contents writer.new)
+        (option_and_then P.contents proofs.old) (option_and_then P.contents proofs.new) result }
     ensures memory { IsErrOf result.answered RunError.Memory → (input.new ≡ input.old) × (writer.new ≡ writer.old)
         × (proofs.new ≡ proofs.old) }
-    // However it ends, the certificates of the plans that the board has adopted by then were written.
-    ensures proofs { (last : SessionData) × IsKeptAt last.board
-        × IsProved result.proved
-        (option_and_then P.contents proofs.old) (option_and_then P.contents proofs.new) last.board
-        × IfOk result.answered (LeadsTo R.remaining options.limit options.strict input.old input.new
-        (W.contents writer.old) (W.contents writer.new) last) }
 {
-    let Some(parts) = open_parts(rt, alloc, book, map, options.key, options.limit) else {
-        return Ended::without_memory();
+    match MapWriter::<J, &T>::open(rt, alloc, map, options.limit, 1) {
+        Ok((publisher, readers)) => run_over(
+            rt, alloc, book, publisher, readers, input, writer, proofs, hints, options,
+        ),
+        Err(_) => Ended::without_memory(),
+    }
+}
+
+// The same over any map.
+fn run_over<
+    J: Naming + Send + Sync,
+    M: Publisher<J> + Send,
+    T: Threads + Wait + Sync,
+    R: Read,
+    W: Write,
+    P: Write,
+    H: Hints,
+>(
+    rt: &T,
+    alloc: Global,
+    book: heat_ledger::NewBook,
+    publisher: M,
+    readers: Vec<MapReader<J>>,
+    input: &mut Input<R>,
+    writer: &mut W,
+    proofs: &mut Option<P>,
+    hints: &mut H,
+    options: RunOptions,
+) -> Ended
+    requires book { book ≡ J.ledger }
+    requires map { (M.published publisher ≡ []) × (M.pending publisher ≡ []) }
+    requires readers { vec_len readers ≡ 1 }
+    requires limit { options.limit ≡ J.limit }
+    requires some { 1 ≤ options.limit }
+    requires few { options.limit ≤ 65536 }
+    requires unread { input.old.reads ≡ 0 }
+    ensures run { IsRunOf R.remaining options.limit options.strict input.old input.new
+        (W.contents writer.old) (W.contents writer.new)
+        (option_and_then P.contents proofs.old) (option_and_then P.contents proofs.new) result }
+    ensures memory { IsErrOf result.answered RunError.Memory → (input.new ≡ input.old) × (writer.new ≡ writer.old)
+        × (proofs.new ≡ proofs.old) }
+{
+    let mut readers = readers;
+    let Some(reader) = readers.pop() else {
+        unreachable!()
     };
-    let session = Session::<J, MapWriter<J, &T>, T>::new(rt, alloc, options.limit, parts);
+    let parts = Parts::new(BoardParts::keyed(book, publisher, options.key), reader);
+    let session = Session::<J, M, T>::new(rt, alloc, options.limit, parts);
     let mut hinted = Hinted { session, hints };
     let answer = |hinted: &mut Hinted<
         '_,
-        Session<'_, J, MapWriter<J, &T>, T>,
+        Session<'_, J, M, T>,
         H,
     >, number: u64, line: &[u8], writer: &mut W| -> Result<bool, WriteFailed>
         ensures { Tells answers W.contents hinted.old number line.now writer.old result hinted.new writer.new }
@@ -189,28 +210,4 @@ fn run_named<
     let proved = session.prove(alloc, proofs);
     session.end();
     Ended { answered, proved }
-}
-
-// The parts of a board, if there is memory for them.
-fn open_parts<'r, J: Naming, T: Wait>(
-    rt: &'r T,
-    alloc: Global,
-    book: heat_ledger::NewBook,
-    map: authority_map::NewMap,
-    key: NameKey,
-    limit: u32,
-) -> Option<Parts<J, MapWriter<J, &'r T>>>
-    requires book { book ≡ J.ledger }
-    requires map { map ≡ J.map }
-    requires limit { limit ≡ J.limit }
-    requires some { 1 ≤ limit }
-    requires few { limit ≤ 65536 }
-{
-    match MapWriter::<J, &T>::open(rt, alloc, map, limit, 1) {
-        Ok((writer, mut readers)) => match readers.pop() {
-            Some(reader) => Some(Parts::new(BoardParts::keyed(book, writer, key), reader)),
-            None => unreachable!(),
-        },
-        Err(_) => None,
-    }
 }
