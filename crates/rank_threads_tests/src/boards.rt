@@ -8,7 +8,7 @@ use heat_ledger::Share;
 use mds_board::{Board, Shown};
 use mds_types::{Dir, Dirs, Order, Rank};
 use naming::Naming;
-use rank_threads::{OrderOutcome, Outcome, Ranks, Work, WorkAnswer, serve_phase};
+use rank_threads::{Gate, OrderOutcome, Outcome, Ranks, Work, WorkAnswer, serve_phase};
 use std::alloc::{AllocError, Global};
 use std::marker::{Send, Sync};
 use std::sync::Wait;
@@ -53,14 +53,30 @@ fn make<J: Naming, M: Publisher<J>>(
     Ok(())
 }
 
-/// A board of so many ranks with directories from 1 on below the root, so many, and the share of each rank.
+// The board with directories from 1 on below the root, so many.
+fn filled<J: Naming, M: Publisher<J>>(
+    alloc: Global,
+    board: Board<J, M>,
+    shares: Vec<Share<J>>,
+    dirs: u32,
+) -> Result<(Board<J, M>, Vec<Share<J>>), AllocError> {
+    let mut board = board;
+    if make(alloc, &mut board, dirs).is_err() {
+        board.end();
+        return Err(AllocError);
+    }
+    Ok((board, shares))
+}
+
+/// A board of so many ranks with directories from 1 on below the root, so many, and the share of each rank. What a test
+/// does with it stands in functions that don't name its map's type, as those that do take long to prove.
 pub(crate) fn open<'r, J: Naming, R: Wait>(
     rt: &'r R,
     alloc: Global,
     names: (heat_ledger::NewBook, authority_map::NewMap),
     ranks: u8,
     dirs: u32,
-) -> Result<(Board<J, MapWriter<J, &'r R>>, Vec<Share<J>>), &'static str>
+) -> Result<(Board<J, MapWriter<J, &'r R>>, Vec<Share<J>>), AllocError>
     requires book { names.0 ≡ J.ledger }
     requires map { names.1 ≡ J.map }
     requires limit { J.limit ≡ 128 }
@@ -68,19 +84,13 @@ pub(crate) fn open<'r, J: Naming, R: Wait>(
 {
     let (book, map) = names;
     let Ok((writer, _readers)) = MapWriter::<J, &'r R>::open(rt, alloc, map, 128, 1) else {
-        return Err("no map");
+        return Err(AllocError);
     };
     match Board::new(alloc, BoardParts::new(book, writer), 128, ranks) {
-        Ok((mut board, shares)) => {
-            if make(alloc, &mut board, dirs).is_ok() {
-                return Ok((board, shares));
-            }
-            board.end();
-            Err("no directory")
-        }
+        Ok((board, shares)) => filled(alloc, board, shares, dirs),
         Err(parts) => {
             parts.end();
-            Err("no board")
+            Err(AllocError)
         }
     }
 }
@@ -92,6 +102,27 @@ fn keep(told: &mut Vec<WorkAnswer>, answers: &[Vec<WorkAnswer>]) {
             let _kept = told.push(*answer);
         }
     }
+}
+
+/// Serves the requests of all ranks. Where there is no memory for the answers, or no share for a rank, it tells nothing.
+pub(crate) fn serve_all<
+    J: Naming + Send + Sync,
+    M: Publisher<J> + Send,
+    R: Threads + Wait + Sync,
+    G: Gate + Sync,
+>(
+    rt: &R,
+    alloc: Global,
+    board: Board<J, M>,
+    gate: &G,
+    scripts: &[Vec<Work>],
+    shares: Vec<Share<J>>,
+) -> (Board<J, M>, Option<Ranks<J>>) {
+    if scripts.len() > 64 || shares.len() != scripts.len() {
+        return (board, None);
+    }
+    let (board, done) = serve_phase(rt, alloc, board, gate, scripts, shares);
+    (board, done.ok())
 }
 
 /// Serves the requests of all ranks with jitter, and adds their answers. Where there
@@ -124,6 +155,17 @@ pub(crate) fn serve<J: Naming + Send + Sync, M: Publisher<J> + Send, R: Threads 
         }
         Err(refused) => (board, refused.value),
     }
+}
+
+/// Who has directories 1 and 2.
+pub(crate) fn authorities<J: Naming, M: Publisher<J>>(
+    board: &Board<J, M>,
+) -> (Option<Rank>, Option<Rank>) {
+    let cluster = board.cluster();
+    (
+        cluster.authority(Dir::new(1)),
+        cluster.authority(Dir::new(2)),
+    )
 }
 
 /// How many more requests began than ended by an end of their own.

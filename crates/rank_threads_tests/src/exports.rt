@@ -1,14 +1,15 @@
 //! Orders of three ranks, and what they leave on the board.
 ghost use Rattle.std.specs.Prelude.{◌≡◌};
 
-use crate::boards::{done, orders, rank};
+use crate::boards::{authorities, done, open, orders, rank};
 use crate::gates::JitterGate;
+use crate::requests::names;
 use crate::same::{Sure, same};
-use authority_map::MapWriter;
-use board_state::{BoardError, BoardParts};
+use authority_map::Publisher;
+use board_state::BoardError;
 use export_machine::{Event, StepError};
 use mds_board::Board;
-use mds_types::{Dir, Rank};
+use mds_types::Rank;
 use naming::Naming;
 use rank_threads::{OrderOutcome, Outcome, WorkError, export_phase};
 use std::alloc::Global;
@@ -16,31 +17,6 @@ use std::marker::{Brand, Send, Sync};
 use std::process::Abort;
 use std::sync::Wait;
 use std::thread::Threads;
-
-// A board of three ranks with /a and /b.
-fn open<'r, J: Naming, R: Abort + Wait>(
-    rt: &'r R,
-    alloc: Global,
-    book: heat_ledger::NewBook,
-    map: authority_map::NewMap,
-) -> Board<J, MapWriter<J, &'r R>>
-    requires book { book ≡ J.ledger }
-    requires map { map ≡ J.map }
-    requires limit { J.limit ≡ 8 }
-{
-    let Ok((writer, _readers)) = MapWriter::<J, &'r R>::open(rt, alloc, map, 8, 1) else {
-        panic!(rt; "no map");
-    };
-    let parts = BoardParts::new(book, writer);
-    let (mut board, _shares) = match Board::new(alloc, parts, 8, 3) {
-        Ok(opened) => opened,
-        Err(_parts) => panic!(rt; "no board"),
-    };
-    for name in ["a", "b"] {
-        board.make(alloc, Dir::ROOT, name, 1).sure(rt);
-    }
-    board
-}
 
 // What three phases told, and who has /a and /b then.
 #[derive(Drop)]
@@ -52,32 +28,21 @@ struct Seen {
 }
 
 // Directories go there and back, and there again when rank 2 has stopped.
-fn carry_out<J: Naming + Send + Sync, R: Abort + Threads + Wait + Sync>(
+fn go_and_come<J: Naming + Send + Sync, M: Publisher<J> + Send, R: Abort + Threads + Wait + Sync>(
     rt: &R,
     alloc: Global,
-    names: (heat_ledger::NewBook, authority_map::NewMap),
-) -> Seen
-    requires book { names.0 ≡ J.ledger }
-    requires map { names.1 ≡ J.map }
-    requires limit { J.limit ≡ 8 }
-{
+    board: Board<J, M>,
+) -> Seen {
     let there = orders(alloc, &[(0, 1, 1), (0, 2, 2)]).sure(rt);
     let back = orders(alloc, &[(1, 0, 1), (2, 0, 2)]).sure(rt);
     let late = orders(alloc, &[(3, 0, 1), (0, 1, 1), (0, 2, 2)]).sure(rt);
-    let (book, map) = names;
-    let board = open::<J, R>(rt, alloc, book, map);
     let (board, there) = export_phase(rt, alloc, board, &JitterGate, &there);
     let (mut board, back) = export_phase(rt, alloc, board, &JitterGate, &back);
     let stopped = board.step(alloc, Event::Stop(rank(2))).is_ok();
     let (board, late) = export_phase(rt, alloc, board, &JitterGate, &late);
-    let authorities = (
-        board.cluster().authority(Dir::new(1)),
-        board.cluster().authority(Dir::new(2)),
-    );
+    let authorities = authorities(&board);
     board.end();
-    if !stopped {
-        panic!(rt; "no stop");
-    }
+    assert!(rt; stopped);
     Seen {
         there: there.sure(rt),
         back: back.sure(rt),
@@ -86,14 +51,26 @@ fn carry_out<J: Naming + Send + Sync, R: Abort + Threads + Wait + Sync>(
     }
 }
 
+fn carry_out<J: Naming + Send + Sync, R: Abort + Threads + Wait + Sync>(
+    rt: &R,
+    alloc: Global,
+    names: (heat_ledger::NewBook, authority_map::NewMap),
+) -> Seen
+    requires book { names.0 ≡ J.ledger }
+    requires map { names.1 ≡ J.map }
+    requires limit { J.limit ≡ 128 }
+{
+    let (board, _shares) = open::<J, R>(rt, alloc, names, 3, 2).sure(rt);
+    go_and_come(rt, alloc, board)
+}
+
 // Whatever the schedule: what one rank gives has the numbers in the order of its orders, and what two ranks give at
 // once is done too. An export to a stopped rank is aborted.
 #[test]
 fn ranks_carry_out_orders(rt: HostRuntime) {
     for _ in 0..100u32 {
-        let book = heat_ledger::NewBook::new(rt.alloc()).sure(&rt);
-        let map = authority_map::NewMap::new();
-        let seen = carry_out::<Brand, _>(&rt, rt.alloc(), (book, map));
+        let given = names(rt.alloc()).sure(&rt);
+        let seen = carry_out::<Brand, _>(&rt, rt.alloc(), given);
         let there = [done(0), done(1)];
         same(&rt, &seen.there.as_slice(), &there.as_slice());
         let back = [done(2), done(3)];

@@ -1,13 +1,15 @@
 //! A phase that fills the history, and one that has no requests.
-ghost use Rattle.std.specs.Prelude.{◌≡◌, length};
+ghost use Rattle.std.specs.Prelude.{◌≡◌};
 
-use crate::requests::{names, open, scripts, served, work};
+use crate::boards::{open, serve_all};
+use crate::requests::{names, scripts, served, work};
 use crate::same::{Sure, same};
 use authority_map::Publisher;
 use board_state::BoardError;
+use heat_ledger::Share;
 use mds_board::Board;
 use naming::Naming;
-use rank_threads::{OpenGate, Ranks, Work, WorkAnswer, serve_phase};
+use rank_threads::{OpenGate, Ranks, Work, WorkAnswer};
 use std::alloc::Global;
 use std::marker::{Brand, Send, Sync};
 use std::process::Abort;
@@ -30,26 +32,21 @@ fn tick_often<J: Naming, M: Publisher<J>>(board: &mut Board<J, M>, ticks: u32) {
     }
 }
 
-// A phase of two ranks, after /a and so many ticks.
-fn serve<J: Naming + Send + Sync, R: Abort + Threads + Wait + Sync>(
+// A phase of two ranks, after so many ticks.
+fn serve_late<J: Naming + Send + Sync, M: Publisher<J> + Send, R: Abort + Threads + Wait + Sync>(
     rt: &R,
     alloc: Global,
-    names: (heat_ledger::NewBook, authority_map::NewMap),
+    board: Board<J, M>,
+    shares: Vec<Share<J>>,
     scripts: &[Vec<Work>],
     ticks: u32,
-) -> Left
-    requires book { names.0 ≡ J.ledger }
-    requires map { names.1 ≡ J.map }
-    requires limit { J.limit ≡ 8 }
-    requires two { length scripts.now ≡ 2 }
-{
-    let (book, map) = names;
-    let (mut board, shares) = open::<J, R>(rt, alloc, book, map);
+) -> Left {
+    let mut board = board;
     tick_often(&mut board, ticks);
-    let (board, done) = serve_phase(rt, alloc, board, &OpenGate, scripts, shares);
+    let (board, left) = serve_all(rt, alloc, board, &OpenGate, scripts, shares);
     let entries = board.history().len();
     board.end();
-    let Ok(ranks) = done else {
+    let Some(ranks) = left else {
         panic!(rt; "no memory");
     };
     let Ranks {
@@ -65,6 +62,21 @@ fn serve<J: Naming + Send + Sync, R: Abort + Threads + Wait + Sync>(
         shares: shares.len(),
         entries,
     }
+}
+
+fn serve<J: Naming + Send + Sync, R: Abort + Threads + Wait + Sync>(
+    rt: &R,
+    alloc: Global,
+    names: (heat_ledger::NewBook, authority_map::NewMap),
+    scripts: &[Vec<Work>],
+    ticks: u32,
+) -> Left
+    requires book { names.0 ≡ J.ledger }
+    requires map { names.1 ≡ J.map }
+    requires limit { J.limit ≡ 128 }
+{
+    let (board, shares) = open::<J, R>(rt, alloc, names, 2, 1).sure(rt);
+    serve_late(rt, alloc, board, shares, scripts, ticks)
 }
 
 // The request's begin is the last event that has room: its end is refused, and each deposit.

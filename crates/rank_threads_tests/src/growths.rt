@@ -1,7 +1,7 @@
 //! Phases that find no memory at one of their growths.
 ghost use Rattle.std.specs.Prelude.{◌≡◌};
 
-use crate::boards::{open, orders, rank, running};
+use crate::boards::{authorities, open, orders, rank, running};
 use crate::requests::{names, refused, scripts, work};
 use crate::same::{Sure, holds_in, same};
 use authority_map::Publisher;
@@ -70,6 +70,44 @@ struct Served {
     heat: u64,
 }
 
+// Hits on directory 1 that shares count, and those that wait for a deposit.
+fn counted<J: Naming>(shares: &[Share<J>]) -> (u64, u64) {
+    let mut hits: u64 = 0;
+    let mut pending: u64 = 0;
+    for share in shares {
+        hits = hits.wrapping_add(share.hits(Dir::new(1)));
+        pending = pending.wrapping_add(share.pending(Dir::new(1)));
+    }
+    (hits, pending)
+}
+
+fn serve_on<J: Naming + Send + Sync, M: Publisher<J> + Send, R: Threads + Wait + Sync>(
+    rt: &R,
+    alloc: Global,
+    board: Board<J, M>,
+    shares: Vec<Share<J>>,
+    scripts: &[Vec<Work>],
+) -> Result<Served, AllocError>
+    requires limit { J.limit ≡ 128 }
+{
+    let (board, done, unchanged) = serve_at_last(rt, alloc, board, scripts, shares);
+    let running = running(&board);
+    let heat = board.heat().heat(Dir::new(1));
+    board.end();
+    let Some(ranks) = done else {
+        return Err(AllocError);
+    };
+    let (hits, pending) = counted(&ranks.shares);
+    Ok(Served {
+        unchanged,
+        answers: ranks.answers,
+        running,
+        hits,
+        pending,
+        heat,
+    })
+}
+
 fn serve<J: Naming + Send + Sync, R: Threads + Wait + Sync>(
     rt: &R,
     alloc: Global,
@@ -80,30 +118,8 @@ fn serve<J: Naming + Send + Sync, R: Threads + Wait + Sync>(
     requires limit { J.limit ≡ 128 }
 {
     let scripts = scripts(alloc, &[work(1, 3), work(1, 4)], &[work(7, 2)])?;
-    let Ok((board, shares)) = open::<J, R>(rt, alloc, names, 2, 1) else {
-        return Err(AllocError);
-    };
-    let (board, done, unchanged) = serve_at_last(rt, alloc, board, &scripts, shares);
-    let running = running(&board);
-    let heat = board.heat().heat(Dir::new(1));
-    board.end();
-    let Some(ranks) = done else {
-        return Err(AllocError);
-    };
-    let mut hits: u64 = 0;
-    let mut pending: u64 = 0;
-    for share in ranks.shares.iter() {
-        hits = hits.wrapping_add(share.hits(Dir::new(1)));
-        pending = pending.wrapping_add(share.pending(Dir::new(1)));
-    }
-    Ok(Served {
-        unchanged,
-        answers: ranks.answers,
-        running,
-        hits,
-        pending,
-        heat,
-    })
+    let (board, shares) = open::<J, R>(rt, alloc, names, 2, 1)?;
+    serve_on(rt, alloc, board, shares, &scripts)
 }
 
 fn serve_named<R: Threads + Wait + Sync>(rt: &R, alloc: Global) -> Result<Served, AllocError> {
@@ -155,14 +171,6 @@ struct Moved {
     later: (Option<Rank>, Option<Rank>),
 }
 
-fn authorities<J: Naming, M: Publisher<J>>(board: &Board<J, M>) -> (Option<Rank>, Option<Rank>) {
-    let cluster = board.cluster();
-    (
-        cluster.authority(Dir::new(1)),
-        cluster.authority(Dir::new(2)),
-    )
-}
-
 // Carries out orders, again where there was no memory for the outcomes, and says whether that changed nothing.
 fn carry_out_at_last<J: Naming + Send + Sync, M: Publisher<J> + Send, R: Threads + Wait + Sync>(
     rt: &R,
@@ -180,20 +188,13 @@ fn carry_out_at_last<J: Naming + Send + Sync, M: Publisher<J> + Send, R: Threads
     (board, done.ok(), unchanged)
 }
 
-fn carry_out<J: Naming + Send + Sync, R: Threads + Wait + Sync>(
+fn move_on<J: Naming + Send + Sync, M: Publisher<J> + Send, R: Threads + Wait + Sync>(
     rt: &R,
     alloc: Global,
-    names: (heat_ledger::NewBook, authority_map::NewMap),
-) -> Result<Moved, AllocError>
-    requires book { names.0 ≡ J.ledger }
-    requires map { names.1 ≡ J.map }
-    requires limit { J.limit ≡ 128 }
-{
-    let orders = orders(alloc, &[(0, 1, 1), (0, 2, 2)])?;
-    let Ok((board, _shares)) = open::<J, R>(rt, alloc, names, 3, 2) else {
-        return Err(AllocError);
-    };
-    let (board, done, unchanged) = carry_out_at_last(rt, alloc, board, &orders);
+    board: Board<J, M>,
+    orders: &[Order],
+) -> Result<Moved, AllocError> {
+    let (board, done, unchanged) = carry_out_at_last(rt, alloc, board, orders);
     let first = authorities(&board);
     let (board, _none, _unchanged) = carry_out_at_last(rt, alloc, board, &[]);
     let later = authorities(&board);
@@ -207,6 +208,20 @@ fn carry_out<J: Naming + Send + Sync, R: Threads + Wait + Sync>(
         authorities: first,
         later,
     })
+}
+
+fn carry_out<J: Naming + Send + Sync, R: Threads + Wait + Sync>(
+    rt: &R,
+    alloc: Global,
+    names: (heat_ledger::NewBook, authority_map::NewMap),
+) -> Result<Moved, AllocError>
+    requires book { names.0 ≡ J.ledger }
+    requires map { names.1 ≡ J.map }
+    requires limit { J.limit ≡ 128 }
+{
+    let orders = orders(alloc, &[(0, 1, 1), (0, 2, 2)])?;
+    let (board, _shares) = open::<J, R>(rt, alloc, names, 3, 2)?;
+    move_on(rt, alloc, board, &orders)
 }
 
 fn carry_out_named<R: Threads + Wait + Sync>(rt: &R, alloc: Global) -> Result<Moved, AllocError> {

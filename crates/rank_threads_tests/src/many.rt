@@ -5,6 +5,9 @@ use crate::boards::{open, orders, running, serve};
 use crate::gates::JitterGate;
 use crate::requests::{names, work};
 use crate::same::{Sure, same, same_in};
+use authority_map::Publisher;
+use heat_ledger::Share;
+use mds_board::Board;
 use mds_types::Dir;
 use naming::Naming;
 use rank_threads::{Work, WorkAnswer, export_phase};
@@ -49,13 +52,13 @@ struct Seen {
     running: u32,
 }
 
-fn serve_many<J: Naming + Send + Sync, R: Abort + Threads + Wait + Sync>(
+// Rank k serves its requests when it has directory k.
+fn serve_on<J: Naming + Send + Sync, M: Publisher<J> + Send, R: Abort + Threads + Wait + Sync>(
     rt: &R,
     alloc: Global,
-    names: (heat_ledger::NewBook, authority_map::NewMap),
+    board: Board<J, M>,
+    shares: Vec<Share<J>>,
 ) -> Seen
-    requires book { names.0 ≡ J.ledger }
-    requires map { names.1 ≡ J.map }
     requires limit { J.limit ≡ 128 }
 {
     let mut rows = Vec::new(alloc);
@@ -66,7 +69,6 @@ fn serve_many<J: Naming + Send + Sync, R: Abort + Threads + Wait + Sync>(
     let scripts = scripts(alloc).sure(rt);
     let mut answers = Vec::with_capacity(alloc, REQUESTS as usize).sure(rt);
     let mut heats = Vec::with_capacity(alloc, RANKS as usize).sure(rt);
-    let (board, shares) = open::<J, R>(rt, alloc, names, RANKS, 63).sure(rt);
     let (board, _outcomes) = export_phase(rt, alloc, board, &JitterGate, &orders);
     let (board, _shares) = serve(rt, alloc, board, &scripts, shares, &mut answers);
     for rank in 0..RANKS {
@@ -79,6 +81,19 @@ fn serve_many<J: Naming + Send + Sync, R: Abort + Threads + Wait + Sync>(
         heats,
         running,
     }
+}
+
+fn serve_many<J: Naming + Send + Sync, R: Abort + Threads + Wait + Sync>(
+    rt: &R,
+    alloc: Global,
+    names: (heat_ledger::NewBook, authority_map::NewMap),
+) -> Seen
+    requires book { names.0 ≡ J.ledger }
+    requires map { names.1 ≡ J.map }
+    requires limit { J.limit ≡ 128 }
+{
+    let (board, shares) = open::<J, R>(rt, alloc, names, RANKS, 63).sure(rt);
+    serve_on(rt, alloc, board, shares)
 }
 
 // Each request is served whole with a ticket of its own, and each has ended.

@@ -1,17 +1,17 @@
 //! Requests of two ranks, and what they leave on the board.
-ghost use Rattle.std.specs.Prelude.{◌≡◌, IfOk, length, vec_len};
-ghost use Rattle.heat_ledger.specs.Ledger.{weight_of};
+ghost use Rattle.std.specs.Prelude.{◌≡◌, IfOk, vec_len};
 
+use crate::boards::{open, serve_all};
 use crate::gates::{JitterGate, MeetingGate};
 use crate::same::{Sure, same};
-use authority_map::MapWriter;
-use board_state::{BoardError, BoardParts};
+use authority_map::Publisher;
+use board_state::BoardError;
 use export_machine::{Event, StepError};
 use heat_ledger::Share;
 use mds_board::Board;
 use mds_types::{Dir, Rank};
 use naming::Naming;
-use rank_threads::{Gate, Work, WorkAnswer, WorkError, serve_phase};
+use rank_threads::{Gate, Work, WorkAnswer, WorkError};
 use std::alloc::{AllocError, Global};
 use std::marker::{Brand, Send, Sync};
 use std::process::Abort;
@@ -64,31 +64,6 @@ pub(crate) fn scripts(
     Ok(all)
 }
 
-/// A board of two ranks with /a, and all shares of its ledger: one for each rank.
-pub(crate) fn open<'r, J: Naming, R: Abort + Wait>(
-    rt: &'r R,
-    alloc: Global,
-    book: heat_ledger::NewBook,
-    map: authority_map::NewMap,
-) -> (Board<J, MapWriter<J, &'r R>>, Vec<Share<J>>)
-    requires book { book ≡ J.ledger }
-    requires map { map ≡ J.map }
-    requires limit { J.limit ≡ 8 }
-    ensures shares { vec_len result.1 ≡ 2 }
-    ensures whole { weight_of result.1.items ≡ result.0.shares }
-{
-    let Ok((writer, _readers)) = MapWriter::<J, &'r R>::open(rt, alloc, map, 8, 1) else {
-        panic!(rt; "no map");
-    };
-    let parts = BoardParts::new(book, writer);
-    let (mut board, shares) = match Board::new(alloc, parts, 8, 2) {
-        Ok(opened) => opened,
-        Err(_parts) => panic!(rt; "no board"),
-    };
-    board.make(alloc, Dir::ROOT, "a", 1).sure(rt);
-    (board, shares)
-}
-
 // What two ranks answered to these scripts, how many entries the history has then, and how hot /a is.
 #[derive(Drop)]
 struct Seen {
@@ -96,6 +71,45 @@ struct Seen {
     second: Vec<WorkAnswer>,
     entries: usize,
     heat: u64,
+}
+
+fn serve_two<
+    J: Naming + Send + Sync,
+    M: Publisher<J> + Send,
+    R: Abort + Threads + Wait + Sync,
+    G: Gate + Sync,
+>(
+    rt: &R,
+    alloc: Global,
+    board: Board<J, M>,
+    shares: Vec<Share<J>>,
+    gate: &G,
+    scripts: &[Vec<Work>],
+    stopped: Option<Rank>,
+) -> Seen
+    requires limit { J.limit ≡ 128 }
+{
+    let mut board = board;
+    if let Some(rank) = stopped {
+        let _stopped = board.step(alloc, Event::Stop(rank));
+    }
+    let (board, left) = serve_all(rt, alloc, board, gate, scripts, shares);
+    let heat = board.heat().heat(Dir::new(1));
+    let entries = board.history().len();
+    board.end();
+    let Some(mut ranks) = left else {
+        panic!(rt; "no memory");
+    };
+    assert!(rt; ranks.deposited.is_ok());
+    match (ranks.answers.pop(), ranks.answers.pop()) {
+        (Some(second), Some(first)) => Seen {
+            first,
+            second,
+            entries,
+            heat,
+        },
+        _ => panic!(rt; "no answers"),
+    }
 }
 
 fn serve<J: Naming + Send + Sync, R: Abort + Threads + Wait + Sync, G: Gate + Sync>(
@@ -108,33 +122,10 @@ fn serve<J: Naming + Send + Sync, R: Abort + Threads + Wait + Sync, G: Gate + Sy
 ) -> Seen
     requires book { names.0 ≡ J.ledger }
     requires map { names.1 ≡ J.map }
-    requires limit { J.limit ≡ 8 }
-    requires two { length scripts.now ≡ 2 }
+    requires limit { J.limit ≡ 128 }
 {
-    let (book, map) = names;
-    let (mut board, shares) = open::<J, R>(rt, alloc, book, map);
-    if let Some(rank) = stopped {
-        let _stopped = board.step(alloc, Event::Stop(rank));
-    }
-    let (board, done) = serve_phase(rt, alloc, board, gate, scripts, shares);
-    let heat = board.heat().heat(Dir::new(1));
-    let entries = board.history().len();
-    board.end();
-    let Ok(mut ranks) = done else {
-        panic!(rt; "no memory");
-    };
-    if ranks.deposited.is_err() {
-        panic!(rt; "no deposit");
-    }
-    match (ranks.answers.pop(), ranks.answers.pop()) {
-        (Some(second), Some(first)) => Seen {
-            first,
-            second,
-            entries,
-            heat,
-        },
-        _ => panic!(rt; "no answers"),
-    }
+    let (board, shares) = open::<J, R>(rt, alloc, names, 2, 1).sure(rt);
+    serve_two(rt, alloc, board, shares, gate, scripts, stopped)
 }
 
 pub(crate) fn names(

@@ -68,6 +68,25 @@ fn step<J: Naming + Send + Sync, M: Publisher<J> + Send, R: Threads + Wait + Syn
 }
 
 // The answers of both ranks in each phase, rank 0's first.
+fn play_on<J: Naming + Send + Sync, M: Publisher<J> + Send, R: Abort + Threads + Wait + Sync>(
+    rt: &R,
+    alloc: Global,
+    board: Board<J, M>,
+    shares: Vec<Share<J>>,
+    steps: &[Do],
+) -> Vec<WorkAnswer> {
+    let scripts = scripts(alloc, &[work(1, 2)], &[work(1, 2)]).sure(rt);
+    let mut told = Vec::new(alloc);
+    let (mut board, mut shares) = (board, shares);
+    for next in steps {
+        let (after, back) = step(rt, alloc, board, &scripts, shares, *next, &mut told);
+        board = after;
+        shares = back;
+    }
+    board.end();
+    told
+}
+
 fn play<J: Naming + Send + Sync, R: Abort + Threads + Wait + Sync>(
     rt: &R,
     alloc: Global,
@@ -78,16 +97,8 @@ fn play<J: Naming + Send + Sync, R: Abort + Threads + Wait + Sync>(
     requires map { names.1 ≡ J.map }
     requires limit { J.limit ≡ 128 }
 {
-    let scripts = scripts(alloc, &[work(1, 2)], &[work(1, 2)]).sure(rt);
-    let mut told = Vec::new(alloc);
-    let (mut board, mut shares) = open::<J, R>(rt, alloc, names, 2, 1).sure(rt);
-    for next in steps {
-        let (after, back) = step(rt, alloc, board, &scripts, shares, *next, &mut told);
-        board = after;
-        shares = back;
-    }
-    board.end();
-    told
+    let (board, shares) = open::<J, R>(rt, alloc, names, 2, 1).sure(rt);
+    play_on(rt, alloc, board, shares, steps)
 }
 
 // Whatever the schedule, the answers are these.

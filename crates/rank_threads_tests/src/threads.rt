@@ -1,10 +1,13 @@
 //! Phases for which the system may give no thread. `tools/refused_threads` runs them where it does not.
 ghost use Rattle.std.specs.Prelude.{◌≡◌};
 
-use crate::boards::{done, open, orders, rank, running, serve};
+use crate::boards::{authorities, done, open, orders, rank, running, serve};
 use crate::requests::{names, refused, scripts, served, work};
 use crate::same::{Sure, same};
+use authority_map::Publisher;
 use export_machine::StepError;
+use heat_ledger::Share;
+use mds_board::Board;
 use mds_types::{Dir, Rank};
 use naming::Naming;
 use rank_threads::{OpenGate, OrderOutcome, WorkAnswer, export_phase};
@@ -22,18 +25,16 @@ struct Served {
     heat: u64,
 }
 
-fn serve_three<J: Naming + Send + Sync, R: Abort + Threads + Wait + Sync>(
+fn serve_on<J: Naming + Send + Sync, M: Publisher<J> + Send, R: Abort + Threads + Wait + Sync>(
     rt: &R,
     alloc: Global,
-    names: (heat_ledger::NewBook, authority_map::NewMap),
+    board: Board<J, M>,
+    shares: Vec<Share<J>>,
 ) -> Served
-    requires book { names.0 ≡ J.ledger }
-    requires map { names.1 ≡ J.map }
     requires limit { J.limit ≡ 128 }
 {
     let scripts = scripts(alloc, &[work(1, 3), work(1, 5)], &[work(7, 2)]).sure(rt);
     let mut answers = Vec::with_capacity(alloc, 3).sure(rt);
-    let (board, shares) = open::<J, R>(rt, alloc, names, 2, 1).sure(rt);
     let (board, _shares) = serve(rt, alloc, board, &scripts, shares, &mut answers);
     let running = running(&board);
     let heat = board.heat().heat(Dir::new(1));
@@ -43,6 +44,19 @@ fn serve_three<J: Naming + Send + Sync, R: Abort + Threads + Wait + Sync>(
         running,
         heat,
     }
+}
+
+fn serve_three<J: Naming + Send + Sync, R: Abort + Threads + Wait + Sync>(
+    rt: &R,
+    alloc: Global,
+    names: (heat_ledger::NewBook, authority_map::NewMap),
+) -> Served
+    requires book { names.0 ≡ J.ledger }
+    requires map { names.1 ≡ J.map }
+    requires limit { J.limit ≡ 128 }
+{
+    let (board, shares) = open::<J, R>(rt, alloc, names, 2, 1).sure(rt);
+    serve_on(rt, alloc, board, shares)
 }
 
 // A rank has a thread for all of its requests, or for none of them.
@@ -69,6 +83,23 @@ struct Moved {
     has_export: bool,
 }
 
+fn move_on<J: Naming + Send + Sync, M: Publisher<J> + Send, R: Abort + Threads + Wait + Sync>(
+    rt: &R,
+    alloc: Global,
+    board: Board<J, M>,
+) -> Moved {
+    let orders = orders(alloc, &[(0, 1, 1), (0, 2, 2)]).sure(rt);
+    let (board, done) = export_phase(rt, alloc, board, &OpenGate, &orders);
+    let authorities = authorities(&board);
+    let has_export = board.cluster().export(0).is_some();
+    board.end();
+    Moved {
+        outcomes: done.sure(rt),
+        authorities,
+        has_export,
+    }
+}
+
 fn move_two<J: Naming + Send + Sync, R: Abort + Threads + Wait + Sync>(
     rt: &R,
     alloc: Global,
@@ -78,20 +109,8 @@ fn move_two<J: Naming + Send + Sync, R: Abort + Threads + Wait + Sync>(
     requires map { names.1 ≡ J.map }
     requires limit { J.limit ≡ 128 }
 {
-    let orders = orders(alloc, &[(0, 1, 1), (0, 2, 2)]).sure(rt);
     let (board, _shares) = open::<J, R>(rt, alloc, names, 3, 2).sure(rt);
-    let (board, done) = export_phase(rt, alloc, board, &OpenGate, &orders);
-    let authorities = (
-        board.cluster().authority(Dir::new(1)),
-        board.cluster().authority(Dir::new(2)),
-    );
-    let has_export = board.cluster().export(0).is_some();
-    board.end();
-    Moved {
-        outcomes: done.sure(rt),
-        authorities,
-        has_export,
-    }
+    move_on(rt, alloc, board)
 }
 
 // An exporter has a thread for all of its orders, or for none of them. What importers have to do is done in any case.

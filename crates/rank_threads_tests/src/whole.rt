@@ -1,9 +1,14 @@
 //! A phase for whoever has all shares.
-ghost use Rattle.std.specs.Prelude.{◌≡◌, length};
+ghost use Rattle.std.specs.Prelude.{◌≡◌, length, vec_len};
+ghost use Rattle.heat_ledger.specs.Ledger.{weight_of};
 
 use crate::gates::JitterGate;
-use crate::requests::{names, open, scripts, work};
+use crate::requests::{names, scripts, work};
 use crate::same::{Sure, same};
+use authority_map::{MapWriter, Publisher};
+use board_state::BoardParts;
+use heat_ledger::Share;
+use mds_board::Board;
 use mds_types::Dir;
 use naming::Naming;
 use rank_threads::{Work, serve_with_totals};
@@ -13,7 +18,27 @@ use std::process::Abort;
 use std::sync::Wait;
 use std::thread::Threads;
 
-// The requests that began on /a, and the hits on it, after a phase.
+// The requests that began on /a, and the hits on it, after a phase for whoever has all shares.
+fn serve_on<J: Naming + Send + Sync, M: Publisher<J> + Send, R: Abort + Threads + Wait + Sync>(
+    rt: &R,
+    alloc: Global,
+    board: Board<J, M>,
+    shares: Vec<Share<J>>,
+    scripts: &[Vec<Work>],
+) -> (u64, u64)
+    requires two { length scripts.now ≡ 2 }
+    requires shares { vec_len shares ≡ 2 }
+    requires whole { weight_of shares.items ≡ board.shares }
+{
+    let mut board = board;
+    board.make(alloc, Dir::ROOT, "a", 1).sure(rt);
+    let (board, done) = serve_with_totals(rt, alloc, board, &JitterGate, scripts, shares);
+    let totals = (board.begun(Dir::new(1)), board.counted(Dir::new(1)));
+    board.end();
+    assert!(rt; done.is_ok());
+    totals
+}
+
 fn serve_audited<J: Naming + Send + Sync, R: Abort + Threads + Wait + Sync>(
     rt: &R,
     alloc: Global,
@@ -26,14 +51,13 @@ fn serve_audited<J: Naming + Send + Sync, R: Abort + Threads + Wait + Sync>(
     requires two { length scripts.now ≡ 2 }
 {
     let (book, map) = names;
-    let (board, shares) = open::<J, R>(rt, alloc, book, map);
-    let (board, done) = serve_with_totals(rt, alloc, board, &JitterGate, scripts, shares);
-    let totals = (board.begun(Dir::new(1)), board.counted(Dir::new(1)));
-    board.end();
-    if done.is_err() {
-        panic!(rt; "no memory");
+    let Ok((writer, _readers)) = MapWriter::<J, &R>::open(rt, alloc, map, 8, 1) else {
+        panic!(rt; "no map");
+    };
+    match Board::new(alloc, BoardParts::new(book, writer), 8, 2) {
+        Ok((board, shares)) => serve_on(rt, alloc, board, shares, scripts),
+        Err(_parts) => panic!(rt; "no board"),
     }
-    totals
 }
 
 // Rank 0 serves /a, and its requests there are counted; rank 1 doesn't.

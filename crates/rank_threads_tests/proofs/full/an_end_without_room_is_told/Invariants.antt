@@ -2,4 +2,4 @@ use Rattle.rank_threads_tests.proofs.full.an_end_without_room_is_told.Given as g
 
 -- the board's name is that of what was opened for its book and for its map
 abbrev pub ghosts-serve : goal.ghosts-serve
-ghosts-serve g a = record { ledger = a.names.0; limit = 8; map = a.names.1 }
+ghosts-serve g a = record { ledger = a.names.0; limit = 128; map = a.names.1 }
