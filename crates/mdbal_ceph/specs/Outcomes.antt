@@ -26,7 +26,7 @@ pub record IsHeldHeat (directories : List Directory) (holds : List Held) (spread
 -- what is planned: the rows are the directories, each with its heat where nothing holds it and with none where
 -- something does; the plan is the one that is chosen of all that are weighed of
 -- these rows, with the held heat at its ranks
-pub record IsPlanned (directories : List Directory) (holds : List Held) (pinned : List ℕ) (ranks : ℕ)
+pub record IsProposalOf (directories : List Directory) (holds : List Held) (pinned : List ℕ) (ranks : ℕ)
     (parts : PartCount) (proposal : Proposal) : Type 0 where
   pub rows : List ProblemRow
   pub own : List OwnPins
@@ -40,7 +40,7 @@ pub record IsDecision (directories : List Directory) (spread : List ℕ) (ranks 
   pub size : length decision.holds.items ≡ length directories
   pub held : (i : ℕ) → i < length directories → IsHeld directories i (held_at decision.holds.items i)
   pub pinned : IsHeldHeat directories decision.holds.items spread decision.pinned.items
-  pub planned : IsPlanned directories decision.holds.items decision.pinned.items ranks parts decision.proposal
+  pub planned : IsProposalOf directories decision.holds.items decision.pinned.items ranks parts decision.proposal
   pub goals : (i : ℕ) → i < length directories
       → slice_index decision.goals.items i ≡ goal_at decision.holds.items decision.proposal.rows.items i
   pub now : AreAmounts decision.sums.now.items (λ r. slice_index spread r + heat_now directories r (length directories))

@@ -104,7 +104,8 @@ fn keep(told: &mut Vec<WorkAnswer>, answers: &[Vec<WorkAnswer>]) {
     }
 }
 
-/// Serves the requests of all ranks. Where there is no memory for the answers, or no share for a rank, it tells nothing.
+/// Serves the requests of all ranks. Where there is no memory for the answers, or no share for a rank, it tells
+/// nothing.
 pub(crate) fn serve_all<
     J: Naming + Send + Sync,
     M: Publisher<J> + Send,

@@ -7,10 +7,10 @@ use Rattle.script_engine.specs.Runs.{Gives}
 use Rattle.script_engine.specs.declared.driver.RunError.{RunError}
 use Rattle.script_engine.specs.declared.driver.RunError.TheVariants.{Memory, Read, Write}
 use Rattle.script_session.specs.Script.{SomeAnswered, WholeAnswered}
-use Rattle.script_program.specs.Exit.{IsExit, IsRun, status_of}
+use Rattle.script_program.specs.Exit.{IsExit, IsRun, run_status}
 
 pub broken_off : {R : Type 0} (remaining : R → Option (List ℕ)) (limit : ℕ) (strict : Bool) (old new : Reading R) (before after : Option (List ℕ)) (f : RunError) (r : Result Bool RunError) (status : ℕ)
-    → r ≡ Err f → status ≡ status_of f
+    → r ≡ Err f → status ≡ run_status f
     → (r ≡ Err Read → (bytes : List ℕ) × Gives remaining old new bytes × WholeAnswered limit strict bytes before after)
     → (r ≡ Err Write → (bytes : List ℕ) × Gives remaining old new bytes × SomeAnswered limit strict bytes before after)
     → (r ≡ Err Memory → (new ≡ old) × (after ≡ before))

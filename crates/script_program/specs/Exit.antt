@@ -15,10 +15,10 @@ use Rattle.script_engine.specs.declared.driver.RunError.TheVariants.{Memory, Rea
 use Rattle.script_session.specs.Script.{AllAnswered, SomeAnswered, WholeAnswered}
 
 -- the status where a run ended before its script did
-abbrev pub status_of : RunError → ℕ
-status_of Memory = 2
-status_of Read = 3
-status_of Write = 3
+abbrev pub run_status : RunError → ℕ
+run_status Memory = 2
+run_status Read = 3
+run_status Write = 3
 
 -- what is said of it on standard error
 abbrev pub message : RunError → List ℕ

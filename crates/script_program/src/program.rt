@@ -2,9 +2,9 @@
 ghost use Rattle.std.specs.Prelude.{◌≡◌, ◌≤◌, ◌⊎◌, ⊤, map};
 ghost use Rattle.clap.specs.Words.{IsAmong, fault_of};
 ghost use Rattle.command_line.specs.CommandLine.{mdbal};
-ghost use Rattle.command_line.specs.Outcome.{status_of as options_status};
+ghost use Rattle.command_line.specs.Outcome.{status_of};
 ghost use Rattle.script_engine.specs.Known.{AppendsFront};
-ghost use Rattle.script_program.specs.Exit.{AreProved, IsExit, IsRun, message, status_of};
+ghost use Rattle.script_program.specs.Exit.{AreProved, IsExit, IsRun, message, run_status};
 ghost use Rattle.std.specs.Option.{option_and_then};
 
 use crate::hints::LineHints;
@@ -138,7 +138,7 @@ fn prove<T: Threads + Wait + Sync, R: Read, W: Write, P: Write, E: Write>(
 
 // Says why a run ended before its script did, and gives the status for that.
 fn fail<E: Write>(failure: RunError, errors: &mut E) -> u8
-    ensures status { result ≡ status_of failure }
+    ensures status { result ≡ run_status failure }
     ensures text { AppendsFront (E.contents errors.old) (E.contents errors.new) (message failure) }
 {
     let (status, message) = match failure {
@@ -152,7 +152,7 @@ fn fail<E: Write>(failure: RunError, errors: &mut E) -> u8
 
 // Writes why a command line gives no settings, the help and the version to the writer, all else to the errors.
 fn explain<W: Write, E: Write>(error: &OptionsError, writer: &mut W, errors: &mut E) -> u8
-    ensures { result ≡ options_status error.now }
+    ensures { result ≡ status_of error.now }
 {
     let status = error.status();
     let _ = if status == 0 {
