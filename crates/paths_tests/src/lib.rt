@@ -8,6 +8,8 @@ mod long_lists;
 #[cfg(test)]
 mod maps;
 #[cfg(test)]
+mod opened;
+#[cfg(test)]
 mod orders;
 #[cfg(test)]
 mod published;

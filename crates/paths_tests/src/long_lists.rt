@@ -2,14 +2,13 @@
 ghost use Rattle.std.specs.Prelude.{◌≡◌, ◌<◌, ◌≤◌, All, IfOk};
 
 use crate::maps::{look, rank, show};
-use crate::same::{Sure, same};
-use authority_map::{Found, MapError, MapReader, MapWriter, NewMap, Publisher};
+use crate::opened::{Trial, on_map};
+use crate::same::Sure;
+use authority_map::{Found, MapError, MapReader, NewMap, Publisher};
 use mds_types::Dir;
 use naming::Naming;
 use std::alloc::{AllocError, Global};
 use std::marker::Brand;
-use std::process::Abort;
-use std::sync::Wait;
 
 const LIMIT: u32 = 96;
 
@@ -78,28 +77,21 @@ fn give_in_turn<J: Naming, M: Publisher<J>>(
     Ok([first, first_other(reader, 2)])
 }
 
-// What isn't as it is to be, on a new map.
-fn on_map<J: Naming, R: Wait + Drop>(
-    rt: R,
+/// Whether the lists change their directories, and no other.
+pub(crate) fn are_changed_alone<J: Naming, M: Publisher<J>>(
     alloc: Global,
-    opened: NewMap,
-) -> Result<[Option<u32>; 2], MapError>
-    requires name { opened ≡ J.map }
-    requires limit { J.limit ≡ 96 }
+    writer: &mut M,
+    reader: &mut MapReader<J>,
+) -> Result<bool, MapError>
+    requires { J.limit ≡ 96 }
 {
-    match MapWriter::<J, R>::open(rt, alloc, opened, LIMIT, 1) {
-        Err((error, _opened)) => Err(error),
-        Ok((mut writer, mut readers)) => {
-            let reader = &mut readers[0];
-            let others = give_in_turn::<J, MapWriter<J, R>>(alloc, &mut writer, reader);
-            writer.end();
-            others
-        }
-    }
+    let others = give_in_turn::<J, M>(alloc, writer, reader)?;
+    Ok(others == [None, None])
 }
 
 #[test]
 fn long_lists_change_their_directories_alone(rt: HostRuntime) {
-    let others = on_map::<Brand, _>(&rt, rt.alloc(), NewMap::new()).sure(&rt);
-    same(&rt, &others, &[None, None]);
+    let trial = Trial::LongLists;
+    let is_so = on_map::<Brand, HostRuntime>(&rt, rt.alloc(), NewMap::new(), trial).sure(&rt);
+    assert!(rt; is_so);
 }

@@ -77,6 +77,6 @@ pub(crate) fn all_found<J: Naming>(reader: &mut MapReader<J>) -> [Found; 5] {
         look(reader, Dir::new(1)),
         look(reader, Dir::new(2)),
         look(reader, Dir::new(3)),
-        look(reader, Dir::new(4)),
+        look(reader, Dir::new(96)),
     ]
 }

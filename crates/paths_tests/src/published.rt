@@ -2,23 +2,16 @@
 ghost use Rattle.std.specs.Prelude.{◌≡◌};
 
 use crate::maps::{all_found, clear, give, give_two, hear, look, rank, show};
+use crate::opened::{Trial, on_map};
 use crate::same::{Sure, same};
-use authority_map::{Found, MapError, MapReader, MapWriter, NewMap, Publisher};
+use authority_map::{Found, MapError, MapReader, NewMap, Publisher};
 use mds_types::{Dir, Rank};
 use naming::Naming;
 use std::alloc::Global;
 use std::marker::Brand;
 use std::process::Abort;
 use std::sync::Wait;
-
-// What is tried, on a map of four directories with a reader.
-#[derive(Clone, Copy)]
-enum Case {
-    Follows,
-    FindsTheLatest,
-    Changes,
-    Joins,
-}
+use std::thread::Threads;
 
 // Rank 0 is published, rank 1 at first not; the reader is told; the directory loses its rank.
 fn follow<J: Naming, M: Publisher<J>>(
@@ -26,7 +19,7 @@ fn follow<J: Naming, M: Publisher<J>>(
     writer: &mut M,
     reader: &mut MapReader<J>,
 ) -> Result<[Found; 5], MapError>
-    requires { J.limit ≡ 4 }
+    requires { J.limit ≡ 96 }
 {
     let dir = Dir::new(1);
     give::<J, M>(alloc, writer, dir, rank(0))?;
@@ -58,7 +51,7 @@ fn find_latest<J: Naming, M: Publisher<J>>(
     writer: &mut M,
     reader: &mut MapReader<J>,
 ) -> Result<[Option<Rank>; 4], MapError>
-    requires { J.limit ≡ 4 }
+    requires { J.limit ≡ 96 }
 {
     let dir = Dir::new(1);
     let none = latest(writer, reader, dir);
@@ -77,7 +70,7 @@ fn change<J: Naming, M: Publisher<J>>(
     writer: &mut M,
     reader: &mut MapReader<J>,
 ) -> Result<[[Found; 5]; 4], MapError>
-    requires { J.limit ≡ 4 }
+    requires { J.limit ≡ 96 }
 {
     give_two::<J, M>(alloc, writer, Dir::new(1), Dir::new(3), rank(0))?;
     show::<J, M>(writer)?;
@@ -98,7 +91,7 @@ fn join<J: Naming, M: Publisher<J>>(
     writer: &mut M,
     reader: &mut MapReader<J>,
 ) -> Result<[Found; 5], MapError>
-    requires { J.limit ≡ 4 }
+    requires { J.limit ≡ 96 }
 {
     give_two::<J, M>(alloc, writer, Dir::new(1), Dir::new(3), rank(0))?;
     give::<J, M>(alloc, writer, Dir::new(2), rank(0))?;
@@ -107,85 +100,65 @@ fn join<J: Naming, M: Publisher<J>>(
     Ok(all_found(reader))
 }
 
-// Whether the reader found what it is to find.
-fn is_found<J: Naming, M: Publisher<J>>(
+/// Whether the reader found what it is to find.
+pub(crate) fn is_found<J: Naming, M: Publisher<J>>(
     alloc: Global,
     writer: &mut M,
     reader: &mut MapReader<J>,
-    case: Case,
+    trial: Trial,
 ) -> Result<bool, MapError>
-    requires { J.limit ≡ 4 }
+    requires { J.limit ≡ 96 }
 {
     let (none, r0, r1) = (Found::NoDir, Found::Rank(rank(0)), Found::Rank(rank(1)));
-    match case {
-        Case::Follows => {
+    match trial {
+        Trial::Follows => {
             let wanted = [r0, r0, r1, none, none];
             let found = follow::<J, M>(alloc, writer, reader)?;
             Ok(found == wanted)
         }
-        Case::FindsTheLatest => {
+        Trial::FindsTheLatest => {
             let wanted = [None, Some(rank(0)), Some(rank(0)), Some(rank(1))];
             let found = find_latest::<J, M>(alloc, writer, reader)?;
             Ok(found == wanted)
         }
-        Case::Changes => {
+        Trial::Changes => {
             let [first, second, third, fourth] = change::<J, M>(alloc, writer, reader)?;
             let (early, late) = ([none, r0, none, r0, none], [none, r0, r1, r0, none]);
             let last = [none, none, r0, r0, none];
             Ok(first == early && second == early && third == late && fourth == last)
         }
-        Case::Joins => {
+        Trial::Joins => {
             let wanted = [none, none, r0, r0, none];
             let found = join::<J, M>(alloc, writer, reader)?;
             Ok(found == wanted)
         }
+        _ => Ok(false),
     }
 }
 
-// Whether that is so on a new map, and all is closed at its end.
-fn on_map<J: Naming, R: Wait + Drop>(
-    rt: R,
-    alloc: Global,
-    opened: NewMap,
-    case: Case,
-) -> Result<bool, MapError>
-    requires name { opened ≡ J.map }
-    requires limit { J.limit ≡ 4 }
-{
-    match MapWriter::<J, R>::open(rt, alloc, opened, 4, 1) {
-        Err((error, _opened)) => Err(error),
-        Ok((mut writer, mut readers)) => {
-            let reader = &mut readers[0];
-            let done = is_found::<J, MapWriter<J, R>>(alloc, &mut writer, reader, case);
-            writer.end();
-            Ok(done? && all_found(reader) == [Found::Closed; 5])
-        }
-    }
-}
-
-fn on_a_map<R: Wait + Drop>(rt: &impl Abort, waits: R, alloc: Global, case: Case) {
-    let is_well = on_map::<Brand, R>(waits, alloc, NewMap::new(), case).sure(rt);
+fn on_a_map<R: Threads + Wait + Abort + Sync>(rt: &R, alloc: Global, trial: Trial) {
+    let is_well = on_map::<Brand, R>(rt, alloc, NewMap::new(), trial).sure(rt);
     assert!(rt; is_well);
 }
 
 #[test]
 fn readers_follow(rt: HostRuntime) {
-    on_a_map(&rt, &rt, rt.alloc(), Case::Follows)
+    on_a_map(&rt, rt.alloc(), Trial::Follows)
 }
 
 #[test]
 fn a_reader_beside_the_writer_finds_the_latest(rt: HostRuntime) {
-    on_a_map(&rt, &rt, rt.alloc(), Case::FindsTheLatest)
+    on_a_map(&rt, rt.alloc(), Trial::FindsTheLatest)
 }
 
 #[test]
 fn operations_change_their_directories(rt: HostRuntime) {
-    on_a_map(&rt, &rt, rt.alloc(), Case::Changes)
+    on_a_map(&rt, rt.alloc(), Trial::Changes)
 }
 
 #[test]
 fn directories_between_others_join_them(rt: HostRuntime) {
-    on_a_map(&rt, &rt, rt.alloc(), Case::Joins)
+    on_a_map(&rt, rt.alloc(), Trial::Joins)
 }
 
 #[test]

@@ -2,12 +2,13 @@
 ghost use Rattle.std.specs.Prelude.{◌≡◌, ◌<◌};
 
 use crate::maps::{give, look, rank, show};
-use authority_map::{Found, MapError, MapReader, MapWriter, NewMap, Publisher};
+use crate::opened::{Trial, on_map};
+use crate::same::Sure;
+use authority_map::{Found, MapError, MapReader, NewMap, Publisher};
 use mds_types::{Dir, Rank};
 use naming::Naming;
 use std::alloc::Global;
 use std::marker::Brand;
-use std::sync::Wait;
 
 // An operation that is refused memory has changed nothing, and is made again. It says whether the
 // reader then finds what it found.
@@ -43,14 +44,13 @@ fn show_at_last<J: Naming, M: Publisher<J>>(
     Ok(still)
 }
 
-// Twenty operations on the four directories. It says whether each was found when it was published, and
-// not before.
-fn give_many<J: Naming, M: Publisher<J>>(
+/// Twenty operations on four directories. It says whether each was found when it was published, and not before.
+pub(crate) fn give_many<J: Naming, M: Publisher<J>>(
     alloc: Global,
     writer: &mut M,
     reader: &mut MapReader<J>,
 ) -> Result<bool, MapError>
-    requires { J.limit ≡ 4 }
+    requires { J.limit ≡ 96 }
 {
     let mut kept = true;
     for step in 0..20u32 {
@@ -63,40 +63,9 @@ fn give_many<J: Naming, M: Publisher<J>>(
     Ok(kept)
 }
 
-fn go_on<J: Naming, R: Wait + Drop>(
-    alloc: Global,
-    mut writer: MapWriter<J, R>,
-    mut readers: Vec<MapReader<J>>,
-) -> bool
-    requires { J.limit ≡ 4 }
-{
-    let kept = match readers.pop() {
-        Some(mut reader) => {
-            give_many::<J, MapWriter<J, R>>(alloc, &mut writer, &mut reader).unwrap_or(false)
-        }
-        None => false,
-    };
-    writer.end();
-    kept && readers.len() == 1
-}
-
-// Opens a map, and opens it again where memory was refused. It says whether all went as it should.
-fn open_at_last<J: Naming, R: Wait>(rt: &R, alloc: Global, opened: NewMap) -> bool
-    requires name { opened ≡ J.map }
-    requires limit { J.limit ≡ 4 }
-{
-    let opened = match MapWriter::<J, &R>::open(rt, alloc, opened, 4, 2) {
-        Ok((writer, readers)) => return go_on(alloc, writer, readers),
-        Err((MapError::Memory, opened)) => opened,
-        Err((MapError::NoReader, _opened)) => return false,
-    };
-    match MapWriter::<J, &R>::open(rt, alloc, opened, 4, 2) {
-        Ok((writer, readers)) => go_on(alloc, writer, readers),
-        Err((_error, _opened)) => false,
-    }
-}
-
 #[test]
 fn a_refused_growth_changes_no_map(rt: HostRuntime) {
-    assert!(rt; open_at_last::<Brand, HostRuntime>(&rt, rt.alloc(), NewMap::new()));
+    let trial = Trial::Refusals;
+    let is_so = on_map::<Brand, HostRuntime>(&rt, rt.alloc(), NewMap::new(), trial).sure(&rt);
+    assert!(rt; is_so);
 }

@@ -211,30 +211,38 @@ fn joined_shares_close_a_book(rt: HostRuntime) {
     close_joined::<Brand, HostRuntime>(&rt, alloc, NewBook::new(alloc).sure(&rt));
 }
 
+// What is said of the first and the last directory, and past the limit, before and after a deposit.
+fn hold_what_was_counted<J: Naming, R: Abort>(rt: &R, book: &mut Book<J>, share: &mut Share<J>)
+    requires { J.limit ≡ 4 }
+{
+    let (first, last, past) = (Dir::new(0), Dir::new(3), Dir::new(4));
+    same(rt, &said(book, share, first), &[1, 1, 0, 0, 0]);
+    same(rt, &said(book, share, last), &[3, 3, 0, 0, 0]);
+    assert!(rt; begun_first(book, share, last));
+    same(rt, &said(book, share, last), &[3, 3, 1, 0, 1]);
+    deposit(book, share);
+    same(rt, &said(book, share, first), &[1, 0, 0, 1, 0]);
+    same(rt, &said(book, share, last), &[3, 0, 1, 3, 1]);
+    same(rt, &said(book, share, past), &[0, 0, 0, 0, 0]);
+}
+
 // An audit changes nothing, and the calls after `open` take no memory.
 fn count_surely<J: Naming, R: Abort>(rt: &R, alloc: Global, opened: NewBook)
     requires name { opened ≡ J.ledger }
     requires limit { J.limit ≡ 4 }
 {
-    let (first, last, past) = (Dir::new(0), Dir::new(3), Dir::new(4));
     let (mut book, mut shares) = open::<J>(alloc, opened, 2).expect(rt, "it failed");
     book.audit(&mut shares);
-    let mut share = worked(worked(taken(rt, &mut shares), last, 3), first, 1);
-    same(rt, &said(&book, &share, first), &[1, 1, 0, 0, 0]);
-    same(rt, &said(&book, &share, last), &[3, 3, 0, 0, 0]);
-    assert!(rt; begun_first(&mut book, &mut share, last));
-    same(rt, &said(&book, &share, last), &[3, 3, 1, 0, 1]);
-    deposit(&mut book, &mut share);
-    same(rt, &said(&book, &share, first), &[1, 0, 0, 1, 0]);
-    same(rt, &said(&book, &share, last), &[3, 0, 1, 3, 1]);
-    same(rt, &said(&book, &share, past), &[0, 0, 0, 0, 0]);
-    same(rt, &(book.limit(), share.weight()), &(4, 1));
-    same(rt, &share.count(last, 1_000_000), &1_000_000);
-    same(
-        rt,
-        &said(&book, &share, last),
-        &[1_000_003, 1_000_000, 1, 3, 1],
+    let mut share = worked(
+        worked(taken(rt, &mut shares), Dir::new(3), 3),
+        Dir::new(0),
+        1,
     );
+    hold_what_was_counted(rt, &mut book, &mut share);
+    same(rt, &(book.limit(), share.weight()), &(4, 1));
+    same(rt, &share.count(Dir::new(3), 1_000_000), &1_000_000);
+    let counted = said(&book, &share, Dir::new(3));
+    same(rt, &counted, &[1_000_003, 1_000_000, 1, 3, 1]);
 }
 
 // With `rt try --test --fail-alloc N`, the N-th growth is refused.
