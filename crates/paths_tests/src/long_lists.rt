@@ -2,13 +2,11 @@
 ghost use Rattle.std.specs.Prelude.{◌≡◌, ◌<◌, ◌≤◌, All, IfOk};
 
 use crate::maps::{look, rank, show};
-use crate::opened::{Trial, on_map};
-use crate::same::Sure;
-use authority_map::{Found, MapError, MapReader, NewMap, Publisher};
+use crate::opened::{Trial, try_trial};
+use authority_map::{Found, MapError, MapReader, Publisher};
 use mds_types::Dir;
 use naming::Naming;
 use std::alloc::{AllocError, Global};
-use std::marker::Brand;
 
 const LIMIT: u32 = 96;
 
@@ -91,7 +89,5 @@ pub(crate) fn are_changed_alone<J: Naming, M: Publisher<J>>(
 
 #[test]
 fn long_lists_change_their_directories_alone(rt: HostRuntime) {
-    let trial = Trial::LongLists;
-    let is_so = on_map::<Brand, HostRuntime>(&rt, rt.alloc(), NewMap::new(), trial).sure(&rt);
-    assert!(rt; is_so);
+    try_trial(&rt, Trial::LongLists)
 }

@@ -6,11 +6,14 @@ use crate::long_lists::are_changed_alone;
 use crate::maps::all_found;
 use crate::published::is_found;
 use crate::refused_maps::give_many;
+use crate::same::Sure;
 use crate::watched::never_go_back;
 use authority_map::{Found, MapError, MapReader, MapWriter, NewMap, Publisher};
 use mds_types::Dir;
 use naming::Naming;
 use std::alloc::Global;
+use std::marker::Brand;
+use std::process::Abort;
 use std::sync::Wait;
 use std::thread::Threads;
 
@@ -70,8 +73,8 @@ fn go_on<J: Naming + Send + Sync, R: Threads + Wait + Sync>(
     Ok(is_closed(&mut readers) && done?)
 }
 
-/// Opens a map, again where memory was refused, and says whether all is as it is to be.
-pub(crate) fn on_map<J: Naming + Send + Sync, R: Threads + Wait + Sync>(
+// Opens a map, again where memory was refused, and says whether all is as it is to be.
+fn on_map<J: Naming + Send + Sync, R: Threads + Wait + Sync>(
     rt: &R,
     alloc: Global,
     opened: NewMap,
@@ -88,4 +91,10 @@ pub(crate) fn on_map<J: Naming + Send + Sync, R: Threads + Wait + Sync>(
         Ok((writer, readers)) => go_on(rt, alloc, writer, readers, trial),
         Err((error, _opened)) => Err(error),
     }
+}
+
+/// Tries it on a new map.
+pub(crate) fn try_trial<R: Abort + AllocGlobal + Threads + Wait + Sync>(rt: &R, trial: Trial) {
+    let is_well = on_map::<Brand, R>(rt, rt.alloc(), NewMap::new(), trial).sure(rt);
+    assert!(rt; is_well);
 }

@@ -2,16 +2,12 @@
 ghost use Rattle.std.specs.Prelude.{◌≡◌};
 
 use crate::maps::{all_found, clear, give, give_two, hear, look, rank, show};
-use crate::opened::{Trial, on_map};
+use crate::opened::{Trial, try_trial};
 use crate::same::{Sure, same};
-use authority_map::{Found, MapError, MapReader, NewMap, Publisher};
+use authority_map::{Found, MapError, MapReader, Publisher};
 use mds_types::{Dir, Rank};
 use naming::Naming;
 use std::alloc::Global;
-use std::marker::Brand;
-use std::process::Abort;
-use std::sync::Wait;
-use std::thread::Threads;
 
 // Rank 0 is published, rank 1 at first not; the reader is told; the directory loses its rank.
 fn follow<J: Naming, M: Publisher<J>>(
@@ -136,29 +132,24 @@ pub(crate) fn is_found<J: Naming, M: Publisher<J>>(
     }
 }
 
-fn on_a_map<R: Threads + Wait + Abort + Sync>(rt: &R, alloc: Global, trial: Trial) {
-    let is_well = on_map::<Brand, R>(rt, alloc, NewMap::new(), trial).sure(rt);
-    assert!(rt; is_well);
-}
-
 #[test]
 fn readers_follow(rt: HostRuntime) {
-    on_a_map(&rt, rt.alloc(), Trial::Follows)
+    try_trial(&rt, Trial::Follows)
 }
 
 #[test]
 fn a_reader_beside_the_writer_finds_the_latest(rt: HostRuntime) {
-    on_a_map(&rt, rt.alloc(), Trial::FindsTheLatest)
+    try_trial(&rt, Trial::FindsTheLatest)
 }
 
 #[test]
 fn operations_change_their_directories(rt: HostRuntime) {
-    on_a_map(&rt, rt.alloc(), Trial::Changes)
+    try_trial(&rt, Trial::Changes)
 }
 
 #[test]
 fn directories_between_others_join_them(rt: HostRuntime) {
-    on_a_map(&rt, rt.alloc(), Trial::Joins)
+    try_trial(&rt, Trial::Joins)
 }
 
 #[test]

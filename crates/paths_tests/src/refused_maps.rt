@@ -2,13 +2,11 @@
 ghost use Rattle.std.specs.Prelude.{◌≡◌, ◌<◌};
 
 use crate::maps::{give, look, rank, show};
-use crate::opened::{Trial, on_map};
-use crate::same::Sure;
-use authority_map::{Found, MapError, MapReader, NewMap, Publisher};
+use crate::opened::{Trial, try_trial};
+use authority_map::{Found, MapError, MapReader, Publisher};
 use mds_types::{Dir, Rank};
 use naming::Naming;
 use std::alloc::Global;
-use std::marker::Brand;
 
 // An operation that is refused memory has changed nothing, and is made again. It says whether the
 // reader then finds what it found.
@@ -65,7 +63,5 @@ pub(crate) fn give_many<J: Naming, M: Publisher<J>>(
 
 #[test]
 fn a_refused_growth_changes_no_map(rt: HostRuntime) {
-    let trial = Trial::Refusals;
-    let is_so = on_map::<Brand, HostRuntime>(&rt, rt.alloc(), NewMap::new(), trial).sure(&rt);
-    assert!(rt; is_so);
+    try_trial(&rt, Trial::Refusals)
 }

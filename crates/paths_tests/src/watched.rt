@@ -2,13 +2,11 @@
 ghost use Rattle.std.specs.Prelude.{◌≡◌};
 
 use crate::maps::{give, hear, look, rank, show};
-use crate::opened::{Trial, on_map};
-use crate::same::Sure;
-use authority_map::{Found, MapError, MapReader, NewMap, Publisher};
+use crate::opened::{Trial, try_trial};
+use authority_map::{Found, MapError, MapReader, Publisher};
 use mds_types::Dir;
 use naming::Naming;
 use std::alloc::Global;
-use std::marker::Brand;
 use std::thread::{Threads, join};
 
 // Where an answer on directory 0 stands in the order in which the writer gives them.
@@ -115,7 +113,5 @@ pub(crate) fn never_go_back<J: Naming + Send + Sync, M: Publisher<J> + Send, R: 
 
 #[test]
 fn answers_never_go_back(rt: HostRuntime) {
-    let trial = Trial::Watches;
-    let is_so = on_map::<Brand, HostRuntime>(&rt, rt.alloc(), NewMap::new(), trial).sure(&rt);
-    assert!(rt; is_so);
+    try_trial(&rt, Trial::Watches)
 }

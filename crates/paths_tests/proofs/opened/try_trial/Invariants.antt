@@ -1,6 +1,6 @@
 use Rattle.naming.specs.Names.{no_table}
-use Rattle.paths_tests.proofs.published.on_a_map.Given as goal
+use Rattle.paths_tests.proofs.opened.try_trial.Given as goal
 
 -- the map's name is that of what was opened for it
 abbrev pub ghosts-on_map : goal.ghosts-on_map
-ghosts-on_map g a = record { ledger = no_table; limit = 4; map = a.opened }
+ghosts-on_map g a = record { ledger = no_table; limit = 96; map = a.opened }

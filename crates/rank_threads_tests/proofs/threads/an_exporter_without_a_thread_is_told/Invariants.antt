@@ -1,5 +1,0 @@
-use Rattle.rank_threads_tests.proofs.threads.an_exporter_without_a_thread_is_told.Given as goal
-
--- the board's name is that of what was opened for its book and for its map
-abbrev pub ghosts-move_two : goal.ghosts-move_two
-ghosts-move_two g a = record { ledger = a.names.0; limit = 128; map = a.names.1 }
