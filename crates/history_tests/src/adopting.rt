@@ -1,5 +1,5 @@
 //! Plans that are adopted or refused, with their orders.
-ghost use Rattle.std.specs.Prelude.{◌≡◌};
+ghost use Rattle.std.specs.Prelude.{◌≤◌};
 
 use crate::boards::rank;
 use crate::cases::{Case, try_case};
@@ -112,7 +112,7 @@ pub(crate) fn on_board<J: Naming, M: Publisher<J>>(
     shares: Vec<Share<J>>,
     _readers: Vec<MapReader<J>>,
 )
-    requires limit { J.limit ≡ 8 }
+    requires limit { 8 ≤ J.limit }
 {
     let mut board = board;
     let mut shares = shares;

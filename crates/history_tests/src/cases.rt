@@ -1,20 +1,25 @@
-//! What is tried on a board of two ranks with room for eight directories.
+//! What is tried on a board: but for random changes, one of two ranks with room for eight directories.
 //!
 //! The board is opened in one place, since a function that knows the type of its map's writer is dear to prove. What is
 //! opened is asked for again where memory was refused.
-ghost use Rattle.std.specs.Prelude.{◌≡◌};
+ghost use Rattle.std.specs.Prelude.{◌≡◌, ◌≤◌};
 
 use crate::boards::board_of;
+use crate::lists::Given;
+use crate::plain::{LIMIT, RANKS};
+use crate::said::Reading;
 use crate::same::Sure;
-use crate::{adopting, changes, full, lists, refused};
+use crate::{adopting, changes, full, lists, random_changes, refused};
 use authority_map::{MapReader, MapWriter, NewMap, Publisher};
 use board_state::BoardParts;
-use heat_ledger::NewBook;
+use heat_ledger::{NewBook, Share};
+use mds_board::Board;
 use naming::Naming;
 use std::alloc::{AllocError, Global};
 use std::marker::Brand;
 use std::process::Abort;
 use std::sync::Wait;
+use std::thread::Threads;
 
 /// What is tried.
 #[derive(Clone, Copy)]
@@ -25,49 +30,98 @@ pub(crate) enum Case {
     Changes,
     /// A board that is closed.
     Closed,
+    /// Commands that come one by one.
+    Called,
     /// A full history.
     Full,
+    /// The same commands as a list.
+    Listed,
+    /// Random changes.
+    Random,
     /// Refused growths in the changes.
     RefusedGrowth,
 }
 
-fn on_parts<J: Naming, M: Publisher<J>>(
-    rt: &impl Abort,
+impl Case {
+    // How many directories and ranks its board has room for.
+    fn room(self) -> (u32, u8)
+        ensures some { (8 ≤ result.0) × (1 ≤ result.1) }
+        ensures few { (result.0 ≤ 65536) × (result.1 ≤ 64) }
+    {
+        match self {
+            Case::Random => (LIMIT, RANKS),
+            _ => (8, 2),
+        }
+    }
+}
+
+fn on_board<J: Naming, M: Publisher<J>, R: Abort + Threads>(
+    rt: &R,
     alloc: Global,
-    parts: BoardParts<J, M>,
+    board: Board<J, M>,
+    shares: Vec<Share<J>>,
     readers: Vec<MapReader<J>>,
     case: Case,
-)
-    requires limit { J.limit ≡ 8 }
+) -> Option<(Vec<Given>, Reading)>
+    requires limit { 8 ≤ J.limit }
 {
-    let (board, shares) = board_of(rt, alloc, parts, 8, 2);
     match case {
         Case::Adopting => adopting::on_board(rt, alloc, board, shares, readers),
         Case::Changes => changes::on_board(rt, alloc, board, shares, readers),
         Case::Closed => lists::on_board(rt, alloc, board, shares, readers),
+        Case::Called => return Some(lists::answers(rt, alloc, board, shares, readers, false)),
         Case::Full => full::on_board(rt, alloc, board, shares, readers),
+        Case::Listed => return Some(lists::answers(rt, alloc, board, shares, readers, true)),
+        Case::Random => random_changes::on_board(rt, alloc, board, shares, readers),
         Case::RefusedGrowth => refused::on_board(rt, alloc, board, shares, readers),
     }
+    None
 }
 
-fn on_names<J: Naming, R: Abort + Wait>(
+fn on_parts<J: Naming, M: Publisher<J>, R: Abort + Threads>(
+    rt: &R,
+    alloc: Global,
+    parts: BoardParts<J, M>,
+    readers: Vec<MapReader<J>>,
+    room: (u32, u8),
+    case: Case,
+) -> Option<(Vec<Given>, Reading)>
+    requires limit { room.0 ≡ J.limit }
+    requires some { (8 ≤ room.0) × (1 ≤ room.1) }
+    requires few { (room.0 ≤ 65536) × (room.1 ≤ 64) }
+{
+    let (board, shares) = board_of(rt, alloc, parts, room.0, room.1);
+    on_board(rt, alloc, board, shares, readers, case)
+}
+
+fn on_names<J: Naming, R: Abort + Threads + Wait>(
     rt: &R,
     alloc: Global,
     book: NewBook,
     map: NewMap,
+    room: (u32, u8),
     case: Case,
-)
+) -> Option<(Vec<Given>, Reading)>
     requires book { book ≡ J.ledger }
     requires map { map ≡ J.map }
-    requires limit { J.limit ≡ 8 }
+    requires limit { room.0 ≡ J.limit }
+    requires some { (8 ≤ room.0) × (1 ≤ room.1) }
+    requires few { (room.0 ≤ 65536) × (room.1 ≤ 64) }
 {
-    let opened = match MapWriter::<J, &R>::open(rt, alloc, map, 8, 1) {
+    let opened = match MapWriter::<J, &R>::open(rt, alloc, map, room.0, 1) {
         Ok(opened) => Ok(opened),
-        Err((_error, map)) => MapWriter::<J, &R>::open(rt, alloc, map, 8, 1),
+        Err((_error, map)) => MapWriter::<J, &R>::open(rt, alloc, map, room.0, 1),
     };
     match opened {
         Ok((writer, readers)) => {
-            on_parts(rt, alloc, BoardParts::new(book, writer), readers, case)
+            on_parts(
+                rt,
+                alloc,
+                BoardParts::new(book, writer),
+                readers,
+                room,
+                case,
+            )
         }
         Err(_) => panic!(rt; "no map"),
     }
@@ -80,8 +134,16 @@ fn book_at_last(alloc: Global) -> Result<NewBook, AllocError> {
     }
 }
 
-/// Tries it on a new board.
-pub(crate) fn try_case<R: Abort + AllocGlobal + Wait>(rt: &R, case: Case) {
+/// Tries it on a new board, and gives the answers to commands.
+pub(crate) fn answers_in<R: Abort + AllocGlobal + Threads + Wait>(
+    rt: &R,
+    case: Case,
+) -> Option<(Vec<Given>, Reading)> {
     let book = book_at_last(rt.alloc()).sure(rt);
-    on_names::<Brand, R>(rt, rt.alloc(), book, NewMap::new(), case)
+    on_names::<Brand, R>(rt, rt.alloc(), book, NewMap::new(), case.room(), case)
+}
+
+/// Tries it on a new board.
+pub(crate) fn try_case<R: Abort + AllocGlobal + Threads + Wait>(rt: &R, case: Case) {
+    let _none = answers_in(rt, case);
 }

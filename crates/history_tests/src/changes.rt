@@ -1,5 +1,5 @@
 //! Changes that are accepted and refused, and what is kept of them.
-ghost use Rattle.std.specs.Prelude.{◌≡◌};
+ghost use Rattle.std.specs.Prelude.{◌≤◌};
 
 use crate::boards::rank;
 use crate::cases::{Case, try_case};
@@ -127,7 +127,7 @@ pub(crate) fn on_board<J: Naming, M: Publisher<J>>(
     shares: Vec<Share<J>>,
     _readers: Vec<MapReader<J>>,
 )
-    requires limit { J.limit ≡ 8 }
+    requires limit { 8 ≤ J.limit }
 {
     let mut board = board;
     let mut shares = shares;

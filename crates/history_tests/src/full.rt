@@ -1,5 +1,5 @@
 //! A board that has accepted as many events as it can.
-ghost use Rattle.std.specs.Prelude.{◌≡◌};
+ghost use Rattle.std.specs.Prelude.{◌≤◌};
 
 use crate::adopting::plan;
 use crate::cases::{Case, try_case};
@@ -90,7 +90,7 @@ pub(crate) fn on_board<J: Naming, M: Publisher<J>>(
     shares: Vec<Share<J>>,
     readers: Vec<MapReader<J>>,
 )
-    requires limit { J.limit ≡ 8 }
+    requires limit { 8 ≤ J.limit }
 {
     let mut board = board;
     let mut shares = shares;

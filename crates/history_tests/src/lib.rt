@@ -24,8 +24,6 @@ mod plain_cluster;
 #[cfg(test)]
 mod plain_plans;
 #[cfg(test)]
-mod plain_solver;
-#[cfg(test)]
 mod random_changes;
 #[cfg(test)]
 mod refused;

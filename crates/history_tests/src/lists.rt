@@ -1,15 +1,14 @@
 //! Lists of commands beside single calls, and boards whose ledger is closed.
-ghost use Rattle.std.specs.Prelude.{◌≡◌, All, IfOk, true};
+ghost use Rattle.std.specs.Prelude.{◌≡◌, ◌≤◌, All, IfOk, true};
 ghost use Rattle.board_state.specs.Steps.{is_inner};
 ghost use Rattle.heat_ledger.specs.Ledger.{IsClean};
 ghost use Rattle.mds_board.specs.Commands.{is_fit};
 
-use crate::boards::board_of;
-use crate::cases::{Case, try_case};
+use crate::cases::{Case, answers_in, try_case};
 use crate::said::{Reading, said};
 use crate::same::{Sure, holds_in, same};
-use authority_map::{MapReader, MapWriter, Publisher};
-use board_state::{Answer, BoardError, BoardParts, Solver};
+use authority_map::{MapReader, Publisher};
+use board_state::{Answer, BoardError, Solver};
 use dirtree::Name;
 use export_machine::Event;
 use heat_ledger::{Missing, Share};
@@ -17,9 +16,7 @@ use mds_board::{Board, BoardCommand};
 use mds_types::{Dir, Plan, Problem, Rank, RankSet};
 use naming::Naming;
 use std::alloc::{AllocError, Global};
-use std::marker::Brand;
 use std::process::Abort;
-use std::sync::Wait;
 
 /// Who never has memory for a plan.
 pub(crate) struct Idle;
@@ -30,7 +27,8 @@ impl Solver for Idle {
     }
 }
 
-type Given = Result<Answer, BoardError>;
+/// What a command is answered.
+pub(crate) type Given = Result<Answer, BoardError>;
 
 fn with(commands: Vec<BoardCommand>, command: BoardCommand) -> Result<Vec<BoardCommand>, AllocError>
     requires all { All (λ c. is_fit c ≡ true) commands.items }
@@ -79,6 +77,11 @@ fn commands(alloc: Global) -> Result<Vec<BoardCommand>, AllocError>
     with(list, BoardCommand::Remove(Dir::new(2)))
 }
 
+fn done(answer: Result<(), BoardError>) -> Given {
+    answer?;
+    Ok(Answer::Done)
+}
+
 /// The same asked for by a call of its own.
 fn asked<J: Naming, M: Publisher<J>>(
     alloc: Global,
@@ -88,13 +91,13 @@ fn asked<J: Naming, M: Publisher<J>>(
     requires { is_fit command.now ≡ true }
 {
     match command {
-        BoardCommand::Make(parent, name, inodes) => board
-            .make(alloc, *parent, name.as_str(), *inodes)
-            .map(|dir| Answer::Dir(dir)),
-        BoardCommand::Remove(dir) => board.remove(*dir).map(|()| Answer::Done),
-        BoardCommand::Pin(dir, pin) => board.set_pin(*dir, *pin).map(|()| Answer::Done),
-        BoardCommand::Mask(mask) => board.set_mask(*mask).map(|()| Answer::Done),
-        BoardCommand::Tick => board.tick().map(|()| Answer::Done),
+        BoardCommand::Make(parent, name, inodes) => {
+            Ok(Answer::Dir(board.make(alloc, *parent, name.as_str(), *inodes)?))
+        }
+        BoardCommand::Remove(dir) => done(board.remove(*dir)),
+        BoardCommand::Pin(dir, pin) => done(board.set_pin(*dir, *pin)),
+        BoardCommand::Mask(mask) => done(board.set_mask(*mask)),
+        BoardCommand::Tick => done(board.tick()),
         BoardCommand::Step(event) => step(alloc, board, event),
         BoardCommand::Balance => match board.balance(alloc, &Idle) {
             Ok(_orders) => Ok(Answer::Done),
@@ -107,7 +110,7 @@ fn step<J: Naming, M: Publisher<J>>(alloc: Global, board: &mut Board<J, M>, even
     requires { is_inner event.now ≡ true }
 {
     match event.copied(alloc) {
-        Ok(copy) => board.step(alloc, copy).map(|reply| Answer::Reply(reply)),
+        Ok(copy) => Ok(Answer::Reply(board.step(alloc, copy)?)),
         Err(AllocError) => Err(BoardError::Memory),
     }
 }
@@ -151,17 +154,18 @@ fn ask_each<J: Naming, M: Publisher<J>>(
     (answers, said(board, share, reader))
 }
 
-fn answers_of<J: Naming, M: Publisher<J>>(
+/// What the commands are answered, as a list or one by one, and what the board says then.
+pub(crate) fn answers<J: Naming, M: Publisher<J>>(
     rt: &impl Abort,
     alloc: Global,
-    parts: BoardParts<J, M>,
+    board: Board<J, M>,
+    shares: Vec<Share<J>>,
     readers: Vec<MapReader<J>>,
     is_list: bool,
 ) -> (Vec<Given>, Reading)
-    requires limit { J.limit ≡ 8 }
+    requires limit { 8 ≤ J.limit }
 {
-    let mut readers = readers;
-    let (mut board, shares) = board_of(rt, alloc, parts, 8, 2);
+    let (mut board, mut readers) = (board, readers);
     let (Some(share), Some(reader)) = (shares.first(), readers.first_mut()) else {
         panic!(rt; "no share or no reader");
     };
@@ -174,41 +178,15 @@ fn answers_of<J: Naming, M: Publisher<J>>(
     given
 }
 
-fn answers<J: Naming, R: Wait + Drop>(
-    rt: &impl Abort,
-    waits: R,
-    alloc: Global,
-    book: heat_ledger::NewBook,
-    map: authority_map::NewMap,
-    is_list: bool,
-) -> (Vec<Given>, Reading)
-    requires book { book ≡ J.ledger }
-    requires map { map ≡ J.map }
-    requires limit { J.limit ≡ 8 }
-{
-    match MapWriter::<J, R>::open(waits, alloc, map, 8, 1) {
-        Ok((writer, readers)) => {
-            answers_of(rt, alloc, BoardParts::new(book, writer), readers, is_list)
-        }
-        Err(_) => panic!(rt; "no map"),
-    }
-}
-
-fn answered<R: Wait + Drop>(
-    rt: &impl Abort,
-    waits: R,
-    alloc: Global,
-    is_list: bool,
-) -> (Vec<Given>, Reading) {
-    let book = heat_ledger::NewBook::new(alloc).sure(rt);
-    let map = authority_map::NewMap::new();
-    answers::<Brand, R>(rt, waits, alloc, book, map, is_list)
-}
-
 #[test]
 fn a_list_of_commands_answers_as_single_calls(rt: HostRuntime) {
-    let (listed, after_list) = answered(&rt, &rt, rt.alloc(), true);
-    let (single, after_calls) = answered(&rt, &rt, rt.alloc(), false);
+    let (Some(listed), Some(called)) = (
+        answers_in(&rt, Case::Listed),
+        answers_in(&rt, Case::Called),
+    ) else {
+        panic!(rt; "no answers");
+    };
+    let ((listed, after_list), (single, after_calls)) = (listed, called);
     same(&rt, &(listed.len(), single.len()), &(14, 14));
     for (at, (one, other)) in listed.iter().zip(single.iter()).enumerate() {
         holds_in(&rt, is_same(one, other), &at);
@@ -291,7 +269,7 @@ fn use_it<J: Naming, M: Publisher<J>>(
     board: &mut Board<J, M>,
     share: &mut Share<J>,
 )
-    requires limit { J.limit ≡ 8 }
+    requires limit { 8 ≤ J.limit }
 {
     let a = Dir::new(1);
     same(rt, &board.make(alloc, Dir::ROOT, "a", 10), &Ok(a));
@@ -307,7 +285,7 @@ pub(crate) fn on_board<J: Naming, M: Publisher<J>>(
     shares: Vec<Share<J>>,
     _readers: Vec<MapReader<J>>,
 )
-    requires limit { J.limit ≡ 8 }
+    requires limit { 8 ≤ J.limit }
 {
     let mut board = board;
     let mut shares = shares;

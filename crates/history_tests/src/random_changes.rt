@@ -3,23 +3,23 @@ ghost use Rattle.std.specs.Prelude.{◌≡◌, true};
 ghost use Rattle.board_state.specs.Steps.{is_inner};
 
 use crate::agreeing::{agree, agree_at_rest};
-use crate::boards::board_of;
+use crate::cases::{Case, try_case};
 use crate::choices::Random;
 use crate::lists::Idle;
 use crate::plain::{LIMIT, NAMES, Plain, RANKS, counted};
-use crate::plain_solver::solve;
 use crate::same::{Sure, same};
-use authority_map::{MapReader, MapWriter, Publisher};
-use board_state::{BoardError, BoardParts, Change};
+use arrayvec::ArrayVec;
+use authority_map::{MapReader, Publisher};
+use board_state::{BoardError, Change};
 use export_machine::{Event, ExporterState, ImporterState};
 use heat_ledger::Share;
 use mds_board::{Board, History, Shown};
-use mds_types::{Dir, Dirs, Order, Plan, RankSet};
+use mds_types::{CutProof, Dir, Dirs, DualProof, Order, Plan, RankSet};
 use naming::Naming;
+use planner::solve;
 use std::alloc::Global;
-use std::marker::Brand;
 use std::process::Abort;
-use std::sync::Wait;
+use std::thread::Threads;
 
 /// How many changes there are.
 const CHANGES: u32 = 2_000;
@@ -166,17 +166,35 @@ fn open_problem<J: Naming, M: Publisher<J>>(
     }
 }
 
-/// The plan that is adopted next, which is forged now and then, and what is to be answered.
-fn wanted(
-    rt: &impl Abort,
+/// A plan without parts.
+fn no_plan(alloc: Global) -> Plan {
+    Plan {
+        part: Vec::new(alloc),
+        rank: ArrayVec::new(),
+        greatest: 0,
+        moved: 0,
+        cut: CutProof::Zero,
+        dual: DualProof {
+            part_price: Vec::new(alloc),
+            rank_price: Vec::new(alloc),
+        },
+    }
+}
+
+/// A best plan of the open problem, if there is one.
+fn best<J: Naming, M: Publisher<J>, R: Abort + Threads>(
+    rt: &R,
     alloc: Global,
-    plain: &Plain,
-    random: &mut Random,
-) -> (Plan, Result<Vec<Order>, BoardError>) {
-    let Some(posed) = &plain.posed else {
-        return (solve(alloc, &[], &[]).sure(rt), Err(BoardError::NoProblem));
-    };
-    let mut plan = solve(alloc, &posed.rows, &posed.ranks).sure(rt);
+    board: &Board<J, M>,
+) -> Plan {
+    match board.opened() {
+        Some(open) => solve(rt, alloc, open.problem()).sure(rt),
+        None => no_plan(alloc),
+    }
+}
+
+/// The plan, which is forged now and then. It says whether it was.
+fn forge(plan: &mut Plan, random: &mut Random) -> bool {
     let is_forged = random.once_in(3);
     if is_forged {
         if random.once_in(2) {
@@ -185,25 +203,40 @@ fn wanted(
             plan.moved = plan.moved.wrapping_add(1);
         }
     }
-    if let Some(event) = posed.changed {
-        return (plan, Err(BoardError::Changed(event)));
-    }
-    if is_forged {
-        return (plan, Err(BoardError::NotBest));
-    }
-    let targets = plain.planned(alloc, &posed.dirs, &plan).sure(rt);
-    let orders = plain.orders(alloc, &targets).sure(rt);
-    (plan, Ok(orders))
+    is_forged
 }
 
-fn adopt<J: Naming, M: Publisher<J>>(
+/// What is to be answered to this plan.
+fn wanted(
     rt: &impl Abort,
+    alloc: Global,
+    plain: &Plain,
+    plan: &Plan,
+    is_forged: bool,
+) -> Result<Vec<Order>, BoardError> {
+    let Some(posed) = &plain.posed else {
+        return Err(BoardError::NoProblem);
+    };
+    if let Some(event) = posed.changed {
+        return Err(BoardError::Changed(event));
+    }
+    if is_forged {
+        return Err(BoardError::NotBest);
+    }
+    let targets = plain.planned(alloc, &posed.dirs, plan).sure(rt);
+    Ok(plain.orders(alloc, &targets).sure(rt))
+}
+
+fn adopt<J: Naming, M: Publisher<J>, R: Abort + Threads>(
+    rt: &R,
     alloc: Global,
     board: &mut Board<J, M>,
     plain: &mut Plain,
     random: &mut Random,
 ) {
-    let (plan, wanted) = wanted(rt, alloc, plain, random);
+    let mut plan = best(rt, alloc, board);
+    let is_forged = forge(&mut plan, random);
+    let wanted = wanted(rt, alloc, plain, &plan, is_forged);
     if wanted.is_ok() {
         plain.in_force = Some(plain.events);
         plain.posed = None;
@@ -287,8 +320,8 @@ fn settle<J: Naming, M: Publisher<J>>(
 }
 
 /// A problem is opened, a plan adopted or refused.
-fn plan<J: Naming, M: Publisher<J>>(
-    rt: &impl Abort,
+fn plan<J: Naming, M: Publisher<J>, R: Abort + Threads>(
+    rt: &R,
     alloc: Global,
     board: &mut Board<J, M>,
     plain: &mut Plain,
@@ -305,8 +338,8 @@ fn plan<J: Naming, M: Publisher<J>>(
     }
 }
 
-fn change<J: Naming, M: Publisher<J>>(
-    rt: &impl Abort,
+fn change<J: Naming, M: Publisher<J>, R: Abort + Threads>(
+    rt: &R,
     alloc: Global,
     board: &mut Board<J, M>,
     share: &mut Share<J>,
@@ -396,8 +429,8 @@ fn publish<J: Naming, M: Publisher<J>>(
     }
 }
 
-fn change_all<J: Naming, M: Publisher<J>>(
-    rt: &impl Abort,
+fn change_all<J: Naming, M: Publisher<J>, R: Abort + Threads>(
+    rt: &R,
     alloc: Global,
     board: &mut Board<J, M>,
     shares: &mut [Share<J>],
@@ -418,16 +451,14 @@ fn change_all<J: Naming, M: Publisher<J>>(
     assert!(rt; is_varied(board.history(), &plain));
 }
 
-fn on_parts<J: Naming, M: Publisher<J>>(
-    rt: &impl Abort,
+pub(crate) fn on_board<J: Naming, M: Publisher<J>, R: Abort + Threads>(
+    rt: &R,
     alloc: Global,
-    parts: BoardParts<J, M>,
+    board: Board<J, M>,
+    shares: Vec<Share<J>>,
     readers: Vec<MapReader<J>>,
-)
-    requires limit { J.limit ≡ LIMIT }
-{
-    let mut readers = readers;
-    let (mut board, mut shares) = board_of(rt, alloc, parts, LIMIT, RANKS);
+) {
+    let (mut board, mut shares, mut readers) = (board, shares, readers);
     let Some(reader) = readers.first_mut() else {
         panic!(rt; "no reader");
     };
@@ -435,26 +466,7 @@ fn on_parts<J: Naming, M: Publisher<J>>(
     board.end();
 }
 
-fn changed<J: Naming, R: Wait + Drop>(
-    rt: &impl Abort,
-    waits: R,
-    alloc: Global,
-    book: heat_ledger::NewBook,
-    map: authority_map::NewMap,
-)
-    requires book { book ≡ J.ledger }
-    requires map { map ≡ J.map }
-    requires limit { J.limit ≡ LIMIT }
-{
-    match MapWriter::<J, R>::open(waits, alloc, map, LIMIT, 1) {
-        Ok((writer, readers)) => on_parts(rt, alloc, BoardParts::new(book, writer), readers),
-        Err(_) => panic!(rt; "no map"),
-    }
-}
-
 #[test]
 fn a_plain_board_answers_the_same(rt: HostRuntime) {
-    let book = heat_ledger::NewBook::new(rt.alloc()).sure(&rt);
-    let map = authority_map::NewMap::new();
-    changed::<Brand, _>(&rt, &rt, rt.alloc(), book, map)
+    try_case(&rt, Case::Random)
 }

@@ -1,7 +1,7 @@
 //! Changes of a board while a growth is refused.
 //!
 //! With `rt try --test --fail-alloc N`, the N-th growth is refused.
-ghost use Rattle.std.specs.Prelude.{◌≡◌, IfOk, true};
+ghost use Rattle.std.specs.Prelude.{◌≡◌, ◌≤◌, IfOk, true};
 ghost use Rattle.board_state.specs.Steps.{is_inner};
 
 use crate::adopting::plan;
@@ -148,6 +148,12 @@ fn event(alloc: Global, step: Step) -> Result<Event, AllocError>
     })
 }
 
+/// Whether the change was made, whatever it gives.
+fn done<T: Drop>(answer: Result<T, BoardError>) -> Result<(), BoardError> {
+    let _given = answer?;
+    Ok(())
+}
+
 /// Makes one of the changes of the tree and the settings.
 fn set<J: Naming, M: Publisher<J>>(
     alloc: Global,
@@ -155,7 +161,7 @@ fn set<J: Naming, M: Publisher<J>>(
     change: Do,
 ) -> Result<(), BoardError> {
     match change {
-        Do::Make(parent, name) => board.make(alloc, Dir::new(parent), name, 10).map(|_| ()),
+        Do::Make(parent, name) => done(board.make(alloc, Dir::new(parent), name, 10)),
         Do::Remove(dir) => board.remove(Dir::new(dir)),
         Do::Pin(dir, pin) => board.set_pin(Dir::new(dir), pin),
         Do::Mask(bits) => board.set_mask(RankSet::from_bits(bits)),
@@ -177,7 +183,7 @@ fn count<J: Naming, M: Publisher<J>>(
             Ok(())
         }
         Do::Deposit => board.deposit(alloc, share),
-        Do::Begin(at, dir) => board.begin(share, rank(at), Dir::new(dir)).map(|_| ()),
+        Do::Begin(at, dir) => done(board.begin(share, rank(at), Dir::new(dir))),
         _ => Ok(()),
     }
 }
@@ -190,16 +196,14 @@ fn go_on<J: Naming, M: Publisher<J>>(
     change: Do,
 ) -> Result<(), BoardError> {
     match change {
-        Do::Open => board.open_problem(alloc).map(|_| ()),
-        Do::Adopt => board.adopt(alloc, plan_at_last(alloc).sure(rt)).map(|_| ()),
+        Do::Open => done(board.open_problem(alloc)),
+        Do::Adopt => done(board.adopt(alloc, plan_at_last(alloc).sure(rt))),
         Do::Publish => if board.publish() {
             Ok(())
         } else {
             Err(BoardError::Memory)
         },
-        Do::Step(step) => board
-            .step(alloc, event(alloc, step).expect(rt, "it failed"))
-            .map(|_| ()),
+        Do::Step(step) => { done(board.step(alloc, event(alloc, step).expect(rt, "it failed"))) }
         _ => Ok(()),
     }
 }
@@ -279,7 +283,7 @@ pub(crate) fn on_board<J: Naming, M: Publisher<J>>(
     shares: Vec<Share<J>>,
     readers: Vec<MapReader<J>>,
 )
-    requires limit { J.limit ≡ 8 }
+    requires limit { 8 ≤ J.limit }
 {
     let mut board = board;
     let mut shares = shares;

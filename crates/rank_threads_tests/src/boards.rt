@@ -1,9 +1,6 @@
 //! Boards of several ranks, and phases on them.
-ghost use Rattle.std.specs.Prelude.{◌≡◌, ◌≤◌};
-
 use crate::gates::JitterGate;
-use authority_map::{MapWriter, Publisher};
-use board_state::BoardParts;
+use authority_map::Publisher;
 use heat_ledger::Share;
 use mds_board::{Board, Shown};
 use mds_types::{Dir, Dirs, Order, Rank};
@@ -37,62 +34,6 @@ pub(crate) fn orders(alloc: Global, rows: &[(u8, u8, u32)]) -> Result<Vec<Order>
 /// What became of an order whose export is done.
 pub(crate) fn done(export: u32) -> OrderOutcome {
     OrderOutcome::TakenUp(Outcome::Done(export))
-}
-
-fn make<J: Naming, M: Publisher<J>>(
-    alloc: Global,
-    board: &mut Board<J, M>,
-    dirs: u32,
-) -> Result<(), AllocError> {
-    for number in 0..dirs {
-        let name = format!(in alloc; "d{number}")?;
-        if board.make(alloc, Dir::ROOT, name.as_str(), 1).is_err() {
-            return Err(AllocError);
-        }
-    }
-    Ok(())
-}
-
-// The board with directories from 1 on below the root, so many.
-fn filled<J: Naming, M: Publisher<J>>(
-    alloc: Global,
-    board: Board<J, M>,
-    shares: Vec<Share<J>>,
-    dirs: u32,
-) -> Result<(Board<J, M>, Vec<Share<J>>), AllocError> {
-    let mut board = board;
-    if make(alloc, &mut board, dirs).is_err() {
-        board.end();
-        return Err(AllocError);
-    }
-    Ok((board, shares))
-}
-
-/// A board of so many ranks with directories from 1 on below the root, so many, and the share of each rank. What a test
-/// does with it stands in functions that don't name its map's type, as those that do take long to prove.
-pub(crate) fn open<'r, J: Naming, R: Wait>(
-    rt: &'r R,
-    alloc: Global,
-    names: (heat_ledger::NewBook, authority_map::NewMap),
-    ranks: u8,
-    dirs: u32,
-) -> Result<(Board<J, MapWriter<J, &'r R>>, Vec<Share<J>>), AllocError>
-    requires book { names.0 ≡ J.ledger }
-    requires map { names.1 ≡ J.map }
-    requires limit { J.limit ≡ 128 }
-    requires ranks { (1 ≤ ranks) × (ranks ≤ 64) }
-{
-    let (book, map) = names;
-    let Ok((writer, _readers)) = MapWriter::<J, &'r R>::open(rt, alloc, map, 128, 1) else {
-        return Err(AllocError);
-    };
-    match Board::new(alloc, BoardParts::new(book, writer), 128, ranks) {
-        Ok((board, shares)) => filled(alloc, board, shares, dirs),
-        Err(parts) => {
-            parts.end();
-            Err(AllocError)
-        }
-    }
 }
 
 // Adds the answers of all ranks, as far as there is room.

@@ -1,38 +1,37 @@
 //! Orders of three ranks, and what they leave on the board.
-ghost use Rattle.std.specs.Prelude.{◌≡◌};
-
-use crate::boards::{authorities, done, open, orders, rank};
+use crate::boards::{authorities, done, orders, rank};
 use crate::gates::JitterGate;
-use crate::requests::names;
 use crate::same::{Sure, same};
+use crate::trials::{Trial, try_often};
 use authority_map::Publisher;
 use board_state::BoardError;
 use export_machine::{Event, StepError};
 use mds_board::Board;
-use mds_types::Rank;
 use naming::Naming;
 use rank_threads::{OrderOutcome, Outcome, WorkError, export_phase};
 use std::alloc::Global;
-use std::marker::{Brand, Send, Sync};
+use std::marker::{Send, Sync};
 use std::process::Abort;
 use std::sync::Wait;
 use std::thread::Threads;
 
-// What three phases told, and who has /a and /b then.
-#[derive(Drop)]
-struct Seen {
-    there: Vec<OrderOutcome>,
-    back: Vec<OrderOutcome>,
-    late: Vec<OrderOutcome>,
-    authorities: (Option<Rank>, Option<Rank>),
+// What became of orders when rank 2 had stopped: no rank has the number 3, and the export to rank 2 is aborted.
+fn late_are(rt: &impl Abort, outcomes: &[OrderOutcome]) {
+    let late = [
+        OrderOutcome::TakenUp(Outcome::Refused(BoardError::Step(StepError::NoRank))),
+        done(4),
+        OrderOutcome::TakenUp(Outcome::Aborted(5)),
+    ];
+    same(rt, &outcomes, &late.as_slice());
 }
 
-// Directories go there and back, and there again when rank 2 has stopped.
-fn go_and_come<J: Naming + Send + Sync, M: Publisher<J> + Send, R: Abort + Threads + Wait + Sync>(
-    rt: &R,
-    alloc: Global,
-    board: Board<J, M>,
-) -> Seen {
+/// Directories go there and back, and there again when rank 2 has stopped. What one rank gives has the numbers in the
+/// order of its orders, and what two ranks give at once is done too.
+pub(crate) fn go_and_come<
+    J: Naming + Send + Sync,
+    M: Publisher<J> + Send,
+    R: Abort + Threads + Wait + Sync,
+>(rt: &R, alloc: Global, board: Board<J, M>) {
     let there = orders(alloc, &[(0, 1, 1), (0, 2, 2)]).sure(rt);
     let back = orders(alloc, &[(1, 0, 1), (2, 0, 2)]).sure(rt);
     let late = orders(alloc, &[(3, 0, 1), (0, 1, 1), (0, 2, 2)]).sure(rt);
@@ -43,49 +42,23 @@ fn go_and_come<J: Naming + Send + Sync, M: Publisher<J> + Send, R: Abort + Threa
     let authorities = authorities(&board);
     board.end();
     assert!(rt; stopped);
-    Seen {
-        there: there.sure(rt),
-        back: back.sure(rt),
-        late: late.sure(rt),
-        authorities,
-    }
+    same(
+        rt,
+        &there.sure(rt).as_slice(),
+        &[done(0), done(1)].as_slice(),
+    );
+    let back = back.sure(rt);
+    assert!(rt;
+        back.as_slice() == [done(2), done(3)].as_slice()
+            || back.as_slice() == [done(3), done(2)].as_slice()
+    );
+    late_are(rt, &late.sure(rt));
+    same(rt, &authorities, &(Some(rank(1)), Some(rank(0))));
 }
 
-fn carry_out<J: Naming + Send + Sync, R: Abort + Threads + Wait + Sync>(
-    rt: &R,
-    alloc: Global,
-    names: (heat_ledger::NewBook, authority_map::NewMap),
-) -> Seen
-    requires book { names.0 ≡ J.ledger }
-    requires map { names.1 ≡ J.map }
-    requires limit { J.limit ≡ 128 }
-{
-    let (board, _shares) = open::<J, R>(rt, alloc, names, 3, 2).sure(rt);
-    go_and_come(rt, alloc, board)
-}
-
-// Whatever the schedule: what one rank gives has the numbers in the order of its orders, and what two ranks give at
-// once is done too. An export to a stopped rank is aborted.
 #[test]
 fn ranks_carry_out_orders(rt: HostRuntime) {
-    for _ in 0..100u32 {
-        let given = names(rt.alloc()).sure(&rt);
-        let seen = carry_out::<Brand, _>(&rt, rt.alloc(), given);
-        let there = [done(0), done(1)];
-        same(&rt, &seen.there.as_slice(), &there.as_slice());
-        let back = [done(2), done(3)];
-        let crossed = [done(3), done(2)];
-        assert!(rt;
-            seen.back.as_slice() == back.as_slice() || seen.back.as_slice() == crossed.as_slice()
-        );
-        let late = [
-            OrderOutcome::TakenUp(Outcome::Refused(BoardError::Step(StepError::NoRank))),
-            done(4),
-            OrderOutcome::TakenUp(Outcome::Aborted(5)),
-        ];
-        same(&rt, &seen.late.as_slice(), &late.as_slice());
-        same(&rt, &seen.authorities, &(Some(rank(1)), Some(rank(0))));
-    }
+    try_often(&rt, Trial::Orders, 100)
 }
 
 // What is printed where a rank has no thread.

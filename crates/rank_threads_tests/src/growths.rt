@@ -1,9 +1,10 @@
 //! Phases that find no memory at one of their growths.
 ghost use Rattle.std.specs.Prelude.{◌≡◌};
 
-use crate::boards::{authorities, open, orders, rank, running};
-use crate::requests::{names, refused, scripts, work};
+use crate::boards::{authorities, orders, rank, running};
+use crate::requests::{refused, scripts, work};
 use crate::same::{Sure, holds_in, same};
+use crate::trials::{Trial, try_once};
 use authority_map::Publisher;
 use board_state::BoardError;
 use export_machine::StepError;
@@ -15,7 +16,8 @@ use rank_threads::{
     OpenGate, OrderOutcome, Outcome, Ranks, Work, WorkAnswer, WorkError, export_phase, serve_phase,
 };
 use std::alloc::{AllocError, Global};
-use std::marker::{Brand, Send, Sync};
+use std::marker::{Send, Sync};
+use std::process::Abort;
 use std::sync::Wait;
 use std::thread::Threads;
 
@@ -55,21 +57,6 @@ fn serve_at_last<J: Naming + Send + Sync, M: Publisher<J> + Send, R: Threads + W
     (board, done.ok(), unchanged)
 }
 
-// What two ranks answered, and what they left.
-#[derive(Drop)]
-struct Served {
-    // Whether a phase that was refused left board and shares as they were.
-    unchanged: bool,
-    // Rank 0's and then rank 1's.
-    answers: Vec<Vec<WorkAnswer>>,
-    // Requests without their end.
-    running: u32,
-    // Hits on directory 1 that the shares count, those that wait for a deposit, and those that the board counts.
-    hits: u64,
-    pending: u64,
-    heat: u64,
-}
-
 // Hits on directory 1 that shares count, and those that wait for a deposit.
 fn counted<J: Naming>(shares: &[Share<J>]) -> (u64, u64) {
     let mut hits: u64 = 0;
@@ -81,94 +68,72 @@ fn counted<J: Naming>(shares: &[Share<J>]) -> (u64, u64) {
     (hits, pending)
 }
 
-fn serve_on<J: Naming + Send + Sync, M: Publisher<J> + Send, R: Threads + Wait + Sync>(
-    rt: &R,
-    alloc: Global,
-    board: Board<J, M>,
-    shares: Vec<Share<J>>,
-    scripts: &[Vec<Work>],
-) -> Result<Served, AllocError>
-    requires limit { J.limit ≡ 128 }
-{
-    let (board, done, unchanged) = serve_at_last(rt, alloc, board, scripts, shares);
-    let running = running(&board);
-    let heat = board.heat().heat(Dir::new(1));
-    board.end();
-    let Some(ranks) = done else {
-        return Err(AllocError);
-    };
-    let (hits, pending) = counted(&ranks.shares);
-    Ok(Served {
-        unchanged,
-        answers: ranks.answers,
-        running,
-        hits,
-        pending,
-        heat,
-    })
-}
-
-fn serve<J: Naming + Send + Sync, R: Threads + Wait + Sync>(
-    rt: &R,
-    alloc: Global,
-    names: (heat_ledger::NewBook, authority_map::NewMap),
-) -> Result<Served, AllocError>
-    requires book { names.0 ≡ J.ledger }
-    requires map { names.1 ≡ J.map }
-    requires limit { J.limit ≡ 128 }
-{
-    let scripts = scripts(alloc, &[work(1, 3), work(1, 4)], &[work(7, 2)])?;
-    let (board, shares) = open::<J, R>(rt, alloc, names, 2, 1)?;
-    serve_on(rt, alloc, board, shares, &scripts)
-}
-
-fn serve_named<R: Threads + Wait + Sync>(rt: &R, alloc: Global) -> Result<Served, AllocError> {
-    let given = names(alloc)?;
-    serve::<Brand, R>(rt, alloc, given)
-}
-
 // Whether the answer is that of a request that found no memory.
 fn is_memory(answer: &WorkAnswer) -> bool {
     *answer == WorkAnswer::refused(WorkError::Board(BoardError::Memory))
 }
 
-// One growth at most is refused: a request finds no memory, or a deposit does. An end that finds none is tried again.
-#[test]
-fn a_refused_growth_of_answers_changes_nothing(rt: HostRuntime) {
-    let seen = match serve_named(&rt, rt.alloc()) {
-        Ok(seen) => seen,
-        Err(_) => serve_named(&rt, rt.alloc()).sure(&rt),
-    };
-    assert!(rt; seen.unchanged);
-    same(&rt, &seen.running, &0);
+// Of the answers to two requests on directory 1 and one on none: the hits that were served. One at most found no memory.
+fn served_hits(rt: &impl Abort, answers: &[Vec<WorkAnswer>]) -> u64 {
     let mut hits: u64 = 0;
     let mut refusals: u32 = 0;
-    for (answers, wanted) in seen.answers.iter().zip([[3, 4], [0, 0]]) {
+    for (answers, wanted) in answers.iter().zip([[3, 4], [0, 0]]) {
         for (answer, all) in answers.iter().zip(wanted) {
             if is_memory(answer) {
                 refusals = refusals.wrapping_add(1);
             } else if all > 0 {
-                same(&rt, &(answer.hits, answer.refused), &(all, None));
+                same(rt, &(answer.hits, answer.refused), &(all, None));
                 hits = hits.wrapping_add(u64::from(all));
             } else {
-                same(&rt, answer, &refused(StepError::NoDir));
+                same(rt, answer, &refused(StepError::NoDir));
             }
         }
     }
     assert!(rt; refusals <= 1);
-    same(&rt, &seen.hits, &hits);
-    same(&rt, &seen.heat.wrapping_add(seen.pending), &hits);
+    hits
 }
 
-// What became of two orders, and what they left.
-#[derive(Drop)]
-struct Moved {
-    // Whether a phase that was refused left the board as it was.
-    unchanged: bool,
-    outcomes: Vec<OrderOutcome>,
-    // Who has directories 1 and 2 after it, and after one more phase.
-    authorities: (Option<Rank>, Option<Rank>),
-    later: (Option<Rank>, Option<Rank>),
+/// One growth at most is refused: a request finds no memory, or a deposit does. An end that finds none is tried again.
+/// A phase that was refused has left board and shares as they were.
+pub(crate) fn serve_on<
+    J: Naming + Send + Sync,
+    M: Publisher<J> + Send,
+    R: Abort + Threads + Wait + Sync,
+>(rt: &R, alloc: Global, board: Board<J, M>, shares: Vec<Share<J>>) -> Result<(), AllocError>
+    requires limit { J.limit ≡ 128 }
+{
+    let scripts = match scripts(alloc, &[work(1, 3), work(1, 4)], &[work(7, 2)]) {
+        Ok(scripts) => scripts,
+        Err(AllocError) => {
+            board.end();
+            return Err(AllocError);
+        }
+    };
+    let (board, done, unchanged) = serve_at_last(rt, alloc, board, &scripts, shares);
+    let (running, heat) = (running(&board), board.heat().heat(Dir::new(1)));
+    board.end();
+    let Some(ranks) = done else {
+        return Err(AllocError);
+    };
+    assert!(rt; unchanged);
+    same(rt, &running, &0);
+    let served = served_hits(rt, &ranks.answers);
+    let (hits, pending) = counted(&ranks.shares);
+    same(rt, &hits, &served);
+    same(rt, &heat.wrapping_add(pending), &served);
+    Ok(())
+}
+
+// Tries it, and again where there was no memory to begin with.
+fn try_at_last<R: Abort + AllocGlobal + Threads + Wait + Sync>(rt: &R, trial: Trial) {
+    if try_once(rt, trial).is_err() {
+        try_once(rt, trial).sure(rt);
+    }
+}
+
+#[test]
+fn a_refused_growth_of_answers_changes_nothing(rt: HostRuntime) {
+    try_at_last(&rt, Trial::GrowthOfAnswers)
 }
 
 // Carries out orders, again where there was no memory for the outcomes, and says whether that changed nothing.
@@ -188,47 +153,6 @@ fn carry_out_at_last<J: Naming + Send + Sync, M: Publisher<J> + Send, R: Threads
     (board, done.ok(), unchanged)
 }
 
-fn move_on<J: Naming + Send + Sync, M: Publisher<J> + Send, R: Threads + Wait + Sync>(
-    rt: &R,
-    alloc: Global,
-    board: Board<J, M>,
-    orders: &[Order],
-) -> Result<Moved, AllocError> {
-    let (board, done, unchanged) = carry_out_at_last(rt, alloc, board, orders);
-    let first = authorities(&board);
-    let (board, _none, _unchanged) = carry_out_at_last(rt, alloc, board, &[]);
-    let later = authorities(&board);
-    board.end();
-    let Some(outcomes) = done else {
-        return Err(AllocError);
-    };
-    Ok(Moved {
-        unchanged,
-        outcomes,
-        authorities: first,
-        later,
-    })
-}
-
-fn carry_out<J: Naming + Send + Sync, R: Threads + Wait + Sync>(
-    rt: &R,
-    alloc: Global,
-    names: (heat_ledger::NewBook, authority_map::NewMap),
-) -> Result<Moved, AllocError>
-    requires book { names.0 ≡ J.ledger }
-    requires map { names.1 ≡ J.map }
-    requires limit { J.limit ≡ 128 }
-{
-    let orders = orders(alloc, &[(0, 1, 1), (0, 2, 2)])?;
-    let (board, _shares) = open::<J, R>(rt, alloc, names, 3, 2)?;
-    move_on(rt, alloc, board, &orders)
-}
-
-fn carry_out_named<R: Threads + Wait + Sync>(rt: &R, alloc: Global) -> Result<Moved, AllocError> {
-    let given = names(alloc)?;
-    carry_out::<Brand, R>(rt, alloc, given)
-}
-
 // Whether an order's directory is where its outcome says, or where an open export may have it, and there a phase later.
 fn stands(outcome: &OrderOutcome, to: u8, first: Option<Rank>, later: Option<Rank>) -> bool {
     let OrderOutcome::TakenUp(outcome) = outcome else {
@@ -244,25 +168,38 @@ fn stands(outcome: &OrderOutcome, to: u8, first: Option<Rank>, later: Option<Ran
     }
 }
 
-// One growth at most is refused: an order, or a step of its export, finds no memory.
-#[test]
-fn a_refused_growth_of_outcomes_changes_nothing(rt: HostRuntime) {
-    let seen = match carry_out_named(&rt, rt.alloc()) {
-        Ok(seen) => seen,
-        Err(_) => carry_out_named(&rt, rt.alloc()).sure(&rt),
+/// One growth at most is refused: an order, or a step of its export, finds no memory. A phase that was refused has left
+/// the board as it was.
+pub(crate) fn move_on<
+    J: Naming + Send + Sync,
+    M: Publisher<J> + Send,
+    R: Abort + Threads + Wait + Sync,
+>(rt: &R, alloc: Global, board: Board<J, M>) -> Result<(), AllocError> {
+    let orders = match orders(alloc, &[(0, 1, 1), (0, 2, 2)]) {
+        Ok(orders) => orders,
+        Err(AllocError) => {
+            board.end();
+            return Err(AllocError);
+        }
     };
-    let Moved {
-        unchanged,
-        outcomes,
-        authorities,
-        later,
-    } = seen;
-    let (first_one, first_two) = authorities;
-    let (later_one, later_two) = later;
+    let (board, outcomes, unchanged) = carry_out_at_last(rt, alloc, board, &orders);
+    let (first_one, first_two) = authorities(&board);
+    let (board, _none, _unchanged) = carry_out_at_last(rt, alloc, board, &[]);
+    let (later_one, later_two) = authorities(&board);
+    board.end();
+    let Some(outcomes) = outcomes else {
+        return Err(AllocError);
+    };
     assert!(rt; unchanged);
-    same(&rt, &outcomes.len(), &2);
+    same(rt, &outcomes.len(), &2);
     let stood = [(1, first_one, later_one), (2, first_two, later_two)];
     for (outcome, (to, first, later)) in outcomes.iter().zip(stood) {
-        holds_in(&rt, stands(outcome, to, first, later), &to);
+        holds_in(rt, stands(outcome, to, first, later), &to);
     }
+    Ok(())
+}
+
+#[test]
+fn a_refused_growth_of_outcomes_changes_nothing(rt: HostRuntime) {
+    try_at_last(&rt, Trial::GrowthOfOutcomes)
 }

@@ -23,4 +23,6 @@ mod same;
 #[cfg(test)]
 mod threads;
 #[cfg(test)]
+mod trials;
+#[cfg(test)]
 mod whole;

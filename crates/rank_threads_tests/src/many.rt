@@ -1,18 +1,19 @@
 //! Many requests of 64 ranks.
 ghost use Rattle.std.specs.Prelude.{◌≡◌};
 
-use crate::boards::{open, orders, running, serve};
+use crate::boards::{orders, running, serve};
 use crate::gates::JitterGate;
-use crate::requests::{names, work};
+use crate::requests::work;
 use crate::same::{Sure, same, same_in};
+use crate::trials::{Trial, try_often};
 use authority_map::Publisher;
 use heat_ledger::Share;
 use mds_board::Board;
-use mds_types::Dir;
+use mds_types::{Dir, Order};
 use naming::Naming;
 use rank_threads::{Work, WorkAnswer, export_phase};
 use std::alloc::{AllocError, Global};
-use std::marker::{Brand, Send, Sync};
+use std::marker::{Send, Sync};
 use std::process::Abort;
 use std::sync::Wait;
 use std::thread::Threads;
@@ -44,75 +45,52 @@ fn scripts(alloc: Global) -> Result<Vec<Vec<Work>>, AllocError> {
     Ok(scripts)
 }
 
-// The answers, how hot each rank's directory is then, and how many requests still run.
-#[derive(Drop)]
-struct Seen {
-    answers: Vec<WorkAnswer>,
-    heats: Vec<u64>,
-    running: u32,
-}
-
-// Rank k serves its requests when it has directory k.
-fn serve_on<J: Naming + Send + Sync, M: Publisher<J> + Send, R: Abort + Threads + Wait + Sync>(
-    rt: &R,
-    alloc: Global,
-    board: Board<J, M>,
-    shares: Vec<Share<J>>,
-) -> Seen
-    requires limit { J.limit ≡ 128 }
-{
+// Rank k gets directory k, for each rank but 0.
+fn spread(alloc: Global) -> Result<Vec<Order>, AllocError> {
     let mut rows = Vec::new(alloc);
     for rank in 1..RANKS {
-        rows.push((0, rank, u32::from(rank))).sure(rt);
+        rows.push((0, rank, u32::from(rank)))?;
     }
-    let orders = orders(alloc, &rows).sure(rt);
+    orders(alloc, &rows)
+}
+
+// Each request was served whole with a ticket of its own.
+fn are_served(rt: &impl Abort, alloc: Global, answers: &[WorkAnswer]) {
+    let mut tickets = Vec::new(alloc);
+    for answer in answers {
+        same(rt, &(answer.hits, answer.refused), &(HITS, None));
+        tickets.push(answer.ticket).sure(rt);
+    }
+    tickets.sort_unstable();
+    same(rt, &tickets.len(), &(REQUESTS as usize));
+    for (number, ticket) in (0..REQUESTS).zip(tickets.iter()) {
+        same(rt, ticket, &Some(number));
+    }
+}
+
+/// Rank k serves its requests when it has directory k. Each is served, and has ended.
+pub(crate) fn serve_on<
+    J: Naming + Send + Sync,
+    M: Publisher<J> + Send,
+    R: Abort + Threads + Wait + Sync,
+>(rt: &R, alloc: Global, board: Board<J, M>, shares: Vec<Share<J>>)
+    requires limit { J.limit ≡ 128 }
+{
+    let orders = spread(alloc).sure(rt);
     let scripts = scripts(alloc).sure(rt);
     let mut answers = Vec::with_capacity(alloc, REQUESTS as usize).sure(rt);
-    let mut heats = Vec::with_capacity(alloc, RANKS as usize).sure(rt);
     let (board, _outcomes) = export_phase(rt, alloc, board, &JitterGate, &orders);
     let (board, _shares) = serve(rt, alloc, board, &scripts, shares, &mut answers);
     for rank in 0..RANKS {
-        let _ = heats.push(board.heat().heat(Dir::new(u32::from(rank))));
+        let heat = board.heat().heat(Dir::new(u32::from(rank)));
+        same_in(rt, &heat, &(u64::from(share_of(rank)) * 3), &rank);
     }
-    let running = running(&board);
+    same(rt, &running(&board), &0);
     board.end();
-    Seen {
-        answers,
-        heats,
-        running,
-    }
+    are_served(rt, alloc, &answers);
 }
 
-fn serve_many<J: Naming + Send + Sync, R: Abort + Threads + Wait + Sync>(
-    rt: &R,
-    alloc: Global,
-    names: (heat_ledger::NewBook, authority_map::NewMap),
-) -> Seen
-    requires book { names.0 ≡ J.ledger }
-    requires map { names.1 ≡ J.map }
-    requires limit { J.limit ≡ 128 }
-{
-    let (board, shares) = open::<J, R>(rt, alloc, names, RANKS, 63).sure(rt);
-    serve_on(rt, alloc, board, shares)
-}
-
-// Each request is served whole with a ticket of its own, and each has ended.
 #[test]
 fn many_requests_are_served(rt: HostRuntime) {
-    let given = names(rt.alloc()).sure(&rt);
-    let seen = serve_many::<Brand, _>(&rt, rt.alloc(), given);
-    let mut tickets = Vec::new(rt.alloc());
-    for answer in seen.answers.iter() {
-        same(&rt, &(answer.hits, answer.refused), &(HITS, None));
-        tickets.push(answer.ticket).sure(&rt);
-    }
-    tickets.sort_unstable();
-    same(&rt, &tickets.len(), &(REQUESTS as usize));
-    for (number, ticket) in (0..REQUESTS).zip(tickets.iter()) {
-        same(&rt, ticket, &Some(number));
-    }
-    for (rank, heat) in (0..RANKS).zip(seen.heats.iter()) {
-        same_in(&rt, heat, &(u64::from(share_of(rank)) * 3), &rank);
-    }
-    same(&rt, &seen.running, &0);
+    try_often(&rt, Trial::ManyRequests, 1)
 }

@@ -1,9 +1,10 @@
 //! Requests of two ranks, and what they leave on the board.
 ghost use Rattle.std.specs.Prelude.{◌≡◌, IfOk, vec_len};
 
-use crate::boards::{open, serve_all};
+use crate::boards::serve_all;
 use crate::gates::{JitterGate, MeetingGate};
 use crate::same::{Sure, same};
+use crate::trials::{Trial, try_often};
 use authority_map::Publisher;
 use board_state::BoardError;
 use export_machine::{Event, StepError};
@@ -13,7 +14,7 @@ use mds_types::{Dir, Rank};
 use naming::Naming;
 use rank_threads::{Gate, Work, WorkAnswer, WorkError};
 use std::alloc::{AllocError, Global};
-use std::marker::{Brand, Send, Sync};
+use std::marker::{Send, Sync};
 use std::process::Abort;
 use std::sync::Wait;
 use std::thread::Threads;
@@ -112,78 +113,73 @@ fn serve_two<
     }
 }
 
-fn serve<J: Naming + Send + Sync, R: Abort + Threads + Wait + Sync, G: Gate + Sync>(
-    rt: &R,
-    alloc: Global,
-    names: (heat_ledger::NewBook, authority_map::NewMap),
-    gate: &G,
-    scripts: &[Vec<Work>],
-    stopped: Option<Rank>,
-) -> Seen
-    requires book { names.0 ≡ J.ledger }
-    requires map { names.1 ≡ J.map }
+/// Whatever the schedule: rank 0 serves /a, which rank 1 doesn't, and nobody serves a directory that isn't there.
+pub(crate) fn serve_with_jitter<
+    J: Naming + Send + Sync,
+    M: Publisher<J> + Send,
+    R: Abort + Threads + Wait + Sync,
+>(rt: &R, alloc: Global, board: Board<J, M>, shares: Vec<Share<J>>)
     requires limit { J.limit ≡ 128 }
 {
-    let (board, shares) = open::<J, R>(rt, alloc, names, 2, 1).sure(rt);
-    serve_two(rt, alloc, board, shares, gate, scripts, stopped)
+    let one = [work(0, 3), work(1, 5), work(7, 1)];
+    let all = scripts(alloc, &one, &[work(1, 2), work(7, 2)]).sure(rt);
+    let seen = serve_two(rt, alloc, board, shares, &JitterGate, &all, None);
+    let no_dir = refused(StepError::NoDir);
+    same(
+        rt,
+        &seen.first.as_slice(),
+        &[served(0, 3), served(1, 5), no_dir].as_slice(),
+    );
+    same(
+        rt,
+        &seen.second.as_slice(),
+        &[elsewhere(rt), no_dir].as_slice(),
+    );
+    same(rt, &(seen.heat, seen.entries), &(5, 7));
 }
 
-pub(crate) fn names(
-    alloc: Global,
-) -> Result<(heat_ledger::NewBook, authority_map::NewMap), AllocError> {
-    Ok((
-        heat_ledger::NewBook::new(alloc)?,
-        authority_map::NewMap::new(),
-    ))
-}
-
-// Whatever the schedule: rank 0 serves /a, which rank 1 doesn't, and nobody serves a directory that isn't there.
 #[test]
 fn ranks_answer_their_requests(rt: HostRuntime) {
-    let all = scripts(
-        rt.alloc(),
-        &[work(0, 3), work(1, 5), work(7, 1)],
-        &[work(1, 2), work(7, 2)],
-    )
-    .expect(&rt, "it failed");
-    for _ in 0..100u32 {
-        let given = names(rt.alloc()).sure(&rt);
-        let seen = serve::<Brand, _, _>(&rt, rt.alloc(), given, &JitterGate, &all, None);
-        same(
-            &rt,
-            &seen.first.as_slice(),
-            &[served(0, 3), served(1, 5), refused(StepError::NoDir)].as_slice(),
-        );
-        same(
-            &rt,
-            &seen.second.as_slice(),
-            &[elsewhere(&rt), refused(StepError::NoDir)].as_slice(),
-        );
-        same(&rt, &seen.heat, &5);
-        same(&rt, &seen.entries, &7);
-    }
+    try_often(&rt, Trial::Requests, 100)
 }
 
-// The requests of a stopped rank are refused, and end nowhere.
+/// The requests of a stopped rank are refused, and end nowhere.
+pub(crate) fn serve_stopped<
+    J: Naming + Send + Sync,
+    M: Publisher<J> + Send,
+    R: Abort + Threads + Wait + Sync,
+>(rt: &R, alloc: Global, board: Board<J, M>, shares: Vec<Share<J>>)
+    requires limit { J.limit ≡ 128 }
+{
+    let all = scripts(alloc, &[work(1, 5)], &[work(1, 2)]).sure(rt);
+    let stop = rank(rt, 0);
+    let seen = serve_two(rt, alloc, board, shares, &JitterGate, &all, Some(stop));
+    let stopped = refused(StepError::Stopped(stop));
+    same(rt, &seen.first.as_slice(), &[stopped].as_slice());
+    same(rt, &(seen.heat, seen.entries), &(0, 4));
+}
+
 #[test]
 fn a_stopped_rank_refuses(rt: HostRuntime) {
-    let all = scripts(rt.alloc(), &[work(1, 5)], &[work(1, 2)]).expect(&rt, "it failed");
-    let given = names(rt.alloc()).sure(&rt);
-    let stop = Some(rank(&rt, 0));
-    let seen = serve::<Brand, _, _>(&rt, rt.alloc(), given, &JitterGate, &all, stop);
-    let stopped = refused(StepError::Stopped(rank(&rt, 0)));
-    same(&rt, &seen.first.as_slice(), &[stopped].as_slice());
-    same(&rt, &seen.heat, &0);
-    same(&rt, &seen.entries, &4);
+    try_often(&rt, Trial::StoppedRank, 1)
 }
 
-// Both ranks are inside a request at once: neither runs after the other, nor holds the lock between begin and end.
+/// Both ranks are inside a request at once: neither runs after the other, nor holds the lock between begin and end.
+pub(crate) fn meet<
+    J: Naming + Send + Sync,
+    M: Publisher<J> + Send,
+    R: Abort + Threads + Wait + Sync,
+>(rt: &R, alloc: Global, board: Board<J, M>, shares: Vec<Share<J>>)
+    requires limit { J.limit ≡ 128 }
+{
+    let all = scripts(alloc, &[work(1, 5)], &[work(1, 2)]).sure(rt);
+    let gate = MeetingGate::new();
+    let seen = serve_two(rt, alloc, board, shares, &gate, &all, None);
+    same(rt, &gate.met(), &2);
+    same(rt, &seen.heat, &5);
+}
+
 #[test]
 fn requests_of_two_ranks_meet(rt: HostRuntime) {
-    let all = scripts(rt.alloc(), &[work(1, 5)], &[work(1, 2)]).expect(&rt, "it failed");
-    let gate = MeetingGate::new();
-    let given = names(rt.alloc()).sure(&rt);
-    let seen = serve::<Brand, _, _>(&rt, rt.alloc(), given, &gate, &all, None);
-    same(&rt, &gate.met(), &2);
-    same(&rt, &seen.heat, &5);
+    try_often(&rt, Trial::Meeting, 1)
 }

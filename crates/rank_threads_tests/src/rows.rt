@@ -1,10 +1,9 @@
 //! Requests of two ranks on a directory that moves, and past stops.
-ghost use Rattle.std.specs.Prelude.{◌≡◌};
-
-use crate::boards::{open, orders, rank, serve};
+use crate::boards::{orders, rank, serve};
 use crate::gates::JitterGate;
-use crate::requests::{names, refused, scripts, served, work};
-use crate::same::{Sure, same};
+use crate::requests::{refused, scripts, served, work};
+use crate::same::{Sure, same, same_in};
+use crate::trials::{Trial, try_often};
 use authority_map::Publisher;
 use export_machine::{Event, StepError};
 use heat_ledger::Share;
@@ -12,22 +11,43 @@ use mds_board::Board;
 use naming::Naming;
 use rank_threads::{Work, WorkAnswer, export_phase};
 use std::alloc::Global;
-use std::marker::{Brand, Send, Sync};
+use std::marker::{Send, Sync};
 use std::process::Abort;
 use std::sync::Wait;
 use std::thread::Threads;
 
-// What is done to a board of two ranks with directory 1.
+/// What is done to a board of two ranks with directory 1.
 #[derive(Clone, Copy)]
-enum Do {
-    // Each rank serves a request of two hits on the directory.
+pub(crate) enum Do {
+    /// Each rank serves a request of two hits on the directory.
     Serve,
-    // The directory goes from a rank to a rank.
+    /// The directory goes from a rank to a rank.
     Move(u8, u8),
-    // A rank stops.
+    /// A rank stops.
     Stop(u8),
-    // A rank runs again.
+    /// A rank runs again.
     Restart(u8),
+}
+
+/// What is said of a request.
+#[derive(Clone, Copy)]
+pub(crate) enum Said {
+    /// Its two hits were served, with this ticket.
+    Served(u32),
+    /// Another rank serves the directory.
+    Elsewhere(u8),
+    /// The rank has stopped.
+    Stopped(u8),
+}
+
+impl Said {
+    fn answer(self) -> WorkAnswer {
+        match self {
+            Said::Served(ticket) => served(ticket, 2),
+            Said::Elsewhere(number) => refused(StepError::Elsewhere(rank(number))),
+            Said::Stopped(number) => refused(StepError::Stopped(rank(number))),
+        }
+    }
 }
 
 fn carry_out<J: Naming + Send + Sync, M: Publisher<J> + Send, R: Threads + Wait + Sync>(
@@ -67,14 +87,12 @@ fn step<J: Naming + Send + Sync, M: Publisher<J> + Send, R: Threads + Wait + Syn
     (board, shares)
 }
 
-// The answers of both ranks in each phase, rank 0's first.
-fn play_on<J: Naming + Send + Sync, M: Publisher<J> + Send, R: Abort + Threads + Wait + Sync>(
-    rt: &R,
-    alloc: Global,
-    board: Board<J, M>,
-    shares: Vec<Share<J>>,
-    steps: &[Do],
-) -> Vec<WorkAnswer> {
+/// Whatever the schedule, these are the answers of both ranks in each phase, rank 0's first.
+pub(crate) fn play_on<
+    J: Naming + Send + Sync,
+    M: Publisher<J> + Send,
+    R: Abort + Threads + Wait + Sync,
+>(rt: &R, alloc: Global, board: Board<J, M>, shares: Vec<Share<J>>, steps: &[Do], said: &[Said]) {
     let scripts = scripts(alloc, &[work(1, 2)], &[work(1, 2)]).sure(rt);
     let mut told = Vec::new(alloc);
     let (mut board, mut shares) = (board, shares);
@@ -84,81 +102,49 @@ fn play_on<J: Naming + Send + Sync, M: Publisher<J> + Send, R: Abort + Threads +
         shares = back;
     }
     board.end();
-    told
-}
-
-fn play<J: Naming + Send + Sync, R: Abort + Threads + Wait + Sync>(
-    rt: &R,
-    alloc: Global,
-    names: (heat_ledger::NewBook, authority_map::NewMap),
-    steps: &[Do],
-) -> Vec<WorkAnswer>
-    requires book { names.0 ≡ J.ledger }
-    requires map { names.1 ≡ J.map }
-    requires limit { J.limit ≡ 128 }
-{
-    let (board, shares) = open::<J, R>(rt, alloc, names, 2, 1).sure(rt);
-    play_on(rt, alloc, board, shares, steps)
-}
-
-// Whatever the schedule, the answers are these.
-fn answers_are<R: Abort + Threads + Wait + Sync>(
-    rt: &R,
-    alloc: Global,
-    steps: &[Do],
-    answers: &[WorkAnswer],
-) {
-    for _ in 0..100u32 {
-        let given = names(alloc).sure(rt);
-        let told = play::<Brand, R>(rt, alloc, given, steps);
-        same(rt, &told.as_slice(), &answers);
+    same(rt, &told.len(), &said.len());
+    for (at, (answer, said)) in told.iter().zip(said).enumerate() {
+        same_in(rt, answer, &said.answer(), &at);
     }
-}
-
-fn elsewhere(number: u8) -> WorkAnswer {
-    refused(StepError::Elsewhere(rank(number)))
-}
-
-fn stopped(number: u8) -> WorkAnswer {
-    refused(StepError::Stopped(rank(number)))
 }
 
 #[test]
 fn requests_are_served_there_and_back(rt: HostRuntime) {
-    let steps = [
+    const STEPS: [Do; 5] = [
         Do::Serve,
         Do::Move(0, 1),
         Do::Serve,
         Do::Move(1, 0),
         Do::Serve,
     ];
-    let answers = [
-        served(0, 2),
-        elsewhere(0),
-        elsewhere(1),
-        served(1, 2),
-        served(2, 2),
-        elsewhere(0),
+    const SAID: [Said; 6] = [
+        Said::Served(0),
+        Said::Elsewhere(0),
+        Said::Elsewhere(1),
+        Said::Served(1),
+        Said::Served(2),
+        Said::Elsewhere(0),
     ];
-    answers_are(&rt, rt.alloc(), &steps, &answers)
+    try_often(&rt, Trial::Rows(&STEPS, &SAID), 100)
 }
 
 #[test]
 fn requests_are_served_past_a_stop(rt: HostRuntime) {
-    let steps = [Do::Move(0, 1), Do::Stop(0), Do::Serve];
-    answers_are(&rt, rt.alloc(), &steps, &[stopped(0), served(0, 2)])
+    const STEPS: [Do; 3] = [Do::Move(0, 1), Do::Stop(0), Do::Serve];
+    const SAID: [Said; 2] = [Said::Stopped(0), Said::Served(0)];
+    try_often(&rt, Trial::Rows(&STEPS, &SAID), 100)
 }
 
 #[test]
 fn a_rank_stops_between_two_phases(rt: HostRuntime) {
-    let steps = [Do::Serve, Do::Stop(0), Do::Serve, Do::Restart(0), Do::Serve];
-    let answers = [
-        served(0, 2),
-        elsewhere(0),
-        stopped(0),
-        elsewhere(0),
-        served(1, 2),
-        elsewhere(0),
+    const STEPS: [Do; 5] = [Do::Serve, Do::Stop(0), Do::Serve, Do::Restart(0), Do::Serve];
+    const SAID: [Said; 6] = [
+        Said::Served(0),
+        Said::Elsewhere(0),
+        Said::Stopped(0),
+        Said::Elsewhere(0),
+        Said::Served(1),
+        Said::Elsewhere(0),
     ];
-    answers_are(&rt, rt.alloc(), &steps, &answers)
+    try_often(&rt, Trial::Rows(&STEPS, &SAID), 100)
 }
