@@ -124,17 +124,10 @@ pub(crate) fn serve_with_jitter<
     let one = [work(0, 3), work(1, 5), work(7, 1)];
     let all = scripts(alloc, &one, &[work(1, 2), work(7, 2)]).sure(rt);
     let seen = serve_two(rt, alloc, board, shares, &JitterGate, &all, None);
-    let no_dir = refused(StepError::NoDir);
-    same(
-        rt,
-        &seen.first.as_slice(),
-        &[served(0, 3), served(1, 5), no_dir].as_slice(),
-    );
-    same(
-        rt,
-        &seen.second.as_slice(),
-        &[elsewhere(rt), no_dir].as_slice(),
-    );
+    let first = [served(0, 3), served(1, 5), refused(StepError::NoDir)];
+    same(rt, &seen.first.as_slice(), &first.as_slice());
+    let second = [elsewhere(rt), refused(StepError::NoDir)];
+    same(rt, &seen.second.as_slice(), &second.as_slice());
     same(rt, &(seen.heat, seen.entries), &(5, 7));
 }
 

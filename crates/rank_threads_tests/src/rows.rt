@@ -92,7 +92,8 @@ pub(crate) fn play_on<
     J: Naming + Send + Sync,
     M: Publisher<J> + Send,
     R: Abort + Threads + Wait + Sync,
->(rt: &R, alloc: Global, board: Board<J, M>, shares: Vec<Share<J>>, steps: &[Do], said: &[Said]) {
+>(rt: &R, alloc: Global, board: Board<J, M>, shares: Vec<Share<J>>, played: (&[Do], &[Said])) {
+    let (steps, said) = played;
     let scripts = scripts(alloc, &[work(1, 2)], &[work(1, 2)]).sure(rt);
     let mut told = Vec::new(alloc);
     let (mut board, mut shares) = (board, shares);
@@ -108,43 +109,55 @@ pub(crate) fn play_on<
     }
 }
 
-#[test]
-fn requests_are_served_there_and_back(rt: HostRuntime) {
-    const STEPS: [Do; 5] = [
+/// A directory goes to another rank and back.
+pub(crate) const THERE_AND_BACK: (&[Do], &[Said]) = (
+    &[
         Do::Serve,
         Do::Move(0, 1),
         Do::Serve,
         Do::Move(1, 0),
         Do::Serve,
-    ];
-    const SAID: [Said; 6] = [
+    ],
+    &[
         Said::Served(0),
         Said::Elsewhere(0),
         Said::Elsewhere(1),
         Said::Served(1),
         Said::Served(2),
         Said::Elsewhere(0),
-    ];
-    try_often(&rt, Trial::Rows(&STEPS, &SAID), 100)
+    ],
+);
+
+#[test]
+fn requests_are_served_there_and_back(rt: HostRuntime) {
+    try_often(&rt, Trial::ThereAndBack, 100)
 }
+
+/// A rank stops that has given a directory away.
+pub(crate) const PAST_A_STOP: (&[Do], &[Said]) = (
+    &[Do::Move(0, 1), Do::Stop(0), Do::Serve],
+    &[Said::Stopped(0), Said::Served(0)],
+);
 
 #[test]
 fn requests_are_served_past_a_stop(rt: HostRuntime) {
-    const STEPS: [Do; 3] = [Do::Move(0, 1), Do::Stop(0), Do::Serve];
-    const SAID: [Said; 2] = [Said::Stopped(0), Said::Served(0)];
-    try_often(&rt, Trial::Rows(&STEPS, &SAID), 100)
+    try_often(&rt, Trial::PastAStop, 100)
 }
 
-#[test]
-fn a_rank_stops_between_two_phases(rt: HostRuntime) {
-    const STEPS: [Do; 5] = [Do::Serve, Do::Stop(0), Do::Serve, Do::Restart(0), Do::Serve];
-    const SAID: [Said; 6] = [
+/// A rank stops between two phases, and runs again.
+pub(crate) const BETWEEN_PHASES: (&[Do], &[Said]) = (
+    &[Do::Serve, Do::Stop(0), Do::Serve, Do::Restart(0), Do::Serve],
+    &[
         Said::Served(0),
         Said::Elsewhere(0),
         Said::Stopped(0),
         Said::Elsewhere(0),
         Said::Served(1),
         Said::Elsewhere(0),
-    ];
-    try_often(&rt, Trial::Rows(&STEPS, &SAID), 100)
+    ],
+);
+
+#[test]
+fn a_rank_stops_between_two_phases(rt: HostRuntime) {
+    try_often(&rt, Trial::BetweenPhases, 100)
 }

@@ -2,7 +2,7 @@
 //! writer takes long to prove, so all that is tried is generic in it.
 ghost use Rattle.std.specs.Prelude.{◌≡◌, ◌≤◌};
 
-use crate::rows::{Do, Said};
+use crate::rows::{BETWEEN_PHASES, PAST_A_STOP, THERE_AND_BACK};
 use crate::same::Sure;
 use crate::{exports, full, growths, many, requests, rows, threads, whole};
 use authority_map::{MapWriter, NewMap, Publisher};
@@ -38,8 +38,12 @@ pub(crate) enum Trial {
     StoppedRank,
     /// Requests of two ranks that meet.
     Meeting,
-    /// Steps, and what is said of each request.
-    Rows(&'static [Do], &'static [Said]),
+    /// Requests on a directory that goes to another rank and back.
+    ThereAndBack,
+    /// Requests where the rank has stopped that gave the directory away.
+    PastAStop,
+    /// Requests where a rank stops between two phases, and runs again.
+    BetweenPhases,
     /// Requests for which there may be no thread, or for which there is one.
     RankThreads(bool),
     /// Orders for which there may be no thread, or for which there is one.
@@ -95,7 +99,9 @@ fn try_on<J: Naming + Send + Sync, M: Publisher<J> + Send, R: Abort + Threads + 
         Trial::Requests => requests::serve_with_jitter(rt, alloc, board, shares),
         Trial::StoppedRank => requests::serve_stopped(rt, alloc, board, shares),
         Trial::Meeting => requests::meet(rt, alloc, board, shares),
-        Trial::Rows(steps, said) => rows::play_on(rt, alloc, board, shares, steps, said),
+        Trial::ThereAndBack => rows::play_on(rt, alloc, board, shares, THERE_AND_BACK),
+        Trial::PastAStop => rows::play_on(rt, alloc, board, shares, PAST_A_STOP),
+        Trial::BetweenPhases => rows::play_on(rt, alloc, board, shares, BETWEEN_PHASES),
         Trial::RankThreads(is_sure) => threads::serve_on(rt, alloc, board, shares, is_sure),
         Trial::ExporterThreads(is_sure) => threads::move_on(rt, alloc, board, is_sure),
         Trial::Totals => board.end(),
