@@ -1,92 +1,136 @@
 //! Parts below chosen tops.
-ghost use Rattle.std.specs.Prelude.{◌≡◌, length, IfOk};
 
-use crate::boards::{Board, child, empty, pin, remove, two_directories};
-use crate::same::Sure;
+use crate::boards::{Board, Step, board_of, is_untouched};
+use crate::same::{Sure, same_in, same_rows};
 use division_cost::{Part, greatest_heat, parts};
-use mds_types::Dir;
 use std::alloc::{AllocError, Global};
 use std::process::Abort;
 
-/// Top, heat and inodes of a part.
-type Shown = (u32, u64, u64);
+/// /a has 10 inodes and heat 4, and /b 20 and 6.
+const TWO: &[Step] = &[
+    Step::Make(0, "a", 10),
+    Step::Make(0, "b", 20),
+    Step::Heat(1, 4),
+    Step::Heat(2, 6),
+];
 
-/// The parts below these tops, in the end. Where a growth was refused, it is asked for again.
-fn parts_below(rt: &impl Abort, alloc: Global, board: &Board, is_top: &[bool]) -> Vec<Part>
-    requires tree { board.now.tree.limit ≡ 8 }
-    requires pins { length board.now.pins.own ≡ 8 }
-    requires heat { board.now.heat.limit ≡ 8 }
-{
-    let numbers = board.tree.numbers() as usize;
-    if is_top.len() != numbers || is_top.first() != Some(&true) {
-        panic!(rt; "not the tops of this tree");
-    }
-    match parts(alloc, &board.tree, &board.pins, &board.heat, is_top) {
-        Ok(found) => found,
-        Err(AllocError) => parts(alloc, &board.tree, &board.pins, &board.heat, is_top).sure(rt),
-    }
-}
+/// The same, with /b at rank 1.
+const PINNED: &[Step] = &[
+    Step::Make(0, "a", 10),
+    Step::Make(0, "b", 20),
+    Step::Heat(1, 4),
+    Step::Heat(2, 6),
+    Step::Pin(2, 1),
+];
 
-/// Whether these are the parts, and the last number is their greatest heat.
-fn are_parts(found: &[Part], wanted: &[Shown], greatest: u64) -> bool {
-    for (i, &(top, heat, inodes)) in wanted.iter().enumerate() {
-        let part = Part {
-            top: Dir::new(top),
-            heat,
-            inodes,
-        };
-        if found.get(i) != Some(&part) {
-            return false;
-        }
-    }
-    found.len() == wanted.len() && greatest_heat(found) == greatest
-}
-
-#[test]
-fn counts_the_parts_of_two_directories(rt: HostRuntime) {
-    let board = two_directories(&rt, rt.alloc());
-    let found = parts_below(&rt, rt.alloc(), &board, &[true, false, false]);
-    assert!(rt; are_parts(&found, &[(0, 10, 31)], 10));
-}
-
-#[test]
-fn a_pinned_top_has_no_part(rt: HostRuntime) {
-    let mut board = two_directories(&rt, rt.alloc());
-    pin(&rt, &mut board, Dir::new(2), 1);
-    let found = parts_below(&rt, rt.alloc(), &board, &[true, true, false]);
-    assert!(rt; are_parts(&found, &[(0, 0, 1), (1, 4, 10)], 4));
-    let found = parts_below(&rt, rt.alloc(), &board, &[true, true, true]);
-    assert!(rt; are_parts(&found, &[(0, 0, 1), (1, 4, 10)], 4));
-}
-
-#[test]
-fn a_pinned_root_has_no_part(rt: HostRuntime) {
-    let mut board = two_directories(&rt, rt.alloc());
-    pin(&rt, &mut board, Dir::ROOT, 0);
-    let found = parts_below(&rt, rt.alloc(), &board, &[true, true, false]);
-    assert!(rt; are_parts(&found, &[], 0));
-}
+/// The same, with all at rank 0.
+const PINNED_ROOT: &[Step] = &[
+    Step::Make(0, "a", 10),
+    Step::Make(0, "b", 20),
+    Step::Heat(1, 4),
+    Step::Heat(2, 6),
+    Step::Pin(0, 0),
+];
 
 /// /a has 10 inodes and heat 4, /a/c 7 and heat 1, /a/c/d 5 and heat 2, and /b is removed.
-fn chain_without_a_sibling(rt: &impl Abort, alloc: Global) -> Board
-    ensures tree { result.tree.limit ≡ 8 }
-    ensures pins { length result.pins.own ≡ 8 }
-    ensures heat { result.heat.limit ≡ 8 }
-{
-    let mut board = empty(rt, alloc);
-    let a = child(rt, &mut board, alloc, Dir::ROOT, "a", 10, 4);
-    let b = child(rt, &mut board, alloc, Dir::ROOT, "b", 20, 6);
-    let c = child(rt, &mut board, alloc, a, "c", 7, 1);
-    child(rt, &mut board, alloc, c, "d", 5, 2);
-    remove(rt, &mut board, b);
-    board
+const CHAIN: &[Step] = &[
+    Step::Make(0, "a", 10),
+    Step::Make(0, "b", 20),
+    Step::Make(1, "c", 7),
+    Step::Make(3, "d", 5),
+    Step::Heat(1, 4),
+    Step::Heat(2, 6),
+    Step::Heat(3, 1),
+    Step::Heat(4, 2),
+    Step::Remove(2),
+];
+
+/// What is divided; the board; whether each directory is a top; top, heat and inodes of each part; the greatest heat.
+pub(crate) type Divided = (
+    &'static str,
+    &'static [Step],
+    &'static [bool],
+    &'static [(u32, u64, u64)],
+    u64,
+);
+
+const DIVIDED: &[Divided] = &[
+    (
+        "a whole tree",
+        TWO,
+        &[true, false, false],
+        &[(0, 10, 31)],
+        10,
+    ),
+    (
+        "beside a pin",
+        PINNED,
+        &[true, true, false],
+        &[(0, 0, 1), (1, 4, 10)],
+        4,
+    ),
+    (
+        "a pinned top",
+        PINNED,
+        &[true, true, true],
+        &[(0, 0, 1), (1, 4, 10)],
+        4,
+    ),
+    ("a pinned root", PINNED_ROOT, &[true, true, false], &[], 0),
+    (
+        "each to its nearest top",
+        CHAIN,
+        &[true, false, true, true, false],
+        &[(0, 4, 11), (3, 3, 12)],
+        4,
+    ),
+    (
+        "a top below a top",
+        CHAIN,
+        &[true, true, false, false, true],
+        &[(0, 0, 1), (1, 5, 17), (4, 2, 5)],
+        5,
+    ),
+];
+
+/// What dividing a board below these tops answers.
+fn divided(
+    rt: &impl Abort,
+    alloc: Global,
+    board: &Board,
+    is_top: &[bool],
+) -> Result<Vec<Part>, AllocError> {
+    let (tree, pins, heat) = (&board.tree, &board.pins, &board.heat);
+    assert!(rt; tree.limit() <= pins.limit());
+    assert!(rt; tree.limit() <= heat.limit());
+    assert!(rt; is_top.len() == tree.numbers() as usize);
+    assert!(rt; is_top.first() == Some(&true));
+    parts(alloc, tree, pins, heat, is_top)
+}
+
+/// The parts in the end. Where memory was refused, the board is as one that was never divided.
+fn divided_at_last(rt: &impl Abort, alloc: Global, steps: &[Step], is_top: &[bool]) -> Vec<Part> {
+    let board = board_of(rt, alloc, steps);
+    match divided(rt, alloc, &board, is_top) {
+        Ok(found) => found,
+        Err(AllocError) => {
+            is_untouched(rt, alloc, &board, steps);
+            divided(rt, alloc, &board, is_top).sure(rt)
+        }
+    }
+}
+
+/// The parts are as a row says.
+pub(crate) fn divides_so(rt: &impl Abort, alloc: Global, row: &Divided) {
+    let (name, steps, is_top, wanted, greatest) = row;
+    let found = divided_at_last(rt, alloc, steps, is_top);
+    same_rows(rt, &found, wanted, name);
+    same_in(rt, &greatest_heat(&found), greatest, name);
 }
 
 #[test]
-fn counts_a_directory_to_its_nearest_top(rt: HostRuntime) {
-    let board = chain_without_a_sibling(&rt, rt.alloc());
-    let found = parts_below(&rt, rt.alloc(), &board, &[true, false, true, true, false]);
-    assert!(rt; are_parts(&found, &[(0, 4, 11), (3, 3, 12)], 4));
-    let found = parts_below(&rt, rt.alloc(), &board, &[true, true, false, false, true]);
-    assert!(rt; are_parts(&found, &[(0, 0, 1), (1, 5, 17), (4, 2, 5)], 5));
+fn divides(rt: HostRuntime) {
+    for row in DIVIDED {
+        divides_so(&rt, rt.alloc(), row);
+    }
 }

@@ -2,9 +2,8 @@
 //!
 //! Each call that takes memory is made again where a growth was refused, so the tests hold with any one
 //! growth refused.
-ghost use Rattle.std.specs.Prelude.{◌≤◌, ◌^◌};
 
-use crate::same::{Sure, same, same_in};
+use crate::same::{Sure, holds_in, same, same_in};
 use exhaustive::Random;
 use heat_decay::{Heat, TICK_LIMIT, TicksFull};
 use mds_types::Dir;
@@ -15,148 +14,235 @@ use std::process::Abort;
 /// How many directories there are.
 const DIRS: u32 = 4;
 
-/// The heats of four directories after so many ticks, asked for again where memory was refused.
-fn resumed(alloc: Global, ticks: u64) -> Result<Heat, AllocError>
-    requires { ticks ≤ 2 ^ 40 }
-{
-    match Heat::resumed(alloc, DIRS, ticks) {
-        Ok(heat) => Ok(heat),
-        Err(_) => Heat::resumed(alloc, DIRS, ticks),
+/// A change of the heats of directories, which are told by their numbers.
+#[derive(Drop)]
+enum Change {
+    Add(u32, u64),
+    Clear(u32),
+    /// So many ticks.
+    Tick(u32),
+}
+
+/// A change, whether it is made, and then a directory, its heat and what is kept of it.
+type Line = (Change, bool, u32, u64, (u64, u64));
+
+/// What is tried, how many ticks there were before, and the changes.
+type Schedule = (&'static str, u64, &'static [Line]);
+
+const SCHEDULES: &[Schedule] = &[
+    (
+        "no hits",
+        0,
+        &[
+            (Change::Add(1, 0), true, 1, 0, (0, 0)),
+            (Change::Tick(1), true, 1, 0, (0, 0)),
+            (Change::Tick(1), true, 1, 0, (0, 0)),
+            (Change::Tick(0), true, 2, 0, (0, 0)),
+        ],
+    ),
+    (
+        "one deposit",
+        0,
+        &[
+            (Change::Add(1, 7), true, 1, 7, (7, 0)),
+            (Change::Add(1, 0), true, 1, 7, (7, 0)),
+            (Change::Tick(1), true, 1, 3, (7, 0)),
+            (Change::Tick(1), true, 1, 1, (7, 0)),
+            (Change::Tick(0), true, 2, 0, (0, 0)),
+        ],
+    ),
+    (
+        "two deposits",
+        0,
+        &[
+            (Change::Add(1, 3), true, 1, 3, (3, 0)),
+            (Change::Add(1, 4), true, 1, 7, (7, 0)),
+            (Change::Tick(1), true, 1, 3, (7, 0)),
+            (Change::Tick(1), true, 1, 1, (7, 0)),
+            (Change::Tick(0), true, 2, 0, (0, 0)),
+        ],
+    ),
+    (
+        "a deposit at the limit",
+        0,
+        &[
+            (
+                Change::Add(1, HEAT_LIMIT),
+                true,
+                1,
+                HEAT_LIMIT,
+                (HEAT_LIMIT, 0),
+            ),
+            (Change::Add(1, 1), true, 1, HEAT_LIMIT, (HEAT_LIMIT, 0)),
+            (Change::Tick(1), true, 1, 549_755_813_888, (HEAT_LIMIT, 0)),
+            (Change::Tick(1), true, 1, 274_877_906_944, (HEAT_LIMIT, 0)),
+            (Change::Tick(0), true, 2, 0, (0, 0)),
+        ],
+    ),
+    (
+        "a deposit past the limit",
+        0,
+        &[
+            (Change::Add(1, 1), true, 1, 1, (1, 0)),
+            (
+                Change::Add(1, u64::MAX),
+                true,
+                1,
+                1_099_511_627_776,
+                (HEAT_LIMIT, 0),
+            ),
+            (Change::Tick(1), true, 1, 549_755_813_888, (HEAT_LIMIT, 0)),
+            (Change::Tick(1), true, 1, 274_877_906_944, (HEAT_LIMIT, 0)),
+            (Change::Tick(0), true, 2, 0, (0, 0)),
+        ],
+    ),
+    (
+        "cold after 41 ticks",
+        0,
+        &[
+            (
+                Change::Add(1, HEAT_LIMIT),
+                true,
+                1,
+                HEAT_LIMIT,
+                (HEAT_LIMIT, 0),
+            ),
+            (Change::Tick(40), true, 1, 1, (HEAT_LIMIT, 0)),
+            (Change::Tick(1), true, 1, 0, (HEAT_LIMIT, 0)),
+            (Change::Tick(100), true, 1, 0, (HEAT_LIMIT, 0)),
+        ],
+    ),
+    (
+        "the last touch is kept",
+        0,
+        &[
+            (Change::Add(1, 5), true, 1, 5, (5, 0)),
+            (Change::Tick(1), true, 1, 2, (5, 0)),
+            (Change::Add(1, 3), true, 1, 5, (5, 1)),
+            (Change::Tick(1), true, 1, 2, (5, 1)),
+            (Change::Tick(0), true, 2, 0, (0, 0)),
+            (Change::Clear(1), true, 1, 0, (0, 2)),
+        ],
+    ),
+    (
+        "the last tick of all",
+        TICK_LIMIT - 1,
+        &[
+            (Change::Tick(0), true, 3, 0, (0, TICK_LIMIT - 1)),
+            (Change::Add(3, 9), true, 3, 9, (9, TICK_LIMIT - 1)),
+            (Change::Tick(1), true, 3, 4, (9, TICK_LIMIT - 1)),
+            (Change::Tick(1), false, 3, 4, (9, TICK_LIMIT - 1)),
+        ],
+    ),
+];
+
+/// Heats of which each beginning is asked for again where memory was refused.
+const BEGINNINGS: &[Schedule] = &[
+    ("new", 0, &[(Change::Add(1, 5), true, 1, 5, (5, 0))]),
+    (
+        "resumed",
+        7,
+        &[
+            (Change::Add(1, 5), true, 1, 5, (5, 7)),
+            (Change::Tick(0), true, 3, 0, (0, 7)),
+        ],
+    ),
+];
+
+/// The heats of four directories after so many ticks.
+fn begun(alloc: Global, ticks: u64) -> Result<Heat, AllocError> {
+    if ticks == 0 {
+        Heat::new(alloc, DIRS)
+    } else {
+        Heat::resumed(alloc, DIRS, ticks.min(TICK_LIMIT))
     }
 }
 
-/// The heats of four directories, asked for again where memory was refused.
-fn cold(alloc: Global) -> Result<Heat, AllocError> {
-    match Heat::new(alloc, DIRS) {
-        Ok(heat) => Ok(heat),
-        Err(_) => Heat::new(alloc, DIRS),
+/// The same, asked for again where memory was refused.
+fn begun_at_last(rt: &impl Abort, alloc: Global, ticks: u64) -> Heat {
+    match begun(alloc, ticks) {
+        Ok(heat) => heat,
+        Err(AllocError) => begun(alloc, ticks).sure(rt),
     }
 }
 
-fn add(heat: &mut Heat, dir: u32, hits: u64) {
-    if dir < heat.limit() {
+/// Adds hits; whether there is such a directory.
+pub(crate) fn add(heat: &mut Heat, dir: u32, hits: u64) -> bool {
+    let is_there = dir < heat.limit();
+    if is_there {
         heat.add(Dir::new(dir), hits);
     }
+    is_there
 }
 
-fn clear(heat: &mut Heat, dir: u32) {
-    if dir < heat.limit() {
+fn clear(heat: &mut Heat, dir: u32) -> bool {
+    let is_there = dir < heat.limit();
+    if is_there {
         heat.clear(Dir::new(dir));
     }
+    is_there
 }
 
-/// The heat of a directory, or a number that no heat is.
-fn heat_of(heat: &Heat, dir: u32) -> u64 {
+/// The heat of a directory, if there is one.
+pub(crate) fn heat_of(heat: &Heat, dir: u32) -> Option<u64> {
     if dir < heat.limit() {
-        heat.heat(Dir::new(dir))
+        Some(heat.heat(Dir::new(dir)))
     } else {
-        u64::MAX
+        None
     }
 }
 
-/// What is kept of a directory, or numbers that aren't.
-fn kept(heat: &Heat, dir: u32) -> (u64, u64) {
+/// What is kept of a directory, if there is one.
+fn kept(heat: &Heat, dir: u32) -> Option<(u64, u64)> {
     if dir < heat.limit() {
-        heat.kept(Dir::new(dir))
+        Some(heat.kept(Dir::new(dir)))
     } else {
-        (u64::MAX, u64::MAX)
+        None
     }
 }
 
-fn tick(heat: &mut Heat, ticks: u32) -> Result<(), TicksFull> {
+fn tick(heat: &mut Heat, ticks: u32) -> bool {
     for _ in 0..ticks {
-        heat.tick()?;
+        if heat.tick().is_err() {
+            return false;
+        }
     }
-    Ok(())
+    true
 }
 
-/// The heat of directory 1 after two deposits on it, after one tick and after two, and at its neighbour.
-fn heats_after(rt: &impl Abort, alloc: Global, first: u64, second: u64) -> [u64; 4] {
-    let mut heat = cold(alloc).sure(rt);
-    add(&mut heat, 1, first);
-    add(&mut heat, 1, second);
-    let deposited = heat_of(&heat, 1);
-    tick(&mut heat, 1).sure(rt);
-    let once = heat_of(&heat, 1);
-    tick(&mut heat, 1).sure(rt);
-    [deposited, once, heat_of(&heat, 1), heat_of(&heat, 2)]
+/// Whether a change is made.
+fn is_made(heat: &mut Heat, change: &Change) -> bool {
+    match change {
+        Change::Add(dir, hits) => add(heat, *dir, *hits),
+        Change::Clear(dir) => clear(heat, *dir),
+        Change::Tick(ticks) => tick(heat, *ticks),
+    }
+}
+
+/// A schedule goes as its lines say.
+fn goes_so(rt: &impl Abort, alloc: Global, schedule: &Schedule) {
+    let (name, ticks, lines) = schedule;
+    let mut heat = begun_at_last(rt, alloc, *ticks);
+    for (at, (change, made, dir, wanted, touch)) in lines.iter().enumerate() {
+        let row = (name, at);
+        same_in(rt, &is_made(&mut heat, change), made, &row);
+        same_in(rt, &heat_of(&heat, *dir), &Some(*wanted), &row);
+        same_in(rt, &kept(&heat, *dir), &Some(*touch), &row);
+    }
 }
 
 #[test]
 fn deposits_and_ticks(rt: HostRuntime) {
-    // (deposits, heat after them, after one tick, after two, at the neighbour)
-    let table = [
-        ((0, 0), [0, 0, 0, 0]),
-        ((7, 0), [7, 3, 1, 0]),
-        ((3, 4), [7, 3, 1, 0]),
-        (
-            (HEAT_LIMIT, 1),
-            [HEAT_LIMIT, 549_755_813_888, 274_877_906_944, 0],
-        ),
-        (
-            (1, u64::MAX),
-            [1_099_511_627_776, 549_755_813_888, 274_877_906_944, 0],
-        ),
-    ];
-    for ((first, second), heats) in table {
-        same_in(
-            &rt,
-            &heats_after(&rt, rt.alloc(), first, second),
-            &heats,
-            &(first, second),
-        );
+    for schedule in SCHEDULES {
+        goes_so(&rt, rt.alloc(), schedule);
     }
 }
 
 #[test]
-fn is_cold_after_41_ticks(rt: HostRuntime) {
-    let mut heat = cold(rt.alloc()).sure(&rt);
-    add(&mut heat, 1, HEAT_LIMIT);
-    tick(&mut heat, 40).sure(&rt);
-    same(&rt, &heat_of(&heat, 1), &1);
-    tick(&mut heat, 1).sure(&rt);
-    same(&rt, &heat_of(&heat, 1), &0);
-    tick(&mut heat, 100).sure(&rt);
-    same(&rt, &heat_of(&heat, 1), &0);
-    same(&rt, &kept(&heat, 1), &(HEAT_LIMIT, 0));
-}
-
-#[test]
-fn keeps_the_last_touch(rt: HostRuntime) {
-    let mut heat = cold(rt.alloc()).sure(&rt);
-    add(&mut heat, 1, 5);
-    tick(&mut heat, 1).sure(&rt);
-    add(&mut heat, 1, 3);
-    same(&rt, &heat_of(&heat, 1), &5);
-    tick(&mut heat, 1).sure(&rt);
-    same(&rt, &heat_of(&heat, 1), &2);
-    same(&rt, &kept(&heat, 1), &(5, 1));
-    same(&rt, &kept(&heat, 2), &(0, 0));
-    clear(&mut heat, 1);
-    same(&rt, &kept(&heat, 1), &(0, 2));
-    same(&rt, &heat_of(&heat, 1), &0);
-}
-
-#[test]
-fn goes_on_after_many_ticks(rt: HostRuntime) {
-    let mut heat = resumed(rt.alloc(), TICK_LIMIT - 1).sure(&rt);
-    same(&rt, &kept(&heat, 3), &((0, TICK_LIMIT - 1)));
-    add(&mut heat, 3, 9);
-    assert!(rt; heat.tick().is_ok());
-    assert!(rt; heat.tick().is_err());
-    same(&rt, &heat_of(&heat, 3), &4);
-    same(&rt, &kept(&heat, 3), &((9, TICK_LIMIT - 1)));
-}
-
-#[test]
 fn a_refused_growth_is_asked_for_again(rt: HostRuntime) {
-    let mut heat = cold(rt.alloc()).sure(&rt);
-    add(&mut heat, 1, 5);
-    same(&rt, &kept(&heat, 1), &(5, 0));
-    let mut later = resumed(rt.alloc(), 7).sure(&rt);
-    add(&mut later, 1, 5);
-    same(&rt, &kept(&later, 1), &(5, 7));
-    same(&rt, &kept(&later, 3), &(0, 7));
+    for schedule in BEGINNINGS {
+        goes_so(&rt, rt.alloc(), schedule);
+    }
 }
 
 #[test]
@@ -172,51 +258,61 @@ fn halve(plain: &mut [u64; 4]) {
     }
 }
 
-/// Sets an entry of the plain list to what a deposit makes of it.
-fn deposit(plain: &mut [u64; 4], dir: u32, hits: u64) {
-    if let Some(heat) = plain.get_mut(dir as usize) {
-        *heat = heat.saturating_add(hits).min(HEAT_LIMIT);
+/// Sets an entry of the plain list.
+fn set(plain: &mut [u64; 4], dir: u32, heat: u64) {
+    if let Some(place) = plain.get_mut(dir as usize) {
+        *place = heat;
     }
 }
 
-/// Takes a random step on both: a deposit, seldom a `clear`, or up to eight ticks.
-fn step(random: &mut Random, heat: &mut Heat, plain: &mut [u64; 4]) -> Result<(), TicksFull> {
+/// Makes a change of the plain list.
+fn change_list(plain: &mut [u64; 4], change: &Change) {
+    match change {
+        Change::Add(dir, hits) => {
+            let before = plain.get(*dir as usize).copied().unwrap_or(0);
+            set(plain, *dir, before.saturating_add(*hits).min(HEAT_LIMIT));
+        }
+        Change::Clear(dir) => set(plain, *dir, 0),
+        Change::Tick(ticks) => {
+            for _ in 0..*ticks {
+                halve(plain);
+            }
+        }
+    }
+}
+
+/// A deposit, seldom a `clear`, or up to eight ticks.
+fn random_change(random: &mut Random) -> Change {
     let dir = random.below(4) as u32;
-    let choice = random.below(8);
-    if choice < 4 {
-        let hits = random.next() >> random.below(64);
-        add(heat, dir, hits);
-        deposit(plain, dir, hits);
-    } else if choice == 4 {
-        clear(heat, dir);
-        if let Some(cleared) = plain.get_mut(dir as usize) {
-            *cleared = 0;
-        }
-    } else {
-        for _ in 0..random.below(8) {
-            heat.tick()?;
-            halve(plain);
-        }
+    match random.below(8) {
+        0..4 => Change::Add(dir, random.next() >> random.below(64)),
+        4 => Change::Clear(dir),
+        _ => Change::Tick(random.below(8) as u32),
     }
-    Ok(())
 }
 
-fn heats(heat: &Heat) -> [u64; 4] {
-    [
-        heat_of(heat, 0),
-        heat_of(heat, 1),
-        heat_of(heat, 2),
-        heat_of(heat, 3),
-    ]
+/// Makes a random change of both, which say the same then.
+fn stay_alike(
+    rt: &impl Abort,
+    random: &mut Random,
+    heat: &mut Heat,
+    plain: &mut [u64; 4],
+    round: u32,
+) {
+    let change = random_change(random);
+    holds_in(rt, is_made(heat, &change), &round);
+    change_list(plain, &change);
+    for (dir, wanted) in plain.iter().enumerate() {
+        same_in(rt, &heat_of(heat, dir as u32), &Some(*wanted), &round);
+    }
 }
 
 #[test]
 fn halves_like_a_plain_list(rt: HostRuntime) {
     let mut random = Random::new(17);
-    let mut heat = cold(rt.alloc()).sure(&rt);
+    let mut heat = begun_at_last(&rt, rt.alloc(), 0);
     let mut plain = [0; 4];
     for round in 0..2000 {
-        step(&mut random, &mut heat, &mut plain).sure(&rt);
-        same_in(&rt, &heats(&heat), &plain, &round);
+        stay_alike(&rt, &mut random, &mut heat, &mut plain, round);
     }
 }

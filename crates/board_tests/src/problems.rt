@@ -1,131 +1,143 @@
 //! Problems of small boards, and the parts of plans.
-ghost use Rattle.std.specs.Prelude.{◌≡◌, length, IfOk};
 
-use crate::boards::{Board, child, empty, pin, remove, two_directories};
-use crate::same::{Sure, same};
+use crate::boards::{Board, Given, Shown, Step, board_of, is_untouched, opened, same_problem};
+use crate::same::{Sure, same, same_in, same_rows};
 use arrayvec::ArrayVec;
-use board_problem::{OpenError, Opened, open, parts};
+use board_problem::{OpenError, Opened, PlanPart, parts};
 use mds_types::{CutProof, Dir, DualProof, Plan, Problem, ProblemRow, Rank, RankSet};
-use std::alloc::Global;
+use std::alloc::{AllocError, Global};
 use std::process::Abort;
 
-/// Parent, heat, inodes and present rank of a row.
-type Given = (u32, u64, u32, u8);
+/// /a has 10 inodes and heat 4, and /b 20 and 6.
+const TWO: &[Step] = &[
+    Step::Make(0, "a", 10),
+    Step::Make(0, "b", 20),
+    Step::Heat(1, 4),
+    Step::Heat(2, 6),
+];
 
-/// Whether these are the rows and the directories of a board's problem.
-fn is_opened(opened: &Opened, given: &[Given], numbers: &[u32]) -> bool {
-    for (i, &(parent, heat, inodes, now)) in given.iter().enumerate() {
-        let row = ProblemRow {
-            parent,
-            heat,
-            inodes,
-            now: Rank::new(now).unwrap_or_default(),
-        };
-        if opened.problem.rows().get(i) != Some(&row) {
-            return false;
-        }
-    }
-    for (i, number) in numbers.iter().enumerate() {
-        if opened.dirs.get(i) != Some(&Dir::new(*number)) {
-            return false;
-        }
-    }
-    opened.problem.rows().len() == given.len() && opened.dirs.len() == numbers.len()
-}
-
-/// The rank of a directory where those from `moved` on are at rank 1, and the others at rank 0.
-fn rank_at(dir: usize, moved: usize) -> Rank {
-    if dir < moved {
-        Rank::default()
-    } else {
-        Rank::new(1).unwrap_or_default()
-    }
-}
-
-/// The problem of a board where directories from `moved` on are at rank 1, and the others at rank 0.
-fn open_at(alloc: Global, board: &Board, moved: usize, ranks: u64) -> Result<Opened, OpenError>
-    requires tree { board.now.tree.limit ≡ 8 }
-    requires pins { length board.now.pins.own ≡ 8 }
-    requires heat { board.now.heat.limit ≡ 8 }
-{
-    // (its contract says that there are no more numbers than the limit)
-    let _numbers = board.tree.numbers();
-    let now = [
-        rank_at(0, moved),
-        rank_at(1, moved),
-        rank_at(2, moved),
-        rank_at(3, moved),
-        rank_at(4, moved),
-        rank_at(5, moved),
-        rank_at(6, moved),
-        rank_at(7, moved),
-    ];
-    let ranks = RankSet::from_bits(ranks);
-    open(alloc, &board.tree, &board.pins, &board.heat, &now, ranks)
-}
-
-#[test]
-fn opens_two_directories(rt: HostRuntime) {
-    let board = two_directories(&rt, rt.alloc());
-    let opened = open_at(rt.alloc(), &board, 2, 3).sure(&rt);
-    let rows = [(0, 0, 1, 0), (0, 4, 10, 0), (0, 6, 20, 1)];
-    assert!(rt; is_opened(&opened, &rows, &[0, 1, 2]));
-    same(&rt, &opened.problem.ranks(), &RankSet::from_bits(3));
-}
-
-#[test]
-fn opens_what_no_pin_holds(rt: HostRuntime) {
-    let mut board = two_directories(&rt, rt.alloc());
-    pin(&rt, &mut board, Dir::new(1), 1);
-    let opened = open_at(rt.alloc(), &board, 2, 2).sure(&rt);
-    assert!(rt; is_opened(&opened, &[(0, 0, 1, 0), (0, 6, 20, 1)], &[0, 2]));
-    same(&rt, &opened.problem.ranks(), &RankSet::from_bits(2));
-}
-
-#[test]
-fn opens_nothing(rt: HostRuntime) {
-    let mut board = two_directories(&rt, rt.alloc());
-    let off = open_at(rt.alloc(), &board, 2, 0);
-    assert!(rt; matches!(&off, Err(OpenError::BalancerOff)));
-    pin(&rt, &mut board, Dir::ROOT, 0);
-    let opened = open_at(rt.alloc(), &board, 2, 3).sure(&rt);
-    assert!(rt; is_opened(&opened, &[], &[]));
-}
+/// The same, with /a at rank 1.
+const PINNED: &[Step] = &[
+    Step::Make(0, "a", 10),
+    Step::Make(0, "b", 20),
+    Step::Heat(1, 4),
+    Step::Heat(2, 6),
+    Step::Pin(1, 1),
+];
 
 /// /a has 5 inodes, /a/b and /a/b/c 1 each, and each heat 3. Below /p, which is pinned, is /p/q, and /r is removed.
-fn chain_beside_a_pin(rt: &impl Abort, alloc: Global) -> Board
-    ensures tree { result.tree.limit ≡ 8 }
-    ensures pins { length result.pins.own ≡ 8 }
-    ensures heat { result.heat.limit ≡ 8 }
-{
-    let mut board = empty(rt, alloc);
-    let p = child(rt, &mut board, alloc, Dir::ROOT, "p", 1, 9);
-    let a = child(rt, &mut board, alloc, Dir::ROOT, "a", 5, 3);
-    let r = child(rt, &mut board, alloc, a, "r", 1, 9);
-    child(rt, &mut board, alloc, p, "q", 1, 0);
-    let b = child(rt, &mut board, alloc, a, "b", 1, 3);
-    child(rt, &mut board, alloc, b, "c", 1, 3);
-    pin(rt, &mut board, p, 1);
-    remove(rt, &mut board, r);
-    board
+const CHAIN: &[Step] = &[
+    Step::Make(0, "p", 1),
+    Step::Make(0, "a", 5),
+    Step::Make(2, "r", 1),
+    Step::Make(1, "q", 1),
+    Step::Make(2, "b", 1),
+    Step::Make(5, "c", 1),
+    Step::Heat(1, 9),
+    Step::Heat(2, 3),
+    Step::Heat(3, 9),
+    Step::Heat(5, 3),
+    Step::Heat(6, 3),
+    Step::Pin(1, 1),
+    Step::Remove(3),
+];
+
+/// What is opened; the board; the first directory that is at rank 1 as all behind it are; the mask of usable ranks;
+/// the problem's rows and the directories that they stand for.
+pub(crate) type Case = (
+    &'static str,
+    &'static [Step],
+    u32,
+    u64,
+    &'static [Given],
+    &'static [u32],
+);
+
+const OPENED: &[Case] = &[
+    (
+        "two directories",
+        TWO,
+        2,
+        3,
+        &[(0, 0, 1, 0), (0, 4, 10, 0), (0, 6, 20, 1)],
+        &[0, 1, 2],
+    ),
+    (
+        "what no pin holds",
+        PINNED,
+        2,
+        2,
+        &[(0, 0, 1, 0), (0, 6, 20, 1)],
+        &[0, 2],
+    ),
+    ("a pinned root", &[Step::Pin(0, 0)], 2, 3, &[], &[]),
+    (
+        "a chain",
+        CHAIN,
+        8,
+        3,
+        &[(0, 0, 1, 0), (0, 3, 5, 0), (1, 3, 1, 0), (2, 3, 1, 0)],
+        &[0, 2, 5, 6],
+    ),
+];
+
+/// Ranks of 24 directories: those from `moved` on are at rank 1, and the others at rank 0.
+fn ranks_now(moved: u32) -> [Rank; 24] {
+    let mut now = [Rank::default(); 24];
+    for at in moved as usize..24 {
+        if let Some(rank) = now.get_mut(at) {
+            *rank = Rank::new(1).unwrap_or_default();
+        }
+    }
+    now
+}
+
+/// What is opened in the end. Where memory was refused, the board is as one that was never opened.
+pub(crate) fn opened_at_last(rt: &impl Abort, alloc: Global, board: &Board, case: &Case) -> Opened {
+    let (_name, steps, moved, mask, _rows, _numbers) = case;
+    let now = ranks_now(*moved);
+    match opened(rt, alloc, board, &now, *mask) {
+        Ok(found) => found,
+        Err(refusal) => {
+            same(rt, &refusal, &OpenError::Memory);
+            is_untouched(rt, alloc, board, steps);
+            opened(rt, alloc, board, &now, *mask).sure(rt)
+        }
+    }
+}
+
+/// The problem of a board, which is as the case says.
+pub(crate) fn problem_of(rt: &impl Abort, alloc: Global, case: &Case) -> Opened {
+    let (name, steps, _moved, mask, rows, numbers) = case;
+    let found = opened_at_last(rt, alloc, &board_of(rt, alloc, steps), case);
+    same_problem(rt, &found, rows, numbers, name);
+    same_in(rt, &found.problem.ranks(), &RankSet::from_bits(*mask), name);
+    found
 }
 
 #[test]
-fn opens_a_chain(rt: HostRuntime) {
-    let board = chain_beside_a_pin(&rt, rt.alloc());
-    let opened = open_at(rt.alloc(), &board, 8, 3).sure(&rt);
-    let rows = [(0, 0, 1, 0), (0, 3, 5, 0), (1, 3, 1, 0), (2, 3, 1, 0)];
-    assert!(rt; is_opened(&opened, &rows, &[0, 2, 5, 6]));
+fn opens_boards(rt: HostRuntime) {
+    for case in OPENED {
+        problem_of(&rt, rt.alloc(), case);
+    }
 }
 
-fn plan(rt: &impl Abort, alloc: Global, part: &[u32], rank: &[u8]) -> Plan {
-    let mut ranks = ArrayVec::new();
-    for number in rank {
-        let _full = ranks.try_push(Rank::new(*number).ok_or("no rank").sure(rt));
+#[test]
+fn opens_nothing_without_ranks(rt: HostRuntime) {
+    let board = board_of(&rt, rt.alloc(), TWO);
+    let off = opened(&rt, rt.alloc(), &board, &ranks_now(2), 0);
+    same(&rt, &off.err(), &Some(OpenError::BalancerOff));
+}
+
+/// A plan of parts, each row's label given, and then each label's rank.
+pub(crate) fn plan_of(alloc: Global, part: Vec<u32>, ranks: &[u8]) -> Plan {
+    let mut rank = ArrayVec::new();
+    for number in ranks {
+        let _full = rank.try_push(Rank::new(*number).unwrap_or_default());
     }
     Plan {
-        part: part.to_vec(alloc).sure(rt),
-        rank: ranks,
+        part,
+        rank,
         greatest: 6,
         moved: 0,
         cut: CutProof::Zero,
@@ -136,8 +148,23 @@ fn plan(rt: &impl Abort, alloc: Global, part: &[u32], rank: &[u8]) -> Plan {
     }
 }
 
+/// What is answered for the parts of a plan.
+pub(crate) fn parts_of(
+    rt: &impl Abort,
+    alloc: Global,
+    problem: &Problem,
+    dirs: &[Dir],
+    plan: &Plan,
+) -> Result<Vec<PlanPart>, AllocError> {
+    let count = plan.rank.len();
+    assert!(rt; dirs.len() == problem.rows().len());
+    assert!(rt; plan.part.len() == problem.rows().len());
+    assert!(rt; plan.part.iter().all(|&label| (label as usize) < count));
+    parts(alloc, problem, dirs, plan)
+}
+
 /// The problem of rows with these parents, heats and inodes.
-fn problem(rt: &impl Abort, alloc: Global, given: &[(u32, u64, u32)]) -> Problem {
+fn problem_with(rt: &impl Abort, alloc: Global, given: &[(u32, u64, u32)]) -> Problem {
     let mut rows = Vec::new(alloc);
     for &(parent, heat, inodes) in given {
         rows.push(ProblemRow {
@@ -154,65 +181,60 @@ fn problem(rt: &impl Abort, alloc: Global, given: &[(u32, u64, u32)]) -> Problem
     }
 }
 
-/// Top, rank, heat and inodes of a part.
-type Shown = (u32, u8, u64, u64);
+/// What the rows are; their parents, heats and inodes; their labels; the rank of each label; the parts, where row i is
+/// directory 10 i.
+type Named = (
+    &'static str,
+    &'static [(u32, u64, u32)],
+    &'static [u32],
+    &'static [u8],
+    &'static [Shown],
+);
 
-/// What is shown of a plan's parts, where row i is directory 10 i.
-fn shown_parts(rt: &impl Abort, alloc: Global, problem: &Problem, plan: &Plan) -> Vec<Shown> {
-    let mut dirs = Vec::new(alloc);
-    for row in 0..problem.rows().len() as u32 {
-        dirs.push(Dir::new(row.wrapping_mul(10))).sure(rt);
-    }
-    let count = plan.rank.len();
-    if dirs.len() != problem.rows().len()
-        || plan.part.len() != problem.rows().len()
-        || plan.part.iter().any(|&label| label as usize >= count)
-    {
-        panic!(rt; "no plan of the problem");
-    }
-    let mut shown = Vec::new(alloc);
-    for part in &parts(alloc, problem, &dirs, plan).sure(rt) {
-        shown
-            .push((
-                part.top.number(),
-                part.rank.number(),
-                part.heat,
-                part.inodes,
-            ))
-            .sure(rt);
-    }
-    shown
+const NAMED: &[Named] = &[
+    (
+        "two rows below the root",
+        &[(0, 0, 1), (0, 4, 10), (0, 6, 20)],
+        &[0, 0, 1],
+        &[1, 0],
+        &[(0, 1, 4, 11), (20, 0, 6, 20)],
+    ),
+    (
+        "a chain",
+        &[(0, 0, 1), (0, 3, 5), (1, 3, 1), (2, 3, 1)],
+        &[0, 0, 1, 1],
+        &[0, 1],
+        &[(0, 0, 3, 6), (20, 1, 6, 2)],
+    ),
+    (
+        "the root's label isn't the first",
+        &[(0, 0, 1), (0, 100, 5), (0, 1, 7)],
+        &[1, 0, 1],
+        &[1, 0],
+        &[(0, 0, 1, 8), (10, 1, 100, 5)],
+    ),
+    ("nothing", &[], &[], &[], &[]),
+];
+
+/// The parts of a plan of up to four rows, where row i is directory 10 i.
+fn parts_by_tens(rt: &impl Abort, alloc: Global, problem: &Problem, plan: &Plan) -> Vec<PlanPart> {
+    let dirs = [Dir::new(0), Dir::new(10), Dir::new(20), Dir::new(30)];
+    let some = dirs.get(..problem.rows().len()).unwrap_or(&dirs);
+    parts_of(rt, alloc, problem, some, plan).sure(rt)
+}
+
+/// The parts are named as a row says.
+fn names_so(rt: &impl Abort, alloc: Global, row: &Named) {
+    let (name, given, labels, ranks, wanted) = row;
+    let plan = plan_of(alloc, labels.to_vec(alloc).sure(rt), ranks);
+    let found = parts_by_tens(rt, alloc, &problem_with(rt, alloc, given), &plan);
+    same_rows(rt, &found, wanted, name);
 }
 
 #[test]
 fn names_the_parts(rt: HostRuntime) {
-    // (parent, heat and inodes of each row, its label, rank of each label; top, rank, heat and inodes of each part)
-    let table: [(&[(u32, u64, u32)], &[u32], &[u8], &[Shown]); 4] = [
-        (
-            &[(0, 0, 1), (0, 4, 10), (0, 6, 20)],
-            &[0, 0, 1],
-            &[1, 0],
-            &[(0, 1, 4, 11), (20, 0, 6, 20)],
-        ),
-        (
-            &[(0, 0, 1), (0, 3, 5), (1, 3, 1), (2, 3, 1)],
-            &[0, 0, 1, 1],
-            &[0, 1],
-            &[(0, 0, 3, 6), (20, 1, 6, 2)],
-        ),
-        (
-            &[(0, 0, 1), (0, 100, 5), (0, 1, 7)],
-            &[1, 0, 1],
-            &[1, 0],
-            &[(0, 0, 1, 8), (10, 1, 100, 5)],
-        ),
-        (&[], &[], &[], &[]),
-    ];
-    for (given, part, rank, wanted) in table {
-        let problem = problem(&rt, rt.alloc(), given);
-        let plan = plan(&rt, rt.alloc(), part, rank);
-        let found = shown_parts(&rt, rt.alloc(), &problem, &plan);
-        same(&rt, &found.as_slice(), &wanted);
+    for row in NAMED {
+        names_so(&rt, rt.alloc(), row);
     }
 }
 
