@@ -2,129 +2,110 @@
 //!
 //! Each call that takes memory is made again where a growth was refused, so the tests hold with any one
 //! growth refused.
-ghost use Rattle.std.specs.Prelude.{◌<◌, ◌≤◌, length};
 
-use crate::cuts::chain;
-use crate::given::{at_last, first_ranks, hot_rows, over};
-use crate::same::{Sure, holds_in, same};
+use crate::claims::{Shown, alike_in, proof_of};
+use crate::cuts::{STAR, STAR_TABLE, cut_within};
+use crate::given::{Given, chain, first_ranks, over, problem, random_rows, star};
+use crate::same::{Sure, holds_in, same, same_in};
 use exhaustive::{Random, least_greatest_heat};
-use mds_types::{CutProof, Problem, ProblemRow, Row};
+use mds_types::{CutProof, Problem, ProblemRow};
 use minmax_search::{BestCut, search};
-use residual_cut::{Cut, CutError, cut_at};
-use std::alloc::{AllocError, Global};
+use std::alloc::Global;
 use std::process::Abort;
 
 /// What the search finds in the end.
-fn found(alloc: Global, problem: &Problem) -> Result<BestCut, AllocError> {
-    at_last(|| search(problem, alloc))
-}
-
-fn found_in(rt: &impl Abort, alloc: Global, rows: &[(u32, u64)], ranks: u8) -> BestCut {
-    let problem = over(rt, hot_rows(alloc, rows).sure(rt), first_ranks(ranks));
-    found(alloc, &problem).sure(rt)
-}
-
-fn is_table(proof: &CutProof, rows: &[Row]) -> bool {
-    matches!(proof, CutProof::Table(table) if table.rows() == rows)
-}
-
-fn is_heavy(proof: &CutProof, row: u32) -> bool {
-    matches!(proof, CutProof::Heavy(found) if *found == row)
-}
-
-fn entry(cuts: u32, rest: u64, price: u64, cut: bool) -> Row {
-    Row {
-        cuts,
-        rest,
-        price,
-        cut,
+fn found(rt: &impl Abort, alloc: Global, problem: &Problem) -> BestCut {
+    match search(problem, alloc) {
+        Ok(best) => best,
+        Err(_) => search(problem, alloc).sure(rt),
     }
 }
 
-const STAR: [(u32, u64); 4] = [(0, 2), (0, 5), (0, 4), (0, 3)];
+/// Two directories without heat.
+const COLD: [Given; 2] = [(0, 0, 1, 0), (0, 0, 1, 0)];
+
+// (rows, ranks, least greatest heat, the part of each row, the proof): the least row that is as hot is told
+const SMALL_TREES: [(&[Given], u64, u64, &[u32], &Shown); 5] = [
+    (&STAR, 3, 9, &[0, 1, 0, 0], &Shown::Table(&STAR_TABLE)),
+    (&STAR, 7, 5, &[0, 1, 2, 0], &Shown::Heavy(1)),
+    (
+        &[(0, 2, 1, 0), (0, 7, 1, 0), (0, 7, 1, 0), (1, 7, 1, 0)],
+        15,
+        7,
+        &[0, 1, 2, 3],
+        &Shown::Heavy(1),
+    ),
+    (&[], 3, 0, &[], &Shown::Zero),
+    (&COLD, 3, 0, &[0, 0], &Shown::Zero),
+];
+
+/// A division with this greatest heat is found, and this proof.
+fn is_found(
+    rt: &impl Abort,
+    alloc: Global,
+    problem: &Problem,
+    greatest: u64,
+    part: &[u32],
+    proof: &CutProof,
+) {
+    let best = found(rt, alloc, problem);
+    same_in(rt, &best.greatest, &greatest, &part);
+    same(rt, &best.cut.part.as_slice(), &part);
+    alike_in(rt, alloc, &best.proof, proof, &part);
+}
 
 #[test]
 fn finds_the_least_greatest_heat(rt: HostRuntime) {
-    let two = found_in(&rt, rt.alloc(), &STAR, 2);
-    same(&rt, &two.greatest, &9);
-    same(&rt, &two.cut.part.as_slice(), &[0, 1, 0, 0].as_slice());
-    let table = [
-        entry(2, 5, 4, false),
-        entry(0, 5, 0, true),
-        entry(0, 4, 0, true),
-        entry(0, 3, 0, false),
-    ];
-    assert!(rt; is_table(&two.proof, &table));
+    let alloc = rt.alloc();
+    for (rows, ranks, greatest, part, shown) in SMALL_TREES {
+        let problem = problem(&rt, alloc, rows, ranks);
+        is_found(
+            &rt,
+            alloc,
+            &problem,
+            greatest,
+            part,
+            &proof_of(&rt, alloc, shown),
+        );
+    }
 }
 
 #[test]
-fn the_least_heavy_row_is_told(rt: HostRuntime) {
-    let three = found_in(&rt, rt.alloc(), &STAR, 3);
-    same(&rt, &three.greatest, &5);
-    assert!(rt; is_heavy(&three.proof, 1));
-    let twice = found_in(&rt, rt.alloc(), &[(0, 2), (0, 7), (0, 7), (1, 7)], 4);
-    same(&rt, &twice.greatest, &7);
-    assert!(rt; is_heavy(&twice.proof, 1));
+fn counts_parts_and_passes(rt: HostRuntime) {
+    let none = found(&rt, rt.alloc(), &problem(&rt, rt.alloc(), &[], 3));
+    same(&rt, &(none.cut.count, none.passes), &(0, 1));
+    let cold = found(&rt, rt.alloc(), &problem(&rt, rt.alloc(), &COLD, 3));
+    same(&rt, &cold.cut.count, &1);
 }
 
-#[test]
-fn searches_no_rows_and_no_heat(rt: HostRuntime) {
-    let none = found_in(&rt, rt.alloc(), &[], 2);
-    same(
-        &rt,
-        &(none.greatest, none.cut.count, none.passes),
-        &(0, 0, 1),
-    );
-    assert!(rt; matches!(&none.proof, CutProof::Zero));
-    let cold = found_in(&rt, rt.alloc(), &[(0, 0), (0, 0)], 2);
-    same(&rt, &(cold.greatest, cold.cut.count), &(0, 1));
-    assert!(rt; matches!(&cold.proof, CutProof::Zero));
-}
-
-#[test]
-fn searches_a_chain(rt: HostRuntime) {
-    let problem = over(&rt, chain(rt.alloc(), 65536).sure(&rt), u64::MAX);
-    let long = found(rt.alloc(), &problem).sure(&rt);
-    same(&rt, &(long.greatest, long.cut.count), &(1024, 64));
+/// A large tree needs a table, 64 parts, and few passes.
+fn needs_64_parts(rt: &impl Abort, alloc: Global, rows: Vec<ProblemRow>, greatest: u64) {
+    let best = found(rt, alloc, &over(rt, rows, u64::MAX));
+    same(rt, &(best.greatest, best.cut.count), &(greatest, 64));
     // at least the cut, the table below it and one walk that failed
-    holds_in(&rt, (3..=60).contains(&long.passes), &long.passes);
-    let CutProof::Table(table) = &long.proof else {
-        panic!(rt; "a chain needs a table");
+    holds_in(rt, (3..=60).contains(&best.passes), &best.passes);
+    let CutProof::Table(table) = &best.proof else {
+        panic!(rt; "no table");
     };
-    same(&rt, &table.rows().first().map(|row| row.cuts), &Some(64));
+    let Some(root) = table.rows().first() else {
+        panic!(rt; "no rows");
+    };
+    same(rt, &root.cuts, &64);
 }
 
 #[test]
-fn searches_a_star(rt: HostRuntime) {
-    let mut star = at_last(|| Vec::with_capacity(rt.alloc(), 65536)).sure(&rt);
-    for i in 0..65536u32 {
-        star.push((0, if i == 0 { 0 } else { 1 << 40 })).sure(&rt);
-    }
-    let wide = found_in(&rt, rt.alloc(), &star, 64);
-    same(&rt, &wide.greatest, &71987225293750272);
-    holds_in(&rt, (3..=60).contains(&wide.passes), &wide.passes);
-    assert!(rt; matches!(&wide.proof, CutProof::Table(_)));
-}
-
-fn random_rows(
-    alloc: Global,
-    random: &mut Random,
-    count: u32,
-) -> Result<Vec<ProblemRow>, AllocError> {
-    match random.rows(alloc, count, 12) {
-        Ok(rows) => Ok(rows),
-        Err(_) => random.rows(alloc, count, 12),
-    }
+fn searches_large_trees(rt: HostRuntime) {
+    needs_64_parts(&rt, rt.alloc(), chain(&rt, rt.alloc(), 65536), 1024);
+    let rows = star(&rt, rt.alloc(), 65535, 1 << 40, 0, 0);
+    needs_64_parts(&rt, rt.alloc(), rows, 71987225293750272);
 }
 
 /// Whether the search finds what trial of all divisions finds.
-fn is_least(rt: &impl Abort, alloc: Global, rows: Vec<ProblemRow>, ranks: u8) -> bool
-    requires rows { length rows.items ≤ 8 }
-    requires ranks { 0 < ranks }
-{
+fn is_least(rt: &impl Abort, alloc: Global, rows: Vec<ProblemRow>, ranks: u8) -> bool {
+    assert!(rt; rows.len() <= 8);
+    assert!(rt; ranks > 0);
     let least = least_greatest_heat(&rows, ranks as usize);
-    let problem = over(rt, rows, first_ranks(ranks));
-    found(alloc, &problem).sure(rt).greatest == least
+    found(rt, alloc, &over(rt, rows, first_ranks(ranks))).greatest == least
 }
 
 #[test]
@@ -133,34 +114,22 @@ fn no_division_of_small_trees_is_cooler(rt: HostRuntime) {
     for round in 0..60 {
         let count = 1 + random.below(6) as u32;
         let ranks = 1 + random.below(4) as u8;
-        let rows = random_rows(rt.alloc(), &mut random, count).sure(&rt);
-        assert!(rt; rows.len() <= 8);
+        let rows = random_rows(&rt, rt.alloc(), &mut random, count, 12);
         holds_in(&rt, is_least(&rt, rt.alloc(), rows, ranks), &round);
     }
-}
-
-fn cut_within(alloc: Global, problem: &Problem, bound: u64) -> Result<Cut, CutError> {
-    let mut passes = 0;
-    match cut_at(problem, alloc, bound, &mut passes) {
-        Err(CutError::Memory) => cut_at(problem, alloc, bound, &mut passes),
-        answer => answer,
-    }
-}
-
-fn is_same_cut(cut: &Cut, other: &Cut) -> bool {
-    cut.count == other.count && cut.part == other.part && cut.rows == other.rows
 }
 
 /// Whether the search's cut is that at the heat that it finds, and its table that just below.
 fn is_cut_there(rt: &impl Abort, alloc: Global, rows: Vec<ProblemRow>, ranks: u8) -> bool {
     let problem = over(rt, rows, first_ranks(ranks));
-    let found = found(alloc, &problem).sure(rt);
-    let cut = cut_within(alloc, &problem, found.greatest).sure(rt);
-    let is_same = is_same_cut(&cut, &found.cut);
-    let CutProof::Table(table) = &found.proof else {
+    let best = found(rt, alloc, &problem);
+    let is_same = cut_within(alloc, &problem, best.greatest).0.sure(rt) == best.cut;
+    let CutProof::Table(table) = &best.proof else {
         return is_same;
     };
-    let below = cut_within(alloc, &problem, found.greatest.saturating_sub(1)).sure(rt);
+    let below = cut_within(alloc, &problem, best.greatest.saturating_sub(1))
+        .0
+        .sure(rt);
     is_same && below.rows.as_slice() == table.rows()
 }
 
@@ -170,7 +139,7 @@ fn cut_and_table_are_those_at_the_bound(rt: HostRuntime) {
     for round in 0..60 {
         let count = 1 + random.below(40) as u32;
         let ranks = 1 + random.below(9) as u8;
-        let rows = random_rows(rt.alloc(), &mut random, count).sure(&rt);
+        let rows = random_rows(&rt, rt.alloc(), &mut random, count, 12);
         holds_in(&rt, is_cut_there(&rt, rt.alloc(), rows, ranks), &round);
     }
 }

@@ -2,100 +2,117 @@
 //!
 //! Each call that takes memory is made again where a growth was refused, so the tests hold with any one
 //! growth refused.
-ghost use Rattle.std.specs.Prelude.{◌<◌, ◌≤◌, ◌-◌, ◌^◌, length};
 
-use crate::given::{at_last, hot_rows, over};
+use crate::given::{Given, InTable, chain, entries, over, problem, random_rows, star, text_of};
 use crate::same::{Sure, holds_in, same, same_in};
 use exhaustive::{Random, fewest_parts};
-use mds_types::{Problem, ProblemRow, Rank, Row};
+use mds_types::{Problem, ProblemRow};
 use residual_cut::{Cut, CutError, cut_at};
-use std::alloc::{AllocError, Global};
+use std::alloc::Global;
 use std::process::Abort;
 
-/// What a cut is in the end.
-fn cut_again(
-    problem: &Problem,
-    alloc: Global,
-    bound: u64,
-    passes: &mut u32,
-) -> Result<Cut, CutError>
-    requires { passes.old < 2 ^ 32 - 1 }
-{
-    match cut_at(problem, alloc, bound, passes) {
-        Err(CutError::Memory) => cut_at(problem, alloc, bound, passes),
+/// What a cut is in the end, and how many passes are counted after seven.
+pub fn cut_within(alloc: Global, problem: &Problem, bound: u64) -> (Result<Cut, CutError>, u32) {
+    let mut passes = 7;
+    let answer = match cut_at(problem, alloc, bound, &mut passes) {
+        Err(CutError::Memory) => cut_at(problem, alloc, bound, &mut passes),
         answer => answer,
-    }
+    };
+    (answer, passes)
 }
 
-/// The cut of these rows, and how many passes were counted.
-fn counted_cut(rt: &impl Abort, alloc: Global, rows: Vec<ProblemRow>, bound: u64) -> (Cut, u32) {
-    let problem = over(rt, rows, 1);
-    let mut passes = 7;
-    let cut = cut_again(&problem, alloc, bound, &mut passes).sure(rt);
-    (cut, passes)
+/// The cut of these rows.
+fn cut_of(rt: &impl Abort, alloc: Global, rows: Vec<ProblemRow>, bound: u64) -> Cut {
+    cut_within(alloc, &over(rt, rows, 1), bound).0.sure(rt)
 }
 
-fn cut_of(rt: &impl Abort, alloc: Global, rows: &[(u32, u64)], bound: u64) -> Cut {
-    let rows = hot_rows(alloc, rows).sure(rt);
-    counted_cut(rt, alloc, rows, bound).0
-}
+/// A root with three directories.
+pub const STAR: [Given; 4] = [(0, 2, 1, 0), (0, 5, 1, 0), (0, 4, 1, 0), (0, 3, 1, 0)];
 
-/// Why these rows have no cut.
-fn no_cut(rt: &impl Abort, alloc: Global, rows: Vec<ProblemRow>, bound: u64) -> (CutError, u32) {
-    let problem = over(rt, rows, 1);
-    let mut passes = 7;
-    match cut_again(&problem, alloc, bound, &mut passes) {
-        Ok(_) => panic!(rt; "a cut"),
-        Err(error) => (error, passes),
-    }
-}
+/// The table of its cut within 7 or 8.
+pub const STAR_TABLE: [InTable; 4] = [
+    (2, 5, 4, false),
+    (0, 5, 0, true),
+    (0, 4, 0, true),
+    (0, 3, 0, false),
+];
 
-const STAR: [(u32, u64); 4] = [(0, 2), (0, 5), (0, 4), (0, 3)];
+/// A root with four directories, two of them equally hot.
+const EQUALS: [Given; 5] = [
+    (0, 1, 1, 0),
+    (0, 3, 1, 0),
+    (0, 5, 1, 0),
+    (0, 5, 1, 0),
+    (0, 4, 1, 0),
+];
+
+// (rows, bound, parts, the part of each row, the table): the hottest rests go first, among equals the smaller row
+const CUTS: [(&[Given], u64, u32, &[u32], &[InTable]); 4] = [
+    (&STAR, 7, 3, &[0, 1, 2, 0], &STAR_TABLE),
+    (
+        &EQUALS,
+        13,
+        2,
+        &[0, 0, 1, 0, 0],
+        &[
+            (1, 13, 5, false),
+            (0, 3, 0, false),
+            (0, 5, 0, true),
+            (0, 5, 0, false),
+            (0, 4, 0, false),
+        ],
+    ),
+    (
+        &EQUALS,
+        8,
+        3,
+        &[0, 0, 1, 2, 0],
+        &[
+            (2, 8, 5, false),
+            (0, 3, 0, false),
+            (0, 5, 0, true),
+            (0, 5, 0, true),
+            (0, 4, 0, false),
+        ],
+    ),
+    (&[], 0, 0, &[], &[]),
+];
+
+/// The rows are cut so.
+fn is_cut_so(
+    rt: &impl Abort,
+    alloc: Global,
+    rows: &[Given],
+    bound: u64,
+    wanted: (u32, &[u32]),
+    table: &[InTable],
+) {
+    let (answer, passes) = cut_within(alloc, &problem(rt, alloc, rows, 1), bound);
+    let cut = answer.sure(rt);
+    same_in(rt, &(cut.count, cut.part.as_slice()), &wanted, &bound);
+    same_in(rt, &cut.rows, &entries(rt, alloc, table), &bound);
+    same_in(rt, &passes, &8, &bound);
+}
 
 #[test]
 fn cuts_the_hottest_pieces(rt: HostRuntime) {
-    let cut = cut_of(&rt, rt.alloc(), &STAR, 7);
-    same(&rt, &cut.count, &3);
-    same(&rt, &cut.part.as_slice(), &[0, 1, 2, 0].as_slice());
-    let root = Row {
-        cuts: 2,
-        rest: 5,
-        price: 4,
-        cut: false,
-    };
-    same(&rt, &cut.rows.first(), &Some(&root));
+    for (rows, bound, count, part, table) in CUTS {
+        is_cut_so(&rt, rt.alloc(), rows, bound, (count, part), table);
+    }
+}
+
+/// The error prints so.
+fn prints(rt: &impl Abort, alloc: Global, error: CutError, text: &str) {
+    same(rt, &text_of(rt, alloc, &error).as_str(), &text);
 }
 
 #[test]
 fn refuses_the_least_heavy_row(rt: HostRuntime) {
-    let (error, passes) = no_cut(&rt, rt.alloc(), hot_rows(rt.alloc(), &STAR).sure(&rt), 4);
-    same(&rt, &error, &CutError::Heavy(1));
-    same(&rt, &passes, &8);
-    let text = at_last(|| error.to_string(rt.alloc())).sure(&rt);
-    same(&rt, &text.as_str(), &"16 Heavy 1");
-    let text = at_last(|| CutError::Memory.to_string(rt.alloc())).sure(&rt);
-    same(&rt, &text.as_str(), &"0 Memory");
-}
-
-#[test]
-fn cuts_the_smaller_row_among_equals(rt: HostRuntime) {
-    let rows = [(0, 1), (0, 3), (0, 5), (0, 5), (0, 4)];
-    let one = cut_of(&rt, rt.alloc(), &rows, 13);
-    same(&rt, &one.part.as_slice(), &[0, 0, 1, 0, 0].as_slice());
-    let two = cut_of(&rt, rt.alloc(), &rows, 8);
-    same(&rt, &two.part.as_slice(), &[0, 0, 1, 2, 0].as_slice());
-}
-
-/// 300 rows below a cold root. The first one's heat, and what each has more or less than the one before.
-fn wide_rows(rt: &impl Abort, alloc: Global, first: u64, more: u64, less: u64) -> Vec<ProblemRow> {
-    let mut star = at_last(|| Vec::with_capacity(alloc, 301)).sure(rt);
-    let mut heat: u64 = first;
-    star.push((0, 0)).sure(rt);
-    for _ in 0..300u32 {
-        star.push((0, heat)).sure(rt);
-        heat = heat.saturating_add(more).saturating_sub(less);
-    }
-    hot_rows(alloc, &star).sure(rt)
+    let alloc = rt.alloc();
+    let (answer, passes) = cut_within(alloc, &problem(&rt, alloc, &STAR, 1), 4);
+    same(&rt, &(told_of(&rt, answer), passes), &((None, Some(1)), 8));
+    prints(&rt, alloc, CutError::Heavy(1), "16 Heavy 1");
+    prints(&rt, alloc, CutError::Memory, "0 Memory");
 }
 
 /// Whether just the rows from `low` to `high` are parts of their own.
@@ -114,69 +131,66 @@ fn are_cut(part: &[u32], low: u32, high: u32) -> bool {
     true
 }
 
+// (the first one's heat, what each has more, or less, the bound, the first and the last that is cut)
+const WIDE: [(u64, u64, u64, u64, u32, u32); 3] = [
+    (1, 1, 0, 20000, 200, 300),
+    (300, 0, 1, 20000, 1, 101),
+    (10, 0, 0, 1000, 1, 200),
+];
+
 #[test]
 fn cuts_many_children_of_one_row(rt: HostRuntime) {
-    // (the first one's heat, what each has more, or less, the bound, the first and the last that is cut)
-    for (first, more, less, bound, low, high) in [
-        (1, 1, 0, 20000, 200, 300),
-        (300, 0, 1, 20000, 1, 101),
-        (10, 0, 0, 1000, 1, 200),
-    ] {
-        let rows = wide_rows(&rt, rt.alloc(), first, more, less);
-        let (cut, _) = counted_cut(&rt, rt.alloc(), rows, bound);
-        holds_in(&rt, are_cut(&cut.part, low, high), &(low, high, bound));
+    for (first, more, less, bound, low, high) in WIDE {
+        let rows = star(&rt, rt.alloc(), 300, first, more, less);
+        let cut = cut_of(&rt, rt.alloc(), rows, bound);
+        holds_in(&rt, are_cut(&cut.part, low, high), &(low, high));
     }
 }
 
-#[test]
-fn cuts_no_rows(rt: HostRuntime) {
-    let (cut, passes) = counted_cut(&rt, rt.alloc(), Vec::new(rt.alloc()), 0);
-    same(&rt, &cut.count, &0);
-    same(&rt, &passes, &8);
-}
-
-/// A chain of so many rows of heat 1.
-pub fn chain(alloc: Global, count: u32) -> Result<Vec<ProblemRow>, AllocError> {
-    let mut chain = at_last(|| Vec::with_capacity(alloc, count as usize))?;
-    for i in 0..count {
-        chain.push(ProblemRow {
-            parent: i.saturating_sub(1),
-            heat: 1,
-            inodes: 1,
-            now: Rank::default(),
-        })?;
-    }
-    Ok(chain)
-}
+// (bound, parts)
+const LONG: [(u64, u32); 5] = [
+    (1023, 65),
+    (1024, 64),
+    (1, 65536),
+    (65536, 1),
+    (u64::MAX, 1),
+];
 
 #[test]
 fn cuts_a_long_chain(rt: HostRuntime) {
-    // (bound, parts)
-    for (bound, count) in [
-        (1023, 65),
-        (1024, 64),
-        (1, 65536),
-        (65536, 1),
-        (u64::MAX, 1),
-    ] {
-        let (cut, _) = counted_cut(&rt, rt.alloc(), chain(rt.alloc(), 65536).sure(&rt), bound);
+    for (bound, count) in LONG {
+        let cut = cut_of(&rt, rt.alloc(), chain(&rt, rt.alloc(), 65536), bound);
         same_in(&rt, &cut.count, &count, &bound);
     }
 }
 
-/// Whether a cut has as few parts as any division, or tells the least row that is too hot.
-fn is_fewest(rt: &impl Abort, alloc: Global, rows: Vec<ProblemRow>, bound: u64) -> bool
-    requires { length rows.items ≤ 8 }
-{
-    let fewest = fewest_parts(&rows, bound);
-    let heavy = rows.iter().position(|row| row.heat > bound);
-    let problem = over(rt, rows, 1);
-    let mut passes = 0;
-    match cut_again(&problem, alloc, bound, &mut passes) {
-        Ok(cut) => Some(cut.count as usize) == fewest,
-        Err(CutError::Heavy(row)) => heavy == Some(row as usize) && fewest.is_none(),
+/// The least row that is hotter than the bound.
+fn first_hot(rows: &[ProblemRow], bound: u64) -> Option<u32> {
+    let mut number = 0;
+    for row in rows {
+        if row.heat > bound {
+            return Some(number);
+        }
+        number = number.saturating_add(1);
+    }
+    None
+}
+
+/// How many parts there are, or the row that is too hot.
+fn told_of(rt: &impl Abort, answer: Result<Cut, CutError>) -> (Option<usize>, Option<u32>) {
+    match answer {
+        Ok(cut) => (Some(cut.count as usize), None),
+        Err(CutError::Heavy(row)) => (None, Some(row)),
         Err(CutError::Memory) => panic!(rt; "no memory"),
     }
+}
+
+/// Whether a cut has as few parts as any division, or tells the least row that is too hot.
+fn is_fewest(rt: &impl Abort, alloc: Global, rows: Vec<ProblemRow>, bound: u64) -> bool {
+    assert!(rt; rows.len() <= 8);
+    let wanted = (fewest_parts(&rows, bound), first_hot(&rows, bound));
+    let (answer, _) = cut_within(alloc, &over(rt, rows, 1), bound);
+    told_of(rt, answer) == wanted
 }
 
 #[test]
@@ -184,12 +198,8 @@ fn no_division_of_small_trees_has_fewer_parts(rt: HostRuntime) {
     let mut random = Random::new(7);
     for round in 0..60 {
         let count = 1 + random.below(6) as u32;
-        let rows = match random.rows(rt.alloc(), count, 9) {
-            Ok(rows) => rows,
-            Err(_) => random.rows(rt.alloc(), count, 9).sure(&rt),
-        };
+        let rows = random_rows(&rt, rt.alloc(), &mut random, count, 9);
         let bound = random.below(20);
-        assert!(rt; rows.len() <= 8);
         holds_in(&rt, is_fewest(&rt, rt.alloc(), rows, bound), &round);
     }
 }

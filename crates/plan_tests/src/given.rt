@@ -1,11 +1,13 @@
-//! Problems and tables that tests are given.
+//! Problems and lists that tests are given.
 //!
 //! Each call that takes memory is made again where a growth was refused, so tests that use these hold with any
 //! one growth refused.
 
 use crate::same::Sure;
-use mds_types::{CutProof, CutTable, Problem, ProblemRow, Rank, RankSet, Row};
-use std::alloc::{AllocError, Global};
+use exhaustive::Random;
+use mds_types::{Problem, ProblemRow, Rank, RankSet, Row};
+use std::alloc::Global;
+use std::fmt::Display;
 use std::process::Abort;
 
 /// Parent, heat, inodes and present rank of a row.
@@ -14,25 +16,49 @@ pub type Given = (u32, u64, u32, u8);
 /// Cuts, rest, price of a table's row, and whether it is cut.
 pub type InTable = (u32, u64, u64, bool);
 
-/// What a call gives, or gives when it is made again, where a growth was refused the first time.
-pub fn at_last<T, F: Fn() -> Result<T, AllocError> + Drop>(call: F) -> Result<T, AllocError>
-    requires { F.IsAlwaysCallable call }
-{
-    match call() {
-        Ok(value) => Ok(value),
-        Err(_) => call(),
+/// An empty list with room for so many entries.
+pub fn room<T>(rt: &impl Abort, alloc: Global, count: usize) -> Vec<T> {
+    match Vec::with_capacity(alloc, count) {
+        Ok(list) => list,
+        Err(_) => Vec::with_capacity(alloc, count).sure(rt),
     }
 }
 
 /// A list of these entries.
-pub fn list_of<T: Copy>(alloc: Global, entries: &[T]) -> Result<Vec<T>, AllocError> {
-    at_last(|| entries.to_vec(alloc))
+pub fn list_of<T: Copy>(rt: &impl Abort, alloc: Global, entries: &[T]) -> Vec<T> {
+    match entries.to_vec(alloc) {
+        Ok(list) => list,
+        Err(_) => entries.to_vec(alloc).sure(rt),
+    }
 }
 
+/// What is printed.
+pub fn text_of<T: Display>(rt: &impl Abort, alloc: Global, value: &T) -> String {
+    match value.to_string(alloc) {
+        Ok(text) => text,
+        Err(_) => value.to_string(alloc).sure(rt),
+    }
+}
+
+/// The rank of this number.
+pub fn rank(rt: &impl Abort, number: u8) -> Rank {
+    Rank::new(number).ok_or("no rank").sure(rt)
+}
+
+/// The numbers of these ranks.
+pub fn numbers(rt: &impl Abort, alloc: Global, ranks: &[Rank]) -> Vec<u8> {
+    let mut numbers = room(rt, alloc, ranks.len());
+    for rank in ranks {
+        numbers.push(rank.number()).sure(rt);
+    }
+    numbers
+}
+
+/// The rows of a problem.
 pub fn rows_of(rt: &impl Abort, alloc: Global, given: &[Given]) -> Vec<ProblemRow> {
-    let mut rows = at_last(|| Vec::with_capacity(alloc, given.len())).sure(rt);
+    let mut rows = room(rt, alloc, given.len());
     for &(parent, heat, inodes, now) in given {
-        let now = Rank::new(now).ok_or("no rank").sure(rt);
+        let now = rank(rt, now);
         rows.push(ProblemRow {
             parent,
             heat,
@@ -44,21 +70,72 @@ pub fn rows_of(rt: &impl Abort, alloc: Global, given: &[Given]) -> Vec<ProblemRo
     rows
 }
 
-/// The rows with these parents and heats, of one inode each, all at rank 0.
-pub fn hot_rows(
-    alloc: Global,
-    parents_and_heats: &[(u32, u64)],
-) -> Result<Vec<ProblemRow>, AllocError> {
-    let mut rows = at_last(|| Vec::with_capacity(alloc, parents_and_heats.len()))?;
-    for &(parent, heat) in parents_and_heats {
-        rows.push(ProblemRow {
-            parent,
-            heat,
-            inodes: 1,
-            now: Rank::default(),
-        })?;
+/// The rows of a table.
+pub fn entries(rt: &impl Abort, alloc: Global, given: &[InTable]) -> Vec<Row> {
+    let mut rows = room(rt, alloc, given.len());
+    for &(cuts, rest, price, cut) in given {
+        rows.push(Row {
+            cuts,
+            rest,
+            price,
+            cut,
+        })
+        .sure(rt);
     }
-    Ok(rows)
+    rows
+}
+
+/// A row of one inode at rank 0.
+fn small_row(parent: u32, heat: u64) -> ProblemRow {
+    ProblemRow {
+        parent,
+        heat,
+        inodes: 1,
+        now: Rank::default(),
+    }
+}
+
+/// So many rows below a cold root. The first one's heat, and what each has more or less than the one before.
+pub fn star(
+    rt: &impl Abort,
+    alloc: Global,
+    count: usize,
+    first: u64,
+    more: u64,
+    less: u64,
+) -> Vec<ProblemRow> {
+    let mut rows = room(rt, alloc, count.saturating_add(1));
+    let mut heat = first;
+    rows.push(small_row(0, 0)).sure(rt);
+    for _ in 0..count {
+        rows.push(small_row(0, heat)).sure(rt);
+        heat = heat.saturating_add(more).saturating_sub(less);
+    }
+    rows
+}
+
+/// A chain of so many rows of heat 1.
+pub fn chain(rt: &impl Abort, alloc: Global, count: u32) -> Vec<ProblemRow> {
+    let mut rows = room(rt, alloc, count as usize);
+    for row in 0..count {
+        rows.push(small_row(row.saturating_sub(1), 1)).sure(rt);
+    }
+    rows
+}
+
+/// Random rows with heats below a limit.
+pub fn random_rows(
+    rt: &impl Abort,
+    alloc: Global,
+    random: &mut Random,
+    count: u32,
+    heat_limit: u64,
+) -> Vec<ProblemRow> {
+    assert!(rt; heat_limit > 0);
+    match random.rows(alloc, count, heat_limit) {
+        Ok(rows) => rows,
+        Err(_) => random.rows(alloc, count, heat_limit).sure(rt),
+    }
 }
 
 /// The problem of these rows, with the ranks of a bit map.
@@ -79,19 +156,4 @@ pub fn first_ranks(count: u8) -> u64 {
         return u64::MAX;
     }
     (1 << count) - 1
-}
-
-pub fn table(rt: &impl Abort, alloc: Global, rows: &[InTable]) -> CutProof {
-    let mut table = at_last(|| Vec::with_capacity(alloc, rows.len())).sure(rt);
-    for &(cuts, rest, price, cut) in rows {
-        table
-            .push(Row {
-                cuts,
-                rest,
-                price,
-                cut,
-            })
-            .sure(rt);
-    }
-    CutProof::Table(CutTable::new(table))
 }

@@ -5,52 +5,18 @@
 ghost use Rattle.std.specs.Prelude.{◌≡◌, ◌<◌, ◌≤◌, ℕ, true, length, slice_index};
 ghost use Rattle.mds_types.specs.RankSet.{rank_count};
 
-use crate::same::{Sure, holds_in, same_in};
+use crate::given::{Given, list_of, numbers, over, problem, rank, room};
+use crate::same::{Sure, same, same_in};
 use cost_table::place_of;
 use exhaustive::{Random, fewest_moved};
-use mds_types::{Problem, ProblemRow, Rank, RankSet};
+use mds_types::{Problem, ProblemRow, RankSet};
 use rank_assign::{Assigned, Costs, assign, costs, costs_by, sums};
-use std::alloc::{AllocError, Global};
+use std::alloc::Global;
 use std::process::Abort;
 use std::thread::Threads;
 
-/// Parent, heat, inodes and present rank of a row.
-type Given = (u32, u64, u32, u8);
-
 /// How many rows a chunk has.
 const CHUNKS: [usize; 4] = [1, 3, 4, 100];
-
-/// What a call gives, or gives when it is made again, where a growth was refused the first time.
-fn at_last<T, F: Fn() -> Result<T, AllocError> + Drop>(call: F) -> Result<T, AllocError>
-    requires { F.IsAlwaysCallable call }
-{
-    match call() {
-        Ok(value) => Ok(value),
-        Err(_) => call(),
-    }
-}
-
-/// The rank of this number.
-fn rank(rt: &impl Abort, number: u8) -> Rank {
-    Rank::new(number).ok_or("no rank").sure(rt)
-}
-
-fn problem(rt: &impl Abort, alloc: Global, given: &[Given], ranks: u64) -> Problem {
-    let mut rows = at_last(|| Vec::with_capacity(alloc, given.len())).sure(rt);
-    for &(parent, heat, inodes, now) in given {
-        rows.push(ProblemRow {
-            parent,
-            heat,
-            inodes,
-            now: rank(rt, now),
-        })
-        .sure(rt);
-    }
-    match Problem::new(rows, RankSet::from_bits(ranks)) {
-        Ok(problem) => problem,
-        Err(_) => panic!(rt; "no problem"),
-    }
-}
 
 /// Whether there is a part for each row, below a count that the ranks allow.
 fn fits(problem: &Problem, part: &[u32], count: u32) -> bool
@@ -117,7 +83,7 @@ fn sums_between(
     }
 }
 
-/// Whether chunks of each size give these cells.
+/// Chunks of each size give these cells.
 fn chunks_give<R: Abort + Threads + Sync>(
     rt: &R,
     alloc: Global,
@@ -125,31 +91,82 @@ fn chunks_give<R: Abort + Threads + Sync>(
     part: &[u32],
     count: u32,
     cells: &[u64],
-) -> bool {
+) {
     for chunk in CHUNKS {
-        if table_by(rt, alloc, problem, part, count, chunk).cells() != cells {
-            return false;
-        }
+        let costs = table_by(rt, alloc, problem, part, count, chunk);
+        same_in(rt, &costs.cells(), &cells, &(part.len(), chunk));
     }
-    true
 }
 
 /// The placing that is found in the end.
-fn assigned(alloc: Global, costs: &Costs) -> Result<Assigned, AllocError> {
-    at_last(|| assign(alloc, costs))
+fn assigned(rt: &impl Abort, alloc: Global, costs: &Costs) -> Assigned {
+    match assign(alloc, costs) {
+        Ok(placing) => placing,
+        Err(_) => assign(alloc, costs).sure(rt),
+    }
 }
 
-/// Whether the parts were given the ranks of these numbers.
-fn are_numbers(assigned: &Assigned, numbers: &[u8]) -> bool {
-    let ranks = assigned.ranks.as_slice();
-    ranks.len() == numbers.len()
-        && ranks
-            .iter()
-            .zip(numbers)
-            .all(|(rank, number)| rank.number() == *number)
+/// A best placing has this sum, these ranks and a price for each part.
+fn places_so(rt: &impl Abort, alloc: Global, costs: &Costs, moved: u64, ranks: &[u8]) {
+    let placing = assigned(rt, alloc, costs);
+    let told = (placing.moved, placing.proof.part_price.len());
+    same_in(rt, &told, &(moved, ranks.len()), &ranks);
+    let numbers = numbers(rt, alloc, placing.ranks.as_slice());
+    same(rt, &numbers.as_slice(), &ranks);
 }
 
-/// Whether a division costs these cells, in one pass and in chunks, and a best placing moves so much.
+/// A chain of three directories below the root.
+const CHAIN: [Given; 4] = [(0, 0, 1, 0), (0, 3, 5, 0), (1, 3, 1, 0), (2, 3, 1, 0)];
+
+/// Rows at four ranks.
+const FIVE: [Given; 5] = [
+    (0, 0, 4, 1),
+    (0, 0, 1, 2),
+    (0, 0, 1, 0),
+    (0, 0, 3, 1),
+    (0, 0, u32::MAX, 63),
+];
+
+// (rows, ranks, the part of each row, what each part moves at each rank, the fewest inodes that a placing moves, and
+// the rank of each part that does so)
+const DIVISIONS: [(&[Given], u64, &[u32], &[u64], u64, &[u8]); 6] = [
+    (&CHAIN, 3, &[0, 0, 1, 1], &[0, 6, 0, 2], 2, &[0, 1]),
+    (
+        &[(0, 0, 1, 0), (0, 4, 10, 0), (0, 6, 20, 0)],
+        3,
+        &[0, 0, 1],
+        &[0, 11, 0, 20],
+        11,
+        &[1, 0],
+    ),
+    (
+        &[(0, 1, 4, 1), (0, 0, 1, 2), (0, 1, 1, 0), (2, 0, 3, 1)],
+        7,
+        &[0, 0, 1, 1],
+        &[5, 1, 4, 3, 1, 4],
+        4,
+        &[1, 0],
+    ),
+    (
+        &FIVE,
+        7,
+        &[0, 0, 1, 1, 2],
+        &[5, 1, 4, 3, 1, 4, 4294967295, 4294967295, 4294967295],
+        4294967299,
+        &[1, 0, 2],
+    ),
+    (
+        &FIVE,
+        0x8000_0000_0000_0002,
+        &[0, 0, 1, 1, 1],
+        &[1, 5, 4294967296, 4],
+        5,
+        &[1, 63],
+    ),
+    (&FIVE, 4, &[0, 0, 0, 0, 0], &[4294967303], 4294967303, &[2]),
+];
+
+/// A division costs so much, in one pass and in chunks, and its parts are placed so.
 fn costs_so<R: Abort + Threads + Sync>(
     rt: &R,
     alloc: Global,
@@ -157,207 +174,105 @@ fn costs_so<R: Abort + Threads + Sync>(
     part: &[u32],
     cells: &[u64],
     moved: u64,
-) -> bool {
-    let costs = table(rt, alloc, problem, part, 2);
-    let is_same = costs.cells() == cells && chunks_give(rt, alloc, problem, part, 2, cells);
-    is_same && costs.count() == 2 && assigned(alloc, &costs).sure(rt).moved == moved
-}
-
-#[test]
-fn places_two_parts_on_three_ranks(rt: HostRuntime) {
-    let alloc = rt.alloc();
-    let rows = [(0, 1, 4, 1), (0, 0, 1, 2), (0, 1, 1, 0), (2, 0, 3, 1)];
-    let problem = problem(&rt, alloc, &rows, 7);
-    let cells = [5, 1, 4, 3, 1, 4];
-    assert!(rt; costs_so(&rt, alloc, &problem, &[0, 0, 1, 1], &cells, 4));
-    let placing = assigned(alloc, &table(&rt, alloc, &problem, &[0, 0, 1, 1], 2)).sure(&rt);
-    assert!(rt; are_numbers(&placing, &[1, 0]));
-}
-
-/// A chain of three directories below the root.
-fn chain(rt: &impl Abort, alloc: Global) -> Problem {
-    problem(
-        rt,
-        alloc,
-        &[(0, 0, 1, 0), (0, 3, 5, 0), (1, 3, 1, 0), (2, 3, 1, 0)],
-        3,
-    )
-}
-
-#[test]
-fn costs_the_parts_of_a_chain(rt: HostRuntime) {
-    let chain = chain(&rt, rt.alloc());
-    assert!(rt; costs_so(&rt, rt.alloc(), &chain, &[0, 0, 1, 1], &[0, 6, 0, 2], 2));
-}
-
-/// Whether rows 1 and 2 of a chain have 5 inodes of part 0 at rank 0 and 1 of part 1, and no others.
-fn sums_so(rt: &impl Abort, alloc: Global, chain: &Problem) -> bool {
-    let sums = sums_between(rt, alloc, chain, &[0, 0, 1, 1], 2, 1, 3);
-    let is_due = |cell: usize, sum: u64| match cell {
-        0 => sum == 5,
-        64 => sum == 1,
-        _ => sum == 0,
-    };
-    sums.len() == 128
-        && sums
-            .iter()
-            .enumerate()
-            .all(|(cell, sum)| is_due(cell, *sum))
-}
-
-#[test]
-fn sums_some_rows_of_a_chain(rt: HostRuntime) {
-    let chain = chain(&rt, rt.alloc());
-    assert!(rt; sums_so(&rt, rt.alloc(), &chain));
-}
-
-#[test]
-fn a_refused_growth_is_asked_for_again(rt: HostRuntime) {
-    let chain = chain(&rt, rt.alloc());
-    assert!(rt; costs_so(&rt, rt.alloc(), &chain, &[0, 0, 1, 1], &[0, 6, 0, 2], 2));
-    assert!(rt; sums_so(&rt, rt.alloc(), &chain));
-}
-
-#[test]
-fn costs_two_directories(rt: HostRuntime) {
-    let alloc = rt.alloc();
-    let two = problem(&rt, alloc, &[(0, 0, 1, 0), (0, 4, 10, 0), (0, 6, 20, 0)], 3);
-    assert!(rt; costs_so(&rt, alloc, &two, &[0, 0, 1], &[0, 11, 0, 20], 11));
-}
-
-/// Whether three parts of five rows cost so much at the ranks of a set.
-fn five_rows_cost<R: Abort + Threads + Sync>(
-    rt: &R,
-    alloc: Global,
-    bits: u64,
-    part: &[u32],
-    count: u32,
-    cells: &[u64],
-) -> bool {
-    let rows = [
-        (0, 0, 4, 1),
-        (0, 0, 1, 2),
-        (0, 0, 1, 0),
-        (0, 0, 3, 1),
-        (0, 0, u32::MAX, 63),
-    ];
-    let problem = problem(rt, alloc, &rows, bits);
-    let is_same = table(rt, alloc, &problem, part, count).cells() == cells;
-    is_same && chunks_give(rt, alloc, &problem, part, count, cells)
+    numbers: &[u8],
+) {
+    let count = numbers.len().min(64) as u32;
+    let costs = table(rt, alloc, problem, part, count);
+    same_in(rt, &costs.cells(), &cells, &part);
+    same_in(rt, &costs.count(), &count, &part);
+    places_so(rt, alloc, &costs, moved, numbers);
+    chunks_give(rt, alloc, problem, part, count, cells);
 }
 
 #[test]
 fn costs_what_moves(rt: HostRuntime) {
-    // (ranks, the part of each row, parts, what each part moves at each rank)
-    let tables: [(u64, [u32; 5], u32, &[u64]); 3] = [
-        (
-            7,
-            [0, 0, 1, 1, 2],
-            3,
-            &[5, 1, 4, 3, 1, 4, 4294967295, 4294967295, 4294967295],
-        ),
-        (
-            0x8000_0000_0000_0002,
-            [0, 0, 1, 1, 1],
-            2,
-            &[1, 5, 4294967296, 4],
-        ),
-        (4, [0, 0, 0, 0, 0], 1, &[4294967303]),
-    ];
-    for (bits, part, count, cells) in tables {
-        holds_in(
-            &rt,
-            five_rows_cost(&rt, rt.alloc(), bits, &part, count, cells),
-            &bits,
-        );
+    let alloc = rt.alloc();
+    for (rows, ranks, part, cells, moved, numbers) in DIVISIONS {
+        let problem = problem(&rt, alloc, rows, ranks);
+        costs_so(&rt, alloc, &problem, part, cells, moved, numbers);
     }
 }
+
+/// Rows 1 and 2 of the chain have 5 inodes of part 0 at rank 0 and 1 of part 1, and no others.
+fn sums_so(rt: &impl Abort, alloc: Global, chain: &Problem) {
+    let mut wanted = [0u64; 128];
+    wanted[0] = 5;
+    wanted[64] = 1;
+    let sums = sums_between(rt, alloc, chain, &[0, 0, 1, 1], 2, 1, 3);
+    same(rt, &sums.as_slice(), &wanted.as_slice());
+}
+
+#[test]
+fn a_refused_growth_is_asked_for_again(rt: HostRuntime) {
+    let alloc = rt.alloc();
+    let chain = problem(&rt, alloc, &CHAIN, 3);
+    costs_so(&rt, alloc, &chain, &[0, 0, 1, 1], &[0, 6, 0, 2], 2, &[0, 1]);
+    sums_so(&rt, alloc, &chain);
+}
+
+// (a rank, how many of the set 0x8000_0000_0000_000d are smaller)
+const PLACES: [(u8, usize); 6] = [(0, 0), (1, 1), (2, 1), (3, 2), (4, 3), (63, 3)];
 
 #[test]
 fn counts_the_smaller_ranks(rt: HostRuntime) {
     let ranks = RankSet::from_bits(0x8000_0000_0000_000d);
-    for (number, place) in [(0, 0), (1, 1), (2, 1), (3, 2), (4, 3), (63, 3)] {
+    for (number, place) in PLACES {
         same_in(&rt, &place_of(ranks, rank(&rt, number)), &place, &number);
     }
 }
 
 /// The costs that stand in these cells, if they fit.
 fn given_costs(
-    alloc: Global,
-    count: u32,
-    ranks: u64,
-    cells: &[u64],
-) -> Result<Option<Costs>, AllocError> {
-    let cells = at_last(|| cells.to_vec(alloc))?;
-    Ok(Costs::new(count, RankSet::from_bits(ranks), cells))
-}
-
-/// Whether a best placing over these cells has this sum, these ranks and a price for each part.
-fn places_so(
     rt: &impl Abort,
     alloc: Global,
     count: u32,
     ranks: u64,
     cells: &[u64],
-    least: u64,
-    numbers: &[u8],
-) -> bool {
-    let costs = given_costs(alloc, count, ranks, cells)
-        .sure(rt)
+) -> Option<Costs> {
+    Costs::new(count, RankSet::from_bits(ranks), list_of(rt, alloc, cells))
+}
+
+// (ranks, cells, the least sum, the rank of each part that has it)
+const HANDED_ON: [(u64, &[u64], u64, &[u8]); 6] = [
+    (5, &[], 0, &[]),
+    (0x8000_0000_0000_0001, &[5, 3], 3, &[63]),
+    (3, &[0, 1, 0, 10], 1, &[1, 0]),
+    (6, &[1 << 48, 0, (1 << 48) - 1, 0], (1 << 48) - 1, &[2, 1]),
+    (7, &[1, 2, 3, 2, 4, 6, 3, 6, 9], 10, &[2, 1, 0]),
+    (0xf0, &[0, 1, 9, 9, 0, 9, 2, 9, 0, 9, 9, 9], 3, &[5, 6, 4]),
+];
+
+/// The costs that stand in these cells, which fit.
+fn costs_of(rt: &impl Abort, alloc: Global, count: u32, ranks: u64, cells: &[u64]) -> Costs {
+    given_costs(rt, alloc, count, ranks, cells)
         .ok_or("no costs")
-        .sure(rt);
-    let placing = assigned(alloc, &costs).sure(rt);
-    let is_priced = placing.proof.part_price.len() == count as usize;
-    is_priced && placing.moved == least && are_numbers(&placing, numbers)
+        .sure(rt)
 }
 
 #[test]
 fn hands_ranks_on_where_that_costs_less(rt: HostRuntime) {
-    // (parts, ranks, cells, the least sum, the ranks that have it)
-    let tables: [(u32, u64, &[u64], u64, &[u8]); 6] = [
-        (0, 5, &[], 0, &[]),
-        (1, 0x8000_0000_0000_0001, &[5, 3], 3, &[63]),
-        (2, 3, &[0, 1, 0, 10], 1, &[1, 0]),
-        (
-            2,
-            6,
-            &[1 << 48, 0, (1 << 48) - 1, 0],
-            (1 << 48) - 1,
-            &[2, 1],
-        ),
-        (3, 7, &[1, 2, 3, 2, 4, 6, 3, 6, 9], 10, &[2, 1, 0]),
-        (
-            3,
-            0xf0,
-            &[0, 1, 9, 9, 0, 9, 2, 9, 0, 9, 9, 9],
-            3,
-            &[5, 6, 4],
-        ),
-    ];
-    for (count, ranks, cells, least, numbers) in tables {
-        holds_in(
-            &rt,
-            places_so(&rt, rt.alloc(), count, ranks, cells, least, numbers),
-            &count,
-        );
+    for (ranks, cells, least, numbers) in HANDED_ON {
+        let costs = costs_of(&rt, rt.alloc(), numbers.len() as u32, ranks, cells);
+        places_so(&rt, rt.alloc(), &costs, least, numbers);
     }
 }
 
+// (parts, ranks, cells, whether they are taken)
+const CELLS: [(u32, u64, &[u64], bool); 7] = [
+    (0, 0, &[], true),
+    (0, 5, &[], true),
+    (1, 5, &[1 << 48, 0], true),
+    (1, 5, &[(1 << 48) + 1, 0], false),
+    (1, 5, &[0], false),
+    (1, 5, &[0, 0, 0], false),
+    (3, 5, &[0, 0, 0, 0, 0, 0], false),
+];
+
 #[test]
 fn takes_cells_that_fit(rt: HostRuntime) {
-    // (parts, ranks, cells, whether they are taken)
-    let tables: [(u32, u64, &[u64], bool); 7] = [
-        (0, 0, &[], true),
-        (0, 5, &[], true),
-        (1, 5, &[1 << 48, 0], true),
-        (1, 5, &[(1 << 48) + 1, 0], false),
-        (1, 5, &[0], false),
-        (1, 5, &[0, 0, 0], false),
-        (3, 5, &[0, 0, 0, 0, 0, 0], false),
-    ];
-    for (count, ranks, cells, taken) in tables {
-        let costs = given_costs(rt.alloc(), count, ranks, cells).sure(&rt);
-        same_in(&rt, &costs.is_some(), &taken, &count);
+    for (count, ranks, cells, taken) in CELLS {
+        let is_taken = given_costs(&rt, rt.alloc(), count, ranks, cells).is_some();
+        same_in(&rt, &is_taken, &taken, &cells);
     }
 }
 
@@ -392,11 +307,8 @@ fn no_choice_costs_less(rt: HostRuntime) {
     let mut random = Random::new(7);
     for round in 0..300 {
         let cells = random_cells(&mut random, round / 10 + 2);
-        let costs = given_costs(rt.alloc(), 3, 0x8000_0000_0000_1011, &cells)
-            .sure(&rt)
-            .ok_or("no costs")
-            .sure(&rt);
-        let moved = assigned(rt.alloc(), &costs).sure(&rt).moved;
+        let costs = costs_of(&rt, rt.alloc(), 3, 0x8000_0000_0000_1011, &cells);
+        let moved = assigned(&rt, rt.alloc(), &costs).moved;
         same_in(&rt, &moved, &least_of(&cells), &round);
     }
 }
@@ -411,8 +323,8 @@ fn random_star(
 ) -> (Problem, Vec<u32>)
     requires { 0 < count }
 {
-    let mut rows = at_last(|| Vec::with_capacity(alloc, size as usize)).sure(rt);
-    let mut part = at_last(|| Vec::with_capacity(alloc, size as usize)).sure(rt);
+    let mut rows = room(rt, alloc, size as usize);
+    let mut part = room(rt, alloc, size as usize);
     for _ in 0..size {
         rows.push(ProblemRow {
             parent: 0,
@@ -423,10 +335,7 @@ fn random_star(
         .sure(rt);
         part.push(random.below(u64::from(count)) as u32).sure(rt);
     }
-    match Problem::new(rows, RankSet::from_bits(0x17)) {
-        Ok(problem) => (problem, part),
-        Err(_) => panic!(rt; "no problem"),
-    }
+    (over(rt, rows, 0x17), part)
 }
 
 /// The fewest inodes that a placing of three parts moves, by trial of all of them.
@@ -445,19 +354,20 @@ fn no_placing_moves_less(rt: HostRuntime) {
     for round in 0..20 {
         let (problem, part) = random_star(&rt, &mut random, alloc, 8, 3);
         let costs = table(&rt, alloc, &problem, &part, 3);
-        let moved = assigned(alloc, &costs).sure(&rt).moved;
+        let moved = assigned(&rt, alloc, &costs).moved;
         same_in(&rt, &Some(moved), &fewest(&problem, &part), &round);
     }
 }
+
+const SIZES: [u32; 10] = [0, 1, 2, 5, 16, 17, 99, 100, 101, 230];
 
 #[test]
 fn chunks_cost_what_all_rows_do(rt: HostRuntime) {
     let alloc = rt.alloc();
     let mut random = Random::new(13);
-    for size in [0, 1, 2, 5, 16, 17, 99, 100, 101, 230] {
+    for size in SIZES {
         let (problem, part) = random_star(&rt, &mut random, alloc, size, 4);
         let costs = table(&rt, alloc, &problem, &part, 4);
-        let is_same = chunks_give(&rt, alloc, &problem, &part, 4, costs.cells());
-        holds_in(&rt, is_same, &size);
+        chunks_give(&rt, alloc, &problem, &part, 4, costs.cells());
     }
 }

@@ -2,35 +2,23 @@
 //!
 //! Each call that takes memory is made again where a growth was refused, so the tests hold with any one
 //! growth refused.
-ghost use Rattle.std.specs.Prelude.{◌<◌};
 
-use crate::given::{Given, at_last, problem};
+use crate::claims::is_accepted;
+use crate::given::{Given, numbers, over, problem, random_rows};
 use crate::same::{Sure, holds_in, same_in};
 use exhaustive::{Random, fewest_moved, least_greatest_heat};
-use mds_types::{CutProof, Plan, Problem, RankSet};
-use plan_checker::check;
+use mds_types::{CutProof, Plan, Problem};
 use planner::solve;
-use std::alloc::{AllocError, Global};
+use std::alloc::Global;
 use std::process::Abort;
 use std::thread::Threads;
 
 /// The plan that is found in the end.
-fn solved<R: Threads + Sync>(rt: &R, alloc: Global, problem: &Problem) -> Result<Plan, AllocError> {
-    at_last(|| solve(rt, alloc, problem))
-}
-
-/// What the checker says in the end.
-fn judged(alloc: Global, problem: &Problem, plan: &Plan) -> Result<bool, AllocError> {
-    at_last(|| check(alloc, problem, plan))
-}
-
-/// The numbers of the ranks that the parts go to.
-fn numbers(rt: &impl Abort, alloc: Global, plan: &Plan) -> Vec<u8> {
-    let mut numbers = at_last(|| Vec::with_capacity(alloc, plan.rank.len())).sure(rt);
-    for rank in plan.rank.as_slice() {
-        numbers.push(rank.number()).sure(rt);
+fn solved<R: Abort + Threads + Sync>(rt: &R, alloc: Global, problem: &Problem) -> Plan {
+    match solve(rt, alloc, problem) {
+        Ok(plan) => plan,
+        Err(_) => solve(rt, alloc, problem).sure(rt),
     }
-    numbers
 }
 
 fn word(proof: &CutProof) -> &'static str {
@@ -41,101 +29,145 @@ fn word(proof: &CutProof) -> &'static str {
     }
 }
 
-// (rows, ranks, greatest heat, moved inodes, proof, part of each row, rank of each part)
-const SMALL_TREES: [(&[Given], u64, u64, u64, &str, &[u32], &[u8]); 6] = [
-    (&[(0, 0, 1, 0)], 3, 0, 0, "zero", &[0], &[0]),
-    (
-        &[(0, 0, 1, 0), (0, 4, 10, 0), (0, 6, 20, 0)],
-        3,
-        6,
-        11,
-        "heavy",
-        &[0, 0, 1],
-        &[1, 0],
-    ),
-    (
-        &[(0, 0, 1, 0), (0, 100, 5, 0), (0, 1, 7, 0)],
-        3,
-        100,
-        5,
-        "heavy",
-        &[0, 1, 0],
-        &[0, 1],
-    ),
-    (
-        &[(0, 0, 1, 0), (0, 3, 5, 0), (1, 3, 1, 0), (2, 3, 1, 0)],
-        3,
-        6,
-        2,
-        "table",
-        &[0, 0, 1, 1],
-        &[0, 1],
-    ),
-    (
-        &[(0, 2, 1, 0), (0, 5, 10, 0)],
-        2,
-        7,
-        11,
-        "table",
-        &[0, 0],
-        &[1],
-    ),
-    (&[], 5, 0, 0, "zero", &[], &[]),
+/// A problem, and its plan: the greatest heat, the moved inodes, the proof, the part of each row, and the part's ranks.
+#[derive(Drop)]
+struct SmallTree {
+    rows: &'static [Given],
+    ranks: u64,
+    greatest: u64,
+    moved: u64,
+    proof: &'static str,
+    part: &'static [u32],
+    numbers: &'static [u8],
+}
+
+const SMALL_TREES: [&SmallTree; 6] = [
+    &SmallTree {
+        rows: &[(0, 0, 1, 0)],
+        ranks: 3,
+        greatest: 0,
+        moved: 0,
+        proof: "zero",
+        part: &[0],
+        numbers: &[0],
+    },
+    &SmallTree {
+        rows: &[(0, 0, 1, 0), (0, 4, 10, 0), (0, 6, 20, 0)],
+        ranks: 3,
+        greatest: 6,
+        moved: 11,
+        proof: "heavy",
+        part: &[0, 0, 1],
+        numbers: &[1, 0],
+    },
+    &SmallTree {
+        rows: &[(0, 0, 1, 0), (0, 100, 5, 0), (0, 1, 7, 0)],
+        ranks: 3,
+        greatest: 100,
+        moved: 5,
+        proof: "heavy",
+        part: &[0, 1, 0],
+        numbers: &[0, 1],
+    },
+    &SmallTree {
+        rows: &[(0, 0, 1, 0), (0, 3, 5, 0), (1, 3, 1, 0), (2, 3, 1, 0)],
+        ranks: 3,
+        greatest: 6,
+        moved: 2,
+        proof: "table",
+        part: &[0, 0, 1, 1],
+        numbers: &[0, 1],
+    },
+    &SmallTree {
+        rows: &[(0, 2, 1, 0), (0, 5, 10, 0)],
+        ranks: 2,
+        greatest: 7,
+        moved: 11,
+        proof: "table",
+        part: &[0, 0],
+        numbers: &[1],
+    },
+    &SmallTree {
+        rows: &[],
+        ranks: 5,
+        greatest: 0,
+        moved: 0,
+        proof: "zero",
+        part: &[],
+        numbers: &[],
+    },
 ];
+
+/// The problem has this plan, which is accepted.
+fn solves_so<R: Abort + Threads + Sync>(rt: &R, alloc: Global, wanted: &SmallTree) {
+    let problem = problem(rt, alloc, wanted.rows, wanted.ranks);
+    let plan = solved(rt, alloc, &problem);
+    let told = (plan.greatest, plan.moved, word(&plan.cut));
+    same_in(
+        rt,
+        &told,
+        &(wanted.greatest, wanted.moved, wanted.proof),
+        &wanted.rows,
+    );
+    same_in(rt, &plan.part.as_slice(), &wanted.part, &wanted.rows);
+    let numbers = numbers(rt, alloc, plan.rank.as_slice());
+    same_in(rt, &numbers.as_slice(), &wanted.numbers, &wanted.rows);
+    holds_in(rt, is_accepted(rt, alloc, &problem, &plan), &wanted.rows);
+}
 
 #[test]
 fn solves_small_trees(rt: HostRuntime) {
-    let alloc = rt.alloc();
-    for (rows, ranks, greatest, moved, proof, part, rank) in SMALL_TREES {
-        let problem = problem(&rt, alloc, rows, ranks);
-        let plan = solved(&rt, alloc, &problem).sure(&rt);
-        same_in(&rt, &plan.greatest, &greatest, &rows);
-        same_in(&rt, &plan.moved, &moved, &rows);
-        same_in(&rt, &word(&plan.cut), &proof, &rows);
-        same_in(&rt, &plan.part.as_slice(), &part, &rows);
-        same_in(&rt, &numbers(&rt, alloc, &plan).as_slice(), &rank, &rows);
-        holds_in(&rt, judged(alloc, &problem, &plan).sure(&rt), &rows);
+    for tree in SMALL_TREES {
+        solves_so(&rt, rt.alloc(), tree);
     }
 }
 
-/// Compares the plan of a problem with all divisions into so many parts and all placings.
-fn compare<R: Abort + AllocGlobal + Threads + Sync>(rt: &R, problem: &Problem, ranks: usize)
-    requires { 0 < ranks }
-{
-    let alloc = rt.alloc();
-    let plan = solved(rt, alloc, problem).sure(rt);
+/// The least greatest heat of so many parts, and the fewest inodes that move with a plan's parts, by trial.
+fn best_by_trial(
+    rt: &impl Abort,
+    problem: &Problem,
+    plan: &Plan,
+    ranks: usize,
+) -> (u64, Option<u64>) {
     let rows = problem.rows();
+    let parts = plan.rank.len() as u32;
     assert!(rt; rows.len() <= 8);
     assert!(rt; plan.part.len() == rows.len());
-    let parts = plan.rank.len() as u32;
     assert!(rt; parts <= 3);
-    same_in(rt, &plan.greatest, &least_greatest_heat(rows, ranks), &rows);
-    let trial = fewest_moved(rows, &plan.part, parts, problem.ranks());
-    same_in(rt, &Some(plan.moved), &trial, &rows);
-    holds_in(rt, judged(alloc, problem, &plan).sure(rt), &rows);
+    assert!(rt; ranks > 0);
+    let moved = fewest_moved(rows, &plan.part, parts, problem.ranks());
+    (least_greatest_heat(rows, ranks), moved)
+}
+
+// (rows, limit of heats, ranks, how many)
+const RANDOM: [(u32, u64, u64, usize); 5] = [
+    (1, 9, 0x8, 1),
+    (4, 2, 0x3, 2),
+    (6, 20, 0xe0, 3),
+    (8, 7, 0x8000_0000_0000_0001, 2),
+    (7, 3, 0x10, 1),
+];
+
+/// No division and no placing is better than a plan, by trial.
+fn is_best(rt: &impl Abort, problem: &Problem, plan: &Plan, ranks: usize) {
+    let told = (plan.greatest, Some(plan.moved));
+    same_in(rt, &told, &best_by_trial(rt, problem, plan, ranks), plan);
+}
+
+/// The plan of a problem with so many ranks is accepted, and best.
+fn solves_best<R: Abort + AllocGlobal + Threads + Sync>(rt: &R, problem: &Problem, ranks: usize) {
+    let plan = solved(rt, rt.alloc(), problem);
+    is_best(rt, problem, &plan, ranks);
+    holds_in(rt, is_accepted(rt, rt.alloc(), problem, &plan), &plan);
 }
 
 #[test]
 fn nothing_is_better(rt: HostRuntime) {
     let mut random = Random::new(5);
-    // (rows, limit of heats, ranks, how many)
-    let table = [
-        (1, 9, 0x8, 1),
-        (4, 2, 0x3, 2),
-        (6, 20, 0xe0, 3),
-        (8, 7, 0x8000_0000_0000_0001, 2),
-        (7, 3, 0x10, 1),
-    ];
-    for (count, heat_limit, ranks, parts) in table {
+    for (count, heat_limit, ranks, parts) in RANDOM {
         for _ in 0..10 {
-            let rows = match random.rows(rt.alloc(), count, heat_limit) {
-                Ok(rows) => rows,
-                Err(_) => random.rows(rt.alloc(), count, heat_limit).sure(&rt),
-            };
-            let Ok(problem) = Problem::new(rows, RankSet::from_bits(ranks)) else {
-                panic!(rt; "no problem");
-            };
-            compare(&rt, &problem, parts);
+            let rows = random_rows(&rt, rt.alloc(), &mut random, count, heat_limit);
+            solves_best(&rt, &over(&rt, rows, ranks), parts);
         }
     }
 }
@@ -165,35 +197,18 @@ fn change(plan: &mut Plan, random: &mut Random) {
     }
 }
 
-/// Whether no division and no placing is better than a plan of a problem with two ranks.
-fn is_best_by_trial<R: Abort>(rt: &R, problem: &Problem, plan: &Plan) -> bool {
-    let rows = problem.rows();
-    assert!(rt; rows.len() <= 8);
-    assert!(rt; plan.part.len() == rows.len());
-    let parts = plan.rank.len() as u32;
-    assert!(rt; parts <= 2);
-    plan.greatest == least_greatest_heat(rows, 2)
-        && Some(plan.moved) == fewest_moved(rows, &plan.part, parts, problem.ranks())
-}
-
 #[test]
 fn what_passes_is_best(rt: HostRuntime) {
     let alloc = rt.alloc();
     let mut random = Random::new(19);
     let mut passed = 0u32;
     for _ in 0..120 {
-        let rows = match random.rows(alloc, 5, 4) {
-            Ok(rows) => rows,
-            Err(_) => random.rows(alloc, 5, 4).sure(&rt),
-        };
-        let Ok(problem) = Problem::new(rows, RankSet::from_bits(0x21)) else {
-            panic!(rt; "no problem");
-        };
-        let mut plan = solved(&rt, alloc, &problem).sure(&rt);
+        let problem = over(&rt, random_rows(&rt, alloc, &mut random, 5, 4), 0x21);
+        let mut plan = solved(&rt, alloc, &problem);
         change(&mut plan, &mut random);
-        if judged(alloc, &problem, &plan).sure(&rt) {
+        if is_accepted(&rt, alloc, &problem, &plan) {
             passed = passed.saturating_add(1);
-            holds_in(&rt, is_best_by_trial(&rt, &problem, &plan), &plan);
+            is_best(&rt, &problem, &plan, 2);
         }
     }
     holds_in(&rt, passed > 20 && passed < 100, &passed);
