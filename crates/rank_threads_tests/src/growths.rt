@@ -73,7 +73,8 @@ fn is_memory(answer: &WorkAnswer) -> bool {
     *answer == WorkAnswer::refused(WorkError::Board(BoardError::Memory))
 }
 
-// Of the answers to two requests on directory 1 and one on none: the hits that were served. One at most found no memory.
+// The hits that were served, of the answers to two requests on directory 1 and one on none. One at most found no
+// memory.
 fn served_hits(rt: &impl Abort, answers: &[Vec<WorkAnswer>]) -> u64 {
     let mut hits: u64 = 0;
     let mut refusals: u32 = 0;

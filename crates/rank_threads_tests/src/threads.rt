@@ -31,7 +31,8 @@ fn heat_of(rt: &impl Abort, answers: &[WorkAnswer]) -> u64 {
     if is_served { 8 } else { 0 }
 }
 
-/// A rank has a thread for all of its requests, or for none of them; where it is sure that there are threads, it has one.
+/// A rank has a thread for all of its requests, or for none of them. Where it is sure that there are threads, it has
+/// one.
 pub(crate) fn serve_on<
     J: Naming + Send + Sync,
     M: Publisher<J> + Send,

@@ -19,8 +19,8 @@ use std::process::Abort;
 use std::sync::Wait;
 use std::thread::Threads;
 
-// The requests that began on /a, and the hits on it, after a phase for whoever has all shares. Rank 0 serves /a, and its
-// requests there are counted; rank 1 doesn't.
+// The requests that began on /a, and the hits on it, after a phase for whoever has all shares. Rank 0 serves /a, and
+// its requests there are counted; rank 1 doesn't.
 fn serve_on<J: Naming + Send + Sync, M: Publisher<J> + Send, R: Abort + Threads + Wait + Sync>(
     rt: &R,
     alloc: Global,
