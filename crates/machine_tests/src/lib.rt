@@ -2,6 +2,8 @@
 #![tactic(auto)]
 
 #[cfg(test)]
+mod found;
+#[cfg(test)]
 mod limits;
 #[cfg(test)]
 mod refused;
@@ -15,3 +17,5 @@ mod starts;
 mod steps;
 #[cfg(test)]
 mod stops;
+#[cfg(test)]
+mod told;

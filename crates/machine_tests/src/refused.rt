@@ -1,60 +1,49 @@
 //! The order of refusals, and what they print.
 
 use crate::same::{Sure, same};
-use crate::steps::{Do, rank, run_rows};
-use export_machine::{Cluster, ExporterState, Reply, StepError};
-use mds_types::Dir;
-use std::alloc::{AllocError, Global};
+use crate::steps::{Do, Row, cluster_of, rank, run_rows};
+use crate::told::{Told, printed};
+use export_machine::{ExporterState, StepError};
+use std::alloc::Global;
+use std::process::Abort;
 
-/// A cluster of two ranks with room for three directories.
-fn tiny(alloc: Global) -> Result<Cluster, AllocError> {
-    match Cluster::new(alloc, 3, 2) {
-        Ok(cluster) => Ok(cluster),
-        Err(_) => Cluster::new(alloc, 3, 2),
-    }
-}
+const ROWS: &[Row] = &[
+    (Do::Make(0), Told::Dir(1)),
+    (Do::Start(0, 1, &[]), Told::Refused("26 NotConnected")),
+    (Do::Start(0, 1, &[1, 1]), Told::Refused("26 NotConnected")),
+    (Do::Start(0, 0, &[1]), Told::Refused("21 SameRank")),
+    (Do::Start(1, 0, &[1]), Told::Refused("18 Elsewhere 0")),
+    (Do::Start(2, 0, &[1]), Told::Refused("12 NoRank")),
+    (Do::Start(0, 1, &[2]), Told::Refused("6 NoDir")),
+    (Do::Start(0, 1, &[1]), Told::Export(0, 0)),
+    (Do::Start(0, 1, &[0, 1]), Told::Refused("19 Busy 0")),
+    (Do::Notify(0), Told::Refused("23 Late discovering")),
+    (Do::Deliver(9), Told::Refused("24 NoMessage")),
+    (Do::Notify(7), Told::Refused("17 NoExport")),
+    (Do::Remove(0), Told::Refused("10 IsRoot")),
+    (Do::Remove(1), Told::Refused("19 Busy 0")),
+    (Do::Make(9), Told::Refused("6 NoDir")),
+    (Do::Make(1), Told::Dir(2)),
+    (Do::Make(1), Told::Refused("11 TreeFull")),
+    (Do::Remove(1), Told::Refused("9 NotEmpty")),
+    (Do::Begin(2, 2), Told::Refused("12 NoRank")),
+    (Do::Begin(0, 2), Told::Ticket(0)),
+    (Do::Remove(2), Told::Refused("22 NotYet 1")),
+    (Do::End(0), Told::Changed),
+    (Do::End(0), Told::Refused("25 NoTicket")),
+    (Do::Remove(2), Told::Changed),
+    (Do::Begin(0, 2), Told::Refused("6 NoDir")),
+];
 
 #[test]
 fn refuses_by_the_first_cause(rt: HostRuntime) {
-    let mut cluster = tiny(rt.alloc()).sure(&rt);
-    let rows = [
-        (Do::Make(0), Ok(Reply::Dir(Dir::new(1)))),
-        (Do::Start(0, 1, &[]), Err(StepError::NotConnected)),
-        (Do::Start(0, 1, &[1, 1]), Err(StepError::NotConnected)),
-        (Do::Start(0, 0, &[1]), Err(StepError::SameRank)),
-        (Do::Start(1, 0, &[1]), Err(StepError::Elsewhere(rank(0)))),
-        (Do::Start(2, 0, &[1]), Err(StepError::NoRank)),
-        (Do::Start(0, 1, &[2]), Err(StepError::NoDir)),
-        (Do::Start(0, 1, &[1]), Ok(Reply::Export(0, 0))),
-        (Do::Start(0, 1, &[0, 1]), Err(StepError::Busy(0))),
-        (
-            Do::Notify(0),
-            Err(StepError::Late(ExporterState::Discovering)),
-        ),
-        (Do::Deliver(9), Err(StepError::NoMessage)),
-        (Do::Notify(7), Err(StepError::NoExport)),
-        (Do::Remove(0), Err(StepError::IsRoot)),
-        (Do::Remove(1), Err(StepError::Busy(0))),
-        (Do::Make(9), Err(StepError::NoDir)),
-        (Do::Make(1), Ok(Reply::Dir(Dir::new(2)))),
-        (Do::Make(1), Err(StepError::TreeFull)),
-        (Do::Remove(1), Err(StepError::NotEmpty)),
-        (Do::Begin(2, 2), Err(StepError::NoRank)),
-        (Do::Begin(0, 2), Ok(Reply::Ticket(0))),
-        (Do::Remove(2), Err(StepError::NotYet(1))),
-        (Do::End(0), Ok(Reply::Changed)),
-        (Do::End(0), Err(StepError::NoTicket)),
-        (Do::Remove(2), Ok(Reply::Changed)),
-        (Do::Begin(0, 2), Err(StepError::NoDir)),
-    ];
-    run_rows(&rt, rt.alloc(), &mut cluster, &rows)
+    let mut cluster = cluster_of(rt.alloc(), 3).sure(&rt);
+    run_rows(&rt, rt.alloc(), &mut cluster, "first cause", ROWS)
 }
 
-fn printed(alloc: Global, error: StepError) -> Result<String, AllocError> {
-    match format!(in alloc; "{error}") {
-        Ok(text) => Ok(text),
-        Err(_) => format!(in alloc; "{error}"),
-    }
+fn prints(rt: &impl Abort, alloc: Global, error: StepError, wanted: &str) {
+    let text = printed(alloc, error).sure(rt);
+    same(rt, &text.as_str(), &wanted);
 }
 
 #[test]
@@ -80,12 +69,11 @@ fn prints_number_name_and_value(rt: HostRuntime) {
         (StepError::HistoryFull, "33 HistoryFull"),
     ];
     for (error, want) in table {
-        let printed = printed(rt.alloc(), error).sure(&rt);
-        same(&rt, &printed.as_str(), &want);
+        prints(&rt, rt.alloc(), error, want);
     }
 }
 
-const LATE: [(ExporterState, &str); 7] = [
+const LATE: &[(ExporterState, &str)] = &[
     (ExporterState::Discovering, "23 Late discovering"),
     (ExporterState::Freezing, "23 Late freezing"),
     (ExporterState::Preparing, "23 Late preparing"),
@@ -98,7 +86,6 @@ const LATE: [(ExporterState, &str); 7] = [
 #[test]
 fn prints_the_state_of_a_late_export(rt: HostRuntime) {
     for (state, want) in LATE {
-        let printed = printed(rt.alloc(), StepError::Late(state)).sure(&rt);
-        same(&rt, &printed.as_str(), &want);
+        prints(&rt, rt.alloc(), StepError::Late(*state), want);
     }
 }

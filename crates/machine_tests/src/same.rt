@@ -21,6 +21,11 @@ pub(crate) fn same_in<T: PartialEq + Debug, R: Debug>(
     );
 }
 
+/// It is so, in this row of a table.
+pub(crate) fn holds_in<R: Debug>(rt: &impl Abort, is_so: bool, row: &R) {
+    assert!(rt; is_so, "it is not so in row {row:?}");
+}
+
 /// A call that is to succeed.
 pub(crate) trait Sure {
     /// What it gives.

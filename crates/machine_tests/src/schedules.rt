@@ -1,304 +1,358 @@
 //! Whole exports, aborts, and messages that come late or twice.
 
-use crate::same::{Sure, same, same_in};
-use crate::starts::run_prepared;
-use crate::steps::{Do, Row, cluster, event, played, rank, run_rows, to_the_log};
-use export_machine::{Cluster, ExporterState, ImporterState, JournalEntry, Reply, StepError};
-use mds_types::{Dir, Rank};
-use std::alloc::{AllocError, Global};
+use crate::found::{Found, Schedule, roots, run_schedules};
+use crate::same::{Sure, holds_in, same};
+use crate::starts::prepare_and_run;
+use crate::steps::{Do, Row, TO_THE_LOG, after, cluster_of, event, rank, run_rows};
+use crate::told::{Told, same_as_told};
+use export_machine::{Cluster, Event, ExporterState, ImporterState, Reply, StepError};
+use mds_types::Dir;
+use std::alloc::Global;
 use std::process::Abort;
 
-#[test]
-fn moves_a_directory(rt: HostRuntime) {
-    let mut cluster = played(&rt, rt.alloc(), &to_the_log());
-    let rows = [
-        (Do::Begin(0, 1), Err(StepError::Elsewhere(rank(1)))),
-        (Do::Begin(1, 1), Err(StepError::Frozen(0))),
-    ];
-    run_rows(&rt, rt.alloc(), &mut cluster, &rows);
-    same(&rt, &cluster.named(Dir::new(1)), &Some(rank(0)));
-    let rows = [
-        (Do::Notify(0), Ok(Reply::Sent(6))),
-        (Do::Deliver(6), Ok(Reply::Changed)),
-        (Do::Begin(1, 1), Ok(Reply::Ticket(0))),
-    ];
-    run_rows(&rt, rt.alloc(), &mut cluster, &rows);
-    same(&rt, &cluster.named(Dir::new(1)), &Some(rank(1)));
-    same(&rt, &cluster.authority(Dir::new(1)), &Some(rank(1)));
-    assert!(rt; cluster.serves(rank(1), Dir::new(1)));
-    assert!(rt; !cluster.serves(rank(0), Dir::new(1)));
-    same(&rt, &cluster.sent(), &7);
-    same(&rt, &cluster.to(6), &Some((0, rank(1))));
-    same(&rt, &cluster.to(7), &None);
-    same(
-        &rt,
-        &cluster.states(0),
-        &Some((ExporterState::Done, ImporterState::Imported)),
-    );
-    same(&rt, &cluster.states(1), &None);
-    let exporter = [
-        JournalEntry::Made(Dir::ROOT),
-        JournalEntry::Made(Dir::new(1)),
-        JournalEntry::Exported(0),
-        JournalEntry::Notified(0),
-    ];
-    let importer = [JournalEntry::Started(0), JournalEntry::Imported(0)];
-    assert!(rt; cluster.journal(rank(0)) == exporter.as_slice());
-    assert!(rt; cluster.journal(rank(1)) == importer.as_slice());
-}
+const SCHEDULES: &[Schedule] = &[
+    (
+        "an export that is logged is served nowhere, and the map still names the exporter",
+        9,
+        &[
+            (Do::Begin(0, 1), Told::Refused("18 Elsewhere 1")),
+            (Do::Begin(1, 1), Told::Refused("20 Frozen 0")),
+        ],
+        &[Found::Named(1, 0)],
+    ),
+    (
+        "a directory moves",
+        9,
+        &[
+            (Do::Begin(0, 1), Told::Refused("18 Elsewhere 1")),
+            (Do::Begin(1, 1), Told::Refused("20 Frozen 0")),
+            (Do::Notify(0), Told::Sent(6)),
+            (Do::Deliver(6), Told::Changed),
+            (Do::Begin(1, 1), Told::Ticket(0)),
+        ],
+        &[
+            Found::Named(1, 1),
+            Found::Authority(1, 1),
+            Found::Serves(1, 1),
+            Found::Withholds(0, 1),
+            Found::Sent(7),
+            Found::To(6, 0, 1),
+            Found::Unsent(7),
+            Found::States(0, ExporterState::Done, ImporterState::Imported),
+            Found::NoExport(1),
+            Found::Exported(0, 1, 0),
+            Found::Imported(1, 0),
+        ],
+    ),
+    (
+        "a late ack after an abort is ignored",
+        8,
+        &[
+            (Do::Abort(0), Told::Sent(6)),
+            (Do::Deliver(5), Told::Ignored),
+            (Do::Deliver(6), Told::Changed),
+            (Do::Abort(0), Told::Refused("23 Late aborted")),
+        ],
+        &[Found::Authority(1, 0), Found::Dropped(1, 0)],
+    ),
+    (
+        "repeated messages act once, there and back",
+        8,
+        &[
+            (Do::Deliver(4), Told::Ignored),
+            (Do::Deliver(5), Told::Changed),
+            (Do::Notify(0), Told::Sent(6)),
+            (Do::Deliver(6), Told::Changed),
+            (Do::Start(1, 0, &[1]), Told::Export(1, 7)),
+            (Do::Deliver(7), Told::Sent(8)),
+            (Do::Deliver(8), Told::Changed),
+            (Do::Froze(1), Told::Sent(9)),
+            (Do::Deliver(9), Told::Sent(10)),
+            (Do::Deliver(10), Told::Sent(11)),
+            (Do::Deliver(11), Told::Sent(12)),
+            (Do::Deliver(12), Told::Changed),
+            (Do::Notify(1), Told::Sent(13)),
+            (Do::Deliver(13), Told::Changed),
+            (Do::Deliver(6), Told::Ignored),
+        ],
+        &[Found::Authority(1, 0), Found::Serves(0, 1)],
+    ),
+    (
+        "freezing waits for requests",
+        1,
+        &[
+            (Do::Begin(0, 1), Told::Ticket(0)),
+            (Do::Start(0, 1, &[1]), Told::Export(0, 0)),
+            (Do::Deliver(0), Told::Sent(1)),
+            (Do::Deliver(1), Told::Changed),
+            (Do::Froze(0), Told::Refused("22 NotYet 1")),
+            (Do::Begin(0, 1), Told::Refused("20 Frozen 0")),
+            (Do::End(0), Told::Changed),
+            (Do::Froze(0), Told::Sent(2)),
+        ],
+        &[],
+    ),
+    (
+        "a cancel overtakes the discover",
+        2,
+        &[
+            (Do::Abort(0), Told::Sent(1)),
+            (Do::Deliver(1), Told::Changed),
+            (Do::Deliver(0), Told::Ignored),
+        ],
+        &[],
+    ),
+    (
+        "messages that are delivered twice act once",
+        2,
+        &[
+            (Do::Deliver(0), Told::Sent(1)),
+            (Do::Deliver(0), Told::Ignored),
+            (Do::Deliver(1), Told::Changed),
+            (Do::Deliver(1), Told::Ignored),
+            (Do::Froze(0), Told::Sent(2)),
+            (Do::Deliver(2), Told::Sent(3)),
+            (Do::Deliver(2), Told::Ignored),
+            (Do::Deliver(3), Told::Sent(4)),
+            (Do::Deliver(3), Told::Ignored),
+            (Do::Deliver(4), Told::Sent(5)),
+            (Do::Deliver(4), Told::Ignored),
+            (Do::Deliver(5), Told::Changed),
+            (Do::Deliver(5), Told::Ignored),
+            (Do::Notify(0), Told::Sent(6)),
+            (Do::Deliver(6), Told::Changed),
+            (Do::Deliver(6), Told::Ignored),
+            // and once more when all is over
+            (Do::Deliver(0), Told::Ignored),
+            (Do::Deliver(1), Told::Ignored),
+            (Do::Deliver(2), Told::Ignored),
+            (Do::Deliver(3), Told::Ignored),
+            (Do::Deliver(4), Told::Ignored),
+            (Do::Deliver(5), Told::Ignored),
+            (Do::Deliver(6), Told::Ignored),
+        ],
+        &[
+            Found::Authority(1, 1),
+            Found::Entries(0, 4),
+            Found::Entries(1, 2),
+        ],
+    ),
+];
 
 #[test]
-fn late_ack_after_an_abort_is_ignored(rt: HostRuntime) {
-    let mut cluster = played(&rt, rt.alloc(), &to_the_log()[..8]);
-    let rows = [
-        (Do::Abort(0), Ok(Reply::Sent(6))),
-        (Do::Deliver(5), Ok(Reply::Ignored)),
-        (Do::Deliver(6), Ok(Reply::Changed)),
-        (Do::Abort(0), Err(StepError::Late(ExporterState::Aborted))),
-    ];
-    run_rows(&rt, rt.alloc(), &mut cluster, &rows);
-    same(&rt, &cluster.authority(Dir::new(1)), &Some(rank(0)));
-    let importer = [JournalEntry::Started(0), JournalEntry::Dropped(0)];
-    assert!(rt; cluster.journal(rank(1)) == importer.as_slice());
+fn schedules_are_answered_row_by_row(rt: HostRuntime) {
+    run_schedules(&rt, rt.alloc(), SCHEDULES)
 }
 
-#[test]
-fn repeated_messages_act_once(rt: HostRuntime) {
-    let mut cluster = played(&rt, rt.alloc(), &to_the_log()[..8]);
-    let rows = [
-        (Do::Deliver(4), Ok(Reply::Ignored)),
-        (Do::Deliver(5), Ok(Reply::Changed)),
-        (Do::Notify(0), Ok(Reply::Sent(6))),
-        (Do::Deliver(6), Ok(Reply::Changed)),
-        (Do::Start(1, 0, &[1]), Ok(Reply::Export(1, 7))),
-        (Do::Deliver(7), Ok(Reply::Sent(8))),
-        (Do::Deliver(8), Ok(Reply::Changed)),
-        (Do::Froze(1), Ok(Reply::Sent(9))),
-        (Do::Deliver(9), Ok(Reply::Sent(10))),
-        (Do::Deliver(10), Ok(Reply::Sent(11))),
-        (Do::Deliver(11), Ok(Reply::Sent(12))),
-        (Do::Deliver(12), Ok(Reply::Changed)),
-        (Do::Notify(1), Ok(Reply::Sent(13))),
-        (Do::Deliver(13), Ok(Reply::Changed)),
-        (Do::Deliver(6), Ok(Reply::Ignored)),
-    ];
-    run_rows(&rt, rt.alloc(), &mut cluster, &rows);
-    same(&rt, &cluster.authority(Dir::new(1)), &Some(rank(0)));
-    assert!(rt; cluster.serves(rank(0), Dir::new(1)));
-}
-
-#[test]
-fn freezing_waits_for_requests(rt: HostRuntime) {
-    let mut cluster = cluster(rt.alloc()).sure(&rt);
-    let rows = [
-        (Do::Make(0), Ok(Reply::Dir(Dir::new(1)))),
-        (Do::Begin(0, 1), Ok(Reply::Ticket(0))),
-        (Do::Start(0, 1, &[1]), Ok(Reply::Export(0, 0))),
-        (Do::Deliver(0), Ok(Reply::Sent(1))),
-        (Do::Deliver(1), Ok(Reply::Changed)),
-        (Do::Froze(0), Err(StepError::NotYet(1))),
-        (Do::Begin(0, 1), Err(StepError::Frozen(0))),
-        (Do::End(0), Ok(Reply::Changed)),
-        (Do::Froze(0), Ok(Reply::Sent(2))),
-    ];
-    run_rows(&rt, rt.alloc(), &mut cluster, &rows)
-}
-
-#[test]
-fn cancel_overtakes_discover(rt: HostRuntime) {
-    let mut cluster = cluster(rt.alloc()).sure(&rt);
-    let rows = [
-        (Do::Make(0), Ok(Reply::Dir(Dir::new(1)))),
-        (Do::Start(0, 1, &[1]), Ok(Reply::Export(0, 0))),
-        (Do::Abort(0), Ok(Reply::Sent(1))),
-        (Do::Deliver(1), Ok(Reply::Changed)),
-        (Do::Deliver(0), Ok(Reply::Ignored)),
-    ];
-    run_rows(&rt, rt.alloc(), &mut cluster, &rows)
-}
-
-/// The steps that end an export after its log entry.
-fn ends() -> [Row; 2] {
-    [
-        (Do::Notify(0), Ok(Reply::Sent(6))),
-        (Do::Deliver(6), Ok(Reply::Changed)),
-    ]
-}
-
-/// A cluster in which an export is aborted after so many of its steps, with this answer.
-fn aborted(
-    rt: &impl Abort,
-    alloc: Global,
-    done: usize,
-    answer: Result<Reply, StepError>,
-) -> Cluster {
-    let (log, ends) = (to_the_log(), ends());
-    let mut cluster = played(rt, alloc, &log[..done.min(9)]);
-    run_rows(rt, alloc, &mut cluster, &ends[..done.max(9).min(11) - 9]);
-    run_rows(rt, alloc, &mut cluster, &[(Do::Abort(0), answer)]);
-    cluster
-}
-
-/// The cancel of that export comes.
-fn cancelled(rt: &impl Abort, alloc: Global, cluster: &mut Cluster, message: u32) {
-    let row = (Do::Deliver(message), Ok(Reply::Changed));
-    run_rows(rt, alloc, cluster, &[row]);
-    assert!(rt; cluster.serves(rank(0), Dir::new(1)));
-}
+// An abort sends a cancel, after which the directory is served where it was.
+const ABORTS: &[Schedule] = &[
+    (
+        "discovering",
+        2,
+        &[
+            (Do::Abort(0), Told::Sent(1)),
+            (Do::Deliver(1), Told::Changed),
+        ],
+        &[Found::Serves(0, 1), Found::Entries(1, 0)],
+    ),
+    (
+        "freezing",
+        4,
+        &[
+            (Do::Abort(0), Told::Sent(2)),
+            (Do::Deliver(2), Told::Changed),
+        ],
+        &[Found::Serves(0, 1), Found::Entries(1, 0)],
+    ),
+    (
+        "preparing",
+        5,
+        &[
+            (Do::Abort(0), Told::Sent(3)),
+            (Do::Deliver(3), Told::Changed),
+        ],
+        &[Found::Serves(0, 1), Found::Entries(1, 0)],
+    ),
+    (
+        "preparing, the importer is ready",
+        6,
+        &[
+            (Do::Abort(0), Told::Sent(4)),
+            (Do::Deliver(4), Told::Changed),
+        ],
+        &[Found::Serves(0, 1), Found::Entries(1, 0)],
+    ),
+    (
+        "exporting",
+        7,
+        &[
+            (Do::Abort(0), Told::Sent(5)),
+            (Do::Deliver(5), Told::Changed),
+        ],
+        &[Found::Serves(0, 1), Found::Entries(1, 0)],
+    ),
+    (
+        "exporting, the import is journaled",
+        8,
+        &[
+            (Do::Abort(0), Told::Sent(6)),
+            (Do::Deliver(6), Told::Changed),
+        ],
+        &[Found::Serves(0, 1), Found::Entries(1, 2)],
+    ),
+    (
+        "logged",
+        9,
+        &[(Do::Abort(0), Told::Refused("23 Late logged"))],
+        &[Found::Authority(1, 1), Found::Entries(1, 1)],
+    ),
+    (
+        "done",
+        9,
+        &[
+            (Do::Notify(0), Told::Sent(6)),
+            (Do::Deliver(6), Told::Changed),
+            (Do::Abort(0), Told::Refused("23 Late done")),
+        ],
+        &[Found::Authority(1, 1), Found::Entries(1, 2)],
+    ),
+];
 
 #[test]
 fn aborts_before_the_log_entry_only(rt: HostRuntime) {
-    // (steps of the export that are done, the abort's answer, the cancel's message, the importer's entries at last)
-    let table = [
-        (2, Ok(Reply::Sent(1)), Some(1), 0),
-        (4, Ok(Reply::Sent(2)), Some(2), 0),
-        (5, Ok(Reply::Sent(3)), Some(3), 0),
-        (6, Ok(Reply::Sent(4)), Some(4), 0),
-        (7, Ok(Reply::Sent(5)), Some(5), 0),
-        (8, Ok(Reply::Sent(6)), Some(6), 2),
-        (9, Err(StepError::Late(ExporterState::Logged)), None, 1),
-        (11, Err(StepError::Late(ExporterState::Done)), None, 2),
-    ];
-    for (done, answer, cancel, entries) in table {
-        let mut cluster = aborted(&rt, rt.alloc(), done, answer);
-        match cancel {
-            Some(message) => cancelled(&rt, rt.alloc(), &mut cluster, message),
-            None => same(&rt, &cluster.authority(Dir::new(1)), &Some(rank(1))),
-        }
-        same_in(&rt, &cluster.journal(rank(1)).len(), &entries, &done);
-    }
+    run_schedules(&rt, rt.alloc(), ABORTS)
 }
 
-/// A message that was delivered is ignored.
-fn repeat(rt: &impl Abort, alloc: Global, cluster: &mut Cluster, message: u32) {
-    let row = (Do::Deliver(message), Ok(Reply::Ignored));
-    run_rows(rt, alloc, cluster, &[row])
+/// The events that lead to the log entry.
+fn events(rt: &impl Abort, alloc: Global) -> Vec<Event> {
+    let mut events = Vec::new(alloc);
+    for (step, _) in TO_THE_LOG {
+        events.push(event(alloc, *step).sure(rt)).sure(rt);
+    }
+    events
 }
 
-/// Runs these rows, and delivers each message twice.
-fn run_twice(rt: &impl Abort, alloc: Global, cluster: &mut Cluster, rows: &[Row]) {
-    for (step, want) in rows {
-        run_rows(rt, alloc, cluster, &[(*step, *want)]);
-        if let Do::Deliver(message) = step {
-            repeat(rt, alloc, cluster, *message);
-        }
+/// The answers to them are those of their rows.
+fn answered(rt: &impl Abort, alloc: Global, answers: &[Result<Reply, StepError>]) {
+    for ((_, told), answer) in TO_THE_LOG.iter().zip(answers.iter()) {
+        same_as_told(rt, alloc, answer, *told, &"in a list");
     }
-}
-
-#[test]
-fn twice_delivered_messages_change_nothing(rt: HostRuntime) {
-    let mut cluster = cluster(rt.alloc()).sure(&rt);
-    run_twice(&rt, rt.alloc(), &mut cluster, &to_the_log());
-    run_twice(&rt, rt.alloc(), &mut cluster, &ends());
-    for message in 0..7 {
-        repeat(&rt, rt.alloc(), &mut cluster, message);
-    }
-    same(&rt, &cluster.authority(Dir::new(1)), &Some(rank(1)));
-    same(&rt, &cluster.journal(rank(0)).len(), &4);
-    same(&rt, &cluster.journal(rank(1)).len(), &2);
+    same(rt, &answers.len(), &9);
 }
 
 #[test]
 fn runs_a_list_of_events(rt: HostRuntime) {
-    let mut cluster = cluster(rt.alloc()).sure(&rt);
-    let mut events = Vec::new(rt.alloc());
-    for (step, _) in to_the_log() {
-        events.push(event(rt.alloc(), step).sure(&rt)).sure(&rt);
-    }
+    let mut cluster = cluster_of(rt.alloc(), 16).sure(&rt);
+    let events = events(&rt, rt.alloc());
     let answers = cluster.run(rt.alloc(), &events).sure(&rt);
-    for ((_, want), answer) in to_the_log().iter().zip(answers.iter()) {
-        same(&rt, answer, want);
-    }
-    same(&rt, &answers.len(), &9);
+    answered(&rt, rt.alloc(), &answers);
+}
+
+/// A step logs the export where it is the ninth, and no step logs it again.
+fn logs_at_last(rt: &impl Abort, alloc: Global, cluster: &mut Cluster, at: usize, row: Row) {
+    let next = event(alloc, row.0).sure(rt);
+    holds_in(rt, cluster.logs_export(&next) == (at == 8), &at);
+    run_rows(rt, alloc, cluster, "to the log entry", &[row]);
+    holds_in(rt, !cluster.logs_export(&next), &at);
 }
 
 #[test]
 fn only_the_log_entry_logs(rt: HostRuntime) {
-    let mut cluster = cluster(rt.alloc()).sure(&rt);
-    for (at, (step, want)) in to_the_log().iter().enumerate() {
-        let next = event(rt.alloc(), *step).sure(&rt);
-        same_in(&rt, &cluster.logs_export(&next), &(at == 8), &at);
-        run_rows(&rt, rt.alloc(), &mut cluster, &[(*step, *want)]);
-        assert!(rt; !cluster.logs_export(&next));
+    let mut cluster = cluster_of(rt.alloc(), 16).sure(&rt);
+    for (at, row) in TO_THE_LOG.iter().enumerate() {
+        logs_at_last(&rt, rt.alloc(), &mut cluster, at, *row);
     }
 }
 
-/// The roots of a cluster, asked for again where memory was refused.
-fn roots(alloc: Global, cluster: &Cluster) -> Result<Vec<(Dir, Rank)>, AllocError> {
-    match cluster.roots(alloc) {
-        Ok(roots) => Ok(roots),
-        Err(_) => cluster.roots(alloc),
+/// The cluster's roots are these, each with its authority.
+fn same_roots(rt: &impl Abort, alloc: Global, cluster: &Cluster, wanted: &[(u32, u8)]) {
+    let found = roots(alloc, cluster).sure(rt);
+    same(rt, &found.len(), &wanted.len());
+    for ((dir, at), (number, owner)) in found.iter().zip(wanted.iter()) {
+        same(rt, &(*dir, *at), &(Dir::new(*number), rank(*owner)));
     }
+}
+
+// (a directory below directory 1 and an export, the roots after its log entry)
+const ROOTS: &[(&[Row], &[(u32, u8)])] = &[
+    (
+        &[
+            (Do::Make(1), Told::Dir(2)),
+            (Do::Start(0, 1, &[1]), Told::Export(0, 0)),
+        ],
+        &[(0, 0), (1, 1), (2, 0)],
+    ),
+    (
+        &[
+            (Do::Make(1), Told::Dir(2)),
+            (Do::Start(0, 1, &[1, 2]), Told::Export(0, 0)),
+        ],
+        &[(0, 0), (1, 1)],
+    ),
+];
+
+/// An export starts, of which the roots know nothing before its log entry.
+fn roots_follow(
+    rt: &impl Abort,
+    alloc: Global,
+    cluster: &mut Cluster,
+    rows: &[Row],
+    wanted: &[(u32, u8)],
+) {
+    run_rows(rt, alloc, cluster, "started", rows);
+    same(rt, &roots(alloc, cluster).sure(rt).len(), &1);
+    run_rows(rt, alloc, cluster, "to the log entry", &TO_THE_LOG[2..]);
+    same_roots(rt, alloc, cluster, wanted);
 }
 
 #[test]
 fn roots_follow_the_log_entry(rt: HostRuntime) {
-    // (what is exported, the roots after its log entry)
-    let table: [(&'static [u32], &'static [(u32, u8)]); 2] = [
-        (&[1], &[(0, 0), (1, 1), (2, 0)]),
-        (&[1, 2], &[(0, 0), (1, 1)]),
-    ];
-    let log = to_the_log();
-    let steps = log.as_slice();
-    for (dirs, want) in table {
-        let rows = [
-            (Do::Make(0), Ok(Reply::Dir(Dir::new(1)))),
-            (Do::Make(1), Ok(Reply::Dir(Dir::new(2)))),
-            (Do::Start(0, 1, dirs), Ok(Reply::Export(0, 0))),
-        ];
-        let mut cluster = played(&rt, rt.alloc(), &rows);
-        same(&rt, &roots(rt.alloc(), &cluster).sure(&rt).len(), &1);
-        run_rows(&rt, rt.alloc(), &mut cluster, &steps[2..]);
-        let found = roots(rt.alloc(), &cluster).sure(&rt);
-        same(&rt, &found.len(), &want.len());
-        for ((dir, at), (number, owner)) in found.iter().zip(want.iter()) {
-            same(&rt, &(*dir, *at), &(Dir::new(*number), rank(*owner)));
-        }
+    for (rows, wanted) in ROOTS {
+        let mut cluster = after(&rt, rt.alloc(), 1);
+        roots_follow(&rt, rt.alloc(), &mut cluster, rows, wanted);
     }
 }
 
 /// Directory 1 has moved to rank 1. Here each further kind of event is accepted.
-fn further() -> [Row; 21] {
-    [
-        (Do::Notify(0), Ok(Reply::Sent(6))),
-        (Do::Deliver(6), Ok(Reply::Changed)),
-        (Do::Make(1), Ok(Reply::Dir(Dir::new(2)))),
-        (Do::Begin(1, 2), Ok(Reply::Ticket(0))),
-        (Do::End(0), Ok(Reply::Changed)),
-        (Do::Remove(2), Ok(Reply::Changed)),
-        (Do::Start(1, 0, &[1]), Ok(Reply::Export(1, 7))),
-        (Do::Deliver(7), Ok(Reply::Sent(8))),
-        (Do::Deliver(8), Ok(Reply::Changed)),
-        (Do::Froze(1), Ok(Reply::Sent(9))),
-        (Do::Deliver(9), Ok(Reply::Sent(10))),
-        (Do::Deliver(10), Ok(Reply::Sent(11))),
-        (Do::Deliver(11), Ok(Reply::Sent(12))),
-        (Do::Stop(1), Ok(Reply::Changed)),
-        (Do::Ask(1), Ok(Reply::Sent(13))),
-        (Do::Restart(1), Ok(Reply::Changed)),
-        (Do::Deliver(13), Ok(Reply::Sent(14))),
-        (Do::Deliver(14), Ok(Reply::Changed)),
-        (Do::Make(1), Ok(Reply::Dir(Dir::new(3)))),
-        (Do::Start(1, 0, &[1, 3]), Ok(Reply::Export(2, 15))),
-        (Do::Abort(2), Ok(Reply::Sent(16))),
-    ]
-}
+const FURTHER: &[Row] = &[
+    (Do::Notify(0), Told::Sent(6)),
+    (Do::Deliver(6), Told::Changed),
+    (Do::Make(1), Told::Dir(2)),
+    (Do::Begin(1, 2), Told::Ticket(0)),
+    (Do::End(0), Told::Changed),
+    (Do::Remove(2), Told::Changed),
+    (Do::Start(1, 0, &[1]), Told::Export(1, 7)),
+    (Do::Deliver(7), Told::Sent(8)),
+    (Do::Deliver(8), Told::Changed),
+    (Do::Froze(1), Told::Sent(9)),
+    (Do::Deliver(9), Told::Sent(10)),
+    (Do::Deliver(10), Told::Sent(11)),
+    (Do::Deliver(11), Told::Sent(12)),
+    (Do::Stop(1), Told::Changed),
+    (Do::Ask(1), Told::Sent(13)),
+    (Do::Restart(1), Told::Changed),
+    (Do::Deliver(13), Told::Sent(14)),
+    (Do::Deliver(14), Told::Changed),
+    (Do::Make(1), Told::Dir(3)),
+    (Do::Start(1, 0, &[1, 3]), Told::Export(2, 15)),
+    (Do::Abort(2), Told::Sent(16)),
+];
+
+const GROWTHS: &[Schedule] = &[(
+    "each kind of event",
+    9,
+    FURTHER,
+    &[Found::Roots(2), Found::Authority(3, 1), Found::Sent(17)],
+)];
 
 /// What a small cluster has after each kind of event, growths refused or not.
 #[test]
 fn a_refused_growth_changes_nothing(rt: HostRuntime) {
-    let mut cluster = played(&rt, rt.alloc(), &to_the_log());
-    run_rows(&rt, rt.alloc(), &mut cluster, &further());
-    same(&rt, &roots(rt.alloc(), &cluster).sure(&rt).len(), &2);
-    same(&rt, &cluster.authority(Dir::new(3)), &Some(rank(1)));
-    same(&rt, &cluster.sent(), &17);
+    run_schedules(&rt, rt.alloc(), GROWTHS)
 }
 
 /// The same events, each prepared first.
 #[test]
 fn a_refused_growth_leaves_what_is_prepared(rt: HostRuntime) {
-    let mut cluster = cluster(rt.alloc()).sure(&rt);
-    run_prepared(&rt, rt.alloc(), &mut cluster, &to_the_log());
-    run_prepared(&rt, rt.alloc(), &mut cluster, &further());
-    same(&rt, &cluster.authority(Dir::new(3)), &Some(rank(1)));
+    prepare_and_run(&rt, rt.alloc(), FURTHER, &[Found::Authority(3, 1)])
 }

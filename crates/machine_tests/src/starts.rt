@@ -1,15 +1,21 @@
 //! Which lists of directories can be exported, and events that are prepared.
 
-use crate::same::{Sure, same, same_in};
-use crate::steps::{Do, Row, answer, cluster, event, rank, to_the_log, written};
-use export_machine::{Cluster, Event, ExporterState, Reply, StepError};
+ghost use Rattle.export_machine.specs.Kept.{is_ready};
+ghost use Rattle.export_machine.specs.Step.{refusal};
+ghost use Rattle.std.specs.Prelude.{◌≡◌, None, OnOk, true};
+
+use crate::found::{Found, all_found};
+use crate::same::{Sure, same};
+use crate::steps::{Do, Row, TO_THE_LOG, answer, cluster_of, event, written};
+use crate::told::{Told, same_as_told, same_refusal};
+use export_machine::{Cluster, Event, Reply, StepError};
 use mds_types::Dir;
 use std::alloc::Global;
 use std::process::Abort;
 
 /// A cluster in which directory d has the children 2d + 1 and 2d + 2, up to 14.
 fn with_two_children_each(rt: &impl Abort, alloc: Global) -> Cluster {
-    let mut cluster = cluster(alloc).sure(rt);
+    let mut cluster = cluster_of(alloc, 16).sure(rt);
     for number in 1u32..15 {
         let made = answer(alloc, &mut cluster, Do::Make((number - 1) / 2)).sure(rt);
         same(rt, &made, &Ok(Reply::Dir(Dir::new(number))));
@@ -17,78 +23,93 @@ fn with_two_children_each(rt: &impl Abort, alloc: Global) -> Cluster {
     cluster
 }
 
-/// Prepares an event, and does so again where memory was wanting.
-fn prepared(cluster: &mut Cluster, event: &Event) -> Result<(), StepError> {
+/// Prepares an event. Where a growth is refused nothing has changed, and it is prepared again.
+fn prepared(cluster: &mut Cluster, event: &Event) -> Result<(), StepError>
+    ensures accepted { OnOk result (refusal cluster.old.world (event.now) ≡ None) }
+    ensures room { OnOk result (is_ready cluster.new (event.now) ≡ true) }
+    ensures world { cluster.new.world ≡ cluster.old.world }
+{
+    let before = written(cluster);
     match cluster.prepare(event) {
-        Err(StepError::Memory) => cluster.prepare(event),
+        Err(StepError::Memory) if written(cluster) == before => cluster.prepare(event),
         answer => answer,
     }
 }
 
+// (directories, why their export is refused)
+const STARTS: &[(&[u32], Option<&str>)] = &[
+    // rising
+    (&[0], None),
+    (&[9], None),
+    (&[0, 1, 2, 3, 4, 5, 6, 7, 8, 9, 10, 11, 12, 13, 14], None),
+    (&[1, 3, 8], None),
+    (&[2, 5, 6, 11, 14], None),
+    (&[3, 4], Some("26 NotConnected")),
+    (&[0, 2, 3], Some("26 NotConnected")),
+    (&[1, 3, 4, 9, 12], Some("26 NotConnected")),
+    (&[0, 1, 15], Some("6 NoDir")),
+    // not rising
+    (&[8, 3, 1], None),
+    (&[14, 2, 6, 5, 11], None),
+    (&[13, 0, 7, 3, 1, 6, 9, 2, 12, 4, 10, 5, 14, 8, 11], None),
+    (&[4, 3], Some("26 NotConnected")),
+    (&[1, 1, 3], Some("26 NotConnected")),
+    (&[0, 1, 1], Some("26 NotConnected")),
+    (&[1, 3, 1], Some("26 NotConnected")),
+    (&[15, 1], Some("6 NoDir")),
+    (&[], Some("26 NotConnected")),
+];
+
+/// An export of these directories is refused for this cause, or accepted.
+fn starts_as_told(
+    rt: &impl Abort,
+    alloc: Global,
+    cluster: &mut Cluster,
+    dirs: &'static [u32],
+    told: Option<&str>,
+) {
+    let start = event(alloc, Do::Start(0, 1, dirs)).sure(rt);
+    same_refusal(rt, alloc, cluster.can_apply(&start).err(), told, &dirs);
+    same_refusal(rt, alloc, prepared(cluster, &start).err(), told, &dirs);
+    same_refusal(rt, alloc, cluster.apply(start).err(), told, &dirs);
+}
+
 #[test]
 fn can_apply_names_the_refusal_of_a_start(rt: HostRuntime) {
-    // (directories, why their export is refused)
-    let table: [(&'static [u32], Option<StepError>); 18] = [
-        // rising
-        (&[0], None),
-        (&[9], None),
-        (&[0, 1, 2, 3, 4, 5, 6, 7, 8, 9, 10, 11, 12, 13, 14], None),
-        (&[1, 3, 8], None),
-        (&[2, 5, 6, 11, 14], None),
-        (&[3, 4], Some(StepError::NotConnected)),
-        (&[0, 2, 3], Some(StepError::NotConnected)),
-        (&[1, 3, 4, 9, 12], Some(StepError::NotConnected)),
-        (&[0, 1, 15], Some(StepError::NoDir)),
-        // not rising
-        (&[8, 3, 1], None),
-        (&[14, 2, 6, 5, 11], None),
-        (&[13, 0, 7, 3, 1, 6, 9, 2, 12, 4, 10, 5, 14, 8, 11], None),
-        (&[4, 3], Some(StepError::NotConnected)),
-        (&[1, 1, 3], Some(StepError::NotConnected)),
-        (&[0, 1, 1], Some(StepError::NotConnected)),
-        (&[1, 3, 1], Some(StepError::NotConnected)),
-        (&[15, 1], Some(StepError::NoDir)),
-        (&[], Some(StepError::NotConnected)),
-    ];
-    for (dirs, want) in table {
+    for (dirs, told) in STARTS {
         let mut cluster = with_two_children_each(&rt, rt.alloc());
-        let start = event(rt.alloc(), Do::Start(0, 1, dirs)).sure(&rt);
-        same_in(&rt, &cluster.can_apply(&start).err(), &want, &dirs);
-        same_in(&rt, &prepared(&mut cluster, &start).err(), &want, &dirs);
-        same_in(&rt, &cluster.apply(start).err(), &want, &dirs);
+        starts_as_told(&rt, rt.alloc(), &mut cluster, dirs, *told);
     }
 }
 
-/// An event that is prepared, and then happens. Where a growth is refused nothing
-/// has changed, and it is prepared again.
+/// An event that is prepared, and then happens.
 fn happened(cluster: &mut Cluster, event: Event) -> Result<Reply, StepError> {
-    let before = written(cluster);
-    match cluster.prepare(&event) {
+    match prepared(cluster, &event) {
         Ok(()) => Ok(cluster.happen(event)),
-        Err(StepError::Memory) if written(cluster) == before => {
-            cluster.prepare(&event)?;
-            Ok(cluster.happen(event))
-        }
         Err(error) => Err(error),
     }
 }
 
-/// Runs a schedule in which each event is prepared first.
-pub(crate) fn run_prepared(rt: &impl Abort, alloc: Global, cluster: &mut Cluster, rows: &[Row]) {
-    for (at, (step, want)) in rows.iter().enumerate() {
+fn run_prepared(rt: &impl Abort, alloc: Global, cluster: &mut Cluster, rows: &[Row]) {
+    for (at, (step, told)) in rows.iter().enumerate() {
         let next = event(alloc, *step).sure(rt);
-        same_in(rt, &happened(cluster, next), want, &at);
+        same_as_told(rt, alloc, &happened(cluster, next), *told, &at);
     }
 }
 
+/// Takes the steps to the log entry, and then these, each of which is prepared first.
+pub(crate) fn prepare_and_run(rt: &impl Abort, alloc: Global, rows: &[Row], all: &[Found]) {
+    let mut cluster = cluster_of(alloc, 16).sure(rt);
+    run_prepared(rt, alloc, &mut cluster, TO_THE_LOG);
+    run_prepared(rt, alloc, &mut cluster, rows);
+    all_found(rt, alloc, &cluster, "prepared", all);
+}
+
+const TOO_LATE: &[Row] = &[(Do::Abort(0), Told::Refused("23 Late logged"))];
+
 #[test]
 fn prepared_events_happen(rt: HostRuntime) {
-    let mut cluster = cluster(rt.alloc()).sure(&rt);
-    run_prepared(&rt, rt.alloc(), &mut cluster, &to_the_log());
-    let refused = event(rt.alloc(), Do::Abort(0)).sure(&rt);
-    let late = Err(StepError::Late(ExporterState::Logged));
-    same(&rt, &happened(&mut cluster, refused), &late);
-    same(&rt, &cluster.authority(Dir::new(1)), &Some(rank(1)));
+    prepare_and_run(&rt, rt.alloc(), TOO_LATE, &[Found::Authority(1, 1)])
 }
 
 #[test]

@@ -3,7 +3,10 @@
 //! What asks for memory is asked again where a growth was refused, and must have changed nothing by then. So the tests
 //! hold with any one growth refused.
 
+ghost use Rattle.std.specs.Prelude.{◌≤◌};
+
 use crate::same::{Sure, same_in};
+use crate::told::{Told, same_as_told};
 use export_machine::{Cluster, Event, ExporterState, ImporterState, Reply, StepError};
 use mds_types::{Dir, Dirs, Rank};
 use std::alloc::{AllocError, Global};
@@ -69,7 +72,7 @@ pub(crate) fn event(alloc: Global, step: Do) -> Result<Event, AllocError> {
 }
 
 /// A step, and its answer.
-pub(crate) type Row = (Do, Result<Reply, StepError>);
+pub(crate) type Row = (Do, Told);
 
 /// What a cluster says of a directory: its authority, the rank that the map names, and whether ranks 0 and 1 serve it.
 type OfDir = (Option<Rank>, Option<Rank>, bool, bool);
@@ -124,42 +127,50 @@ pub(crate) fn answer(
     Ok(answer)
 }
 
-/// Runs a schedule on a cluster, and compares each answer, and what would be refused, with its row.
-pub(crate) fn run_rows(rt: &impl Abort, alloc: Global, cluster: &mut Cluster, rows: &[Row]) {
-    for (at, (step, want)) in rows.iter().enumerate() {
+/// Runs rows of a schedule on a cluster. Each answer is that of its row, and what would be refused is what is refused.
+pub(crate) fn run_rows(
+    rt: &impl Abort,
+    alloc: Global,
+    cluster: &mut Cluster,
+    name: &str,
+    rows: &[Row],
+) {
+    for (at, (step, told)) in rows.iter().enumerate() {
         let able = cluster.can_apply(&event(alloc, *step).sure(rt));
-        same_in(rt, &able.err(), &want.err(), &at);
-        let got = answer(alloc, cluster, *step).sure(rt);
-        same_in(rt, &got, want, &at);
+        let answered = answer(alloc, cluster, *step).sure(rt);
+        same_in(rt, &able.err(), &answered.err(), &(name, at));
+        same_as_told(rt, alloc, &answered, *told, &(name, at));
     }
 }
 
-/// A cluster of two ranks with room for 16 directories.
-pub(crate) fn cluster(alloc: Global) -> Result<Cluster, AllocError> {
-    match Cluster::new(alloc, 16, 2) {
+/// A cluster of two ranks with room for so many directories.
+pub(crate) fn cluster_of(alloc: Global, limit: u32) -> Result<Cluster, AllocError>
+    requires low { 1 ≤ limit }
+    requires high { limit ≤ 65536 }
+{
+    match Cluster::new(alloc, limit, 2) {
         Ok(cluster) => Ok(cluster),
-        Err(_) => Cluster::new(alloc, 16, 2),
+        Err(_) => Cluster::new(alloc, limit, 2),
     }
 }
 
-/// Such a cluster after a schedule.
-pub(crate) fn played(rt: &impl Abort, alloc: Global, rows: &[Row]) -> Cluster {
-    let mut cluster = cluster(alloc).sure(rt);
-    run_rows(rt, alloc, &mut cluster, rows);
+/// A cluster of two ranks with room for 16 directories, after the first so many steps to the log entry.
+pub(crate) fn after(rt: &impl Abort, alloc: Global, steps: usize) -> Cluster {
+    let mut cluster = cluster_of(alloc, 16).sure(rt);
+    let rows = &TO_THE_LOG[..steps.min(9)];
+    run_rows(rt, alloc, &mut cluster, "to the log entry", rows);
     cluster
 }
 
 /// The steps that move directory 1 from rank 0 to rank 1, up to the log entry. The first makes it.
-pub(crate) fn to_the_log() -> [Row; 9] {
-    [
-        (Do::Make(0), Ok(Reply::Dir(Dir::new(1)))),
-        (Do::Start(0, 1, &[1]), Ok(Reply::Export(0, 0))),
-        (Do::Deliver(0), Ok(Reply::Sent(1))),
-        (Do::Deliver(1), Ok(Reply::Changed)),
-        (Do::Froze(0), Ok(Reply::Sent(2))),
-        (Do::Deliver(2), Ok(Reply::Sent(3))),
-        (Do::Deliver(3), Ok(Reply::Sent(4))),
-        (Do::Deliver(4), Ok(Reply::Sent(5))),
-        (Do::Deliver(5), Ok(Reply::Changed)),
-    ]
-}
+pub(crate) const TO_THE_LOG: &[Row] = &[
+    (Do::Make(0), Told::Dir(1)),
+    (Do::Start(0, 1, &[1]), Told::Export(0, 0)),
+    (Do::Deliver(0), Told::Sent(1)),
+    (Do::Deliver(1), Told::Changed),
+    (Do::Froze(0), Told::Sent(2)),
+    (Do::Deliver(2), Told::Sent(3)),
+    (Do::Deliver(3), Told::Sent(4)),
+    (Do::Deliver(4), Told::Sent(5)),
+    (Do::Deliver(5), Told::Changed),
+];
