@@ -3,8 +3,8 @@
 use crate::same::holds_in;
 use crate::steps::{Row, after, rank, run_rows};
 use export_machine::{Cluster, ExporterState, ImporterState, JournalEntry};
-use mds_types::Dir;
-use std::alloc::Global;
+use mds_types::{Dir, Rank};
+use std::alloc::{AllocError, Global};
 use std::process::Abort;
 
 /// What is so. Directories, ranks and exports go by their numbers.
@@ -22,6 +22,16 @@ pub(crate) enum Found {
     Sent(u32),
     /// An export's states.
     States(u32, ExporterState, ImporterState),
+    /// An export that isn't there.
+    NoExport(u32),
+    /// A message is about an export, and is for a rank.
+    To(u32, u32, u8),
+    /// A message that wasn't sent.
+    Unsent(u32),
+    /// So many roots of subtrees.
+    Roots(usize),
+    /// A rank's journal: a directory below the root was made, and an export gave it away.
+    Exported(u8, u32, u32),
     /// A rank's journal: an import was started, and the rank owns its directories.
     Imported(u8, u32),
     /// A rank's journal: an import was started, and its directories were forgotten.
@@ -30,7 +40,15 @@ pub(crate) enum Found {
     Entries(u8, usize),
 }
 
-fn is_found(cluster: &Cluster, found: Found) -> bool {
+/// The roots of a cluster, asked for again where memory was refused.
+pub(crate) fn roots(alloc: Global, cluster: &Cluster) -> Result<Vec<(Dir, Rank)>, AllocError> {
+    match cluster.roots(alloc) {
+        Ok(roots) => Ok(roots),
+        Err(_) => cluster.roots(alloc),
+    }
+}
+
+fn is_found(alloc: Global, cluster: &Cluster, found: Found) -> bool {
     match found {
         Found::Authority(dir, at) => cluster.authority(Dir::new(dir)) == Some(rank(at)),
         Found::Named(dir, at) => cluster.named(Dir::new(dir)) == Some(rank(at)),
@@ -39,6 +57,22 @@ fn is_found(cluster: &Cluster, found: Found) -> bool {
         Found::Sent(count) => cluster.sent() == count,
         Found::States(export, exporter, importer) => {
             cluster.states(export) == Some((exporter, importer))
+        }
+        Found::NoExport(export) => cluster.states(export) == None,
+        Found::To(message, export, at) => cluster.to(message) == Some((export, rank(at))),
+        Found::Unsent(message) => cluster.to(message) == None,
+        Found::Roots(count) => match roots(alloc, cluster) {
+            Ok(roots) => roots.len() == count,
+            Err(_) => false,
+        },
+        Found::Exported(at, dir, export) => {
+            let entries = [
+                JournalEntry::Made(Dir::ROOT),
+                JournalEntry::Made(Dir::new(dir)),
+                JournalEntry::Exported(export),
+                JournalEntry::Notified(export),
+            ];
+            cluster.journal(rank(at)) == entries.as_slice()
         }
         Found::Imported(at, export) => {
             let entries = [
@@ -56,9 +90,15 @@ fn is_found(cluster: &Cluster, found: Found) -> bool {
 }
 
 /// All of it is so.
-pub(crate) fn all_found(rt: &impl Abort, cluster: &Cluster, name: &str, all: &[Found]) {
+pub(crate) fn all_found(
+    rt: &impl Abort,
+    alloc: Global,
+    cluster: &Cluster,
+    name: &str,
+    all: &[Found],
+) {
     for (at, found) in all.iter().enumerate() {
-        holds_in(rt, is_found(cluster, *found), &(name, at));
+        holds_in(rt, is_found(alloc, cluster, *found), &(name, at));
     }
 }
 
@@ -70,6 +110,6 @@ pub(crate) fn run_schedules(rt: &impl Abort, alloc: Global, schedules: &[Schedul
     for (name, steps, rows, all) in schedules {
         let mut cluster = after(rt, alloc, *steps);
         run_rows(rt, alloc, &mut cluster, name, rows);
-        all_found(rt, &cluster, name, all);
+        all_found(rt, alloc, &cluster, name, all);
     }
 }

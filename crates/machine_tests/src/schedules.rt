@@ -1,56 +1,49 @@
 //! Whole exports, aborts, and messages that come late or twice.
 
-use crate::found::{Found, Schedule, all_found, run_schedules};
-use crate::same::{Sure, same, same_in};
-use crate::starts::run_prepared;
+use crate::found::{Found, Schedule, roots, run_schedules};
+use crate::same::{Sure, holds_in, same};
+use crate::starts::prepare_and_run;
 use crate::steps::{Do, Row, TO_THE_LOG, after, cluster_of, event, rank, run_rows};
 use crate::told::{Told, same_as_told};
-use export_machine::{Cluster, ExporterState, ImporterState, JournalEntry};
-use mds_types::{Dir, Rank};
-use std::alloc::{AllocError, Global};
+use export_machine::{Cluster, Event, ExporterState, ImporterState, Reply, StepError};
+use mds_types::Dir;
+use std::alloc::Global;
 use std::process::Abort;
 
-const REFUSED: &[Row] = &[
-    (Do::Begin(0, 1), Told::Refused("18 Elsewhere 1")),
-    (Do::Begin(1, 1), Told::Refused("20 Frozen 0")),
-];
-
-const FINISHED: &[Row] = &[
-    (Do::Notify(0), Told::Sent(6)),
-    (Do::Deliver(6), Told::Changed),
-    (Do::Begin(1, 1), Told::Ticket(0)),
-];
-
-const MOVED: &[Found] = &[
-    Found::Named(1, 1),
-    Found::Authority(1, 1),
-    Found::Serves(1, 1),
-    Found::Withholds(0, 1),
-    Found::Sent(7),
-    Found::States(0, ExporterState::Done, ImporterState::Imported),
-    Found::Imported(1, 0),
-];
-
-#[test]
-fn moves_a_directory(rt: HostRuntime) {
-    let mut cluster = after(&rt, rt.alloc(), 9);
-    run_rows(&rt, rt.alloc(), &mut cluster, "refused", REFUSED);
-    same(&rt, &cluster.named(Dir::new(1)), &Some(rank(0)));
-    run_rows(&rt, rt.alloc(), &mut cluster, "finished", FINISHED);
-    all_found(&rt, &cluster, "moved", MOVED);
-    same(&rt, &cluster.to(6), &Some((0, rank(1))));
-    same(&rt, &cluster.to(7), &None);
-    same(&rt, &cluster.states(1), &None);
-    let exporter = [
-        JournalEntry::Made(Dir::ROOT),
-        JournalEntry::Made(Dir::new(1)),
-        JournalEntry::Exported(0),
-        JournalEntry::Notified(0),
-    ];
-    assert!(rt; cluster.journal(rank(0)) == exporter.as_slice());
-}
-
 const SCHEDULES: &[Schedule] = &[
+    (
+        "an export that is logged is served nowhere, and the map still names the exporter",
+        9,
+        &[
+            (Do::Begin(0, 1), Told::Refused("18 Elsewhere 1")),
+            (Do::Begin(1, 1), Told::Refused("20 Frozen 0")),
+        ],
+        &[Found::Named(1, 0)],
+    ),
+    (
+        "a directory moves",
+        9,
+        &[
+            (Do::Begin(0, 1), Told::Refused("18 Elsewhere 1")),
+            (Do::Begin(1, 1), Told::Refused("20 Frozen 0")),
+            (Do::Notify(0), Told::Sent(6)),
+            (Do::Deliver(6), Told::Changed),
+            (Do::Begin(1, 1), Told::Ticket(0)),
+        ],
+        &[
+            Found::Named(1, 1),
+            Found::Authority(1, 1),
+            Found::Serves(1, 1),
+            Found::Withholds(0, 1),
+            Found::Sent(7),
+            Found::To(6, 0, 1),
+            Found::Unsent(7),
+            Found::States(0, ExporterState::Done, ImporterState::Imported),
+            Found::NoExport(1),
+            Found::Exported(0, 1, 0),
+            Found::Imported(1, 0),
+        ],
+    ),
     (
         "a late ack after an abort is ignored",
         8,
@@ -230,42 +223,44 @@ fn aborts_before_the_log_entry_only(rt: HostRuntime) {
     run_schedules(&rt, rt.alloc(), ABORTS)
 }
 
+/// The events that lead to the log entry.
+fn events(rt: &impl Abort, alloc: Global) -> Vec<Event> {
+    let mut events = Vec::new(alloc);
+    for (step, _) in TO_THE_LOG {
+        events.push(event(alloc, *step).sure(rt)).sure(rt);
+    }
+    events
+}
+
+/// The answers to them are those of their rows.
+fn answered(rt: &impl Abort, alloc: Global, answers: &[Result<Reply, StepError>]) {
+    for ((_, told), answer) in TO_THE_LOG.iter().zip(answers.iter()) {
+        same_as_told(rt, alloc, answer, *told, &"in a list");
+    }
+    same(rt, &answers.len(), &9);
+}
+
 #[test]
 fn runs_a_list_of_events(rt: HostRuntime) {
     let mut cluster = cluster_of(rt.alloc(), 16).sure(&rt);
-    let mut events = Vec::new(rt.alloc());
-    for (step, _) in TO_THE_LOG {
-        events.push(event(rt.alloc(), *step).sure(&rt)).sure(&rt);
-    }
+    let events = events(&rt, rt.alloc());
     let answers = cluster.run(rt.alloc(), &events).sure(&rt);
-    for ((_, told), answer) in TO_THE_LOG.iter().zip(answers.iter()) {
-        same_as_told(&rt, rt.alloc(), answer, *told, &"in a list");
-    }
-    same(&rt, &answers.len(), &9);
+    answered(&rt, rt.alloc(), &answers);
+}
+
+/// A step logs the export where it is the ninth, and no step logs it again.
+fn logs_at_last(rt: &impl Abort, alloc: Global, cluster: &mut Cluster, at: usize, row: Row) {
+    let next = event(alloc, row.0).sure(rt);
+    holds_in(rt, cluster.logs_export(&next) == (at == 8), &at);
+    run_rows(rt, alloc, cluster, "to the log entry", &[row]);
+    holds_in(rt, !cluster.logs_export(&next), &at);
 }
 
 #[test]
 fn only_the_log_entry_logs(rt: HostRuntime) {
     let mut cluster = cluster_of(rt.alloc(), 16).sure(&rt);
-    for (at, (step, told)) in TO_THE_LOG.iter().enumerate() {
-        let next = event(rt.alloc(), *step).sure(&rt);
-        same_in(&rt, &cluster.logs_export(&next), &(at == 8), &at);
-        run_rows(
-            &rt,
-            rt.alloc(),
-            &mut cluster,
-            "to the log entry",
-            &[(*step, *told)],
-        );
-        assert!(rt; !cluster.logs_export(&next));
-    }
-}
-
-/// The roots of a cluster, asked for again where memory was refused.
-fn roots(alloc: Global, cluster: &Cluster) -> Result<Vec<(Dir, Rank)>, AllocError> {
-    match cluster.roots(alloc) {
-        Ok(roots) => Ok(roots),
-        Err(_) => cluster.roots(alloc),
+    for (at, row) in TO_THE_LOG.iter().enumerate() {
+        logs_at_last(&rt, rt.alloc(), &mut cluster, at, *row);
     }
 }
 
@@ -296,20 +291,25 @@ const ROOTS: &[(&[Row], &[(u32, u8)])] = &[
     ),
 ];
 
+/// An export starts, of which the roots know nothing before its log entry.
+fn roots_follow(
+    rt: &impl Abort,
+    alloc: Global,
+    cluster: &mut Cluster,
+    rows: &[Row],
+    wanted: &[(u32, u8)],
+) {
+    run_rows(rt, alloc, cluster, "started", rows);
+    same(rt, &roots(alloc, cluster).sure(rt).len(), &1);
+    run_rows(rt, alloc, cluster, "to the log entry", &TO_THE_LOG[2..]);
+    same_roots(rt, alloc, cluster, wanted);
+}
+
 #[test]
 fn roots_follow_the_log_entry(rt: HostRuntime) {
     for (rows, wanted) in ROOTS {
         let mut cluster = after(&rt, rt.alloc(), 1);
-        run_rows(&rt, rt.alloc(), &mut cluster, "started", rows);
-        same(&rt, &roots(rt.alloc(), &cluster).sure(&rt).len(), &1);
-        run_rows(
-            &rt,
-            rt.alloc(),
-            &mut cluster,
-            "to the log entry",
-            &TO_THE_LOG[2..],
-        );
-        same_roots(&rt, rt.alloc(), &cluster, wanted);
+        roots_follow(&rt, rt.alloc(), &mut cluster, rows, wanted);
     }
 }
 
@@ -338,21 +338,21 @@ const FURTHER: &[Row] = &[
     (Do::Abort(2), Told::Sent(16)),
 ];
 
+const GROWTHS: &[Schedule] = &[(
+    "each kind of event",
+    9,
+    FURTHER,
+    &[Found::Roots(2), Found::Authority(3, 1), Found::Sent(17)],
+)];
+
 /// What a small cluster has after each kind of event, growths refused or not.
 #[test]
 fn a_refused_growth_changes_nothing(rt: HostRuntime) {
-    let mut cluster = after(&rt, rt.alloc(), 9);
-    run_rows(&rt, rt.alloc(), &mut cluster, "further", FURTHER);
-    same(&rt, &roots(rt.alloc(), &cluster).sure(&rt).len(), &2);
-    same(&rt, &cluster.authority(Dir::new(3)), &Some(rank(1)));
-    same(&rt, &cluster.sent(), &17);
+    run_schedules(&rt, rt.alloc(), GROWTHS)
 }
 
 /// The same events, each prepared first.
 #[test]
 fn a_refused_growth_leaves_what_is_prepared(rt: HostRuntime) {
-    let mut cluster = cluster_of(rt.alloc(), 16).sure(&rt);
-    run_prepared(&rt, rt.alloc(), &mut cluster, TO_THE_LOG);
-    run_prepared(&rt, rt.alloc(), &mut cluster, FURTHER);
-    same(&rt, &cluster.authority(Dir::new(3)), &Some(rank(1)));
+    prepare_and_run(&rt, rt.alloc(), FURTHER, &[Found::Authority(3, 1)])
 }

@@ -4,10 +4,11 @@ ghost use Rattle.export_machine.specs.Kept.{is_ready};
 ghost use Rattle.export_machine.specs.Step.{refusal};
 ghost use Rattle.std.specs.Prelude.{◌≡◌, None, OnOk, true};
 
+use crate::found::{Found, all_found};
 use crate::same::{Sure, same};
-use crate::steps::{Do, Row, TO_THE_LOG, answer, cluster_of, event, rank, written};
-use crate::told::{same_as_told, same_refusal};
-use export_machine::{Cluster, Event, ExporterState, Reply, StepError};
+use crate::steps::{Do, Row, TO_THE_LOG, answer, cluster_of, event, written};
+use crate::told::{Told, same_as_told, same_refusal};
+use export_machine::{Cluster, Event, Reply, StepError};
 use mds_types::Dir;
 use std::alloc::Global;
 use std::process::Abort;
@@ -59,26 +60,25 @@ const STARTS: &[(&[u32], Option<&str>)] = &[
     (&[], Some("26 NotConnected")),
 ];
 
+/// An export of these directories is refused for this cause, or accepted.
+fn starts_as_told(
+    rt: &impl Abort,
+    alloc: Global,
+    cluster: &mut Cluster,
+    dirs: &'static [u32],
+    told: Option<&str>,
+) {
+    let start = event(alloc, Do::Start(0, 1, dirs)).sure(rt);
+    same_refusal(rt, alloc, cluster.can_apply(&start).err(), told, &dirs);
+    same_refusal(rt, alloc, prepared(cluster, &start).err(), told, &dirs);
+    same_refusal(rt, alloc, cluster.apply(start).err(), told, &dirs);
+}
+
 #[test]
 fn can_apply_names_the_refusal_of_a_start(rt: HostRuntime) {
     for (dirs, told) in STARTS {
         let mut cluster = with_two_children_each(&rt, rt.alloc());
-        let start = event(rt.alloc(), Do::Start(0, 1, dirs)).sure(&rt);
-        same_refusal(
-            &rt,
-            rt.alloc(),
-            cluster.can_apply(&start).err(),
-            *told,
-            dirs,
-        );
-        same_refusal(
-            &rt,
-            rt.alloc(),
-            prepared(&mut cluster, &start).err(),
-            *told,
-            dirs,
-        );
-        same_refusal(&rt, rt.alloc(), cluster.apply(start).err(), *told, dirs);
+        starts_as_told(&rt, rt.alloc(), &mut cluster, dirs, *told);
     }
 }
 
@@ -90,22 +90,26 @@ fn happened(cluster: &mut Cluster, event: Event) -> Result<Reply, StepError> {
     }
 }
 
-/// Runs a schedule in which each event is prepared first.
-pub(crate) fn run_prepared(rt: &impl Abort, alloc: Global, cluster: &mut Cluster, rows: &[Row]) {
+fn run_prepared(rt: &impl Abort, alloc: Global, cluster: &mut Cluster, rows: &[Row]) {
     for (at, (step, told)) in rows.iter().enumerate() {
         let next = event(alloc, *step).sure(rt);
         same_as_told(rt, alloc, &happened(cluster, next), *told, &at);
     }
 }
 
+/// Takes the steps to the log entry, and then these, each of which is prepared first.
+pub(crate) fn prepare_and_run(rt: &impl Abort, alloc: Global, rows: &[Row], all: &[Found]) {
+    let mut cluster = cluster_of(alloc, 16).sure(rt);
+    run_prepared(rt, alloc, &mut cluster, TO_THE_LOG);
+    run_prepared(rt, alloc, &mut cluster, rows);
+    all_found(rt, alloc, &cluster, "prepared", all);
+}
+
+const TOO_LATE: &[Row] = &[(Do::Abort(0), Told::Refused("23 Late logged"))];
+
 #[test]
 fn prepared_events_happen(rt: HostRuntime) {
-    let mut cluster = cluster_of(rt.alloc(), 16).sure(&rt);
-    run_prepared(&rt, rt.alloc(), &mut cluster, TO_THE_LOG);
-    let refused = event(rt.alloc(), Do::Abort(0)).sure(&rt);
-    let late = Err(StepError::Late(ExporterState::Logged));
-    same(&rt, &happened(&mut cluster, refused), &late);
-    same(&rt, &cluster.authority(Dir::new(1)), &Some(rank(1)));
+    prepare_and_run(&rt, rt.alloc(), TOO_LATE, &[Found::Authority(1, 1)])
 }
 
 #[test]

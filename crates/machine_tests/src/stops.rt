@@ -1,7 +1,7 @@
 //! Ranks that stop and run again.
 
-use crate::found::{Found, Schedule, all_found, run_schedules};
-use crate::steps::{Do, Row, after, run_rows};
+use crate::found::{Found, Schedule, run_schedules};
+use crate::steps::Do;
 use crate::told::Told;
 use export_machine::{ExporterState, ImporterState};
 
@@ -18,6 +18,39 @@ const STOPS: &[Schedule] = &[
             (Do::Deliver(6), Told::Changed),
         ],
         &[Found::Serves(1, 1)],
+    ),
+    (
+        "an importer asks what a stop aborted",
+        8,
+        &[
+            (Do::Stop(0), Told::Changed),
+            (Do::Ask(0), Told::Sent(6)),
+            (Do::Deliver(6), Told::Ignored),
+            (Do::Restart(0), Told::Changed),
+            (Do::Deliver(6), Told::Sent(7)),
+            (Do::Deliver(7), Told::Changed),
+            (Do::Deliver(5), Told::Ignored),
+            (Do::Ask(0), Told::Refused("23 Late aborted")),
+        ],
+        &[Found::Serves(0, 1), Found::Dropped(1, 0)],
+    ),
+    (
+        "a further stop leaves the import as the journal has it",
+        8,
+        &[
+            (Do::Stop(0), Told::Changed),
+            (Do::Ask(0), Told::Sent(6)),
+            (Do::Deliver(6), Told::Ignored),
+            (Do::Restart(0), Told::Changed),
+            (Do::Deliver(6), Told::Sent(7)),
+            (Do::Deliver(7), Told::Changed),
+            (Do::Deliver(5), Told::Ignored),
+            (Do::Ask(0), Told::Refused("23 Late aborted")),
+            (Do::Stop(1), Told::Changed),
+            (Do::Restart(1), Told::Changed),
+            (Do::Start(0, 1, &[1]), Told::Export(1, 8)),
+        ],
+        &[Found::States(0, ExporterState::Aborted, ImporterState::Dropped)],
     ),
     (
         "a stopped importer asks for its end",
@@ -87,35 +120,4 @@ const STOPS: &[Schedule] = &[
 #[test]
 fn stopped_ranks_know_their_journals(rt: HostRuntime) {
     run_schedules(&rt, rt.alloc(), STOPS)
-}
-
-const ASKS: &[Row] = &[
-    (Do::Stop(0), Told::Changed),
-    (Do::Ask(0), Told::Sent(6)),
-    (Do::Deliver(6), Told::Ignored),
-    (Do::Restart(0), Told::Changed),
-    (Do::Deliver(6), Told::Sent(7)),
-    (Do::Deliver(7), Told::Changed),
-    (Do::Deliver(5), Told::Ignored),
-    (Do::Ask(0), Told::Refused("23 Late aborted")),
-];
-
-const DROPPED: &[Found] = &[Found::Serves(0, 1), Found::Dropped(1, 0)];
-
-// A further stop leaves the import as the journal has it.
-const STOPS_AGAIN: &[Row] = &[
-    (Do::Stop(1), Told::Changed),
-    (Do::Restart(1), Told::Changed),
-    (Do::Start(0, 1, &[1]), Told::Export(1, 8)),
-];
-
-const STILL_DROPPED: &[Found] = &[Found::States(0, ExporterState::Aborted, ImporterState::Dropped)];
-
-#[test]
-fn importer_asks_what_a_stop_aborted(rt: HostRuntime) {
-    let mut cluster = after(&rt, rt.alloc(), 8);
-    run_rows(&rt, rt.alloc(), &mut cluster, "asks", ASKS);
-    all_found(&rt, &cluster, "asked", DROPPED);
-    run_rows(&rt, rt.alloc(), &mut cluster, "stops again", STOPS_AGAIN);
-    all_found(&rt, &cluster, "stopped again", STILL_DROPPED);
 }

@@ -1,19 +1,15 @@
 //! A phase of many exports.
-ghost use Rattle.std.specs.Prelude.{◌≡◌};
 
-use crate::boards::board_of;
+use crate::boards::{Trial, on_board};
 use crate::same::{Sure, holds_in, same, same_in};
 use crate::steps::{moved, rank};
-use authority_map::{MapWriter, Publisher};
-use board_state::BoardParts;
+use authority_map::Publisher;
 use export_rounds::Outcome;
 use mds_board::Board;
 use mds_types::Dir;
 use naming::Naming;
 use std::alloc::Global;
-use std::marker::Brand;
 use std::process::Abort;
-use std::sync::Wait;
 
 /// Exports of the phase, each of one directory.
 const MANY: u32 = 32_768;
@@ -27,7 +23,12 @@ fn fill<J: Naming, M: Publisher<J>>(rt: &impl Abort, alloc: Global, board: &mut 
     }
 }
 
-fn move_all<J: Naming, M: Publisher<J>>(rt: &impl Abort, alloc: Global, board: &mut Board<J, M>) {
+/// A phase of as many exports as that, each of which is done.
+pub(crate) fn move_all<J: Naming, M: Publisher<J>>(
+    rt: &impl Abort,
+    alloc: Global,
+    board: &mut Board<J, M>,
+) {
     fill(rt, alloc, board);
     let mut rows = Vec::with_capacity(alloc, MANY as usize).sure(rt);
     for number in 0..MANY {
@@ -48,34 +49,7 @@ fn all_stand<J: Naming, M: Publisher<J>>(rt: &impl Abort, board: &Board<J, M>) {
     }
 }
 
-fn on_parts<J: Naming, M: Publisher<J>>(rt: &impl Abort, alloc: Global, parts: BoardParts<J, M>)
-    requires limit { J.limit ≡ 65536 }
-{
-    let mut board = board_of(rt, alloc, parts, 65536, 2);
-    move_all(rt, alloc, &mut board);
-    board.end();
-}
-
-fn on_board<J: Naming, R: Wait + Drop>(
-    rt: &impl Abort,
-    waits: R,
-    alloc: Global,
-    book: heat_ledger::NewBook,
-    map: authority_map::NewMap,
-)
-    requires book { book ≡ J.ledger }
-    requires map { map ≡ J.map }
-    requires limit { J.limit ≡ 65536 }
-{
-    match MapWriter::<J, R>::open(waits, alloc, map, 65536, 1) {
-        Ok((writer, _readers)) => on_parts(rt, alloc, BoardParts::new(book, writer)),
-        Err(_) => panic!(rt; "no map"),
-    }
-}
-
 #[test]
 fn each_of_many_exports_is_done(rt: HostRuntime) {
-    let book = heat_ledger::NewBook::new(rt.alloc()).sure(&rt);
-    let map = authority_map::NewMap::new();
-    on_board::<Brand, _>(&rt, &rt, rt.alloc(), book, map)
+    on_board(&rt, &rt, rt.alloc(), Trial::Many)
 }

@@ -1,22 +1,19 @@
 //! Phases of exports while a growth is refused.
 //!
 //! With `rt try --test --fail-alloc N`, the N-th growth is refused.
-ghost use Rattle.std.specs.Prelude.{◌≡◌};
 
-use crate::boards::board_at_last;
+use crate::boards::{Trial, on_board};
 use crate::same::{Sure, holds_in, same, same_in};
 use crate::steps::{rank, stand};
-use authority_map::{MapWriter, Publisher};
-use board_state::{BoardError, BoardParts};
+use authority_map::Publisher;
+use board_state::BoardError;
 use export_machine::{ExporterState, ImporterState};
 use export_rounds::{Outcome, carry_out_orders};
 use mds_board::Board;
 use mds_types::{Dir, Dirs, Order, Rank};
 use naming::Naming;
 use std::alloc::{AllocError, Global};
-use std::marker::Brand;
 use std::process::Abort;
-use std::sync::Wait;
 
 /// What a board says that a phase changes.
 #[derive(Clone, Copy, PartialEq, Eq)]
@@ -118,7 +115,11 @@ fn first_phase<J: Naming, M: Publisher<J>>(
 }
 
 /// What the first phase has left undone further phases do.
-fn phases<J: Naming, M: Publisher<J>>(rt: &impl Abort, alloc: Global, board: &mut Board<J, M>) {
+pub(crate) fn phases<J: Naming, M: Publisher<J>>(
+    rt: &impl Abort,
+    alloc: Global,
+    board: &mut Board<J, M>,
+) {
     made_at_last(rt, alloc, board, "a");
     made_at_last(rt, alloc, board, "b");
     let orders = orders_at_last(alloc).sure(rt);
@@ -126,48 +127,10 @@ fn phases<J: Naming, M: Publisher<J>>(rt: &impl Abort, alloc: Global, board: &mu
     for _ in 0..2 {
         let _outcomes = carry_out_orders(board, alloc, &orders).ok();
     }
-    stand(rt, board, &[(0, 0), (1, 1), (2, 1)]);
-}
-
-fn on_parts<J: Naming, M: Publisher<J>>(rt: &impl Abort, alloc: Global, parts: BoardParts<J, M>)
-    requires limit { J.limit ≡ 8 }
-{
-    let mut board = board_at_last(rt, alloc, parts);
-    phases(rt, alloc, &mut board);
-    board.end();
-}
-
-fn on_board<J: Naming, R: Wait + Drop + Copy>(
-    rt: &impl Abort,
-    waits: R,
-    alloc: Global,
-    book: heat_ledger::NewBook,
-    map: authority_map::NewMap,
-)
-    requires book { book ≡ J.ledger }
-    requires map { map ≡ J.map }
-    requires limit { J.limit ≡ 8 }
-{
-    let map = match MapWriter::<J, R>::open(waits, alloc, map, 8, 1) {
-        Ok((writer, _readers)) => return on_parts(rt, alloc, BoardParts::new(book, writer)),
-        Err((_error, map)) => map,
-    };
-    match MapWriter::<J, R>::open(waits, alloc, map, 8, 1) {
-        Ok((writer, _readers)) => on_parts(rt, alloc, BoardParts::new(book, writer)),
-        Err(_) => panic!(rt; "no map"),
-    }
-}
-
-fn book_at_last(alloc: Global) -> Result<heat_ledger::NewBook, AllocError> {
-    match heat_ledger::NewBook::new(alloc) {
-        Ok(book) => Ok(book),
-        Err(_) => heat_ledger::NewBook::new(alloc),
-    }
+    stand(rt, board, "in the end", &[(0, 0), (1, 1), (2, 1)]);
 }
 
 #[test]
 fn a_refused_growth_is_made_up_for(rt: HostRuntime) {
-    let book = book_at_last(rt.alloc()).sure(&rt);
-    let map = authority_map::NewMap::new();
-    on_board::<Brand, _>(&rt, &rt, rt.alloc(), book, map)
+    on_board(&rt, &rt, rt.alloc(), Trial::RefusedGrowth)
 }

@@ -43,15 +43,14 @@ pub(crate) fn play<J: Naming, M: Publisher<J>>(
     rt: &impl Abort,
     alloc: Global,
     board: &mut Board<J, M>,
+    name: &str,
     steps: &[Do],
 ) {
     for (at, step) in steps.iter().enumerate() {
         let made = match *step {
             Do::Start(from, to, dir) => {
-                board.step(
-                    alloc,
-                    Event::Start(rank(from), rank(to), dirs(alloc, dir).sure(rt)),
-                )
+                let dirs = dirs(alloc, dir).sure(rt);
+                board.step(alloc, Event::Start(rank(from), rank(to), dirs))
             }
             Do::Deliver(message) => board.step(alloc, Event::Deliver(message)),
             Do::Froze(export) => board.step(alloc, Event::Froze(export)),
@@ -59,7 +58,7 @@ pub(crate) fn play<J: Naming, M: Publisher<J>>(
             Do::Stop(at) => board.step(alloc, Event::Stop(rank(at))),
             Do::Restart(at) => board.step(alloc, Event::Restart(rank(at))),
         };
-        same_in(rt, &made.err(), &None, &at);
+        same_in(rt, &made.err(), &None, &(name, at));
     }
 }
 
@@ -97,20 +96,17 @@ pub(crate) fn make<J: Naming, M: Publisher<J>>(
 pub(crate) fn stand<J: Naming, M: Publisher<J>>(
     rt: &impl Abort,
     board: &Board<J, M>,
+    name: &str,
     rows: &[(u32, u8)],
 ) {
-    for (dir, at) in rows {
+    for (number, at) in rows {
+        let (dir, wanted) = (Dir::new(*number), Some(rank(*at)));
         same_in(
             rt,
-            &board.cluster().authority(Dir::new(*dir)),
-            &Some(rank(*at)),
-            &dir,
+            &board.cluster().authority(dir),
+            &wanted,
+            &(name, number),
         );
-        same_in(
-            rt,
-            &board.cluster().named(Dir::new(*dir)),
-            &Some(rank(*at)),
-            &dir,
-        );
+        same_in(rt, &board.cluster().named(dir), &wanted, &(name, number));
     }
 }
