@@ -2,10 +2,11 @@
 
 use crate::same::{Row, Sure, holds_in, same, same_rows};
 use ceph_dumps::{
-    DumpError, FileSystemRanks, FragmentHeat, ListedDir, SubtreeRoot, read_cluster, read_listing,
-    read_loads, read_own_list, read_subtrees,
+    DumpError, FragmentHeat, ListedDir, SubtreeRoot, read_cluster, read_listing, read_loads,
+    read_own_list, read_subtrees,
 };
 use std::alloc::Global;
+use std::mem;
 use std::process::Abort;
 
 /// A dump of loads with a name that isn't UTF-8, an escape, two fragments and a bare `-inf`.
@@ -24,15 +25,9 @@ const HEATS: &[(&[u8], u64)] = &[
 ];
 
 impl<'a> Row<(&'a [u8], u64)> for FragmentHeat {
-    fn same_as<R: Abort>(&self, rt: &R, row: &(&'a [u8], u64)) {
-        same(rt, &(self.path.as_slice(), self.heat), row);
+    fn is_as(&self, row: &(&'a [u8], u64)) -> bool {
+        self.path.as_slice() == row.0 && self.heat == row.1
     }
-}
-
-#[test]
-fn reads_loads(rt: HostRuntime) {
-    let found = read_loads(rt.alloc(), LOADS).sure(&rt);
-    same_rows(&rt, &found, HEATS);
 }
 
 /// The subtrees of a rank, as Ceph prints them.
@@ -77,23 +72,28 @@ fn told(alloc: Global, text: &[u8]) -> usize {
     }
 }
 
-/// How many paths are told where a byte is another.
-fn told_with(rt: &impl Abort, alloc: Global, at: usize, byte: u8) -> usize {
-    let mut text = Vec::from_slice(alloc, LOADS).sure(rt);
-    if let Some(place) = text.get_mut(at) {
-        *place = byte;
+/// Sets a byte, and gives the one before.
+fn set(text: &mut [u8], at: usize, byte: u8) -> u8 {
+    match text.get_mut(at) {
+        Some(place) => mem::replace(place, byte),
+        None => byte,
     }
-    told(alloc, &text)
+}
+
+/// Where a byte is broken the dump is refused, or all that is read has the number of paths that were told, or fewer.
+fn break_byte(rt: &impl Abort, alloc: Global, text: &mut [u8], at: usize) {
+    for byte in [b'\0', b'"', b'\\', b'{', b']', b',', b'-', 0xff] {
+        let before = set(text, at, byte);
+        holds_in(rt, told(alloc, text) <= 3, &(byte, at));
+        set(text, at, before);
+    }
 }
 
 #[test]
 fn names_no_other_path_where_a_byte_is_broken(rt: HostRuntime) {
-    // a broken byte is refused, or all that is read has the number of paths that were told, or fewer
+    let mut text = Vec::from_slice(rt.alloc(), LOADS).sure(&rt);
     for at in 0..LOADS.len() {
-        for byte in [b'\0', b'"', b'\\', b'{', b']', b',', b'-', 0xff] {
-            let told = told_with(&rt, rt.alloc(), at, byte);
-            holds_in(&rt, told <= 3, &(byte, at));
-        }
+        break_byte(&rt, rt.alloc(), &mut text, at);
     }
 }
 
@@ -122,7 +122,7 @@ fn loads_of(rt: &impl Abort, alloc: Global, path: &[u8]) -> Vec<u8> {
 fn reads_path(rt: &impl Abort, alloc: Global, path: &[u8]) {
     let text = loads_of(rt, alloc, path);
     let found = read_loads(alloc, &text).sure(rt);
-    same_rows(rt, &found, &[(path, 3000)]);
+    same_rows(rt, &found, &[(path, 3000)], "long names");
 }
 
 #[test]
@@ -164,33 +164,21 @@ const TOLD_ROOTS: &[Root<'static>] = &[
 ];
 
 impl<'a> Row<Root<'a>> for SubtreeRoot {
-    fn same_as<R: Abort>(&self, rt: &R, row: &Root<'a>) {
-        let told = (self.is_here, self.is_spread, self.pin);
-        same(rt, &(self.path.as_slice(), told), row);
+    fn is_as(&self, row: &Root<'a>) -> bool {
+        self.path.as_slice() == row.0 && (self.is_here, self.is_spread, self.pin) == row.1
     }
-}
-
-#[test]
-fn reads_subtrees(rt: HostRuntime) {
-    let found = read_subtrees(rt.alloc(), ROOTS).sure(&rt);
-    same_rows(&rt, &found, TOLD_ROOTS);
 }
 
 /// The ranks of a file system, behind an empty line.
 const RANKS: &[u8] =
     b"\n{\"mdsmap\":{\"max_mds\":3,\"in\":[0,2],\"bal_rank_mask\":\"0x5\"},\"id\":1}";
 
-/// The ranks are as told.
-fn same_ranks(rt: &impl Abort, found: &FileSystemRanks) {
-    same(rt, &found.size, &3);
-    same(rt, &found.ranks.as_slice(), &[0, 2].as_slice());
-    same(rt, &found.mask.as_deref(), &Some("0x5"));
-}
-
 #[test]
 fn reads_ranks(rt: HostRuntime) {
     let found = read_cluster(rt.alloc(), RANKS).sure(&rt);
-    same_ranks(&rt, &found);
+    same(&rt, &found.size, &3);
+    same(&rt, &found.ranks.as_slice(), &[0, 2].as_slice());
+    same(&rt, &found.mask.as_deref(), &Some("0x5"));
 }
 
 /// A listing of four directories.
@@ -210,16 +198,9 @@ const LISTED: &[Listed<'static>] = &[
 ];
 
 impl<'a> Row<Listed<'a>> for ListedDir {
-    fn same_as<R: Abort>(&self, rt: &R, row: &Listed<'a>) {
-        let told = (self.path.as_slice(), self.entries, self.pin);
-        same(rt, &told, row);
+    fn is_as(&self, row: &Listed<'a>) -> bool {
+        self.path.as_slice() == row.0 && (self.entries, self.pin) == (row.1, row.2)
     }
-}
-
-#[test]
-fn reads_listings(rt: HostRuntime) {
-    let found = read_listing(rt.alloc(), LISTING).sure(&rt);
-    same_rows(&rt, &found, LISTED);
 }
 
 /// Listings without a name, and with a value that is no number.
@@ -237,13 +218,31 @@ fn refuses_broken_lists(rt: HostRuntime) {
 const OWN: &[&[u8]] = &[b"/a b", b"/x\ny"];
 
 impl<'a> Row<&'a [u8]> for Vec<u8> {
-    fn same_as<R: Abort>(&self, rt: &R, row: &&'a [u8]) {
-        same(rt, &self.as_slice(), row);
+    fn is_as(&self, row: &&'a [u8]) -> bool {
+        self.as_slice() == *row
     }
+}
+
+#[test]
+fn reads_loads(rt: HostRuntime) {
+    let found = read_loads(rt.alloc(), LOADS).sure(&rt);
+    same_rows(&rt, &found, HEATS, "loads");
+}
+
+#[test]
+fn reads_subtrees(rt: HostRuntime) {
+    let found = read_subtrees(rt.alloc(), ROOTS).sure(&rt);
+    same_rows(&rt, &found, TOLD_ROOTS, "subtrees");
+}
+
+#[test]
+fn reads_listings(rt: HostRuntime) {
+    let found = read_listing(rt.alloc(), LISTING).sure(&rt);
+    same_rows(&rt, &found, LISTED, "listing");
 }
 
 #[test]
 fn reads_lists_of_own_pins(rt: HostRuntime) {
     let found = read_own_list(rt.alloc(), b"1 /a b\n0 /x\\012y\n").sure(&rt);
-    same_rows(&rt, &found, OWN);
+    same_rows(&rt, &found, OWN, "own pins");
 }

@@ -1,7 +1,7 @@
 //! Pins and changes of pins on small trees.
 
 use crate::given::{changes_of, rank};
-use crate::same::{Row, Sure, same, same_rows};
+use crate::same::{Row, Sure, same_rows};
 use ceph_plan::{Pin, PinChange, PinRow, are_rows, pins_for};
 use mds_types::Rank;
 use std::alloc::Global;
@@ -14,11 +14,15 @@ fn some_rank(number: i8) -> Option<Rank> {
     u8::try_from(number).ok().map(rank)
 }
 
-const PINNED: &[(&[Given], &[(u32, u8)])] = &[
-    // all is where it is to be
-    (&[(0, 0, -1, 0), (0, 0, -1, 0), (1, 0, -1, 0)], &[]),
-    // the subtree of row 1 goes to rank 1, but for row 3
+/// What is tried, the rows, and the pins: each one's row and rank.
+const PINNED: &[(&str, &[Given], &[(u32, u8)])] = &[
     (
+        "all is where it is to be",
+        &[(0, 0, -1, 0), (0, 0, -1, 0), (1, 0, -1, 0)],
+        &[],
+    ),
+    (
+        "the subtree of row 1 goes to rank 1, but for row 3",
         &[
             (0, 0, -1, 0),
             (0, 1, -1, 0),
@@ -28,10 +32,13 @@ const PINNED: &[(&[Given], &[(u32, u8)])] = &[
         ],
         &[(3, 0), (1, 1)],
     ),
-    // row 1 is at rank 2 though nothing pins it there: it has to be called back
-    (&[(0, 0, -1, 0), (0, 0, -1, 2), (1, 0, -1, 2)], &[(1, 0)]),
-    // where a row rests isn't known: each child of the root is pinned
     (
+        "row 1 is at rank 2, where nothing pins it: it has to be called back",
+        &[(0, 0, -1, 0), (0, 0, -1, 2), (1, 0, -1, 2)],
+        &[(1, 0)],
+    ),
+    (
+        "where a row rests isn't known: each child of the root is pinned",
         &[
             (0, 0, -1, 0),
             (0, 0, -1, -1),
@@ -40,8 +47,8 @@ const PINNED: &[(&[Given], &[(u32, u8)])] = &[
         ],
         &[(3, 0), (1, 0)],
     ),
-    // row 1 and what is below it belong to somebody else
     (
+        "row 1 and what is below it belong to somebody else",
         &[(0, 0, -1, 0), (0, 1, 2, 2), (1, 1, -1, 2), (0, 1, -1, 0)],
         &[(3, 1)],
     ),
@@ -70,15 +77,15 @@ fn pins_of(rt: &impl Abort, alloc: Global, given: &[Given]) -> Vec<Pin> {
 }
 
 impl Row<(u32, u8)> for Pin {
-    fn same_as<R: Abort>(&self, rt: &R, row: &(u32, u8)) {
-        same(rt, &(self.row, self.rank.number()), row);
+    fn is_as(&self, row: &(u32, u8)) -> bool {
+        (self.row, self.rank.number()) == *row
     }
 }
 
 #[test]
 fn pins_where_a_rank_changes(rt: HostRuntime) {
-    for (given, wanted) in PINNED {
-        same_rows(&rt, &pins_of(&rt, rt.alloc(), given), wanted);
+    for (name, given, wanted) in PINNED {
+        same_rows(&rt, &pins_of(&rt, rt.alloc(), given), wanted, name);
     }
 }
 
@@ -97,13 +104,13 @@ const EARLIER: &[i8] = &[-1, 1, -1, 0, 1];
 const CHANGED: &[(u32, i8)] = &[(1, 2), (3, -1)];
 
 impl Row<(u32, i8)> for PinChange {
-    fn same_as<R: Abort>(&self, rt: &R, row: &(u32, i8)) {
-        same(rt, &(self.row, self.pin), &(row.0, some_rank(row.1)));
+    fn is_as(&self, row: &(u32, i8)) -> bool {
+        (self.row, self.pin) == (row.0, some_rank(row.1))
     }
 }
 
 #[test]
 fn changes_earlier_pins(rt: HostRuntime) {
     let rows = rows_of(&rt, rt.alloc(), GIVEN, EARLIER);
-    same_rows(&rt, &changes_of(&rt, rt.alloc(), &rows), CHANGED);
+    same_rows(&rt, &changes_of(&rt, rt.alloc(), &rows), CHANGED, "changes");
 }

@@ -1,7 +1,7 @@
 //! Plans and proposals of small trees.
 
 use crate::given::by_rank;
-use crate::same::{Sure, same, same_in};
+use crate::same::{Sure, same_in};
 use ceph_plan::{OwnPins, PartCount, PlanError, Proposal, choose_plan, propose};
 use mds_types::{ProblemRow, Rank, RankSet};
 use std::alloc::Global;
@@ -22,9 +22,7 @@ fn star(rt: &impl Abort, alloc: Global, heats: &[u64]) -> Vec<ProblemRow> {
     rows
 }
 
-fn proposed(rt: &impl Abort, alloc: Global, heats: &[u64], pinned: &[u64]) -> Proposal {
-    let rows = star(rt, alloc, heats);
-    let held = by_rank(rt, alloc, pinned);
+fn proposed(rt: &impl Abort, alloc: Global, rows: &[ProblemRow], held: &[u64]) -> Proposal {
     let none = OwnPins {
         foreign: None,
         earlier: None,
@@ -32,7 +30,14 @@ fn proposed(rt: &impl Abort, alloc: Global, heats: &[u64], pinned: &[u64]) -> Pr
     let own = vec![in alloc; none; rows.len()].sure(rt);
     assert!(rt; own.len() == rows.len());
     let ranks = RankSet::from_bits(7);
-    propose(alloc, &rows, PartCount::Auto, &held, ranks, 0, &own).sure(rt)
+    propose(alloc, rows, PartCount::Auto, held, ranks, 0, &own).sure(rt)
+}
+
+/// The greatest load of a plan, the bound, and the inodes that move.
+fn planned(rt: &impl Abort, alloc: Global, heats: &[u64], pinned: &[u64]) -> (u64, u64, u64) {
+    let rows = star(rt, alloc, heats);
+    let plan = proposed(rt, alloc, &rows, &by_rank(rt, alloc, pinned)).plan;
+    (plan.packing.greatest, plan.packing.bound, plan.moved)
 }
 
 /// Heats, those pinned to the first ranks, and then the greatest load, the bound, and the inodes that move.
@@ -52,46 +57,32 @@ const PLANNED: &[(&[u64], &[u64], (u64, u64, u64))] = &[
 #[test]
 fn plans_as_cool_as_can_be(rt: HostRuntime) {
     for (heats, pinned, wanted) in PLANNED {
-        let found = proposed(&rt, rt.alloc(), heats, pinned);
-        let packing = &found.plan.packing;
-        let told = (packing.greatest, packing.bound, found.plan.moved);
+        let told = planned(&rt, rt.alloc(), heats, pinned);
         same_in(&rt, &told, wanted, heats);
     }
 }
 
-/// Why there is no plan of so many of two rows and so many of 64 pinned heats.
-fn refusal(
-    rt: &impl Abort,
-    alloc: Global,
-    few: usize,
-    ranks: usize,
-    bits: u64,
-) -> Option<PlanError> {
-    let rows = star(rt, alloc, &[1, 2]);
-    let held = by_rank(rt, alloc, &[]);
-    let rows = rows.get(..few).unwrap_or(&rows);
-    let held = held.get(..ranks).unwrap_or(&held);
-    choose_plan(
-        alloc,
-        rows,
-        PartCount::Auto,
-        held,
-        RankSet::from_bits(bits),
-        0,
-    )
-    .err()
+/// Why there is no plan of these rows, pinned heats and ranks.
+fn refusal(alloc: Global, rows: &[ProblemRow], held: &[u64], mask: u64) -> Option<PlanError> {
+    let ranks = RankSet::from_bits(mask);
+    choose_plan(alloc, rows, PartCount::Auto, held, ranks, 0).err()
 }
 
-/// How many rows, how many pinned heats and which ranks are refused, and why.
-const REFUSED: &[(usize, usize, u64, Option<PlanError>)] = &[
-    (2, 64, 6, Some(PlanError::NoRankZero)),
-    (0, 64, 7, Some(PlanError::NoDirectory)),
-    (2, 63, 7, Some(PlanError::PinnedTooHot)),
+/// No heat is pinned to any rank.
+const NOTHING_HELD: &[u64] = &[0; 64];
+
+/// The heats of rows, how many ranks have pinned heats, which ranks are usable, and why that is refused.
+const REFUSED: &[(&[u64], usize, u64, Option<PlanError>)] = &[
+    (&[1, 2], 64, 6, Some(PlanError::NoRankZero)),
+    (&[], 64, 7, Some(PlanError::NoDirectory)),
+    (&[1, 2], 63, 7, Some(PlanError::PinnedTooHot)),
 ];
 
 #[test]
 fn refuses_what_it_cant_plan(rt: HostRuntime) {
-    for (few, ranks, bits, error) in REFUSED {
-        same(&rt, &refusal(&rt, rt.alloc(), *few, *ranks, *bits), error);
+    for (heats, ranks, mask, error) in REFUSED {
+        let held = NOTHING_HELD.get(..*ranks).unwrap_or(&[]);
+        let found = refusal(rt.alloc(), &star(&rt, rt.alloc(), heats), held, *mask);
+        same_in(&rt, &found, error, &(heats, ranks));
     }
 }

@@ -98,7 +98,11 @@ fn is_held(rows: &[PinRow], at: usize) -> bool {
 fn is_right(rows: &[PinRow], changes: &[PinChange], made: usize, at: usize) -> bool {
     let some = changes.get(..made).unwrap_or(changes);
     let (now, last) = (nearest(rows, some, at), nearest(rows, changes, at));
-    let is_there = last == rows.get(at).map(|row| row.target) || at == 0 || is_held(rows, at);
+    let target = match rows.get(at) {
+        Some(row) => Some(row.target),
+        None => None,
+    };
+    let is_there = last == target || at == 0 || is_held(rows, at);
     is_there && (now.is_none() || now == last || now == nearest(rows, &[], at))
 }
 

@@ -28,15 +28,15 @@ pub(crate) fn holds_in<R: Debug>(rt: &impl Abort, is_so: bool, row: &R) {
 
 /// What is compared with a row of a table.
 pub(crate) trait Row<W> {
-    /// It is as the row says.
-    fn same_as<R: Abort>(&self, rt: &R, row: &W);
+    /// Whether it is as the row says.
+    fn is_as(&self, row: &W) -> bool;
 }
 
-/// There is one for each row of a table, as it says.
-pub(crate) fn same_rows<T: Row<W>, W>(rt: &impl Abort, found: &[T], table: &[W]) {
-    same(rt, &found.len(), &table.len());
-    for (value, row) in found.iter().zip(table) {
-        value.same_as(rt, row);
+/// There is one for each row of a table, as it says; the table is named.
+pub(crate) fn same_rows<T: Row<W>, W>(rt: &impl Abort, found: &[T], table: &[W], name: &str) {
+    same_in(rt, &found.len(), &table.len(), &name);
+    for (at, (value, row)) in found.iter().zip(table).enumerate() {
+        holds_in(rt, value.is_as(row), &(name, at));
     }
 }
 

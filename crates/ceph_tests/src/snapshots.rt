@@ -65,12 +65,17 @@ const SECOND_LOADS: &[(&[u8], u64)] = &[(b"/a", 700), (b"/a/x", 200), (b"/u", 60
 /// Rank 0 has the root and a fragment of `/u`, rank 1 has `/a`, which is pinned, and the other fragment of `/u`.
 fn gathered(rt: &impl Abort, alloc: Global) -> Snapshot {
     let mut all = Gathering::new(alloc).sure(rt);
-    add_roots(rt, alloc, &mut all, rank(0), FIRST_ROOTS);
-    add_roots(rt, alloc, &mut all, rank(1), SECOND_ROOTS);
-    add_loads(rt, alloc, &mut all, rank(0), FIRST_LOADS);
-    add_loads(rt, alloc, &mut all, rank(1), SECOND_LOADS);
-    add_entries(rt, alloc, &mut all);
+    add_ranks(rt, alloc, &mut all);
     all.snapshot(1, 2).sure(rt)
+}
+
+/// Adds what both ranks have.
+fn add_ranks(rt: &impl Abort, alloc: Global, all: &mut Gathering) {
+    add_roots(rt, alloc, all, rank(0), FIRST_ROOTS);
+    add_roots(rt, alloc, all, rank(1), SECOND_ROOTS);
+    add_loads(rt, alloc, all, rank(0), FIRST_LOADS);
+    add_loads(rt, alloc, all, rank(1), SECOND_LOADS);
+    add_entries(rt, alloc, all);
 }
 
 /// Adds the entries of `/b`.
@@ -91,17 +96,16 @@ const SEEN: &[Seen<'static>] = &[
 ];
 
 impl<'a> Row<Seen<'a>> for Directory {
-    fn same_as<R: Abort>(&self, rt: &R, row: &Seen<'a>) {
-        let now = self.now.number();
-        let told = (self.heat, self.inodes, now, self.is_spread);
-        same(rt, &(self.path.as_slice(), told), row);
+    fn is_as(&self, row: &Seen<'a>) -> bool {
+        let told = (self.heat, self.inodes, self.now.number(), self.is_spread);
+        self.path.as_slice() == row.0 && told == row.1
     }
 }
 
 #[test]
 fn heat_counts_at_the_rank_with_authority(rt: HostRuntime) {
     let snapshot = gathered(&rt, rt.alloc());
-    same_rows(&rt, &snapshot.directories, SEEN);
+    same_rows(&rt, &snapshot.directories, SEEN, "seen");
 }
 
 /// What holds the directories that were seen.
@@ -148,9 +152,9 @@ fn leaves(rt: &impl Abort, alloc: Global) -> Vec<Directory> {
 }
 
 impl<'a> Row<Left<'a>> for Directory {
-    fn same_as<R: Abort>(&self, rt: &R, row: &Left<'a>) {
+    fn is_as(&self, row: &Left<'a>) -> bool {
         let told = (self.heat, self.inodes, self.parent);
-        same(rt, &(self.path.as_slice(), told), row);
+        self.path.as_slice() == row.0 && told == row.1
     }
 }
 
@@ -158,7 +162,7 @@ impl<'a> Row<Left<'a>> for Directory {
 fn cold_leaves_are_folded(rt: HostRuntime) {
     let (kept, folded) = fold(rt.alloc(), leaves(&rt, rt.alloc()), 3).sure(&rt);
     same(&rt, &folded, &2);
-    same_rows(&rt, &kept, LEFT);
+    same_rows(&rt, &kept, LEFT, "left");
 }
 
 /// Heat and inodes of all directories.
