@@ -87,25 +87,43 @@ fn start_of_all(alloc: Global) -> Result<Event, AllocError> {
     Ok(Event::Start(Rank::default(), to, Dirs::new(all_dirs(alloc, false)?)))
 }
 
-/// Times `can_apply` and `apply` of the same start. Each start is given up, so that the next is accepted.
-fn time_start<R: CpuClock, W: Write>(rt: &R, alloc: Global, out: &mut W) -> io::Result<()> {
-    let mut cluster = grown(alloc)?;
+/// The times of `can_apply` and `apply` of the same start, and how many of these were accepted: one or none.
+fn time_one_start<R: CpuClock>(rt: &R, cluster: &mut Cluster, event: Event) -> (u64, u64, u64) {
+    let start = now(rt);
+    let able = cluster.can_apply(&event).is_ok();
+    let asked = nanos_since(rt, start);
+    let start = now(rt);
+    let answer = cluster.apply(event);
+    let applied = nanos_since(rt, start);
+    (asked, applied, u64::from(able && answer.is_ok()))
+}
+
+/// The least times of starts, and how many were accepted. Each is given up, so that the next is accepted.
+fn time_starts<R: CpuClock>(
+    rt: &R,
+    alloc: Global,
+    cluster: &mut Cluster,
+) -> Result<(u64, u64, u64), AllocError> {
     let mut least_asked = u64::MAX;
     let mut least_applied = u64::MAX;
     let mut accepted: u64 = 0;
     for number in 0..RUNS {
         let event = start_of_all(alloc)?;
-        let start = now(rt);
-        let able = cluster.can_apply(&event);
-        least_asked = nanos_since(rt, start).min(least_asked);
-        let start = now(rt);
-        let answer = cluster.apply(event);
-        least_applied = nanos_since(rt, start).min(least_applied);
-        accepted = accepted.wrapping_add(u64::from(able.is_ok() && answer.is_ok()));
+        let (asked, applied, count) = time_one_start(rt, cluster, event);
+        least_asked = asked.min(least_asked);
+        least_applied = applied.min(least_applied);
+        accepted = accepted.wrapping_add(count);
         let _ = cluster.apply(Event::Abort(number));
     }
-    tell(out, "can_apply", &[1, accepted, least_asked])?;
-    tell(out, "apply", &[1, accepted, least_applied])
+    Ok((least_asked, least_applied, accepted))
+}
+
+/// Times starts.
+fn time_start<R: CpuClock, W: Write>(rt: &R, alloc: Global, out: &mut W) -> io::Result<()> {
+    let mut cluster = grown(alloc)?;
+    let (asked, applied, accepted) = time_starts(rt, alloc, &mut cluster)?;
+    tell(out, "can_apply", &[1, accepted, asked])?;
+    tell(out, "apply", &[1, accepted, applied])
 }
 
 /// So many requests begin at rank 0.

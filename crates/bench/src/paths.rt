@@ -49,7 +49,7 @@ fn print_map<R: Threads + Wait + CpuClock + Sync, W: Write>(
     }
     let opened = authority_map::NewMap::new();
     match time_map::<Brand, R>(rt, alloc, opened, limit, keys) {
-        Some(times) => tell(out, "finds", &[times.one, times.four, times.publish]),
+        Some(times) => tell(out, "finds", &times),
         None => Ok(()),
     }
 }
@@ -62,17 +62,13 @@ pub fn run<R: Threads + Wait + CpuClock + Sync, W: Write>(
     words: &[String],
 ) -> io::Result<()> {
     let limit = number_at(words, 3);
+    let shares = u8::try_from(number_at(words, 4)).unwrap_or(0);
     match word_at(words, 2) {
         "times" => {
             print_hits(rt, alloc, out)?;
             print_map(rt, alloc, out, DIR_LIMIT, &keys(alloc, 7)?)
         }
-        "ledger" => print_ledger(
-            alloc,
-            out,
-            limit,
-            u8::try_from(number_at(words, 4)).unwrap_or(0),
-        ),
+        "ledger" => print_ledger(alloc, out, limit, shares),
         "map" => print_map(rt, alloc, out, limit, &[]),
         _ => Ok(()),
     }

@@ -55,11 +55,8 @@ fn time_calls<R: Threads + CpuClock, W: Write>(
     tell(out, "greatest", &[plan.greatest])?;
     tell(out, "moved", &[plan.moved])?;
     for call in Call::ALL {
-        tell(
-            out,
-            call.name(),
-            &[least_nanos(rt, alloc, call, problem, plan, table)],
-        )?;
+        let nanos = least_nanos(rt, alloc, call, problem, plan, table);
+        tell(out, call.name(), &[nanos])?;
     }
     Ok(())
 }

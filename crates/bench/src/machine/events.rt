@@ -1,70 +1,49 @@
 //! Lists of events as text.
 
 use crate::machine::lists::events_of;
+use bench_support::told::tell;
 use export_machine::Event;
-use mds_types::Dirs;
-use std::alloc::Global;
+use std::alloc::{AllocError, Global};
 use std::io::{self, Write};
 
-/// The word of an event.
-fn word_of(event: &Event) -> &'static str {
+/// The word of an event, and its first number.
+fn word_of(event: &Event) -> (&'static str, u32) {
     match event {
-        Event::Made(_) => "made",
-        Event::Gone(_) => "gone",
-        Event::Begin(_, _) => "begin",
-        Event::End(_) => "end",
-        Event::Start(_, _, _) => "start",
-        Event::Deliver(_) => "deliver",
-        Event::Froze(_) => "froze",
-        Event::Notify(_) => "notify",
-        Event::Abort(_) => "abort",
-        Event::Stop(_) => "stop",
-        Event::Restart(_) => "restart",
-        Event::Ask(_) => "ask",
+        Event::Made(parent) => ("made", parent.number()),
+        Event::Gone(dir) => ("gone", dir.number()),
+        Event::Begin(rank, _) => ("begin", u32::from(rank.number())),
+        Event::End(ticket) => ("end", *ticket),
+        Event::Start(from, _, _) => ("start", u32::from(from.number())),
+        Event::Deliver(message) => ("deliver", *message),
+        Event::Froze(export) => ("froze", *export),
+        Event::Notify(export) => ("notify", *export),
+        Event::Abort(export) => ("abort", *export),
+        Event::Stop(rank) => ("stop", u32::from(rank.number())),
+        Event::Restart(rank) => ("restart", u32::from(rank.number())),
+        Event::Ask(export) => ("ask", *export),
     }
 }
 
-/// The first number of an event.
-fn first_of(event: &Event) -> u32 {
+/// The numbers of an event, of which this is the first.
+fn numbers_of(alloc: Global, event: &Event, first: u32) -> Result<Vec<u64>, AllocError> {
+    let mut numbers = Vec::from_array(alloc, [u64::from(first)])?;
     match event {
-        Event::Made(dir) | Event::Gone(dir) => dir.number(),
-        Event::Begin(rank, _)
-        | Event::Start(rank, _, _)
-        | Event::Stop(rank)
-        | Event::Restart(rank) => { u32::from(rank.number()) }
-        Event::End(number)
-        | Event::Deliver(number)
-        | Event::Froze(number)
-        | Event::Notify(number)
-        | Event::Abort(number)
-        | Event::Ask(number) => *number,
-    }
-}
-
-fn print_dirs<W: Write>(out: &mut W, dirs: &Dirs) -> io::Result<()> {
-    for dir in dirs.as_slice() {
-        write!(out, " {}", dir.number())?;
-    }
-    Ok(())
-}
-
-/// Prints the numbers of an event after the first.
-fn print_others<W: Write>(out: &mut W, event: &Event) -> io::Result<()> {
-    match event {
-        Event::Begin(_, dir) => write!(out, " {}", dir.number()),
+        Event::Begin(_, dir) => numbers.push(u64::from(dir.number()))?,
         Event::Start(_, to, dirs) => {
-            write!(out, " {}", to.number())?;
-            print_dirs(out, dirs)
+            numbers.push(u64::from(to.number()))?;
+            for dir in dirs.as_slice() {
+                numbers.push(u64::from(dir.number()))?;
+            }
         }
-        _ => Ok(()),
+        _ => {}
     }
+    Ok(numbers)
 }
 
-fn print_events<W: Write>(out: &mut W, events: &[Event]) -> io::Result<()> {
+fn print_events<W: Write>(alloc: Global, out: &mut W, events: &[Event]) -> io::Result<()> {
     for event in events {
-        write!(out, "{} {}", word_of(event), first_of(event))?;
-        print_others(out, event)?;
-        out.write_all(b"\n")?;
+        let (word, first) = word_of(event);
+        tell(out, word, &numbers_of(alloc, event, first)?)?;
     }
     Ok(())
 }
@@ -72,8 +51,8 @@ fn print_events<W: Write>(out: &mut W, events: &[Event]) -> io::Result<()> {
 /// Prints the events that make the directories of a list, the line `now`, and the events of the list.
 pub fn print_list<W: Write>(alloc: Global, out: &mut W, name: &str) -> io::Result<()> {
     if name != "made" {
-        print_events(out, &events_of(alloc, "made")?)?;
+        print_events(alloc, out, &events_of(alloc, "made")?)?;
     }
     out.write_all(b"now\n")?;
-    print_events(out, &events_of(alloc, name)?)
+    print_events(alloc, out, &events_of(alloc, name)?)
 }

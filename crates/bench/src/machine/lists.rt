@@ -78,26 +78,31 @@ impl Maker {
         let _ = self.add(Event::Gone(dir));
     }
 
+    /// Delivers a message, the one that answers it, and so on: so many.
+    fn deliver(&mut self, first: u32, count: u32) {
+        let mut message = first;
+        for _ in 0..count {
+            message = self.sent(Event::Deliver(message));
+        }
+    }
+
     /// A whole export: ten events. One that is given up has four.
     fn export(&mut self, from: Rank, to: Rank, dirs: Vec<Dir>, ends: bool) {
         let start = Event::Start(from, to, Dirs::new(dirs));
         let Some(Reply::Export(export, discover)) = self.add(start) else {
             return;
         };
-        let found = self.sent(Event::Deliver(discover));
         if !ends {
+            self.deliver(discover, 1);
             let cancel = self.sent(Event::Abort(export));
-            let _ = self.add(Event::Deliver(cancel));
+            self.deliver(cancel, 1);
             return;
         }
-        let _ = self.add(Event::Deliver(found));
+        self.deliver(discover, 2);
         let prepare = self.sent(Event::Froze(export));
-        let prepared = self.sent(Event::Deliver(prepare));
-        let moved = self.sent(Event::Deliver(prepared));
-        let taken = self.sent(Event::Deliver(moved));
-        let _ = self.add(Event::Deliver(taken));
+        self.deliver(prepare, 4);
         let finish = self.sent(Event::Notify(export));
-        let _ = self.add(Event::Deliver(finish));
+        self.deliver(finish, 1);
     }
 
     /// An export of one directory, of which one in four is given up.

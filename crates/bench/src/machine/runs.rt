@@ -85,6 +85,39 @@ fn time_run<R: CpuClock>(
     (nanos_since(rt, start), accepted_of(history))
 }
 
+/// The time of one run of a list, and how many were accepted.
+fn time_once<R: CpuClock>(
+    rt: &R,
+    alloc: Global,
+    name: &str,
+    list: &[Event],
+    history: &mut Vec<KeptAnswer>,
+    keeps: bool,
+) -> Result<(u64, u64), AllocError> {
+    let events = copies(alloc, list)?;
+    let cluster = before(alloc, name)?;
+    Ok(time_run(rt, alloc, cluster, events, history, keeps))
+}
+
+/// The least time of several runs of a list, and how many were accepted. All use the same room.
+fn time_runs<R: CpuClock>(
+    rt: &R,
+    alloc: Global,
+    name: &str,
+    list: &[Event],
+    keeps: bool,
+) -> Result<(u64, u64), AllocError> {
+    let mut history = Vec::new(alloc);
+    let mut least = u64::MAX;
+    let mut accepted = 0;
+    for _ in 0..RUNS {
+        let (time, count) = time_once(rt, alloc, name, list, &mut history, keeps)?;
+        least = time.min(least);
+        accepted = count;
+    }
+    Ok((least, accepted))
+}
+
 /// Times a list, each run with a copy of each event kept with its answer, or the events alone.
 pub fn time_list<R: CpuClock, W: Write>(
     rt: &R,
@@ -94,21 +127,7 @@ pub fn time_list<R: CpuClock, W: Write>(
     keeps: bool,
 ) -> io::Result<()> {
     let list = events_of(alloc, name)?;
-    let mut history = Vec::new(alloc);
-    let mut least = u64::MAX;
-    let mut accepted = 0;
-    for _ in 0..RUNS {
-        let (time, count) = time_run(
-            rt,
-            alloc,
-            before(alloc, name)?,
-            copies(alloc, &list)?,
-            &mut history,
-            keeps,
-        );
-        least = time.min(least);
-        accepted = count;
-    }
+    let (least, accepted) = time_runs(rt, alloc, name, &list, keeps)?;
     tell(out, name, &[list.len() as u64, accepted, least])
 }
 

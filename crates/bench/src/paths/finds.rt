@@ -18,16 +18,9 @@ const ROUNDS: u32 = 64;
 /// How many operations are published in one run.
 const PUBLISHES: u32 = 20_000;
 
-/// The times of a map's calls, in picoseconds.
-#[derive(Clone, Copy)]
-pub struct FindTimes {
-    /// A look-up by one reader.
-    pub one: u64,
-    /// The same by each of four readers in four threads, the slowest of them.
-    pub four: u64,
-    /// One directory set, and a publish.
-    pub publish: u64,
-}
+/// The picoseconds of a look-up by one reader, of one by each of four readers in four threads, the slowest of them, and
+/// of one directory set, and a publish.
+pub type FindTimes = [u64; 3];
 
 // All directories are at this rank.
 fn rank() -> Rank {
@@ -149,7 +142,7 @@ fn time_all<J: Naming + Send + Sync, M: Publisher<J>, R: Threads + CpuClock + Sy
     let four = time_threads(rt, readers, keys);
     let publish = least_publish(rt, alloc, &mut map);
     map.end();
-    FindTimes { one, four, publish }
+    [one, four, publish]
 }
 
 /// Times look-ups of the keys, if there are any, in a map of so many directories at one rank, and a publish.

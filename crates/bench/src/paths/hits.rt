@@ -138,9 +138,6 @@ pub fn open_ledger<J: Naming, W: Write>(
     requires shares { (1 ≤ shares) × (shares ≤ 64) }
 {
     let (book, all) = Book::<J>::open(alloc, opened, limit, shares)?;
-    tell(
-        out,
-        "shares",
-        &[all.len() as u64, book.counted(Dir::new(0))],
-    )
+    let counted = book.counted(Dir::new(0));
+    tell(out, "shares", &[all.len() as u64, counted])
 }

@@ -37,10 +37,56 @@ pub fn costs_of<R: Threads>(
     }
 }
 
+/// Where memory ran out: no number of a plan.
+const NOTHING: u64 = u64::MAX;
+
+/// The least greatest heat that the search finds.
+fn greatest_found(alloc: Global, problem: &Problem) -> u64 {
+    match search(problem, alloc) {
+        Ok(found) => found.greatest,
+        Err(_) => NOTHING,
+    }
+}
+
+/// Whether the plan's parts cost again what they did.
+fn cost_the_same<R: Threads>(
+    rt: &R,
+    alloc: Global,
+    problem: &Problem,
+    plan: &Plan,
+    table: &Costs,
+) -> bool {
+    match costs_of(rt, alloc, problem, plan) {
+        Some(costs) => costs.cells().last() == table.cells().last(),
+        None => false,
+    }
+}
+
+/// The inodes that a best placing moves.
+fn moved_at_least(alloc: Global, table: &Costs) -> u64 {
+    match assign(alloc, table) {
+        Ok(found) => found.moved,
+        Err(_) => NOTHING,
+    }
+}
+
+/// The inodes that a new plan moves.
+fn moved_by_plan<R: Threads>(rt: &R, alloc: Global, problem: &Problem) -> u64 {
+    match solve(rt, alloc, problem) {
+        Ok(found) => found.moved,
+        Err(_) => NOTHING,
+    }
+}
+
 /// Whether the plan's cut is judged right.
 fn is_cut(alloc: Global, problem: &Problem, plan: &Plan) -> bool {
     let parts = plan.rank.len() as u32;
     check_cut(alloc, problem, &plan.part, parts, plan.greatest, &plan.cut).unwrap_or(false)
+}
+
+/// Whether the plan is judged right.
+fn is_right(alloc: Global, problem: &Problem, plan: &Plan) -> bool {
+    check(alloc, problem, plan).unwrap_or(false)
 }
 
 impl Call {
@@ -76,16 +122,12 @@ impl Call {
         table: &Costs,
     ) -> bool {
         match self {
-            Call::Search => search(problem, alloc).is_ok_and(|found| found.greatest
-                == plan.greatest),
-            Call::Costs => match costs_of(rt, alloc, problem, plan) {
-                Some(costs) => costs.cells().last() == table.cells().last(),
-                None => false,
-            },
-            Call::Assign => assign(alloc, table).is_ok_and(|found| found.moved == plan.moved),
-            Call::Solve => solve(rt, alloc, problem).is_ok_and(|found| found.moved == plan.moved),
+            Call::Search => greatest_found(alloc, problem) == plan.greatest,
+            Call::Costs => cost_the_same(rt, alloc, problem, plan, table),
+            Call::Assign => moved_at_least(alloc, table) == plan.moved,
+            Call::Solve => moved_by_plan(rt, alloc, problem) == plan.moved,
             Call::CheckCut => is_cut(alloc, problem, plan),
-            Call::Check => check(alloc, problem, plan).unwrap_or(false),
+            Call::Check => is_right(alloc, problem, plan),
         }
     }
 }
