@@ -4,8 +4,9 @@
 //! opened is asked for again where memory was refused.
 ghost use Rattle.std.specs.Prelude.{◌≡◌};
 
+use crate::acts::{FULL_HISTORY, HITS_AND_STOPS, PINS_AND_PLANS};
 use crate::same::Sure;
-use crate::{full, moves, refused, requests};
+use crate::{acts, refused};
 use authority_map::{MapReader, MapWriter, NewMap, Publisher};
 use board_state::BoardParts;
 use heat_ledger::NewBook;
@@ -21,13 +22,13 @@ use std::thread::Threads;
 #[derive(Clone, Copy)]
 pub(crate) enum Case {
     /// A history without room for the ends of requests.
-    Full,
+    FullHistory,
+    /// Requests, and a rank that stops.
+    HitsAndStops,
     /// Moves of pins and plans.
-    Moves,
+    PinsAndPlans,
     /// Refused growths in the commands.
     RefusedGrowth,
-    /// Requests, and a rank that stops.
-    Requests,
 }
 
 fn board_of<J: Naming, M: Publisher<J>>(
@@ -61,10 +62,10 @@ fn on_parts<J: Naming + Send + Sync, M: Publisher<J> + Send, R: Abort + Threads 
 {
     let board = board_of(rt, alloc, parts, readers);
     match case {
-        Case::Full => full::on_board(rt, alloc, board),
-        Case::Moves => moves::on_board(rt, alloc, board),
+        Case::FullHistory => acts::on_board(rt, alloc, board, FULL_HISTORY),
+        Case::HitsAndStops => acts::on_board(rt, alloc, board, HITS_AND_STOPS),
+        Case::PinsAndPlans => acts::on_board(rt, alloc, board, PINS_AND_PLANS),
         Case::RefusedGrowth => refused::on_board(rt, alloc, board),
-        Case::Requests => requests::on_board(rt, alloc, board),
     }
 }
 

@@ -2,16 +2,10 @@
 #![tactic(auto)]
 
 #[cfg(test)]
-mod boards;
+mod acts;
 #[cfg(test)]
 mod cases;
 #[cfg(test)]
-mod full;
-#[cfg(test)]
-mod moves;
-#[cfg(test)]
 mod refused;
-#[cfg(test)]
-mod requests;
 #[cfg(test)]
 mod same;

@@ -3,7 +3,7 @@
 //! With `rt try --test --fail-alloc N`, the N-th growth is refused.
 ghost use Rattle.std.specs.Prelude.{◌≡◌};
 
-use crate::boards::number;
+use crate::acts::{Do, command, number};
 use crate::cases::{Case, try_case};
 use crate::same::{holds_in, same, same_in};
 use authority_map::Publisher;
@@ -52,148 +52,90 @@ fn read<J: Naming, M: Publisher<J>>(board: &mut ScriptBoard<J, M>) -> Reading {
     }
 }
 
-/// A command that gives nothing but its acceptance.
-#[derive(Clone, Copy)]
-enum Do {
-    Make(&'static str),
-    Remove(&'static str),
-    Pin(&'static str, i32),
-    Mask(&'static str),
-    Load(&'static str, u32),
-    Tick,
-    Stop(u8),
-    Restart(u8),
-    Publish,
-}
-
-fn command<J: Naming, M: Publisher<J>>(
-    alloc: Global,
-    board: &mut ScriptBoard<J, M>,
-    command: Do,
-) -> Result<(), Fault> {
-    match command {
-        Do::Make(path) => board.make_dir(alloc, path, 1),
-        Do::Remove(path) => board.remove_dir(path),
-        Do::Pin(path, pin) => board.set_pin(path, pin),
-        Do::Mask(text) => board.set_mask(text),
-        Do::Load(path, hits) => board.load(path, hits),
-        Do::Tick => board.tick(),
-        Do::Stop(at) => board.stop(alloc, number(at)),
-        Do::Restart(at) => board.restart(alloc, number(at)),
-        Do::Publish => {
-            if board.publish() {
-                Ok(())
-            } else {
-                Err(Fault::Memory)
-            }
-        }
-    }
-}
-
 /// Carries out commands. Where a growth is refused nothing has changed, and the next call is accepted.
-fn commands<J: Naming, M: Publisher<J>>(
-    rt: &impl Abort,
+fn commands<J: Naming, M: Publisher<J>, R: Abort + Threads>(
+    rt: &R,
     alloc: Global,
     board: &mut ScriptBoard<J, M>,
     all: &[Do],
 ) {
     for (at, next) in all.iter().enumerate() {
         let before = read(board);
-        let first = command(alloc, board, *next);
+        let first = command(rt, alloc, board, *next);
         if first.is_err() {
             same_in(rt, &first, &Err(Fault::Memory), &at);
             holds_in(rt, read(board) == before, &at);
-            same_in(rt, &command(alloc, board, *next), &Ok(()), &at);
+            same_in(rt, &command(rt, alloc, board, *next), &Ok(()), &at);
         }
     }
 }
 
-/// Plans. Where a growth is refused nothing has changed, and the next call plans.
-fn planned<J: Naming, M: Publisher<J>>(
-    rt: &impl Abort,
-    threads: &impl Threads,
-    alloc: Global,
-    board: &mut ScriptBoard<J, M>,
-) {
-    let before = read(board);
-    let first = board.plan(threads, alloc);
-    if first.is_err() {
-        same(rt, &first, &Err(Fault::Memory));
-        assert!(rt; read(board) == before);
-        same(rt, &board.plan(threads, alloc), &Ok(()));
-    }
-}
-
 /// Moves. Where memory is refused before the first order, nothing has changed, and the next call moves.
-fn moved<J: Naming + Send + Sync, M: Publisher<J> + Send, R: Threads + Wait + Sync>(
-    rt: &impl Abort,
-    threads: &R,
+fn moved<J: Naming + Send + Sync, M: Publisher<J> + Send, R: Abort + Threads + Wait + Sync>(
+    rt: &R,
     alloc: Global,
     board: ScriptBoard<J, M>,
 ) -> ScriptBoard<J, M> {
     let mut board = board;
     let before = read(&mut board);
-    let (mut board, first) = board.carry_out_moves(threads, alloc);
+    let (mut board, first) = board.carry_out_moves(rt, alloc);
     if first.is_ok() {
         return board;
     }
     assert!(rt; read(&mut board) == before);
-    let (board, second) = board.carry_out_moves(threads, alloc);
+    let (board, second) = board.carry_out_moves(rt, alloc);
     assert!(rt; second.is_ok());
     board
 }
 
 /// Serves what waits. Where memory is refused before the first request, nothing has changed, and the next call serves.
-fn gone<J: Naming + Send + Sync, M: Publisher<J> + Send, R: Threads + Wait + Sync>(
-    rt: &impl Abort,
-    threads: &R,
+fn gone<J: Naming + Send + Sync, M: Publisher<J> + Send, R: Abort + Threads + Wait + Sync>(
+    rt: &R,
     alloc: Global,
     board: ScriptBoard<J, M>,
 ) -> (ScriptBoard<J, M>, Result<Vec<Fault>, AllocError>) {
     let mut board = board;
     let before = read(&mut board);
-    let (mut board, first) = board.go(threads, alloc);
+    let (mut board, first) = board.go(rt, alloc);
     if first.is_ok() {
         return (board, first);
     }
     assert!(rt; read(&mut board) == before);
-    board.go(threads, alloc)
+    board.go(rt, alloc)
 }
 
 /// A request is refused for want of memory at most, and then counts no hit. Hits
 /// that found no memory stay for the next call.
-fn served<J: Naming + Send + Sync, M: Publisher<J> + Send, R: Threads + Wait + Sync>(
-    rt: &impl Abort,
-    threads: &R,
+fn served<J: Naming + Send + Sync, M: Publisher<J> + Send, R: Abort + Threads + Wait + Sync>(
+    rt: &R,
     alloc: Global,
     board: ScriptBoard<J, M>,
 ) -> ScriptBoard<J, M> {
     let mut board = board;
     commands(rt, alloc, &mut board, &[Do::Publish, Do::Load("/b", 5)]);
-    let (mut board, refused) = gone(rt, threads, alloc, board);
+    let (mut board, refused) = gone(rt, alloc, board);
     let refused = refused.unwrap_or(Vec::new(alloc));
     if !refused.is_empty() {
         assert!(rt; refused.iter().all(|fault| *fault == Fault::Memory));
         same(rt, &(refused.len(), board.hits_of(Dir::new(2))), &(1, 0));
         same(rt, &board.load("/b", 5), &Ok(()));
     }
-    let (board, again) = gone(rt, threads, alloc, board);
+    let (board, again) = gone(rt, alloc, board);
     assert!(rt; again.is_ok_and(|refused| refused.is_empty()));
     same(rt, &board.hits_of(Dir::new(2)), &5);
     board
 }
 
 /// The root and /b go to rank 1 by a plan, and /a by its pin, by the second phase at last.
-fn moved_away<J: Naming + Send + Sync, M: Publisher<J> + Send, R: Threads + Wait + Sync>(
-    rt: &impl Abort,
-    threads: &R,
+fn moved_away<J: Naming + Send + Sync, M: Publisher<J> + Send, R: Abort + Threads + Wait + Sync>(
+    rt: &R,
     alloc: Global,
     board: ScriptBoard<J, M>,
 ) -> ScriptBoard<J, M> {
     let mut board = board;
     for _ in 0..3 {
-        planned(rt, threads, alloc, &mut board);
-        board = moved(rt, threads, alloc, board);
+        commands(rt, alloc, &mut board, &[Do::Plan]);
+        board = moved(rt, alloc, board);
     }
     for dir in 0..3 {
         let authority = board.board().cluster().authority(Dir::new(dir));
@@ -220,35 +162,17 @@ fn costs<J: Naming, M: Publisher<J>>(
     same(rt, &parts.len(), &2);
 }
 
-/// Two directories, of which a pin is to bring one to rank 1, and a rank that was stopped.
-fn begin<J: Naming, M: Publisher<J>>(
-    rt: &impl Abort,
-    alloc: Global,
-    board: &mut ScriptBoard<J, M>,
-) {
-    let first = [
-        Do::Make("/a"),
-        Do::Make("/b"),
-        Do::Make("/a/c"),
-        Do::Remove("/a/c"),
-        Do::Pin("/a", 1),
-        Do::Mask("0x2"),
-        Do::Stop(1),
-        Do::Restart(1),
-    ];
-    commands(rt, alloc, board, &first);
-}
-
-/// What is asked for where the directories are now.
-fn go_on<J: Naming, M: Publisher<J>>(
-    rt: &impl Abort,
-    alloc: Global,
-    board: &mut ScriptBoard<J, M>,
-) {
-    costs(rt, alloc, board);
-    commands(rt, alloc, board, &[Do::Tick, Do::Publish]);
-    same(rt, &board.rank_of(Dir::new(2)), &Some(number(1)));
-}
+// Two directories, of which a pin is to bring one to rank 1, and a rank that was stopped.
+const BEGIN: &[Do] = &[
+    Do::Make("/a"),
+    Do::Make("/b"),
+    Do::Make("/a/c"),
+    Do::Remove("/a/c"),
+    Do::Pin("/a", 1),
+    Do::Mask("0x2"),
+    Do::Stop(1),
+    Do::Restart(1),
+];
 
 pub(crate) fn on_board<
     J: Naming + Send + Sync,
@@ -256,10 +180,12 @@ pub(crate) fn on_board<
     R: Abort + Threads + Wait + Sync,
 >(rt: &R, alloc: Global, board: ScriptBoard<J, M>) {
     let mut board = board;
-    begin(rt, alloc, &mut board);
-    let board = moved_away(rt, rt, alloc, board);
-    let mut board = served(rt, rt, alloc, board);
-    go_on(rt, alloc, &mut board);
+    commands(rt, alloc, &mut board, BEGIN);
+    let board = moved_away(rt, alloc, board);
+    let mut board = served(rt, alloc, board);
+    costs(rt, alloc, &mut board);
+    commands(rt, alloc, &mut board, &[Do::Tick, Do::Publish]);
+    same(rt, &board.rank_of(Dir::new(2)), &Some(number(1)));
     board.end();
 }
 
