@@ -61,7 +61,7 @@ fn holds_so(rt: &impl Abort, alloc: Global, certificate: &Certificate, greatest:
 }
 
 /// The bytes are certificates that hold, of plans with these greatest heats.
-fn hold_so(rt: &impl Abort, alloc: Global, bytes: &[u8], heats: &[u64]) {
+fn all_hold_so(rt: &impl Abort, alloc: Global, bytes: &[u8], heats: &[u64]) {
     let Ok(certificates) = read(alloc, bytes) else {
         panic!(rt; "they are certificates")
     };
@@ -75,7 +75,7 @@ fn hold_so(rt: &impl Abort, alloc: Global, bytes: &[u8], heats: &[u64]) {
 fn certificates_hold(rt: HostRuntime) {
     let (told, bytes) = written(&rt, rt.alloc(), THREE_PLANS, 4096, ENOUGH);
     holds_in(&rt, told == Ok(()), &"three plans");
-    hold_so(&rt, rt.alloc(), &bytes, &[4, 4, 94]);
+    all_hold_so(&rt, rt.alloc(), &bytes, &[4, 4, 94]);
 }
 
 /// Scripts that adopt no plan.
