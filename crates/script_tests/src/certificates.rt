@@ -1,14 +1,15 @@
 //! The certificates of the plans that a script adopts.
 use crate::devices::{ENOUGH, Sink, sink_of, source_of};
-use crate::same::same;
+use crate::same::{holds_in, same};
 use board_certificates::Unwritten;
 use dirtree::NameKey;
 use plan_checker::check;
-use plan_text::read;
+use plan_text::{Certificate, read};
 use script_engine::Input;
 use script_session::{RunOptions, Silence, run};
 use std::alloc::Global;
 use std::marker::Sync;
+use std::process::Abort;
 use std::sync::Wait;
 use std::thread::Threads;
 
@@ -52,37 +53,57 @@ fn written<T: Threads + Wait + Sync>(
     }
 }
 
-#[test]
-fn certificates_hold(rt: HostRuntime) {
-    let (told, bytes) = written(&rt, rt.alloc(), THREE_PLANS, 4096, ENOUGH);
-    assert!(rt; told == Ok(()));
-    let Ok(certificates) = read(rt.alloc(), bytes.as_slice()) else {
+/// A certificate's plan holds, and its hottest part has this heat.
+fn holds_so(rt: &impl Abort, alloc: Global, certificate: &Certificate, greatest: u64) {
+    let (problem, plan) = (&certificate.problem, &certificate.plan);
+    holds_in(rt, check(alloc, problem, plan) == Ok(true), &greatest);
+    same(rt, &plan.greatest, &greatest);
+}
+
+/// The bytes are certificates that hold, of plans with these greatest heats.
+fn all_hold_so(rt: &impl Abort, alloc: Global, bytes: &[u8], heats: &[u64]) {
+    let Ok(certificates) = read(alloc, bytes) else {
         panic!(rt; "they are certificates")
     };
-    same(&rt, &certificates.len(), &3);
-    for (certificate, greatest) in certificates.iter().zip([4, 4, 94]) {
-        let (problem, plan) = (&certificate.problem, &certificate.plan);
-        assert!(rt; check(rt.alloc(), problem, plan) == Ok(true));
-        same(&rt, &plan.greatest, &greatest);
+    same(rt, &certificates.len(), &heats.len());
+    for (certificate, greatest) in certificates.iter().zip(heats) {
+        holds_so(rt, alloc, certificate, *greatest);
     }
 }
 
 #[test]
+fn certificates_hold(rt: HostRuntime) {
+    let (told, bytes) = written(&rt, rt.alloc(), THREE_PLANS, 4096, ENOUGH);
+    holds_in(&rt, told == Ok(()), &"three plans");
+    all_hold_so(&rt, rt.alloc(), &bytes, &[4, 4, 94]);
+}
+
+/// Scripts that adopt no plan.
+const NO_PLAN: &[&str] = &["", "ranks 1\ndir /a 1\nplan\n"];
+
+#[test]
 fn no_plan_has_no_certificate(rt: HostRuntime) {
-    for script in ["", "ranks 1\ndir /a 1\nplan\n"] {
+    for script in NO_PLAN {
         let (told, bytes) = written(&rt, rt.alloc(), script, 4096, ENOUGH);
-        assert!(rt; told == Ok(()));
-        assert!(rt; bytes.is_empty());
+        holds_in(&rt, told == Ok(()) && bytes.is_empty(), script);
     }
+}
+
+/// Whether a device that fails after so many writes has a beginning of the certificates, and no more.
+fn has_beginning<T: Threads + Wait + Sync>(
+    rt: &T,
+    alloc: Global,
+    whole: &[u8],
+    writes: usize,
+) -> bool {
+    let (told, bytes) = written(rt, alloc, THREE_PLANS, 7, writes);
+    told == Err(Unwritten::Write) && bytes.len() < whole.len() && whole.starts_with(&bytes)
 }
 
 #[test]
 fn a_failed_write_leaves_a_beginning(rt: HostRuntime) {
     let (_told, whole) = written(&rt, rt.alloc(), THREE_PLANS, 4096, ENOUGH);
     for writes in 0..40 {
-        let (told, bytes) = written(&rt, rt.alloc(), THREE_PLANS, 7, writes);
-        assert!(rt; told == Err(Unwritten::Write));
-        assert!(rt; bytes.len() < whole.len());
-        assert!(rt; whole.as_slice().starts_with(bytes.as_slice()));
+        holds_in(&rt, has_beginning(&rt, rt.alloc(), &whole, writes), &writes);
     }
 }

@@ -1,13 +1,18 @@
 //! What is said of lines that spell no command.
 use crate::devices::{ENOUGH, Sink, sink_of, source_of};
-use crate::same::{Sure, holds_in, same};
+use crate::same::{Sure, holds_in, same, same_in};
 use dirtree::NameKey;
 use script_commands::{LineFault, explain};
 use script_engine::Input;
 use script_session::{Hints, RunOptions, run};
+use std::alloc::Global;
+use std::marker::Sync;
+use std::process::Abort;
+use std::sync::Wait;
+use std::thread::Threads;
 
 // (line, what is said)
-const FAULTS: [(&[u8], &str); 27] = [
+const FAULTS: &[(&[u8], &str)] = &[
     (b"lod /a 1", "unknown command \"lod\""),
     (b"DIR /a 1", "unknown command \"DIR\""),
     (b" \tranks1\r", "unknown command \"ranks1\""),
@@ -73,34 +78,40 @@ const FAULTS: [(&[u8], &str); 27] = [
     ),
 ];
 
-#[test]
-fn says_what_is_wrong(rt: HostRuntime) {
-    for (line, wanted) in FAULTS {
-        match explain(rt.alloc(), line).sure(&rt) {
-            Some(fault) => {
-                let text = format!(in rt.alloc(); "{fault}").sure(&rt);
-                same(&rt, &text.as_str(), &wanted);
-            }
-            None => assert!(rt; false),
+/// This is said of a line.
+fn says_so(rt: &impl Abort, alloc: Global, line: &[u8], wanted: &str) {
+    match explain(alloc, line).sure(rt) {
+        Some(fault) => {
+            let text = format!(in alloc; "{fault}").sure(rt);
+            same(rt, &text.as_str(), &wanted);
         }
+        None => holds_in(rt, false, &wanted),
     }
 }
 
 #[test]
+fn says_what_is_wrong(rt: HostRuntime) {
+    for (line, wanted) in FAULTS {
+        says_so(&rt, rt.alloc(), line, wanted);
+    }
+}
+
+const FAULTLESS: &[&[u8]] = &[
+    b"",
+    b" \t\r",
+    b"#\x07",
+    b"ranks 064",
+    b"pin /a -1",
+    b"load /a 1000000",
+    b"cost",
+    b"mask none",
+];
+
+#[test]
 fn says_nothing_of_other_lines(rt: HostRuntime) {
-    let table: [&[u8]; 8] = [
-        b"",
-        b" \t\r",
-        b"#\x07",
-        b"ranks 064",
-        b"pin /a -1",
-        b"load /a 1000000",
-        b"cost",
-        b"mask none",
-    ];
-    for line in table {
+    for line in FAULTLESS {
         let fault = explain(rt.alloc(), line).sure(&rt);
-        holds_in(&rt, fault.is_none(), &fault);
+        holds_in(&rt, fault.is_none(), line);
     }
 }
 
@@ -116,33 +127,45 @@ impl Hints for Heard {
     }
 }
 
+const SCRIPT: &str = "ranks 0\nplan\nranks 1\nplan\n# lod\n\nlod\nload /a 1\nload /a";
+
+// (strict, the lines that are told)
+const TOLD: &[(bool, &[u64])] = &[(false, &[1, 7, 9]), (true, &[1])];
+
+/// A run tells these lines.
+fn tells_lines<T: Threads + Wait + Sync + Abort>(
+    rt: &T,
+    alloc: Global,
+    strict: bool,
+    wanted: &[u64],
+) {
+    let mut input = Input::new(source_of(SCRIPT.as_bytes(), 5));
+    let mut sink = sink_of(alloc, ENOUGH);
+    let mut proofs: Option<Sink> = None;
+    let lines = Vec::new(alloc);
+    let mut heard = Heard { lines };
+    let options = RunOptions {
+        key: NameKey::default(),
+        limit: 64,
+        strict,
+    };
+    let ended = run(
+        rt,
+        alloc,
+        &mut input,
+        &mut sink,
+        &mut proofs,
+        &mut heard,
+        options,
+    );
+    same_in(rt, &ended.answered, &Ok(false), &strict);
+    same_in(rt, &heard.lines.as_slice(), &wanted, &strict);
+}
+
 // A line that is refused, or says nothing, is not told.
 #[test]
 fn a_run_tells_each_line_that_spells_no_command(rt: HostRuntime) {
-    let script = "ranks 0\nplan\nranks 1\nplan\n# lod\n\nlod\nload /a 1\nload /a";
-    // (strict, the lines that are told)
-    let table: [(bool, &[u64]); 2] = [(false, &[1, 7, 9]), (true, &[1])];
-    for (strict, wanted) in table {
-        let mut input = Input::new(source_of(script.as_bytes(), 5));
-        let mut sink = sink_of(rt.alloc(), ENOUGH);
-        let mut proofs: Option<Sink> = None;
-        let mut heard = Heard {
-            lines: Vec::new(rt.alloc()),
-        };
-        let ended = run(
-            &rt,
-            rt.alloc(),
-            &mut input,
-            &mut sink,
-            &mut proofs,
-            &mut heard,
-            RunOptions {
-                key: NameKey::default(),
-                limit: 64,
-                strict,
-            },
-        );
-        same(&rt, &ended.answered, &Ok(false));
-        same(&rt, &heard.lines.as_slice(), &wanted);
+    for (strict, wanted) in TOLD {
+        tells_lines(&rt, rt.alloc(), *strict, wanted);
     }
 }

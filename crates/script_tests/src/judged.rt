@@ -1,10 +1,11 @@
 //! The plan of docs/CERTIFICATES.md that is checked by hand, and what becomes of it when one line is changed.
+use crate::same::{Sure, holds_in, same_in};
 use certificate_judge::tell;
 use std::alloc::{AllocError, Global};
-use std::test::Fail;
+use std::process::Abort;
 
 /// The lines of its certificate.
-const LINES: [&str; 30] = [
+const LINES: &[&str] = &[
     "certificate 1",
     "mask 0x3",
     "rows 4",
@@ -38,7 +39,7 @@ const LINES: [&str; 30] = [
 ];
 
 // (line, what stands there in its place, whether the proofs hold)
-const JUDGED: [(usize, &str, bool); 38] = [
+const JUDGED: &[(usize, &str, bool)] = &[
     (1, "certificate 1", true),
     (2, "mask 0x1", false),
     (2, "mask 0x7", false),
@@ -93,94 +94,87 @@ fn changed(alloc: Global, number: usize, line: &str) -> Result<String, AllocErro
     Ok(text)
 }
 
-/// The status, and what is printed for a text.
-fn told(alloc: Global, text: &str) -> (u8, Vec<u8>, Vec<u8>) {
+/// The certificate with another line in place of one is told of so: the status, what is printed, and what is said on
+/// standard error.
+fn tells_so(rt: &impl Abort, alloc: Global, change: (usize, &str), wanted: (u8, &str, &str)) {
+    let text = changed(alloc, change.0, change.1).sure(rt);
     let (mut writer, mut errors) = (Vec::new(alloc), Vec::new(alloc));
     let status = tell(alloc, "plan", text.as_bytes(), &mut writer, &mut errors);
-    (status, writer, errors)
+    same_in(rt, &status, &wanted.0, &change);
+    holds_in(rt, writer.as_slice() == wanted.1.as_bytes(), &change);
+    holds_in(rt, errors.as_slice() == wanted.2.as_bytes(), &change);
 }
 
 #[test]
-fn tells_whether_the_proofs_hold(rt: HostRuntime) -> Result<(), Fail> {
+fn tells_whether_the_proofs_hold(rt: HostRuntime) {
     for (number, line, holds) in JUDGED {
-        let text = changed(rt.alloc(), number, line)?;
-        let (status, writer, errors) = told(rt.alloc(), &text);
-        let (wanted, answer) = if holds {
-            (0, b"yes\n".as_slice())
-        } else {
-            (1, b"no\n".as_slice())
-        };
-        assert_eq!(rt; status, wanted, "{number}: {line}");
-        assert!(rt; writer.as_slice() == answer, "{number}: {line}");
-        assert!(rt; errors.is_empty(), "{number}: {line}");
+        let (status, printed) = if *holds { (0, "yes\n") } else { (1, "no\n") };
+        tells_so(&rt, rt.alloc(), (*number, line), (status, printed, ""));
     }
-    Ok(())
+}
+
+const PLAIN: &str = "one blank between fields, no leading zeros, no capital digits and a newline";
+
+const TREES: &str =
+    "parents before children, heats up to 1099511627776, up to 65536 rows and a rank";
+
+const ROW: &str = "row PARENT HEAT INODES RANK";
+
+// (line, what stands there in its place, the line that is named, what was expected there)
+const BROKEN: &[(usize, &str, usize, &str)] = &[
+    (1, "certificate 2", 1, "certificate 1"),
+    (
+        2,
+        "mask 0X3",
+        2,
+        "mask 0xDIGITS, the ranks that may have a part",
+    ),
+    (2, "mask 0x03", 2, PLAIN),
+    (2, "mask 0x0", 2, TREES),
+    (3, "rows 5", 8, ROW),
+    (4, "row 1 0 1 0", 2, TREES),
+    (5, "row 0 03 5 0", 5, PLAIN),
+    (5, "row 0 +3 5 0", 5, PLAIN),
+    (5, "row 0  3 5 0", 5, ROW),
+    (5, "row 0 3 5 0 ", 5, ROW),
+    (5, "row 0 3 5", 5, ROW),
+    (5, "row 0 3 4294967296 0", 5, ROW),
+    (15, "rank 64", 15, "rank NUMBER, 0 to 63"),
+    (18, "cut zero", 19, "part_prices NUMBER"),
+    (18, "cut heavy", 18, "cut zero, cut heavy ROW or cut table"),
+    (23, "cell 0 3 0 2", 23, "cell CUTS REST PRICE 0 or 1"),
+    (28, "price -9223372036854775809", 28, "price NUMBER"),
+    (28, "price -0", 28, PLAIN),
+    (30, "ends", 30, "end"),
+];
+
+#[test]
+fn says_which_line_is_broken(rt: HostRuntime) {
+    for (number, line, at, expected) in BROKEN {
+        let message = format!(in rt.alloc(); "plan:{at}: expected {expected}\n").sure(&rt);
+        tells_so(&rt, rt.alloc(), (*number, line), (2, "", &message));
+    }
+}
+
+/// A file of two texts has this status, and is told of on standard error where that is 2, else on standard output.
+fn has_status(rt: &impl Abort, alloc: Global, first: &str, second: &str, wanted: u8) {
+    let file = format!(in alloc; "{first}{second}").sure(rt);
+    let (mut writer, mut errors) = (Vec::new(alloc), Vec::new(alloc));
+    let status = tell(alloc, "plan", file.as_bytes(), &mut writer, &mut errors);
+    same_in(rt, &status, &wanted, &file);
+    same_in(rt, &errors.is_empty(), &(wanted < 2), &file);
+    same_in(rt, &writer.is_empty(), &(wanted == 2), &file);
 }
 
 #[test]
-fn says_which_line_is_broken(rt: HostRuntime) -> Result<(), Fail> {
-    let plain = "one blank between fields, no leading zeros, no capital digits and a newline";
-    let trees = "parents before children, heats up to 1099511627776, up to 65536 rows and a rank";
-    // (line, what stands there in its place, the line that is named, what was expected there)
-    let table = [
-        (1, "certificate 2", 1, "certificate 1"),
-        (
-            2,
-            "mask 0X3",
-            2,
-            "mask 0xDIGITS, the ranks that may have a part",
-        ),
-        (2, "mask 0x03", 2, plain),
-        (2, "mask 0x0", 2, trees),
-        (3, "rows 5", 8, "row PARENT HEAT INODES RANK"),
-        (4, "row 1 0 1 0", 2, trees),
-        (5, "row 0 03 5 0", 5, plain),
-        (5, "row 0 +3 5 0", 5, plain),
-        (5, "row 0  3 5 0", 5, "row PARENT HEAT INODES RANK"),
-        (5, "row 0 3 5 0 ", 5, "row PARENT HEAT INODES RANK"),
-        (5, "row 0 3 5", 5, "row PARENT HEAT INODES RANK"),
-        (5, "row 0 3 4294967296 0", 5, "row PARENT HEAT INODES RANK"),
-        (15, "rank 64", 15, "rank NUMBER, 0 to 63"),
-        (18, "cut zero", 19, "part_prices NUMBER"),
-        (18, "cut heavy", 18, "cut zero, cut heavy ROW or cut table"),
-        (23, "cell 0 3 0 2", 23, "cell CUTS REST PRICE 0 or 1"),
-        (28, "price -9223372036854775809", 28, "price NUMBER"),
-        (28, "price -0", 28, plain),
-        (30, "ends", 30, "end"),
-    ];
-    for (number, line, at, expected) in table {
-        let text = changed(rt.alloc(), number, line)?;
-        let (status, writer, errors) = told(rt.alloc(), &text);
-        let message = format!(in rt.alloc(); "plan:{at}: expected {expected}\n")?;
-        assert_eq!(rt; status, 2, "{line}");
-        assert!(rt; writer.is_empty(), "{line}");
-        assert!(rt; errors.as_slice() == message.as_bytes(), "{line}");
-    }
-    Ok(())
-}
-
-#[test]
-fn checks_each_certificate_of_a_file(rt: HostRuntime) -> Result<(), Fail> {
-    let good = changed(rt.alloc(), 1, "certificate 1")?;
-    let bad = changed(rt.alloc(), 17, "moved 1")?;
-    let whole = good.as_str();
-    let most = whole.trim_end();
-    // (the first text, the second, the status)
-    let table = [
-        (whole, whole, 0),
-        (whole, bad.as_str(), 1),
-        (bad.as_str(), whole, 1),
-        (whole, "", 0),
-        (whole, "\n", 2),
-        (whole, most, 2),
-        ("", "", 2),
-    ];
-    for (first, second, wanted) in table {
-        let text = format!(in rt.alloc(); "{first}{second}")?;
-        let (status, writer, errors) = told(rt.alloc(), &text);
-        assert_eq!(rt; status, wanted);
-        assert_eq!(rt; errors.is_empty(), wanted < 2);
-        assert_eq!(rt; writer.is_empty(), wanted == 2);
-    }
-    Ok(())
+fn checks_each_certificate_of_a_file(rt: HostRuntime) {
+    let good = changed(rt.alloc(), 1, "certificate 1").sure(&rt);
+    let bad = changed(rt.alloc(), 17, "moved 1").sure(&rt);
+    has_status(&rt, rt.alloc(), &good, &good, 0);
+    has_status(&rt, rt.alloc(), &good, &bad, 1);
+    has_status(&rt, rt.alloc(), &bad, &good, 1);
+    has_status(&rt, rt.alloc(), &good, "", 0);
+    has_status(&rt, rt.alloc(), &good, "\n", 2);
+    has_status(&rt, rt.alloc(), &good, good.trim_end(), 2);
+    has_status(&rt, rt.alloc(), "", "", 2);
 }

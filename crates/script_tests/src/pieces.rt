@@ -3,7 +3,7 @@ ghost use Rattle.std.specs.Prelude.{◌≡◌};
 ghost use Rattle.script_engine.specs.Telling.{Tells};
 
 use crate::devices::{ENOUGH, Sink, Source, sink_of, source_of};
-use crate::same::{Sure, holds_in, same, same_in};
+use crate::same::{Sure, holds_in, same};
 use script_engine::{
     Input, Interpreter, RunError, WriteFailed, run_script, write_fault, write_whole,
 };
@@ -70,33 +70,37 @@ fn repeated(
     repeat(alloc, &mut input, sink, strict)
 }
 
+/// Script, strict, whether all lines are accepted, what is written.
+type Row = (&'static str, bool, bool, &'static str);
+
+const ANSWERED: &[Row] = &[
+    ("", true, true, ""),
+    ("a", false, true, "a\n"),
+    ("a\n", false, true, "a\n"),
+    ("a\nbc", true, true, "a\nbc\n"),
+    ("a\r\nb\r\n", false, true, "a\r\nb\r\n"),
+    ("\n\n", false, true, "\n\n"),
+    ("\n\na b\n\n!", false, false, "\n\na b\n\nline 5: bad\n"),
+    ("!\na\n!!\n", false, false, "line 1: bad\na\nline 3: bad\n"),
+    ("a\n!\nb\n!\n", true, false, "a\nline 2: bad\n"),
+    ("a\n!", true, false, "a\nline 2: bad\n"),
+    ("!", true, false, "line 1: bad\n"),
+];
+
+/// Whether a run over devices that give and take so many bytes at a time ends as the row says.
+fn answers_so(alloc: Global, row: &Row, step: usize) -> bool {
+    let (script, strict, accepted, text) = row;
+    let mut sink = sink_of(alloc, step);
+    let source = source_of(script.as_bytes(), step);
+    let result = repeated(alloc, source, &mut sink, *strict);
+    result == Ok(*accepted) && sink.bytes.as_slice() == text.as_bytes()
+}
+
 #[test]
 fn answers_each_line(rt: HostRuntime) {
-    // (script, strict, whether all lines are accepted, what is written)
-    let table = [
-        ("", true, true, ""),
-        ("a", false, true, "a\n"),
-        ("a\n", false, true, "a\n"),
-        ("a\nbc", true, true, "a\nbc\n"),
-        ("a\r\nb\r\n", false, true, "a\r\nb\r\n"),
-        ("\n\n", false, true, "\n\n"),
-        ("\n\na b\n\n!", false, false, "\n\na b\n\nline 5: bad\n"),
-        ("!\na\n!!\n", false, false, "line 1: bad\na\nline 3: bad\n"),
-        ("a\n!\nb\n!\n", true, false, "a\nline 2: bad\n"),
-        ("a\n!", true, false, "a\nline 2: bad\n"),
-        ("!", true, false, "line 1: bad\n"),
-    ];
-    for (script, strict, accepted, text) in table {
-        for step in [1, 2, 7, 4096] {
-            let mut sink = sink_of(rt.alloc(), step);
-            let source = source_of(script.as_bytes(), step);
-            let result = repeated(rt.alloc(), source, &mut sink, strict);
-            same_in(&rt, &result, &Ok(accepted), &(script, step));
-            holds_in(
-                &rt,
-                sink.bytes.as_slice() == text.as_bytes(),
-                &(script, step),
-            );
+    for step in [1, 2, 7, 4096] {
+        for row in ANSWERED {
+            holds_in(&rt, answers_so(rt.alloc(), row, step), &(row, step));
         }
     }
 }
@@ -112,23 +116,28 @@ fn answers_a_long_line(rt: HostRuntime) {
     assert!(rt; sink.bytes.get(100_001..) == Some(b"line 2: bad\nz\n".as_slice()));
 }
 
+// (reads before the one that fails, what is written)
+const READ: &[(usize, &str)] = &[
+    (0, ""),
+    (1, "a\n"),
+    (2, "a\n"),
+    (3, "a\nbc\n"),
+    (4, "a\nbc\nline 3: bad\n"),
+];
+
+/// Whether a run ends at the read behind so many, and this is written.
+fn stops_at_read(alloc: Global, reads: usize, text: &str) -> bool {
+    let mut source = source_of(b"a\nbc\n!\nd", 2);
+    source.reads = reads;
+    let mut sink = sink_of(alloc, ENOUGH);
+    let result = repeated(alloc, source, &mut sink, false);
+    result == Err(RunError::Read) && sink.bytes.as_slice() == text.as_bytes()
+}
+
 #[test]
 fn ends_at_a_failed_read(rt: HostRuntime) {
-    // (reads before the one that fails, what is written)
-    let table = [
-        (0, ""),
-        (1, "a\n"),
-        (2, "a\n"),
-        (3, "a\nbc\n"),
-        (4, "a\nbc\nline 3: bad\n"),
-    ];
-    for (reads, text) in table {
-        let mut source = source_of(b"a\nbc\n!\nd", 2);
-        source.reads = reads;
-        let mut sink = sink_of(rt.alloc(), ENOUGH);
-        let result = repeated(rt.alloc(), source, &mut sink, false);
-        same_in(&rt, &result, &Err(RunError::Read), &reads);
-        holds_in(&rt, sink.bytes.as_slice() == text.as_bytes(), &reads);
+    for (reads, text) in READ {
+        holds_in(&rt, stops_at_read(rt.alloc(), *reads, text), reads);
     }
     same(
         &rt,
@@ -137,20 +146,21 @@ fn ends_at_a_failed_read(rt: HostRuntime) {
     );
 }
 
+/// What is written where no write fails.
+const WRITTEN: &[u8] = b"a\nline 2: bad\n\nz\n";
+
+/// Whether a run ends at the write behind so many, each of a byte.
+fn stops_at_write(alloc: Global, writes: usize) -> bool {
+    let mut sink = sink_of(alloc, 1);
+    sink.writes = writes;
+    let result = repeated(alloc, source_of(b"a\n!\n\nz", 3), &mut sink, false);
+    result == Err(RunError::Write) && WRITTEN.get(..writes) == Some(sink.bytes.as_slice())
+}
+
 #[test]
 fn ends_at_a_failed_write(rt: HostRuntime) {
-    let text = b"a\nline 2: bad\n\nz\n".as_slice();
-    for (writes, _) in text.iter().enumerate() {
-        let source = source_of(b"a\n!\n\nz", 3);
-        let mut sink = sink_of(rt.alloc(), 1);
-        sink.writes = writes;
-        let result = repeated(rt.alloc(), source, &mut sink, false);
-        same_in(&rt, &result, &Err(RunError::Write), &writes);
-        holds_in(
-            &rt,
-            text.get(..writes) == Some(sink.bytes.as_slice()),
-            &writes,
-        );
+    for writes in 0..WRITTEN.len() {
+        holds_in(&rt, stops_at_write(rt.alloc(), writes), &writes);
     }
     same(
         &rt,

@@ -1,4 +1,5 @@
 //! The program over devices of its own.
+use crate::same::{holds_in, same, same_in};
 use script_engine::Input;
 use script_program::start;
 use std::alloc::Global;
@@ -6,9 +7,9 @@ use std::fs::Files;
 use std::io;
 use std::io::{Read, Write};
 use std::marker::Sync;
+use std::process::Abort;
 use std::random::RandomSource;
 use std::sync::Wait;
-use std::test::Fail;
 use std::thread::Threads;
 
 /// Fails at each read.
@@ -34,39 +35,59 @@ fn ended<T: Threads + Wait + Files + RandomSource + Sync, R: Read + Drop>(
     (status, writer, errors)
 }
 
+const FAULTY: &str = "ranks 0\nranks 1\ndir /a 1\nplan\n";
+
+const ONE_DIR: &str = "ranks 1\ndir /a 1\n";
+
+const ANSWERS: &str = "line 1: syntax\nline 4: refused 29 BalancerOff\n";
+
+const HINT: &str = "mdbal: line 1: ranks N: N is 0, and must be 1 to 64\n";
+
+/// Words, script, status, what is written, and what is said on standard error where nothing failed.
+type Row = (
+    &'static [&'static str],
+    &'static str,
+    u8,
+    &'static str,
+    &'static str,
+);
+
+const ENDED: &[Row] = &[
+    (&["mdbal"], ONE_DIR, 0, "", ""),
+    (&["mdbal"], FAULTY, 1, ANSWERS, HINT),
+    (&["mdbal", "--quiet"], FAULTY, 1, ANSWERS, ""),
+    (&["mdbal", "--strict"], FAULTY, 1, "line 1: syntax\n", HINT),
+    (
+        &["mdbal", "--limit", "1"],
+        ONE_DIR,
+        1,
+        "line 2: refused 11 TreeFull\n",
+        "",
+    ),
+    (&["mdbal", "--version"], FAULTY, 0, "mdbal 0.1.0\n", ""),
+    (&["mdbal", "script"], FAULTY, 2, "", ""),
+    (&["mdbal", "--proofs", ""], FAULTY, 3, "", ""),
+];
+
+/// What is written and said on standard error is as the row says; something is said where the run failed.
+fn says_so(rt: &impl Abort, row: &Row, status: u8, writer: &[u8], errors: &[u8]) {
+    let (words, _script, wanted, text, said) = row;
+    same_in(rt, &status, wanted, words);
+    holds_in(rt, writer == text.as_bytes(), words);
+    let is_said = if *wanted < 2 {
+        errors == said.as_bytes()
+    } else {
+        !errors.is_empty()
+    };
+    holds_in(rt, is_said, words);
+}
+
 #[test]
-fn ends_with_its_status(rt: HostRuntime) -> Result<(), Fail> {
-    let faulty = "ranks 0\nranks 1\ndir /a 1\nplan\n";
-    let answers = "line 1: syntax\nline 4: refused 29 BalancerOff\n";
-    let hint = "mdbal: line 1: ranks N: N is 0, and must be 1 to 64\n";
-    // (words, script, status, what is written, what is said on standard error where nothing failed)
-    let table: [(&[&str], &str, u8, &str, &str); 8] = [
-        (&["mdbal"], "ranks 1\ndir /a 1\n", 0, "", ""),
-        (&["mdbal"], faulty, 1, answers, hint),
-        (&["mdbal", "--quiet"], faulty, 1, answers, ""),
-        (&["mdbal", "--strict"], faulty, 1, "line 1: syntax\n", hint),
-        (
-            &["mdbal", "--limit", "1"],
-            "ranks 1\ndir /a 1\n",
-            1,
-            "line 2: refused 11 TreeFull\n",
-            "",
-        ),
-        (&["mdbal", "--version"], faulty, 0, "mdbal 0.1.0\n", ""),
-        (&["mdbal", "script"], faulty, 2, "", ""),
-        (&["mdbal", "--proofs", ""], faulty, 3, "", ""),
-    ];
-    for (words, script, wanted, text, said) in table {
-        let (status, writer, errors) = ended(&rt, rt.alloc(), words, script.as_bytes());
-        assert_eq!(rt; status, wanted, "{words:?}");
-        assert!(rt; writer.as_slice() == text.as_bytes(), "{words:?}");
-        if wanted < 2 {
-            assert!(rt; errors.as_slice() == said.as_bytes(), "{words:?}");
-        } else {
-            assert!(rt; !errors.is_empty(), "{words:?}");
-        }
+fn ends_with_its_status(rt: HostRuntime) {
+    for row in ENDED {
+        let (status, writer, errors) = ended(&rt, rt.alloc(), row.0, row.1.as_bytes());
+        says_so(&rt, row, status, &writer, &errors);
     }
-    Ok(())
 }
 
 /// Takes some bytes of each write, and fails after so many writes.
@@ -92,51 +113,49 @@ impl Write for Failing {
     }
 }
 
+const HINTED: &str = "ranks 2\nlod /a 1\nstop 64\ncost\n";
+
+const HINTED_ANSWERS: &str =
+    "line 2: syntax\nline 3: syntax\ncost greatest 0 parts 1\npart / heat 0 inodes 1\n";
+
+const HINTS: &str =
+    "mdbal: line 2: unknown command \"lod\"\nmdbal: line 3: stop RANK: RANK is 64, and must be 0 to 63\n";
+
+/// Runs over a standard error that fails after so many writes. Each of the two hints takes two.
+fn loses_hints<T: Threads + Wait + Files + RandomSource + Sync + Abort>(
+    rt: &T,
+    alloc: Global,
+    writes: usize,
+) {
+    let bytes = Vec::new(alloc);
+    let mut errors = Failing { bytes, writes };
+    let mut input = Input::new(HINTED.as_bytes());
+    let mut writer = Vec::new(alloc);
+    let status = start(rt, alloc, &["mdbal"], &mut input, &mut writer, &mut errors);
+    same_in(rt, &status, &1, &writes);
+    holds_in(rt, writer.as_slice() == HINTED_ANSWERS.as_bytes(), &writes);
+    let said = HINTS.as_bytes();
+    holds_in(rt, said.starts_with(&errors.bytes), &writes);
+    let is_whole = errors.bytes.len() == said.len();
+    same_in(rt, &is_whole, &(writes == 4), &writes);
+}
+
 // A standard error that fails loses hints alone.
 #[test]
-fn a_lost_hint_changes_nothing(rt: HostRuntime) -> Result<(), Fail> {
-    let script = "ranks 2\nlod /a 1\nstop 64\ncost\n";
-    let words: [&str; 1] = ["mdbal"];
-    let text = "line 2: syntax\nline 3: syntax\ncost greatest 0 parts 1\npart / heat 0 inodes 1\n";
-    let said =
-        "mdbal: line 2: unknown command \"lod\"\nmdbal: line 3: stop RANK: RANK is 64, and must be 0 to 63\n";
-    // each of the two hints takes two writes
+fn a_lost_hint_changes_nothing(rt: HostRuntime) {
     for writes in 0..5usize {
-        let mut errors = Failing {
-            bytes: Vec::new(rt.alloc()),
-            writes,
-        };
-        let mut input = Input::new(script.as_bytes());
-        let mut writer = Vec::new(rt.alloc());
-        let status = start(
-            &rt,
-            rt.alloc(),
-            &words,
-            &mut input,
-            &mut writer,
-            &mut errors,
-        );
-        assert_eq!(rt; status, 1, "after {writes}");
-        assert!(rt; writer.as_slice() == text.as_bytes(), "after {writes}");
-        assert!(rt;
-            said.as_bytes().starts_with(&errors.bytes),
-            "after {writes}"
-        );
-        assert_eq!(rt;
-            errors.bytes.len() == said.len(),
-            writes == 4,
-            "after {writes}"
-        );
+        loses_hints(&rt, rt.alloc(), writes);
     }
-    Ok(())
 }
 
 #[test]
-fn says_that_a_read_failed(rt: HostRuntime) -> Result<(), Fail> {
-    let words: [&str; 1] = ["mdbal"];
-    let (status, writer, errors) = ended(&rt, rt.alloc(), &words, Broken);
-    assert_eq!(rt; status, 3);
-    assert!(rt; writer.is_empty());
-    assert!(rt; errors.as_slice() == b"mdbal: read failed\n".as_slice());
-    Ok(())
+fn says_that_a_read_failed(rt: HostRuntime) {
+    let (status, writer, errors) = ended(&rt, rt.alloc(), &["mdbal"], Broken);
+    same(&rt, &status, &3);
+    holds_in(&rt, writer.is_empty(), &"writer");
+    holds_in(
+        &rt,
+        errors.as_slice() == b"mdbal: read failed\n".as_slice(),
+        &"errors",
+    );
 }

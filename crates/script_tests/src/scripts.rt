@@ -73,7 +73,7 @@ const TWO_PARTS_COST: &str =
      part / heat 10 inodes 31\n";
 
 // (script, whether all lines are accepted, what is written)
-const ANSWERS: [(&str, bool, &str); 14] = [
+const ANSWERS: &[(&str, bool, &str)] = &[
     ("", true, ""),
     (TWO_PARTS, true, TWO_PARTS_COST),
     (
@@ -152,16 +152,16 @@ const ANSWERS: [(&str, bool, &str); 14] = [
 
 #[test]
 fn answers_scripts(rt: HostRuntime) {
-    for (script, accepted, text) in ANSWERS {
-        for step in [1, 7, 4096] {
-            let is_as_said = answers_so(&rt, rt.alloc(), script, step, 4, accepted, text);
+    for step in [1, 7, 4096] {
+        for (script, accepted, text) in ANSWERS {
+            let is_as_said = answers_so(&rt, rt.alloc(), script, step, 4, *accepted, text);
             holds_in(&rt, is_as_said, &(script, step));
         }
     }
 }
 
 // Scripts behind `ranks 2` and `mask 0x3`, with what is written.
-const PLANS: [(&str, &str); 5] = [
+const PLANS: &[(&str, &str)] = &[
     (
         "",
         "plan greatest 0 moved 0 proof zero\npart / rank 0 heat 0 inodes 1\n",
@@ -190,34 +190,35 @@ fn plans(rt: HostRuntime) {
     }
 }
 
+// (script, whether all lines are accepted, what is written)
+const USABLE: &[(&str, bool, &str)] = &[
+    ("ranks 2\nplan\n", false, "line 2: refused 29 BalancerOff\n"),
+    (
+        "ranks 2\nmask 0x0\nplan\n",
+        false,
+        "line 3: refused 29 BalancerOff\n",
+    ),
+    (
+        "ranks 3\nmask 0x8\nplan\n",
+        false,
+        "line 3: refused 29 BalancerOff\n",
+    ),
+    (
+        "ranks 2\nmask 0x2\ndir /a 10\nload / 2\nload /a 5\ngo\nplan\n",
+        true,
+        "plan greatest 7 moved 11 proof table\npart / rank 1 heat 7 inodes 11\n",
+    ),
+    (
+        "plan\nranks 1\nplan 1\n",
+        false,
+        "line 1: no ranks\nline 3: syntax\n",
+    ),
+];
+
 #[test]
 fn plans_for_usable_ranks_alone(rt: HostRuntime) {
-    // (script, whether all lines are accepted, what is written)
-    let table = [
-        ("ranks 2\nplan\n", false, "line 2: refused 29 BalancerOff\n"),
-        (
-            "ranks 2\nmask 0x0\nplan\n",
-            false,
-            "line 3: refused 29 BalancerOff\n",
-        ),
-        (
-            "ranks 3\nmask 0x8\nplan\n",
-            false,
-            "line 3: refused 29 BalancerOff\n",
-        ),
-        (
-            "ranks 2\nmask 0x2\ndir /a 10\nload / 2\nload /a 5\ngo\nplan\n",
-            true,
-            "plan greatest 7 moved 11 proof table\npart / rank 1 heat 7 inodes 11\n",
-        ),
-        (
-            "plan\nranks 1\nplan 1\n",
-            false,
-            "line 1: no ranks\nline 3: syntax\n",
-        ),
-    ];
-    for (script, accepted, text) in table {
-        let is_as_said = answers_so(&rt, rt.alloc(), script, ENOUGH, 65536, accepted, text);
+    for (script, accepted, text) in USABLE {
+        let is_as_said = answers_so(&rt, rt.alloc(), script, ENOUGH, 65536, *accepted, text);
         holds_in(&rt, is_as_said, &script);
     }
 }
