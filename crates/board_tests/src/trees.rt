@@ -1,5 +1,4 @@
 //! Trees: paths, names, the order of refusals, numbers that are never given again, and refused growths.
-ghost use Rattle.std.specs.Prelude.{◌≤◌};
 
 use crate::same::{Row, Sure, holds_in, same, same_in, same_rows};
 use dirtree::{Tree, TreeError, TreeRow, is_name};

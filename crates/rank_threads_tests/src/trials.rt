@@ -104,7 +104,7 @@ fn try_on<J: Naming + Send + Sync, M: Publisher<J> + Send, R: Abort + Threads + 
         Trial::BetweenPhases => rows::play_on(rt, alloc, board, shares, BETWEEN_PHASES),
         Trial::RankThreads(is_sure) => threads::serve_on(rt, alloc, board, shares, is_sure),
         Trial::ExporterThreads(is_sure) => threads::move_on(rt, alloc, board, is_sure),
-        Trial::Totals => board.end(),
+        Trial::Totals => panic!(rt; "its board is its own"),
     }
     Ok(())
 }
