@@ -11,6 +11,11 @@ pub(crate) fn rank(number: u8) -> Rank {
     Rank::new(number).unwrap_or_default()
 }
 
+/// The first of a list: so many of them, or all.
+pub(crate) fn first<T>(all: &[T], count: usize) -> &[T] {
+    all.get(..count).unwrap_or(all)
+}
+
 /// A number for each of 64 ranks, of which the first have these.
 pub(crate) fn by_rank(rt: &impl Abort, alloc: Global, first: &[u64]) -> Vec<u64> {
     let mut all = Vec::from_slice(alloc, first).sure(rt);

@@ -1,6 +1,6 @@
 //! Parts that are packed on ranks, and what that comes to.
 
-use crate::given::{by_rank, rank};
+use crate::given::{by_rank, first, rank};
 use crate::same::{Row, Sure, same_in, same_rows};
 use ceph_plan::{Packing, are_parts, are_pinned, pack};
 use mds_types::{Problem, ProblemRow, Rank, RankSet};
@@ -25,71 +25,76 @@ fn rows_of(rt: &impl Abort, alloc: Global, given: &[(u64, u8)]) -> Vec<ProblemRo
 // Row i is of part i.
 const PARTS: &[u32] = &[0, 1, 2, 3, 4, 5];
 
+// None where `pack` doesn't take what it is given.
 fn packed_rows(
     rt: &impl Abort,
     alloc: Global,
     problem: &Problem,
     part: &[u32],
     by_rank: &[u64],
-) -> Packing {
+) -> Option<Packing> {
     let rows = problem.rows();
     let ranks = problem.ranks();
-    assert!(rt; are_parts(part, 64));
-    assert!(rt; are_pinned(by_rank));
-    assert!(rt; ranks.has(Rank::default()));
-    assert!(rt; !rows.is_empty());
-    assert!(rt; rows.len() == part.len());
-    pack(alloc, rows, part, 64, by_rank, ranks, 0).sure(rt)
+    let fits = rows.len() == part.len() && !rows.is_empty() && ranks.has(Rank::default());
+    if fits && are_parts(part, 64) && are_pinned(by_rank) {
+        Some(pack(alloc, rows, part, 64, by_rank, ranks, 0).sure(rt))
+    } else {
+        None
+    }
 }
 
 fn packed(rt: &impl Abort, alloc: Global, given: &[(u64, u8)], pinned: &[u64]) -> Packing {
     let ranks = RankSet::from_bits(7);
     let problem = Problem::new(rows_of(rt, alloc, given), ranks).sure(rt);
-    let part = PARTS.get(..given.len()).unwrap_or(PARTS);
-    packed_rows(rt, alloc, &problem, part, &by_rank(rt, alloc, pinned))
+    let part = first(PARTS, given.len());
+    let by_rank = by_rank(rt, alloc, pinned);
+    let packing = packed_rows(rt, alloc, &problem, part, &by_rank);
+    packing.ok_or("it isn't packed").sure(rt)
 }
 
-// the loads of the first ranks, the greatest and the bound
-type Loads = (&'static [u64], u64, u64);
+/// The loads of the first ranks, the greatest and the bound.
+type Loads<'a> = (&'a [u64], u64, u64);
 
-// What is tried, heats and present ranks, what is pinned to the first ranks, the ranks, and what that comes to.
-type Packed = (
-    &'static str,
-    &'static [(u64, u8)],
-    &'static [u64],
-    &'static [u8],
-    Loads,
-);
+/// What is tried, and what it comes to.
+struct Case {
+    name: &'static str,
+    /// Heats, and the ranks that have them now.
+    given: &'static [(u64, u8)],
+    /// What is pinned to the first ranks.
+    pinned: &'static [u64],
+    ranks: &'static [u8],
+    loads: Loads<'static>,
+}
 
-const PACKED: &[Packed] = &[
-    (
-        "the hottest first",
-        &[(0, 0), (7, 0), (6, 0), (5, 0), (4, 0), (3, 0)],
-        &[],
-        &[0, 0, 1, 2, 2, 1],
-        (&[7, 9, 9], 9, 9),
-    ),
-    (
-        "among equals the rank that has most of the part",
-        &[(0, 0), (7, 2)],
-        &[],
-        &[0, 2],
-        (&[0, 0, 7], 7, 7),
-    ),
-    (
-        "a part stays where it is while another rank is hotter anyway",
-        &[(3, 0), (5, 0)],
-        &[0, 100],
-        &[0, 0],
-        (&[8, 100, 0], 100, 100),
-    ),
-    (
-        "and goes where the least is pinned otherwise",
-        &[(3, 0), (99, 0)],
-        &[0, 100],
-        &[0, 2],
-        (&[3, 100, 99], 100, 100),
-    ),
+const PACKED: &[Case] = &[
+    Case {
+        name: "the hottest first",
+        given: &[(0, 0), (7, 0), (6, 0), (5, 0), (4, 0), (3, 0)],
+        pinned: &[],
+        ranks: &[0, 0, 1, 2, 2, 1],
+        loads: (&[7, 9, 9], 9, 9),
+    },
+    Case {
+        name: "among equals the rank that has most of the part",
+        given: &[(0, 0), (7, 2)],
+        pinned: &[],
+        ranks: &[0, 2],
+        loads: (&[0, 0, 7], 7, 7),
+    },
+    Case {
+        name: "a part stays where it is while another rank is hotter anyway",
+        given: &[(3, 0), (5, 0)],
+        pinned: &[0, 100],
+        ranks: &[0, 0],
+        loads: (&[8, 100, 0], 100, 100),
+    },
+    Case {
+        name: "and goes where the least is pinned otherwise",
+        given: &[(3, 0), (99, 0)],
+        pinned: &[0, 100],
+        ranks: &[0, 2],
+        loads: (&[3, 100, 99], 100, 100),
+    },
 ];
 
 impl Row<u8> for Rank {
@@ -98,18 +103,18 @@ impl Row<u8> for Rank {
     }
 }
 
-/// The parts are at these ranks, and the first ranks have these loads.
-fn same_packing(rt: &impl Abort, found: &Packing, row: &Packed) {
-    let (name, _given, _pinned, ranks, wanted) = row;
-    let first = found.rank.get(..ranks.len()).unwrap_or(&[]);
-    same_rows(rt, first, ranks, name);
-    let loads = found.load.get(..3).unwrap_or(&[]);
-    same_in(rt, &(loads, found.greatest, found.bound), wanted, name);
+fn loads_of(found: &Packing) -> Loads<'_> {
+    (first(&found.load, 3), found.greatest, found.bound)
 }
 
-fn packs_so(rt: &impl Abort, alloc: Global, row: &Packed) {
-    let (_name, given, pinned, _ranks, _wanted) = row;
-    same_packing(rt, &packed(rt, alloc, given, pinned), row);
+/// The parts are at the row's ranks, and the first ranks have its loads.
+fn same_packing(rt: &impl Abort, found: &Packing, row: &Case) {
+    same_rows(rt, first(&found.rank, row.ranks.len()), row.ranks, row.name);
+    same_in(rt, &loads_of(found), &row.loads, &row.name);
+}
+
+fn packs_so(rt: &impl Abort, alloc: Global, row: &Case) {
+    same_packing(rt, &packed(rt, alloc, row.given, row.pinned), row);
 }
 
 #[test]

@@ -82,10 +82,14 @@ impl Row<(u32, u8)> for Pin {
     }
 }
 
+fn pins_so(rt: &impl Abort, alloc: Global, given: &[Given], wanted: &[(u32, u8)], name: &str) {
+    same_rows(rt, &pins_of(rt, alloc, given), wanted, name);
+}
+
 #[test]
 fn pins_where_a_rank_changes(rt: HostRuntime) {
     for (name, given, wanted) in PINNED {
-        same_rows(&rt, &pins_of(&rt, rt.alloc(), given), wanted, name);
+        pins_so(&rt, rt.alloc(), given, wanted, name);
     }
 }
 
@@ -112,5 +116,6 @@ impl Row<(u32, i8)> for PinChange {
 #[test]
 fn changes_earlier_pins(rt: HostRuntime) {
     let rows = rows_of(&rt, rt.alloc(), GIVEN, EARLIER);
-    same_rows(&rt, &changes_of(&rt, rt.alloc(), &rows), CHANGED, "changes");
+    let changes = changes_of(&rt, rt.alloc(), &rows);
+    same_rows(&rt, &changes, CHANGED, "changes");
 }

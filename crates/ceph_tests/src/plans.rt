@@ -1,8 +1,9 @@
 //! Plans and proposals of small trees.
 
-use crate::given::by_rank;
+use crate::given::{by_rank, first};
+use crate::refused::proposed;
 use crate::same::{Sure, same_in};
-use ceph_plan::{OwnPins, PartCount, PlanError, Proposal, choose_plan, propose};
+use ceph_plan::{PartCount, PlanError, choose_plan};
 use mds_types::{ProblemRow, Rank, RankSet};
 use std::alloc::Global;
 use std::process::Abort;
@@ -22,21 +23,11 @@ fn star(rt: &impl Abort, alloc: Global, heats: &[u64]) -> Vec<ProblemRow> {
     rows
 }
 
-fn proposed(rt: &impl Abort, alloc: Global, rows: &[ProblemRow], held: &[u64]) -> Proposal {
-    let none = OwnPins {
-        foreign: None,
-        earlier: None,
-    };
-    let own = vec![in alloc; none; rows.len()].sure(rt);
-    assert!(rt; own.len() == rows.len());
-    let ranks = RankSet::from_bits(7);
-    propose(alloc, rows, PartCount::Auto, held, ranks, 0, &own).sure(rt)
-}
-
 /// The greatest load of a plan, the bound, and the inodes that move.
 fn planned(rt: &impl Abort, alloc: Global, heats: &[u64], pinned: &[u64]) -> (u64, u64, u64) {
     let rows = star(rt, alloc, heats);
-    let plan = proposed(rt, alloc, &rows, &by_rank(rt, alloc, pinned)).plan;
+    let pinned = by_rank(rt, alloc, pinned);
+    let plan = proposed(alloc, &rows, &pinned).sure(rt).plan;
     (plan.packing.greatest, plan.packing.bound, plan.moved)
 }
 
@@ -81,8 +72,8 @@ const REFUSED: &[(&[u64], usize, u64, Option<PlanError>)] = &[
 #[test]
 fn refuses_what_it_cant_plan(rt: HostRuntime) {
     for (heats, ranks, mask, error) in REFUSED {
-        let held = NOTHING_HELD.get(..*ranks).unwrap_or(&[]);
-        let found = refusal(rt.alloc(), &star(&rt, rt.alloc(), heats), held, *mask);
-        same_in(&rt, &found, error, &(heats, ranks));
+        let rows = star(&rt, rt.alloc(), heats);
+        let found = refusal(rt.alloc(), &rows, first(NOTHING_HELD, *ranks), *mask);
+        same_in(&rt, &found, error, heats);
     }
 }

@@ -15,7 +15,7 @@ const WORDS: &[(&[u8], &[u8])] = &[
 #[test]
 fn quotes(rt: HostRuntime) {
     for (bytes, word) in WORDS {
-        if bytes.iter().all(|byte| *byte > 0) {
+        if !bytes.contains(&0) {
             let found = quoted(rt.alloc(), bytes).sure(&rt);
             same(&rt, &found.as_slice(), word);
         }

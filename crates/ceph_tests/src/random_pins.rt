@@ -1,6 +1,6 @@
 //! Changes of pins on random trees, judged by a plain walk up from each directory.
 
-use crate::given::{changes_of, rank};
+use crate::given::{changes_of, first, rank};
 use crate::same::{Sure, same_in};
 use ceph_plan::{PinChange, PinRow};
 use mds_types::Rank;
@@ -48,15 +48,16 @@ fn random_rows(rt: &impl Abort, alloc: Global, seed: &mut u64) -> Vec<PinRow> {
         earlier: None,
         rest: Some(rank(0)),
     };
-    let mut rows = vec![in alloc; root; 1].sure(rt);
-    for at in 0..below(seed, 12) {
-        rows.push(random_row(seed, at.saturating_add(1))).sure(rt);
+    let mut rows = Vec::new(alloc);
+    rows.push(root).sure(rt);
+    for at in 1..=below(seed, 12) {
+        rows.push(random_row(seed, at)).sure(rt);
     }
     rows
 }
 
 /// A row's own pin once these changes are made.
-fn own_pin(row: PinRow, at: usize, changes: &[PinChange]) -> Option<Rank> {
+fn own_pin(row: &PinRow, at: usize, changes: &[PinChange]) -> Option<Rank> {
     let mut pin = row.foreign.or(row.earlier);
     for change in changes {
         if change.row as usize == at {
@@ -69,61 +70,62 @@ fn own_pin(row: PinRow, at: usize, changes: &[PinChange]) -> Option<Rank> {
 /// The rank of the nearest pin at or above a row, once these changes are made.
 fn nearest(rows: &[PinRow], changes: &[PinChange], at: usize) -> Option<Rank> {
     let mut here = at;
+    let mut pin = None;
     for _ in rows {
-        let row = rows.get(here)?;
-        let pin = own_pin(*row, here, changes);
-        if pin.is_some() {
-            return pin;
+        if let (None, Some(row)) = (pin, rows.get(here)) {
+            pin = own_pin(row, here, changes);
+            here = row.parent as usize;
         }
-        here = row.parent as usize;
     }
-    None
+    pin
 }
 
 /// Whether a foreign pin is at or above a row.
 fn is_held(rows: &[PinRow], at: usize) -> bool {
     let mut here = at;
+    let mut is_held = false;
     for _ in rows {
-        match rows.get(here) {
-            Some(row) if row.foreign.is_some() => return true,
-            Some(row) => here = row.parent as usize,
-            None => return false,
+        if let Some(row) = rows.get(here) {
+            is_held |= row.foreign.is_some();
+            here = row.parent as usize;
         }
     }
-    false
+    is_held
 }
 
 /// Whether a row is where it should once all changes are made (a foreign pin may hold it elsewhere), and its nearest
 /// pin isn't on a third rank once so many of them are made.
-fn is_right(rows: &[PinRow], changes: &[PinChange], made: usize, at: usize) -> bool {
-    let some = changes.get(..made).unwrap_or(changes);
-    let (now, last) = (nearest(rows, some, at), nearest(rows, changes, at));
-    let target = match rows.get(at) {
-        Some(row) => Some(row.target),
-        None => None,
-    };
-    let is_there = last == target || at == 0 || is_held(rows, at);
+fn is_right(rows: &[PinRow], changes: &[PinChange], made: usize, at: usize, target: Rank) -> bool {
+    let now = nearest(rows, first(changes, made), at);
+    let last = nearest(rows, changes, at);
+    let is_there = last == Some(target) || at == 0 || is_held(rows, at);
     is_there && (now.is_none() || now == last || now == nearest(rows, &[], at))
 }
 
 /// How many rows of a tree aren't right once so many of the changes are made.
 fn wrong_count(rows: &[PinRow], changes: &[PinChange], made: usize) -> usize {
     let mut count = 0usize;
-    for at in 0..rows.len() {
-        count = count.saturating_add(usize::from(!is_right(rows, changes, made, at)));
+    for (at, row) in rows.iter().enumerate() {
+        let is_right = is_right(rows, changes, made, at, row.target);
+        count = count.saturating_add(usize::from(!is_right));
     }
     count
 }
 
-/// Tries one random tree: how many rows are misplaced in the end or stray meanwhile.
+/// How many rows are misplaced in the end or stray meanwhile.
+fn all_wrong(rows: &[PinRow], changes: &[PinChange]) -> usize {
+    let mut count = 0usize;
+    for made in 0..=changes.len() {
+        count = count.saturating_add(wrong_count(rows, changes, made));
+    }
+    count
+}
+
+/// Tries one random tree: how many rows are wrong.
 fn tried(rt: &impl Abort, alloc: Global, seed: &mut u64) -> usize {
     let rows = random_rows(rt, alloc, seed);
     let changes = changes_of(rt, alloc, &rows);
-    let mut count = 0usize;
-    for made in 0..=changes.len() {
-        count = count.saturating_add(wrong_count(&rows, &changes, made));
-    }
-    count
+    all_wrong(&rows, &changes)
 }
 
 #[test]

@@ -10,8 +10,8 @@ use mds_types::{ProblemRow, Rank, RankSet};
 use std::alloc::{AllocError, AllocFailed, Global};
 
 /// Why there was no answer.
-#[derive(Clone, Copy)]
-enum Refused {
+#[derive(Clone, Copy, Debug)]
+pub(crate) enum Refused {
     /// A growth was refused.
     Memory,
     /// Anything else, which no dump here gives a cause for.
@@ -72,29 +72,12 @@ const SUBTREES: &[u8] =
 /// The entries of one directory.
 const LISTING: &[u8] = b"# file: c\nceph.dir.entries=\"7\"\n";
 
-/// Adds the roots.
-fn add_roots(alloc: Global, all: &mut Gathering) -> Result<(), Refused> {
-    let roots = read_subtrees(alloc, SUBTREES)?;
-    Ok(all.add_subtrees(Rank::default(), &roots)?)
-}
-
-/// Adds the heat.
-fn add_loads(alloc: Global, all: &mut Gathering) -> Result<(), Refused> {
-    let loads = read_loads(alloc, LOADS)?;
-    Ok(all.add_loads(Rank::default(), &loads)?)
-}
-
-/// Adds the entries.
-fn add_listing(alloc: Global, all: &mut Gathering) -> Result<(), Refused> {
-    let listing = read_listing(alloc, LISTING)?;
-    Ok(all.add_listing(&listing)?)
-}
-
 /// Adds all that the dumps tell.
 fn add_all(alloc: Global, all: &mut Gathering) -> Result<(), Refused> {
-    add_roots(alloc, all)?;
-    add_loads(alloc, all)?;
-    add_listing(alloc, all)
+    all.add_subtrees(Rank::default(), &read_subtrees(alloc, SUBTREES)?)?;
+    all.add_loads(Rank::default(), &read_loads(alloc, LOADS)?)?;
+    all.add_listing(&read_listing(alloc, LISTING)?)?;
+    Ok(())
 }
 
 /// The directories, as the dumps tell them.
@@ -115,7 +98,11 @@ fn left(alloc: Global, directories: Vec<Directory>) -> Result<Vec<Directory>, Re
 }
 
 /// A plan of these rows for three ranks, where nothing is pinned yet.
-fn proposed(alloc: Global, rows: &[ProblemRow], pinned: &[u64]) -> Result<Proposal, Refused> {
+pub(crate) fn proposed(
+    alloc: Global,
+    rows: &[ProblemRow],
+    pinned: &[u64],
+) -> Result<Proposal, Refused> {
     let none = OwnPins {
         foreign: None,
         earlier: None,

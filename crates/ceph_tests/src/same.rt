@@ -3,27 +3,24 @@
 use std::fmt::Debug;
 use std::process::Abort;
 
-/// Both are the same.
-pub(crate) fn same<T: PartialEq + Debug>(rt: &impl Abort, found: &T, wanted: &T) {
-    assert!(rt; found == wanted, "{found:?} is not {wanted:?}");
+/// It is so, in this row of a table.
+pub(crate) fn holds_in<R: Debug>(rt: &impl Abort, is_so: bool, row: &R) {
+    assert!(rt; is_so, "it is not so: {row:?}");
 }
 
-/// Both are the same, in this row of a table.
+/// Both are the same. A failure tells both.
+pub(crate) fn same<T: PartialEq + Debug>(rt: &impl Abort, found: &T, wanted: &T) {
+    holds_in(rt, found == wanted, &(found, wanted));
+}
+
+/// Both are the same, in this row of a table. A failure tells the row and both.
 pub(crate) fn same_in<T: PartialEq + Debug, R: Debug>(
     rt: &impl Abort,
     found: &T,
     wanted: &T,
     row: &R,
 ) {
-    assert!(rt;
-        found == wanted,
-        "{found:?} is not {wanted:?} in row {row:?}"
-    );
-}
-
-/// It is so, in this row of a table.
-pub(crate) fn holds_in<R: Debug>(rt: &impl Abort, is_so: bool, row: &R) {
-    assert!(rt; is_so, "it is not so in row {row:?}");
+    holds_in(rt, found == wanted, &(row, found, wanted));
 }
 
 /// What is compared with a row of a table.
@@ -32,12 +29,28 @@ pub(crate) trait Row<W> {
     fn is_as(&self, row: &W) -> bool;
 }
 
+/// Whether there are a value and a row at a place, and the value is as the row says.
+fn is_as_at<T: Row<W>, W>(found: &[T], table: &[W], at: usize) -> bool {
+    match (found.get(at), table.get(at)) {
+        (Some(value), Some(row)) => value.is_as(row),
+        _ => false,
+    }
+}
+
+/// The last place at which there is no value, no row, or a value that isn't as the row says.
+fn otherwise_at<T: Row<W>, W>(found: &[T], table: &[W]) -> Option<usize> {
+    let mut otherwise = None;
+    for at in 0..found.len().max(table.len()) {
+        if !is_as_at(found, table, at) {
+            otherwise = Some(at);
+        }
+    }
+    otherwise
+}
+
 /// There is one for each row of a table, as it says; the table is named.
 pub(crate) fn same_rows<T: Row<W>, W>(rt: &impl Abort, found: &[T], table: &[W], name: &str) {
-    same_in(rt, &found.len(), &table.len(), &name);
-    for (at, (value, row)) in found.iter().zip(table).enumerate() {
-        holds_in(rt, value.is_as(row), &(name, at));
-    }
+    same_in(rt, &otherwise_at(found, table), &None, &name);
 }
 
 /// A call that is to succeed.

@@ -176,17 +176,17 @@ fn sums(directories: &[Directory]) -> (u64, u64) {
 }
 
 /// Adds a directory of this number with heat.
-fn add_number(rt: &impl Abort, alloc: Global, all: &mut Gathering, number: u64) {
-    let (high, low) = (number / 9, number % 9);
-    let path = format!(in alloc; "/a{high}/b{low}/c{}", number % 4).sure(rt);
-    let given = [(path.as_bytes(), number.wrapping_mul(37) % 101)];
-    add_loads(rt, alloc, all, rank(0), given.as_slice());
+fn add_number(rt: &impl Abort, alloc: Global, all: &mut Gathering, number: u8) {
+    let (high, low, last) = (b'a' + number / 9, b'a' + number % 9, b'a' + number % 4);
+    let path = [b'/', high, b'/', low, b'/', last];
+    let heat = u64::from(number) * 37 % 101;
+    add_loads(rt, alloc, all, rank(0), &[(path.as_slice(), heat)]);
 }
 
 /// 59 directories with heat, in up to seven by nine by four.
 fn many(rt: &impl Abort, alloc: Global) -> Vec<Directory> {
     let mut all = Gathering::new(alloc).sure(rt);
-    for number in 1..60u64 {
+    for number in 1..60u8 {
         add_number(rt, alloc, &mut all, number);
     }
     all.snapshot(1, 1).sure(rt).directories
