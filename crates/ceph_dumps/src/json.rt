@@ -30,13 +30,10 @@ fn reason_of(alloc: Global, error: &serde_json::Error) -> Result<String, AllocEr
 
 /// The column as the file has it, where the reader of a text tells this place.
 fn column_in(text: &[u8], line: usize, wide: usize) -> usize {
-    let mut column = wide;
-    for (at, here) in text.split(is_newline).enumerate() {
-        if at + 1 == line {
-            column = column_of(here, wide);
-        }
+    match text.split(is_newline).nth(line.saturating_sub(1)) {
+        Some(here) => column_of(here, wide),
+        None => wide,
     }
-    column
 }
 
 /// The error of the reader of a text, with the column as the file has it.

@@ -1,6 +1,6 @@
 //! Bytes from 0x80 as characters of their own, so that any bytes are UTF-8, and back.
 ghost use Rattle.std.specs.Prelude.{◌≡◌, ◌<◌, ◌≤◌, ◌+◌, ◌*◌, ◌%◌, ◌++◌, ℕ, List, All, IfOk, OnOk};
-ghost use Rattle.ceph_dumps.specs.WideBytes.{narrow_behind, wide, wide_byte};
+ghost use Rattle.ceph_dumps.specs.WideBytes.{is_lead, narrow_behind, wide, wide_byte};
 
 use std::alloc::{AllocError, Global};
 
@@ -65,6 +65,13 @@ fn joined(lead: u8, byte: u8) -> u8
     lead % 4 * 64 + byte % 64
 }
 
+/// Whether this is the first byte of a character from 0x80 to 0xff.
+fn is_first_of_two(byte: u8) -> bool
+    ensures { result ≡ is_lead byte }
+{
+    matches!(byte, 194 | 195)
+}
+
 /// The bytes that were widened to this text.
 pub fn narrowed(alloc: Global, text: &[u8]) -> Result<Vec<u8>, AllocError>
     ensures back { IfOk result (λ found. (bytes : List ℕ) → All (λ byte. byte < 256) bytes → text.now ≡ wide bytes
@@ -81,7 +88,7 @@ pub fn narrowed(alloc: Global, text: &[u8]) -> Result<Vec<u8>, AllocError>
                 bytes.push(joined(first, *byte))?;
                 lead = None;
             }
-            None if matches!(*byte, 194 | 195) => lead = Some(*byte),
+            None if is_first_of_two(*byte) => lead = Some(*byte),
             None => bytes.push(*byte)?,
         }
     }
