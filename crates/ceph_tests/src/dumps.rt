@@ -2,8 +2,8 @@
 
 use crate::same::{Row, Sure, holds_in, same, same_rows};
 use ceph_dumps::{
-    DumpError, FragmentHeat, ListedDir, SubtreeRoot, read_cluster, read_listing, read_loads,
-    read_own_list, read_subtrees,
+    DumpError, FileSystemRanks, FragmentHeat, ListedDir, SubtreeRoot, read_cluster, read_listing,
+    read_loads, read_own_list, read_subtrees,
 };
 use std::alloc::Global;
 use std::mem;
@@ -169,12 +169,15 @@ impl<'a> Row<Root<'a>> for SubtreeRoot {
 const RANKS: &[u8] =
     b"\n{\"mdsmap\":{\"max_mds\":3,\"in\":[0,2],\"bal_rank_mask\":\"0x5\"},\"id\":1}";
 
+fn same_ranks(rt: &impl Abort, found: &FileSystemRanks) {
+    same(rt, &found.size, &3);
+    same(rt, &found.ranks.as_slice(), &[0, 2].as_slice());
+    same(rt, &found.mask.as_deref(), &Some("0x5"));
+}
+
 #[test]
 fn reads_ranks(rt: HostRuntime) {
-    let found = read_cluster(rt.alloc(), RANKS).sure(&rt);
-    same(&rt, &found.size, &3);
-    same(&rt, &found.ranks.as_slice(), &[0, 2].as_slice());
-    same(&rt, &found.mask.as_deref(), &Some("0x5"));
+    same_ranks(&rt, &read_cluster(rt.alloc(), RANKS).sure(&rt));
 }
 
 /// A listing of four directories.

@@ -84,23 +84,24 @@ fn add_entries(rt: &impl Abort, alloc: Global, all: &mut Gathering) {
     all.add_listing(&listing).sure(rt);
 }
 
-/// A path with heat, inodes, rank, and whether it is spread.
-type Seen<'a> = (&'a [u8], (u64, u64, u8, bool));
-
-const SEEN: &[Seen<'static>] = &[
-    (b"", (100, 1, 0, false)),
-    (b"/u", (100, 1, 1, true)),
-    (b"/a", (700, 1, 1, false)),
-    (b"/b", (300, 12, 0, false)),
-    (b"/a/x", (200, 1, 1, false)),
-];
+/// A path with parent, heat, inodes, rank, and whether it is spread.
+type Seen<'a> = (&'a [u8], (u32, u64, u64, u8, bool));
 
 impl<'a> Row<Seen<'a>> for Directory {
     fn is_as(&self, row: &Seen<'a>) -> bool {
-        let told = (self.heat, self.inodes, self.now.number(), self.is_spread);
+        let (heat, inodes) = (self.heat, self.inodes);
+        let told = (self.parent, heat, inodes, self.now.number(), self.is_spread);
         self.path.as_slice() == row.0 && told == row.1
     }
 }
+
+const SEEN: &[Seen<'static>] = &[
+    (b"", (0, 100, 1, 0, false)),
+    (b"/u", (0, 100, 1, 1, true)),
+    (b"/a", (0, 700, 1, 1, false)),
+    (b"/b", (0, 300, 12, 0, false)),
+    (b"/a/x", (2, 200, 1, 1, false)),
+];
 
 #[test]
 fn heat_counts_at_the_rank_with_authority(rt: HostRuntime) {
@@ -139,23 +140,17 @@ fn pinned_and_spread_heat_is_held(rt: HostRuntime) {
 /// Five directories with their heat.
 const LEAVES: &[(&[u8], u64)] = &[(b"", 1), (b"/a/c", 5), (b"/b", 3), (b"/a", 7), (b"/d", 9)];
 
-/// A path with heat, inodes and parent.
-type Left<'a> = (&'a [u8], (u64, u64, u32));
-
 /// Those that are left of them.
-const LEFT: &[Left<'static>] = &[(b"", (4, 2, 0)), (b"/a", (12, 2, 0)), (b"/d", (9, 1, 0))];
+const LEFT: &[Seen<'static>] = &[
+    (b"", (0, 4, 2, 0, false)),
+    (b"/a", (0, 12, 2, 0, false)),
+    (b"/d", (0, 9, 1, 0, false)),
+];
 
 fn leaves(rt: &impl Abort, alloc: Global) -> Vec<Directory> {
     let mut all = Gathering::new(alloc).sure(rt);
     add_loads(rt, alloc, &mut all, rank(0), LEAVES);
     all.snapshot(1, 1).sure(rt).directories
-}
-
-impl<'a> Row<Left<'a>> for Directory {
-    fn is_as(&self, row: &Left<'a>) -> bool {
-        let told = (self.heat, self.inodes, self.parent);
-        self.path.as_slice() == row.0 && told == row.1
-    }
 }
 
 #[test]
