@@ -1,25 +1,32 @@
 //! The pins that directories have of their own, as the planner of pins takes them.
-ghost use Rattle.std.specs.Prelude.{length, IfOk};
+ghost use Rattle.std.specs.Prelude.{◌≡◌, length, IfOk, Some, None, if◌then◌else◌};
+ghost use Rattle.ceph_plan.specs.Rule.{first_of};
 ghost use Rattle.ceph_report.specs.OwnPins.{AreOwnPins};
 
 use ceph_plan::OwnPins;
 use ceph_snapshot::Directory;
+use mds_types::Rank;
 use std::alloc::{AllocError, Global};
 
-/// The pins that each directory has of its own. One that is spread counts as pinned where it lies.
+/// The pin of a directory below the root that is to stay. One that is spread counts as pinned where it lies.
+fn foreign(directory: &Directory) -> Option<Rank>
+    ensures { result ≡ first_of directory.entry.now.pin
+        (if directory.entry.now.is_spread then Some directory.entry.now.now else None) }
+{
+    match directory.pin {
+        None if directory.is_spread => Some(directory.now),
+        pin => pin,
+    }
+}
+
+/// The pins that each directory has of its own. The root can't be pinned.
 pub fn own_pins(alloc: Global, directories: &[Directory]) -> Result<Vec<OwnPins>, AllocError>
     ensures { IfOk result (λ own. AreOwnPins directories.now (length directories.now) own.items) }
 {
     let mut own = Vec::with_capacity(alloc, directories.len())?;
     for (at, directory) in directories.iter().enumerate() {
-        let foreign = match directory.pin {
-            _ if at == 0 => None,
-            Some(rank) => Some(rank),
-            None if directory.is_spread => Some(directory.now),
-            None => None,
-        };
         own.push(OwnPins {
-            foreign,
+            foreign: if at == 0 { None } else { foreign(directory) },
             earlier: directory.earlier,
         })?;
     }

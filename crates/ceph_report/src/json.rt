@@ -5,6 +5,7 @@
 use crate::report::{Facts, is_told, number_at};
 use crate::writer::TextWriter;
 use ceph_plan::PinChange;
+use ceph_snapshot::Directory;
 use std::alloc::{AllocError, Global};
 
 /// Adds a path as a string.
@@ -45,20 +46,25 @@ fn push_ranks(text: &mut TextWriter, facts: &Facts) {
     }
 }
 
-/// Adds the changes of pins, in the order in which they are to be made. Where a pin is taken away its rank is -1.
-fn push_pins(text: &mut TextWriter, facts: &Facts, changes: &[PinChange]) {
+/// Adds a change of a pin. Where it is taken away its rank is -1.
+fn push_pin(text: &mut TextWriter, directories: &[Directory], change: PinChange) {
+    text.text("\n  {\"path\":");
+    match directories.get(change.row as usize) {
+        Some(directory) => push_string(text, directory.path.as_slice()),
+        None => text.text("\"\""),
+    }
+    match change.pin {
+        Some(rank) => text.number(",\"rank\":", u64::from(rank.number())),
+        None => text.text(",\"rank\":-1"),
+    }
+    text.character('}');
+}
+
+/// Adds the changes of pins, in the order in which they are to be made.
+fn push_pins(text: &mut TextWriter, directories: &[Directory], changes: &[PinChange]) {
     for (at, change) in changes.iter().enumerate() {
         text.text(comma(at));
-        text.text("\n  {\"path\":");
-        match facts.directories.get(change.row as usize) {
-            Some(directory) => push_string(text, directory.path.as_slice()),
-            None => text.text("\"\""),
-        }
-        match change.pin {
-            Some(rank) => text.number(",\"rank\":", u64::from(rank.number())),
-            None => text.text(",\"rank\":-1"),
-        }
-        text.character('}');
+        push_pin(text, directories, *change);
     }
 }
 
@@ -89,7 +95,7 @@ pub fn make_json(
     text.text("],\n\"rank_of_part\":[");
     push_parts(&mut text, facts);
     text.text("],\n\"pins\":[");
-    push_pins(&mut text, facts, changes);
+    push_pins(&mut text, facts.directories, changes);
     text.text("]}\n");
     text.finish()
 }

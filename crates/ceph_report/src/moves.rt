@@ -194,24 +194,25 @@ struct Amount {
 }
 
 impl Amount {
-    /// Adds what a directory has.
-    fn add(&mut self, directory: &Directory) {
-        self.inodes = self.inodes.saturating_add(directory.inodes);
-        self.heat = self.heat.saturating_add(directory.heat);
+    /// Adds as much.
+    fn add(&mut self, more: Amount) {
+        self.inodes = self.inodes.saturating_add(more.inodes);
+        self.heat = self.heat.saturating_add(more.heat);
     }
 }
 
-/// The directory at a place, if it goes to another rank.
-fn leaving_at<'a>(
-    directories: &'a [Directory],
+/// What the directory at a place has, if it goes to another rank.
+fn leaving_at(
+    directories: &[Directory],
     holds: &[Held],
     rows: &[PinRow],
     at: usize,
-) -> Option<&'a Directory> {
+) -> Option<Amount> {
     let directory = directories.get(at)?;
     let (hold, row) = (holds.get(at)?, rows.get(at)?);
     if is_leaving(directory.now, *hold, row.target) {
-        Some(directory)
+        let (inodes, heat) = (directory.inodes, directory.heat);
+        Some(Amount { inodes, heat })
     } else {
         None
     }
@@ -229,9 +230,9 @@ fn brought(
     let nothing = Amount { inodes: 0, heat: 0 };
     let mut brought = vec![in alloc; nothing; rows.len()]?;
     for (at, holder) in holders.iter().enumerate() {
-        if let Some(directory) = leaving_at(directories, holds, rows, at) {
+        if let Some(leaving) = leaving_at(directories, holds, rows, at) {
             if let Some(sum) = brought.get_mut(*holder) {
-                sum.add(directory);
+                sum.add(leaving);
             }
         }
     }

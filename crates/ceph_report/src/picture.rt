@@ -67,8 +67,8 @@ fn add_below(places: &mut [Place], at: usize, parent: usize) {
     }
 }
 
-/// The heat and the inodes at and below each directory.
-fn sums_below(alloc: Global, directories: &[Directory]) -> Result<Vec<Place>, AllocError> {
+/// Where nothing is yet, with what each directory has itself.
+fn unplaced(alloc: Global, directories: &[Directory]) -> Result<Vec<Place>, AllocError> {
     let mut places = Vec::with_capacity(alloc, directories.len())?;
     for directory in directories {
         places.push(Place {
@@ -82,12 +82,14 @@ fn sums_below(alloc: Global, directories: &[Directory]) -> Result<Vec<Place>, Al
             rest: NO_REST,
         })?;
     }
-    for (at, directory) in directories.iter().enumerate().rev() {
-        if at > 0 {
-            add_below(places.as_mut_slice(), at, directory.parent as usize);
-        }
-    }
     Ok(places)
+}
+
+/// Adds to each directory the heat and the inodes below it.
+fn add_all_below(places: &mut [Place], directories: &[Directory]) {
+    for at in (1..directories.len()).rev() {
+        add_below(places, at, directories[at].parent as usize);
+    }
 }
 
 /// The part of the width that a heat has of all.
@@ -132,26 +134,41 @@ fn put(places: &mut [Place], at: usize, parent: usize, all: u64) {
     }
 }
 
+/// The heat of all directories, which is at and below the root.
+fn all_heat(places: &[Place]) -> u64 {
+    match places.first() {
+        Some(root) => root.heat,
+        None => 0,
+    }
+}
+
+/// Puts the box of each directory below that of its parent.
+fn put_all(places: &mut [Place], directories: &[Directory]) {
+    let all = all_heat(places);
+    for at in 1..directories.len() {
+        put(places, at, directories[at].parent as usize, all);
+    }
+}
+
 /// Where the box of each directory is.
 fn places_of(alloc: Global, directories: &[Directory]) -> Result<Vec<Place>, AllocError> {
-    let mut places = sums_below(alloc, directories)?;
-    let mut all = 0;
+    let mut places = unplaced(alloc, directories)?;
+    add_all_below(places.as_mut_slice(), directories);
     if let Some(root) = places.as_mut_slice().first_mut() {
-        all = root.heat;
         root.width = WIDTH;
     }
-    for (at, directory) in directories.iter().enumerate().skip(1) {
-        put(places.as_mut_slice(), at, directory.parent as usize, all);
-    }
+    put_all(places.as_mut_slice(), directories);
     Ok(places)
 }
 
 /// The last name of a path.
 fn name_of(path: &[u8]) -> &[u8] {
-    match path.iter().rposition(|byte| *byte == b'/') {
-        Some(slash) => path.get(slash + 1..).unwrap_or(path),
-        None => path,
+    for slash in (0..path.len()).rev() {
+        if path[slash] == b'/' {
+            return &path[slash + 1..];
+        }
     }
+    path
 }
 
 /// Adds text as text of XML.
@@ -208,7 +225,7 @@ fn push_title(
     text: &mut TextWriter,
     alloc: Global,
     directory: &Directory,
-    place: &Place,
+    place: Place,
     rank: Rank,
 ) {
     text.text("<g><title>");
@@ -226,7 +243,7 @@ fn push_box(
     text: &mut TextWriter,
     alloc: Global,
     path: &[u8],
-    place: &Place,
+    place: Place,
     rank: Rank,
     is_cut: bool,
 ) {
@@ -246,7 +263,7 @@ fn push_box(
 
 /// Adds the box that the children of a directory have together that have none of their own, if that is wide enough, and
 /// how many they are, if the words fit into it.
-fn push_rest(text: &mut TextWriter, place: &Place, all: u64) {
+fn push_rest(text: &mut TextWriter, place: Place, all: u64) {
     let width = width_of(place.rest.heat, all);
     if width < LEAST_WIDTH {
         return;
@@ -310,7 +327,7 @@ fn push_directory(
     directories: &[Directory],
     ranks: &[Rank],
     at: usize,
-    place: &Place,
+    place: Place,
 ) {
     if let (Some(directory), Some(rank)) = (directories.get(at), ranks.get(at)) {
         let is_cut = is_cut(ranks, directory.parent as usize, *rank);
@@ -328,14 +345,11 @@ pub fn make_picture(
     let places = places_of(alloc, directories)?;
     let mut text = TextWriter::new(alloc);
     push_head(&mut text, levels(places.as_slice()));
-    let mut all = 0;
-    if let Some(root) = places.first() {
-        all = root.heat;
-    }
+    let all = all_heat(places.as_slice());
     for (at, place) in places.iter().enumerate() {
         if place.width >= LEAST_WIDTH {
-            push_directory(&mut text, alloc, directories, ranks, at, place);
-            push_rest(&mut text, place, all);
+            push_directory(&mut text, alloc, directories, ranks, at, *place);
+            push_rest(&mut text, *place, all);
         }
     }
     text.text("</svg>\n");

@@ -35,11 +35,10 @@ const FOOT: &str = "[ -n \"$only_print\" ] || \
 fn place_of(alloc: Global, mount: &[u8], path: &[u8]) -> Result<Vec<u8>, AllocError> {
     let mut whole = Vec::from_slice(alloc, mount)?;
     whole.extend_from_slice(path)?;
-    if whole.iter().all(|byte| *byte > 0) {
-        quoted(alloc, whole.as_slice())
-    } else {
-        Ok(Vec::new(alloc))
+    if whole.as_slice().contains(&0) {
+        return Ok(Vec::new(alloc));
     }
+    quoted(alloc, whole.as_slice())
 }
 
 /// Adds the line of a change, of the directory at this place.

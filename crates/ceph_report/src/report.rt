@@ -117,7 +117,7 @@ fn push_result(text: &mut TextWriter, facts: &Facts) {
 }
 
 /// Adds the line of a move.
-fn push_move(text: &mut TextWriter, directories: &[Directory], one: &Move) {
+fn push_move(text: &mut TextWriter, directories: &[Directory], one: Move) {
     text.columns(one.inodes, 8);
     push_heat(text, "", one.heat);
     text.columns(u64::from(one.to.number()), 4);
@@ -134,8 +134,8 @@ fn push_moves(text: &mut TextWriter, facts: &Facts) {
         return;
     }
     text.text("\n  inodes        heat  to  directory that is pinned\n");
-    for one in facts.moves.iter().take(MOVES_TOLD) {
-        push_move(text, facts.directories, one);
+    for one in facts.moves.get(..MOVES_TOLD).unwrap_or(facts.moves) {
+        push_move(text, facts.directories, *one);
     }
     let more = facts.moves.len().saturating_sub(MOVES_TOLD);
     if more > 0 {

@@ -11,7 +11,6 @@ use ceph_snapshot::{Gathering, Snapshot};
 use mds_types::Rank;
 use mds_types::limits::RANK_LIMIT;
 use std::alloc::Global;
-use std::fmt::Display;
 use std::io::ErrorKind;
 use std::rt::{Clock, Files};
 use std::{fs, io};
@@ -33,15 +32,13 @@ pub struct Collected {
 }
 
 /// What a file says, if it is there.
-fn read_if_there<R, P, T, F>(rt: &R, file: &P, read: F) -> Result<Option<T>, Error>
+fn read_if_there<R, T, F>(rt: &R, path: &str, read: F) -> Result<Option<T>, Error>
 where
     R: Files + AllocGlobal,
-    P: Display,
     F: FnOnce(Global, &[u8]) -> Result<T, DumpError> + Copy,
     requires { F.IsAlwaysCallable read }
 {
-    let path = format!(in rt.alloc(); "{file}")?;
-    let bytes: io::Result<Vec<u8>> = fs::read(rt, path.as_str());
+    let bytes: io::Result<Vec<u8>> = fs::read(rt, path);
     match bytes {
         Ok(bytes) => {
             let found = read(rt.alloc(), bytes.as_slice()).map(Some);
@@ -53,28 +50,16 @@ where
 }
 
 /// What a file says that has to be there.
-fn read_file<R, P, T, F>(rt: &R, file: &P, read: F) -> Result<T, Error>
+fn read_file<R, T, F>(rt: &R, path: &str, read: F) -> Result<T, Error>
 where
     R: Files + AllocGlobal,
-    P: Display,
     F: FnOnce(Global, &[u8]) -> Result<T, DumpError> + Copy,
     requires { F.IsAlwaysCallable read }
 {
-    match read_if_there(rt, file, read)? {
+    match read_if_there(rt, path, read)? {
         Some(found) => Ok(found),
-        None => bail!("{file}: there is no such file"),
+        None => bail!("{path}: there is no such file"),
     }
-}
-
-/// How many samples there are of a rank.
-fn samples_of<R: Files + AllocGlobal>(rt: &R, folder: &str, rank: u32) -> Result<u64, Error> {
-    for sample in 1..=SAMPLE_LIMIT {
-        let path = format!(in rt.alloc(); "{folder}/loads.{rank}.{sample}.json")?;
-        if !fs::exists(rt, path.as_str())? {
-            return Ok(sample - 1);
-        }
-    }
-    Ok(SAMPLE_LIMIT)
 }
 
 /// Adds the roots that a rank has.
@@ -84,8 +69,8 @@ fn add_subtrees<R: Files + AllocGlobal>(
     folder: &str,
     rank: Rank,
 ) -> Result<(), Error> {
-    let file = format_args!("{folder}/subtrees.{}.json", rank.number());
-    let roots = read_file(rt, &file, read_subtrees)?;
+    let path = format!(in rt.alloc(); "{folder}/subtrees.{}.json", rank.number())?;
+    let roots = read_file(rt, path.as_str(), read_subtrees)?;
     let added = gathering.add_subtrees(rank, roots.as_slice());
     added.map_err(Error::from)
 }
@@ -99,9 +84,9 @@ fn add_loads<R: Files + AllocGlobal + Clock + Eprint>(
     rank: Rank,
     sample: u64,
 ) -> Result<(), Error> {
-    let file = format_args!("{folder}/loads.{}.{sample}.json", rank.number());
-    progress.tell(rt, &file);
-    let loads = read_file(rt, &file, read_loads)?;
+    let path = format!(in rt.alloc(); "{folder}/loads.{}.{sample}.json", rank.number())?;
+    progress.tell(rt, path.as_str());
+    let loads = read_file(rt, path.as_str(), read_loads)?;
     let added = gathering.add_loads(rank, loads.as_slice());
     added.map_err(Error::from)
 }
@@ -128,7 +113,8 @@ fn add_listing<R: Files + AllocGlobal>(
     gathering: &mut Gathering,
     folder: &str,
 ) -> Result<(), Error> {
-    match read_if_there(rt, &format_args!("{folder}/dirs"), read_listing)? {
+    let path = format!(in rt.alloc(); "{folder}/dirs")?;
+    match read_if_there(rt, path.as_str(), read_listing)? {
         Some(listing) => {
             let added = gathering.add_listing(listing.as_slice());
             added.map_err(Error::from)
@@ -143,7 +129,7 @@ fn add_own<R: Files + AllocGlobal>(
     gathering: &mut Gathering,
     path: &str,
 ) -> Result<(), Error> {
-    let paths = read_file(rt, &path, read_own_list)?;
+    let paths = read_file(rt, path, read_own_list)?;
     for path in paths.as_slice() {
         gathering.add_own(path.as_slice())?;
     }
@@ -152,11 +138,11 @@ fn add_own<R: Files + AllocGlobal>(
 
 /// The ranks of the file system, and how many it is to have.
 fn ranks_of<R: Files + AllocGlobal>(rt: &R, folder: &str) -> Result<(FileSystemRanks, u8), Error> {
-    let file = format_args!("{folder}/fs.json");
-    let cluster = read_file(rt, &file, read_cluster)?;
+    let path = format!(in rt.alloc(); "{folder}/fs.json")?;
+    let cluster = read_file(rt, path.as_str(), read_cluster)?;
     match u8::try_from(cluster.size) {
         Ok(size) if size <= RANK_LIMIT => Ok((cluster, size)),
-        _ => bail!("{file}: more than 64 ranks"),
+        _ => bail!("{path}: more than 64 ranks"),
     }
 }
 
@@ -178,16 +164,19 @@ fn add_ranks<R: Files + AllocGlobal + Clock + Eprint>(
     Ok(())
 }
 
-/// How many samples the first of these ranks gave. It has to have one.
+/// How many samples the first of these ranks gave: one at least, as a first one that isn't there is refused when it is
+/// read.
 fn sample_count<R: Files + AllocGlobal>(rt: &R, folder: &str, ranks: &[u32]) -> Result<u64, Error>
     ensures { IfOk result (λ samples. 0 < samples) }
 {
     let first = ranks.first().copied().unwrap_or(0);
-    let samples = samples_of(rt, folder, first)?;
-    if samples == 0 {
-        bail!("{folder}/loads.{first}.1.json: there is no such file");
+    for sample in 1..SAMPLE_LIMIT {
+        let path = format!(in rt.alloc(); "{folder}/loads.{first}.{}.json", sample + 1)?;
+        if !fs::exists(rt, path.as_str())? {
+            return Ok(sample);
+        }
     }
-    Ok(samples)
+    Ok(SAMPLE_LIMIT)
 }
 
 /// Adds the dumps of these ranks, what was listed over a mount, and which pins are those of an earlier plan.

@@ -289,8 +289,8 @@ pub fn carry_out<R: Files + AllocGlobal + Clock + Eprint>(
 ) -> Result<String, Error> {
     let mut progress = Progress::begin(rt);
     let collected = read_collected(rt, &mut progress, settings.folder, settings.own)?;
-    progress.tell(rt, &"planning");
+    progress.tell(rt, "planning");
     let outcome = planned(rt.alloc(), settings, collected)?;
-    progress.tell(rt, &"writing");
+    progress.tell(rt, "writing");
     written(rt, settings, &outcome)
 }

@@ -1,6 +1,5 @@
 //! Lines on standard error that say what a long run is at.
 
-use std::fmt::Display;
 use std::rt::Clock;
 use std::time::{Duration, Instant};
 
@@ -19,7 +18,7 @@ impl Progress {
     }
 
     /// Names the step that begins, if a second has gone since the last line. A clock that fails is silent.
-    pub fn tell<R: Clock + Eprint, S: Display>(&mut self, rt: &R, step: &S) {
+    pub fn tell<R: Clock + Eprint>(&mut self, rt: &R, step: &str) {
         let Some(since) = self.since else {
             return;
         };

@@ -82,8 +82,6 @@ impl Refused {
 
 /// What an option takes.
 enum Takes {
-    /// Nothing: it is there or not.
-    Nothing,
     /// A text.
     Text,
     /// A text that may begin with a hyphen.
@@ -94,17 +92,17 @@ enum Takes {
     Percent,
 }
 
-/// An option.
+/// An option that takes a value.
 struct PlanOption {
     name: &'static str,
     takes: Takes,
-    /// How the help calls what it takes.
+    /// How the help calls the value.
     value: &'static str,
     help: &'static str,
 }
 
-/// The options, in the order of the help.
-const OPTIONS: [PlanOption; 10] = [
+/// The options that take a value, in the order of the help.
+const OPTIONS: &[PlanOption] = &[
     PlanOption {
         name: "parts",
         takes: Takes::TextOr("auto"),
@@ -159,29 +157,28 @@ const OPTIONS: [PlanOption; 10] = [
         value: "FILE",
         help: "Write the directories as a script of mdbal",
     },
-    PlanOption {
-        name: "json",
-        takes: Takes::Nothing,
-        value: "",
-        help: "Print the plan as JSON in place of the report",
-    },
 ];
 
-/// An option, as `clap` knows it.
-fn arg_of<'a>(alloc: Global, option: &PlanOption) -> Arg<'a> {
+/// An option with a value, as `clap` knows it.
+fn option_arg<'a>(alloc: Global, option: &PlanOption) -> Arg<'a> {
     let arg = Arg::new(alloc, option.name)
         .long(option.name)
+        .value_name(option.value)
         .help(option.help);
     match option.takes {
-        Takes::Nothing => arg.action(ArgAction::SetTrue),
-        Takes::Text => arg.value_name(option.value),
-        Takes::Mask => arg.value_name(option.value).allow_hyphen_values(true),
-        Takes::TextOr(default) => arg.value_name(option.value).default_value(default),
-        Takes::Percent => arg
-            .value_name(option.value)
-            .value_parser(value_parser!(u8))
-            .default_value("5"),
+        Takes::Text => arg,
+        Takes::Mask => arg.allow_hyphen_values(true),
+        Takes::TextOr(default) => arg.default_value(default),
+        Takes::Percent => arg.value_parser(value_parser!(u8)).default_value("5"),
     }
+}
+
+/// The option without a value, as `clap` knows it.
+fn json_arg<'a>(alloc: Global) -> Arg<'a> {
+    Arg::new(alloc, "json")
+        .long("json")
+        .action(ArgAction::SetTrue)
+        .help("Print the plan as JSON in place of the report")
 }
 
 /// The folder, as `clap` knows it.
@@ -192,19 +189,21 @@ fn folder_arg<'a>(alloc: Global) -> Arg<'a> {
         .help("What ceph/collect wrote")
 }
 
+/// The program's command without its options, as `clap` knows it.
+fn plain_command<'a>(alloc: Global) -> Command<'a> {
+    Command::new(alloc, "mdbal_ceph").version(VERSION).about(
+        "Says which export pins balance a live CephFS. Status 0: planned; 1: a file is missing or broken, or there \
+         is no plan; 2: the command line is refused",
+    )
+}
+
 /// The program's command, as `clap` knows it.
 fn command<'a>(alloc: Global) -> Result<Command<'a>, AllocError> {
-    let mut command = Command::new(alloc, "mdbal_ceph")
-        .version(VERSION)
-        .about(
-            "Says which export pins balance a live CephFS. Status 0: planned; 1: a file is missing or broken, or \
-             there is no plan; 2: the command line is refused",
-        )
-        .arg(folder_arg(alloc))?;
-    for option in &OPTIONS {
-        command = command.arg(arg_of(alloc, option))?;
+    let mut command = plain_command(alloc).arg(folder_arg(alloc))?;
+    for option in OPTIONS {
+        command = command.arg(option_arg(alloc, option))?;
     }
-    Ok(command)
+    command.arg(json_arg(alloc))
 }
 
 /// The number of parts that a text names.
