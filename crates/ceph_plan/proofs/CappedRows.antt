@@ -1,9 +1,13 @@
 -- A division of rows that are capped is one of the rows.
-use Rattle.std.proofs.Common.{◌≡◌, ◌∙◌, ◌<◌, ℕ, zero, suc, List, [], ◌∷◌, length, refl, sym, subst, inl, inr, ⊎_elim}
+use Rattle.std.proofs.Common.{◌≡◌, ◌∙◌, ◌<◌, ◌≤◌, ℕ, zero, suc, List, [], ◌∷◌, length, min, slice_index, ap, refl, sym, subst, inl, inr, ⊎_elim, arith}
 use Rattle.mds_types.specs.declared.problem.ProblemRow.{ProblemRow}
 use Rattle.mds_types.specs.Connected.{IsChain}
 use Rattle.mds_types.specs.Division.{InPart, IsDivision, IsEdge}
-use Rattle.mds_types.specs.Problem.{parent_at}
+use Rattle.mds_types.specs.Problem.{ProblemData, parent_at}
+use Rattle.mds_types.specs.RankSet.{rank_count}
+use Rattle.minmax_search.specs.Found.{IsFound}
+use Rattle.minmax_search.specs.declared.found.BestCut.{BestCut}
+use Rattle.std.proofs.Math.Nat.{le_trans}
 use Rattle.std.proofs.lemmas.List.{length-map}
 use Rattle.ceph_plan.specs.Plans.{capped_row, capped_rows}
 
@@ -51,3 +55,31 @@ division-capped cap rows k label division =
     let same : HaveSameParents rows (capped_rows cap rows) (length rows) =
     record { size = length-map rows (capped_row cap); parents = λ i l. parent-capped cap rows i } in
     division-same rows (capped_rows cap rows) k label same division
+
+-- what is found of the problem of these rows
+pub found-capped : (rows capped : List ProblemRow) (cap parts divided : ℕ) (problem : ProblemData) (best : BestCut)
+    → problem ≡ record { rows = capped; ranks = divided } → capped ≡ capped_rows cap rows → rank_count divided ≡ min parts 64
+    → IsFound problem.rows (rank_count problem.ranks) best → IsFound (capped_rows cap rows) (min parts 64) best
+found-capped rows capped cap parts divided problem best is rows_are parts_are found =
+    subst (λ (n : ℕ). IsFound (capped_rows cap rows) n best) (ap (λ (one : ProblemData). rank_count one.ranks) is ∙ parts_are)
+    (subst (λ (those : List ProblemRow). IsFound those (rank_count problem.ranks) best) (ap (λ (one : ProblemData). one.rows) is ∙ rows_are) found)
+
+at_most-min : (n most : ℕ) → min n most ≤ most
+at_most-min n most = omega arith
+
+-- each row has one of these parts
+pub record AreParts (rows : List ProblemRow) (part : List ℕ) (count : ℕ) : Type 0 where
+  pub few : count ≤ 64
+  pub size : length part ≡ length rows
+  pub below : (i : ℕ) → i < length rows → slice_index part i < count
+
+pub parts-found : (rows : List ProblemRow) (cap parts : ℕ) (best : BestCut) (part : List ℕ) → part ≡ best.cut.part.items
+    → IsFound (capped_rows cap rows) (min parts 64) best → AreParts rows part best.cut.count
+parts-found rows cap parts best part is found =
+    let same : length (capped_rows cap rows) ≡ length rows = length-map rows (capped_row cap) in
+    subst (λ (those : List ℕ). AreParts rows those best.cut.count) (sym is)
+    (record {
+      few = le_trans found.few (at_most-min parts 64);
+      size = found.cut.size ∙ same;
+      below = λ i lt. found.cut.parts.division.below i (subst (λ (n : ℕ). i < n) (sym same) lt);
+    })

@@ -1,12 +1,12 @@
 -- The contract's clauses, of the pins that the holds give; and one more hold.
-use Rattle.std.proofs.Common.{◌≡◌, ◌≢◌, ℕ, ◌+◌, ◌<◌, ◌≤◌, List, [], ◌∷◌, ◌++◌, length, true, false, Option, None, refl, ap, sym, ◌∙◌, arith, ⊎_elim, subst}
+use Rattle.std.proofs.Common.{◌≡◌, ◌≢◌, ℕ, ◌+◌, ◌<◌, ◌≤◌, List, [], ◌∷◌, ◌++◌, get_or, length, true, false, Option, None, refl, ap, sym, ◌∙◌, arith, ⊎_elim, subst}
 use Rattle.std.proofs.lemmas.Bool.{cases_eq, cases_lt, cases_Bool}
-use Rattle.std.proofs.lemmas.List.{get_or_append_left, get_or_push}
+use Rattle.std.proofs.lemmas.List.{get_or_append_left, get_or_push, get_or_read}
 use Rattle.ceph_plan.specs.declared.row.PinRow.{PinRow}
 use Rattle.ceph_plan.specs.declared.row.Pin.{Pin}
 use Rattle.ceph_plan.specs.declared.hold.Hold.{Hold}
 use Rattle.ceph_plan.specs.declared.hold.Hold.TheVariants.{Free}
-use Rattle.ceph_plan.specs.Rule.{AreRows, IsAt, IsChoice, IsNearest, IsOurs, IsOursPinned, IsRealized, IsSettled, climb, foreign_at, own_pin, parent_at, pin_at, pin_index, row_at, row_index, target_at, without}
+use Rattle.ceph_plan.specs.Rule.{AreRows, IsAt, IsChoice, IsNearest, IsOurs, IsOursPinned, IsRealized, IsSettled, climb, foreign_at, no_row, own_pin, parent_at, pin_at, pin_index, row_at, row_index, target_at, without}
 use Rattle.ceph_plan.specs.Holds.{AreHolds, hold_at, hold_of, is_own, pins_below}
 use Rattle.ceph_plan.proofs.Climbs.{climb-le}
 use Rattle.ceph_plan.proofs.PinList.{each_pin, falling, pin_at-below, pin_at-past, row-below}
@@ -98,3 +98,9 @@ hold_more rows holds h i size are so_far l root below =
           before j less ∙ (so_far.below j some less ∙ ap (λ (x : Hold). hold_of (row_at rows j) (row_at rows (parent_at rows j)) x) (sym (before (parent_at rows j) (omega (arith, up, less))))))
           (cases_eq i j);
     }
+
+-- the parent of a row that is read
+pub parent-before : (rows : List PinRow) (row : PinRow) (i : ℕ) → AreRows rows → i ≢ 0 → i < length rows → row ≡ get_or rows i row → row.parent < i
+parent-before rows row i are later inside is =
+    let same : row ≡ row_at rows i = get_or_read rows i row inside is no_row in
+    subst (λ (one : PinRow). one.parent < i) (sym same) (are.above i (omega (arith, later)) inside)

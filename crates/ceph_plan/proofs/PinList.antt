@@ -1,5 +1,6 @@
 -- The list of pins, as a look-up and by its places.
-use Rattle.std.proofs.Common.{◌≡◌, ◌≢◌, ℕ, zero, suc, ◌<◌, ◌≤◌, List, [], ◌∷◌, ◌++◌, length, Bool, true, false, cond, eqb, Some, None, refl, ◌∙◌, arith, ⊎_elim}
+use Rattle.std.proofs.Common.{◌≡◌, ◌≢◌, ℕ, zero, suc, ◌<◌, ◌≤◌, List, [], ◌∷◌, ◌++◌, length, Bool, true, false, cond, eqb, Some, None, refl, ap, sym, subst, ◌-◌, ◌∙◌, arith, ⊎_elim}
+use Rattle.std.proofs.lemmas.List.{append_assoc}
 use Rattle.std.proofs.lemmas.Bool.{cases_eq, eq-eqb, ne_eqb}
 use Rattle.ceph_plan.specs.declared.row.PinRow.{PinRow}
 use Rattle.ceph_plan.specs.declared.row.Pin.{Pin}
@@ -64,3 +65,21 @@ falling rows holds zero p q less l = let none : ⊥ = omega (arith, l) in absurd
 falling rows holds (suc n) p q less l =
     fall_step (is_own (hold_at holds n)) (record { row = n; rank = target_at rows n }) (pins_below rows holds n)
     (row-below rows holds n) (falling rows holds n) p q less l
+
+pub before-inside : (i n : ℕ) → 0 < i → i ≤ n → i - 1 < n
+before-inside i n some inside = omega arith
+
+pins-split : (rows : List PinRow) (holds : List Hold) (i : ℕ) → 0 < i → pins_below rows holds i ≡ cond (is_own (hold_at holds (i - 1))) (record { row = i - 1; rank = target_at rows (i - 1) } ∷ []) [] ++ pins_below rows holds (i - 1)
+pins-split rows holds i l =
+    let more : i ≡ suc (i - 1) = omega (arith, l) in
+    subst (λ (n : ℕ). pins_below rows holds n ≡ cond (is_own (hold_at holds (i - 1))) (record { row = i - 1; rank = target_at rows (i - 1) } ∷ []) [] ++ pins_below rows holds (i - 1)) (sym more) refl
+
+-- a row that has a pin, and one that has none
+pub with_pin : (rows : List PinRow) (holds : List Hold) (done all : List Pin) (i : ℕ) → 0 < i → done ++ pins_below rows holds i ≡ all → is_own (hold_at holds (i - 1)) ≡ true → (done ++ record { row = i - 1; rank = target_at rows (i - 1) } ∷ []) ++ pins_below rows holds (i - 1) ≡ all
+with_pin rows holds done all i l is own =
+    append_assoc done (record { row = i - 1; rank = target_at rows (i - 1) } ∷ []) (pins_below rows holds (i - 1))
+    ∙ (ap (λ (ps : List Pin). done ++ ps) (sym (pins-split rows holds i l ∙ (rw own refl))) ∙ is)
+
+pub with_no_pin : (rows : List PinRow) (holds : List Hold) (done all : List Pin) (i : ℕ) → 0 < i → done ++ pins_below rows holds i ≡ all → is_own (hold_at holds (i - 1)) ≡ false → done ++ pins_below rows holds (i - 1) ≡ all
+with_no_pin rows holds done all i l is own =
+    ap (λ (ps : List Pin). done ++ ps) (sym (pins-split rows holds i l ∙ (rw own refl))) ∙ is

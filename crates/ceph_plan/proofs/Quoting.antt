@@ -1,8 +1,8 @@
 -- Reading gives back what was quoted.
-use Rattle.std.proofs.Common.{◌≡◌, ◌≢◌, ◌∙◌, ◌<◌, ℕ, true, false, cond, eqb, List, [], ◌∷◌, ◌++◌, All, Some, refl, ap, sym, arith, ⊎_elim}
+use Rattle.std.proofs.Common.{◌≡◌, ◌≢◌, ◌∙◌, ◌<◌, ℕ, true, false, cond, eqb, List, [], ◌∷◌, ◌++◌, ◌+◌, All, Some, get_or, length, take, refl, ap, sym, arith, ⊎_elim}
 use Rattle.std.specs.List.{flat_map}
-use Rattle.std.proofs.lemmas.Bool.{cases_Bool, eqb-true, ne_eqb, both_ways}
-use Rattle.std.proofs.lemmas.List.{append_assoc}
+use Rattle.std.proofs.lemmas.Bool.{cases_Bool, eq-eqb, eqb-true, ne_eqb, both_ways}
+use Rattle.std.proofs.lemmas.List.{append_assoc, flat_map_more, take_more}
 use Rattle.std.proofs.lemmas.List.Elements.{All-head, All-tail}
 use Rattle.ceph_plan.specs.Words.{Plain, Quoted, is_end, ends_word, read_word, with_byte, IsWordFor}
 
@@ -48,3 +48,18 @@ word-for bytes word some is rest e =
     ap (λ (w : List ℕ). read_word Plain (w ++ rest)) is
     ∙ (ap (λ (text : List ℕ). read_word Quoted text) (append_assoc (flat_map escaped bytes) (39 ∷ []) rest)
     ∙ reads_all bytes rest some e)
+
+-- one more byte is quoted
+pub quoted-more : (bytes before after : List ℕ) (i : ℕ) → i < length bytes → before ≡ 39 ∷ flat_map escaped (take i bytes)
+    → after ≡ before ++ escaped (get_or bytes i 0) → after ≡ 39 ∷ flat_map escaped (take (i + 1) bytes)
+quoted-more bytes before after i inside before_is after_is =
+    after_is
+    ∙ (ap (λ (word : List ℕ). word ++ escaped (get_or bytes i 0)) before_is
+    ∙ (flat_map_more escaped (39 ∷ []) (take i bytes) (get_or bytes i 0)
+    ∙ ap (λ (those : List ℕ). 39 ∷ flat_map escaped those) (sym (take_more bytes i 0 inside))))
+
+pub escaped-quote : (c : ℕ) → c ≡ 39 → 39 ∷ 92 ∷ 39 ∷ 39 ∷ [] ≡ escaped c
+escaped-quote c is = rw (eq-eqb c 39 is) refl
+
+pub escaped-other : (c : ℕ) → c ≢ 39 → c ∷ [] ≡ escaped c
+escaped-other c other = rw (ne_eqb c 39 other) refl

@@ -159,6 +159,11 @@ pub with_no_set : (rows : List PinRow) (holds : List Hold) (done all : List PinC
 with_no_set rows holds done all i l is set =
     ap (λ (cs : List PinChange). done ++ cs) (sym (sets-split rows holds i l ∙ (rw set refl))) ∙ is
 
+pub with_set : (rows : List PinRow) (holds : List Hold) (done all : List PinChange) (i : ℕ) → 0 < i → done ++ sets_below rows holds i ≡ all → is_set (row_at rows (i - 1)) (hold_at holds (i - 1)) ≡ true → (done ++ record { row = i - 1; pin = Some (target_at rows (i - 1)) } ∷ []) ++ sets_below rows holds (i - 1) ≡ all
+with_set rows holds done all i l is set =
+    append_assoc done (record { row = i - 1; pin = Some (target_at rows (i - 1)) } ∷ []) (sets_below rows holds (i - 1))
+    ∙ (ap (λ (cs : List PinChange). done ++ cs) (sym (sets-split rows holds i l ∙ (rw set refl))) ∙ is)
+
 drops-split : (rows : List PinRow) (holds : List Hold) (n m i : ℕ) → i < n → m ≡ i → drops_from rows holds (n - i) m ≡ cond (is_dropped (row_at rows m) (hold_at holds m)) (record { row = m; pin = None } ∷ []) [] ++ drops_from rows holds (n - (i + 1)) (m + 1)
 drops-split rows holds n m i l e =
     let more : n - i ≡ suc (n - (i + 1)) = omega (arith, l) in

@@ -1,7 +1,9 @@
 -- What is weighed, with one more number of parts.
 use Rattle.std.proofs.Common.{◌≡◌, ◌∙◌, ◌<◌, ◌≤◌, ◌+◌, ◌%◌, ◌==◌, ◌⊎◌, ◌||◌, ◌≢◌, ℕ, zero, suc, Bool, true, false, List, [], ◌∷◌, ◌++◌, length, Option, Some, None, inl, inr, ⊎_elim, ap, sym, subst, refl, arith}
-use Rattle.std.proofs.lemmas.Bool.{cases_Bool, cases_eq, eq-eqb}
-use Rattle.std.proofs.lemmas.Option.{slice_get_within}
+use Rattle.std.proofs.Math.Nat.{le-add_right, le_of_eq, le_refl, le_trans}
+use Rattle.std.proofs.Math.Numerals.{lt-add-one}
+use Rattle.std.proofs.lemmas.Bool.{both_ways, cases_Bool, cases_eq, eq-eqb}
+use Rattle.std.proofs.lemmas.Option.{none-some, slice_get_within}
 use Rattle.std.specs.List.{slice_get}
 use Rattle.std.specs.Option.{option_map_or}
 use Rattle.mds_types.specs.declared.problem.ProblemRow.{ProblemRow}
@@ -11,8 +13,14 @@ use Rattle.ceph_plan.specs.declared.plan.Size.{Size}
 use Rattle.ceph_plan.specs.Choice.{AreWeighed, HasHeavyPlan, HasPlanOf, fair_share, size_of, total_of_rows}
 use Rattle.ceph_plan.specs.Plans.{IsPlan, IsPlanOf, no_cap}
 
+below-other : (parts n : ℕ) → parts < n + 1 → parts ≢ n → parts < n
+below-other parts n high other = omega arith
+
+positive : (k n : ℕ) → k < n → 0 < n
+positive k n inside = omega arith
+
 get_kept : {X : Type 0} (xs : List X) (x y : X) (k : ℕ) → slice_get xs k ≡ Some y → slice_get (xs ++ x ∷ []) k ≡ Some y
-get_kept [] x y k is = cc
+get_kept [] x y k is = absurd (none-some y is)
 get_kept (a ∷ xs) x y zero is = is
 get_kept (a ∷ xs) x y (suc k) is = get_kept xs x y k is
 
@@ -21,8 +29,8 @@ get_last [] x = refl
 get_last (a ∷ xs) x = get_last xs x
 
 get_either : {X : Type 0} (xs : List X) (x y : X) (k : ℕ) → slice_get (xs ++ x ∷ []) k ≡ Some y → (slice_get xs k ≡ Some y) ⊎ (x ≡ y)
-get_either [] x y zero is = inr (cc)
-get_either [] x y (suc k) is = cc
+get_either {X = X} [] x y zero is = inr (ap (λ (o : Option X). option_map_or (λ (z : X). z) o x) is)
+get_either [] x y (suc k) is = absurd (none-some y is)
 get_either (a ∷ xs) x y zero is = inl is
 get_either (a ∷ xs) x y (suc k) is = get_either xs x y k is
 
@@ -36,7 +44,7 @@ heavy_kept : (ranks : ℕ) (pinned : List ℕ) (rows : List ProblemRow) (plans :
     → HasHeavyPlan ranks pinned rows plans parts → HasHeavyPlan ranks pinned rows (plans ++ more ∷ []) next
 heavy_kept ranks pinned rows plans more parts next le has = record {
   fewer = has.fewer;
-  less = omega (arith, le, has.less);
+  less = le_trans has.less le;
   k = has.k;
   plan = has.plan;
   there = get_kept plans more has.plan has.k has.there;
@@ -48,7 +56,7 @@ pub heavy_later : (ranks : ℕ) (pinned : List ℕ) (rows : List ProblemRow) (pl
     → HasHeavyPlan ranks pinned rows plans parts → HasHeavyPlan ranks pinned rows plans next
 heavy_later ranks pinned rows plans parts next le has = record {
   fewer = has.fewer;
-  less = omega (arith, le, has.less);
+  less = le_trans has.less le;
   k = has.k;
   plan = has.plan;
   there = has.there;
@@ -62,12 +70,12 @@ pub weighed_passed : (ranks : ℕ) (pinned : List ℕ) (rows : List ProblemRow) 
 weighed_passed ranks pinned rows plans n before heavy odd = record {
   all = before.all;
   each = λ parts low high.
-      ⊎_elim (λ (same : parts ≡ n). inr (heavy_later ranks pinned rows plans n parts (omega (arith, same)) heavy))
-      (λ (other : parts ≢ n). before.each parts low (omega (arith, high, other)))
+      ⊎_elim (λ (same : parts ≡ n). inr (heavy_later ranks pinned rows plans n parts (le_of_eq (sym same)) heavy))
+      (λ (other : parts ≢ n). before.each parts low (below-other parts n high other))
       (cases_eq parts n);
   capped = λ parts low high multiple.
       ⊎_elim (λ (same : parts ≡ n). absurd (odd (sym (ap (λ (m : ℕ). m % rank_count ranks) same) ∙ multiple)))
-      (λ (other : parts ≢ n). before.capped parts low (omega (arith, high, other)) multiple)
+      (λ (other : parts ≢ n). before.capped parts low (below-other parts n high other) multiple)
       (cases_eq parts n);
 }
 
@@ -86,15 +94,15 @@ weighed_more ranks pinned rows plans n more before is each capped = record {
       ⊎_elim (λ (same : parts ≡ n). subst (λ (m : ℕ). HasPlanOf ranks pinned rows (plans ++ more ∷ []) m no_cap ⊎ HasHeavyPlan ranks pinned rows (plans ++ more ∷ []) m) (sym same) each)
       (λ (other : parts ≢ n).
       ⊎_elim (λ (has : HasPlanOf ranks pinned rows plans parts no_cap). inl (plan_kept ranks pinned rows plans more parts no_cap has))
-      (λ (has : HasHeavyPlan ranks pinned rows plans parts). inr (heavy_kept ranks pinned rows plans more parts parts (omega arith) has))
-      (before.each parts low (omega (arith, high, other))))
+      (λ (has : HasHeavyPlan ranks pinned rows plans parts). inr (heavy_kept ranks pinned rows plans more parts parts (le_refl parts) has))
+      (before.each parts low (below-other parts n high other)))
       (cases_eq parts n);
   capped = λ parts low high multiple.
       ⊎_elim (λ (same : parts ≡ n). subst (λ (m : ℕ). HasPlanOf ranks pinned rows (plans ++ more ∷ []) m no_cap ⊎ HasPlanOf ranks pinned rows (plans ++ more ∷ []) m (fair_share (total_of_rows rows) m)) (sym same) capped)
       (λ (other : parts ≢ n).
       ⊎_elim (λ (has : HasPlanOf ranks pinned rows plans parts no_cap). inl (plan_kept ranks pinned rows plans more parts no_cap has))
       (λ (has : HasPlanOf ranks pinned rows plans parts (fair_share (total_of_rows rows) parts)). inr (plan_kept ranks pinned rows plans more parts (fair_share (total_of_rows rows) parts) has))
-      (before.capped parts low (omega (arith, high, other)) multiple))
+      (before.capped parts low (below-other parts n high other) multiple))
       (cases_eq parts n);
 }
 
@@ -119,7 +127,7 @@ more-so_far ranks pinned rows plans false now n heat count size more heat_is cou
     let has : HasPlanOf ranks pinned rows (plans ++ more ∷ []) n no_cap = has_last ranks pinned rows plans more n no_cap plain in
     record {
       weighed = weighed_more ranks pinned rows plans n more before.weighed of.is (inl has) (inl has);
-      flag = λ set. record { fewer = n; less = omega arith; k = length plans; plan = more; there = get_last plans more; of = plain; heavy = sym now_is ∙ set };
+      flag = λ set. record { fewer = n; less = lt-add-one n; k = length plans; plan = more; there = get_last plans more; of = plain; heavy = sym now_is ∙ set };
     }
 more-so_far ranks pinned rows plans true now n heat count size more heat_is count_is sized of now_is before =
     let heavy : HasHeavyPlan ranks pinned rows plans n = before.flag refl in
@@ -131,34 +139,33 @@ more-so_far ranks pinned rows plans true now n heat count size more heat_is coun
     let capped : IsPlanOf ranks pinned rows n (fair_share (total_of_rows rows) n) more =
     subst (λ (m : ℕ). IsPlanOf ranks pinned rows n m more) share (subst (λ (m : ℕ). IsPlanOf ranks pinned rows m size.cap more) parts_is of) in
     let result : IsSoFar ranks pinned rows (plans ++ more ∷ []) now (n + 1) = record {
-      weighed = weighed_more ranks pinned rows plans n more before.weighed of.is (inr (heavy_kept ranks pinned rows plans more n n (omega arith) heavy))
+      weighed = weighed_more ranks pinned rows plans n more before.weighed of.is (inr (heavy_kept ranks pinned rows plans more n n (le_refl n) heavy))
           (inr (has_last ranks pinned rows plans more n (fair_share (total_of_rows rows) n) capped));
-      flag = λ set. heavy_kept ranks pinned rows plans more n (n + 1) (omega arith) heavy;
+      flag = λ set. heavy_kept ranks pinned rows plans more n (n + 1) (le-add_right n 1) heavy;
     } in result)
-    (λ (odd : (n % count == 0) ≡ false). let none : None ≡ Some size = rw odd at sized in cc)
+    (λ (odd : (n % count == 0) ≡ false). absurd (none-some size (rw odd at sized)))
     (cases_Bool (n % count == 0))
 
 -- no plan of this number of parts is to be weighed
 pub passed-so_far : (ranks : ℕ) (pinned : List ℕ) (rows : List ProblemRow) (plans : List Planned) (heavy : Bool) (n heat count : ℕ)
     → count ≡ rank_count ranks → size_of heat count n heavy ≡ None → IsSoFar ranks pinned rows plans heavy n → IsSoFar ranks pinned rows plans heavy (n + 1)
-passed-so_far ranks pinned rows plans false n heat count count_is sized before = cc
+passed-so_far ranks pinned rows plans false n heat count count_is sized before = absurd (none-some (record { parts = n; cap = no_cap }) (sym sized))
 passed-so_far ranks pinned rows plans true n heat count count_is sized before =
     let heavy : HasHeavyPlan ranks pinned rows plans n = before.flag refl in
-    ⊎_elim (λ (even : (n % count == 0) ≡ true).
-    let some : Some (record { parts = n; cap = fair_share heat n }) ≡ None = rw even at sized in cc)
+    ⊎_elim (λ (even : (n % count == 0) ≡ true). absurd (none-some (record { parts = n; cap = fair_share heat n }) (sym (rw even at sized))))
     (λ (odd : (n % count == 0) ≡ false).
     let not_zero : ¬ (n % rank_count ranks ≡ 0) = λ zero_is.
     let yes : (n % count == 0) ≡ true = eq-eqb (n % count) 0 (ap (λ (m : ℕ). n % m) count_is ∙ zero_is) in
-    let none : true ≡ false = sym yes ∙ odd in cc in
+    both_ways (n % count == 0) odd yes in
     let result : IsSoFar ranks pinned rows plans true (n + 1) = record {
       weighed = weighed_passed ranks pinned rows plans n before.weighed heavy not_zero;
-      flag = λ set. heavy_later ranks pinned rows plans n (n + 1) (omega arith) heavy;
+      flag = λ set. heavy_later ranks pinned rows plans n (n + 1) (le-add_right n 1) heavy;
     } in result)
     (cases_Bool (n % count == 0))
 
 -- some plan was weighed
 pub some_weighed : (ranks : ℕ) (pinned : List ℕ) (rows : List ProblemRow) (plans : List Planned) → rank_count ranks ≤ 64 → AreWeighed ranks pinned rows plans 65 → 0 < length plans
 some_weighed ranks pinned rows plans few weighed =
-    ⊎_elim (λ (has : HasPlanOf ranks pinned rows plans 64 no_cap). let inside : has.k < length plans = slice_get_within plans has.k has.plan has.there in omega (arith, inside))
-    (λ (has : HasHeavyPlan ranks pinned rows plans 64). let inside : has.k < length plans = slice_get_within plans has.k has.plan has.there in omega (arith, inside))
-    (weighed.each 64 few (omega arith))
+    ⊎_elim (λ (has : HasPlanOf ranks pinned rows plans 64 no_cap). let inside : has.k < length plans = slice_get_within plans has.k has.plan has.there in positive has.k (length plans) inside)
+    (λ (has : HasHeavyPlan ranks pinned rows plans 64). let inside : has.k < length plans = slice_get_within plans has.k has.plan has.there in positive has.k (length plans) inside)
+    (weighed.each 64 few (le_refl 65))

@@ -1,5 +1,5 @@
-use Rattle.std.proofs.Common.{◌≡◌, ◌<◌, ◌≤◌, ◌+◌, ◌/◌, ◌∙◌, ℕ, List, length, ⊎_elim, ap, sym, arith}
-use Rattle.ceph_plan.specs.Choice.{IsChosen, greatest_at, moved_at}
+use Rattle.std.proofs.Common.{◌≡◌, ◌≤◌, ◌+◌, ◌/◌, ℕ, length, arith}
+use Rattle.ceph_plan.specs.Choice.{greatest_at}
 use Rattle.ceph_plan.proofs.choice.chosen.Goals as goal
 
 part-le : (m n : ℕ) → m ≤ n → m + m / 100 ≤ n + n / 100

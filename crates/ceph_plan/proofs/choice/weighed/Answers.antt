@@ -1,4 +1,4 @@
-use Rattle.std.proofs.Common.{◌≡◌, ◌<◌, ◌≤◌, ◌+◌, ◌∙◌, ◌∷◌, ◌++◌, ℕ, Bool, List, [], Vec, Global, ap, subst, sym, arith}
+use Rattle.std.proofs.Common.{◌≡◌, ◌+◌, ◌∙◌, ◌∷◌, ◌++◌, ℕ, Bool, List, [], Vec, Global, ap, subst, sym, arith}
 use Rattle.mds_types.specs.declared.problem.ProblemRow.{ProblemRow}
 use Rattle.ceph_plan.proofs.Bounds.{count-positive}
 use Rattle.ceph_plan.specs.declared.plan.Planned.{Planned}

@@ -1,13 +1,25 @@
 use Rattle.std.proofs.Common.{◌≡◌, ◌<◌, ℕ, length, ◌+◌, List, ◌∷◌, [], ◌++◌, arith, ◌∙◌, sym, ap, subst}
+use Rattle.std.specs.Vec.{vec_len}
+use Rattle.std.proofs.Math.Nat.{lt_trans}
 use Rattle.std.proofs.lemmas.List.{get_or_read, length_push}
 use Rattle.ceph_plan.specs.declared.row.PinRow.{PinRow}
 use Rattle.ceph_plan.specs.declared.hold.Hold.{Hold}
 use Rattle.ceph_plan.specs.declared.hold.Hold.TheVariants.{Free}
 use Rattle.ceph_plan.specs.Rule.{no_row, parent_at, row_at}
 use Rattle.ceph_plan.specs.Holds.{AreHolds, hold_at, hold_of}
-use Rattle.ceph_plan.proofs.Found.{hold_more}
+use Rattle.ceph_plan.proofs.Found.{hold_more, parent-before}
 use Rattle.ceph_plan.proofs.hold.holds_of.Goals as goal
 use Rattle.ceph_plan.proofs.hold.holds_of.Goals.{then-i-eq0, else-i-eq0}
+
+pub index-requires : goal.index-requires
+index-requires c =
+    let size : c.loop-i.i ≡ vec_len c.loop-i.holds = sym (c.loop-i.holds.ok.0 ∙ c.loop-i.invariant.size) in
+    subst (λ (n : ℕ). c.index-rows-i.result.parent < n) size
+    (parent-before c.args.rows.now c.index-rows-i.result c.loop-i.i c.requires c.if-i-eq0.false c.loop-i-test.true c.index-rows-i.is)
+
+pub bounds-rows-parent : goal.bounds-rows-parent
+bounds-rows-parent c =
+    lt_trans (parent-before c.args.rows.now c.index-rows-i.result c.loop-i.i c.requires c.if-i-eq0.false c.loop-i-test.true c.index-rows-i.is) c.loop-i-test.true
 
 pub loop-i-preserved : goal.loop-i-preserved
 loop-i-preserved c =

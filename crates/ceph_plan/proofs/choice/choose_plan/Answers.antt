@@ -1,0 +1,59 @@
+use Rattle.std.proofs.Common.{◌≡◌, ◌≢◌, ◌<◌, ◌==◌, ◌∙◌, ℕ, Bool, false, List, length, Result, Ok, Err, ap, arith, refl, subst, sym}
+use Rattle.std.specs.Result.{IfOk}
+use Rattle.std.proofs.lemmas.Bool.{eqb-false}
+use Rattle.mds_types.specs.Problem.{ProblemData}
+use Rattle.mds_types.specs.declared.problem.ProblemRow.{ProblemRow}
+use Rattle.ceph_plan.specs.Choice.{IsBest}
+use Rattle.ceph_plan.specs.Plans.{IsPlan, IsPlanOf, no_cap}
+use Rattle.ceph_plan.specs.declared.plan.Planned.{Planned}
+use Rattle.ceph_plan.specs.declared.plan_error.PlanError.{PlanError}
+use Rattle.ceph_plan.proofs.choice.choose_plan.Goals as goal
+
+best-plan : (ranks : ℕ) (pinned : List ℕ) (rows : List ProblemRow) (found : Result Planned PlanError) → IfOk found (IsBest ranks pinned rows) → IfOk found (IsPlan ranks pinned rows)
+best-plan ranks pinned rows (Ok plan) best = best.weighed.all best.k plan best.is
+best-plan ranks pinned rows (Err error) best = tt
+
+of-plan : (ranks : ℕ) (pinned : List ℕ) (rows : List ProblemRow) (parts cap : ℕ) (found : Result Planned PlanError) → IfOk found (IsPlanOf ranks pinned rows parts cap) → IfOk found (IsPlan ranks pinned rows)
+of-plan ranks pinned rows parts cap (Ok plan) of = of.is
+of-plan ranks pinned rows parts cap (Err error) of = tt
+
+positive : (n : ℕ) → (n == 0) ≡ false → 0 < n
+positive n is = let some : n ≢ 0 = eqb-false n 0 is in omega arith
+
+-- there is a row, as these are the rows
+some_row : (rows those : List ProblemRow) (none : Bool) → none ≡ (length rows == 0) → none ≡ false → those ≡ rows → 0 < length those
+some_row rows those none is some same = subst (λ (found : List ProblemRow). 0 < length found) (sym same) (positive (length rows) (sym is ∙ some))
+
+pub best_plan-requires-clause-some : goal.best_plan-requires-clause-some
+best_plan-requires-clause-some c =
+    some_row c.args.rows.now c.rows-rows.result.now c.is_empty.result c.is_empty.ensures c.if-is_empty.false
+    (c.rows-rows.ensures.value ∙ (ap (λ (problem : ProblemData). problem.rows) c.in-Ok.ensures.ok ∙ c.in_ok-to_vec.ensures.items_if_clones_equal (λ x y is. is)))
+
+pub best_plan-requires-clause-size : goal.best_plan-requires-clause-size
+best_plan-requires-clause-size c = c.if-not-are_pinned.ensures.size refl
+
+pub best_plan-requires-clause-small : goal.best_plan-requires-clause-small
+best_plan-requires-clause-small c = c.if-not-are_pinned.ensures.small refl
+
+pub plan_parts-requires-clause-some : goal.plan_parts-requires-clause-some
+plan_parts-requires-clause-some c =
+    some_row c.args.rows.now c.rows-rows.result.now c.is_empty.result c.is_empty.ensures c.if-is_empty.false
+    (c.rows-rows.ensures.value ∙ (ap (λ (problem : ProblemData). problem.rows) c.in-Ok.ensures.ok ∙ c.in_ok-to_vec.ensures.items_if_clones_equal (λ x y is. is)))
+
+pub plan_parts-requires-clause-size : goal.plan_parts-requires-clause-size
+plan_parts-requires-clause-size c = c.if-not-are_pinned.ensures.size refl
+
+pub plan_parts-requires-clause-small : goal.plan_parts-requires-clause-small
+plan_parts-requires-clause-small c = c.if-not-are_pinned.ensures.small refl
+
+pub returns-in-Auto-clause-plan : goal.returns-in-Auto-clause-plan
+returns-in-Auto-clause-plan c =
+    let same : c.rows-rows.result.now ≡ c.args.rows.now = c.rows-rows.ensures.value ∙ (ap (λ (problem : ProblemData). problem.rows) c.in-Ok.ensures.ok ∙ c.in_ok-to_vec.ensures.items_if_clones_equal (λ x y is. is)) in
+    best-plan c.args.ranks c.args.pinned.now c.args.rows.now c.best_plan.result
+    (subst (λ (rows : List ProblemRow). IfOk c.best_plan.result (IsBest c.args.ranks c.args.pinned.now rows)) same c.best_plan.ensures)
+
+pub returns-clause-plan : goal.returns-clause-plan
+returns-clause-plan c =
+    let same : c.rows-rows.result.now ≡ c.args.rows.now = c.rows-rows.ensures.value ∙ (ap (λ (problem : ProblemData). problem.rows) c.in-Ok.ensures.ok ∙ c.in_ok-to_vec.ensures.items_if_clones_equal (λ x y is. is)) in
+    of-plan c.args.ranks c.args.pinned.now c.args.rows.now c.in-AtMost.parts no_cap c.plan_parts.result
+    (subst (λ (rows : List ProblemRow). IfOk c.plan_parts.result (IsPlanOf c.args.ranks c.args.pinned.now rows c.in-AtMost.parts no_cap)) same c.plan_parts.ensures)
