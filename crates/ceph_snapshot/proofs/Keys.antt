@@ -1,12 +1,14 @@
 -- Which directories go: keys, and how many are at most one of them.
-use Rattle.std.proofs.Common.{◌≡◌, ◌≢◌, ◌∙◌, ℕ, zero, suc, ◌+◌, ◌-◌, ◌<◌, ◌≤◌, Bool, true, false, not, cond, List, [], ◌∷◌, ◌++◌, add_assoc, add-zero, length, get_or, set, refl, ap, sym, subst, ⊎_elim, arith}
+use Rattle.std.proofs.Common.{◌≡◌, ◌≢◌, ◌∙◌, ℕ, zero, suc, ◌+◌, ◌-◌, ◌<◌, ◌≤◌, Bool, true, false, not, cond, List, [], ◌∷◌, ◌++◌, add_assoc, add-zero, length, get_or, set, slice_index, refl, ap, sym, subst, ⊎_elim, arith}
 use Rattle.std.specs.Cmp.{IsTotalOrder}
+use Rattle.std.proofs.Math.Nat.{lt_trans}
+use Rattle.std.proofs.lemmas.Grind.{common_steps}
 use Rattle.std.proofs.lemmas.Cmp.{nat_cmp_total, on_total, then_total}
 use Rattle.std.specs.List.{count_by, sum_by}
 use Rattle.std.specs.List.Sorted.{IsPermutation, IsSorted}
 use Rattle.std.proofs.Common.{Ordering, Equal, Greater, Less}
 use Rattle.std.specs.Ordering.{is_le, is_lt, ordering_reverse}
-use Rattle.std.proofs.lemmas.Bool.{cases_Bool, cases_eq}
+use Rattle.std.proofs.lemmas.Bool.{and_from, and_parts, cases_Bool, cases_eq, not-true, not_from_false}
 use Rattle.std.proofs.lemmas.List.{get_or-set_other, get_or-set_same, get_or_append_left, get_or_push}
 use Rattle.std.proofs.lemmas.List.Sorted.{length_permutation, ranks_by, sorted_far, sum_by-IsPermutation}
 use Rattle.std.proofs.lemmas.List.Sums.{sum_by-cons}
@@ -15,7 +17,7 @@ use Rattle.mds_types.proofs.RankSetLemmas.{count_below_more}
 use Rattle.mds_types.proofs.SumsLemmas.{sum_below-fewer, sum_below-le}
 use Rattle.ceph_snapshot.specs.declared.coldest.Key.{Key}
 use Rattle.ceph_snapshot.specs.declared.directory.Directory.{Directory}
-use Rattle.ceph_snapshot.specs.Folding.{IsPlain, is_marked}
+use Rattle.ceph_snapshot.specs.Folding.{AreGone, IsPlain, is_marked}
 use Rattle.ceph_snapshot.specs.Holding.{AreParentsFirst, parent_at}
 use Rattle.ceph_snapshot.specs.Keys.{goes, is_at_most, key_at, key_cmp}
 
@@ -151,3 +153,33 @@ marked_above ds stays at above inside up is before marked i some low l set_now =
 pub parent_le : (ds : List Directory) (i : ℕ) → AreParentsFirst ds → i < length ds → parent_at ds i ≤ i
 parent_le ds zero first l = omega (arith, first.root)
 parent_le ds (suc n) first l = omega (arith, first.above (suc n) (omega arith) l)
+
+-- what is as cold, and stands behind
+colder : (heats : List ℕ) (last : Key) (i above : ℕ) → above < i → i < length heats → slice_index heats i ≤ slice_index heats above
+    → is_at_most (key_at heats above) last ≡ true → is_at_most (key_at heats i) last ≡ true
+colder heats last i above behind inside cold is = grind (arith, common_steps)
+
+-- the coldest that don't stay are gone, each with all that is below it
+pub gone-marked : (ds : List Directory) (heats : List ℕ) (stays marks : List Bool) (last : Key) → length heats ≡ length ds → AreParentsFirst ds
+    → ((i : ℕ) → i < length ds → is_marked stays i ≡ false → IsPlain ds i)
+    → ((i : ℕ) → 0 < i → i < length ds → is_marked stays i ≡ true → is_marked stays (parent_at ds i) ≡ true)
+    → ((i : ℕ) → 0 < i → i < length ds → slice_index heats i ≤ slice_index heats (parent_at ds i))
+    → ((i : ℕ) → i < length heats → is_marked marks i ≡ goes heats stays last i)
+    → AreGone ds (is_marked marks)
+gone-marked ds heats stays marks last size first plain above rise marked =
+    let within : (i : ℕ) → i < length ds → i < length heats = λ i l. subst (λ (n : ℕ). i < n) (sym size) l in
+    record {
+      plain = λ i l gone.
+          let both = and_parts (not (is_marked stays i)) (is_at_most (key_at heats i) last) (sym (marked i (within i l)) ∙ gone) in
+          plain i l (not-true (is_marked stays i) both.0);
+      below = λ i some l gone.
+          let up : parent_at ds i < i = first.above i some l in
+          let both = and_parts (not (is_marked stays (parent_at ds i))) (is_at_most (key_at heats (parent_at ds i)) last) (sym (marked (parent_at ds i) (within (parent_at ds i) (lt_trans up l))) ∙ gone) in
+          let free : is_marked stays i ≡ false =
+          ⊎_elim (λ (stay : is_marked stays i ≡ true). apart (is_marked stays (parent_at ds i)) (above i some l stay) (not-true (is_marked stays (parent_at ds i)) both.0))
+          (λ (free : is_marked stays i ≡ false). free)
+          (cases_Bool (is_marked stays i)) in
+          marked i (within i l)
+          ∙ and_from (not (is_marked stays i)) (is_at_most (key_at heats i) last) (not_from_false (is_marked stays i) free)
+          (colder heats last i (parent_at ds i) up (within i l) (rise i some l) both.1);
+    }

@@ -1,3 +1,4 @@
+pub mod Adding
 pub mod Folds
 pub mod Holders
 pub mod Keys

@@ -1,6 +1,6 @@
 -- What folding leaves: the directories that are kept, each with what the folded ones below it had.
-use Rattle.std.specs.Prelude.{◌≡◌, ◌==◌, ◌<◌, ℕ, zero, suc, Bool, true, false, not, List, length, slice_get}
-use Rattle.std.specs.Prelude.{slice_index, slice_index_or, Option, Some, None, if◌then◌else◌}
+use Rattle.std.specs.Prelude.{◌≡◌, ◌==◌, ◌<◌, ℕ, Bool, true, false, not, List, length, slice_get}
+use Rattle.std.specs.Prelude.{slice_index, slice_index_or, Option, None, if◌then◌else◌}
 use Rattle.std.specs.List.{sum_by}
 use Rattle.std.specs.Option.{option_map}
 use Rattle.mds_types.specs.Sums.{count_below, sum_below}

@@ -15,8 +15,6 @@ pub struct Snapshot {
     pub directories: Vec<Directory>,
     /// `spread[r]` is the heat at rank r of the directories that are spread, in thousandths.
     pub spread: Vec<u64>,
-    /// How many directories were folded into their parents.
-    pub folded: usize,
 }
 
 /// Where a directory is, and that of its parent.
@@ -106,7 +104,6 @@ impl Gathering {
         Ok(Snapshot {
             directories,
             spread,
-            folded: 0,
         })
     }
 }

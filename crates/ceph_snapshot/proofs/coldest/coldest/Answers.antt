@@ -1,11 +1,24 @@
-use Rattle.std.proofs.Common.{◌≡◌, ◌+◌, ◌<◌, ◌≤◌, ◌-◌, ◌∙◌, ℕ, List, Bool, arith, length, not, slice_index, ap, sym}
+use Rattle.std.proofs.Common.{◌≡◌, ◌+◌, ◌<◌, ◌≤◌, ◌-◌, ◌∙◌, ℕ, List, Bool, arith, length, not, ap, sym}
 use Rattle.std.specs.List.{count_by}
 use Rattle.mds_types.specs.Sums.{count_below}
 use Rattle.ceph_snapshot.specs.declared.coldest.Key.{Key}
-use Rattle.ceph_snapshot.specs.Folding.{is_marked, kept_below}
+use Rattle.ceph_snapshot.specs.Folding.{is_marked}
 use Rattle.ceph_snapshot.specs.Keys.{goes, is_at_most}
-use Rattle.ceph_snapshot.proofs.Keys.{count_both}
+use Rattle.ceph_snapshot.proofs.Keys.{count_both, gone-marked}
 use Rattle.ceph_snapshot.proofs.coldest.coldest.Goals as goal
+
+pub marks-requires : goal.marks-requires
+marks-requires c =
+    ap length c.deref-4.ensures.value ∙ (c.in_ok-stays.ensures.size ∙ sym (ap length c.deref-3.ensures.value ∙ c.in_ok-heats.ensures.size))
+
+pub keys-requires : goal.keys-requires
+keys-requires c =
+    ap length c.deref-2.ensures.value ∙ (c.in_ok-stays.ensures.size ∙ sym (ap length c.deref.ensures.value ∙ c.in_ok-heats.ensures.size))
+
+pub returns-clause-gone : goal.returns-clause-gone
+returns-clause-gone c =
+    gone-marked c.args.directories.now c.in_ok-heats.heats.items c.in_ok-stays.stays.items c.in_ok-marks.field-0.items c.in-Some.last c.in_ok-heats.ensures.size c.requires.first
+    c.in_ok-stays.ensures.plain c.in_ok-stays.ensures.above c.in_ok-heats.ensures.rise (rw (c.deref-3.ensures.value, c.deref-4.ensures.value) at c.in_ok-marks.ensures.marks)
 
 pub returns-clause-left : goal.returns-clause-left
 returns-clause-left c =

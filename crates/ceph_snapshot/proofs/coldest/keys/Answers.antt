@@ -1,8 +1,7 @@
-use Rattle.std.proofs.Common.{◌≡◌, ◌∙◌, ◌+◌, ◌∷◌, ◌++◌, ℕ, Bool, List, [], Vec, Global, ap, sym}
+use Rattle.std.proofs.Common.{◌≡◌, ◌∙◌, ◌∷◌, ◌++◌, ℕ, Bool, List, [], Vec, Global, ap, sym}
 use Rattle.std.specs.List.{count_by}
-use Rattle.mds_types.specs.Sums.{count_below}
 use Rattle.ceph_snapshot.specs.declared.coldest.Key.{Key}
-use Rattle.ceph_snapshot.specs.Keys.{goes, is_at_most, key_at}
+use Rattle.ceph_snapshot.specs.Keys.{is_at_most, key_at}
 use Rattle.ceph_snapshot.proofs.Keys.{goes_more, stays_passed}
 use Rattle.ceph_snapshot.proofs.coldest.keys.Goals as goal
 use Rattle.ceph_snapshot.proofs.coldest.keys.Goals.{then-not-stays-at+in_ok-push, else-not-stays-at}

@@ -1,6 +1,5 @@
-use Rattle.std.proofs.Common.{◌≡◌, ◌≢◌, ◌<◌, ◌+◌, ◌++◌, ◌∷◌, [], ℕ, Bool, List, Option, Some, false, true, length, slice_get, slice_index, ap, sym, ◌∙◌, refl, subst, arith}
+use Rattle.std.proofs.Common.{◌≡◌, ◌<◌, ◌+◌, ◌++◌, ◌∷◌, [], ℕ, Bool, List, Option, Some, length, slice_get, slice_index, ap, sym, ◌∙◌, refl, subst, arith}
 use Rattle.std.specs.Option.{option_map_or}
-use Rattle.std.proofs.lemmas.Grind.{common_steps}
 use Rattle.std.proofs.lemmas.List.{get_or_read, length_push}
 use Rattle.std.proofs.lemmas.Option.{slice_get_read}
 use Rattle.ceph_snapshot.specs.declared.directory.Directory.{Directory}
@@ -9,6 +8,16 @@ use Rattle.ceph_snapshot.specs.Holding.{parent_at}
 use Rattle.ceph_snapshot.proofs.Folds.{home_above, home_here, homes_more, inside_more, later}
 use Rattle.ceph_snapshot.proofs.folding.homes.Goals as goal
 use Rattle.ceph_snapshot.proofs.folding.homes.Goals.{then-gone-at, else-gone-at}
+
+pub index-requires : goal.index-requires
+index-requires c =
+    let inside : c.loop-at.at < length c.args.directories.now = c.loop-at-test.true in
+    let some : 0 < c.loop-at.at = later c.args.gone.now c.loop-at.at c.requires.root c.if-gone-at.true in
+    let read : slice_get c.args.directories.now c.loop-at.at ≡ Some c.index-directories-at.result =
+    slice_get_read c.args.directories.now (length c.args.directories.now) c.loop-at.at c.index-directories-at.result refl inside c.index-directories-at.is in
+    let up : c.index-directories-at.result.parent < c.loop-at.at =
+    subst (λ (o : Option Directory). option_map_or (λ (one : Directory). one.parent) o 0 < c.loop-at.at) read (c.requires.first.above c.loop-at.at some inside) in
+    subst (λ (n : ℕ). c.index-directories-at.result.parent < n) (sym (c.loop-at.homes.ok.0 ∙ c.loop-at.invariant.size)) up
 
 pub loop-at-preserved : goal.loop-at-preserved
 loop-at-preserved c =

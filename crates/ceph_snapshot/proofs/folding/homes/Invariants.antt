@@ -1,4 +1,4 @@
-use Rattle.std.proofs.Common.{◌≡◌, ◌≤◌, ◌<◌, ℕ, length, slice_index}
+use Rattle.std.proofs.Common.{◌≡◌, ◌<◌, ℕ, length, slice_index}
 use Rattle.ceph_snapshot.specs.Folding.{IsHome, is_marked}
 use Rattle.ceph_snapshot.proofs.folding.homes.Given as goal
 

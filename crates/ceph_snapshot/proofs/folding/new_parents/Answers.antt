@@ -1,5 +1,7 @@
-use Rattle.std.proofs.Common.{◌≡◌, ◌<◌, ◌≤◌, ◌+◌, ◌++◌, ◌∷◌, [], ◌∙◌, ℕ, Bool, List, Option, Some, length, slice_get, slice_index, ap, refl, sym, subst, arith}
+use Rattle.std.proofs.Common.{◌≡◌, ◌<◌, ◌≤◌, ◌+◌, ◌++◌, ◌∷◌, [], ◌∙◌, ℕ, Bool, List, Option, Some, length, slice_get, slice_index, suc-le-suc, ap, refl, sym, subst, arith}
 use Rattle.std.specs.Option.{option_map_or}
+use Rattle.std.specs.Vec.{vec_len}
+use Rattle.std.proofs.Math.Nat.{le_trans}
 use Rattle.std.proofs.lemmas.List.{get_or_read, length_push}
 use Rattle.std.proofs.lemmas.Option.{slice_get_read}
 use Rattle.ceph_snapshot.specs.declared.directory.Directory.{Directory}
@@ -7,6 +9,17 @@ use Rattle.ceph_snapshot.specs.Folding.{is_marked, kept_below}
 use Rattle.ceph_snapshot.specs.Holding.{parent_at}
 use Rattle.ceph_snapshot.proofs.Keys.{parent_le, values_more}
 use Rattle.ceph_snapshot.proofs.folding.new_parents.Goals as goal
+
+pub index-requires : goal.index-requires
+index-requires c =
+    let ds : List Directory = c.args.directories.now in
+    let at : ℕ = c.loop-at.at in
+    let inside : at < length ds = c.loop-at-test.true in
+    let read : slice_get ds at ≡ Some c.index-directories-at.result = slice_get_read ds (length ds) at c.index-directories-at.result refl inside c.index-directories-at.is in
+    let up : c.index-directories-at.result.parent ≤ at =
+    subst (λ (o : Option Directory). option_map_or (λ (one : Directory). one.parent) o 0 ≤ at) read (parent_le ds at c.requires.first inside) in
+    let size : length ds ≡ vec_len c.in_ok-places.places = sym (c.in_ok-places.places.ok.0 ∙ (c.in_ok-places.ensures.size ∙ c.requires.size)) in
+    subst (λ (n : ℕ). c.index-directories-at.result.parent < n) size (le_trans (suc-le-suc up) inside)
 
 pub loop-at-preserved : goal.loop-at-preserved
 loop-at-preserved c =

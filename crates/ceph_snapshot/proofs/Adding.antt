@@ -1,0 +1,164 @@
+-- What one more directory adds.
+use Rattle.std.proofs.Common.{◌≡◌, ◌≢◌, ◌∙◌, ℕ, ◌+◌, ◌-◌, ◌^◌, ◌<◌, ◌≤◌, ◌&&◌, ◌↔◌, ◌⊎◌, ◌++◌, ◌∷◌, [], Bool, true, false, not, cond, eqb, List, Option, Some, None, add_assoc, add-zero, ap, arith, get_or, length, min, refl, set, slice_get, slice_index, subst, sym, ⊎_elim}
+use Rattle.std.proofs.Math.Nat.{le_refl, le_trans, lt_trans}
+use Rattle.std.proofs.lemmas.Bool.{cases_Bool, cases_eq, eq-eqb, ne_eqb}
+use Rattle.std.proofs.lemmas.List.{get_or_default, get_or-set_other, get_or-set_same, length_push}
+use Rattle.std.proofs.lemmas.Option.{none-some, slice_get-get_or}
+use Rattle.std.specs.Option.{option_map_or}
+use Rattle.mds_types.specs.Problem.{no_row}
+use Rattle.mds_types.specs.Sums.{sum_below}
+use Rattle.mds_types.specs.declared.problem.ProblemRow.{ProblemRow}
+use Rattle.mds_types.proofs.SumsLemmas.{sum_below_more}
+use Rattle.ceph_snapshot.specs.declared.directory.Directory.{Directory}
+use Rattle.ceph_snapshot.specs.declared.held.Held.{Held}
+use Rattle.ceph_snapshot.specs.declared.held.Held.TheVariants.{Free, Pinned, Spread}
+use Rattle.ceph_snapshot.specs.Folding.{brought}
+use Rattle.ceph_snapshot.specs.Holding.{AreParentsFirst, heat_at, held_at, held_below, is_at, is_spread_at, most_heat, parent_at}
+use Rattle.ceph_snapshot.specs.Rows.{AreRowsOf, is_free, planned_row}
+use Rattle.ceph_snapshot.proofs.Keys.{values_more}
+
+pub rows-more : (ds : List Directory) (holds : List Held) (rows : List ProblemRow) (row : ProblemRow) (n : ℕ) → AreRowsOf ds holds n rows
+    → row ≡ planned_row ds holds n → AreRowsOf ds holds (n + 1) (rows ++ row ∷ [])
+rows-more ds holds rows row n before here = record {
+  size = length_push rows row ∙ ap (λ (m : ℕ). m + 1) before.size;
+  planned = values_more no_row (planned_row ds holds) rows row n before.size before.planned here;
+}
+
+-- a directory that nothing holds, as a row
+pub free-row : (ds : List Directory) (holds : List Held) (at heat inodes : ℕ) (d : Directory) (hold : Held) → slice_get ds at ≡ Some d → at < length holds
+    → get_or holds at hold ≡ Free → heat ≡ min d.heat (2 ^ 40) → inodes ≡ min d.inodes (2 ^ 32 - 1)
+    → record { parent = d.parent; heat = heat; inodes = inodes; now = d.now } ≡ planned_row ds holds at
+free-row ds holds at heat inodes d hold read inside is heat_is inodes_is =
+    let free : held_at holds at ≡ Free = sym (get_or_default holds at hold Free inside) ∙ is in
+    rw (read, free, heat_is, inodes_is) refl
+
+-- one that is held, as a row
+pub held-row : (ds : List Directory) (holds : List Held) (at : ℕ) (d : Directory) (hold : Held) → slice_get ds at ≡ Some d → at < length holds
+    → ((rank : ℕ) × (get_or holds at hold ≡ Pinned rank)) ⊎ ((rank : ℕ) × (get_or holds at hold ≡ Spread rank))
+    → record { parent = d.parent; heat = 0; inodes = 0; now = d.now } ≡ planned_row ds holds at
+held-row ds holds at d hold read inside is =
+    let free : is_free (held_at holds at) ≡ false =
+    ⊎_elim (λ (pinned : (rank : ℕ) × (get_or holds at hold ≡ Pinned rank)). ap is_free (sym (get_or_default holds at hold Free inside) ∙ pinned.1))
+    (λ (spread : (rank : ℕ) × (get_or holds at hold ≡ Spread rank)). ap is_free (sym (get_or_default holds at hold Free inside) ∙ spread.1))
+    is in
+    rw (read, free) refl
+
+-- what a directory has comes to its home
+pub brought-more : (amount home : ℕ → ℕ) (sums : List ℕ) (n at sum : ℕ) → length sums ≡ n → home at < n → sum ≡ slice_index sums (home at) + amount at
+    → ((there : ℕ) → there < n → slice_index sums there ≡ brought amount home at there)
+    → (there : ℕ) → there < n → slice_index (set sums (home at) sum) there ≡ brought amount home (at + 1) there
+brought-more amount home sums n at sum size inside is before there l =
+    let came : ℕ → ℕ = λ i. cond (eqb (home i) there) (amount i) 0 in
+    let more : sum_below (at + 1) came ≡ sum_below at came + came at = sum_below_more at came in
+    ⊎_elim (λ (same : there ≡ home at).
+    let own : eqb (home at) there ≡ true = eq-eqb (home at) there (sym same) in
+    let added : came at ≡ amount at = rw own refl in
+    ap (λ (k : ℕ). slice_index (set sums (home at) sum) k) same
+    ∙ (get_or-set_same sums (home at) sum 0 (subst (λ (m : ℕ). home at < m) (sym size) inside)
+    ∙ (is ∙ (ap (λ (k : ℕ). k + amount at) (ap (slice_index sums) (sym same) ∙ before there l)
+    ∙ (ap (λ (k : ℕ). sum_below at came + k) (sym added) ∙ sym more)))))
+    (λ (other : there ≢ home at).
+    let away : eqb (home at) there ≡ false = ne_eqb (home at) there (λ same. other (sym same)) in
+    let nothing : came at ≡ 0 = rw away refl in
+    get_or-set_other sums (home at) there sum 0 other
+    ∙ (before there l ∙ (sym (add-zero (sum_below at came)) ∙ (ap (λ (k : ℕ). sum_below at came + k) (sym nothing) ∙ sym more))))
+    (cases_eq there (home at))
+
+raised : (heats : List ℕ) (above sum k : ℕ) → above < length heats → slice_index heats above ≤ sum → slice_index heats k ≤ slice_index (set heats above sum) k
+raised heats above sum k inside le =
+    ⊎_elim (λ (same : k ≡ above).
+    let set_is : slice_index (set heats above sum) above ≡ sum = get_or-set_same heats above sum 0 inside in
+    subst (λ (j : ℕ). slice_index heats j ≤ slice_index (set heats above sum) j) (sym same) (subst (λ (s : ℕ). slice_index heats above ≤ s) (sym set_is) le))
+    (λ (other : k ≢ above). subst (λ (s : ℕ). slice_index heats k ≤ s) (sym (get_or-set_other heats above k sum 0 other)) (le_refl (slice_index heats k)))
+    (cases_eq k above)
+
+-- a parent has what its child has, and what it had
+pub rise-more : (ds : List Directory) (heats : List ℕ) (at above sum : ℕ) → above < length heats → above ≡ parent_at ds at → above < at
+    → slice_index heats above ≤ sum → slice_index heats at ≤ sum
+    → ((i : ℕ) → 0 < i → at + 1 ≤ i → i < length ds → slice_index heats i ≤ slice_index heats (parent_at ds i))
+    → (i : ℕ) → 0 < i → at ≤ i → i < length ds → slice_index (set heats above sum) i ≤ slice_index (set heats above sum) (parent_at ds i)
+rise-more ds heats at above sum inside is up had child before i some low l =
+    let apart : i ≢ above = λ same. let none : ⊥ = omega (arith, same, up, low) in none in
+    let stays : slice_index (set heats above sum) i ≡ slice_index heats i = get_or-set_other heats above i sum 0 apart in
+    let rose : slice_index heats i ≤ slice_index (set heats above sum) (parent_at ds i) =
+    ⊎_elim (λ (same : i ≡ at).
+    let parent : slice_index (set heats above sum) (parent_at ds i) ≡ sum = ap (slice_index (set heats above sum)) (ap (parent_at ds) same ∙ sym is) ∙ get_or-set_same heats above sum 0 inside in
+    subst (λ (s : ℕ). slice_index heats i ≤ s) (sym parent) (subst (λ (k : ℕ). slice_index heats k ≤ sum) (sym same) child))
+    (λ (other : i ≢ at).
+    let later : at + 1 ≤ i = omega (arith, low, other) in
+    le_trans (before i some later l) (raised heats above sum (parent_at ds i) inside had))
+    (cases_eq i at) in
+    subst (λ (s : ℕ). s ≤ slice_index (set heats above sum) (parent_at ds i)) (sym stays) rose
+
+capped-add : (most a b : ℕ) → min most (min most a + b) ≡ min most (a + b)
+capped-add most a b = omega arith
+
+-- found is the rank where this counts as held, if it does at one
+abbrev pub IsCounted : Option ℕ → Held → Bool → Type 0
+IsCounted found hold spread = (r : ℕ) → (found ≡ Some r) ↔ ((is_at hold r ≡ true) × (spread ≡ false))
+
+counted-there : (found : Option ℕ) (hold : Held) (spread : Bool) (heat r : ℕ) → IsCounted found hold spread → found ≡ Some r → cond (is_at hold r && not spread) heat 0 ≡ heat
+counted-there found hold spread heat r counts here = let is = (counts r).0 here in rw (is.0, is.1) refl
+
+counted-elsewhere : (found : Option ℕ) (hold : Held) (spread : Bool) (heat r : ℕ) → IsCounted found hold spread → found ≢ Some r → cond (is_at hold r && not spread) heat 0 ≡ 0
+counted-elsewhere found hold spread heat r counts elsewhere =
+    ⊎_elim (λ (at : is_at hold r ≡ true).
+    ⊎_elim (λ (lies : spread ≡ true). rw (at, lies) refl)
+    (λ (free : spread ≡ false). absurd (elsewhere ((counts r).1 (at, free))))
+    (cases_Bool spread))
+    (λ (away : is_at hold r ≡ false). rw away refl)
+    (cases_Bool (is_at hold r))
+
+-- the heat that is held at each rank, as far as 64 bits can count it
+abbrev pub AreHeld : List Directory → List Held → List ℕ → List ℕ → ℕ → Type 0
+AreHeld ds holds spread heats at =
+    (r : ℕ) → r < 64 → slice_index heats r ≡ min most_heat (slice_index spread r + held_below ds holds r at)
+
+held-split : (ds : List Directory) (holds : List Held) (r at : ℕ)
+    → held_below ds holds r (at + 1) ≡ held_below ds holds r at + cond (is_at (held_at holds at) r && not (is_spread_at ds at)) (heat_at ds at) 0
+held-split ds holds r at = sum_below_more at (λ i. cond (is_at (held_at holds i) r && not (is_spread_at ds i)) (heat_at ds i) 0)
+
+unheld : (ds : List Directory) (holds : List Held) (found : Option ℕ) (r at : ℕ) → IsCounted found (held_at holds at) (is_spread_at ds at) → found ≢ Some r
+    → held_below ds holds r at ≡ held_below ds holds r (at + 1)
+unheld ds holds found r at counts elsewhere =
+    sym (held-split ds holds r at
+    ∙ (ap (λ (k : ℕ). held_below ds holds r at + k) (counted-elsewhere found (held_at holds at) (is_spread_at ds at) (heat_at ds at) r counts elsewhere)
+    ∙ add-zero (held_below ds holds r at)))
+
+pub held-same : (ds : List Directory) (holds : List Held) (spread heats : List ℕ) (at : ℕ) → IsCounted None (held_at holds at) (is_spread_at ds at)
+    → AreHeld ds holds spread heats at → AreHeld ds holds spread heats (at + 1)
+held-same ds holds spread heats at counts before r l =
+    before r l ∙ ap (λ (k : ℕ). min most_heat (slice_index spread r + k)) (unheld ds holds None r at counts (none-some r))
+
+pub held-more : (ds : List Directory) (holds : List Held) (spread heats : List ℕ) (at number sum : ℕ) → length heats ≡ 64 → number < 64
+    → IsCounted (Some number) (held_at holds at) (is_spread_at ds at) → sum ≡ min most_heat (slice_index heats number + heat_at ds at)
+    → AreHeld ds holds spread heats at → AreHeld ds holds spread (set heats number sum) (at + 1)
+held-more ds holds spread heats at number sum size small counts is before r l =
+    ⊎_elim (λ (same : r ≡ number).
+    let here : held_below ds holds r (at + 1) ≡ held_below ds holds r at + heat_at ds at =
+    held-split ds holds r at
+    ∙ ap (λ (k : ℕ). held_below ds holds r at + k) (counted-there (Some number) (held_at holds at) (is_spread_at ds at) (heat_at ds at) r counts (ap (λ (n : ℕ). Some n) (sym same))) in
+    ap (λ (k : ℕ). slice_index (set heats number sum) k) same
+    ∙ (get_or-set_same heats number sum 0 (subst (λ (m : ℕ). number < m) (sym size) small)
+    ∙ (is ∙ (ap (λ (k : ℕ). min most_heat (k + heat_at ds at)) (ap (slice_index heats) (sym same) ∙ before r l)
+    ∙ (capped-add most_heat (slice_index spread r + held_below ds holds r at) (heat_at ds at)
+    ∙ ap (min most_heat) (add_assoc (slice_index spread r) (held_below ds holds r at) (heat_at ds at) ∙ ap (λ (k : ℕ). slice_index spread r + k) (sym here)))))))
+    (λ (other : r ≢ number).
+    get_or-set_other heats number r sum 0 other
+    ∙ (before r l ∙ ap (λ (k : ℕ). min most_heat (slice_index spread r + k))
+    (unheld ds holds (Some number) r at counts (λ found. other (ap (λ (o : Option ℕ). option_map_or (λ (n : ℕ). n) o 0) (sym found))))))
+    (cases_eq r number)
+
+-- the place before one that is neither the first nor the second
+pub before-inside : (i n : ℕ) → 1 < i → i ≤ n → (0 < i - 1) × (i - 1 < n)
+before-inside i n later inside = (omega arith, omega arith)
+
+pub add-back : (i : ℕ) → 1 < i → (i - 1) + 1 ≡ i
+add-back i later = omega arith
+
+-- the parent of the directory there, as it is read
+pub parent-inside : (ds : List Directory) (i : ℕ) (d : Directory) → AreParentsFirst ds → 1 < i → i ≤ length ds → (get_or ds (i - 1) d).parent < length ds
+parent-inside ds i d first later inside =
+    let at = before-inside i (length ds) later inside in
+    let read : slice_get ds (i - 1) ≡ Some (get_or ds (i - 1) d) = slice_get-get_or ds (i - 1) d at.1 in
+    subst (λ (o : Option Directory). option_map_or (λ (one : Directory). one.parent) o 0 < length ds) read (lt_trans (first.above (i - 1) at.0 at.1) at.1)
