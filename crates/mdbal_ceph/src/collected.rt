@@ -169,7 +169,9 @@ fn add_ranks<R: Files + AllocGlobal + Clock + Eprint>(
 fn sample_count<R: Files + AllocGlobal>(rt: &R, folder: &str, ranks: &[u32]) -> Result<u64, Error>
     ensures { IfOk result (λ samples. 0 < samples) }
 {
-    let first = ranks.first().copied().unwrap_or(0);
+    let Some(first) = ranks.first().copied() else {
+        bail!("{folder}/fs.json: the file system has no rank");
+    };
     for sample in 1..SAMPLE_LIMIT {
         let path = format!(in rt.alloc(); "{folder}/loads.{first}.{}.json", sample + 1)?;
         if !fs::exists(rt, path.as_str())? {
