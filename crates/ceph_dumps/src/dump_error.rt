@@ -1,4 +1,5 @@
 //! Why a file couldn't be read.
+ghost use Rattle.std.specs.Prelude.{◌≡◌};
 
 use std::alloc::{AllocError, AllocFailed};
 use thiserror::Error;
@@ -19,6 +20,15 @@ pub enum DumpError {
         /// What was expected, as the reader says it.
         reason: String,
     },
+    /// The file system is to have more ranks than can be planned for.
+    #[error("more than 64 ranks")]
+    TooManyRanks,
+    /// The file system has no rank.
+    #[error("the file system has no rank")]
+    NoRank,
+    /// The file system has a rank of this number.
+    #[error("rank {0} is none of 0 to 63")]
+    BadRank(u32),
     /// This line of a listing is neither a name nor a value.
     #[error("line {0}: expected `# file: NAME` or `NAME=\"VALUE\"`")]
     Listing(usize),
@@ -31,12 +41,20 @@ pub enum DumpError {
 }
 
 impl From<AllocError> for DumpError {
+    ghost use Rattle.ceph_dumps.specs.declared.dump_error.DumpError.TheVariants as cause;
+
+    ghost from_gives = { λ _ error. error ≡ cause.Memory };
+
     fn from(_: AllocError) -> DumpError {
         DumpError::Memory
     }
 }
 
 impl<T: Drop> From<AllocFailed<T>> for DumpError {
+    ghost use Rattle.ceph_dumps.specs.declared.dump_error.DumpError.TheVariants as cause;
+
+    ghost from_gives = { λ _ error. error ≡ cause.Memory };
+
     fn from(_: AllocFailed<T>) -> DumpError {
         DumpError::Memory
     }

@@ -23,8 +23,6 @@ impl Named for f64 {
 
 impl Named for Counters {
     const NAME: &'static str = "Decay Counters";
-
-    const TOLD: &'static str = "counters";
 }
 
 impl Named for Vec<FragmentHeat> {

@@ -102,9 +102,6 @@ pub(crate) fn present<T: Drop, F: Format>(
 pub(crate) trait Named {
     /// The name.
     const NAME: &'static str;
-
-    /// What an error calls it where it comes twice.
-    const TOLD: &'static str = Self::NAME;
 }
 
 /// The one member that is read of an object.
@@ -121,7 +118,7 @@ impl<T: DeserializeOwned + Named> Members for Option<T> {
         from: &mut Deserializer<'_, '_, F>,
     ) -> Result<(), F::Error> {
         if at == 0 {
-            fill(self, T::TOLD, alloc, from)
+            fill(self, T::NAME, alloc, from)
         } else {
             from.skip()
         }

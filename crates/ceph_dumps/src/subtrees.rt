@@ -14,8 +14,6 @@ pub struct SubtreeRoot {
     pub path: Vec<u8>,
     /// Whether the rank that was asked has authority.
     pub is_here: bool,
-    /// The rank that has authority, or a negative number where none is known.
-    pub rank: i64,
     /// Its own export pin, where it has one.
     pub pin: Option<i64>,
     /// Whether Ceph itself spreads what is below over the ranks.
@@ -43,14 +41,14 @@ impl Pins {
         from: &mut Deserializer<'_, '_, F>,
     ) -> Result<(), F::Error> {
         match at {
-            2 => fill(&mut self.export, "export_pin", alloc, from),
-            3 => fill(
+            1 => fill(&mut self.export, "export_pin", alloc, from),
+            2 => fill(
                 &mut self.is_distributed,
                 "distributed_ephemeral_pin",
                 alloc,
                 from,
             ),
-            4 => fill(&mut self.is_random, "random_ephemeral_pin", alloc, from),
+            3 => fill(&mut self.is_random, "random_ephemeral_pin", alloc, from),
             _ => from.skip(),
         }
     }
@@ -68,7 +66,6 @@ impl Pins {
 #[derive(Drop)]
 struct Root {
     is_here: Option<bool>,
-    rank: Option<i64>,
     pins: Pins,
     dir: Option<Member<String>>,
 }
@@ -84,8 +81,7 @@ impl Members for Root {
     ) -> Result<(), F::Error> {
         match at {
             0 => fill(&mut self.is_here, "is_auth", alloc, from),
-            1 => fill(&mut self.rank, "auth_first", alloc, from),
-            5 => fill(&mut self.dir, "dir", alloc, from),
+            4 => fill(&mut self.dir, "dir", alloc, from),
             _ => self.pins.take(at, alloc, from),
         }
     }
@@ -96,7 +92,6 @@ impl Members for Root {
         from: &Deserializer<'_, '_, F>,
     ) -> Result<SubtreeRoot, F::Error> {
         let is_here = present(self.is_here, "is_auth", from)?;
-        let rank = present(self.rank, "auth_first", from)?;
         let dir = present(self.dir.as_ref(), "dir", from)?;
         let pins = self.pins;
         let is_spread = pins.is_distributed == Some(true) || pins.is_random == Some(true);
@@ -104,7 +99,6 @@ impl Members for Root {
             Ok(path) => Ok(SubtreeRoot {
                 path,
                 is_here,
-                rank,
                 pin: pins.pin(),
                 is_spread,
             }),
@@ -118,7 +112,6 @@ impl Root {
     fn empty() -> Root {
         Root {
             is_here: None,
-            rank: None,
             pins: Pins {
                 export: None,
                 is_distributed: None,
@@ -136,7 +129,6 @@ impl DeserializeOwned for SubtreeRoot {
     ) -> Result<SubtreeRoot, F::Error> {
         let names = [
             Name::exact("is_auth"),
-            Name::exact("auth_first"),
             Name::exact("export_pin"),
             Name::exact("distributed_ephemeral_pin"),
             Name::exact("random_ephemeral_pin"),

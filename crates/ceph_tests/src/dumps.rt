@@ -131,9 +131,9 @@ fn reads_long_names_of_any_bytes(rt: HostRuntime) {
 /// A number where an object should be, behind a byte that isn't ASCII.
 const WRONG_COUNTERS: &[u8] = b"{\"dirfrags\":[\n{\"path\":\"\xff\",\"pop_me\":1}]}";
 
-/// Why a dump of loads is refused, as it is told; nothing where it is read.
-fn refusal_of(rt: &impl Abort, alloc: Global, text: &[u8]) -> String {
-    match read_loads(alloc, text) {
+/// Why a dump is refused, as it is told; nothing where it is read.
+fn refusal_of<T: Drop>(rt: &impl Abort, alloc: Global, answer: Result<T, DumpError>) -> String {
+    match answer {
         Ok(_) => String::new(alloc),
         Err(refused) => refused.to_string(alloc).sure(rt),
     }
@@ -141,7 +141,7 @@ fn refusal_of(rt: &impl Abort, alloc: Global, text: &[u8]) -> String {
 
 #[test]
 fn tells_where_a_dump_is_broken(rt: HostRuntime) {
-    let told = refusal_of(&rt, rt.alloc(), WRONG_COUNTERS);
+    let told = refusal_of(&rt, rt.alloc(), read_loads(rt.alloc(), WRONG_COUNTERS));
     holds_in(&rt, told.starts_with("line 2, column 2"), &told);
 }
 
@@ -171,13 +171,41 @@ const RANKS: &[u8] =
 
 fn same_ranks(rt: &impl Abort, found: &FileSystemRanks) {
     same(rt, &found.size, &3);
-    same(rt, &found.ranks.as_slice(), &[0, 2].as_slice());
+    same_rows(rt, &found.ranks, &[0, 2], "ranks");
     same(rt, &found.mask.as_deref(), &Some("0x5"));
 }
 
 #[test]
 fn reads_ranks(rt: HostRuntime) {
     same_ranks(&rt, &read_cluster(rt.alloc(), RANKS).sure(&rt));
+}
+
+/// Maps of file systems, and why there is no plan for them.
+const REFUSED_RANKS: &[(&[u8], &str)] = &[
+    (
+        b"{\"mdsmap\":{\"max_mds\":1,\"in\":[]}}",
+        "the file system has no rank",
+    ),
+    (
+        b"{\"mdsmap\":{\"max_mds\":65,\"in\":[0]}}",
+        "more than 64 ranks",
+    ),
+    (
+        b"{\"mdsmap\":{\"max_mds\":64,\"in\":[0,64]}}",
+        "rank 64 is none of 0 to 63",
+    ),
+    (
+        b"{\"mdsmap\":{\"max_mds\":1,\"in\":[0],\"in\":[1]}}",
+        "line 1, column 33: duplicate field `in`",
+    ),
+];
+
+#[test]
+fn refuses_ranks_it_cant_plan_for(rt: HostRuntime) {
+    for (text, why) in REFUSED_RANKS {
+        let told = refusal_of(&rt, rt.alloc(), read_cluster(rt.alloc(), text));
+        same(&rt, &told.as_str(), why);
+    }
 }
 
 /// A listing of four directories.

@@ -37,7 +37,6 @@ fn add_roots(
         let root = SubtreeRoot {
             path: Vec::from_slice(alloc, path).sure(rt),
             is_here: true,
-            rank: 0,
             pin: *pin,
             is_spread: false,
         };

@@ -9,7 +9,6 @@ use ceph_dumps::{
 };
 use ceph_snapshot::{Gathering, Snapshot};
 use mds_types::Rank;
-use mds_types::limits::RANK_LIMIT;
 use std::alloc::Global;
 use std::io::ErrorKind;
 use std::rt::{Clock, Files};
@@ -23,8 +22,6 @@ const SAMPLE_LIMIT: u64 = 1000;
 pub struct Collected {
     /// The ranks of the file system.
     pub cluster: FileSystemRanks,
-    /// How many ranks it is to have, at most 64.
-    pub size: u8,
     /// How many samples of heat each rank gave.
     pub samples: u64,
     /// The directories.
@@ -136,14 +133,10 @@ fn add_own<R: Files + AllocGlobal>(
     Ok(())
 }
 
-/// The ranks of the file system, and how many it is to have.
-fn ranks_of<R: Files + AllocGlobal>(rt: &R, folder: &str) -> Result<(FileSystemRanks, u8), Error> {
+/// The ranks of the file system.
+fn cluster_of<R: Files + AllocGlobal>(rt: &R, folder: &str) -> Result<FileSystemRanks, Error> {
     let path = format!(in rt.alloc(); "{folder}/fs.json")?;
-    let cluster = read_file(rt, path.as_str(), read_cluster)?;
-    match u8::try_from(cluster.size) {
-        Ok(size) if size <= RANK_LIMIT => Ok((cluster, size)),
-        _ => bail!("{path}: more than 64 ranks"),
-    }
+    read_file(rt, path.as_str(), read_cluster)
 }
 
 /// Adds the dumps of all ranks.
@@ -152,28 +145,23 @@ fn add_ranks<R: Files + AllocGlobal + Clock + Eprint>(
     progress: &mut Progress,
     gathering: &mut Gathering,
     folder: &str,
-    ranks: &[u32],
+    ranks: &[Rank],
     samples: u64,
 ) -> Result<(), Error> {
-    for number in ranks {
-        match u8::try_from(*number).ok().and_then(Rank::new) {
-            Some(rank) => add_rank(rt, progress, gathering, folder, rank, samples)?,
-            None => bail!("{folder}/fs.json: rank {number} is none of 0 to 63"),
-        }
+    for rank in ranks {
+        add_rank(rt, progress, gathering, folder, *rank, samples)?;
     }
     Ok(())
 }
 
 /// How many samples the first of these ranks gave: one at least, as a first one that isn't there is refused when it is
 /// read.
-fn sample_count<R: Files + AllocGlobal>(rt: &R, folder: &str, ranks: &[u32]) -> Result<u64, Error>
+fn sample_count<R: Files + AllocGlobal>(rt: &R, folder: &str, ranks: &[Rank]) -> Result<u64, Error>
     ensures { IfOk result (λ samples. 0 < samples) }
 {
-    let Some(first) = ranks.first().copied() else {
-        bail!("{folder}/fs.json: the file system has no rank");
-    };
+    let first = ranks.first().copied().unwrap_or_default();
     for sample in 1..SAMPLE_LIMIT {
-        let path = format!(in rt.alloc(); "{folder}/loads.{first}.{}.json", sample + 1)?;
+        let path = format!(in rt.alloc(); "{folder}/loads.{}.{}.json", first.number(), sample + 1)?;
         if !fs::exists(rt, path.as_str())? {
             return Ok(sample);
         }
@@ -188,7 +176,7 @@ fn add_all<R: Files + AllocGlobal + Clock + Eprint>(
     gathering: &mut Gathering,
     folder: &str,
     own: Option<&str>,
-    ranks: &[u32],
+    ranks: &[Rank],
     samples: u64,
 ) -> Result<(), Error> {
     add_ranks(rt, progress, gathering, folder, ranks, samples)?;
@@ -208,15 +196,14 @@ pub fn read_collected<R: Files + AllocGlobal + Clock + Eprint>(
 ) -> Result<Collected, Error>
     ensures { IfOk result (λ collected. length collected.snapshot.spread.items ≡ 64) }
 {
-    let (cluster, size) = ranks_of(rt, folder)?;
+    let cluster = cluster_of(rt, folder)?;
     let ranks = cluster.ranks.as_slice();
     let samples = sample_count(rt, folder, ranks)?;
     let mut gathering = Gathering::new(rt.alloc())?;
     add_all(rt, progress, &mut gathering, folder, own, ranks, samples)?;
-    let snapshot = gathering.snapshot(samples, size)?;
+    let snapshot = gathering.snapshot(samples, cluster.size)?;
     Ok(Collected {
         cluster,
-        size,
         samples,
         snapshot,
     })

@@ -78,10 +78,10 @@ fn is_proposed(outcome: &Outcome, percent: u8) -> bool
 fn usable(settings: &PlanSettings, collected: &Collected) -> Result<RankSet, Error>
     ensures { (mask : ℕ) → settings.now.mask ≡ Some mask
         → IfOk result (λ ranks. (rank : ℕ)
-        → has_rank ranks rank ≡ (nat_lt rank collected.now.size && has_rank mask rank)) }
+        → has_rank ranks rank ≡ (nat_lt rank collected.now.cluster.size && has_rank mask rank)) }
 {
     let own = collected.cluster.mask.as_deref();
-    match ranks_of(settings.mask, own, collected.size) {
+    match ranks_of(settings.mask, own, collected.cluster.size) {
         Some(ranks) => Ok(ranks),
         None => bail!(
             "the mask of the cluster isn't -1, all or 0x and 1 to 16 digits: give --mask"
@@ -139,12 +139,12 @@ fn planned(alloc: Global, settings: &PlanSettings, collected: Collected) -> Resu
     ensures outcome { IfOk result (IsOutcome collected.snapshot.directories.items collected.snapshot.spread.items
         settings.now.parts) }
     ensures ranks { IfOk result (λ outcome. (mask : ℕ) → settings.now.mask ≡ Some mask → (rank : ℕ)
-        → has_rank outcome.ranks rank ≡ (nat_lt rank collected.size && has_rank mask rank)) }
-    ensures size { IfOk result (λ outcome. outcome.size ≡ collected.size) }
+        → has_rank outcome.ranks rank ≡ (nat_lt rank collected.cluster.size && has_rank mask rank)) }
+    ensures size { IfOk result (λ outcome. outcome.size ≡ collected.cluster.size) }
     ensures samples { IfOk result (λ outcome. outcome.samples ≡ collected.samples) }
 {
     let ranks = usable(settings, &collected)?;
-    let (size, samples) = (collected.size, collected.samples);
+    let (size, samples) = (collected.cluster.size, collected.samples);
     let spread = collected.snapshot.spread;
     let (directories, folded) = folded(alloc, collected.snapshot.directories)?;
     let decision = decided(alloc, settings, ranks, &directories, &spread)?;
