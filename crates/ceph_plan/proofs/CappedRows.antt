@@ -3,7 +3,9 @@ use Rattle.std.proofs.Common.{◌≡◌, ◌∙◌, ◌<◌, ◌≤◌, ℕ, zer
 use Rattle.mds_types.specs.declared.problem.ProblemRow.{ProblemRow}
 use Rattle.mds_types.specs.Connected.{IsChain}
 use Rattle.mds_types.specs.Division.{InPart, IsDivision, IsEdge}
-use Rattle.mds_types.specs.Problem.{ProblemData, parent_at}
+use Rattle.mds_types.specs.declared.problem.ProblemError.{ProblemError}
+use Rattle.mds_types.specs.declared.problem.ProblemError.TheVariants.{TooMany, NoRanks, BadParent, TooHot}
+use Rattle.mds_types.specs.Problem.{IsFirstFault, IsForest, ProblemData, heat_at, parent_at}
 use Rattle.mds_types.specs.RankSet.{rank_count}
 use Rattle.minmax_search.specs.Found.{IsFound}
 use Rattle.minmax_search.specs.declared.found.BestCut.{BestCut}
@@ -83,3 +85,22 @@ parts-found rows cap parts best part is found =
       size = found.cut.size ∙ same;
       below = λ i lt. found.cut.parts.division.below i (subst (λ (n : ℕ). i < n) (sym same) lt);
     })
+
+heat-capped : (cap : ℕ) (rows : List ProblemRow) (i : ℕ) → heat_at (capped_rows cap rows) i ≤ heat_at rows i
+heat-capped cap [] i = omega arith
+heat-capped cap (row ∷ rows) zero = omega arith
+heat-capped cap (row ∷ rows) (suc i) = heat-capped cap rows i
+
+-- the rows of a forest stay one when they are capped, so a fault is that there are no ranks
+pub fault-capped : (cap : ℕ) (rows : List ProblemRow) (ranks : ℕ) (fault : ProblemError) → IsForest rows → IsFirstFault (capped_rows cap rows) ranks fault
+    → rank_count ranks ≡ 0
+fault-capped cap rows ranks TooMany forest many =
+    let none : ⊥ = omega (arith, many, length-map rows (capped_row cap), forest.few) in absurd none
+fault-capped cap rows ranks NoRanks forest none = none.1
+fault-capped cap rows ranks (BadParent i) forest bad =
+    let inside : i < length rows = omega (arith, bad.0, length-map rows (capped_row cap)) in
+    let same : parent_at (capped_rows cap rows) i ≡ parent_at rows i = parent-capped cap rows i in
+    absurd (bad.2 (λ first. same ∙ (ap (parent_at rows) first ∙ forest.root), λ later. omega (arith, same, forest.above i later inside)))
+fault-capped cap rows ranks (TooHot i) forest hot =
+    let inside : i < length rows = omega (arith, hot.0, length-map rows (capped_row cap)) in
+    let none : ⊥ = omega (arith, hot.3, heat-capped cap rows i, forest.cool i inside) in absurd none

@@ -1,3 +1,4 @@
+pub mod AskedRows
 pub mod Bounds
 pub mod CappedRows
 pub mod Climbs
@@ -8,6 +9,7 @@ pub mod Moves
 pub mod PinList
 pub mod Quoting
 pub mod RankCounts
+pub mod Refused
 pub mod Script
 pub mod ScriptEnds
 pub mod Weighed

@@ -11,6 +11,7 @@ use Rattle.ceph_plan.specs.declared.choice.PartCount.TheVariants.{AtMost, Auto}
 use Rattle.ceph_plan.specs.declared.plan.Planned.{Planned}
 use Rattle.ceph_plan.specs.declared.plan.Size.{Size}
 use Rattle.ceph_plan.specs.Plans.{IsPlan, IsPlanOf, no_cap}
+use Rattle.ceph_plan.specs.Refusals.{IsPlannable}
 
 abbrev pub greatest_at : List Planned → ℕ → ℕ
 greatest_at plans k = option_map_or (λ (one : Planned). one.packing.greatest) (slice_get plans k) 0
@@ -85,3 +86,10 @@ pub record IsBest (ranks : ℕ) (pinned : List ℕ) (rows : List ProblemRow) (pl
 abbrev pub IsAsked : ℕ → List ℕ → List ProblemRow → PartCount → Planned → Type 0
 IsAsked ranks pinned rows Auto plan = IsBest ranks pinned rows plan
 IsAsked ranks pinned rows (AtMost parts) plan = IsPlanOf ranks pinned rows parts no_cap plan
+
+-- what is planned: rows that can be, a plan of them, and the one that is asked for
+pub record IsPlanChoice (ranks : ℕ) (pinned : List ℕ) (rows : List ProblemRow) (parts : PartCount)
+    (found : Planned) : Type 0 where
+  pub plannable : IsPlannable ranks pinned rows
+  pub plan : IsPlan ranks pinned rows found
+  pub asked : IsAsked ranks pinned rows parts found

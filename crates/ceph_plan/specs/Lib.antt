@@ -5,5 +5,6 @@ pub mod Holds
 pub mod Packing
 pub mod Plans
 pub mod Proposals
+pub mod Refusals
 pub mod Rule
 pub mod Words

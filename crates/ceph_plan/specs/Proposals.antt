@@ -7,14 +7,15 @@ use Rattle.ceph_plan.specs.declared.choice.PartCount.{PartCount}
 use Rattle.ceph_plan.specs.declared.proposal.OwnPins.{OwnPins}
 use Rattle.ceph_plan.specs.declared.proposal.Proposal.{Proposal}
 use Rattle.ceph_plan.specs.Asked.{ArePinRows, MovesOnce}
-use Rattle.ceph_plan.specs.Choice.{IsAsked}
-use Rattle.ceph_plan.specs.Plans.{IsPlan}
+use Rattle.ceph_plan.specs.Choice.{IsPlanChoice}
 
--- all that `propose` promises, in one word
+-- the plan is the one that is chosen of all numbers of parts, or of the number that is asked for, and what is asked of
+-- the pins is what was planned. Once all changes are made, each row that no foreign pin holds is at its target; once
+-- some are made, the nearest pin of each row is where it was, or where it is in the end; each change gives its row
+-- another pin than it had
 pub record IsProposal (ranks : ℕ) (pinned : List ℕ) (rows : List ProblemRow) (parts : PartCount) (own : List OwnPins)
     (found : Proposal) : Type 0 where
-  pub plan : IsPlan ranks pinned rows found.plan
-  pub asked : IsAsked ranks pinned rows parts found.plan
+  pub chosen : IsPlanChoice ranks pinned rows parts found.plan
   pub targets : ArePinRows rows found.plan.part.items found.plan.packing.rank.items own (length rows) found.rows.items
   pub realized : IsRealized found.rows.items (applied (before_pin found.rows.items) found.changes.items)
   pub once : MovesOnce found.rows.items found.changes.items

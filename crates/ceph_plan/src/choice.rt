@@ -1,10 +1,10 @@
 //! How many parts: each number from that of the ranks to 64 is tried.
 ghost use Rattle.std.specs.Prelude.{◌≡◌, ◌<◌, ◌≤◌, ◌+◌, ◌/◌, ◌^◌, ◌↔◌, ℕ, All, length};
-ghost use Rattle.std.specs.Prelude.{true, false, IfOk, IsErrOf, IsTrue};
+ghost use Rattle.std.specs.Prelude.{true, IfErr, IfOk, IsTrue};
 ghost use Rattle.mds_types.specs.Problem.{IsForest};
 ghost use Rattle.mds_types.specs.RankSet.{has_rank};
-ghost use Rattle.ceph_plan.specs.Choice.{AreWeighed, IsAsked, IsBest, IsChosen, greatest_at, moved_at, size_of};
-ghost use Rattle.ceph_plan.specs.Plans.{IsPlan};
+ghost use Rattle.ceph_plan.specs.Choice.{AreWeighed, IsBest, IsChosen, IsPlanChoice, greatest_at, moved_at, size_of};
+ghost use Rattle.ceph_plan.specs.Refusals.{IsPlanRefusal};
 
 use crate::bound::total_heat;
 use crate::packing::are_pinned;
@@ -110,6 +110,7 @@ fn weighed(
     requires zero { has_rank ranks 0 ≡ true }
     ensures weighed { IfOk result (λ plans. AreWeighed ranks pinned.now rows.now plans.items 65) }
     ensures some { IfOk result (λ plans. 0 < length plans.items) }
+    ensures refused { IfErr result (λ error. error ≡ PlanError.Memory) }
 {
     let (heat, count) = (total_heat(rows), ranks.len());
     let mut plans = Vec::new(alloc);
@@ -137,7 +138,8 @@ fn best_plan(
     requires size { length pinned.now ≡ 64 }
     requires small { All (λ n. n ≤ 2 ^ 57) pinned.now }
     requires zero { has_rank ranks 0 ≡ true }
-    ensures { IfOk result (IsBest ranks pinned.now rows.now) }
+    ensures best { IfOk result (IsBest ranks pinned.now rows.now) }
+    ensures refused { IfErr result (λ error. error ≡ PlanError.Memory) }
 {
     let mut plans = weighed(alloc, rows, pinned, ranks, keep)?;
     let at = chosen(&plans);
@@ -157,10 +159,9 @@ pub fn choose_plan(
     ranks: RankSet,
     keep: u8,
 ) -> Result<Planned, PlanError>
-    ensures plan { IfOk result (IsPlan ranks pinned.now rows.now) }
-    // it is the one that is chosen of all numbers of parts, or of the number that is asked for
-    ensures asked { IfOk result (IsAsked ranks pinned.now rows.now parts) }
-    ensures zero { has_rank ranks 0 ≡ false → IsErrOf result PlanError.NoRankZero }
+    ensures chosen { IfOk result (IsPlanChoice ranks pinned.now rows.now parts) }
+    // it is refused for what is wrong first
+    ensures refused { IfErr result (IsPlanRefusal ranks pinned.now rows.now parts) }
 {
     if !ranks.has(Rank::default()) {
         return Err(PlanError::NoRankZero);

@@ -1,8 +1,10 @@
 //! A plan of one number of parts.
-ghost use Rattle.std.specs.Prelude.{◌≡◌, ◌<◌, ◌≤◌, ◌^◌, ◌↔◌, ℕ, All, IsTrue, length, min, slice_index, true, IfOk};
+ghost use Rattle.std.specs.Prelude.{◌≡◌, ◌<◌, ◌≤◌, ◌^◌, ◌↔◌, ℕ, All, IsTrue, length, min, slice_index, true};
+ghost use Rattle.std.specs.Prelude.{IfErr, IfOk};
 ghost use Rattle.mds_types.specs.Problem.{IsForest, heat_at};
 ghost use Rattle.mds_types.specs.RankSet.{has_rank, rank_count};
 ghost use Rattle.ceph_plan.specs.Plans.{IsPlanOf, capped_rows, moved_inodes};
+ghost use Rattle.ceph_plan.specs.Refusals.{IsPartsRefusal};
 
 use crate::packing::{Packing, pack};
 use crate::plan_error::PlanError;
@@ -106,7 +108,8 @@ pub fn plan_parts(
     requires size { length pinned.now ≡ 64 }
     requires small { All (λ n. n ≤ 2 ^ 57) pinned.now }
     requires zero { has_rank ranks 0 ≡ true }
-    ensures { IfOk result (IsPlanOf ranks pinned.now rows.now size.parts size.cap) }
+    ensures plan { IfOk result (IsPlanOf ranks pinned.now rows.now size.parts size.cap) }
+    ensures refused { IfErr result (IsPartsRefusal size.parts) }
 {
     let divided = first_ranks(size.parts);
     let problem = match Problem::new(capped(alloc, rows, size.cap)?, divided) {
@@ -119,7 +122,6 @@ pub fn plan_parts(
         proof: _,
         passes: _,
     } = search(&problem, alloc)?;
-    prove!(cut.count <= 64 && cut.part.len() == rows.len());
     let is_heavy = has_row_of(problem.rows(), greatest);
     let packing = pack(alloc, rows, &cut.part, cut.count, pinned, ranks, keep)?;
     let moved = moved(rows, &cut.part, &packing.rank);

@@ -1,4 +1,5 @@
 //! Why there is no plan.
+ghost use Rattle.std.specs.Prelude.{◌≡◌};
 
 use mds_types::ProblemError;
 use std::alloc::{AllocError, AllocFailed};
@@ -28,12 +29,20 @@ pub enum PlanError {
 }
 
 impl From<AllocError> for PlanError {
+    ghost use Rattle.ceph_plan.specs.declared.plan_error.PlanError.TheVariants as cause;
+
+    ghost from_gives = { λ _ error. error ≡ cause.Memory };
+
     fn from(_: AllocError) -> PlanError {
         PlanError::Memory
     }
 }
 
 impl<T: Drop> From<AllocFailed<T>> for PlanError {
+    ghost use Rattle.ceph_plan.specs.declared.plan_error.PlanError.TheVariants as cause;
+
+    ghost from_gives = { λ _ error. error ≡ cause.Memory };
+
     fn from(_: AllocFailed<T>) -> PlanError {
         PlanError::Memory
     }

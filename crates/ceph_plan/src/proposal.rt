@@ -1,11 +1,8 @@
 //! The changes of export pins that bring each directory to the rank that a plan gives it.
-ghost use Rattle.std.specs.Prelude.{◌≡◌, ◌<◌, ℕ, length, slice_index, false, IfOk, IsErrOf};
-ghost use Rattle.mds_types.specs.RankSet.{has_rank};
-ghost use Rattle.ceph_plan.specs.Rule.{IsRealized};
-ghost use Rattle.ceph_plan.specs.Changes.{AreNeeded, applied, before_pin};
-ghost use Rattle.ceph_plan.specs.Asked.{ArePinRows, MovesOnce};
-ghost use Rattle.ceph_plan.specs.Choice.{IsAsked};
-ghost use Rattle.ceph_plan.specs.Plans.{IsPlan};
+ghost use Rattle.std.specs.Prelude.{◌≡◌, ◌<◌, ℕ, length, slice_index, IfErr, IfOk};
+ghost use Rattle.ceph_plan.specs.Asked.{ArePinRows};
+ghost use Rattle.ceph_plan.specs.Proposals.{IsProposal};
+ghost use Rattle.ceph_plan.specs.Refusals.{IsProposalRefusal};
 
 use crate::changes::changes_for;
 use crate::choice::{PartCount, choose_plan};
@@ -76,20 +73,8 @@ pub fn propose(
     own: &[OwnPins],
 ) -> Result<Proposal, PlanError>
     requires own { length own.now ≡ length rows.now }
-    ensures plan { IfOk result (λ found. IsPlan ranks pinned.now rows.now found.plan) }
-    // the plan is the one that is chosen of all numbers of parts, or of the number that is asked for
-    ensures asked { IfOk result (λ found. IsAsked ranks pinned.now rows.now parts found.plan) }
-    // what is asked of the pins is what was planned
-    ensures targets { IfOk result (λ found. ArePinRows rows.now found.plan.part.items found.plan.packing.rank.items
-        own.now (length rows.now) found.rows.items) }
-    // once all changes are made, each row that no foreign pin holds is there
-    ensures realized { IfOk result (λ found. IsRealized found.rows.items
-        (applied (before_pin found.rows.items) found.changes.items)) }
-    // once some are made, the nearest pin of each row is where it was, or where it is in the end
-    ensures once { IfOk result (λ found. MovesOnce found.rows.items found.changes.items) }
-    // each change gives its row another pin than it had
-    ensures needed { IfOk result (λ found. AreNeeded found.rows.items found.changes.items) }
-    ensures zero { has_rank ranks 0 ≡ false → IsErrOf result PlanError.NoRankZero }
+    ensures proposal { IfOk result (IsProposal ranks pinned.now rows.now parts own.now) }
+    ensures refused { IfErr result (IsProposalRefusal ranks pinned.now rows.now parts own.now) }
 {
     let plan = choose_plan(alloc, rows, parts, pinned, ranks, keep)?;
     let asked = pin_rows(alloc, rows, &plan.part, &plan.packing.rank, own)?;

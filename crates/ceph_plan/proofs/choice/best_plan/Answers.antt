@@ -4,8 +4,8 @@ use Rattle.ceph_plan.specs.Choice.{IsChosen}
 use Rattle.ceph_plan.specs.declared.plan.Planned.{Planned}
 use Rattle.ceph_plan.proofs.choice.best_plan.Goals as goal
 
-pub returns : goal.returns
-returns c =
+pub returns-clause-best : goal.returns-clause-best
+returns-clause-best c =
     let plans : List Planned = c.in_ok-plans.plans.items in
     let chosen : IsChosen plans c.chosen-at.result = subst (λ (those : List Planned). IsChosen those c.chosen-at.result) c.deref.ensures.value c.chosen-at.ensures in
     record {

@@ -4,7 +4,7 @@ use Rattle.std.proofs.lemmas.Bool.{eqb-false}
 use Rattle.mds_types.specs.Problem.{ProblemData}
 use Rattle.mds_types.specs.declared.problem.ProblemRow.{ProblemRow}
 use Rattle.ceph_plan.specs.Choice.{IsBest}
-use Rattle.ceph_plan.specs.Plans.{IsPlan, IsPlanOf, no_cap}
+use Rattle.ceph_plan.specs.Plans.{IsPlan, IsPlanOf}
 use Rattle.ceph_plan.specs.declared.plan.Planned.{Planned}
 use Rattle.ceph_plan.specs.declared.plan_error.PlanError.{PlanError}
 use Rattle.ceph_plan.proofs.choice.choose_plan.Goals as goal
@@ -45,15 +45,3 @@ plan_parts-requires-clause-size c = c.if-not-are_pinned.ensures.size refl
 
 pub plan_parts-requires-clause-small : goal.plan_parts-requires-clause-small
 plan_parts-requires-clause-small c = c.if-not-are_pinned.ensures.small refl
-
-pub returns-in-Auto-clause-plan : goal.returns-in-Auto-clause-plan
-returns-in-Auto-clause-plan c =
-    let same : c.rows-rows.result.now ≡ c.args.rows.now = c.rows-rows.ensures.value ∙ (ap (λ (problem : ProblemData). problem.rows) c.in-Ok.ensures.ok ∙ c.in_ok-to_vec.ensures.items_if_clones_equal (λ x y is. is)) in
-    best-plan c.args.ranks c.args.pinned.now c.args.rows.now c.best_plan.result
-    (subst (λ (rows : List ProblemRow). IfOk c.best_plan.result (IsBest c.args.ranks c.args.pinned.now rows)) same c.best_plan.ensures)
-
-pub returns-clause-plan : goal.returns-clause-plan
-returns-clause-plan c =
-    let same : c.rows-rows.result.now ≡ c.args.rows.now = c.rows-rows.ensures.value ∙ (ap (λ (problem : ProblemData). problem.rows) c.in-Ok.ensures.ok ∙ c.in_ok-to_vec.ensures.items_if_clones_equal (λ x y is. is)) in
-    of-plan c.args.ranks c.args.pinned.now c.args.rows.now c.in-AtMost.parts no_cap c.plan_parts.result
-    (subst (λ (rows : List ProblemRow). IfOk c.plan_parts.result (IsPlanOf c.args.ranks c.args.pinned.now rows c.in-AtMost.parts no_cap)) same c.plan_parts.ensures)

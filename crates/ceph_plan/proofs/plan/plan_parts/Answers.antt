@@ -1,28 +1,14 @@
-use Rattle.std.proofs.Common.{◌≡◌, ◌∙◌, ◌<◌, ◌≤◌, ◌↔◌, ℕ, IsTrue, List, length, ap, min, refl, subst, sym, slice_index}
-use Rattle.std.proofs.Math.Nat.{not-le_of_lt}
-use Rattle.std.proofs.lemmas.Bool.{both_ways, eq-eqb}
+use Rattle.std.proofs.Common.{◌≡◌, ◌∙◌, ◌<◌, ◌≤◌, ◌↔◌, ℕ, IsTrue, List, length, ap, arith, min, subst, sym, slice_index}
 use Rattle.std.proofs.lemmas.List.{length-map}
 use Rattle.mds_types.specs.declared.problem.ProblemRow.{ProblemRow}
-use Rattle.mds_types.specs.Problem.{ProblemData, heat_at}
+use Rattle.mds_types.specs.Problem.{IsFirstFault, ProblemData, heat_at}
+use Rattle.mds_types.specs.RankSet.{rank_count}
 use Rattle.minmax_search.specs.declared.found.BestCut.{BestCut}
 use Rattle.minmax_search.specs.Found.{IsFound}
 use Rattle.ceph_plan.specs.Packing.{IsPacking}
 use Rattle.ceph_plan.specs.Plans.{capped_row, capped_rows, moved_inodes}
-use Rattle.ceph_plan.proofs.CappedRows.{AreParts, division-capped, found-capped, parts-found}
+use Rattle.ceph_plan.proofs.CappedRows.{AreParts, division-capped, fault-capped, found-capped, parts-found}
 use Rattle.ceph_plan.proofs.plan.plan_parts.Goals as goal
-use Rattle.ceph_plan.proofs.plan.plan_parts.Goals.{then-cut-le64, else-cut-le64}
-
-pub prove-unreachable-requires : goal.prove-unreachable-requires
-prove-unreachable-requires c =
-    let best : BestCut = c.in_ok-cut.field-0 in
-    let parts : AreParts c.args.rows.now best.cut.part.items best.cut.count =
-    parts-found c.args.rows.now c.args.size.cap c.args.size.parts best best.cut.part.items refl
-    (found-capped c.args.rows.now _ c.args.size.cap c.args.size.parts _ c.in-Ok.problem best c.in-Ok.ensures.ok c.in_ok-capped.ensures c.first_ranks-divided.ensures c.in_ok-cut.ensures) in
-    elim c.if-cut-le64.branch [
-      | then-cut-le64 w ↦
-          both_ways c.if-cut-le64.prove c.if-prove.true (w.prove-is ∙ eq-eqb _ _ (w.len.ensures ∙ (best.cut.part.ok.0 ∙ parts.size)))
-      | else-cut-le64 w ↦ not-le_of_lt w.if-cut-le64.false parts.few
-    ]
 
 parts_at-pack : (c : goal.After-deref) → AreParts c.args.rows.now c.deref.result.now c.in_ok-cut.field-0.cut.count
 parts_at-pack c =
@@ -54,8 +40,17 @@ moved-moved-requires-clause-below c = λ i lt.
     subst (λ (n : ℕ). slice_index c.deref-2.result.now i < n) (sym (ap length c.deref-3.ensures.value ∙ c.in_ok-packing.ensures.packing.size))
     ((parts_at-moved c).below i lt)
 
-pub returns : goal.returns
-returns c =
+pub returns-in-Err-clause-refused : goal.returns-in-Err-clause-refused
+returns-in-Err-clause-refused c =
+    let rows : List ProblemRow = c.args.rows.now in
+    let divided : ℕ = c.first_ranks-divided.result in
+    let fault : IsFirstFault (capped_rows c.args.size.cap rows) divided c.in-Err.error =
+    subst (λ (found : List ProblemRow). IsFirstFault found divided c.in-Err.error) c.in_ok-capped.ensures c.in-Err.ensures.err in
+    let none : rank_count divided ≡ 0 = fault-capped c.args.size.cap rows divided c.in-Err.error c.requires.forest fault in
+    omega (arith, none, c.first_ranks-divided.ensures)
+
+pub returns-clause-plan : goal.returns-clause-plan
+returns-clause-plan c =
     let rows : List ProblemRow = c.args.rows.now in
     let cap : ℕ = c.args.size.cap in
     let best : BestCut = c.in_ok-cut.field-0 in

@@ -4,10 +4,10 @@ use Rattle.ceph_snapshot.specs.declared.directory.Directory.{Directory}
 use Rattle.ceph_snapshot.specs.declared.held.Held.{Held}
 use Rattle.ceph_snapshot.specs.Holding.{held_below, most_heat}
 use Rattle.ceph_snapshot.specs.Rows.{AreRowsOf}
+use Rattle.ceph_plan.specs.declared.choice.PartCount.{PartCount}
 use Rattle.ceph_plan.specs.declared.proposal.OwnPins.{OwnPins}
-use Rattle.ceph_plan.specs.Asked.{ArePinRows}
-use Rattle.ceph_plan.specs.Choice.{IsAsked}
-use Rattle.ceph_plan.specs.Plans.{IsPlan}
+use Rattle.ceph_plan.specs.declared.proposal.Proposal.{Proposal}
+use Rattle.ceph_plan.specs.Proposals.{IsProposal}
 use Rattle.ceph_report.specs.Amounts.{AreAmounts, goal_at, inodes_from, inodes_to}
 use Rattle.mdbal_ceph.proofs.Parents.{parents_first}
 use Rattle.mdbal_ceph.proofs.outcome.decided.Goals as goal
@@ -22,17 +22,16 @@ returns c =
     let own : List OwnPins = c.in_ok-own.own.items in
     let held_is : c.as_slice-held.result.now ≡ holds = c.as_slice-held.ensures.value in
     let rows_of : AreRowsOf directories holds n rows = subst (λ (others : List Held). AreRowsOf directories others n rows) held_is c.in_ok-rows.ensures in
-    let plan : IsPlan c.args.ranks pinned rows c.in_ok-proposal.proposal.plan =
-    subst (λ (heats : List ℕ). IsPlan c.args.ranks heats rows c.in_ok-proposal.proposal.plan) c.deref-2.ensures.value
-    (subst (λ (others : List ProblemRow). IsPlan c.args.ranks c.deref-2.result.now others c.in_ok-proposal.proposal.plan) c.deref.ensures.value c.in_ok-proposal.ensures.plan) in
-    let targets : ArePinRows rows c.in_ok-proposal.proposal.plan.part.items c.in_ok-proposal.proposal.plan.packing.rank.items own (length rows) c.in_ok-proposal.proposal.rows.items =
-    subst (λ (pins : List OwnPins). ArePinRows rows c.in_ok-proposal.proposal.plan.part.items c.in_ok-proposal.proposal.plan.packing.rank.items pins (length rows) c.in_ok-proposal.proposal.rows.items)
-    c.deref-3.ensures.value
-    (subst (λ (others : List ProblemRow). ArePinRows others c.in_ok-proposal.proposal.plan.part.items c.in_ok-proposal.proposal.plan.packing.rank.items c.deref-3.result.now (length others) c.in_ok-proposal.proposal.rows.items)
-    c.deref.ensures.value c.in_ok-proposal.ensures.targets) in
+    let proposal : Proposal = c.in_ok-proposal.proposal in
+    let parts : PartCount = c.args.settings.now.parts in
+    let proposed : IsProposal c.args.ranks pinned rows parts own proposal =
+    subst (λ (pins : List OwnPins). IsProposal c.args.ranks pinned rows parts pins proposal) c.deref-3.ensures.value
+    (subst (λ (heats : List ℕ). IsProposal c.args.ranks heats rows parts c.deref-3.result.now proposal) c.deref-2.ensures.value
+    (subst (λ (others : List ProblemRow). IsProposal c.args.ranks c.deref-2.result.now others parts c.deref-3.result.now proposal) c.deref.ensures.value
+    c.in_ok-proposal.ensures.proposal)) in
     record {
       size = c.in_ok-holds.ensures.size;
-      held = c.in_ok-holds.ensures.held (parents_first directories holds rows rows_of plan.forest);
+      held = c.in_ok-holds.ensures.held (parents_first directories holds rows rows_of proposed.chosen.plan.forest);
       pinned = record {
         size = c.in_ok-pinned.ensures.size;
         at = subst (λ (others : List Held). (r : ℕ) → r < 64 → slice_index pinned r ≡ min most_heat (slice_index c.args.spread.now r + held_below directories others r n))
@@ -43,19 +42,9 @@ returns c =
         own = own;
         rows_of = rows_of;
         own_pins = c.in_ok-own.ensures;
-        proposed = record {
-          plan = plan;
-          asked =
-              subst (λ (heats : List ℕ). IsAsked c.args.ranks heats rows c.args.settings.now.parts c.in_ok-proposal.proposal.plan) c.deref-2.ensures.value
-              (subst (λ (others : List ProblemRow). IsAsked c.args.ranks c.deref-2.result.now others c.args.settings.now.parts c.in_ok-proposal.proposal.plan)
-              c.deref.ensures.value c.in_ok-proposal.ensures.asked);
-          targets = targets;
-          realized = c.in_ok-proposal.ensures.realized;
-          once = c.in_ok-proposal.ensures.once;
-          needed = c.in_ok-proposal.ensures.needed;
-        };
+        proposed = proposed;
       };
-      goals = λ i l. rw (held_is, c.deref-4.ensures.value) at (c.in_ok-goals.ensures.goals i (let inside : i < length c.deref-4.result.now = omega (arith, l, ap length c.deref-4.ensures.value, targets.size, rows_of.size) in inside));
+      goals = λ i l. rw (held_is, c.deref-4.ensures.value) at (c.in_ok-goals.ensures.goals i (let inside : i < length c.deref-4.result.now = omega (arith, l, ap length c.deref-4.ensures.value, proposed.targets.size, rows_of.size) in inside));
       now = c.in_ok-sums.ensures.now;
       into =
           subst (λ (others : List Held). AreAmounts c.in_ok-sums.sums.into.items (λ r. inodes_to directories others c.in_ok-goals.goals.items r n)) held_is

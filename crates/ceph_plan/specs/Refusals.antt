@@ -1,0 +1,52 @@
+-- Why there is no plan.
+use Rattle.std.specs.Prelude.{◌≡◌, ◌<◌, ◌≤◌, ◌^◌, ◌⊎◌, ⊤, ℕ, All, List, None, length, true, false}
+use Rattle.mds_types.specs.declared.problem.ProblemRow.{ProblemRow}
+use Rattle.mds_types.specs.Problem.{IsFirstFault}
+use Rattle.mds_types.specs.RankSet.{has_rank}
+use Rattle.ceph_plan.specs.Asked.{own_at}
+use Rattle.ceph_plan.specs.declared.choice.PartCount.{PartCount}
+use Rattle.ceph_plan.specs.declared.choice.PartCount.TheVariants.{AtMost, Auto}
+use Rattle.ceph_plan.specs.declared.plan_error.PlanError.{PlanError}
+use Rattle.ceph_plan.specs.declared.plan_error.PlanError.TheVariants as cause
+use Rattle.ceph_plan.specs.declared.proposal.OwnPins.{OwnPins}
+
+-- this is the heat that is pinned to each of 64 ranks, and not too much of it
+pub record IsPinnedHeat (pinned : List ℕ) : Type 0 where
+  pub size : length pinned ≡ 64
+  pub small : All (λ n. n ≤ 2 ^ 57) pinned
+
+-- rank 0 is among the ranks, there is a row, and the pinned heat can be counted
+pub record IsPlannable (ranks : ℕ) (pinned : List ℕ) (rows : List ProblemRow) : Type 0 where
+  pub zero : has_rank ranks 0 ≡ true
+  pub some : 0 < length rows
+  pub held : IsPinnedHeat pinned
+
+-- why there is no plan of so many parts: none are asked for, or want of memory
+abbrev pub IsPartsRefusal : ℕ → PlanError → Type 0
+IsPartsRefusal parts cause.Memory = ⊤
+IsPartsRefusal parts cause.NoDirectory = ⊥
+IsPartsRefusal parts cause.NoRankZero = ⊥
+IsPartsRefusal parts cause.PinnedTooHot = ⊥
+IsPartsRefusal parts cause.PinnedRoot = ⊥
+IsPartsRefusal parts (cause.Problem fault) = parts ≡ 0
+
+-- no parts are asked for
+abbrev pub AsksNoParts : PartCount → Type 0
+AsksNoParts Auto = ⊥
+AsksNoParts (AtMost parts) = parts ≡ 0
+
+-- why rows aren't planned: the first thing that is wrong, or want of memory where it is none of the first three
+abbrev pub IsPlanRefusal : ℕ → List ℕ → List ProblemRow → PartCount → PlanError → Type 0
+IsPlanRefusal ranks pinned rows parts cause.Memory = IsPlannable ranks pinned rows
+IsPlanRefusal ranks pinned rows parts cause.NoDirectory = (has_rank ranks 0 ≡ true) × (length rows ≡ 0)
+IsPlanRefusal ranks pinned rows parts cause.NoRankZero = has_rank ranks 0 ≡ false
+IsPlanRefusal ranks pinned rows parts cause.PinnedTooHot =
+    (has_rank ranks 0 ≡ true) × (0 < length rows) × (IsPinnedHeat pinned → ⊥)
+IsPlanRefusal ranks pinned rows parts cause.PinnedRoot = ⊥
+IsPlanRefusal ranks pinned rows parts (cause.Problem fault) =
+    IsPlannable ranks pinned rows × (IsFirstFault rows ranks fault ⊎ AsksNoParts parts)
+
+-- why there is no proposal: the root has a pin that is to stay, or the rows aren't planned
+abbrev pub IsProposalRefusal : ℕ → List ℕ → List ProblemRow → PartCount → List OwnPins → PlanError → Type 0
+IsProposalRefusal ranks pinned rows parts own error =
+    ((error ≡ cause.PinnedRoot) × ((own_at own 0).foreign ≡ None → ⊥)) ⊎ IsPlanRefusal ranks pinned rows parts error
