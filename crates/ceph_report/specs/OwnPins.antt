@@ -1,6 +1,5 @@
 -- The pins that directories have of their own, as the planner of pins takes them.
-use Rattle.std.specs.Prelude.{◌≡◌, ◌==◌, ◌<◌, ℕ, List, length, slice_get, Option, Some, None, if◌then◌else◌}
-use Rattle.std.specs.Option.{option_map_or}
+use Rattle.std.specs.Prelude.{◌≡◌, ◌==◌, ◌<◌, ℕ, List, length, Option, Some, None, if◌then◌else◌}
 use Rattle.ceph_plan.specs.Rule.{first_of}
 use Rattle.ceph_plan.specs.declared.proposal.OwnPins.{OwnPins}
 use Rattle.ceph_plan.specs.Asked.{own_at}

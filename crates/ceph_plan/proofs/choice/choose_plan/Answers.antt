@@ -1,21 +1,8 @@
-use Rattle.std.proofs.Common.{◌≡◌, ◌≢◌, ◌<◌, ◌==◌, ◌∙◌, ℕ, Bool, false, List, length, Result, Ok, Err, ap, arith, refl, subst, sym}
-use Rattle.std.specs.Result.{IfOk}
+use Rattle.std.proofs.Common.{◌≡◌, ◌≢◌, ◌<◌, ◌==◌, ◌∙◌, ℕ, Bool, false, List, length, ap, arith, refl, subst, sym}
 use Rattle.std.proofs.lemmas.Bool.{eqb-false}
 use Rattle.mds_types.specs.Problem.{ProblemData}
 use Rattle.mds_types.specs.declared.problem.ProblemRow.{ProblemRow}
-use Rattle.ceph_plan.specs.Choice.{IsBest}
-use Rattle.ceph_plan.specs.Plans.{IsPlan, IsPlanOf}
-use Rattle.ceph_plan.specs.declared.plan.Planned.{Planned}
-use Rattle.ceph_plan.specs.declared.plan_error.PlanError.{PlanError}
 use Rattle.ceph_plan.proofs.choice.choose_plan.Goals as goal
-
-best-plan : (ranks : ℕ) (pinned : List ℕ) (rows : List ProblemRow) (found : Result Planned PlanError) → IfOk found (IsBest ranks pinned rows) → IfOk found (IsPlan ranks pinned rows)
-best-plan ranks pinned rows (Ok plan) best = best.weighed.all best.k plan best.is
-best-plan ranks pinned rows (Err error) best = tt
-
-of-plan : (ranks : ℕ) (pinned : List ℕ) (rows : List ProblemRow) (parts cap : ℕ) (found : Result Planned PlanError) → IfOk found (IsPlanOf ranks pinned rows parts cap) → IfOk found (IsPlan ranks pinned rows)
-of-plan ranks pinned rows parts cap (Ok plan) of = of.is
-of-plan ranks pinned rows parts cap (Err error) of = tt
 
 positive : (n : ℕ) → (n == 0) ≡ false → 0 < n
 positive n is = let some : n ≢ 0 = eqb-false n 0 is in omega arith
