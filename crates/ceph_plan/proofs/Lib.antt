@@ -1,6 +1,7 @@
 pub mod AskedRows
 pub mod Bounds
 pub mod CappedRows
+pub mod Chosen
 pub mod Climbs
 pub mod Found
 pub mod Held
