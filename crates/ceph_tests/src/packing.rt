@@ -32,23 +32,24 @@ fn packed_rows(
     problem: &Problem,
     part: &[u32],
     by_rank: &[u64],
+    keep: u8,
 ) -> Option<Packing> {
     let rows = problem.rows();
     let ranks = problem.ranks();
     let fits = rows.len() == part.len() && !rows.is_empty() && ranks.has(Rank::default());
     if fits && are_parts(part, 64) && are_pinned(by_rank) {
-        Some(pack(alloc, rows, part, 64, by_rank, ranks, 0).sure(rt))
+        Some(pack(alloc, rows, part, 64, by_rank, ranks, keep).sure(rt))
     } else {
         None
     }
 }
 
-fn packed(rt: &impl Abort, alloc: Global, given: &[(u64, u8)], pinned: &[u64]) -> Packing {
+fn packed(rt: &impl Abort, alloc: Global, row: &Case) -> Packing {
     let ranks = RankSet::from_bits(7);
-    let problem = Problem::new(rows_of(rt, alloc, given), ranks).sure(rt);
-    let part = first(PARTS, given.len());
-    let by_rank = by_rank(rt, alloc, pinned);
-    let packing = packed_rows(rt, alloc, &problem, part, &by_rank);
+    let problem = Problem::new(rows_of(rt, alloc, row.given), ranks).sure(rt);
+    let part = first(PARTS, row.given.len());
+    let by_rank = by_rank(rt, alloc, row.pinned);
+    let packing = packed_rows(rt, alloc, &problem, part, &by_rank, row.keep);
     packing.ok_or("it isn't packed").sure(rt)
 }
 
@@ -62,6 +63,8 @@ struct Case {
     given: &'static [(u64, u8)],
     /// What is pinned to the first ranks.
     pinned: &'static [u64],
+    /// By how many percent a load may pass the greatest so that a part stays.
+    keep: u8,
     ranks: &'static [u8],
     loads: Loads<'static>,
 }
@@ -71,6 +74,7 @@ const PACKED: &[Case] = &[
         name: "the hottest first",
         given: &[(0, 0), (7, 0), (6, 0), (5, 0), (4, 0), (3, 0)],
         pinned: &[],
+        keep: 0,
         ranks: &[0, 0, 1, 2, 2, 1],
         loads: (&[7, 9, 9], 9, 9),
     },
@@ -78,6 +82,7 @@ const PACKED: &[Case] = &[
         name: "among equals the rank that has most of the part",
         given: &[(0, 0), (7, 2)],
         pinned: &[],
+        keep: 0,
         ranks: &[0, 2],
         loads: (&[0, 0, 7], 7, 7),
     },
@@ -85,6 +90,7 @@ const PACKED: &[Case] = &[
         name: "a part stays where it is while another rank is hotter anyway",
         given: &[(3, 0), (5, 0)],
         pinned: &[0, 100],
+        keep: 0,
         ranks: &[0, 0],
         loads: (&[8, 100, 0], 100, 100),
     },
@@ -92,8 +98,25 @@ const PACKED: &[Case] = &[
         name: "and goes where the least is pinned otherwise",
         given: &[(3, 0), (99, 0)],
         pinned: &[0, 100],
+        keep: 0,
         ranks: &[0, 2],
         loads: (&[3, 100, 99], 100, 100),
+    },
+    Case {
+        name: "a part stays where the load passes the greatest by as much as is allowed",
+        given: &[(0, 0), (1000, 1), (900, 1)],
+        pinned: &[],
+        keep: 90,
+        ranks: &[0, 1, 1],
+        loads: (&[0, 1900, 0], 1900, 1000),
+    },
+    Case {
+        name: "and goes where it passes it by more",
+        given: &[(0, 0), (1000, 1), (900, 1)],
+        pinned: &[],
+        keep: 89,
+        ranks: &[0, 1, 0],
+        loads: (&[900, 1000, 0], 1000, 1000),
     },
 ];
 
@@ -114,7 +137,7 @@ fn same_packing(rt: &impl Abort, found: &Packing, row: &Case) {
 }
 
 fn packs_so(rt: &impl Abort, alloc: Global, row: &Case) {
-    same_packing(rt, &packed(rt, alloc, row.given, row.pinned), row);
+    same_packing(rt, &packed(rt, alloc, row), row);
 }
 
 #[test]
