@@ -1,1 +1,2 @@
+pub mod PresentLemmas
 pub mod SolveLemmas

@@ -1,5 +1,6 @@
 -- A least cut and a cheapest placing of its parts make a certified plan.
-use Rattle.std.proofs.Common.{◌≡◌, ◌∙◌, ◌≤◌, ℕ, List, length, slice_index, arith}
+use Rattle.std.proofs.Common.{◌≡◌, ◌∙◌, ◌<◌, ◌≤◌, ℕ, List, length, slice_index, arith}
+use Rattle.mds_types.specs.declared.cut_proof.CutProof.{CutProof}
 use Rattle.mds_types.specs.declared.plan.Plan.{Plan}
 use Rattle.mds_types.specs.declared.problem.ProblemRow.{ProblemRow}
 use Rattle.mds_types.specs.Certificate.{AreRanks, IsCutCertified, IsCertified, plan_label, plan_rank}
@@ -15,6 +16,7 @@ use Rattle.rank_assign.specs.Assigned.{CostData}
 use Rattle.rank_assign.specs.declared.assigned.Assigned.{Assigned}
 use Rattle.cost_table.specs.Costs.{cell_at, chosen_cost, AreCosts}
 use Rattle.cost_table.specs.Prices.{ArePrices}
+use Rattle.planner.specs.Present.{IsStaying}
 use Rattle.cost_table.proofs.PriceLemmas.{prices_over, dual_from_prices, moved-cells}
 
 -- a cut that was found is certified
@@ -56,33 +58,44 @@ plan_certified problem plan cells division are costs moved prices =
     (prices_over problem.ranks k (cell_at problem.ranks cells) (cost problem.rows (plan_label plan)) (plan_rank plan) plan.dual are
     costs.costs prices))
 
--- what the search and the assignment give is a certified plan
+-- a certified division with the assignment of its parts is a certified plan
 pub solved :
-    (problem : ProblemData) (found : BestCut) (costs : CostData) (assigned : Assigned)
-    → IsFound problem.rows (rank_count problem.ranks) found → costs.count ≡ found.cut.count → costs.ranks ≡ problem.ranks
-    → AreCosts problem.rows (slice_index found.cut.part.items) found.cut.count problem.ranks costs.cells
+    (problem : ProblemData) (part : List ℕ) (count greatest : ℕ) (proof : CutProof) (costs : CostData) (assigned : Assigned)
+    → IsCutCertified problem.rows (rank_count problem.ranks) part count greatest proof → costs.count ≡ count
+    → costs.ranks ≡ problem.ranks → AreCosts problem.rows (slice_index part) count problem.ranks costs.cells
     → length assigned.ranks.items ≡ costs.count
     → AreRanks costs.ranks costs.count (slice_index assigned.ranks.items)
     → assigned.moved ≡ chosen_cost costs.ranks costs.cells costs.count (slice_index assigned.ranks.items)
     → ArePrices costs.ranks costs.count (cell_at costs.ranks costs.cells) (slice_index assigned.ranks.items) assigned.proof
     → IsCertified problem (record {
-      part = found.cut.part.items;
+      part = part;
       rank = assigned.ranks.items;
-      greatest = found.greatest;
+      greatest = greatest;
       moved = assigned.moved;
-      cut = found.proof;
+      cut = proof;
       dual = assigned.proof;
     })
-solved problem found costs assigned is count_is ranks_is cells size are moved prices =
-    let k_is : length assigned.ranks.items ≡ found.cut.count = size ∙ count_is in
+solved problem part count greatest proof costs assigned division count_is ranks_is cells size are moved prices =
+    let k_is : length assigned.ranks.items ≡ count = size ∙ count_is in
     plan_certified problem
     (record {
-      part = found.cut.part.items;
+      part = part;
       rank = assigned.ranks.items;
-      greatest = found.greatest;
+      greatest = greatest;
       moved = assigned.moved;
-      cut = found.proof;
+      cut = proof;
       dual = assigned.proof;
     })
-    costs.cells (rw k_is (found_certified problem.rows (rank_count problem.ranks) found is)) (rw (size, ← ranks_is) are)
+    costs.cells (rw k_is division) (rw (size, ← ranks_is) are)
     (rw k_is cells) (rw (size, ← ranks_is) moved) (rw (size, ← ranks_is) prices)
+
+-- parts that can stay where they are, placed best, move nothing
+pub still :
+    (problem : ProblemData) (label : ℕ → ℕ) (count least : ℕ) (costs : CostData) → ((i : ℕ) → i < length problem.rows → label i < count)
+    → costs.count ≡ count → costs.ranks ≡ problem.ranks → AreCosts problem.rows label count problem.ranks costs.cells
+    → ((other : ℕ → ℕ) → AreRanks costs.ranks costs.count other → least ≤ chosen_cost costs.ranks costs.cells costs.count other)
+    → IsStaying problem label count → least ≡ 0
+still problem label count least costs below count_is ranks_is cells at_most (rank, are, none) =
+    let most : least ≤ chosen_cost problem.ranks costs.cells count rank =
+    (rw (count_is, ranks_is) at at_most) rank are in
+    omega (arith, most, none, moved-cells problem.rows count problem.ranks label rank costs.cells below are cells)
