@@ -77,8 +77,9 @@ abbrev pub begun_on : ℕ → List Entry → ℕ
 begun_on d history = length (filter (λ e. begins d e.change) history)
 
 -- What holds of every board: its state is the replay of its history from the empty board; each problem is that of the
--- directories at its opening, and each adopted plan is certified and best for its problem; its cluster is the machine's after the history's events; each directory has exactly
--- one authority, which the map names but between log and notify, and no request runs at a stopped rank.
+-- directories at its opening, and each adopted plan is certified and best for its problem; its cluster is the machine's
+-- after the history's events; each directory has exactly one authority, which the map names but between log and notify,
+-- and no request runs at a stopped rank.
 pub record IsKept (w : World) : Type 0 where
   pub replay : IsReplay (start w.state.directories.limit w.state.pins.active) w.history w.state
   pub problems : OpensDirectories (start w.state.directories.limit w.state.pins.active) w.history
