@@ -13,7 +13,8 @@ use Rattle.mds_types.specs.Division.{IsEdge, InPart, greatest_heat, IsLowerBound
 pub record IsPresentBest (problem : ProblemData) : Type 0 where
   pub usable : (i : ℕ) → i < length problem.rows → has_rank problem.ranks (now_at problem.rows i) ≡ true
   pub connected : (rank : ℕ) → IsConnected (IsEdge problem.rows) (InPart problem.rows (now_at problem.rows) rank)
-  pub coolest : IsLowerBound problem.rows (rank_count problem.ranks) (greatest_heat problem.rows 64 (now_at problem.rows))
+  pub coolest : IsLowerBound problem.rows (rank_count problem.ranks)
+      (greatest_heat problem.rows 64 (now_at problem.rows))
 
 -- no rank comes twice
 abbrev pub IsDistinct : List ℕ → Type 0
