@@ -25,7 +25,7 @@ use Rattle.board_state.proofs.Fitting.{near}
 use Rattle.board_state.proofs.Mapping.{begins_there, limit_stays, parents_follow, stepped}
 use Rattle.mds_board.specs.declared.entry.Entry.{Entry}
 use Rattle.mds_board.specs.History.{IsReplay}
-use Rattle.mds_board.specs.Promises.{begins, begun_on}
+use Rattle.mds_board.specs.Promises.{begins, begin_count}
 
 -- the directories of a cluster that events led to have numbers below the limit
 record IsWithin (limit : ℕ) (w : Cluster) : Type 0 where
@@ -164,15 +164,15 @@ begun_next limit s Open h ok d = none_more (at s.begun d)
 begun_next limit s (Adopt plan) h ok d = none_more (at s.begun d)
 
 -- one more entry at the head
-begun_more : (d : ℕ) (e : Entry) (es : List Entry) → begun_on d (e ∷ es) ≡ one (begins d e.change) + begun_on d es
+begun_more : (d : ℕ) (e : Entry) (es : List Entry) → begin_count d (e ∷ es) ≡ one (begins d e.change) + begin_count d es
 begun_more d e es = on (begins d e.change)
   where
-    on : (b : Bool) → length (if b then e ∷ filter (λ (f : Entry). begins d f.change) es else filter (λ (f : Entry). begins d f.change) es) ≡ one b + begun_on d es
+    on : (b : Bool) → length (if b then e ∷ filter (λ (f : Entry). begins d f.change) es else filter (λ (f : Entry). begins d f.change) es) ≡ one b + begin_count d es
     on true = omega arith
     on false = omega arith
 
 begun_ran : (limit : ℕ) (s : State) (history : List Entry) (t : State) → IsCounted limit s → IsReplay s history t → (d : ℕ)
-    → at t.begun d ≡ at s.begun d + begun_on d history
+    → at t.begun d ≡ at s.begun d + begin_count d history
 begun_ran limit s [] t h r d = let same = ap (λ (u : State). at u.begun d) r in omega (arith, same)
 begun_ran limit s (e ∷ es) t h r d =
     let rest = begun_ran limit (next s e.change) es t (counted_next limit s e.change h r.0) r.3 d in
@@ -187,7 +187,7 @@ none_at_first (suc limit) (suc d) = none_at_first limit d
 
 -- What a board counts as begun are the requests that began in its history.
 pub begun_in : (limit active : ℕ) (history : List Entry) (t : State) → 1 ≤ limit → 1 ≤ active → IsReplay (start limit active) history t → (d : ℕ)
-    → at t.begun d ≡ begun_on d history
+    → at t.begun d ≡ begin_count d history
 begun_in limit active history t room some r d =
     let found = begun_ran limit (start limit active) history t (counted_first limit active room some) r d in
     let none = none_at_first limit d in

@@ -45,8 +45,8 @@ leaves_problem Tick = true
 leaves_problem (Step e) = true
 leaves_problem _ = false
 
--- Each plan in a history was adopted after a problem was opened, with only deposits, ticks and events of the cluster in
--- between. It is best for this problem, and its proofs hold.
+-- Each plan in a history was adopted after a problem was opened, with only deposits, ticks and events of the cluster
+-- in between. It is best for this problem, and its proofs hold.
 abbrev pub AdoptsBest : List Entry → Type 0
 AdoptsBest history =
     (before more : List Entry) (plan : Plan) (reply : Answer)
@@ -73,12 +73,12 @@ begins d (Step (Begin rank dir)) = dir == d
 begins d _ = false
 
 -- how many requests on d began in a history
-abbrev pub begun_on : ℕ → List Entry → ℕ
-begun_on d history = length (filter (λ e. begins d e.change) history)
+abbrev pub begin_count : ℕ → List Entry → ℕ
+begin_count d history = length (filter (λ e. begins d e.change) history)
 
--- What holds of every board: its state is the replay of its history from the empty board; each problem is that of the
--- directories at its opening, and each adopted plan is certified and best for its problem; its cluster is the machine's
--- after the history's events; each directory has exactly one authority, which the map names but between log and notify,
+-- What holds of every board. Its state is the replay of its history from the empty board. Each problem is that of the
+-- directories at its opening, and each adopted plan is certified and best for its problem. Its cluster is the machine's
+-- after the history's events. Each directory has exactly one authority, which the map names but between log and notify,
 -- and no request runs at a stopped rank.
 pub record IsKept (w : World) : Type 0 where
   pub replay : IsReplay (start w.state.directories.limit w.state.pins.active) w.history w.state
@@ -88,8 +88,8 @@ pub record IsKept (w : World) : Type 0 where
       (cluster_events w.history)
   pub promised : Promised w.state.cluster
   -- what is counted as begun on a directory are the requests that began on it in the history
-  pub begun : (d : ℕ) → at w.state.begun d ≡ begun_on d w.history
-  -- the cluster has the tree's directories and the pins' ranks, and all operations on the map name what the cluster names
+  pub begun : (d : ℕ) → at w.state.begun d ≡ begin_count d w.history
+  -- the cluster has the tree's directories and the pins' ranks; the map's operations name what the cluster names
   pub fitting : IsFitting w.state
   -- what is published is a beginning of them
   pub published : (more : List Operation) × (w.published ++ more ≡ w.state.map)
