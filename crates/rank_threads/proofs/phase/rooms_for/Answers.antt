@@ -2,8 +2,9 @@ use Rattle.std.proofs.Common.{◌≤◌, length, take, get_or, vec_capacity, sub
 use Rattle.std.proofs.lemmas.Grind.{common_steps}
 use Rattle.std.proofs.lemmas.List.{take_more}
 use Rattle.rank_threads.specs.declared.work.Work.{Work}
-use Rattle.rank_threads.proofs.Returning.{zip_more, HasRoom}
-use Rattle.rank_threads.proofs.phase.lay.Goals as goal
+use Rattle.rank_threads.specs.Asking.{HasRoom}
+use Rattle.rank_threads.proofs.Returning.{zip_more}
+use Rattle.rank_threads.proofs.phase.rooms_for.Goals as goal
 
 pub loop-script-preserved : goal.loop-script-preserved
 loop-script-preserved c =
