@@ -81,13 +81,7 @@ impl<
 
     // Calls a rank for its turn. A thread is made for it where it has none, and where none is to be had, this one takes
     // the turn.
-    fn call<'s, E>(
-        &'s self,
-        scope: &Scope<'s, E>,
-        round: u64,
-        place: &'s Place,
-        desk: &mut Desk,
-    ) {
+    fn call<'s, E>(&'s self, scope: &Scope<'s, E>, round: u64, place: &'s Place, desk: &mut Desk) {
         self.under_way.begin(self.rt);
         let has_thread = place.call(self.rt, round, desk);
         if !has_thread && scope.spawn(move || self.serve(place)).is_err() {

@@ -161,8 +161,7 @@ pub all_joined : (limit : ℕ) (before : World) (shares : List ShareData) (scrip
 all_joined limit before shares scripts asked answers after h none =
     let gone = none_left (length h.first_scripts) h.more_shares h.more_scripts h.equal (sym none ∙ h.left) in
     let ss : shares ≡ h.first_shares = h.shares_are ∙ (ap (λ (l : List ShareData). h.first_shares ++ l) gone.0 ∙ append-nil h.first_shares) in
-    let ws : scripts ≡ h.first_scripts = h.scripts_are ∙ (ap (λ (l : List (List Work)). h.first_scripts ++ l) gone.1 ∙ append-nil h.first_scripts) in
-    (
+    let ws : scripts ≡ h.first_scripts = h.scripts_are ∙ (ap (λ (l : List (List Work)). h.first_scripts ++ l) gone.1 ∙ append-nil h.first_scripts) in (
       subst (λ (l : List (List Work)). AreReturned limit shares l answers after) (sym ws)
           (subst (λ (l : List ShareData). AreReturned limit l h.first_scripts answers after) (sym ss) h.returned),
       subst (λ (l : List (List Work)). AreAnswered before 0 l answers) (sym ws) h.answered,

@@ -102,12 +102,7 @@ impl<
     R: Wait + Sync,
     G: Gate + Sync,
 > Serving<'a, J, M, K, R, G> {
-    pub(crate) fn new(
-        rt: &'a R,
-        alloc: Global,
-        cell: &'a BoardCell<J, M, K>,
-        gate: &'a G,
-    ) -> Self {
+    pub(crate) fn new(rt: &'a R, alloc: Global, cell: &'a BoardCell<J, M, K>, gate: &'a G) -> Self {
         Serving {
             rt,
             alloc,
