@@ -19,7 +19,7 @@ use Rattle.board_state.specs.Steps.{is_inner, spelled}
 use Rattle.board_state.proofs.Mapping.{after_step}
 use Rattle.mds_board.specs.declared.entry.Entry.{Entry}
 use Rattle.mds_board.specs.History.{World, IsAnswer, IsReplay, recorded}
-use Rattle.export_rounds.specs.Adding.{GoesOnBy, IsOfPhase}
+use Rattle.export_rounds.specs.Adding.{IsOfPhase}
 use Rattle.export_rounds.specs.Further.{IsFurther, IsInner}
 use Rattle.export_rounds.specs.Asked.{StartsNone, is_later}
 use Rattle.export_rounds.proofs.Adding.{adds_more, answer_added, nothing_added, publish_added}

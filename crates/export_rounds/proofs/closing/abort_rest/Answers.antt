@@ -1,5 +1,4 @@
-use Rattle.std.proofs.Common.{◌≡◌, ◌<◌, ◌∙◌, length, get_or, refl, sym, subst, arith}
-use Rattle.mds_board.specs.History.{World}
+use Rattle.std.proofs.Common.{◌≡◌, ◌<◌, ◌∙◌, length, get_or, refl, sym, arith}
 use Rattle.export_rounds.specs.declared.standing.Standing.TheVariants.{Started}
 use Rattle.export_rounds.proofs.Adding.{adds_more, nothing_added}
 use Rattle.export_rounds.proofs.Asking.{begun_later}
@@ -13,7 +12,7 @@ loop-standing-preserved g c =
     let near : c.loop-standing.standing-index < length c.args.standings.now = omega arith in
     elim c.match-standing.branch [
       | in-Started+then-is_before_log w ↦
-          let is : get_or c.args.standings.now c.loop-standing.standing-index c.standing-item.result ≡ Started w.in-Started.export = ? in
+          let is : get_or c.args.standings.now c.loop-standing.standing-index c.standing-item.result ≡ Started w.in-Started.export = sym c.standing-item.is ∙ w.in-Started.is in
           rw (w.board-is) record {
             further = joins _ _ _ inv.further w.try_abort.ensures.further;
             orders = w.try_abort.ensures.orders ∙ inv.orders;
