@@ -1,5 +1,5 @@
 -- Orders that are carried out under a lock.
-use Rattle.std.proofs.Common.{◌≡◌, ◌<◌, ◌≤◌, ◌+◌, ℕ, zero, suc, List, [], ◌∷◌, length, get_or, ap, subst, ◌∙◌, arith}
+use Rattle.std.proofs.Common.{◌≡◌, ◌+◌, List, length, ap, ◌∙◌, arith}
 use Rattle.std.specs.List.{count_by}
 use Rattle.export_rounds.specs.Adding.{GoesOnBy}
 use Rattle.export_rounds.specs.Asked.{AreAsked, is_begun}

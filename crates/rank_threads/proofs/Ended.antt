@@ -79,9 +79,11 @@ other_cause s t e (inr (none, inl memory)) other = memory_apart e memory
 other_cause s t e (inr (none, inr best)) other = absurd best.1
 
 -- the history goes on
-pub ended_history : (old new : World) (t : ℕ) (reply : Result Answer BoardError) → IsAnswer old (Step (End t)) reply new → (more : List Entry) × (new.history ≡ old.history ++ more)
-ended_history old new t (Ok reply) a = (entry_of old.state (Step (End t)) ∷ [], ap (λ (w : World). w.history) a.3)
-ended_history old new t (Err error) a = ([], ap (λ (w : World). w.history) a.1 ∙ sym (append-nil old.history))
+pub history_ended : (old new : World) (t : ℕ) (reply : Answer) → IsAnswer old (Step (End t)) (Ok reply) new → (more : List Entry) × (new.history ≡ old.history ++ more)
+history_ended old new t reply a = (entry_of old.state (Step (End t)) ∷ [], ap (λ (w : World). w.history) a.3)
+
+pub history_refused : (old new : World) (t : ℕ) (error : BoardError) → IsAnswer old (Step (End t)) (Err error) new → (more : List Entry) × (new.history ≡ old.history ++ more)
+history_refused old new t error a = ([], ap (λ (w : World). w.history) a.1 ∙ sym (append-nil old.history))
 
 -- an entry's request, if it began one, runs no more
 abbrev pub IsOver : World → Entry → Type 0
@@ -93,12 +95,12 @@ at_or_below : (n t : ℕ) → n ≤ t → (n + 1 ≤ t) ⊎ (t ≡ n)
 at_or_below zero zero h = inr refl
 at_or_below zero (suc t) h = inl (omega arith)
 at_or_below (suc n) zero h = absurd (omega arith)
-at_or_below (suc n) (suc t) h = elim at_or_below n t (omega arith) [ inl less ↦ inl (omega arith) | inr same ↦ inr (ap suc same) ]
+at_or_below (suc n) (suc t) h = elim (at_or_below n t (omega arith)) [ inl less ↦ inl (omega arith) | inr same ↦ inr (ap suc same) ]
 
 inside_or_past : (n t : ℕ) → (t < n) ⊎ (n ≤ t)
 inside_or_past zero t = inr (omega arith)
 inside_or_past (suc n) zero = inl (omega arith)
-inside_or_past (suc n) (suc t) = elim inside_or_past n t [ inl less ↦ inl (omega arith) | inr more ↦ inr (omega arith) ]
+inside_or_past (suc n) (suc t) = elim (inside_or_past n t) [ inl less ↦ inl (omega arith) | inr more ↦ inr (omega arith) ]
 
 -- lists
 
@@ -142,7 +144,7 @@ one_over : (now : World) (s : State) (c : Change) (told : Answer) → is_of_requ
     → (length (state.next s c).cluster.tickets ≤ t) ⊎ (request_of now.state.cluster t ≡ None)
 one_over now s (Step (Begin r d)) told is reply over t low =
     let long = ap (λ (ts : List (Option Request)). length ts) (begin_tickets s r d) ∙ length-append s.cluster.tickets (Some (record { rank = r; dir = d }) ∷ []) in
-    elim at_or_below (length s.cluster.tickets) t low [
+    elim (at_or_below (length s.cluster.tickets) t low) [
       | inl less ↦ inl (omega arith)
       | inr same ↦ inr (over t (reply ∙ (begin_reply s r d ∙ ap (λ (n : ℕ). answer.Reply (Ticket n)) (sym same))))
     ]
@@ -173,7 +175,7 @@ all_over : (now : World) (s : State) (es : List Entry) (u : State) → All (λ e
     → request_of now.state.cluster t ≡ None
 all_over now s [] u alone replay over t low high = let same = ap (λ (v : State). length v.cluster.tickets) replay in absurd (omega arith)
 all_over now s (e ∷ es) u alone replay over t low high =
-    elim one_over now s e.change e.reply (head_has (λ (x : Entry). is_of_requests x.change ≡ true) e es alone) replay.2 (over 0 e refl) t low [
+    elim (one_over now s e.change e.reply (head_has (λ (x : Entry). is_of_requests x.change ≡ true) e es alone) replay.2 (over 0 e refl) t low) [
       | inl later ↦ all_over now (state.next s e.change) es u (tail_have (λ (x : Entry). is_of_requests x.change ≡ true) e es alone) replay.3 (λ k. over (suc k)) t later high
       | inr gone ↦ gone
     ]
@@ -183,7 +185,7 @@ pub none_runs : (before mid now : World) → WentOn before mid → ((k : ℕ) (e
     → ((t : ℕ) → request_of mid.state.cluster t ≡ None → request_of now.state.cluster t ≡ None) → (t : ℕ) → length before.state.cluster.tickets ≤ t
     → request_of now.state.cluster t ≡ None
 none_runs before mid now went over stays t low =
-    elim inside_or_past (length mid.state.cluster.tickets) t [
+    elim (inside_or_past (length mid.state.cluster.tickets) t) [
       | inl inside ↦ all_over now before.state (added before mid) mid.state went.alone went.replay
           (λ k e is. (let found = from_drop mid.history (length before.history) k e is in over (length before.history + k) e (omega arith) (inside_of mid.history (length before.history + k) e found) found))
           t low inside
@@ -204,7 +206,7 @@ pub over_more : (initial old new : World) (first number : ℕ) (found : Option �
     → (k : ℕ) (e : Entry) → first ≤ k → k < number + 1 → slice_get initial.history k ≡ Some e → IsOver new e
 over_more initial old new first number found more grown told ended stays over k e low high is t reply =
     let near : k ≤ number = omega arith in
-    elim at_or_below k number near [
+    elim (at_or_below k number near) [
       | inl less ↦ let inside : k < number = omega arith in stays t (over k e low inside is t reply)
       | inr same ↦
           let there : slice_get initial.history number ≡ Some e = subst (λ (j : ℕ). slice_get initial.history j ≡ Some e) (sym same) is in

@@ -1,15 +1,21 @@
 -- Ranks are asked from the last one on, and joined from the first one on.
-use Rattle.std.proofs.Common.{◌≡◌, ℕ, suc, ◌+◌, List, [], ◌∷◌, ◌++◌, length, map, Vec, Global, refl, sym, ap, arith, ◌∙◌, subst, append-nil, append_assoc, length-append}
+use Rattle.std.proofs.Common.{◌≡◌, ℕ, suc, ◌+◌, List, [], ◌∷◌, ◌++◌, length, map, Vec, Global, refl, sym, ap, arith, ◌∙◌, subst, append-nil, append_assoc, length-append, Result, Ok, Err}
+use Rattle.std.specs.Prelude.{IsOk}
+use Rattle.board_state.specs.declared.board_error.BoardError.{BoardError}
 use Rattle.heat_ledger.specs.Ledger.{ShareData}
 use Rattle.mds_board.specs.History.{World}
 use Rattle.rank_threads.specs.declared.work.Work.{Work}
 use Rattle.rank_threads.specs.declared.work.WorkAnswer.{WorkAnswer}
-use Rattle.rank_threads.specs.Answered.{AreAnswered, IsRankAnswered, IsRankServed}
+use Rattle.rank_threads.specs.Answered.{AreAnswered, IsDepositTold, IsRankAnswered, IsRankServed}
 use Rattle.rank_threads.specs.Asking.{Asking, askings}
 use Rattle.rank_threads.specs.Serving.{AreReturned, IsDeposited}
 use Rattle.rank_threads.proofs.Returning.{answered_last, returned, returned_last}
 
 module _ {A : Type 0} where
+  none_of : (xs : List A) → length xs ≡ 0 → xs ≡ []
+  none_of [] h = refl
+  none_of (x ∷ xs) h = absurd (cc)
+
   no_snoc : (xs : List A) (x : A) → [] ≡ xs ++ x ∷ [] → ⊥
   no_snoc [] x h = cc
   no_snoc (y ∷ xs) x h = cc
@@ -59,8 +65,10 @@ more_asked scripts shares left before script left_shares rest share asked all ra
     }
 
 pub all_asked : (scripts : List (Vec Work Global)) (shares : List ShareData) (left : List (Vec Work Global)) (left_shares : List ShareData) (asked : List Asking)
-    → AreAsked scripts shares left left_shares asked → left ≡ [] → left_shares ≡ [] → asked ≡ askings 0 shares (map (λ (s : Vec Work Global). s.items) scripts)
-all_asked scripts shares left left_shares asked h el es =
+    → AreAsked scripts shares left left_shares asked → length left ≡ 0 → length left_shares ≡ 0 → asked ≡ askings 0 shares (map (λ (s : Vec Work Global). s.items) scripts)
+all_asked scripts shares left left_shares asked h nl ns =
+    let el = none_of left nl in
+    let es = none_of left_shares ns in
     let ws : scripts ≡ h.more = h.scripts_are ∙ ap (λ (l : List (Vec Work Global)). l ++ h.more) el in
     let ss : shares ≡ h.more_shares = h.shares_are ∙ ap (λ (l : List ShareData). l ++ h.more_shares) es in
     h.asked_are
@@ -156,9 +164,10 @@ one_joined limit before shares scripts asked rest it answers given after mid las
     }
 
 pub all_joined : (limit : ℕ) (before : World) (shares : List ShareData) (scripts : List (List Work)) (asked : List Asking) (answers : List (List WorkAnswer))
-    (after : List ShareData) → AreJoinedBut limit before shares scripts asked answers after → asked ≡ []
+    (after : List ShareData) → AreJoinedBut limit before shares scripts asked answers after → length asked ≡ 0
     → AreReturned limit shares scripts answers after × AreAnswered before 0 scripts answers
-all_joined limit before shares scripts asked answers after h none =
+all_joined limit before shares scripts asked answers after h few =
+    let none = none_of asked few in
     let gone = none_left (length h.first_scripts) h.more_shares h.more_scripts h.equal (sym none ∙ h.left) in
     let ss : shares ≡ h.first_shares = h.shares_are ∙ (ap (λ (l : List ShareData). h.first_shares ++ l) gone.0 ∙ append-nil h.first_shares) in
     let ws : scripts ≡ h.first_scripts = h.scripts_are ∙ (ap (λ (l : List (List Work)). h.first_scripts ++ l) gone.1 ∙ append-nil h.first_scripts) in (
@@ -166,3 +175,8 @@ all_joined limit before shares scripts asked answers after h none =
           (subst (λ (l : List ShareData). AreReturned limit l h.first_scripts answers after) (sym ss) h.returned),
       subst (λ (l : List (List Work)). AreAnswered before 0 l answers) (sym ws) h.answered,
     )
+
+-- all was deposited
+pub told_done : (before : World) (deposited : Result Unit BoardError) → IsOk deposited → IsDepositTold before deposited
+told_done before (Ok done) h = tt
+told_done before (Err error) h = absurd (cc)

@@ -158,7 +158,12 @@ impl<
             rank,
             of: PhantomData,
         };
-        match scope.spawn_with(promise, move || self.serve(rank, script, desk)) {
+        let served = move || -> Desk<J>
+            requires { (desk.answers.items ≡ []) × (length script.now.items ≤ vec_capacity desk.answers) }
+            ensures { IsRankServed J.limit K.before rank desk.share script.entry.now.items result.answers.items
+                result.share }
+        { self.serve(rank, script, desk) };
+        match scope.spawn_with(promise, served) {
             Ok(child) => Ok(child),
             Err(refused) => {
                 self.refused

@@ -1,6 +1,6 @@
 use Rattle.std.specs.Prelude.{IsTrue}
 use Rattle.std.proofs.Common.{[], sym, append-nil}
-use Rattle.rank_threads.proofs.Ended.{ended_history, has_ended, no_ticket, other_cause, others_ended}
+use Rattle.rank_threads.proofs.Ended.{has_ended, history_ended, history_refused, no_ticket, other_cause, others_ended}
 use Rattle.rank_threads.proofs.board_cell.Phased.end_once.Goals as goal
 
 pub returns-then-has_ended-clause-ended : goal.returns-then-has_ended-clause-ended
@@ -20,7 +20,7 @@ pub returns-then-has_ended-clause-history : goal.returns-then-has_ended-clause-h
 returns-then-has_ended-clause-history g c = ([], sym (append-nil c.args.self.now.history))
 
 pub returns-in-Ok-clause-history : goal.returns-in-Ok-clause-history
-returns-in-Ok-clause-history g c = ended_history c.args.self.now c.end.new.self c.args.ticket _ c.in-Ok.ensures.answer
+returns-in-Ok-clause-history g c = history_ended c.args.self.now c.end.new.self c.args.ticket _ c.in-Ok.ensures.answer
 
 pub returns-in-Err-clause-history : goal.returns-in-Err-clause-history
-returns-in-Err-clause-history g c = ended_history c.args.self.now c.end.new.self c.args.ticket _ c.in-Err.ensures.answer
+returns-in-Err-clause-history g c = history_refused c.args.self.now c.end.new.self c.args.ticket _ c.in-Err.ensures.answer

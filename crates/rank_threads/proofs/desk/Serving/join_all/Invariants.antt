@@ -6,7 +6,7 @@ use Rattle.rank_threads.specs.declared.work.Work.{Work}
 use Rattle.rank_threads.specs.Answered.{IsDepositTold}
 use Rattle.rank_threads.specs.Asking.{askings}
 use Rattle.rank_threads.proofs.Joining.{AreJoinedBut}
-use Rattle.rank_threads.proofs.phase.Serving.join_all.Given as goal
+use Rattle.rank_threads.proofs.desk.Serving.join_all.Given as goal
 
 -- the ranks so far have answered, and the rest is asked
 abbrev pub invariant-loop-rank : goal.invariant-loop-rank

@@ -2,7 +2,7 @@ use Rattle.std.proofs.Common.{◌≡◌, ◌≤◌, ◌+◌, length, vec_len, ve
 use Rattle.std.specs.List.{AllZip}
 use Rattle.rank_threads.specs.Asking.{HasRoom}
 use Rattle.rank_threads.proofs.Joining.{AreAsked}
-use Rattle.rank_threads.proofs.phase.Serving.ask_all.Given as goal
+use Rattle.rank_threads.proofs.desk.Serving.ask_all.Given as goal
 
 -- the ranks from here on were asked
 abbrev pub invariant-loop-script : goal.invariant-loop-script
