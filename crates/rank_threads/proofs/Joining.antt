@@ -1,5 +1,5 @@
 -- Ranks are asked from the last one on, and joined from the first one on.
-use Rattle.std.proofs.Common.{◌≡◌, ℕ, suc, ◌+◌, List, [], ◌∷◌, ◌++◌, length, map, Vec, Global, refl, sym, ap, arith, ◌∙◌, subst, append-nil, append_assoc, length-append, Result, Ok, Err}
+use Rattle.std.proofs.Common.{◌≡◌, ℕ, ◌+◌, List, [], ◌∷◌, ◌++◌, length, map, Vec, Global, refl, sym, ap, arith, ◌∙◌, subst, append-nil, append_assoc, length-append, Result, Ok, Err}
 use Rattle.std.specs.Prelude.{IsOk}
 use Rattle.board_state.specs.declared.board_error.BoardError.{BoardError}
 use Rattle.heat_ledger.specs.Ledger.{ShareData}

@@ -1,7 +1,6 @@
-use Rattle.std.proofs.Common.{◌≡◌, ◌≤◌, ◌<◌, ◌++◌, ◌∙◌, [], ℕ, List, Option, Some, None, ap, refl, sym, subst, append-nil, append_assoc, arith}
+use Rattle.std.proofs.Common.{◌≡◌, ◌++◌, ◌∙◌, [], ℕ, List, Some, None, ap, sym, subst, append-nil, append_assoc, arith}
 use Rattle.export_machine.specs.Authority.{request_of}
 use Rattle.mds_board.specs.declared.entry.Entry.{Entry}
-use Rattle.mds_board.specs.History.{World}
 use Rattle.rank_threads.proofs.Ended.{either_met, none_runs, over_more}
 use Rattle.rank_threads.proofs.board_cell.Phased.end_all.Goals as goal
 use Rattle.rank_threads.proofs.board_cell.Phased.end_all.Goals.{in-Some, in_default}

@@ -1,11 +1,11 @@
-use Rattle.std.proofs.Common.{◌≡◌, ◌≤◌, ◌+◌, ◌++◌, ◌∷◌, ◌∙◌, [], List, Vec, Global, length, map, vec_len, vec_capacity, ap, sym, subst, arith, rules, length-append}
+use Rattle.std.proofs.Common.{◌≡◌, ◌++◌, ◌∷◌, ◌∙◌, [], List, Vec, Global, length, map, ap, arith, rules, length-append}
 use Rattle.std.proofs.lemmas.Grind.{common_steps}
 use Rattle.std.proofs.lemmas.List.{map-append}
 use Rattle.std.proofs.lemmas.List.Elements.{All-nil}
 use Rattle.heat_ledger.specs.Ledger.{IsClean, ShareData}
 use Rattle.rank_threads.specs.declared.work.WorkAnswer.{WorkAnswer}
 use Rattle.rank_threads.specs.Asking.{Asking}
-use Rattle.rank_threads.proofs.Joining.{AreJoinedBut, all_joined, none_joined, one_joined, told_done}
+use Rattle.rank_threads.proofs.Joining.{all_joined, none_joined, one_joined, told_done}
 use Rattle.rank_threads.proofs.Returning.{clean_last}
 use Rattle.rank_threads.proofs.desk.Serving.join_all.Goals as goal
 
@@ -51,6 +51,6 @@ pub returns : goal.returns
 returns g c =
     let none : length c.loop-rank.asked.items ≡ 0 = grind (arith, common_steps, c.in_default.ensures.cases, c.in_default.ensures.variant) in
     record {
-  joined = λ ss ws e h. (let both = all_joined g.J.Naming.limit g.K.Phase.before ss ws c.loop-rank.asked.items (items c.loop-rank.ranks.answers.items) c.loop-rank.ranks.shares.items (c.loop-rank.invariant.joined ss ws e h) none in
-      record { returned = both.0; answered = both.1; clean = c.loop-rank.invariant.clean; told = c.loop-rank.invariant.told });
-}
+      joined = λ ss ws e h. (let both = all_joined g.J.Naming.limit g.K.Phase.before ss ws c.loop-rank.asked.items (items c.loop-rank.ranks.answers.items) c.loop-rank.ranks.shares.items (c.loop-rank.invariant.joined ss ws e h) none in
+          record { returned = both.0; answered = both.1; clean = c.loop-rank.invariant.clean; told = c.loop-rank.invariant.told });
+    }
