@@ -10,13 +10,13 @@ use Rattle.board_state.specs.State.{State, Opened, happens, marked, marked_if, n
 use Rattle.board_state.specs.Steps.{IsAllowed, IsBestForOpen}
 use Rattle.mds_board.specs.declared.entry.Entry.{Entry}
 use Rattle.mds_board.specs.History.{IsReplay}
-use Rattle.mds_types.specs.Certificate.{IsBest}
+use Rattle.mds_types.specs.Certificate.{IsBest, IsCertified}
 use Rattle.mds_types.specs.Problem.{ProblemData}
 use Rattle.mds_types.specs.declared.plan.Plan.{Plan}
 use Rattle.plan_text.specs.declared.certificate.Certificate.{Certificate}
 
 abbrev HasBest : Certificate → Type 0
-HasBest c = IsBest c.problem c.plan
+HasBest c = IsBest c.problem c.plan × IsCertified c.problem c.plan
 
 -- where a problem is open, it is the one that was opened last
 abbrev Agrees : Option Opened → Option ProblemData → Type 0
@@ -50,7 +50,7 @@ best_now (Some o) (Some problem) plan h best = All-cons HasBest (record { proble
   where
     on : Option ProblemData → Type 0
     on None = ⊥
-    on (Some q) = IsBest q plan
+    on (Some q) = IsBest q plan × IsCertified q plan
 
 best_adopted : (s : State) (last : Option ProblemData) (c : Change) → Agrees s.opened last → IsAllowed s c → All HasBest (certified_by last c)
 best_adopted s None (Adopt plan) h best = best_now s.opened None plan h best

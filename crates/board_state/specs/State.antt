@@ -61,6 +61,11 @@ pub record State : Type 0 where
   pub in_force : Option Force
   pub events : ℕ
 
+-- the operations on the map of a board that isn't made yet: none, or the first one, which gives the root to rank 0
+abbrev pub first_operations : Bool → List Operation
+first_operations false = []
+first_operations true = SetTo (0 ∷ []) 0 ∷ []
+
 -- The root alone, at rank 0.
 abbrev pub start : ℕ → ℕ → State
 start limit active = record {
@@ -71,7 +76,7 @@ start limit active = record {
   counted = replicate limit 0;
   begun = replicate limit 0;
   cluster = machine.start limit active;
-  map = SetTo (0 ∷ []) 0 ∷ [];
+  map = first_operations true;
   opened = None;
   in_force = None;
   events = 0;

@@ -29,10 +29,10 @@ pub record Present : Type 0 where
   pub shares : ℕ
   pub published : List Operation
 
--- the plan is best for the problem that is open
+-- the plan is best for the problem that is open, and its proofs hold
 abbrev pub IsBestForOpen : Option Opened → Plan → Type 0
 IsBestForOpen None plan = ⊥
-IsBestForOpen (Some o) plan = IsBest o.problem plan
+IsBestForOpen (Some o) plan = IsBest o.problem plan × IsCertified o.problem plan
 
 -- the plan's proofs don't hold for the problem that is open
 abbrev pub IsNotCertified : Option Opened → Plan → Type 0

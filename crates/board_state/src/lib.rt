@@ -24,3 +24,4 @@ pub use making::BoardParts;
 pub use opening::{InForce, OpenProblem};
 pub use solver::Solver;
 pub use state::{BoardState, HISTORY_LIMIT, or_memory};
+pub use stepping::is_inner;

@@ -1,11 +1,11 @@
 //! A new board.
-ghost use Rattle.std.specs.Prelude.{◌≡◌, ◌≤◌, [], ◌∷◌, IfOk, replicate, true, Some};
+ghost use Rattle.std.specs.Prelude.{◌≡◌, ◌≤◌, [], ◌∷◌, ◌++◌, IfErr, IfOk, OnOk, replicate, true, Some};
 ghost use Rattle.dirtree.specs.Tree.{root};
 ghost use Rattle.dir_pins.specs.Pins.{no_pins};
 ghost use Rattle.heat_decay.specs.Heat.{all_cold};
 ghost use Rattle.heat_ledger.specs.Opening.{fresh_share};
 ghost use Rattle.export_machine.specs.Step.{start as first_world};
-ghost use Rattle.board_state.specs.State.{start};
+ghost use Rattle.board_state.specs.State.{first_operations, start};
 
 use crate::state::BoardState;
 use authority_map::Publisher;
@@ -19,15 +19,17 @@ use naming::Naming;
 use std::alloc::{AllocError, Global};
 use std::marker::PhantomData;
 
-/// What was opened for the board that `J` names: its ledger, and its map, which has no operation yet. Since the
-/// writer of a map can't be dropped, neither can this.
+/// What was opened for the board that `J` names: its ledger, and its map. The map has no operation yet, or only the
+/// first one, after a board wasn't made because memory was refused. Since the writer of a map can't be dropped,
+/// neither can this.
 pub struct BoardParts<J: Naming, M: Publisher<J>> {
     book: NewBook,
     map: M,
     key: NameKey,
+    has_root: bool,
     of: PhantomData<J>,
     ghost named: { book ≡ J.ledger },
-    ghost unwritten: { (M.published map ≡ []) × (M.pending map ≡ []) },
+    ghost operations: { M.published map ++ M.pending map ≡ first_operations has_root },
 }
 
 impl<J: Naming, M: Publisher<J>> BoardParts<J, M> {
@@ -36,12 +38,7 @@ impl<J: Naming, M: Publisher<J>> BoardParts<J, M> {
         requires named { book ≡ J.ledger }
         requires unwritten { (M.published map ≡ []) × (M.pending map ≡ []) }
     {
-        BoardParts {
-            book,
-            map,
-            key: NameKey::default(),
-            of: PhantomData,
-        }
+        BoardParts::keyed(book, map, NameKey::default())
     }
 
     /// These parts, and a key for the hash by which the board's tree finds names.
@@ -49,10 +46,19 @@ impl<J: Naming, M: Publisher<J>> BoardParts<J, M> {
         requires named { book ≡ J.ledger }
         requires unwritten { (M.published map ≡ []) × (M.pending map ≡ []) }
     {
+        BoardParts::of(book, map, key, false)
+    }
+
+    // The same, where the map may have its first operation.
+    fn of(book: NewBook, map: M, key: NameKey, has_root: bool) -> BoardParts<J, M>
+        requires named { book ≡ J.ledger }
+        requires operations { M.published map ++ M.pending map ≡ first_operations has_root }
+    {
         BoardParts {
             book,
             map,
             key,
+            has_root,
             of: PhantomData,
         }
     }
@@ -63,6 +69,7 @@ impl<J: Naming, M: Publisher<J>> BoardParts<J, M> {
             book: _book,
             map,
             key: _key,
+            has_root: _has_root,
             of: _of,
         } = self;
         map.end();
@@ -71,7 +78,8 @@ impl<J: Naming, M: Publisher<J>> BoardParts<J, M> {
 
 impl<J: Naming, M: Publisher<J>> BoardState<J, M> {
     /// The root alone, at rank 0 of so many active ranks, with room for the directory numbers below `limit`, and a
-    /// share of the ledger for each rank. Where memory is refused, the parts are handed back.
+    /// share of the ledger for each rank. The map has one operation, which gives the root to rank 0, and it is
+    /// published. Where memory is refused, the parts are handed back, and the map may have this operation then.
     pub fn new(
         alloc: Global,
         parts: BoardParts<J, M>,
@@ -87,7 +95,7 @@ impl<J: Naming, M: Publisher<J>> BoardState<J, M> {
           state = start limit active;
           is_open = true;
           shares = active;
-          published = [];
+          published = first_operations true;
         }) }
         ensures shares { IfOk result (λ r. r.1.items ≡ replicate active (fresh_share limit)) }
     {
@@ -95,16 +103,20 @@ impl<J: Naming, M: Publisher<J>> BoardState<J, M> {
             book,
             mut map,
             key,
+            has_root,
             of: _of,
         } = parts;
-        let (Ok(()), Ok(tables)) = (map.reserve(), Tables::new(alloc, limit, active, key)) else {
-            return Err(BoardParts::keyed(book, map, key));
+        let Ok(tables) = Tables::new(alloc, limit, active, key) else {
+            return Err(BoardParts::of(book, map, key, has_root));
         };
+        match publish_root::<J, M>(&mut map, has_root) {
+            Ok(()) => {}
+            Err(has_root) => return Err(BoardParts::of(book, map, key, has_root)),
+        }
         let (book, shares) = match Book::open(alloc, book, limit, active) {
             Ok(opened) => opened,
-            Err(failed) => return Err(BoardParts::keyed(failed.value, map, key)),
+            Err(failed) => return Err(BoardParts::of(failed.value, map, key, true)),
         };
-        map.set_one(Dir::ROOT, Rank::default());
         let Tables {
             tree,
             pins,
@@ -124,6 +136,26 @@ impl<J: Naming, M: Publisher<J>> BoardState<J, M> {
             events: 0,
         };
         Ok((state, shares))
+    }
+}
+
+// Gives the root to rank 0, unless the map has that operation already, and publishes it. Where memory is refused, the
+// error says whether the map has the operation.
+fn publish_root<J: Naming, M: Publisher<J>>(map: &mut M, has_root: bool) -> Result<(), bool>
+    requires inside { 1 ≤ J.limit }
+    requires operations { M.published map.old ++ M.pending map.old ≡ first_operations has_root }
+    ensures published { OnOk result ((M.published map.new ≡ first_operations true) × (M.pending map.new ≡ [])) }
+    ensures err { IfErr result (λ has_root. M.published map.new ++ M.pending map.new ≡ first_operations has_root) }
+{
+    if !has_root {
+        if map.reserve().is_err() {
+            return Err(false);
+        }
+        map.set_one(Dir::ROOT, Rank::default());
+    }
+    match map.publish() {
+        Ok(()) => Ok(()),
+        Err(_) => Err(true),
     }
 }
 

@@ -1,7 +1,9 @@
 //! One state of a board.
-ghost use Rattle.std.specs.Prelude.{◌≡◌, ◌+◌, ◌≤◌, [], replicate, length, nat_le, IfOk, IfErr, MatchBool, None};
+ghost use Rattle.std.specs.Prelude.{◌≡◌, ◌+◌, ◌++◌, ◌≤◌, [], List, replicate, length, nat_le, IfOk, IfErr, MatchBool};
+ghost use Rattle.std.specs.Prelude.{None};
 ghost use Rattle.board_state.specs.State.{event_limit, first_of, marked, start, usable};
-ghost use Rattle.board_state.specs.Steps.{refused_for};
+ghost use Rattle.board_state.specs.Steps.{refused_for, IsFitting};
+ghost use Rattle.authority_map.specs.Operations.{Operation};
 
 use crate::board_error::BoardError;
 use crate::opening::{InForce, OpenProblem};
@@ -130,6 +132,15 @@ impl<J: Naming, M: Publisher<J>> BoardState<J, M> {
         ensures { result.now ≡ self.now.state.in_force }
     {
         &self.in_force
+    }
+
+    /// How the parts of a state fit together, and that what is published is a beginning of the map's operations. It does
+    /// nothing.
+    pub fn fits(&self)
+        ensures fitting { IsFitting self.now.state }
+        ensures published { (more : List Operation) × (self.now.published ++ more ≡ self.now.state.map) }
+    {
+        let _ = &self.events;
     }
 
     /// How many events were accepted.

@@ -17,6 +17,13 @@ use mds_types::Order;
 use naming::Naming;
 use std::alloc::{AllocError, Global};
 
+/// Whether an event neither makes nor removes a directory nor begins a request.
+pub fn is_inner(event: &Event) -> bool
+    ensures { result ≡ is_inner event.now }
+{
+    !matches!(event, Event::Made(_) | Event::Gone(_) | Event::Begin(_, _))
+}
+
 impl<J: Naming, M: Publisher<J>> BoardState<J, M> {
     /// Why an event of the cluster is refused.
     #[tactic(auto, unfolding(crate::specs::State::refusal))]

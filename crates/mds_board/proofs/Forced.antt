@@ -23,7 +23,7 @@ IsShown all (Some f) = (plan : Plan) × (adopted_at all f.event ≡ Some plan) �
 come : (all : List Entry) (o : Option Opened) (event : ℕ) (plan : Plan) → adopted_at all event ≡ Some plan → IsBestForOpen o plan
     → IsShown all (enforced o event)
 come all None event plan at best = absurd best
-come all (Some o) event plan at best = (plan, at, best)
+come all (Some o) event plan at best = (plan, at, best.0)
 
 shown_next : (all : List Entry) (s : State) (c : Change) (reply : Answer) → IsShown all s.in_force
     → slice_get all s.events ≡ Some (record { change = c; reply = reply }) → IsAllowed s c → IsShown all (next s c).in_force

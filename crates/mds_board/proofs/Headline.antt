@@ -1,76 +1,181 @@
 -- What a replay says of plans and of the cluster.
-use Rattle.std.proofs.Common.{◌≡◌, ℕ, Bool, true, false, List, [], ◌∷◌, ◌++◌, Option, Some, None, refl, sym, ap, ◌∙◌, subst}
+use Rattle.std.proofs.Common.{◌≡◌, ℕ, zero, suc, Bool, true, false, List, [], ◌∷◌, ◌++◌, Option, Some, None, All, refl, sym, ap, ◌∙◌, append_assoc, append-nil, arith, subst}
+use Rattle.std.proofs.lemmas.Bool.{false≢true}
+use Rattle.std.proofs.lemmas.List.Elements.{All-append}
 use Rattle.mds_types.specs.declared.plan.Plan.{Plan}
 use Rattle.mds_types.specs.Problem.{ProblemData}
-use Rattle.mds_types.specs.Certificate.{IsBest}
+use Rattle.mds_types.specs.Certificate.{IsBest, IsCertified}
+use Rattle.mds_types.specs.RankSet.{rank_count}
+use Rattle.dirtree.specs.Tree.{Entry as DirEntry, IsTree, is_there, parent_of, root}
+use Rattle.dirtree.proofs.TreeFacts.{made_tree, removed_tree}
+use Rattle.board_problem.proofs.DirDivisions.{no_cooler}
 use Rattle.export_machine.specs.Cluster.{World as Cluster}
 use Rattle.export_machine.specs.declared.event.Event.{Event}
 use Rattle.export_machine.specs.declared.event.Event.TheVariants.{Made, Gone}
 use Rattle.export_machine.specs.Entries.{logs_export}
 use Rattle.export_machine.specs.Step as machine
 use Rattle.board_state.specs.declared.change.Answer.{Answer}
+use Rattle.board_state.specs.declared.change.Answer.TheVariants as answer
 use Rattle.board_state.specs.declared.change.Change.{Change}
 use Rattle.board_state.specs.declared.change.Change.TheVariants.{Make, Remove, Mask, Deposit, Tick, Step, Open, Adopt}
 use Rattle.board_state.specs.declared.change.Change.TheVariants as change
-use Rattle.board_state.specs.State.{State, Opened, start, refusal, happens, next, marked, marked_if, problem_of, after_event}
+use Rattle.board_state.specs.State.{State, Opened, start, refusal, happens, next, first_of, marked, marked_if, problem_of, after_event, usable, authorities, adopt_cause, unless_changed}
 use Rattle.board_state.specs.Steps.{IsBestForOpen}
-use Rattle.board_state.proofs.Accepted.{may_make, may_remove, may_step}
+use Rattle.board_state.proofs.Accepted.{may_make, may_remove, may_step, no_cause}
 use Rattle.mds_board.specs.declared.entry.Entry.{Entry}
-use Rattle.mds_board.specs.History.{IsReplay}
-use Rattle.mds_board.specs.Promises.{AdoptsBest, opens, opened_at, cluster_event, cluster_events}
+use Rattle.mds_board.specs.History.{IsReplay, after}
+use Rattle.mds_board.specs.Promises.{AdoptsBest, OpensDirectories, leaves_problem, cluster_event, cluster_events}
 
--- the problem that is open
-abbrev shown : Option Opened → Option ProblemData
-shown None = None
-shown (Some o) = Some o.problem
+-- the first entries and the rest of a replay
 
--- the problem of the state at the last opening
-abbrev posed : Option State → Option ProblemData
-posed None = None
-posed (Some s) = Some (problem_of s)
+-- how a replay goes on after some entries
+replay_split : (s : State) (before : List Entry) (e : Entry) (more : List Entry) (t : State) → IsReplay s (before ++ e ∷ more) t
+    → IsReplay s before (after s before) × IsReplay (after s before) (e ∷ more) t
+replay_split s [] e more t r = (refl, r)
+replay_split s (f ∷ before) e more t r =
+    let rest = replay_split (next s f.change) before e more t r.3 in
+    ((r.0, r.1, r.2, rest.0), rest.1)
 
-marked_shown : (o : Option Opened) (e : ℕ) → shown (marked o e) ≡ shown o
-marked_shown None e = refl
-marked_shown (Some o) e = refl
+-- where a problem is open, the last opening answered it, and unless it has changed, nothing that it was made of was set since
+abbrev IsOpenedIn : List Entry → Option Opened → Type 0
+IsOpenedIn before None = Unit {0}
+IsOpenedIn before (Some o) =
+    (earlier between : List Entry) × (before ≡ earlier ++ record { change = Open; reply = answer.Problem o.problem } ∷ between)
+    × (o.changed ≡ None → All (λ e. leaves_problem e.change ≡ true) between)
 
-marked_if_shown : (b : Bool) (o : Option Opened) (e : ℕ) → shown (marked_if b o e) ≡ shown o
-marked_if_shown true o e = marked_shown o e
-marked_if_shown false o e = refl
-
--- the open problem is that of the state at the last opening
-shown_next : (s : State) (last : Option State) (c : Change) → shown s.opened ≡ posed last → shown (next s c).opened ≡ posed (opens s last c)
-unfolding happens
-shown_next s last (Make parent name inodes) h = marked_shown s.opened s.events ∙ h
-shown_next s last (Remove d) h = marked_shown s.opened s.events ∙ h
-shown_next s last (change.Pin d value) h = marked_shown s.opened s.events ∙ h
-shown_next s last (Mask bits) h = marked_shown s.opened s.events ∙ h
-shown_next s last (Deposit hits) h = h
-shown_next s last Tick h = h
-shown_next s last (Step e) h = marked_if_shown (logs_export s.cluster e) s.opened s.events ∙ h
-shown_next s last Open h = refl
-shown_next s last (Adopt plan) h = refl
-
-best_now : (o : Option Opened) (last : Option State) (plan : Plan) → shown o ≡ posed last → IsBestForOpen o plan
-    → (s : State) × (last ≡ Some s) × IsBest (problem_of s) plan
-best_now None last plan h best = absurd best
-best_now (Some o) None plan h best = absurd (cc)
-best_now (Some o) (Some s) plan h best = (s, refl, subst (λ (q : Option ProblemData). on q) h best)
+one_more : (between : List Entry) (e : Entry) → leaves_problem e.change ≡ true → All (λ (f : Entry). leaves_problem f.change ≡ true) between
+    → All (λ (f : Entry). leaves_problem f.change ≡ true) (between ++ e ∷ [])
+one_more between e h all = All-append (λ (f : Entry). leaves_problem f.change ≡ true) between (e ∷ []) all alone
   where
-    on : Option ProblemData → Type 0
-    on None = ⊥
-    on (Some q) = IsBest q plan
+    alone : All (λ (f : Entry). leaves_problem f.change ≡ true) (e ∷ [])
+    alone zero d near = h
+    alone (suc k) d near = absurd (omega (arith, near))
 
-best_after : (s : State) (last : Option State) (before : List Entry) (plan : Plan) (reply : Answer) (more : List Entry) (t : State)
-    → shown s.opened ≡ posed last → IsReplay s (before ++ record { change = Adopt plan; reply = reply } ∷ more) t
-    → (u : State) × (opened_at s last before ≡ Some u) × IsBest (problem_of u) plan
-best_after s last [] plan reply more t h r = best_now s.opened last plan h r.1
-best_after s last (e ∷ es) plan reply more t h r =
-    best_after (next s e.change) (opens s last e.change) es plan reply more t (shown_next s last e.change h) r.3
+longer : (before earlier between : List Entry) (e opening : Entry) → before ≡ earlier ++ opening ∷ between → before ++ e ∷ [] ≡ earlier ++ opening ∷ (between ++ e ∷ [])
+longer before earlier between e opening is = ap (λ (es : List Entry). es ++ e ∷ []) is ∙ append_assoc earlier (opening ∷ between) (e ∷ [])
+
+still_opened : (before : List Entry) (o : Option Opened) (e : Entry) → leaves_problem e.change ≡ true → IsOpenedIn before o → IsOpenedIn (before ++ e ∷ []) o
+still_opened before None e leaves h = tt
+still_opened before (Some o) e leaves h = (
+  h.0,
+  h.1 ++ e ∷ [],
+  longer before h.0 h.1 e (record { change = Open; reply = answer.Problem o.problem }) h.2,
+  λ same. one_more h.1 e leaves (h.3 same),
+)
+
+never_unmarked : (changed : Option ℕ) (event : ℕ) → first_of changed event ≡ None → ⊥
+never_unmarked None event is = cc
+never_unmarked (Some earlier) event is = cc
+
+marked_opened : (before : List Entry) (o : Option Opened) (event : ℕ) (e : Entry) → IsOpenedIn before o → IsOpenedIn (before ++ e ∷ []) (marked o event)
+marked_opened before None event e h = tt
+marked_opened before (Some o) event e h = (
+  h.0,
+  h.1 ++ e ∷ [],
+  longer before h.0 h.1 e (record { change = Open; reply = answer.Problem o.problem }) h.2,
+  λ same. absurd (never_unmarked o.changed event same),
+)
+
+marked_if_opened : (before : List Entry) (b : Bool) (o : Option Opened) (event : ℕ) (e : Entry) → leaves_problem e.change ≡ true → IsOpenedIn before o
+    → IsOpenedIn (before ++ e ∷ []) (marked_if b o event)
+marked_if_opened before true o event e leaves h = marked_opened before o event e h
+marked_if_opened before false o event e leaves h = still_opened before o e leaves h
+
+opened_next : (before : List Entry) (s : State) (c : Change) (reply : Answer) → reply ≡ (happens s c).reply → IsOpenedIn before s.opened
+    → IsOpenedIn (before ++ record { change = c; reply = reply } ∷ []) (next s c).opened
+unfolding happens
+opened_next before s (Make parent name inodes) reply is h =
+    marked_opened before s.opened s.events (record { change = Make parent name inodes; reply = reply }) h
+opened_next before s (Remove d) reply is h = marked_opened before s.opened s.events (record { change = Remove d; reply = reply }) h
+opened_next before s (change.Pin d value) reply is h =
+    marked_opened before s.opened s.events (record { change = change.Pin d value; reply = reply }) h
+opened_next before s (Mask bits) reply is h = marked_opened before s.opened s.events (record { change = Mask bits; reply = reply }) h
+opened_next before s (Deposit hits) reply is h = still_opened before s.opened (record { change = Deposit hits; reply = reply }) refl h
+opened_next before s Tick reply is h = still_opened before s.opened (record { change = Tick; reply = reply }) refl h
+opened_next before s (Step e) reply is h =
+    marked_if_opened before (logs_export s.cluster e) s.opened s.events (record { change = Step e; reply = reply }) refl h
+opened_next before s Open reply is h = (
+  before,
+  [],
+  ap (λ (r : Answer). before ++ record { change = Open; reply = r } ∷ []) is,
+  λ same k d near. absurd (omega (arith, near)),
+)
+opened_next before s (Adopt plan) reply is h = tt
+
+opened_after : (before : List Entry) (s : State) (es : List Entry) (t : State) → IsReplay s es t → IsOpenedIn before s.opened → IsOpenedIn (before ++ es) t.opened
+opened_after before s [] t r h = rw (r, append-nil before) h
+opened_after before s (e ∷ es) t r h =
+    subst (λ (all : List Entry). IsOpenedIn all t.opened) (append_assoc before (e ∷ []) es)
+    (opened_after (before ++ e ∷ []) (next s e.change) es t r.3 (opened_next before s e.change e.reply r.2 h))
 
 -- Each adopted plan is best.
-pub adopts_best : (limit active : ℕ) (history : List Entry) (t : State) → IsReplay (start limit active) history t → AdoptsBest (start limit active) history
-adopts_best limit active history t h before more plan reply is =
-    best_after (start limit active) None before plan reply more t refl (subst (λ es. IsReplay (start limit active) es t) is h)
+
+best_open : (before : List Entry) (o : Option Opened) (plan : Plan) → IsOpenedIn before o → adopt_cause o ≡ None → IsBestForOpen o plan
+    → (earlier between : List Entry) × (problem : ProblemData)
+    × (before ≡ earlier ++ record { change = Open; reply = answer.Problem problem } ∷ between)
+    × All (λ (e : Entry). leaves_problem e.change ≡ true) between × IsBest problem plan × IsCertified problem plan
+best_open before None plan h may best = absurd best
+best_open before (Some o) plan h may best = (h.0, h.1, o.problem, h.2, h.3 (same o.changed may), best.0, best.1)
+  where
+    same : (changed : Option ℕ) → unless_changed changed ≡ None → changed ≡ None
+    same None is = refl
+    same (Some event) is = absurd (cc)
+
+pub adopts_best : (limit active : ℕ) (history : List Entry) (t : State) → IsReplay (start limit active) history t → AdoptsBest history
+adopts_best limit active history t r before more plan reply is =
+    let parts = replay_split (start limit active) before (record { change = Adopt plan; reply = reply }) more t (subst (λ es. IsReplay (start limit active) es t) is r) in
+    let s = after (start limit active) before in
+    best_open before s.opened plan (opened_after [] (start limit active) before s parts.0 tt) (no_cause s (Adopt plan) parts.1.0) parts.1.1
+
+-- the tree stays one
+
+only_root : (e : DirEntry) (d : ℕ) → is_there (Some e ∷ []) d ≡ true → d ≡ 0
+only_root e zero there = refl
+only_root e (suc d) there = absurd (false≢true there)
+
+first_tree : IsTree (Some root ∷ [])
+first_tree = record {
+  rooted = refl;
+  above = λ d some there. let is = only_root root d there in absurd (omega (arith, some, is));
+  parents = up;
+  named = λ d some there. let is = only_root root d there in absurd (omega (arith, some, is));
+  unique = λ c d some more there here same alike. only_root root c there ∙ sym (only_root root d here);
+}
+  where
+    up : (d : ℕ) → is_there (Some root ∷ []) d ≡ true → is_there (Some root ∷ []) (parent_of (Some root ∷ []) d) ≡ true
+    up zero there = refl
+    up (suc d) there = absurd (false≢true there)
+
+tree_next : (s : State) (c : Change) → IsTree s.directories.entries → refusal s c ≡ None → IsTree (next s c).directories.entries
+unfolding happens
+tree_next s (Make parent name inodes) tree h = made_tree s.directories parent name inodes tree (may_make s parent name inodes h).0
+tree_next s (Remove d) tree h = removed_tree s.directories d tree (may_remove s d h).0
+tree_next s (change.Pin d value) tree h = tree
+tree_next s (Mask bits) tree h = tree
+tree_next s (Deposit hits) tree h = tree
+tree_next s Tick tree h = tree
+tree_next s (Step e) tree h = tree
+tree_next s Open tree h = tree
+tree_next s (Adopt plan) tree h = tree
+
+tree_after : (s : State) (es : List Entry) (t : State) → IsReplay s es t → IsTree s.directories.entries → IsTree t.directories.entries
+tree_after s [] t r tree = subst (λ (u : State). IsTree u.directories.entries) (sym r) tree
+tree_after s (e ∷ es) t r tree = tree_after (next s e.change) es t r.3 (tree_next s e.change tree r.0)
+
+opened_reply : (s : State) → (happens s Open).reply ≡ answer.Problem (problem_of s)
+unfolding happens
+opened_reply s = refl
+
+-- Each problem is that of the directories at its opening.
+pub opens_directories : (limit active : ℕ) (history : List Entry) (t : State) → IsReplay (start limit active) history t → OpensDirectories (start limit active) history
+opens_directories limit active history t r earlier more reply is =
+    let parts = replay_split (start limit active) earlier (record { change = Open; reply = reply }) more t (subst (λ es. IsReplay (start limit active) es t) is r) in
+    let s = after (start limit active) earlier in
+    let tree : IsTree s.directories.entries = tree_after (start limit active) earlier s parts.0 first_tree in (
+      parts.1.2 ∙ opened_reply s,
+      tree,
+      λ plan best label is. no_cooler s.directories.entries s.pins.own s.heats.heats (authorities s) tree (rank_count (usable s)) label plan.greatest best.least is,
+    )
 
 -- The cluster is the machine's after the history's events.
 

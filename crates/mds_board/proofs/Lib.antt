@@ -1,3 +1,4 @@
+pub mod Begun
 pub mod Forced
 pub mod Headline
 pub mod Listing

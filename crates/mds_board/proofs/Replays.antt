@@ -1,9 +1,9 @@
 -- A history goes on by an accepted change.
-use Rattle.std.proofs.Common.{◌≡◌, ℕ, List, [], ◌∷◌, ◌++◌, Ok, None, refl, sym, ap, ◌∙◌, subst, arith, length-append, append_assoc}
+use Rattle.std.proofs.Common.{◌≡◌, ◌≤◌, ℕ, List, [], ◌∷◌, ◌++◌, Ok, None, refl, sym, ap, ◌∙◌, subst, arith, length-append, append_assoc}
 use Rattle.mds_types.specs.declared.order.Order.{Order}
 use Rattle.mds_types.specs.declared.plan.Plan.{Plan}
 use Rattle.mds_types.specs.Problem.{ProblemData}
-use Rattle.mds_types.specs.Certificate.{IsBest}
+use Rattle.mds_types.specs.Certificate.{IsBest, IsCertified}
 use Rattle.export_machine.specs.declared.event.Event.TheVariants.{End}
 use Rattle.export_machine.specs.declared.event.Reply.TheVariants.{Changed}
 use Rattle.export_machine.specs.Step as machine
@@ -46,6 +46,8 @@ goes_on s history c h allowed best =
     let n = h.numbered in
     let from : IsReplay (start s.directories.limit s.pins.active) (history ++ entry_of s c ∷ []) (next s c) = replay_more (start s.directories.limit s.pins.active) history s c h.replay allowed best in
     record {
+      some_dir = subst (λ l. 1 ≤ l) (sym (limits_stay s c).0) h.some_dir;
+      some_rank = subst (λ a. 1 ≤ a) (sym (limits_stay s c).1) h.some_rank;
       few = omega arith;
       numbered = omega arith;
       replay = subst (λ l. IsReplay (start l (next s c).pins.active) (history ++ entry_of s c ∷ []) (next s c)) (sym (limits_stay s c).0)
@@ -73,7 +75,7 @@ balance_entries old new history kept problem plan orders b is =
     ∙ (ap (λ (os : List Order). history ++ entry_of old.state Open ∷ record { change = Adopt plan; reply = answer.Orders os } ∷ []) b.4
     ∙ sym (append_assoc history (entry_of old.state Open ∷ []) (entry_of (next old.state Open) (Adopt plan) ∷ []))))
 
-allowed : (s : State) (plan : Plan) → IsBest (problem_of s) plan → IsAllowed (next s Open) (Adopt plan)
+allowed : (s : State) (plan : Plan) → IsBest (problem_of s) plan × IsCertified (problem_of s) plan → IsAllowed (next s Open) (Adopt plan)
 unfolding happens
 allowed s plan h = h
 
@@ -85,7 +87,7 @@ pub balance_keeps : (old new : Present) (history kept : List Entry) (problem : P
 balance_keeps old new history kept problem plan orders h b is =
     let s = old.state in
     let first = goes_on s history Open h b.0 tt in
-    let second = goes_on (next s Open) (history ++ entry_of s Open ∷ []) (Adopt plan) first b.2 (allowed s plan b.3) in
+    let second = goes_on (next s Open) (history ++ entry_of s Open ∷ []) (Adopt plan) first b.2 (allowed s plan (b.3, b.6)) in
     let all : IsHistory (next (next s Open) (Adopt plan)) kept =
     subst (λ es. IsHistory (next (next s Open) (Adopt plan)) es) (sym (balance_entries old new history kept problem plan orders b is)) second in
     subst (λ (p : Present). IsHistory p.state kept) (sym b.5) all

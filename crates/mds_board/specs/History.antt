@@ -49,6 +49,8 @@ IsAnswer old c (Err error) new = IsDue old.state c error × (new ≡ old)
 
 -- The state is the replay of the history from the empty board, within the limits.
 pub record IsHistory (s : State) (history : List Entry) : Type 0 where
+  pub some_dir : 1 ≤ s.directories.limit
+  pub some_rank : 1 ≤ s.pins.active
   pub few : length history ≤ 1048576
   pub numbered : s.events ≡ length history
   pub replay : IsReplay (start s.directories.limit s.pins.active) history s

@@ -1,46 +1,59 @@
 -- What holds of every history.
-use Rattle.std.specs.Prelude.{◌≡◌, List, [], ◌∷◌, ◌++◌, Option, Some, None}
+use Rattle.std.specs.Prelude.{◌≡◌, ◌≤◌, ◌==◌, ℕ, Bool, true, false, List, [], ◌∷◌, ◌++◌, All, filter, length}
+use Rattle.authority_map.specs.Operations.{Operation}
+use Rattle.dirtree.specs.Tree.{IsTree}
+use Rattle.heat_ledger.specs.Rows.{at}
+use Rattle.mds_types.specs.Certificate.{IsBest, IsCertified}
+use Rattle.mds_types.specs.Problem.{ProblemData}
+use Rattle.mds_types.specs.RankSet.{rank_count}
 use Rattle.mds_types.specs.declared.plan.Plan.{Plan}
-use Rattle.mds_types.specs.Certificate.{IsBest}
+use Rattle.board_problem.specs.DirDivision.{IsDirDivision, greatest_dir_heat}
 use Rattle.export_machine.specs.declared.event.Event.{Event}
-use Rattle.export_machine.specs.declared.event.Event.TheVariants.{Made, Gone}
+use Rattle.export_machine.specs.declared.event.Event.TheVariants.{Made, Gone, Begin}
 use Rattle.export_machine.specs.Step as machine
 use Rattle.export_machine.specs.Promises.{Promised}
 use Rattle.board_state.specs.declared.change.Answer.{Answer}
+use Rattle.board_state.specs.declared.change.Answer.TheVariants as answer
 use Rattle.board_state.specs.declared.change.Change.{Change}
-use Rattle.board_state.specs.declared.change.Change.TheVariants.{Make, Remove, Mask, Deposit, Tick, Step, Open, Adopt}
-use Rattle.board_state.specs.declared.change.Change.TheVariants as change
-use Rattle.board_state.specs.State.{State, start, problem_of}
+use Rattle.board_state.specs.declared.change.Change.TheVariants.{Make, Remove, Deposit, Tick, Step, Open, Adopt}
+use Rattle.board_state.specs.State.{State, start, problem_of, usable}
+use Rattle.board_state.specs.Steps.{IsFitting}
 use Rattle.mds_board.specs.declared.entry.Entry.{Entry}
-use Rattle.mds_board.specs.History.{World, IsReplay}
+use Rattle.mds_board.specs.History.{World, IsReplay, after}
 
--- the state in which the last problem was opened that no plan was adopted for
-abbrev pub opens : State → Option State → Change → Option State
-opens s last Open = Some s
-opens s last (Adopt plan) = None
-opens s last (Make parent name inodes) = last
-opens s last (Remove d) = last
-opens s last (change.Pin d value) = last
-opens s last (Mask bits) = last
-opens s last (Deposit hits) = last
-opens s last Tick = last
-opens s last (Step e) = last
+-- no division of the directories that no pin holds into at most as many connected parts as ranks are usable has a
+-- smaller greatest heat
+abbrev pub IsCoolest : State → Plan → Type 0
+IsCoolest s plan =
+    (label : ℕ → ℕ) → IsDirDivision s.directories.entries s.pins.own (rank_count (usable s)) label
+    → plan.greatest ≤ greatest_dir_heat s.directories.entries s.pins.own s.heats.heats (rank_count (usable s)) label
 
--- the state at the last opening of some entries that no adoption came after
-abbrev pub opened_at : State → Option State → List Entry → Option State
-opened_at s last [] = last
-opened_at s last (e ∷ es) = opened_at (Rattle.board_state.specs.State.next s e.change) (opens s last e.change) es
+-- Each problem in a history that begins at first is that of the tree, pins, heats, mask and authorities as they were
+-- when it was opened. The directories were a tree then, and a best plan for the problem divides them best.
+abbrev pub OpensDirectories : State → List Entry → Type 0
+OpensDirectories first history =
+    (earlier more : List Entry) (reply : Answer)
+    → history ≡ earlier ++ record { change = Open; reply = reply } ∷ more
+    → let s = after first earlier in
+    (reply ≡ answer.Problem (problem_of s)) × IsTree s.directories.entries
+    × ((plan : Plan) → IsBest (problem_of s) plan → IsCoolest s plan)
 
--- Each plan in a history that begins at first is best for the problem of the tree, pins, heats, mask and authorities
--- as they were at the last opening before it.
-abbrev pub AdoptsBest : State → List Entry → Type 0
-AdoptsBest first history =
-    (before more : List Entry) (plan : Plan) (reply : Answer) → history ≡ before ++ record {
-      change =
-          Adopt plan;
-      reply = reply;
-    } ∷ more
-    → (s : State) × (opened_at first None before ≡ Some s) × IsBest (problem_of s) plan
+-- a change that leaves the tree, the pins, the mask and the problem that is open as they are
+abbrev pub leaves_problem : Change → Bool
+leaves_problem (Deposit hits) = true
+leaves_problem Tick = true
+leaves_problem (Step e) = true
+leaves_problem _ = false
+
+-- Each plan in a history was adopted after a problem was opened, with only deposits, ticks and events of the cluster in
+-- between. It is best for this problem, and its proofs hold.
+abbrev pub AdoptsBest : List Entry → Type 0
+AdoptsBest history =
+    (before more : List Entry) (plan : Plan) (reply : Answer)
+    → history ≡ before ++ record { change = Adopt plan; reply = reply } ∷ more
+    → (earlier between : List Entry) × (problem : ProblemData)
+    × (before ≡ earlier ++ record { change = Open; reply = answer.Problem problem } ∷ between)
+    × All (λ e. leaves_problem e.change ≡ true) between × IsBest problem plan × IsCertified problem plan
 
 -- the events of the cluster that a change makes
 abbrev pub cluster_event : Change → List Event
@@ -54,12 +67,28 @@ abbrev pub cluster_events : List Entry → List Event
 cluster_events [] = []
 cluster_events (e ∷ es) = cluster_event e.change ++ cluster_events es
 
--- What holds of every board: its state is the replay of its history from the empty board; each adopted plan is best
--- for the problem of its opening; its cluster is the machine's after the history's events; each directory has exactly
+-- a change by which a request on d begins
+abbrev pub begins : ℕ → Change → Bool
+begins d (Step (Begin rank dir)) = dir == d
+begins d _ = false
+
+-- how many requests on d began in a history
+abbrev pub begun_on : ℕ → List Entry → ℕ
+begun_on d history = length (filter (λ e. begins d e.change) history)
+
+-- What holds of every board: its state is the replay of its history from the empty board; each problem is that of the
+-- directories at its opening, and each adopted plan is certified and best for its problem; its cluster is the machine's after the history's events; each directory has exactly
 -- one authority, which the map names but between log and notify, and no request runs at a stopped rank.
 pub record IsKept (w : World) : Type 0 where
   pub replay : IsReplay (start w.state.directories.limit w.state.pins.active) w.history w.state
-  pub plans : AdoptsBest (start w.state.directories.limit w.state.pins.active) w.history
+  pub problems : OpensDirectories (start w.state.directories.limit w.state.pins.active) w.history
+  pub plans : AdoptsBest w.history
   pub cluster : w.state.cluster ≡ machine.run (machine.start w.state.directories.limit w.state.pins.active)
       (cluster_events w.history)
   pub promised : Promised w.state.cluster
+  -- what is counted as begun on a directory are the requests that began on it in the history
+  pub begun : (d : ℕ) → at w.state.begun d ≡ begun_on d w.history
+  -- the cluster has the tree's directories and the pins' ranks, and all operations on the map name what the cluster names
+  pub fitting : IsFitting w.state
+  -- what is published is a beginning of them
+  pub published : (more : List Operation) × (w.published ++ more ≡ w.state.map)

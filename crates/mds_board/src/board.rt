@@ -6,7 +6,7 @@ ghost use Rattle.mds_types.specs.declared.plan.Plan.{Plan};
 ghost use Rattle.heat_ledger.specs.Opening.{fresh_share};
 ghost use Rattle.heat_ledger.specs.Ledger.{IsClean, begun_of, hits_of, pending_of, weight_of};
 ghost use Rattle.heat_ledger.specs.Rows.{at, counted_rows, raised};
-ghost use Rattle.board_state.specs.State.{balance_refusal, happens, next, problem_of, refusal, start};
+ghost use Rattle.board_state.specs.State.{balance_refusal, first_operations, happens, next, problem_of, refusal, start};
 ghost use Rattle.board_state.specs.Steps.{is_inner, spelled};
 ghost use Rattle.mds_board.specs.History.{IsAnswer, recorded};
 ghost use Rattle.mds_board.specs.Stored.{HasRoom};
@@ -45,7 +45,8 @@ impl<J: Naming, M: Publisher<J>> Model for Board<J, M> {
 
 impl<J: Naming, M: Publisher<J>> Board<J, M> {
     /// The root alone, at rank 0 of so many active ranks, with room for the directory numbers below `limit`, and a
-    /// share of the ledger for each rank. Where memory is refused, the parts are handed back.
+    /// share of the ledger for each rank. The map has one operation, which gives the root to rank 0, and it is
+    /// published. Where memory is refused, the parts are handed back, and the map may have this operation then.
     pub fn new(
         alloc: Global,
         parts: BoardParts<J, M>,
@@ -61,7 +62,7 @@ impl<J: Naming, M: Publisher<J>> Board<J, M> {
           state = start limit active;
           is_open = true;
           shares = active;
-          published = [];
+          published = first_operations true;
           history = [];
         }) }
         ensures shares { IfOk result (λ r. r.1.items ≡ replicate active (fresh_share limit)) }

@@ -1,5 +1,6 @@
 //! What a list asks of a board.
 
+use board_state::is_inner;
 use dirtree::Name;
 use export_machine::Event;
 use mds_types::{Dir, RankSet};
@@ -21,4 +22,19 @@ pub enum BoardCommand {
     Step(Event),
     /// Opens the problem, solves it and adopts the plan.
     Balance,
+}
+
+impl BoardCommand {
+    ghost use Rattle.std.specs.Prelude.{◌≡◌};
+    ghost use Rattle.mds_board.specs.Commands.{is_fit};
+
+    /// Whether a list may have this command: it is no event that makes or removes a directory or begins a request.
+    pub fn is_fit(&self) -> bool
+        ensures { result ≡ is_fit self.now }
+    {
+        match self {
+            BoardCommand::Step(event) => is_inner(event),
+            _ => true,
+        }
+    }
 }

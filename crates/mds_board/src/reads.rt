@@ -47,6 +47,7 @@ impl<J: Naming, M: Publisher<J>> Board<J, M> {
     pub fn promises(&self)
         ensures { IsKept self.now }
     {
+        self.state.fits();
         self.state.cluster().promised();
     }
 

@@ -4,4 +4,4 @@ use Rattle.board_state.specs.State.{start}
 use Rattle.std.proofs.Common.{None}
 
 pub returns : goal.returns
-returns c = λ w kept. all_best (start w.state.directories.limit w.state.pins.active) None w.history w.state tt kept.replay
+returns c = λ w kept k d near. (all_best (start w.state.directories.limit w.state.pins.active) None w.history w.state tt kept.replay k d near).0

@@ -1,6 +1,5 @@
-use Rattle.std.proofs.Common.{◌≡◌, [], ◌∷◌, None, refl, arith, rules}
+use Rattle.std.proofs.Common.{◌≡◌, None, refl, arith}
 use Rattle.std.proofs.lemmas.List.{length-replicate}
-use Rattle.authority_map.specs.Operations.{SetTo}
 use Rattle.export_machine.specs.Step as machine
 use Rattle.board_state.proofs.Fitting.{none_begun}
 use Rattle.board_state.proofs.Mapping.{first_mapped}
@@ -9,20 +8,20 @@ use Rattle.board_state.proofs.state.BoardState.new.Goals as goal
 pub invariant_of-state : goal.invariant_of-state
 unfolding machine.start
 invariant_of-state g c =
-    let t = c.in-Ok-Ok.ensures' in
-    let first : c.default.result ≡ 0 = search rules in
-    let published : g.M.Publisher.published c.set_one.new.self ≡ [] = rw (c.set_one.ensures.published, c.reserve.ensures.same.0) c.args.parts.unwritten.0 in
-    let pending : g.M.Publisher.pending c.set_one.new.self ≡ SetTo (0 ∷ []) 0 ∷ [] =
-    rw (c.set_one.ensures.appended, c.reserve.ensures.same.1, c.args.parts.unwritten.1, first) refl in (
+    let tree = c.in-Ok.ensures.tree in
+    let pins = c.in-Ok.ensures.pins in
+    let heat = c.in-Ok.ensures.heat in
+    let cluster = c.in-Ok.ensures.cluster in
+    let root = c.in-Ok-publish_root.ensures.published in (
       record {
-        few_ticks = rw t.heat (omega arith);
-        pins_limit = rw (t.pins, t.tree) (length-replicate c.args.limit None);
-        heats_limit = rw (t.heat, t.tree) refl;
-        parents = rw (t.cluster, t.tree) refl;
-        cluster_limit = rw (t.cluster, t.tree) refl;
-        ranks = rw (t.cluster, t.pins) refl;
-        few_begun = λ d. rw c.in-Ok.ensures.book (none_begun c.args.limit d);
-        mapped = λ d. rw (published, pending, t.cluster) (first_mapped c.args.limit c.args.active d);
+        few_ticks = rw heat (omega arith);
+        pins_limit = rw (pins, tree) (length-replicate c.args.limit None);
+        heats_limit = rw (heat, tree) refl;
+        parents = rw (cluster, tree) refl;
+        cluster_limit = rw (cluster, tree) refl;
+        ranks = rw (cluster, pins) refl;
+        few_begun = λ d. rw c.in-Ok-open.ensures.book (none_begun c.args.limit d);
+        mapped = λ d. rw (root.0, root.1, cluster) (first_mapped c.args.limit c.args.active d);
       },
-      rw t.tree c.requires.limit,
+      rw tree c.requires.limit,
     )
