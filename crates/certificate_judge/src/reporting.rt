@@ -1,5 +1,5 @@
 //! Printing the answers for bytes.
-ghost use Rattle.std.specs.Prelude.{◌≡◌, ◌≤◌, ◌⊎◌, IsTrue, string_bytes};
+ghost use Rattle.std.specs.Prelude.{◌≡◌, ◌≤◌, ◌⊎◌, IfErr, IfOk, IsTrue, OnErr, OnOk, string_bytes};
 ghost use Rattle.std.specs.Io.KnownBytes.{Appends};
 ghost use Rattle.certificate_judge.specs.Judged.{GrowsByFront, IsJudged, memory_line};
 ghost use Rattle.plan_text.specs.declared.read_error.ReadError.TheVariants.{Memory};
@@ -23,7 +23,28 @@ pub fn report<W: Write, E: Write>(
 ) -> u8
     ensures { IsJudged W.contents E.contents bytes.now writer.old writer.new errors.old errors.new result }
 {
-    match judge(alloc, bytes) {
+    print_judged(judge(alloc, bytes), name, writer, errors)
+}
+
+/// Prints the answers, or why there are none, and gives the status.
+fn print_judged<W: Write, E: Write>(
+    judged: Result<Answers, ReadError>,
+    name: &str,
+    writer: &mut W,
+    errors: &mut E,
+) -> u8
+    ensures yes { IfOk judged (λ answers. result ≡ 0 → IsTrue answers.hold) }
+    ensures no { IfOk judged (λ answers. result ≡ 1 → ¬ (IsTrue answers.hold)) }
+    ensures all { IfOk judged (λ answers. result ≤ 1 → Appends
+        (W.contents writer.old) (W.contents writer.new) (string_bytes answers.lines)) }
+    ensures front { IfOk judged (λ answers. GrowsByFront
+        (W.contents writer.old) (W.contents writer.new) (string_bytes answers.lines)) }
+    ensures few { OnOk judged ((result ≤ 1) ⊎ (result ≡ 3)) }
+    ensures refused { OnErr judged ((result ≡ 2) × (writer.new ≡ writer.old)) }
+    ensures memory { IfErr judged (λ error. error ≡ Memory →
+        GrowsByFront (E.contents errors.old) (E.contents errors.new) memory_line) }
+{
+    match judged {
         Ok(answers) => print_answers(&answers, writer, errors),
         Err(error) => refuse(error, name, errors),
     }
