@@ -1,1 +1,4 @@
+pub mod AnswerLemmas
+pub mod JudgedLemmas
+pub mod LineLemmas
 pub mod PrintLemmas

@@ -1,7 +1,12 @@
--- What the checker's answer says of the bytes that it was given.
-use Rattle.std.specs.Prelude.{◌≡◌, ◌<◌, ⊤, ℕ, Bool, List, [], ◌∷◌, ◌++◌, Option, All, codes, length, if◌then◌else◌}
+-- What the checker's answers say of the bytes that it was given.
+use Rattle.std.specs.Prelude.{◌≡◌, ◌<◌, ◌≤◌, ⊤, ℕ, suc, List, [], ◌∷◌, ◌++◌, ◌⊎◌, All, codes, decimal, length}
+use Rattle.std.specs.List.{sum_by}
 use Rattle.std.specs.Io.KnownBytes.{Appends}
-use Rattle.mds_types.specs.Certificate.{IsBest, IsCertified}
+use Rattle.std.specs.Prelude.{Option}
+use Rattle.mds_types.specs.Certificate.{IsBest, IsCertified, IsCutCertified}
+use Rattle.mds_types.specs.Problem.{ProblemData}
+use Rattle.mds_types.specs.RankSet.{rank_count}
+use Rattle.mds_types.specs.declared.problem.ProblemRow.{ProblemRow}
 use Rattle.plan_text.specs.Text.{texts}
 use Rattle.plan_text.specs.Writable.{IsWritable}
 use Rattle.plan_text.specs.declared.certificate.Certificate.{Certificate}
@@ -11,6 +16,12 @@ use Rattle.plan_text.specs.declared.read_error.ReadError.TheVariants.{Line, Memo
 -- the proofs of a certificate's plan hold
 abbrev pub ProofsHold : Certificate → Type 0
 ProofsHold c = IsCertified c.problem c.plan
+
+-- the parts, the greatest heat and the cut proof of a certificate's plan hold
+abbrev pub CutHolds : Certificate → Type 0
+CutHolds c =
+    IsCutCertified c.problem.rows (rank_count c.problem.ranks) c.plan.part (length c.plan.rank) c.plan.greatest
+    c.plan.cut
 
 -- the plan of a certificate is best
 abbrev pub HasBest : Certificate → Type 0
@@ -39,12 +50,54 @@ abbrev pub Refuses : List ℕ → ReadError → Type 0
 Refuses bytes Memory = ⊤
 Refuses bytes (Line line expected) = ¬ (AreCertificates bytes)
 
--- what is printed for an answer, and the status for it
-abbrev pub answer_line : Bool → List ℕ
-answer_line answer = if answer then codes "yes" ++ 10 ∷ [] else codes "no" ++ 10 ∷ []
+-- the heat of all rows, in accesses
+abbrev pub heat_of_rows : List ProblemRow → ℕ
+heat_of_rows rows = sum_by (λ row. row.heat) rows
 
-abbrev pub answer_status : Bool → ℕ
-answer_status answer = if answer then 0 else 1
+-- the inodes of all rows
+abbrev pub inodes_of_rows : List ProblemRow → ℕ
+inodes_of_rows rows = sum_by (λ row. row.inodes) rows
+
+-- how many rows and ranks there are
+abbrev pub size_text : ℕ → ℕ → List ℕ
+size_text rows ranks = codes "yes rows " ++ (decimal rows ++ (codes " ranks " ++ decimal ranks))
+
+-- the accesses and the inodes of all rows
+abbrev pub totals_text : ℕ → ℕ → List ℕ
+totals_text heat inodes = codes " heat " ++ (decimal heat ++ (codes " inodes " ++ decimal inodes))
+
+-- the greatest heat of a part and the inodes that move, to the end of the line
+abbrev pub sums_text : ℕ → ℕ → List ℕ
+sums_text greatest moved = codes " greatest " ++ (decimal greatest ++ (codes " moved " ++ (decimal moved ++ 10 ∷ [])))
+
+-- the line for a certificate whose proofs hold
+abbrev pub yes_line : Certificate → List ℕ
+yes_line c =
+    size_text (length c.problem.rows) (rank_count c.problem.ranks)
+    ++ totals_text (heat_of_rows c.problem.rows) (inodes_of_rows c.problem.rows)
+    ++ sums_text c.plan.greatest c.plan.moved
+
+-- the line for a certificate with this number, and what is wrong with it
+abbrev pub no_line : ℕ → List ℕ → List ℕ
+no_line number what = codes "no certificate " ++ (decimal number ++ (codes ": " ++ (what ++ 10 ∷ [])))
+
+-- this line is the answer for the certificate with this number: what is in it, or the first proof that doesn't hold
+abbrev pub IsVerdict : ℕ → Certificate → List ℕ → Type 0
+IsVerdict number c line =
+    (ProofsHold c × (line ≡ yes_line c))
+    ⊎ (¬ (CutHolds c) × (line ≡ no_line number (codes "the cut proof does not hold")))
+    ⊎ (CutHolds c × ¬ (ProofsHold c) × (line ≡ no_line number (codes "the dual proof does not hold")))
+
+-- these lines are the answers for certificates, of which the first has this number: a line each, in order
+abbrev pub AreVerdicts : ℕ → List Certificate → List ℕ → Type 0
+AreVerdicts number [] lines = lines ≡ []
+AreVerdicts number (c ∷ cs) lines =
+    (first : List ℕ) × (rest : List ℕ) × IsVerdict number c first × AreVerdicts (suc number) cs rest
+    × (lines ≡ first ++ rest)
+
+-- these lines are the answers for the certificates that the bytes are
+abbrev pub HaveVerdicts : List ℕ → List ℕ → Type 0
+HaveVerdicts bytes lines = (cs : List Certificate) × AreTexts bytes cs × AreVerdicts 1 cs lines
 
 -- what is printed where memory is refused
 abbrev pub memory_line : List ℕ
@@ -53,3 +106,17 @@ memory_line = codes "mdbal_check: 0 Memory" ++ 10 ∷ []
 -- known bytes grow by a front of a line: by all of it, unless a write fails
 abbrev pub GrowsByFront : Option (List ℕ) → Option (List ℕ) → List ℕ → Type 0
 GrowsByFront old new line = (front rest : List ℕ) × (front ++ rest ≡ line) × Appends old new front
+
+-- what judging these bytes has done, by the status: all answers are printed, or a beginning of them; or nothing is
+-- printed, and standard error says why
+module _ {W E : Type 0} (printed : W → Option (List ℕ)) (said : E → Option (List ℕ)) (bytes : List ℕ) (old new : W)
+    (before after : E) where
+  pub record IsJudged (status : ℕ) : Type 0 where
+    pub yes : status ≡ 0 → AllHold bytes × AllBest bytes
+    pub no : status ≡ 1 → AreCertificates bytes × ¬ (AllHold bytes)
+    pub answered : status ≤ 1 → (lines : List ℕ) × HaveVerdicts bytes lines × Appends (printed old) (printed new) lines
+    pub unprinted : status ≡ 2 → new ≡ old
+    pub reason : status ≡ 2 → ¬ (AreCertificates bytes) ⊎ GrowsByFront (said before) (said after) memory_line
+    pub unwritten :
+        status ≡ 3 → (lines : List ℕ) × HaveVerdicts bytes lines × GrowsByFront (printed old) (printed new) lines
+    pub few : status ≤ 3

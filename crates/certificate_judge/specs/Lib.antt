@@ -1,1 +1,3 @@
+pub mod CommandLine
+pub mod Exit
 pub mod Judged

@@ -8,8 +8,6 @@ mod devices;
 #[cfg(test)]
 mod hints;
 #[cfg(test)]
-mod judged;
-#[cfg(test)]
 mod pieces;
 #[cfg(test)]
 mod program;

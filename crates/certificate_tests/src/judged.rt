@@ -1,6 +1,6 @@
 //! The plan of docs/CERTIFICATES.md that is checked by hand, and what becomes of it when one line is changed.
 use crate::same::{Sure, holds_in, same_in};
-use certificate_judge::tell;
+use certificate_judge::report;
 use std::alloc::{AllocError, Global};
 use std::process::Abort;
 
@@ -38,46 +38,41 @@ const LINES: &[&str] = &[
     "end",
 ];
 
-// (line, what stands there in its place, whether the proofs hold)
-const JUDGED: &[(usize, &str, bool)] = &[
-    (1, "certificate 1", true),
-    (2, "mask 0x1", false),
-    (2, "mask 0x7", false),
-    (4, "row 0 0 2 0", true),
-    (4, "row 0 0 1 1", false),
-    (4, "row 0 1 1 0", false),
-    (5, "row 0 3 6 0", true),
-    (6, "row 0 3 1 0", false),
-    (6, "row 1 4 1 0", false),
-    (7, "row 2 3 2 0", false),
-    (9, "part 1", false),
-    (10, "part 1", false),
-    (12, "part 0", false),
-    (12, "part 2", false),
-    (14, "rank 1", false),
-    (15, "rank 0", false),
-    (15, "rank 2", false),
-    (16, "greatest 5", false),
-    (16, "greatest 7", false),
-    (17, "moved 1", false),
-    (17, "moved 3", false),
-    (20, "cell 3 3 3 0", false),
-    (20, "cell 2 4 3 0", false),
-    (20, "cell 2 3 4 0", true),
-    (20, "cell 2 3 2 0", false),
-    (20, "cell 2 3 3 1", false),
-    (21, "cell 2 3 2 0", false),
-    (21, "cell 1 3 3 0", false),
-    (22, "cell 1 3 4 1", false),
-    (22, "cell 1 3 2 1", false),
-    (22, "cell 1 3 3 0", false),
-    (23, "cell 0 3 9 1", true),
-    (23, "cell 0 18446744073709551615 0 1", false),
-    (25, "price 1", false),
-    (26, "price 3", false),
-    (28, "price -1", false),
-    (28, "price -9223372036854775808", false),
-    (29, "price 1", false),
+// (line, what is there in its place, the first proof that fails)
+const JUDGED: &[(usize, &str, &str)] = &[
+    (2, "mask 0x1", "cut"),
+    (2, "mask 0x7", "cut"),
+    (4, "row 0 0 1 1", "dual"),
+    (4, "row 0 1 1 0", "cut"),
+    (6, "row 0 3 1 0", "cut"),
+    (6, "row 1 4 1 0", "cut"),
+    (7, "row 2 3 2 0", "dual"),
+    (9, "part 1", "cut"),
+    (10, "part 1", "cut"),
+    (12, "part 0", "cut"),
+    (12, "part 2", "cut"),
+    (14, "rank 1", "dual"),
+    (15, "rank 0", "dual"),
+    (15, "rank 2", "dual"),
+    (16, "greatest 5", "cut"),
+    (16, "greatest 7", "cut"),
+    (17, "moved 1", "dual"),
+    (17, "moved 3", "dual"),
+    (20, "cell 3 3 3 0", "cut"),
+    (20, "cell 2 4 3 0", "cut"),
+    (20, "cell 2 3 2 0", "cut"),
+    (20, "cell 2 3 3 1", "cut"),
+    (21, "cell 2 3 2 0", "cut"),
+    (21, "cell 1 3 3 0", "cut"),
+    (22, "cell 1 3 4 1", "cut"),
+    (22, "cell 1 3 2 1", "cut"),
+    (22, "cell 1 3 3 0", "cut"),
+    (23, "cell 0 18446744073709551615 0 1", "cut"),
+    (25, "price 1", "dual"),
+    (26, "price 3", "dual"),
+    (28, "price -1", "dual"),
+    (28, "price -9223372036854775808", "dual"),
+    (29, "price 1", "dual"),
 ];
 
 /// The certificate with another line in place of line `number`.
@@ -94,22 +89,49 @@ fn changed(alloc: Global, number: usize, line: &str) -> Result<String, AllocErro
     Ok(text)
 }
 
-/// The certificate with another line in place of one is told of so: the status, what is printed, and what is said on
-/// standard error.
-fn tells_so(rt: &impl Abort, alloc: Global, change: (usize, &str), wanted: (u8, &str, &str)) {
+/// A change of one line has this status, this output, and this text on standard error.
+fn reports_so(rt: &impl Abort, alloc: Global, change: (usize, &str), wanted: (u8, &str, &str)) {
     let text = changed(alloc, change.0, change.1).sure(rt);
     let (mut writer, mut errors) = (Vec::new(alloc), Vec::new(alloc));
-    let status = tell(alloc, "plan", text.as_bytes(), &mut writer, &mut errors);
+    let status = report(alloc, "plan", text.as_bytes(), &mut writer, &mut errors);
     same_in(rt, &status, &wanted.0, &change);
     holds_in(rt, writer.as_slice() == wanted.1.as_bytes(), &change);
     holds_in(rt, errors.as_slice() == wanted.2.as_bytes(), &change);
 }
 
 #[test]
-fn tells_whether_the_proofs_hold(rt: HostRuntime) {
-    for (number, line, holds) in JUDGED {
-        let (status, printed) = if *holds { (0, "yes\n") } else { (1, "no\n") };
-        tells_so(&rt, rt.alloc(), (*number, line), (status, printed, ""));
+fn reports_which_proof_fails(rt: HostRuntime) {
+    for (number, line, failing) in JUDGED {
+        let text = format!(in rt.alloc(); "no certificate 1: the {failing} proof does not hold\n");
+        let text = text.sure(&rt);
+        reports_so(&rt, rt.alloc(), (*number, *line), (1, &text, ""));
+    }
+}
+
+/// What is printed for it.
+const YES: &str = "yes rows 4 ranks 2 heat 9 inodes 8 greatest 6 moved 2\n";
+
+// (line, what is there in its place, what is printed)
+const TRUE: &[(usize, &str, &str)] = &[
+    (1, "certificate 1", YES),
+    (
+        4,
+        "row 0 0 2 0",
+        "yes rows 4 ranks 2 heat 9 inodes 9 greatest 6 moved 2\n",
+    ),
+    (
+        5,
+        "row 0 3 6 0",
+        "yes rows 4 ranks 2 heat 9 inodes 9 greatest 6 moved 2\n",
+    ),
+    (20, "cell 2 3 4 0", YES),
+    (23, "cell 0 3 9 1", YES),
+];
+
+#[test]
+fn reports_what_was_checked(rt: HostRuntime) {
+    for (number, line, printed) in TRUE {
+        reports_so(&rt, rt.alloc(), (*number, *line), (0, *printed, ""));
     }
 }
 
@@ -149,10 +171,10 @@ const BROKEN: &[(usize, &str, usize, &str)] = &[
 ];
 
 #[test]
-fn says_which_line_is_broken(rt: HostRuntime) {
+fn reports_which_line_is_broken(rt: HostRuntime) {
     for (number, line, at, expected) in BROKEN {
         let message = format!(in rt.alloc(); "plan:{at}: expected {expected}\n").sure(&rt);
-        tells_so(&rt, rt.alloc(), (*number, line), (2, "", &message));
+        reports_so(&rt, rt.alloc(), (*number, line), (2, "", &message));
     }
 }
 
@@ -160,7 +182,7 @@ fn says_which_line_is_broken(rt: HostRuntime) {
 fn has_status(rt: &impl Abort, alloc: Global, first: &str, second: &str, wanted: u8) {
     let file = format!(in alloc; "{first}{second}").sure(rt);
     let (mut writer, mut errors) = (Vec::new(alloc), Vec::new(alloc));
-    let status = tell(alloc, "plan", file.as_bytes(), &mut writer, &mut errors);
+    let status = report(alloc, "plan", file.as_bytes(), &mut writer, &mut errors);
     same_in(rt, &status, &wanted, &file);
     same_in(rt, &errors.is_empty(), &(wanted < 2), &file);
     same_in(rt, &writer.is_empty(), &(wanted == 2), &file);

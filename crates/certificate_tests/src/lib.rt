@@ -1,0 +1,9 @@
+//! Tests of the checker of certificates, by its public calls.
+#![tactic(auto)]
+
+#[cfg(test)]
+mod judged;
+#[cfg(test)]
+mod program;
+#[cfg(test)]
+mod same;
