@@ -14,6 +14,30 @@ use std::convert::AsStr;
 /// The version that `--version` prints.
 const VERSION: &str = "0.1.0";
 
+/// The end of the help.
+const AFTER_HELP: &str = "\
+Commands of a script, one a line:
+  ranks N           start a cluster of N active ranks, 1 to 64; the first command
+  mask MASK         set the ranks that the balancer may use, as bal_rank_mask does
+  dir PATH INODES   make a directory
+  rmdir PATH        remove a directory that has no child
+  pin PATH RANK     set the export pin of a directory; RANK -1 removes it
+  load PATH HITS    queue a request with that many hits
+  go                serve the queued requests
+  tick              halve all heats
+  cost [PATH ..]    print what the division at these directories costs
+  plan              make, adopt and print a best plan
+  move              move directories to the ranks of their pins and of the plan
+  stop RANK         stop a rank
+  restart RANK      restart a rank
+  stat              print a report on all directories
+
+Exit status:
+  0  every line was accepted
+  1  some line was faulty
+  2  the command line was refused, or there was no memory to begin with
+  3  a read or a write failed";
+
 /// What the program is started with.
 #[derive(Clone, Copy, Debug, PartialEq, Eq)]
 pub struct Settings<'a> {
@@ -23,7 +47,7 @@ pub struct Settings<'a> {
     pub strict: bool,
     /// The file that the certificates of the adopted plans are written to, if one is named.
     pub proofs: Option<&'a str>,
-    /// Whether nothing is said on standard error of lines that spell no command.
+    /// Whether no hints are written on standard error for lines that spell no command.
     pub quiet: bool,
 }
 
@@ -57,7 +81,7 @@ fn limit_option<'a>(alloc: Global) -> Arg<'a>
         .long("limit")
         .value_name("N")
         .value_parser(value_parser!(u32).range(1..=i64::from(DIR_LIMIT)))
-        .help("Directory numbers that the tree may give, 1 to 65536 (65536 where left out)")
+        .help("Limit on directory numbers, 1 to 65536 (default: 65536)")
 }
 
 fn strict_flag<'a>(alloc: Global) -> Arg<'a>
@@ -89,7 +113,7 @@ fn quiet_flag<'a>(alloc: Global) -> Arg<'a>
         .long("quiet")
         .action(ArgAction::SetTrue)
         .value_parser(value_parser!(bool))
-        .help("Don't say on standard error why a line is `syntax`")
+        .help("Write no hints on standard error for lines that are `syntax`")
 }
 
 // The program's command with `--limit` and `--strict`.
@@ -101,6 +125,7 @@ fn limited_command<'a>(alloc: Global) -> Result<Command<'a>, AllocError>
         .about(
             "Carries out the script on standard input, and writes its answers to standard output",
         )
+        .after_help(AFTER_HELP)
         .arg(limit_option(alloc))?
         .arg(strict_flag(alloc))
 }

@@ -1,5 +1,5 @@
 //! Reads a script to its end, and has each line answered.
-ghost use Rattle.std.specs.Prelude.{◌≡◌, ℕ, ◌+◌, ◌^◌, ◌++◌, List, IfOk, IfSome, IsErrOf, true, false, not, ◌&&◌};
+ghost use Rattle.std.specs.Prelude.{◌≡◌, ◌⊎◌, ℕ, ◌+◌, ◌^◌, ◌++◌, List, IfOk, IfSome, IsErrOf, true, false, not, ◌&&◌};
 ghost use Rattle.script_engine.specs.Lines.{lines_of};
 ghost use Rattle.script_engine.specs.Telling.{AlwaysTells};
 ghost use Rattle.script_engine.specs.Runs.{AcceptsUpTo, AnswersAll, AnswersSome, AnswersWhole, Gives, IsEnded};
@@ -66,6 +66,8 @@ pub fn run_script<
     ensures read { IsErrOf result RunError.Read → (bytes : List ℕ) × Gives R.remaining input.old input.new bytes
         × AnswersWhole I.answers strict interpreter.old bytes interpreter.new
         (W.contents writer.old) (W.contents writer.new) }
+    // It is answered so only where a read failed, or after 2^40 reads.
+    ensures cause { IsErrOf result RunError.Read → (input.new.failed ≡ true) ⊎ (input.new.reads ≡ 2 ^ 40) }
     // Where a write fails, a beginning of what is due for the lines so far was written.
     ensures write { IsErrOf result RunError.Write → (bytes : List ℕ) × Gives R.remaining input.old input.new bytes
         × AnswersSome I.answers strict interpreter.old bytes (W.contents writer.old) (W.contents writer.new) }

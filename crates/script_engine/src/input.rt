@@ -25,6 +25,7 @@ pub struct Input<R> {
     past: Past,
     reads: u64,
     ended: bool,
+    failed: bool,
 }
 
 impl<R> Model for Input<R> {
@@ -39,6 +40,7 @@ impl<R> Model for Input<R> {
       given = bytes_of input.past;
       reads = input.reads;
       ended = input.ended;
+      failed = input.failed;
     } };
 
     ghost invariant = { λ input. input.reads ≤ 2 ^ 40 };
@@ -47,13 +49,14 @@ impl<R> Model for Input<R> {
 impl<R: Read> Input<R> {
     /// A reader of which nothing was read yet.
     pub fn new(reader: R) -> Input<R>
-        ensures { result ≡ record { reader = reader; given = []; reads = 0; ended = false } }
+        ensures { result ≡ record { reader = reader; given = []; reads = 0; ended = false; failed = false } }
     {
         Input {
             reader,
             past: Past::Start,
             reads: 0,
             ended: false,
+            failed: false,
         }
     }
 
@@ -64,7 +67,7 @@ impl<R: Read> Input<R> {
         ensures bytes { ReadConsumes (R.remaining self.old.reader) (R.remaining self.new.reader) result buffer.new }
         ensures given { IfOk result (λ count. self.new.given ≡ self.old.given ++ take count buffer.new) }
         ensures ended { IfOk result (λ count. count ≡ 0 → self.new.ended ≡ true) }
-        ensures failed { OnErr result (self.new.given ≡ self.old.given) }
+        ensures failed { OnErr result ((self.new.given ≡ self.old.given) × (self.new.failed ≡ true)) }
         ensures reads { self.new.reads ≡ self.old.reads + 1 }
     {
         self.reads += 1;
@@ -74,7 +77,10 @@ impl<R: Read> Input<R> {
                 self.ended = count == 0;
                 Ok(count)
             }
-            Err(_) => Err(ReadFailed),
+            Err(_) => {
+                self.failed = true;
+                Err(ReadFailed)
+            }
         }
     }
 
@@ -87,6 +93,7 @@ impl<R: Read> Input<R> {
             past: _past,
             reads: _reads,
             ended: _ended,
+            failed: _failed,
         } = self;
         reader
     }

@@ -60,6 +60,8 @@ pub fn print_reply<J: Naming, M: Publisher<J>, W: Write>(
         → (count : ℕ) × (count < length (reply_lines board.old reply.now))
         × Appends (W.contents writer.old) (W.contents writer.new)
         (joined (take count (reply_lines board.old reply.now))) }
+    // No line stays on the page that isn't written.
+    ensures emptied { IsErrOf result Unprinted.Memory → string_bytes page.new.chunk ≡ [] }
     ensures write { IsErrOf result Unprinted.Write
         → AppendsFront (W.contents writer.old) (W.contents writer.new) (joined (reply_lines board.old reply.now)) }
     ensures same { board.new ≡ board.old }
@@ -70,6 +72,7 @@ pub fn print_reply<J: Naming, M: Publisher<J>, W: Write>(
             Ok(()) => {}
             Err(_) => {
                 write_whole(writer, page.chunk.as_bytes())?;
+                page.chunk.clear();
                 return Err(Unprinted::Memory);
             }
         }

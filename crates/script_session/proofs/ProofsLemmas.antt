@@ -30,6 +30,7 @@ nothing_run remaining limit strict input before proofs ended is = rw is
       given = tt;
       stops = tt;
       read = λ same. absurd (not_read same);
+      cause = λ same. absurd (not_read same);
       write = λ same. absurd (not_write same);
       proofs = (beginning 1, tt, (Appends-nil proofs, tt), tt);
     })

@@ -1,5 +1,5 @@
 -- How a run of a script ended, and what it has written by then.
-use Rattle.std.specs.Prelude.{◌≡◌, ◌++◌, ◌&&◌, ℕ, Bool, false, true, not, List, Option, IfOk, IfSome, IsErrOf}
+use Rattle.std.specs.Prelude.{◌≡◌, ◌⊎◌, ◌^◌, ◌++◌, ◌&&◌, ℕ, Bool, false, true, not, List, Option, IfOk, IfSome, IsErrOf}
 use Rattle.script_engine.specs.Devices.{Reading}
 use Rattle.script_engine.specs.Lines.{lines_of}
 use Rattle.script_engine.specs.Runs.{Gives, IsEnded}
@@ -22,6 +22,7 @@ pub record IsRunOf {R : Type 0} (remaining : R → Option (List ℕ)) (limit : �
       × AcceptedUpTo limit strict front last)
   pub read : IsErrOf ended.answered Read → (bytes : List ℕ) × Gives remaining old new bytes
       × WholeAnswered limit strict bytes before after
+  pub cause : IsErrOf ended.answered Read → (new.failed ≡ true) ⊎ (new.reads ≡ 2 ^ 40)
   pub write : IsErrOf ended.answered Write → (bytes : List ℕ) × Gives remaining old new bytes
       × SomeAnswered limit strict bytes before after
   pub proofs : (last : SessionData) × IsKeptAt last.board

@@ -1,6 +1,6 @@
 //! A whole script from a reader, with its answers to a writer.
 ghost use Rattle.std.specs.Option.{option_and_then};
-ghost use Rattle.std.specs.Prelude.{◌≡◌, ℕ, ◌≤◌, ◌++◌, [], List, Err, Ok, IfOk, IfSome, IsErrOf, true, false, not};
+ghost use Rattle.std.specs.Prelude.{◌≡◌, ◌⊎◌, ℕ, ◌≤◌, ◌^◌, ◌++◌, [], List, Err, Ok, IfOk, IfSome, IsErrOf, true, false, not};
 ghost use Rattle.std.specs.Prelude.{◌&&◌, vec_len};
 ghost use Rattle.script_engine.specs.Lines.{lines_of};
 ghost use Rattle.script_engine.specs.Runs.{Gives, IsEnded};
@@ -93,6 +93,8 @@ pub fn run<T: Threads + Wait + Sync, R: Read, W: Write, P: Write, H: Hints>(
     ensures read { IsErrOf result.answered RunError.Read → (bytes : List ℕ)
         × Gives R.remaining input.old input.new bytes
         × WholeAnswered options.limit options.strict bytes (W.contents writer.old) (W.contents writer.new) }
+    // It is answered so only where a read failed, or after 2^40 reads.
+    ensures cause { IsErrOf result.answered RunError.Read → (input.new.failed ≡ true) ⊎ (input.new.reads ≡ 2 ^ 40) }
     // Where a write fails, a beginning of what is due for the lines so far was written.
     ensures write { IsErrOf result.answered RunError.Write → (bytes : List ℕ)
         × Gives R.remaining input.old input.new bytes

@@ -21,7 +21,7 @@ pub returns-in_default-clause-read : goal.returns-in_default-clause-read
 returns-in_default-clause-read g c = λ is.
     let before = c.loop.invariant in (
       before.0,
-      gives_none g.R.Read.remaining c.args.input.now c.loop.input c.read.new.self before.0 before.3 c.in_default.ensures.bytes c.in_default.ensures.failed,
+      gives_none g.R.Read.remaining c.args.input.now c.loop.input c.read.new.self before.0 before.3 c.in_default.ensures.bytes c.in_default.ensures.failed.0,
       whole_so_far g.I.Interpreter.answers c.args.strict _ _ _ before.0 before.1 _ _ before.2 before.4,
     )
 

@@ -10,6 +10,7 @@ returns-clause-run g c = record {
   given = search rules;
   stops = search rules;
   read = search rules;
+  cause = search rules;
   write = search rules;
   proofs = search rules;
 }
