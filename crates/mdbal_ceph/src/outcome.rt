@@ -11,6 +11,7 @@ use crate::input::ranks_of;
 use crate::progress::Progress;
 use crate::settings::PlanSettings;
 use anyhow::{Context, Error, bail};
+use ceph_dumps::FileSystem;
 use ceph_plan::{Proposal, propose};
 use ceph_report::{
     Facts, Move, Sums, goals_of, greatest_now, make_json, make_own_list, make_picture,
@@ -41,6 +42,8 @@ struct Decision {
 /// What was planned, and of what.
 #[derive(Drop)]
 struct Outcome {
+    /// Which file system it is of.
+    file_system: FileSystem,
     /// How many ranks the file system is to have.
     size: u8,
     /// The ranks that may have a part.
@@ -140,15 +143,17 @@ fn planned(alloc: Global, settings: &PlanSettings, collected: Collected) -> Resu
         settings.now.parts) }
     ensures ranks { IfOk result (λ outcome. (mask : ℕ) → settings.now.mask ≡ Some mask → (rank : ℕ)
         → has_rank outcome.ranks rank ≡ (nat_lt rank collected.cluster.size && has_rank mask rank)) }
+    ensures file_system { IfOk result (λ outcome. outcome.file_system ≡ collected.file_system) }
     ensures size { IfOk result (λ outcome. outcome.size ≡ collected.cluster.size) }
     ensures samples { IfOk result (λ outcome. outcome.samples ≡ collected.samples) }
 {
     let ranks = usable(settings, &collected)?;
     let (size, samples) = (collected.cluster.size, collected.samples);
-    let spread = collected.snapshot.spread;
+    let (file_system, spread) = (collected.file_system, collected.snapshot.spread);
     let (directories, folded) = folded(alloc, collected.snapshot.directories)?;
     let decision = decided(alloc, settings, ranks, &directories, &spread)?;
     Ok(Outcome {
+        file_system,
         size,
         ranks,
         samples,
