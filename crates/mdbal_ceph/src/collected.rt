@@ -8,7 +8,8 @@ use ceph_dumps::{
     read_own_list, read_subtrees,
 };
 use ceph_snapshot::{Gathering, Snapshot};
-use mds_types::Rank;
+use mds_types::limits::RANK_LIMIT;
+use mds_types::{Rank, RankSet};
 use std::alloc::Global;
 use std::io::ErrorKind;
 use std::rt::{Clock, Files};
@@ -128,9 +129,9 @@ fn add_own<R: Files + AllocGlobal>(
     gathering: &mut Gathering,
     path: &str,
 ) -> Result<(), Error> {
-    let paths = read_file(rt, path, read_own_list)?;
-    for path in paths.as_slice() {
-        gathering.add_own(path.as_slice())?;
+    let pins = read_file(rt, path, read_own_list)?;
+    for pin in pins.as_slice() {
+        gathering.add_own(pin);
     }
     Ok(())
 }
@@ -156,23 +157,26 @@ fn add_ranks<R: Files + AllocGlobal + Clock + Eprint>(
     progress: &mut Progress,
     gathering: &mut Gathering,
     folder: &str,
-    ranks: &[Rank],
+    ranks: RankSet,
     samples: u64,
 ) -> Result<(), Error> {
-    for rank in ranks {
-        add_rank(rt, progress, gathering, folder, *rank, samples)?;
+    for number in 0..RANK_LIMIT {
+        match Rank::new(number) {
+            Some(rank) if ranks.has(rank) => {
+                add_rank(rt, progress, gathering, folder, rank, samples)?;
+            }
+            _ => (),
+        }
     }
     Ok(())
 }
 
-/// How many samples the first of these ranks gave: one at least, as a first one that isn't there is refused when it is
-/// read.
-fn sample_count<R: Files + AllocGlobal>(rt: &R, folder: &str, ranks: &[Rank]) -> Result<u64, Error>
+/// How many samples rank 0 gave: one at least, as a first one that isn't there is refused when it is read.
+fn sample_count<R: Files + AllocGlobal>(rt: &R, folder: &str) -> Result<u64, Error>
     ensures { IfOk result (λ samples. 0 < samples) }
 {
-    let first = ranks.first().copied().unwrap_or_default();
     for sample in 1..SAMPLE_LIMIT {
-        let path = format!(in rt.alloc(); "{folder}/loads.{}.{}.json", first.number(), sample + 1)?;
+        let path = format!(in rt.alloc(); "{folder}/loads.0.{}.json", sample + 1)?;
         if !fs::exists(rt, path.as_str())? {
             return Ok(sample);
         }
@@ -187,7 +191,7 @@ fn add_all<R: Files + AllocGlobal + Clock + Eprint>(
     gathering: &mut Gathering,
     folder: &str,
     own: Option<&str>,
-    ranks: &[Rank],
+    ranks: RankSet,
     samples: u64,
 ) -> Result<(), Error> {
     add_ranks(rt, progress, gathering, folder, ranks, samples)?;
@@ -209,11 +213,11 @@ pub fn read_collected<R: Files + AllocGlobal + Clock + Eprint>(
 {
     let file_system = file_system_of(rt, folder)?;
     let cluster = cluster_of(rt, folder)?;
-    let ranks = cluster.ranks.as_slice();
-    let samples = sample_count(rt, folder, ranks)?;
+    let samples = sample_count(rt, folder)?;
     let mut gathering = Gathering::new(rt.alloc())?;
+    let ranks = cluster.ranks;
     add_all(rt, progress, &mut gathering, folder, own, ranks, samples)?;
-    let snapshot = gathering.snapshot(samples, cluster.size)?;
+    let snapshot = gathering.snapshot(samples, ranks)?;
     Ok(Collected {
         file_system,
         cluster,
