@@ -35,7 +35,7 @@ pub struct Directory {
 impl Directory {
     /// Whether it stays where it lies: it is spread, or may not be pinned.
     pub fn is_fixed(&self) -> bool
-        ensures { result ≡ (self.now.is_spread || self.now.is_kept) }
+        ensures { result ≡ (self.entry.now.is_spread || self.entry.now.is_kept) }
     {
         self.is_spread || self.is_kept
     }

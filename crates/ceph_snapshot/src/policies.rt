@@ -1,5 +1,5 @@
 //! Which directories may not be pinned: what Ceph itself pins, and what somebody pinned to a rank that isn't there.
-ghost use Rattle.std.specs.Prelude.{◌≡◌, ◌<◌, ◌↔◌, ◌⊎◌, ℕ, IsTrue, None, Some, length, true, IfOk, OnOk, slice_get};
+ghost use Rattle.std.specs.Prelude.{◌≡◌, ◌==◌, ◌<◌, ◌&&◌, ◌||◌, ◌↔◌, ◌⊎◌, ℕ, None, Some, length, true, IfOk, OnOk, slice_get};
 ghost use Rattle.std.specs.Option.{option_map};
 ghost use Rattle.ceph_dumps.specs.declared.listing.EphemeralPin.TheVariants.{Random};
 ghost use Rattle.ceph_snapshot.specs.Folding.{is_marked};
@@ -12,10 +12,21 @@ use std::alloc::{AllocError, Global};
 
 /// Whether a pin on the parent of a directory would beat a random policy: at the directory, or below it as this says.
 fn is_beaten(directory: &Directory, is_above: bool) -> bool
-    ensures { IsTrue result ↔ ((directory.entry.now.pin ≡ None)
+    ensures { (result ≡ true) ↔ ((directory.entry.now.pin ≡ None)
         × ((is_above ≡ true) ⊎ (directory.entry.now.policy ≡ Some Random))) }
 {
     directory.pin.is_none() && (is_above || matches!(directory.policy, Some(EphemeralPin::Random)))
+}
+
+/// Marks a directory below the root, or none.
+fn mark_if(marks: &mut Vec<bool>, at: usize, is_so: bool)
+    ensures size { length marks.new.items ≡ length marks.old.items }
+    ensures marks { (i : ℕ) → 0 < i → i < length marks.old.items
+        → is_marked marks.new.items i ≡ ((is_so && (i == at)) || is_marked marks.old.items i) }
+{
+    if is_so && 0 < at && at < marks.len() {
+        marks[at] = true;
+    }
 }
 
 /// Which directories have a random policy below them, with no pin between.
@@ -27,11 +38,8 @@ fn above_random(alloc: Global, directories: &[Directory]) -> Result<Vec<bool>, A
     let mut marks = vec![in alloc; false; directories.len()]?;
     for at in (1..directories.len()).rev() {
         let directory = &directories[at];
-        if is_beaten(directory, marks[at]) {
-            if let Some(mark) = marks.get_mut(directory.parent as usize) {
-                *mark = true;
-            }
-        }
+        let is_so = is_beaten(directory, marks[at]);
+        mark_if(&mut marks, directory.parent as usize, is_so);
     }
     Ok(marks)
 }

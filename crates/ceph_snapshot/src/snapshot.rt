@@ -1,7 +1,7 @@
 //! The directories, from what was gathered of them.
 
-ghost use Rattle.std.specs.Prelude.{◌≡◌, ◌==◌, ◌&&◌, ◌||◌, ◌<◌, ◌/◌, ◌≤◌, ℕ, None, Some, true, false, length, min, not};
-ghost use Rattle.std.specs.Prelude.{IfOk, IsTrue, slice_index, ◌↔◌, if◌then◌else◌};
+ghost use Rattle.std.specs.Prelude.{◌≡◌, ◌==◌, ◌||◌, ◌<◌, ◌/◌, ℕ, None, Some, false, length, min, nat_lt};
+ghost use Rattle.std.specs.Prelude.{IfOk, if◌then◌else◌};
 ghost use Rattle.mds_types.specs.RankSet.{has_rank};
 ghost use Rattle.mds_types.specs.declared.limits.TheConstants.{HEAT_LIMIT};
 ghost use Rattle.ceph_snapshot.specs.Gathered.{foreign_pin, idle_pin, own_pin, seen_heat};
@@ -87,11 +87,18 @@ struct Pins {
     earlier: Option<Rank>,
 }
 
+/// The rank of a number, if it is below 64.
+fn rank_of(number: u64) -> Option<Rank>
+    ensures { result ≡ (if nat_lt number 64 then Some number else None) }
+{
+    Rank::new(u8::try_from(number).ok()?)
+}
+
 /// The rank of a number, if the set has it.
 fn rank_in(ranks: RankSet, number: u64) -> Option<Rank>
     ensures { result ≡ (if has_rank ranks number then Some number else None) }
 {
-    let rank = Rank::new(u8::try_from(number).ok()?)?;
+    let rank = rank_of(number)?;
     if ranks.has(rank) { Some(rank) } else { None }
 }
 
@@ -104,7 +111,7 @@ fn pins_of(pinned: Option<u64>, own: Option<u64>, ranks: RankSet) -> Pins
     let (mut pin, mut idle, mut earlier) = (None, None, None);
     if let Some(number) = pinned {
         if own == pinned {
-            earlier = rank_in(RankSet::from_bits(u64::MAX), number);
+            earlier = rank_of(number);
         } else {
             pin = rank_in(ranks, number);
             if pin.is_none() {
