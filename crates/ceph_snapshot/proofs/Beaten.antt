@@ -1,7 +1,7 @@
 -- From the children of a directory to the directory: which are above a random policy.
 use Rattle.std.proofs.Common.{◌≡◌, ◌≢◌, ◌<◌, ◌≤◌, ◌+◌, ◌⊎◌, ◌↔◌, ◌&&◌, ◌||◌, ◌==◌, ℕ, zero, suc, Bool, true, false, List, length, get_or, slice_get, Option, Some, None, is_some, refl, ap, sym, ◌∙◌, arith, subst, ⊎_elim, inl, inr, nat_eq}
 use Rattle.std.specs.Option.{option_map, option_map_or}
-use Rattle.std.proofs.lemmas.Bool.{cases_Bool, cases_eq, cases_lt, eqb-true, eq-eqb}
+use Rattle.std.proofs.lemmas.Bool.{cases_eq, cases_lt, eqb-true, eq-eqb}
 use Rattle.std.proofs.lemmas.Bool.{and_parts}
 use Rattle.std.proofs.lemmas.Option.{slice_get_cases, slice_get_past}
 use Rattle.ceph_dumps.specs.declared.listing.EphemeralPin.{EphemeralPin}

@@ -6,7 +6,7 @@ use Rattle.ceph_snapshot.specs.declared.directory.Directory.{Directory}
 use Rattle.ceph_snapshot.specs.declared.held.Held.{Held}
 use Rattle.ceph_snapshot.specs.declared.held.Held.TheVariants.{Free, Pinned, Spread}
 use Rattle.std.proofs.lemmas.List.{get_or_append_left, get_or_push}
-use Rattle.ceph_snapshot.specs.Holding.{IsHeld, IsHolder, climb, held_at, held_by, hold_above, hold_below, is_fixed_at, is_holding, is_kept_at, is_spread_at, now_at, parent_at, pin_at}
+use Rattle.ceph_snapshot.specs.Holding.{IsHeld, IsHolder, climb, held_at, held_by, hold_above, hold_below, is_fixed_at, is_holding, now_at, parent_at, pin_at}
 
 apart : {X : Type 0} (b : Bool) → b ≡ true → b ≡ false → X
 apart b is_true is_false = cc

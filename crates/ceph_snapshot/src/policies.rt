@@ -45,11 +45,11 @@ fn above_random(alloc: Global, directories: &[Directory]) -> Result<Vec<bool>, A
 }
 
 /// Keeps those directories that may not be pinned. `above[i]` says whether directory i has a random policy below it.
-fn mark_kept(directories: &mut [Directory], above: &[bool])
-    requires { length above.now ≡ length directories.old }
-    ensures size { length directories.new ≡ length directories.old }
-    ensures kept { (i : ℕ) → i < length directories.old → slice_get directories.new i
-        ≡ option_map (kept_where (is_marked above.now i)) (slice_get directories.old i) }
+fn mark_kept(directories: &mut Vec<Directory>, above: &[bool])
+    requires { length above.now ≡ length directories.old.items }
+    ensures size { length directories.new.items ≡ length directories.old.items }
+    ensures kept { (i : ℕ) → i < length directories.old.items → slice_get directories.new.items i
+        ≡ option_map (kept_where (is_marked above.now i)) (slice_get directories.old.items i) }
 {
     for at in 0..directories.len() {
         let directory = &mut directories[at];
@@ -58,11 +58,11 @@ fn mark_kept(directories: &mut [Directory], above: &[bool])
 }
 
 /// Keeps those directories that may not be pinned: they stay where they lie.
-pub(crate) fn keep(alloc: Global, directories: &mut [Directory]) -> Result<(), AllocError>
-    ensures size { OnOk result (length directories.new ≡ length directories.old) }
-    ensures kept { OnOk result (AreParentsFirst directories.new → AreKept directories.new) }
+pub(crate) fn keep(alloc: Global, directories: &mut Vec<Directory>) -> Result<(), AllocError>
+    ensures size { OnOk result (length directories.new.items ≡ length directories.old.items) }
+    ensures kept { OnOk result (AreParentsFirst directories.new.items → AreKept directories.new.items) }
 {
-    let above = above_random(alloc, directories)?;
+    let above = above_random(alloc, directories.as_slice())?;
     mark_kept(directories, above.as_slice());
     Ok(())
 }

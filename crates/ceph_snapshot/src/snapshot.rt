@@ -225,7 +225,7 @@ impl Gathering {
         }
         let spread = see_all(alloc, nodes.as_mut_slice(), sightings.as_slice(), samples)?;
         let mut directories = all_finished(alloc, nodes, samples, ranks)?;
-        keep(alloc, directories.as_mut_slice())?;
+        keep(alloc, &mut directories)?;
         Ok(Snapshot {
             directories,
             spread,

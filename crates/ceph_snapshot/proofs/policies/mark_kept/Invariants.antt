@@ -7,7 +7,7 @@ use Rattle.ceph_snapshot.proofs.policies.mark_kept.Given as goal
 -- those so far are kept where they may not be pinned, and the others are as they were
 abbrev pub invariant-loop-at : goal.invariant-loop-at
 invariant-loop-at l = record {
-  size : length l.directories ≡ length l.fn.directories;
-  kept : (i : ℕ) → i < l.at → slice_get l.directories i ≡ option_map (kept_where (is_marked l.above i)) (slice_get l.fn.directories i);
-  rest : (i : ℕ) → l.at ≤ i → slice_get l.directories i ≡ slice_get l.fn.directories i;
+  size : length l.directories.items ≡ length l.fn.directories.items;
+  kept : (i : ℕ) → i < l.at → slice_get l.directories.items i ≡ option_map (kept_where (is_marked l.above i)) (slice_get l.fn.directories.items i);
+  rest : (i : ℕ) → l.at ≤ i → slice_get l.directories.items i ≡ slice_get l.fn.directories.items i;
 }
