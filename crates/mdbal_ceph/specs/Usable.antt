@@ -1,7 +1,6 @@
 -- Which ranks may have a part.
-use Rattle.std.specs.Prelude.{◌≡◌, ◌||◌, ◌&&◌, ◌-◌, ◌^◌, ℕ, Bool, List, Option, Some, None, codes, nat_lt, string_bytes, if◌then◌else◌}
+use Rattle.std.specs.Prelude.{◌≡◌, ◌||◌, ◌&&◌, ◌-◌, ◌^◌, ℕ, Bool, List, Option, Some, None, codes, nat_lt, if◌then◌else◌}
 use Rattle.std.specs.Str.{bytes_eq}
-use Rattle.std.declared.string.String.{String}
 use Rattle.mds_types.specs.Mask.{mask_bits}
 use Rattle.mds_types.specs.RankSet.{has_rank}
 use Rattle.ceph_dumps.specs.declared.cluster.FileSystemRanks.{FileSystemRanks}

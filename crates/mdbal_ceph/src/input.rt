@@ -1,7 +1,8 @@
 //! Which ranks may have a part.
-ghost use Rattle.std.specs.Prelude.{◌≡◌, ◌&&◌, ℕ, None, IfSome, Some, nat_lt};
+ghost use Rattle.std.specs.Prelude.{◌≡◌, ℕ, None, IfSome, Some};
+ghost use Rattle.std.specs.Option.{option_map};
 ghost use Rattle.mds_types.specs.RankSet.{has_rank};
-ghost use Rattle.mdbal_ceph.specs.Usable.{all_ranks, cluster_mask, may_have_part};
+ghost use Rattle.mdbal_ceph.specs.Usable.{IsMask, all_ranks, cluster_mask, may_have_part};
 
 use ceph_dumps::{FileSystemRanks, common_ranks};
 use mds_types::RankSet;
@@ -18,9 +19,9 @@ fn named(text: &str) -> Option<RankSet>
 
 /// The mask that was asked for, or else the cluster's own; all ranks where there is none.
 pub fn mask_of(asked: Option<RankSet>, own: Option<&str>) -> Option<RankSet>
+    ensures mask { IfSome result (IsMask asked (option_map (λ text. text.now) own.entry)) }
     ensures asked { (mask : ℕ) → asked ≡ Some mask → result ≡ Some mask }
-    ensures unset { asked ≡ None → own ≡ None → result ≡ Some all_ranks }
-    ensures own { asked ≡ None → IfSome own (λ text. result ≡ cluster_mask text.now) }
+    ensures unset { asked ≡ None → own.entry ≡ None → result ≡ Some all_ranks }
 {
     match (asked, own) {
         (Some(mask), _) => Some(mask),

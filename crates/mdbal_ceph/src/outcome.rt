@@ -151,17 +151,21 @@ fn planned(alloc: Global, settings: &PlanSettings, collected: Collected) -> Resu
     ensures size { IfOk result (λ outcome. outcome.size ≡ collected.cluster.size) }
     ensures samples { IfOk result (λ outcome. outcome.samples ≡ collected.samples) }
 {
-    let ranks = usable(settings, &collected.cluster)?;
-    let (there, active) = (collected.cluster.ranks, collected.cluster.active);
-    let (size, samples) = (collected.cluster.size, collected.samples);
-    let (file_system, spread) = (collected.file_system, collected.snapshot.spread);
-    let (directories, folded) = folded(alloc, collected.snapshot.directories)?;
+    let Collected {
+        file_system,
+        cluster,
+        samples,
+        snapshot,
+    } = collected;
+    let ranks = usable(settings, &cluster)?;
+    let spread = snapshot.spread;
+    let (directories, folded) = folded(alloc, snapshot.directories)?;
     let decision = decided(alloc, settings, ranks, &directories, &spread)?;
     Ok(Outcome {
         file_system,
-        size,
-        there,
-        active,
+        size: cluster.size,
+        there: cluster.ranks,
+        active: cluster.active,
         ranks,
         samples,
         directories,
