@@ -1,1 +1,3 @@
+pub mod Cluster
+pub mod Complete
 pub mod WideBytes

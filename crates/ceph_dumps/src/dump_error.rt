@@ -26,6 +26,9 @@ pub enum DumpError {
     /// The file system has no rank.
     #[error("the file system has no rank")]
     NoRank,
+    /// The file system lacks rank 0, which has the root.
+    #[error("rank 0 is not in the file system: wait until it is back")]
+    NoRankZero,
     /// The file system has a rank of this number.
     #[error("rank {0} is none of 0 to 63")]
     BadRank(u32),
@@ -33,11 +36,14 @@ pub enum DumpError {
     #[error("line {0}: expected `# file: NAME` or `NAME=\"VALUE\"`")]
     Listing(usize),
     /// This line of a listing has an attribute that the collector doesn't ask for, or a value that is no number.
-    #[error("line {0}: expected a number of ceph.dir.entries or ceph.dir.pin")]
+    #[error("line {0}: expected a number of ceph.dir.entries, ceph.dir.pin, ceph.dir.pin.distributed or ceph.dir.pin.random")]
     Value(usize),
     /// This line of a list of pins is no rank and path.
     #[error("line {0}: expected `RANK /PATH`")]
     Own(usize),
+    /// The file `complete` isn't the one line that the collector writes.
+    #[error("expected one line `NAME FSID`")]
+    Complete,
 }
 
 impl From<AllocError> for DumpError {

@@ -8,17 +8,21 @@
 pub mod bare_words;
 pub mod cluster;
 pub mod dump_error;
+pub mod file_system;
 mod json;
 pub mod listing;
 pub mod loads;
 mod members;
 pub mod own_list;
+pub mod rank_sets;
 pub mod subtrees;
 pub mod wide_bytes;
 
 pub use cluster::{FileSystemRanks, read_cluster};
 pub use dump_error::DumpError;
-pub use listing::{ListedDir, read_listing};
+pub use file_system::{FileSystem, read_complete};
+pub use listing::{EphemeralPin, ListedDir, ListedValue, read_listing};
 pub use loads::{FragmentHeat, read_loads};
-pub use own_list::read_own_list;
+pub use own_list::{OwnPin, read_own_list};
+pub use rank_sets::common_ranks;
 pub use subtrees::{SubtreeRoot, read_subtrees};

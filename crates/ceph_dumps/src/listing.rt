@@ -1,4 +1,4 @@
-//! Entries and export pins of directories, as `getfattr` lists them.
+//! Entries, export pins and ephemeral pins of directories, as `getfattr` lists them.
 //!
 //! A directory has a line `# file: NAME`, a line `ATTRIBUTE="VALUE"` and a blank one. In a name `\134`, `\012` and
 //! `\015` are a backslash, a newline and a return, and all else is raw. The root is
@@ -7,15 +7,35 @@
 use crate::dump_error::DumpError;
 use std::alloc::{AllocError, Global};
 
-/// What a listing says of a directory: one of the two values.
+/// How Ceph itself pins what is below a directory (`ceph.dir.pin.distributed`, `ceph.dir.pin.random`).
+#[derive(Clone, Copy, Debug, PartialEq, Eq)]
+pub enum EphemeralPin {
+    /// It spreads the directory's children over the ranks.
+    Distributed,
+    /// It pins directories below to random ranks.
+    Random,
+    /// It is one of these, and which one isn't known.
+    Unknown,
+}
+
+/// One value of a directory.
+#[derive(Clone, Copy)]
+pub enum ListedValue {
+    /// How many files and directories it has.
+    Entries(u64),
+    /// Its own export pin, if it has one.
+    Pin(Option<u64>),
+    /// Its own policy for what is below it, if this one is set.
+    Policy(Option<EphemeralPin>),
+}
+
+/// What a listing says of a directory.
 #[derive(Drop)]
 pub struct ListedDir {
     /// Its path: empty for the root, else it begins with a slash.
     pub path: Vec<u8>,
-    /// How many files and directories it has, where that is what the line says.
-    pub entries: Option<u64>,
-    /// Its own export pin, where that is what the line says, and it has one.
-    pub pin: Option<u64>,
+    /// The value.
+    pub value: ListedValue,
 }
 
 /// Whether a line ends at a byte.
@@ -54,24 +74,43 @@ pub fn path_of(alloc: Global, name: &[u8]) -> Result<Vec<u8>, AllocError> {
 }
 
 /// The number of decimal digits, at most 19 of them.
-fn number_of(digits: &[u8]) -> Option<u64> {
+pub(crate) fn number_of(digits: &[u8]) -> Option<u64> {
     if digits.is_empty() || digits.len() > 19 {
         return None;
     }
     str::from_utf8(digits).ok()?.parse().ok()
 }
 
-/// The entries and the pin that an attribute's line says, if it is one: one of the two, or neither for no pin.
-fn values_of(line: &[u8]) -> Option<(Option<u64>, Option<u64>)> {
+/// The policy that a number sets: none if the number is zero, as `0` and `0.000000` are.
+fn policy_of(number: &[u8], policy: EphemeralPin) -> Option<ListedValue> {
+    if !matches!(number, [b'0'..=b'9', ..]) {
+        return None;
+    }
+    let is_zero = number.iter().all(|byte| matches!(*byte, b'0' | b'.'));
+    Some(ListedValue::Policy(if is_zero { None } else { Some(policy) }))
+}
+
+/// The pin that a number sets: none if it is negative.
+fn pin_of(number: &[u8]) -> Option<ListedValue> {
+    if number.starts_with(b"-") {
+        return Some(ListedValue::Pin(None));
+    }
+    Some(ListedValue::Pin(Some(number_of(number)?)))
+}
+
+/// The value that an attribute's line says.
+fn value_of(line: &[u8]) -> Option<ListedValue> {
     let value = line.strip_suffix(b"\"")?;
-    if let Some(digits) = value.strip_prefix(b"ceph.dir.entries=\"") {
-        return Some((Some(number_of(digits)?), None));
+    if let Some(number) = value.strip_prefix(b"ceph.dir.entries=\"") {
+        return Some(ListedValue::Entries(number_of(number)?));
     }
-    let digits = value.strip_prefix(b"ceph.dir.pin=\"")?;
-    if digits.starts_with(b"-") {
-        return Some((None, None));
+    if let Some(number) = value.strip_prefix(b"ceph.dir.pin.distributed=\"") {
+        return policy_of(number, EphemeralPin::Distributed);
     }
-    Some((None, Some(number_of(digits)?)))
+    if let Some(number) = value.strip_prefix(b"ceph.dir.pin.random=\"") {
+        return policy_of(number, EphemeralPin::Random);
+    }
+    pin_of(value.strip_prefix(b"ceph.dir.pin=\"")?)
 }
 
 /// What a line of this number says of the directory that was named before.
@@ -84,11 +123,11 @@ fn listed(
     let Some(name) = name else {
         return Err(DumpError::Listing(number));
     };
-    let Some((entries, pin)) = values_of(line) else {
+    let Some(value) = value_of(line) else {
         return Err(DumpError::Value(number));
     };
     let path = path_of(alloc, name)?;
-    Ok(ListedDir { path, entries, pin })
+    Ok(ListedDir { path, value })
 }
 
 /// Adds what a listing says, in its order.

@@ -25,7 +25,7 @@ pub(crate) trait Members: Drop {
 }
 
 /// The place of the next member, if there is one: by its name, or in a list that so many came before.
-fn next_member<F: Format>(
+pub(crate) fn next_member<F: Format>(
     is_list: bool,
     before: usize,
     names: &[Name<'_>],

@@ -2,7 +2,7 @@
 
 use crate::dump_error::DumpError;
 use crate::json::read_json;
-use crate::members::{Member, Members, Named, fill, present, read_object};
+use crate::members::{Members, fill, present, read_object};
 use crate::wide_bytes::narrowed;
 use serde::{DeserializeOwned, Deserializer, Format, Name};
 use std::alloc::Global;
@@ -14,14 +14,69 @@ pub struct SubtreeRoot {
     pub path: Vec<u8>,
     /// Whether the rank that was asked has authority.
     pub is_here: bool,
+    /// The rank that has authority, as the rank that was asked knows it; -1 or less where that isn't known.
+    pub authority: i64,
+    /// Which fragment of the directory it is, if the dump says so.
+    pub fragment: Option<String>,
     /// Its own export pin, where it has one.
     pub pin: Option<i64>,
     /// Whether Ceph itself spreads what is below over the ranks.
     pub is_spread: bool,
 }
 
-impl Named for String {
-    const NAME: &'static str = "path";
+/// The directory of a root.
+#[derive(Drop)]
+struct RootDir {
+    path: String,
+    fragment: Option<String>,
+}
+
+/// The members of a root's directory.
+#[derive(Drop)]
+struct DirMembers {
+    path: Option<String>,
+    fragment: Option<String>,
+}
+
+impl Members for DirMembers {
+    type Whole = RootDir;
+
+    fn take<F: Format>(
+        &mut self,
+        at: usize,
+        alloc: Global,
+        from: &mut Deserializer<'_, '_, F>,
+    ) -> Result<(), F::Error> {
+        match at {
+            0 => fill(&mut self.path, "path", alloc, from),
+            1 => fill(&mut self.fragment, "dirfrag", alloc, from),
+            _ => from.skip(),
+        }
+    }
+
+    fn whole<F: Format>(
+        &mut self,
+        _alloc: Global,
+        from: &Deserializer<'_, '_, F>,
+    ) -> Result<RootDir, F::Error> {
+        let path = present(self.path.take(), "path", from)?;
+        let fragment = self.fragment.take();
+        Ok(RootDir { path, fragment })
+    }
+}
+
+impl DeserializeOwned for RootDir {
+    fn deserialize_owned<F: Format>(
+        alloc: Global,
+        from: &mut Deserializer<'_, '_, F>,
+    ) -> Result<RootDir, F::Error> {
+        let names = [Name::exact("path"), Name::exact("dirfrag")];
+        let none = DirMembers {
+            path: None,
+            fragment: None,
+        };
+        read_object(none, &names, alloc, from)
+    }
 }
 
 /// The members of a root that say what pins it.
@@ -66,8 +121,9 @@ impl Pins {
 #[derive(Drop)]
 struct Root {
     is_here: Option<bool>,
+    authority: Option<i64>,
     pins: Pins,
-    dir: Option<Member<String>>,
+    dir: Option<RootDir>,
 }
 
 impl Members for Root {
@@ -82,6 +138,7 @@ impl Members for Root {
         match at {
             0 => fill(&mut self.is_here, "is_auth", alloc, from),
             4 => fill(&mut self.dir, "dir", alloc, from),
+            5 => fill(&mut self.authority, "auth_first", alloc, from),
             _ => self.pins.take(at, alloc, from),
         }
     }
@@ -92,13 +149,16 @@ impl Members for Root {
         from: &Deserializer<'_, '_, F>,
     ) -> Result<SubtreeRoot, F::Error> {
         let is_here = present(self.is_here, "is_auth", from)?;
-        let dir = present(self.dir.as_ref(), "dir", from)?;
+        let authority = present(self.authority, "auth_first", from)?;
+        let RootDir { path, fragment } = present(self.dir.take(), "dir", from)?;
         let pins = self.pins;
         let is_spread = pins.is_distributed == Some(true) || pins.is_random == Some(true);
-        match narrowed(alloc, dir.0.as_bytes()) {
+        match narrowed(alloc, path.as_bytes()) {
             Ok(path) => Ok(SubtreeRoot {
                 path,
                 is_here,
+                authority,
+                fragment,
                 pin: pins.pin(),
                 is_spread,
             }),
@@ -112,6 +172,7 @@ impl Root {
     fn empty() -> Root {
         Root {
             is_here: None,
+            authority: None,
             pins: Pins {
                 export: None,
                 is_distributed: None,
@@ -133,6 +194,7 @@ impl DeserializeOwned for SubtreeRoot {
             Name::exact("distributed_ephemeral_pin"),
             Name::exact("random_ephemeral_pin"),
             Name::exact("dir"),
+            Name::exact("auth_first"),
         ];
         read_object(Root::empty(), &names, alloc, from)
     }

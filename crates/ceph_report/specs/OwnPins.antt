@@ -4,13 +4,14 @@ use Rattle.ceph_plan.specs.Rule.{first_of}
 use Rattle.ceph_plan.specs.declared.proposal.OwnPins.{OwnPins}
 use Rattle.ceph_plan.specs.Asked.{own_at}
 use Rattle.ceph_snapshot.specs.declared.directory.Directory.{Directory}
-use Rattle.ceph_snapshot.specs.Holding.{earlier_at, is_spread_at, now_at, pin_at}
+use Rattle.ceph_snapshot.specs.Holding.{earlier_at, is_fixed_at, now_at, pin_at}
 
--- the pin that is to stay: somebody else's, or else where it lies, where it is spread. The root has none
+-- the pin that is to stay: somebody else's, or else where it lies, where it is spread or may not be pinned. The root
+-- has none
 abbrev pub foreign_at : List Directory → ℕ → Option ℕ
 foreign_at directories i =
     if i == 0 then None
-    else first_of (pin_at directories i) (if is_spread_at directories i then Some (now_at directories i) else None)
+    else first_of (pin_at directories i) (if is_fixed_at directories i then Some (now_at directories i) else None)
 
 -- the pins of the first n directories, and no more
 pub record AreOwnPins (directories : List Directory) (n : ℕ) (own : List OwnPins) : Type 0 where

@@ -1,5 +1,5 @@
 //! The pins that directories have of their own, as the planner of pins takes them.
-ghost use Rattle.std.specs.Prelude.{◌≡◌, length, IfOk, Some, None, if◌then◌else◌};
+ghost use Rattle.std.specs.Prelude.{◌≡◌, ◌||◌, length, IfOk, Some, None, if◌then◌else◌};
 ghost use Rattle.ceph_plan.specs.Rule.{first_of};
 ghost use Rattle.ceph_report.specs.OwnPins.{AreOwnPins};
 
@@ -8,13 +8,13 @@ use ceph_snapshot::Directory;
 use mds_types::Rank;
 use std::alloc::{AllocError, Global};
 
-/// The pin of a directory below the root that is to stay. One that is spread counts as pinned where it lies.
+/// The pin of a directory below the root that is to stay. One that is spread or may not be pinned counts as pinned where it lies.
 fn foreign(directory: &Directory) -> Option<Rank>
     ensures { result ≡ first_of directory.entry.now.pin
-        (if directory.entry.now.is_spread then Some directory.entry.now.now else None) }
+        (if directory.entry.now.is_spread || directory.entry.now.is_kept then Some directory.entry.now.now else None) }
 {
     match directory.pin {
-        None if directory.is_spread => Some(directory.now),
+        None if directory.is_fixed() => Some(directory.now),
         pin => pin,
     }
 }

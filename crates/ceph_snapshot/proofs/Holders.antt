@@ -6,7 +6,7 @@ use Rattle.ceph_snapshot.specs.declared.directory.Directory.{Directory}
 use Rattle.ceph_snapshot.specs.declared.held.Held.{Held}
 use Rattle.ceph_snapshot.specs.declared.held.Held.TheVariants.{Free, Pinned, Spread}
 use Rattle.std.proofs.lemmas.List.{get_or_append_left, get_or_push}
-use Rattle.ceph_snapshot.specs.Holding.{IsHeld, IsHolder, climb, held_at, held_by, hold_above, hold_below, is_holding, is_spread_at, now_at, parent_at, pin_at}
+use Rattle.ceph_snapshot.specs.Holding.{IsHeld, IsHolder, climb, held_at, held_by, hold_above, hold_below, is_fixed_at, is_holding, now_at, parent_at, pin_at}
 
 apart : {X : Type 0} (b : Bool) → b ≡ true → b ≡ false → X
 apart b is_true is_false = cc
@@ -50,8 +50,8 @@ holder_below ds i holder not_own is =
 
 -- the step where the directory holds itself
 own_step : (ds : List Directory) (i : ℕ) (above : Held) → is_holding ds i ≡ true
-    → hold_below (pin_at ds i) (is_spread_at ds i) (now_at ds i) above ≡ held_by ds i i
-own_step ds i above own = own_case (pin_at ds i) (is_spread_at ds i) (now_at ds i) above own where
+    → hold_below (pin_at ds i) (is_fixed_at ds i) (now_at ds i) above ≡ held_by ds i i
+own_step ds i above own = own_case (pin_at ds i) (is_fixed_at ds i) (now_at ds i) above own where
   own_case : (pin : Option ℕ) (spread : Bool) (now : ℕ) (above : Held) → (is_some pin || spread) ≡ true
       → hold_below pin spread now above ≡ option_map_or (λ (rank : ℕ). Pinned rank) pin (Spread now)
   own_case (Some rank) spread now above own = refl
@@ -71,7 +71,7 @@ above_step (Some rank) parent_now now = refl
 above_step None parent_now now = refl
 
 pub held_more : (ds : List Directory) (i : ℕ) (above hold : Held) → 0 < i → IsHeld ds (parent_at ds i) above
-    → hold ≡ hold_below (pin_at ds i) (is_spread_at ds i) (now_at ds i) above → IsHeld ds i hold
+    → hold ≡ hold_below (pin_at ds i) (is_fixed_at ds i) (now_at ds i) above → IsHeld ds i hold
 held_more ds i above hold below held is =
     ⊎_elim (λ (own : is_holding ds i ≡ true). record {
       by = λ holder there.
@@ -83,11 +83,11 @@ held_more ds i above hold below held is =
       by = λ holder there.
           let up : above ≡ held_by ds (parent_at ds i) holder =
           held.by holder (holder_above ds i holder there.steps not_own there.there there.below there.holding there.nearer) in
-          is ∙ (other_step (pin_at ds i) (is_spread_at ds i) (now_at ds i) above not_own
+          is ∙ (other_step (pin_at ds i) (is_fixed_at ds i) (now_at ds i) above not_own
           ∙ (ap (λ (h : Held). hold_above h (now_at ds i)) up ∙ above_step (pin_at ds holder) (now_at ds (parent_at ds i)) (now_at ds i)));
       free = λ none.
           let up : above ≡ Free = held.free (λ holder there. none holder (holder_below ds i holder not_own there)) in
-          is ∙ (other_step (pin_at ds i) (is_spread_at ds i) (now_at ds i) above not_own ∙ ap (λ (h : Held). hold_above h (now_at ds i)) up);
+          is ∙ (other_step (pin_at ds i) (is_fixed_at ds i) (now_at ds i) above not_own ∙ ap (λ (h : Held). hold_above h (now_at ds i)) up);
     })
     (cases_Bool (is_holding ds i))
 
@@ -109,8 +109,8 @@ pub read_parent : (ds : List Directory) (i : ℕ) (d : Directory) → slice_get 
 read_parent ds i d is = ap (λ (o : Option Directory). option_map_or (λ (one : Directory). one.parent) o 0) is
 
 pub read_step : (ds : List Directory) (i : ℕ) (d : Directory) (above : Held) → slice_get ds i ≡ Some d
-    → hold_below d.pin d.is_spread d.now above ≡ hold_below (pin_at ds i) (is_spread_at ds i) (now_at ds i) above
+    → hold_below d.pin (d.is_spread || d.is_kept) d.now above ≡ hold_below (pin_at ds i) (is_fixed_at ds i) (now_at ds i) above
 read_step ds i d above is = sym (ap (λ (o : Option Directory). hold_below
     (option_map_or (λ (one : Directory). one.pin) o None)
-    (option_map_or (λ (one : Directory). one.is_spread) o false)
+    (option_map_or (λ (one : Directory). one.is_spread) o false || option_map_or (λ (one : Directory). one.is_kept) o false)
     (option_map_or (λ (one : Directory). one.now) o 0) above) is)

@@ -1,3 +1,4 @@
+pub mod Beaten
 pub mod Adding
 pub mod Folds
 pub mod Holders

@@ -29,6 +29,13 @@ earlier_at directories i = option_map_or (λ (d : Directory). d.earlier) (slice_
 abbrev pub is_spread_at : List Directory → ℕ → Bool
 is_spread_at directories i = option_map_or (λ (d : Directory). d.is_spread) (slice_get directories i) false
 
+abbrev pub is_kept_at : List Directory → ℕ → Bool
+is_kept_at directories i = option_map_or (λ (d : Directory). d.is_kept) (slice_get directories i) false
+
+-- it stays where it lies: it is spread, or may not be pinned
+abbrev pub is_fixed_at : List Directory → ℕ → Bool
+is_fixed_at directories i = is_spread_at directories i || is_kept_at directories i
+
 -- the root names itself, and each other directory stands behind its parent
 pub record AreParentsFirst (directories : List Directory) : Type 0 where
   pub root : parent_at directories 0 ≡ 0
@@ -39,11 +46,11 @@ abbrev pub climb : List Directory → ℕ → ℕ → ℕ
 climb directories zero i = i
 climb directories (suc steps) i = climb directories steps (parent_at directories i)
 
--- a directory that has a pin, or is spread
+-- a directory that has a pin, or stays where it lies
 abbrev pub is_holding : List Directory → ℕ → Bool
-is_holding directories i = is_some (pin_at directories i) || is_spread_at directories i
+is_holding directories i = is_some (pin_at directories i) || is_fixed_at directories i
 
--- of the directories at and above i, the nearest that has a pin or is spread; the root itself can't be pinned
+-- of the directories at and above i, the nearest that has a pin or stays where it lies; the root itself can't be pinned
 pub record IsHolder (directories : List Directory) (i holder : ℕ) : Type 0 where
   pub steps : ℕ
   pub there : climb directories steps i ≡ holder
@@ -51,7 +58,7 @@ pub record IsHolder (directories : List Directory) (i holder : ℕ) : Type 0 whe
   pub holding : is_holding directories holder ≡ true
   pub nearer : (n : ℕ) → n < steps → is_holding directories (climb directories n i) ≡ false
 
--- a pin there holds directory i at the pin's rank, and what is spread is held where it lies
+-- a pin there holds directory i at the pin's rank, and what stays is held where it lies
 abbrev pub held_by : List Directory → ℕ → ℕ → Held
 held_by directories i holder =
     option_map_or (λ (rank : ℕ). Pinned rank) (pin_at directories holder) (Spread (now_at directories i))

@@ -5,7 +5,7 @@ ghost use Rattle.ceph_snapshot.specs.Folding.{brought};
 ghost use Rattle.ceph_snapshot.specs.Holding.{heat_at};
 
 use crate::directory::Directory;
-use crate::gathering::SnapshotError;
+use crate::snapshot_error::SnapshotError;
 use std::alloc::{AllocError, Global};
 
 /// The heat of each directory.

@@ -11,7 +11,7 @@ ghost use Rattle.ceph_snapshot.specs.Keys.{goes, is_at_most, key_at};
 
 use crate::amounts::own_heats;
 use crate::directory::Directory;
-use crate::gathering::SnapshotError;
+use crate::snapshot_error::SnapshotError;
 use std::alloc::{AllocError, Global};
 
 /// What a directory goes by. Those with the least go first: the coldest, and of two that are as cold the last.
@@ -34,7 +34,7 @@ fn is_plain(directories: &[Directory], at: usize) -> bool
     at > 0
         && directory.pin.is_none()
         && directory.earlier.is_none()
-        && !directory.is_spread
+        && !directory.is_fixed()
         && directory.now == above.now
 }
 

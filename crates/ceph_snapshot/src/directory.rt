@@ -1,5 +1,8 @@
 //! A directory of a live CephFS.
 
+ghost use Rattle.std.specs.Prelude.{◌≡◌, ◌||◌};
+
+use ceph_dumps::EphemeralPin;
 use mds_types::Rank;
 
 /// A directory of a live CephFS, as its dumps show it.
@@ -15,10 +18,25 @@ pub struct Directory {
     pub inodes: u64,
     /// The rank that has it; where it lies at several ranks, the one that has most of its heat.
     pub now: Rank,
-    /// A pin of its own that this program didn't set, to a rank that is there.
+    /// A pin of its own that this program didn't set, to a rank that is in the file system.
     pub pin: Option<Rank>,
-    /// A pin of its own that this program set before.
+    /// A pin of its own that this program didn't set, to a rank that isn't in the file system.
+    pub idle: Option<u64>,
+    /// A pin of its own that this program set before, whether or not its rank is in the file system.
     pub earlier: Option<Rank>,
+    /// Its own policy, by which Ceph pins what is below it.
+    pub policy: Option<EphemeralPin>,
+    /// Whether it may not be pinned: it has a policy or an idle pin, or a pin on it would beat a random policy below.
+    pub is_kept: bool,
     /// Whether it lies at several ranks, or Ceph itself spreads what is below.
     pub is_spread: bool,
+}
+
+impl Directory {
+    /// Whether it stays where it lies: it is spread, or may not be pinned.
+    pub fn is_fixed(&self) -> bool
+        ensures { result ≡ (self.entry.now.is_spread || self.entry.now.is_kept) }
+    {
+        self.is_spread || self.is_kept
+    }
 }

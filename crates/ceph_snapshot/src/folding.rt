@@ -9,7 +9,7 @@ ghost use Rattle.ceph_snapshot.specs.Holding.{AreParentsFirst, parent_at};
 use crate::amounts::{Amount, brought_home};
 use crate::coldest::coldest;
 use crate::directory::Directory;
-use crate::gathering::SnapshotError;
+use crate::snapshot_error::SnapshotError;
 use std::alloc::{AllocError, Global};
 
 /// Whether the root names itself and each other directory stands behind its parent.

@@ -3,37 +3,15 @@
 //! A directory has its heat from the rank that has authority: the nearest subtree root at or above it decides. Where
 //! that root is in fragments at several ranks, there is no such rank: the directory, and what is below it with no
 //! root of its own, is spread.
+ghost use Rattle.std.specs.Prelude.{◌≡◌, ◌||◌, ◌≤◌, ℕ, Some, None, true, false, max};
+ghost use Rattle.ceph_dumps.specs.declared.listing.ListedValue.TheVariants as listed;
 
 use crate::directory::Directory;
 use crate::names::Names;
-use ceph_dumps::{FragmentHeat, ListedDir, SubtreeRoot};
+use crate::snapshot_error::{SnapshotError, told_path};
+use ceph_dumps::{FragmentHeat, ListedDir, ListedValue, OwnPin, SubtreeRoot};
 use mds_types::Rank;
-use std::alloc::{AllocError, AllocFailed, Global};
-use thiserror::Error;
-
-/// Why what was gathered makes no snapshot.
-#[derive(Clone, Copy, Debug, Error)]
-pub enum SnapshotError {
-    /// The allocator refused a growth.
-    #[error("no memory")]
-    Memory,
-    /// More directories have to stay than are to be left, there are more than 32 bits can number, or what comes
-    /// together at one, heat or inodes, is more than 64 bits can count.
-    #[error("too many directories")]
-    TooMany,
-}
-
-impl From<AllocError> for SnapshotError {
-    fn from(_: AllocError) -> SnapshotError {
-        SnapshotError::Memory
-    }
-}
-
-impl<T: Drop> From<AllocFailed<T>> for SnapshotError {
-    fn from(_: AllocFailed<T>) -> SnapshotError {
-        SnapshotError::Memory
-    }
-}
+use std::alloc::Global;
 
 /// Heat that a rank has seen at a directory.
 #[derive(Clone, Copy)]
@@ -41,6 +19,14 @@ pub(crate) struct Sighting {
     pub directory: u32,
     pub rank: Rank,
     pub heat: u64,
+}
+
+/// What a rank says of another one: that it has authority over a directory.
+#[derive(Clone, Copy)]
+pub(crate) struct Hearsay {
+    pub directory: u32,
+    pub by: Rank,
+    pub authority: u64,
 }
 
 /// What is known of a directory while dumps are read.
@@ -51,8 +37,8 @@ pub(crate) struct Node {
     pub root: Option<Rank>,
     /// Its pin, whoever set it.
     pub pinned: Option<u64>,
-    /// Whether its pin was set by this program.
-    pub is_own: bool,
+    /// The rank of the pin that this program set at it before.
+    pub own: Option<u64>,
     /// The greatest heat that a rank has seen at it, where it is spread.
     pub most: u64,
 }
@@ -64,6 +50,13 @@ pub struct Gathering {
     pub(crate) names: Names,
     pub(crate) nodes: Vec<Node>,
     pub(crate) sightings: Vec<Sighting>,
+    pub(crate) hearsay: Vec<Hearsay>,
+    /// The rank that has each fragment of a directory that is a root.
+    pub(crate) fragments: Names,
+    /// The directories just below the root that have a root of Ceph's own pins at or below them.
+    pub(crate) tops: Vec<u32>,
+    /// Whether a walk listed the directories.
+    pub(crate) is_listed: bool,
 }
 
 impl Gathering {
@@ -76,6 +69,10 @@ impl Gathering {
             names: Names::new(alloc)?,
             nodes,
             sightings: Vec::new(alloc),
+            hearsay: Vec::new(alloc),
+            fragments: Names::new(alloc)?,
+            tops: Vec::new(alloc),
+            is_listed: false,
         })
     }
 
@@ -144,35 +141,85 @@ impl Gathering {
         Ok(())
     }
 
-    /// Adds the subtrees that a rank says are its own, and the pins of their roots.
+    /// Notes that a rank has a fragment of a directory, which no other rank has.
+    fn claim(&mut self, rank: Rank, root: &SubtreeRoot) -> Result<(), SnapshotError> {
+        let Some(fragment) = root.fragment.as_deref() else {
+            return Ok(());
+        };
+        let key = fragment.as_bytes();
+        match self.fragments.number(key) {
+            Some(other) if other != u32::from(rank.number()) => Err(SnapshotError::TwoClaims {
+                path: told_path(self.alloc, root.path.as_slice())?,
+                first: other,
+                second: rank.number(),
+            }),
+            _ => {
+                let key = Vec::from_slice(self.alloc, key)?;
+                self.fragments.insert(key, u32::from(rank.number()))?;
+                Ok(())
+            }
+        }
+    }
+
+    /// Notes which directory just below the root Ceph's own pins are at or below.
+    fn hold_top(&mut self, path: &[u8]) -> Result<(), SnapshotError> {
+        let slash = path.iter().skip(1).position(|byte| *byte == b'/');
+        let end = slash.map_or(path.len(), |at| at + 1);
+        if let Some(number) = self.number(path.get(..end).unwrap_or(path))? {
+            self.tops.push(number)?;
+        }
+        Ok(())
+    }
+
+    /// Adds a root that a rank knows.
+    fn add_subtree(&mut self, rank: Rank, root: &SubtreeRoot) -> Result<(), SnapshotError> {
+        let Some(directory) = self.number(root.path.as_slice())? else {
+            return Ok(());
+        };
+        if root.is_here {
+            self.claim(rank, root)?;
+        } else if let Ok(authority) = u64::try_from(root.authority) {
+            self.hearsay.push(Hearsay {
+                directory,
+                by: rank,
+                authority,
+            })?;
+        }
+        if root.is_spread {
+            self.hold_top(root.path.as_slice())?;
+        }
+        if let Some(node) = self.nodes.get_mut(directory as usize) {
+            add_root(node, rank, root);
+        }
+        Ok(())
+    }
+
+    /// Adds the subtrees that a rank knows, and the pins of their roots. A fragment that two ranks claim is refused.
     pub fn add_subtrees(&mut self, rank: Rank, roots: &[SubtreeRoot]) -> Result<(), SnapshotError> {
         for root in roots {
-            if let Some(node) = self.node(root.path.as_slice())? {
-                add_root(node, rank, root);
-            }
+            self.add_subtree(rank, root)?;
         }
         Ok(())
     }
 
-    /// Adds entries and pins that were listed over a mount.
+    /// Adds entries, pins and policies that were listed over a mount.
     pub fn add_listing(&mut self, listing: &[ListedDir]) -> Result<(), SnapshotError> {
+        self.is_listed = true;
         for listed in listing {
             if let Some(node) = self.node(listed.path.as_slice())? {
-                if let Some(entries) = listed.entries {
-                    node.directory.inodes = entries.max(1);
-                }
-                node.pinned = listed.pin.or(node.pinned);
+                add_value(node, listed.value);
             }
         }
         Ok(())
     }
 
-    /// Says that a directory's pin was set by this program before.
-    pub fn add_own(&mut self, path: &[u8]) -> Result<(), SnapshotError> {
-        if let Some(node) = self.node(path)? {
-            node.is_own = true;
+    /// Says that this program pinned a directory before. One that nothing else names is passed over.
+    pub fn add_own(&mut self, pin: &OwnPin) {
+        if let Some(number) = self.names.number(pin.path.as_slice()) {
+            if let Some(node) = self.nodes.get_mut(number as usize) {
+                node.own = Some(pin.rank);
+            }
         }
-        Ok(())
     }
 }
 
@@ -186,18 +233,25 @@ fn unknown(path: Vec<u8>, parent: u32) -> Node {
             inodes: 1,
             now: Rank::default(),
             pin: None,
+            idle: None,
             earlier: None,
+            policy: None,
+            is_kept: false,
             is_spread: false,
         },
         root: None,
         pinned: None,
-        is_own: false,
+        own: None,
         most: 0,
     }
 }
 
 /// Adds what a rank says of a root of a subtree.
-fn add_root(node: &mut Node, rank: Rank, root: &SubtreeRoot) {
+fn add_root(node: &mut Node, rank: Rank, root: &SubtreeRoot)
+    ensures here { root.now.is_here ≡ true → node.new.root ≡ Some rank }
+    ensures elsewhere { root.now.is_here ≡ false → node.new.root ≡ node.old.root }
+    ensures own { node.new.own ≡ node.old.own }
+{
     if root.is_here {
         let is_elsewhere = node.root.is_some_and(|other| other != rank);
         if is_elsewhere || root.is_spread {
@@ -207,5 +261,21 @@ fn add_root(node: &mut Node, rank: Rank, root: &SubtreeRoot) {
     }
     if let Some(pin) = root.pin {
         node.pinned = u64::try_from(pin).ok();
+    }
+}
+
+/// Adds a value that was listed of a directory.
+fn add_value(node: &mut Node, value: ListedValue)
+    ensures entries { (count : ℕ) → value ≡ listed.Entries count → node.new.directory.inodes ≡ max count 1 }
+    ensures pin { (rank : ℕ) → value ≡ listed.Pin (Some rank) → node.new.pinned ≡ Some rank }
+    ensures no_pin { value ≡ listed.Pin None → node.new.pinned ≡ node.old.pinned }
+    ensures own { node.new.own ≡ node.old.own }
+{
+    match value {
+        ListedValue::Entries(count) => node.directory.inodes = count.max(1),
+        ListedValue::Pin(pin) => node.pinned = pin.or(node.pinned),
+        ListedValue::Policy(policy) => {
+            node.directory.policy = policy.or(node.directory.policy);
+        }
     }
 }

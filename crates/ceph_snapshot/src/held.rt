@@ -1,7 +1,7 @@
 //! What pins hold, and what that comes to at each rank.
 //!
 //! A directory is held by the nearest pin at or above it that this program didn't set.
-//! What is spread counts as held where it lies.
+//! What is spread, or may not be pinned, is held where it lies, and so is what is below it.
 ghost use Rattle.std.specs.Prelude.{◌≡◌, ◌<◌, ◌+◌, ◌↔◌, ℕ, Some, false, length, min, slice_index, true, IfOk};
 ghost use Rattle.ceph_snapshot.specs.Holding.{AreParentsFirst, IsHeld, held_at, held_below};
 ghost use Rattle.ceph_snapshot.specs.Holding.{hold_below, is_at, most_heat};
@@ -18,7 +18,7 @@ pub enum Held {
     Free,
     /// A pin at or above it, to this rank.
     Pinned(Rank),
-    /// It or a directory above it is spread, and it lies at this rank.
+    /// It or a directory above it is spread or may not be pinned, and it lies at this rank.
     Spread(Rank),
 }
 
@@ -44,13 +44,13 @@ fn counted(is_spread: bool, hold: Held) -> Option<Rank>
 }
 
 /// What holds a directory with this pin that is at rank `now`, where its parent is held so.
-fn next_hold(pin: Option<Rank>, is_spread: bool, now: Rank, above: Held) -> Held
-    ensures { result ≡ hold_below pin is_spread now above }
+fn next_hold(pin: Option<Rank>, is_fixed: bool, now: Rank, above: Held) -> Held
+    ensures { result ≡ hold_below pin is_fixed now above }
 {
     if let Some(rank) = pin {
         return Held::Pinned(rank);
     }
-    if is_spread {
+    if is_fixed {
         return Held::Spread(now);
     }
     match above {
@@ -71,7 +71,9 @@ pub fn holds(alloc: Global, directories: &[Directory]) -> Result<Vec<Held>, Allo
             Held::Free
         } else {
             match found.get(directory.parent as usize) {
-                Some(above) => next_hold(directory.pin, directory.is_spread, directory.now, *above),
+                Some(above) => {
+                    next_hold(directory.pin, directory.is_fixed(), directory.now, *above)
+                }
                 None => Held::Free,
             }
         };

@@ -9,12 +9,15 @@ pub mod folding;
 pub mod gathering;
 pub mod held;
 mod names;
+pub mod policies;
 pub mod rows;
 pub mod snapshot;
+pub mod snapshot_error;
 
 pub use directory::Directory;
 pub use folding::fold;
-pub use gathering::{Gathering, SnapshotError};
+pub use gathering::Gathering;
 pub use held::{Held, held_heat, holds};
 pub use rows::rows_of;
 pub use snapshot::Snapshot;
+pub use snapshot_error::SnapshotError;

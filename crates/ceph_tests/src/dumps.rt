@@ -2,9 +2,11 @@
 
 use crate::same::{Row, Sure, holds_in, same, same_rows};
 use ceph_dumps::{
-    DumpError, FileSystemRanks, FragmentHeat, ListedDir, SubtreeRoot, read_cluster, read_listing,
-    read_loads, read_own_list, read_subtrees,
+    DumpError, EphemeralPin, FileSystemRanks, FragmentHeat, ListedDir, ListedValue, OwnPin,
+    SubtreeRoot, read_cluster, read_complete, read_listing, read_loads, read_own_list,
+    read_subtrees,
 };
+use mds_types::RankSet;
 use std::alloc::Global;
 use std::mem;
 use std::process::Abort;
@@ -36,7 +38,7 @@ const SUBTREES: &[u8] = b"[{\"is_auth\":true,\"auth_first\":1,\"auth_second\":-2
 
 /// The ranks of a file system.
 const CLUSTER: &[u8] =
-    b"{\"mdsmap\":{\"max_mds\":3,\"in\":[0,2],\"bal_rank_mask\":\"0x5\"},\"id\":1}";
+    b"{\"mdsmap\":{\"max_mds\":3,\"in\":[0,2],\"info\":{},\"bal_rank_mask\":\"0x5\"},\"id\":1}";
 
 /// A text without its end: so many bytes of it, and never all.
 fn cut(text: &[u8], end: usize) -> &[u8] {
@@ -165,13 +167,16 @@ impl<'a> Row<Root<'a>> for SubtreeRoot {
     }
 }
 
-/// The ranks of a file system, behind an empty line.
+/// The ranks of a file system, behind an empty line. Rank 3 is active and above `max_mds`, rank 2 is replaying.
 const RANKS: &[u8] =
-    b"\n{\"mdsmap\":{\"max_mds\":3,\"in\":[0,2],\"bal_rank_mask\":\"0x5\"},\"id\":1}";
+    b"\n{\"mdsmap\":{\"max_mds\":3,\"in\":[0,2,3],\"info\":{\"gid_1\":{\"rank\":0,\"state\":\"up:active\"},\
+\"gid_2\":{\"rank\":2,\"state\":\"up:replay\"},\"gid_3\":{\"rank\":3,\"state\":\"up:active\"},\
+\"gid_4\":{\"rank\":5,\"state\":\"up:active\"}},\"bal_rank_mask\":\"0x5\"},\"id\":1}";
 
 fn same_ranks(rt: &impl Abort, found: &FileSystemRanks) {
     same(rt, &found.size, &3);
-    same_rows(rt, &found.ranks, &[0, 2], "ranks");
+    same(rt, &found.ranks, &RankSet::from_bits(0b1101));
+    same(rt, &found.active, &RankSet::from_bits(0b1001));
     same(rt, &found.mask.as_deref(), &Some("0x5"));
 }
 
@@ -183,16 +188,20 @@ fn reads_ranks(rt: HostRuntime) {
 /// Maps of file systems, and why there is no plan for them.
 const REFUSED_RANKS: &[(&[u8], &str)] = &[
     (
-        b"{\"mdsmap\":{\"max_mds\":1,\"in\":[]}}",
+        b"{\"mdsmap\":{\"max_mds\":1,\"in\":[],\"info\":{}}}",
         "the file system has no rank",
     ),
     (
-        b"{\"mdsmap\":{\"max_mds\":65,\"in\":[0]}}",
+        b"{\"mdsmap\":{\"max_mds\":65,\"in\":[0],\"info\":{}}}",
         "more than 64 ranks",
     ),
     (
-        b"{\"mdsmap\":{\"max_mds\":64,\"in\":[0,64]}}",
+        b"{\"mdsmap\":{\"max_mds\":64,\"in\":[0,64],\"info\":{}}}",
         "rank 64 is none of 0 to 63",
+    ),
+    (
+        b"{\"mdsmap\":{\"max_mds\":2,\"in\":[1,2],\"info\":{}}}",
+        "rank 0 is not in the file system: wait until it is back",
     ),
     (
         b"{\"mdsmap\":{\"max_mds\":1,\"in\":[0],\"in\":[1]}}",
@@ -208,25 +217,36 @@ fn refuses_ranks_it_cant_plan_for(rt: HostRuntime) {
     }
 }
 
-/// A listing of four directories.
+/// A listing of directories, each with one value.
 const LISTING: &[u8] =
     b"# file: .\nceph.dir.entries=\"7\"\n\n# file: h/cr\\015ret \\134\nceph.dir.entries=\"4\"\n\n\
-# file: h\nceph.dir.pin=\"2\"\n\n# file: w\nceph.dir.pin=\"-1\"\n";
+# file: h\nceph.dir.pin=\"2\"\n\n# file: w\nceph.dir.pin=\"-1\"\n\n\
+# file: d\nceph.dir.pin.distributed=\"1\"\n\n# file: e\nceph.dir.pin.distributed=\"0\"\n\n\
+# file: r\nceph.dir.pin.random=\"1.0\"\n\n# file: s\nceph.dir.pin.random=\"0.000000\"\n";
 
-/// A path, entries and a pin.
-type Listed<'a> = (&'a [u8], Option<u64>, Option<u64>);
+/// A path, entries, a pin and a policy.
+type Listed<'a> = (&'a [u8], Option<u64>, Option<u64>, Option<EphemeralPin>);
 
 /// What it says.
 const LISTED: &[Listed<'static>] = &[
-    (b"", Some(7), None),
-    (b"/h/cr\rret \\", Some(4), None),
-    (b"/h", None, Some(2)),
-    (b"/w", None, None),
+    (b"", Some(7), None, None),
+    (b"/h/cr\rret \\", Some(4), None, None),
+    (b"/h", None, Some(2), None),
+    (b"/w", None, None, None),
+    (b"/d", None, None, Some(EphemeralPin::Distributed)),
+    (b"/e", None, None, None),
+    (b"/r", None, None, Some(EphemeralPin::Random)),
+    (b"/s", None, None, None),
 ];
 
 impl<'a> Row<Listed<'a>> for ListedDir {
     fn is_as(&self, row: &Listed<'a>) -> bool {
-        self.path.as_slice() == row.0 && (self.entries, self.pin) == (row.1, row.2)
+        let (entries, pin, policy) = match self.value {
+            ListedValue::Entries(count) => (Some(count), None, None),
+            ListedValue::Pin(pin) => (None, pin, None),
+            ListedValue::Policy(policy) => (None, None, policy),
+        };
+        self.path.as_slice() == row.0 && (entries, pin, policy) == (row.1, row.2, row.3)
     }
 }
 
@@ -235,6 +255,7 @@ const BROKEN: &[&[u8]] = &[
     b"ceph.dir.pin=\"2\"\n",
     b"# file: h\nceph.dir.pin=\"x\"\n",
     b"1\n",
+    b"zzz /c\n",
 ];
 
 /// Whether a text is refused as a listing and as a list of own pins.
@@ -251,12 +272,33 @@ fn refuses_broken_lists(rt: HostRuntime) {
     }
 }
 
-/// The paths of a list of own pins.
-const OWN: &[&[u8]] = &[b"/a b", b"/x\ny"];
+/// The ranks and paths of a list of own pins.
+const OWN: &[(u64, &[u8])] = &[(1, b"/a b"), (0, b"/x\ny")];
 
-impl<'a> Row<&'a [u8]> for Vec<u8> {
-    fn is_as(&self, row: &&'a [u8]) -> bool {
-        self.as_slice() == *row
+impl<'a> Row<(u64, &'a [u8])> for OwnPin {
+    fn is_as(&self, row: &(u64, &'a [u8])) -> bool {
+        (self.rank, self.path.as_slice()) == *row
+    }
+}
+
+/// What the file `complete` may have, and the name that it says; nothing where it is refused.
+const COMPLETE: &[(&[u8], Option<&str>)] = &[
+    (b"lab 0d2c6f0e-1a53\n", Some("lab")),
+    (b"a_b.c-2 x\n", Some("a_b.c-2")),
+    (b"lab 0d2c", None),
+    (b"lab\n", None),
+    (b" 0d2c\n", None),
+    (b"lab \n", None),
+    (b"lab 0d2c\nmore\n", None),
+    (b"l'b 0d2c\n", None),
+];
+
+#[test]
+fn reads_which_file_system_it_is(rt: HostRuntime) {
+    for (text, name) in COMPLETE {
+        let read = read_complete(rt.alloc(), text).ok();
+        let found = read.as_ref().map(|found| found.name.as_str());
+        same(&rt, &found, name);
     }
 }
 

@@ -43,7 +43,9 @@ impl From<SnapshotError> for Refused {
     fn from(error: SnapshotError) -> Refused {
         match error {
             SnapshotError::Memory => Refused::Memory,
-            SnapshotError::TooMany => Refused::Wrong,
+            SnapshotError::TooMany
+            | SnapshotError::TwoClaims { .. }
+            | SnapshotError::Unclaimed { .. } => Refused::Wrong,
         }
     }
 }
@@ -84,7 +86,7 @@ fn add_all(alloc: Global, all: &mut Gathering) -> Result<(), Refused> {
 fn gathered(alloc: Global) -> Result<Snapshot, Refused> {
     let mut all = Gathering::new(alloc)?;
     add_all(alloc, &mut all)?;
-    Ok(all.snapshot(1, 3)?)
+    Ok(all.snapshot(1, RankSet::from_bits(7))?)
 }
 
 /// The directories that are left where one is folded.

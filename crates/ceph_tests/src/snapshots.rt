@@ -2,9 +2,9 @@
 
 use crate::given::rank;
 use crate::same::{Row, Sure, same, same_in, same_rows};
-use ceph_dumps::{FragmentHeat, SubtreeRoot, read_listing};
+use ceph_dumps::{FragmentHeat, OwnPin, SubtreeRoot, read_listing};
 use ceph_snapshot::{Directory, Gathering, Held, Snapshot, fold, held_heat, holds};
-use mds_types::Rank;
+use mds_types::{Rank, RankSet};
 use std::alloc::Global;
 use std::process::Abort;
 
@@ -37,6 +37,8 @@ fn add_roots(
         let root = SubtreeRoot {
             path: Vec::from_slice(alloc, path).sure(rt),
             is_here: true,
+            authority: i64::from(at.number()),
+            fragment: None,
             pin: *pin,
             is_spread: false,
         };
@@ -65,7 +67,7 @@ const SECOND_LOADS: &[(&[u8], u64)] = &[(b"/a", 700), (b"/a/x", 200), (b"/u", 60
 fn gathered(rt: &impl Abort, alloc: Global) -> Snapshot {
     let mut all = Gathering::new(alloc).sure(rt);
     add_ranks(rt, alloc, &mut all);
-    all.snapshot(1, 2).sure(rt)
+    all.snapshot(1, RankSet::from_bits(3)).sure(rt)
 }
 
 /// Adds what both ranks have.
@@ -149,7 +151,7 @@ const LEFT: &[Seen<'static>] = &[
 fn leaves(rt: &impl Abort, alloc: Global) -> Vec<Directory> {
     let mut all = Gathering::new(alloc).sure(rt);
     add_loads(rt, alloc, &mut all, rank(0), LEAVES);
-    all.snapshot(1, 1).sure(rt).directories
+    all.snapshot(1, RankSet::from_bits(1)).sure(rt).directories
 }
 
 #[test]
@@ -183,7 +185,7 @@ fn many(rt: &impl Abort, alloc: Global) -> Vec<Directory> {
     for number in 1..60u8 {
         add_number(rt, alloc, &mut all, number);
     }
-    all.snapshot(1, 1).sure(rt).directories
+    all.snapshot(1, RankSet::from_bits(1)).sure(rt).directories
 }
 
 /// Folds so many directories: heat and inodes stay, and so many are left.
@@ -200,4 +202,61 @@ fn folding_keeps_heat_and_inodes(rt: HostRuntime) {
     for limit in 1..60usize {
         keeps_sums(&rt, rt.alloc(), many(&rt, rt.alloc()), limit);
     }
+}
+
+/// A walk over ten directories. `/p` has a distributed policy; `/r/s/t` a random one, with nothing pinned above it;
+/// `/q/r` a random one below a pin; `/i` somebody's pin to rank 5; `/b` and `/c` have pins to rank 1.
+const WALK: &[u8] =
+    b"# file: p\nceph.dir.pin.distributed=\"1\"\n\n# file: p/x\nceph.dir.entries=\"2\"\n\n\
+# file: r/s/t\nceph.dir.pin.random=\"0.25\"\n\n# file: r/u\nceph.dir.entries=\"3\"\n\n\
+# file: q\nceph.dir.pin=\"1\"\n\n# file: q/r\nceph.dir.pin.random=\"1.0\"\n\n\
+# file: i\nceph.dir.pin=\"5\"\n\n# file: b\nceph.dir.pin=\"1\"\n\n# file: c\nceph.dir.pin=\"1\"\n\n\
+# file: e\nceph.dir.pin=\"3\"\n";
+
+/// The pins that were set before: at `/b` to the rank that it has, at `/c` to another one, at `/e` to one that isn't
+/// there, and at one that the walk doesn't have.
+const SET: &[(u64, &[u8])] = &[(1, b"/b"), (2, b"/c"), (3, b"/e"), (1, b"/gone")];
+
+/// What is known of a directory's pins: its pin and its idle pin, its earlier pin, and whether it may not be pinned.
+type Pinned<'a> = (&'a [u8], (Option<u8>, Option<u64>, Option<u8>, bool));
+
+impl<'a> Row<Pinned<'a>> for Directory {
+    fn is_as(&self, row: &Pinned<'a>) -> bool {
+        let (pin, earlier) = (self.pin.map(Rank::number), self.earlier.map(Rank::number));
+        self.path.as_slice() == row.0 && (pin, self.idle, earlier, self.is_kept) == row.1
+    }
+}
+
+const PINNED: &[Pinned<'static>] = &[
+    (b"", (None, None, None, false)),
+    (b"/p", (None, None, None, true)),
+    (b"/p/x", (None, None, None, false)),
+    (b"/r", (None, None, None, true)),
+    (b"/r/s", (None, None, None, true)),
+    (b"/r/s/t", (None, None, None, true)),
+    (b"/r/u", (None, None, None, false)),
+    (b"/q", (Some(1), None, None, true)),
+    (b"/q/r", (None, None, None, true)),
+    (b"/i", (None, Some(5), None, true)),
+    (b"/b", (None, None, Some(1), false)),
+    (b"/c", (Some(1), None, None, false)),
+    (b"/e", (None, None, Some(3), false)),
+];
+
+/// Says which pins were set before.
+fn add_set(rt: &impl Abort, alloc: Global, all: &mut Gathering) {
+    for (rank, path) in SET {
+        let path = Vec::from_slice(alloc, path).sure(rt);
+        all.add_own(&OwnPin { rank: *rank, path });
+    }
+}
+
+#[test]
+fn policies_and_pins_of_others_hold(rt: HostRuntime) {
+    let mut all = Gathering::new(rt.alloc()).sure(&rt);
+    let listing = read_listing(rt.alloc(), WALK).sure(&rt);
+    all.add_listing(&listing).sure(&rt);
+    add_set(&rt, rt.alloc(), &mut all);
+    let snapshot = all.snapshot(1, RankSet::from_bits(7)).sure(&rt);
+    same_rows(&rt, &snapshot.directories, PINNED, "pins");
 }

@@ -4,11 +4,12 @@ ghost use Rattle.std.specs.Prelude.{◌≡◌, ◌<◌, length, IfOk};
 use crate::progress::Progress;
 use anyhow::{Context, Error, bail};
 use ceph_dumps::{
-    DumpError, FileSystemRanks, read_cluster, read_listing, read_loads, read_own_list,
-    read_subtrees,
+    DumpError, FileSystem, FileSystemRanks, read_cluster, read_complete, read_listing, read_loads,
+    read_own_list, read_subtrees,
 };
 use ceph_snapshot::{Gathering, Snapshot};
-use mds_types::Rank;
+use mds_types::limits::RANK_LIMIT;
+use mds_types::{Rank, RankSet};
 use std::alloc::Global;
 use std::io::ErrorKind;
 use std::rt::{Clock, Files};
@@ -20,6 +21,8 @@ const SAMPLE_LIMIT: u64 = 1000;
 /// What was collected.
 #[derive(Drop)]
 pub struct Collected {
+    /// Which file system it is of.
+    pub file_system: FileSystem,
     /// The ranks of the file system.
     pub cluster: FileSystemRanks,
     /// How many samples of heat each rank gave.
@@ -126,11 +129,20 @@ fn add_own<R: Files + AllocGlobal>(
     gathering: &mut Gathering,
     path: &str,
 ) -> Result<(), Error> {
-    let paths = read_file(rt, path, read_own_list)?;
-    for path in paths.as_slice() {
-        gathering.add_own(path.as_slice())?;
+    let pins = read_file(rt, path, read_own_list)?;
+    for pin in pins.as_slice() {
+        gathering.add_own(pin);
     }
     Ok(())
+}
+
+/// Which file system a folder is of. A folder that the collector didn't finish is refused.
+fn file_system_of<R: Files + AllocGlobal>(rt: &R, folder: &str) -> Result<FileSystem, Error> {
+    let path = format!(in rt.alloc(); "{folder}/complete")?;
+    match read_if_there(rt, path.as_str(), read_complete)? {
+        Some(found) => Ok(found),
+        None => bail!("{path}: there is no such file: ceph/collect did not finish"),
+    }
 }
 
 /// The ranks of the file system.
@@ -145,23 +157,26 @@ fn add_ranks<R: Files + AllocGlobal + Clock + Eprint>(
     progress: &mut Progress,
     gathering: &mut Gathering,
     folder: &str,
-    ranks: &[Rank],
+    ranks: RankSet,
     samples: u64,
 ) -> Result<(), Error> {
-    for rank in ranks {
-        add_rank(rt, progress, gathering, folder, *rank, samples)?;
+    for number in 0..RANK_LIMIT {
+        match Rank::new(number) {
+            Some(rank) if ranks.has(rank) => {
+                add_rank(rt, progress, gathering, folder, rank, samples)?;
+            }
+            _ => (),
+        }
     }
     Ok(())
 }
 
-/// How many samples the first of these ranks gave: one at least, as a first one that isn't there is refused when it is
-/// read.
-fn sample_count<R: Files + AllocGlobal>(rt: &R, folder: &str, ranks: &[Rank]) -> Result<u64, Error>
+/// How many samples rank 0 gave: one at least, as a first one that isn't there is refused when it is read.
+fn sample_count<R: Files + AllocGlobal>(rt: &R, folder: &str) -> Result<u64, Error>
     ensures { IfOk result (λ samples. 0 < samples) }
 {
-    let first = ranks.first().copied().unwrap_or_default();
     for sample in 1..SAMPLE_LIMIT {
-        let path = format!(in rt.alloc(); "{folder}/loads.{}.{}.json", first.number(), sample + 1)?;
+        let path = format!(in rt.alloc(); "{folder}/loads.0.{}.json", sample + 1)?;
         if !fs::exists(rt, path.as_str())? {
             return Ok(sample);
         }
@@ -176,7 +191,7 @@ fn add_all<R: Files + AllocGlobal + Clock + Eprint>(
     gathering: &mut Gathering,
     folder: &str,
     own: Option<&str>,
-    ranks: &[Rank],
+    ranks: RankSet,
     samples: u64,
 ) -> Result<(), Error> {
     add_ranks(rt, progress, gathering, folder, ranks, samples)?;
@@ -196,13 +211,15 @@ pub fn read_collected<R: Files + AllocGlobal + Clock + Eprint>(
 ) -> Result<Collected, Error>
     ensures { IfOk result (λ collected. length collected.snapshot.spread.items ≡ 64) }
 {
+    let file_system = file_system_of(rt, folder)?;
     let cluster = cluster_of(rt, folder)?;
-    let ranks = cluster.ranks.as_slice();
-    let samples = sample_count(rt, folder, ranks)?;
+    let samples = sample_count(rt, folder)?;
     let mut gathering = Gathering::new(rt.alloc())?;
+    let ranks = cluster.ranks;
     add_all(rt, progress, &mut gathering, folder, own, ranks, samples)?;
-    let snapshot = gathering.snapshot(samples, cluster.size)?;
+    let snapshot = gathering.snapshot(samples, ranks)?;
     Ok(Collected {
+        file_system,
         cluster,
         samples,
         snapshot,

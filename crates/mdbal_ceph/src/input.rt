@@ -1,20 +1,40 @@
 //! Which ranks may have a part.
-ghost use Rattle.std.specs.Prelude.{◌≡◌, ◌<◌, ◌&&◌, ℕ, nat_lt, true, IfSome, IsSomeAnd, Some};
+ghost use Rattle.std.specs.Prelude.{◌≡◌, ℕ, None, IfSome, Some};
+ghost use Rattle.std.specs.Option.{option_map};
 ghost use Rattle.mds_types.specs.RankSet.{has_rank};
+ghost use Rattle.mdbal_ceph.specs.Usable.{IsMask, all_ranks, cluster_mask, may_have_part};
 
+use ceph_dumps::{FileSystemRanks, common_ranks};
 use mds_types::RankSet;
 
-/// The ranks that may have a part: those of the mask that was asked for, else of the cluster's own, of so many ranks.
-pub fn ranks_of(asked: Option<RankSet>, own: Option<&str>, size: u8) -> Option<RankSet>
-    ensures asked { (mask : ℕ) → asked ≡ Some mask
-        → IsSomeAnd result (λ ranks. (rank : ℕ) → has_rank ranks rank ≡ (nat_lt rank size && has_rank mask rank)) }
-    ensures below { IfSome result (λ ranks. (rank : ℕ) → has_rank ranks rank ≡ true → rank < size) }
+/// The ranks that the cluster's own mask names, if it is one.
+fn named(text: &str) -> Option<RankSet>
+    ensures { result ≡ cluster_mask text.now }
 {
-    let all = RankSet::from_bits(u64::MAX);
-    let mask = match (asked, own) {
-        (Some(mask), _) => mask,
-        (None, None | Some("all" | "")) => all,
-        (None, Some(text)) => RankSet::parse(text).ok()?,
-    };
-    Some(mask.among(size))
+    if text == "" || text == "all" {
+        return Some(RankSet::from_bits(u64::MAX));
+    }
+    RankSet::parse(text).ok()
+}
+
+/// The mask that was asked for, or else the cluster's own; all ranks where there is none.
+pub fn mask_of(asked: Option<RankSet>, own: Option<&str>) -> Option<RankSet>
+    ensures mask { IfSome result (IsMask asked (option_map (λ text. text.now) own.entry)) }
+    ensures asked { (mask : ℕ) → asked ≡ Some mask → result ≡ Some mask }
+    ensures unset { asked ≡ None → own.entry ≡ None → result ≡ Some all_ranks }
+{
+    match (asked, own) {
+        (Some(mask), _) => Some(mask),
+        (None, None) => Some(RankSet::from_bits(u64::MAX)),
+        (None, Some(text)) => named(text),
+    }
+}
+
+/// The ranks of the mask that may have a part: they are to be there (`max_mds`), they are in the file system, and
+/// their daemons are active.
+pub fn ranks_of(mask: RankSet, cluster: &FileSystemRanks) -> RankSet
+    ensures { (rank : ℕ) → has_rank result rank ≡ may_have_part mask cluster.now rank }
+{
+    let wanted = mask.among(cluster.size);
+    common_ranks(wanted, common_ranks(cluster.ranks, cluster.active))
 }

@@ -1,16 +1,18 @@
 //! Plans, and writes what came of it.
-ghost use Rattle.std.specs.Prelude.{◌≡◌, ◌<◌, ◌≤◌, ◌+◌, ◌-◌, ◌*◌, ◌↔◌, ◌&&◌, ℕ, IfOk, IsOkAnd};
-ghost use Rattle.std.specs.Prelude.{IsTrue, Some, length, nat_lt, slice_index};
+ghost use Rattle.std.specs.Prelude.{◌≡◌, ◌<◌, ◌≤◌, ◌+◌, ◌-◌, ◌*◌, ◌↔◌, IfOk, IsOkAnd};
+ghost use Rattle.std.specs.Prelude.{IsTrue, length, slice_index, string_bytes};
+ghost use Rattle.std.specs.Option.{option_map};
 ghost use Rattle.mds_types.specs.Sums.{max_below};
-ghost use Rattle.mds_types.specs.RankSet.{has_rank};
 ghost use Rattle.ceph_snapshot.specs.Folding.{IsFolded};
 ghost use Rattle.mdbal_ceph.specs.Outcomes.{IsDecision, IsOutcome};
+ghost use Rattle.mdbal_ceph.specs.Usable.{AreUsable};
 
 use crate::collected::{Collected, read_collected};
-use crate::input::ranks_of;
+use crate::input::{mask_of, ranks_of};
 use crate::progress::Progress;
 use crate::settings::PlanSettings;
 use anyhow::{Context, Error, bail};
+use ceph_dumps::{FileSystem, FileSystemRanks};
 use ceph_plan::{Proposal, propose};
 use ceph_report::{
     Facts, Move, Sums, goals_of, greatest_now, make_json, make_own_list, make_picture,
@@ -41,8 +43,14 @@ struct Decision {
 /// What was planned, and of what.
 #[derive(Drop)]
 struct Outcome {
+    /// Which file system it is of.
+    file_system: FileSystem,
     /// How many ranks the file system is to have.
     size: u8,
+    /// The ranks that are in the file system.
+    there: RankSet,
+    /// Those of them whose daemons are active.
+    active: RankSet,
     /// The ranks that may have a part.
     ranks: RankSet,
     /// How many samples of heat each rank gave.
@@ -75,14 +83,11 @@ fn is_proposed(outcome: &Outcome, percent: u8) -> bool
 }
 
 /// The ranks that may have a part.
-fn usable(settings: &PlanSettings, collected: &Collected) -> Result<RankSet, Error>
-    ensures { (mask : ℕ) → settings.now.mask ≡ Some mask
-        → IfOk result (λ ranks. (rank : ℕ)
-        → has_rank ranks rank ≡ (nat_lt rank collected.now.cluster.size && has_rank mask rank)) }
+fn usable(settings: &PlanSettings, cluster: &FileSystemRanks) -> Result<RankSet, Error>
+    ensures { IfOk result (AreUsable settings.now.mask (option_map string_bytes cluster.now.mask) cluster.now) }
 {
-    let own = collected.cluster.mask.as_deref();
-    match ranks_of(settings.mask, own, collected.cluster.size) {
-        Some(ranks) => Ok(ranks),
+    match mask_of(settings.mask, cluster.mask.as_deref()) {
+        Some(mask) => Ok(ranks_of(mask, cluster)),
         None => bail!(
             "the mask of the cluster isn't -1, all or 0x and 1 to 16 digits: give --mask"
         ),
@@ -138,18 +143,29 @@ fn planned(alloc: Global, settings: &PlanSettings, collected: Collected) -> Resu
     requires { length collected.snapshot.spread.items ≡ 64 }
     ensures outcome { IfOk result (IsOutcome collected.snapshot.directories.items collected.snapshot.spread.items
         settings.now.parts) }
-    ensures ranks { IfOk result (λ outcome. (mask : ℕ) → settings.now.mask ≡ Some mask → (rank : ℕ)
-        → has_rank outcome.ranks rank ≡ (nat_lt rank collected.cluster.size && has_rank mask rank)) }
+    ensures ranks { IfOk result (λ outcome. AreUsable settings.now.mask
+        (option_map string_bytes collected.cluster.mask) collected.cluster outcome.ranks) }
+    ensures there { IfOk result (λ outcome. outcome.there ≡ collected.cluster.ranks) }
+    ensures active { IfOk result (λ outcome. outcome.active ≡ collected.cluster.active) }
+    ensures file_system { IfOk result (λ outcome. outcome.file_system ≡ collected.file_system) }
     ensures size { IfOk result (λ outcome. outcome.size ≡ collected.cluster.size) }
     ensures samples { IfOk result (λ outcome. outcome.samples ≡ collected.samples) }
 {
-    let ranks = usable(settings, &collected)?;
-    let (size, samples) = (collected.cluster.size, collected.samples);
-    let spread = collected.snapshot.spread;
-    let (directories, folded) = folded(alloc, collected.snapshot.directories)?;
+    let Collected {
+        file_system,
+        cluster,
+        samples,
+        snapshot,
+    } = collected;
+    let ranks = usable(settings, &cluster)?;
+    let spread = snapshot.spread;
+    let (directories, folded) = folded(alloc, snapshot.directories)?;
     let decision = decided(alloc, settings, ranks, &directories, &spread)?;
     Ok(Outcome {
-        size,
+        file_system,
+        size: cluster.size,
+        there: cluster.ranks,
+        active: cluster.active,
         ranks,
         samples,
         directories,

@@ -1,10 +1,10 @@
-use Rattle.std.proofs.Common.{◌≡◌, ◌<◌, ◌+◌, ◌++◌, ◌∷◌, [], ℕ, List, Some, length, slice_get, ap, sym, ◌∙◌, refl, subst, arith}
+use Rattle.std.proofs.Common.{◌≡◌, Bool, ◌<◌, ◌+◌, ◌++◌, ◌∷◌, [], ℕ, List, Some, length, slice_get, ap, sym, ◌∙◌, refl, subst, arith}
 use Rattle.std.proofs.lemmas.Grind.{common_steps}
 use Rattle.std.proofs.lemmas.List.{length_push}
 use Rattle.std.proofs.lemmas.Option.{slice_get_read}
 use Rattle.ceph_snapshot.specs.declared.directory.Directory.{Directory}
 use Rattle.ceph_snapshot.specs.declared.held.Held.{Held}
-use Rattle.ceph_snapshot.specs.Holding.{AreParentsFirst, IsHeld, held_at, parent_at}
+use Rattle.ceph_snapshot.specs.Holding.{AreParentsFirst, IsHeld, held_at, hold_below, parent_at}
 use Rattle.ceph_snapshot.proofs.Holders.{all_more, held_more, read_parent, read_step, root_held}
 use Rattle.ceph_snapshot.proofs.held.holds.Goals as goal
 use Rattle.ceph_snapshot.proofs.held.holds.Goals.{then-at-eq0, else-at-eq0+in-Some, else-at-eq0+in-None}
@@ -29,7 +29,7 @@ loop-at-preserved c =
           let above : held_at items c.index-directories-at.result.parent ≡ w.in-Some.above.now = grind (arith, common_steps, w.deref.ensures.value, w.in-Some.ensures.lookup) in
           held_more ds at w.in-Some.above.now hold later
           (subst (λ (h : Held). IsHeld ds (parent_at ds at) h) (ap (λ (k : ℕ). held_at items k) parent ∙ above) (c.loop-at.invariant.held first (parent_at ds at) up))
-          (w.hold-is ∙ (w.next_hold.ensures ∙ read_step ds at c.index-directories-at.result w.in-Some.above.now read))
+          (w.hold-is ∙ (w.next_hold.ensures ∙ (ap (λ (fixed : Bool). hold_below c.index-directories-at.result.pin fixed c.index-directories-at.result.now w.in-Some.above.now) w.is_fixed.ensures ∙ read_step ds at c.index-directories-at.result w.in-Some.above.now read)))
       | else-at-eq0+in-None w ↦
           let later : 0 < at = omega (arith, w.if-at-eq0.false) in
           let parent : parent_at ds at ≡ c.index-directories-at.result.parent = read_parent ds at c.index-directories-at.result read in

@@ -8,7 +8,7 @@ use Rattle.ceph_plan.specs.declared.choice.PartCount.{PartCount}
 use Rattle.ceph_plan.specs.declared.proposal.OwnPins.{OwnPins}
 use Rattle.ceph_plan.specs.declared.proposal.Proposal.{Proposal}
 use Rattle.ceph_plan.specs.Proposals.{IsProposal}
-use Rattle.ceph_report.specs.Amounts.{AreAmounts, goal_at, inodes_from, inodes_to}
+use Rattle.ceph_report.specs.Amounts.{AreAmounts, inodes_from, inodes_to}
 use Rattle.mdbal_ceph.proofs.Parents.{parents_first}
 use Rattle.mdbal_ceph.proofs.outcome.decided.Goals as goal
 
