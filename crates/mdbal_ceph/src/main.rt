@@ -6,14 +6,15 @@ mod input;
 mod outcome;
 mod progress;
 mod settings;
+mod writing;
 
 use anyhow::Error;
-use outcome::carry_out;
 use settings::{PlanSettings, settings_of};
 use std::env::Env;
 use std::process::ExitCode;
 use std::rt::{Clock, Files};
 use std::{env, io};
+use writing::carry_out;
 
 /// The words of the command line. One that isn't UTF-8 is an error.
 fn words<R: Env + AllocGlobal>(rt: &R) -> io::Result<Vec<String>> {
