@@ -38,6 +38,9 @@ pub enum DumpError {
     /// This line of a list of pins is no rank and path.
     #[error("line {0}: expected `RANK /PATH`")]
     Own(usize),
+    /// The file `complete` isn't the one line that the collector writes.
+    #[error("expected one line `NAME FSID`")]
+    Complete,
 }
 
 impl From<AllocError> for DumpError {

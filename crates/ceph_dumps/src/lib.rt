@@ -8,6 +8,7 @@
 pub mod bare_words;
 pub mod cluster;
 pub mod dump_error;
+pub mod file_system;
 mod json;
 pub mod listing;
 pub mod loads;
@@ -18,6 +19,7 @@ pub mod wide_bytes;
 
 pub use cluster::{FileSystemRanks, read_cluster};
 pub use dump_error::DumpError;
+pub use file_system::{FileSystem, read_complete};
 pub use listing::{ListedDir, read_listing};
 pub use loads::{FragmentHeat, read_loads};
 pub use own_list::read_own_list;

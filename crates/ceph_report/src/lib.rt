@@ -25,5 +25,5 @@ pub use own_list::make_own_list;
 pub use picture::make_picture;
 pub use pins::standing_pins;
 pub use pins_script::{MountedFileSystem, make_pins_script};
-pub use report::{Facts, greatest_now, make_report};
+pub use report::{Facts, hottest, hottest_bound, make_report};
 pub use script_error::ScriptError;

@@ -4,8 +4,8 @@ ghost use Rattle.std.specs.Prelude.{◌≡◌, ◌<◌, length, IfOk};
 use crate::progress::Progress;
 use anyhow::{Context, Error, bail};
 use ceph_dumps::{
-    DumpError, FileSystemRanks, read_cluster, read_listing, read_loads, read_own_list,
-    read_subtrees,
+    DumpError, FileSystem, FileSystemRanks, read_cluster, read_complete, read_listing, read_loads,
+    read_own_list, read_subtrees,
 };
 use ceph_snapshot::{Gathering, Snapshot};
 use mds_types::Rank;
@@ -20,6 +20,8 @@ const SAMPLE_LIMIT: u64 = 1000;
 /// What was collected.
 #[derive(Drop)]
 pub struct Collected {
+    /// Which file system it is of.
+    pub file_system: FileSystem,
     /// The ranks of the file system.
     pub cluster: FileSystemRanks,
     /// How many samples of heat each rank gave.
@@ -133,6 +135,15 @@ fn add_own<R: Files + AllocGlobal>(
     Ok(())
 }
 
+/// Which file system a folder is of. A folder that the collector didn't finish is refused.
+fn file_system_of<R: Files + AllocGlobal>(rt: &R, folder: &str) -> Result<FileSystem, Error> {
+    let path = format!(in rt.alloc(); "{folder}/complete")?;
+    match read_if_there(rt, path.as_str(), read_complete)? {
+        Some(found) => Ok(found),
+        None => bail!("{path}: there is no such file: ceph/collect did not finish"),
+    }
+}
+
 /// The ranks of the file system.
 fn cluster_of<R: Files + AllocGlobal>(rt: &R, folder: &str) -> Result<FileSystemRanks, Error> {
     let path = format!(in rt.alloc(); "{folder}/fs.json")?;
@@ -196,6 +207,7 @@ pub fn read_collected<R: Files + AllocGlobal + Clock + Eprint>(
 ) -> Result<Collected, Error>
     ensures { IfOk result (λ collected. length collected.snapshot.spread.items ≡ 64) }
 {
+    let file_system = file_system_of(rt, folder)?;
     let cluster = cluster_of(rt, folder)?;
     let ranks = cluster.ranks.as_slice();
     let samples = sample_count(rt, folder, ranks)?;
@@ -203,6 +215,7 @@ pub fn read_collected<R: Files + AllocGlobal + Clock + Eprint>(
     add_all(rt, progress, &mut gathering, folder, own, ranks, samples)?;
     let snapshot = gathering.snapshot(samples, cluster.size)?;
     Ok(Collected {
+        file_system,
         cluster,
         samples,
         snapshot,

@@ -8,6 +8,7 @@ use crate::collected::Collected;
 use crate::input::ranks_of;
 use crate::settings::PlanSettings;
 use anyhow::{Error, bail};
+use ceph_dumps::FileSystem;
 use ceph_plan::{Proposal, propose};
 use ceph_report::{Sums, goals_of, own_pins, sums_of};
 use ceph_snapshot::{Directory, Held, SnapshotError, fold, held_heat, holds, rows_of};
@@ -33,6 +34,8 @@ pub struct Decision {
 /// What was planned, and of what.
 #[derive(Drop)]
 pub struct Outcome {
+    /// Which file system it is of.
+    pub file_system: FileSystem,
     /// How many ranks the file system is to have.
     pub size: u8,
     /// The ranks that may have a part.
@@ -117,15 +120,17 @@ pub fn planned(
         settings.now.parts) }
     ensures ranks { IfOk result (λ outcome. (mask : ℕ) → settings.now.mask ≡ Some mask → (rank : ℕ)
         → has_rank outcome.ranks rank ≡ (nat_lt rank collected.cluster.size && has_rank mask rank)) }
+    ensures file_system { IfOk result (λ outcome. outcome.file_system ≡ collected.file_system) }
     ensures size { IfOk result (λ outcome. outcome.size ≡ collected.cluster.size) }
     ensures samples { IfOk result (λ outcome. outcome.samples ≡ collected.samples) }
 {
     let ranks = usable(settings, &collected)?;
     let (size, samples) = (collected.cluster.size, collected.samples);
-    let spread = collected.snapshot.spread;
+    let (file_system, spread) = (collected.file_system, collected.snapshot.spread);
     let (directories, folded) = folded(alloc, collected.snapshot.directories)?;
     let decision = decided(alloc, settings, ranks, &directories, &spread)?;
     Ok(Outcome {
+        file_system,
         size,
         ranks,
         samples,

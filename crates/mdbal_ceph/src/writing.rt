@@ -1,37 +1,62 @@
-//! Writes what came of a plan.
-ghost use Rattle.std.specs.Prelude.{◌≡◌, ◌<◌, ◌≤◌, ◌-◌, ◌*◌, ◌↔◌, IsTrue, length, slice_index};
+//! What is written of a plan: the text for standard output, and the files.
+ghost use Rattle.std.specs.Prelude.{◌≡◌, ◌<◌, ◌≤◌, ◌-◌, ◌*◌, ◌↔◌, IfOk, IsTrue, length, slice_index, string_bytes};
 ghost use Rattle.mds_types.specs.Sums.{max_below};
+ghost use Rattle.ceph_report.specs.PinsScript.{pins_script};
+ghost use Rattle.mdbal_ceph.specs.Writing.{ArePinFiles, IsWorthIt, IsWritten, proposed_changes};
 
-use crate::collected::read_collected;
-use crate::outcome::{Outcome, planned};
-use crate::progress::Progress;
+use crate::outcome::Outcome;
 use crate::settings::PlanSettings;
-use anyhow::{Context, Error};
+use anyhow::{Error, bail};
+use ceph_plan::PinChange;
 use ceph_report::{
-    Facts, Move, greatest_now, make_json, make_own_list, make_picture, make_pins_script,
-    make_report, make_script, moves_of, standing_pins,
+    Facts, MountedFileSystem, Move, ScriptError, changes_back, hottest, make_json, make_own_list,
+    make_picture, make_pins_script, make_report, make_script, moves_of, standing_pins,
 };
+use ceph_snapshot::Directory;
 use std::alloc::{AllocError, Global};
-use std::fs;
-use std::rt::{Clock, Files};
+
+/// The files of `--pins`.
+#[derive(Drop)]
+pub struct PinFiles {
+    /// The script that makes the changes.
+    pub script: Vec<u8>,
+    /// The script that undoes them.
+    pub back: Vec<u8>,
+    /// The list of the pins of this program once the first script has run.
+    pub own: Vec<u8>,
+}
+
+/// What is written of a plan.
+#[derive(Drop)]
+pub struct Output {
+    /// The report, or the plan as JSON.
+    pub text: String,
+    /// Whether the plan is worth a proposal.
+    pub is_proposed: bool,
+    /// The files of `--pins`, where it is given.
+    pub pins: Option<PinFiles>,
+    /// The picture, where `--svg` is given.
+    pub picture: Option<String>,
+    /// The directories as a script of `mdbal`, where `--script` is given.
+    pub script: Option<String>,
+}
 
 /// Whether the hottest rank gets cooler by at least so many percent.
 fn is_worth_it(now: u64, planned: u64, percent: u8) -> bool
-    ensures { IsTrue result ↔ ((planned < now) × (now * percent ≤ (now - planned) * 100)) }
+    ensures { IsTrue result ↔ IsWorthIt now planned percent }
 {
     let gain = now.saturating_sub(planned);
     gain > 0 && u128::from(gain) * 100 >= u128::from(now) * u128::from(percent)
 }
 
-/// Whether the plan is worth a proposal: the hottest rank gets cooler by at least so many percent.
+/// Whether the plan is worth a proposal: the hottest of all ranks gets cooler by at least so many percent.
 fn is_proposed(outcome: &Outcome, percent: u8) -> bool
-    ensures { let now = max_below (length outcome.now.decision.sums.now.items)
-        (slice_index outcome.now.decision.sums.now.items) in let
-        planned = outcome.now.decision.proposal.plan.packing.greatest in IsTrue result
-        ↔ ((planned < now) × (now * percent ≤ (now - planned) * 100)) }
+    ensures { let now = outcome.now.decision.sums.now.items in let
+        planned = outcome.now.decision.proposal.plan.packing.load.items in IsTrue result
+        ↔ IsWorthIt (max_below (length now) (slice_index now)) (max_below (length planned) (slice_index planned)) percent }
 {
-    let greatest = outcome.decision.proposal.plan.packing.greatest;
-    is_worth_it(greatest_now(&outcome.decision.sums), greatest, percent)
+    let planned = hottest(&outcome.decision.proposal.plan.packing.load);
+    is_worth_it(hottest(&outcome.decision.sums.now), planned, percent)
 }
 
 /// What the report tells of an outcome.
@@ -61,8 +86,13 @@ fn facts_of<'a>(outcome: &'a Outcome, moves: &'a [Move], standing: usize) -> Fac
     }
 }
 
-/// The report, or the same as JSON.
-fn told(alloc: Global, outcome: &Outcome, is_json: bool) -> Result<String, AllocError> {
+/// The report, or the plan as JSON.
+fn told(
+    alloc: Global,
+    outcome: &Outcome,
+    is_json: bool,
+    is_proposed: bool,
+) -> Result<String, AllocError> {
     let (directories, holds) = (&outcome.directories, &outcome.decision.holds);
     let proposal = &outcome.decision.proposal;
     let (rows, changes) = (&proposal.rows, &proposal.changes);
@@ -70,103 +100,94 @@ fn told(alloc: Global, outcome: &Outcome, is_json: bool) -> Result<String, Alloc
     let moves = moves_of(alloc, directories, holds, rows, changes)?;
     let facts = facts_of(outcome, &moves, standing);
     if is_json {
-        make_json(alloc, &facts, changes)
+        make_json(alloc, &facts, changes_of(outcome, is_proposed), is_proposed)
     } else {
-        make_report(alloc, &facts)
+        make_report(alloc, &facts, is_proposed)
     }
 }
 
-/// Writes a file.
-fn write_file<R: Files>(rt: &R, file: &str, content: &[u8]) -> Result<(), Error> {
-    fs::write(rt, file, content).context(format_args!("{file}"))
+/// The changes that are proposed: none where the plan isn't worth a proposal.
+fn changes_of(outcome: &Outcome, is_proposed: bool) -> &[PinChange]
+    ensures { result.now ≡ proposed_changes outcome.now is_proposed }
+{
+    if is_proposed {
+        &outcome.decision.proposal.changes
+    } else {
+        &[]
+    }
 }
 
-/// Writes the script of the changes, and the list of the pins that stand once it has run.
-fn write_pins<R: Files + AllocGlobal>(
-    rt: &R,
-    file: &str,
+/// The script of these changes.
+fn script_of(
+    alloc: Global,
+    mounted: MountedFileSystem,
+    directories: &[Directory],
+    changes: &[PinChange],
+) -> Result<Vec<u8>, Error>
+    ensures { IfOk result (λ script. script.items ≡ pins_script mounted.entry.mount.now mounted.entry.name.now
+        mounted.entry.fsid.now directories.now changes.now) }
+{
+    match make_pins_script(alloc, mounted, directories, changes) {
+        Ok(script) => Ok(script),
+        Err(ScriptError::Memory) => bail!("out of memory"),
+        Err(ScriptError::Nul) => bail!("a path or the mount has a NUL byte"),
+        Err(ScriptError::NoDirectory(row)) => bail!(
+            "a change names directory {row}, which does not exist"
+        ),
+    }
+}
+
+/// The files of `--pins`.
+fn pin_files(
+    alloc: Global,
     mount: &str,
     outcome: &Outcome,
-) -> Result<(), Error> {
-    let directories = outcome.directories.as_slice();
-    let proposal = &outcome.decision.proposal;
-    let (rows, changes) = (&proposal.rows, &proposal.changes);
-    let script = make_pins_script(rt.alloc(), directories, changes, mount.as_bytes())?;
-    write_file(rt, file, &script)?;
-    let own = format!(in rt.alloc(); "{file}.own")?;
-    let list = make_own_list(rt.alloc(), directories, rows, changes)?;
-    write_file(rt, own.as_str(), &list)
-}
-
-/// Writes the picture that is asked for.
-fn write_picture<R: Files + AllocGlobal>(
-    rt: &R,
-    file: &str,
-    outcome: &Outcome,
-) -> Result<(), Error> {
-    let goals = outcome.decision.goals.as_slice();
-    let picture = make_picture(rt.alloc(), &outcome.directories, goals)?;
-    write_file(rt, file, picture.as_bytes())
-}
-
-/// Writes the script of `mdbal` that is asked for.
-fn write_script<R: Files + AllocGlobal>(
-    rt: &R,
-    file: &str,
-    outcome: &Outcome,
-) -> Result<(), Error> {
-    let holds = outcome.decision.holds.as_slice();
-    let script = make_script(rt.alloc(), &outcome.directories, holds, outcome.size)?;
-    write_file(rt, file, script.as_bytes())
-}
-
-/// Writes the files that are asked for. The script of the pins isn't written where nothing is proposed.
-fn write_files<R: Files + AllocGlobal>(
-    rt: &R,
-    settings: &PlanSettings,
-    outcome: &Outcome,
     is_proposed: bool,
-) -> Result<(), Error> {
-    if let Some(file) = settings.svg {
-        write_picture(rt, file, outcome)?;
-    }
-    if let Some(file) = settings.script {
-        write_script(rt, file, outcome)?;
-    }
-    match settings.pins {
-        Some(file) if is_proposed => write_pins(rt, file, settings.mount, outcome),
-        _ => Ok(()),
-    }
+) -> Result<PinFiles, Error>
+    ensures { IfOk result (ArePinFiles mount.now outcome.now (proposed_changes outcome.now is_proposed)) }
+{
+    let directories = outcome.directories.as_slice();
+    let rows = outcome.decision.proposal.rows.as_slice();
+    let changes = changes_of(outcome, is_proposed);
+    let mounted = MountedFileSystem {
+        mount: mount.as_bytes(),
+        name: outcome.file_system.name.as_bytes(),
+        fsid: outcome.file_system.fsid.as_bytes(),
+    };
+    let back = changes_back(alloc, rows, changes)?;
+    Ok(PinFiles {
+        script: script_of(alloc, mounted, directories, changes)?,
+        back: script_of(alloc, mounted, directories, &back)?,
+        own: make_own_list(alloc, directories, rows, changes)?,
+    })
 }
 
-/// What is said where nothing is proposed.
-const NOTHING: &str =
-    "\nnothing is proposed: the hottest rank gets cooler by less than --least-gain asks\n";
-
-/// Writes the files that are asked for, and gives the report.
-fn written<R: Files + AllocGlobal>(
-    rt: &R,
-    settings: &PlanSettings,
-    outcome: &Outcome,
-) -> Result<String, Error> {
+/// What is written of a plan.
+pub fn written(alloc: Global, settings: &PlanSettings, outcome: &Outcome) -> Result<Output, Error>
+    ensures { IfOk result (IsWritten settings.now outcome.now) }
+{
     let is_proposed = is_proposed(outcome, settings.least_gain);
-    let mut text = told(rt.alloc(), outcome, settings.is_json)?;
-    write_files(rt, settings, outcome, is_proposed)?;
-    if !is_proposed && !settings.is_json {
-        text.push_str(NOTHING)?;
-    }
-    Ok(text)
-}
-
-/// Reads what was collected, plans, writes the files that are asked for, and gives the report.
-pub fn carry_out<R: Files + AllocGlobal + Clock + Eprint>(
-    rt: &R,
-    settings: &PlanSettings,
-) -> Result<String, Error> {
-    let mut progress = Progress::begin(rt);
-    let collected = read_collected(rt, &mut progress, settings.folder, settings.own)?;
-    progress.tell(rt, "planning");
-    let outcome = planned(rt.alloc(), settings, collected)?;
-    progress.tell(rt, "writing");
-    written(rt, settings, &outcome)
+    let text = told(alloc, outcome, settings.is_json, is_proposed)?;
+    let pins = match settings.pins {
+        Some(_) => Some(pin_files(alloc, settings.mount, outcome, is_proposed)?),
+        None => None,
+    };
+    let picture = match settings.svg {
+        Some(_) => Some(make_picture(alloc, &outcome.directories, &outcome.decision.goals)?),
+        None => None,
+    };
+    let script = match settings.script {
+        Some(_) => {
+            let holds = outcome.decision.holds.as_slice();
+            Some(make_script(alloc, &outcome.directories, holds, outcome.size)?)
+        }
+        None => None,
+    };
+    Ok(Output {
+        text,
+        is_proposed,
+        pins,
+        picture,
+        script,
+    })
 }

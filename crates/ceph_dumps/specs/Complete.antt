@@ -1,0 +1,17 @@
+-- The line of the file that says which file system was collected.
+use Rattle.std.specs.Prelude.{◌≡◌, ◌==◌, ◌&&◌, ◌||◌, ◌<◌, ◌++◌, ℕ, Bool, true, List, [], ◌∷◌, length, slice_index, nat_le}
+
+-- a letter or digit of ASCII, an underscore, a dot or a hyphen
+abbrev pub is_word_byte : ℕ → Bool
+is_word_byte c =
+    (nat_le 48 c && nat_le c 57) || ((nat_le 65 c && nat_le c 90) || ((nat_le 97 c && nat_le c 122)
+    || ((c == 95) || ((c == 46) || (c == 45)))))
+
+-- one or more of these
+pub record IsWord (text : List ℕ) : Type 0 where
+  pub some : 0 < length text
+  pub bytes : (i : ℕ) → i < length text → is_word_byte (slice_index text i) ≡ true
+
+-- the name, a blank, the identity and a newline
+abbrev pub line_of : List ℕ → List ℕ → List ℕ
+line_of name fsid = name ++ (32 ∷ (fsid ++ (10 ∷ [])))
