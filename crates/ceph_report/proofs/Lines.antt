@@ -6,8 +6,8 @@ use Rattle.std.proofs.lemmas.List.{flat_map_more, take_more}
 use Rattle.std.proofs.lemmas.List.Elements.{All-append}
 use Rattle.ceph_plan.specs.declared.row.PinChange.{PinChange}
 use Rattle.ceph_snapshot.specs.declared.directory.Directory.{Directory}
-use Rattle.ceph_report.specs.OwnList.{line_of, own_lines}
-use Rattle.ceph_report.specs.PinsScript.{HasNoNul, IsWritable, change_line, path_at, pins_script, variable_lines}
+use Rattle.ceph_report.specs.OwnList.{pin_line_of, own_lines}
+use Rattle.ceph_report.specs.PinsScript.{HasNoNul, IsChangeWritable, change_line, path_at, pins_script, variable_lines}
 use Rattle.ceph_report.specs.declared.pins_script.TheConstants.{HEAD, CHECKS, FOOT}
 
 -- one more element's text
@@ -40,5 +40,5 @@ path_read (first ∷ directories) (suc i) one inside is = path_read directories 
 pub own_lines_same : (directories : List Directory) (f g : ℕ → Option ℕ) (n : ℕ) → ((i : ℕ) → i < n → f i ≡ g i) → own_lines directories f n ≡ own_lines directories g n
 own_lines_same directories f g zero same = refl
 own_lines_same directories f g (suc n) same =
-    ap (λ (pin : Option ℕ). line_of pin (slice_get directories n) ++ own_lines directories f n) (same n (omega arith))
-    ∙ ap (λ (text : List ℕ). line_of (g n) (slice_get directories n) ++ text) (own_lines_same directories f g n (λ i l. same i (omega (arith, l))))
+    ap (λ (pin : Option ℕ). pin_line_of pin (slice_get directories n) ++ own_lines directories f n) (same n (omega arith))
+    ∙ ap (λ (text : List ℕ). pin_line_of (g n) (slice_get directories n) ++ text) (own_lines_same directories f g n (λ i l. same i (omega (arith, l))))

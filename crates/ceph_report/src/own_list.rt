@@ -1,7 +1,7 @@
 //! The list of the pins that this program set: a line `RANK NAME` each, with names as `getfattr` writes them.
 ghost use Rattle.std.specs.Prelude.{◌≡◌, ◌++◌, IfOk, None, OnOk, slice_get, slice_index_or};
 ghost use Rattle.std.specs.List.{flat_map};
-ghost use Rattle.ceph_report.specs.OwnList.{line_of, name_byte, own_line, own_list};
+ghost use Rattle.ceph_report.specs.OwnList.{pin_line_of, name_byte, own_line, own_list};
 
 use crate::pins::pins_after;
 use ceph_plan::{PinChange, PinRow};
@@ -51,7 +51,7 @@ fn push_pin(
     at: usize,
     pin: Option<Rank>,
 ) -> Result<(), AllocError>
-    ensures { OnOk result (list.new.items ≡ list.old.items ++ line_of pin (slice_get directories.now at)) }
+    ensures { OnOk result (list.new.items ≡ list.old.items ++ pin_line_of pin (slice_get directories.now at)) }
 {
     match (pin, directories.get(at)) {
         (Some(rank), Some(directory)) => push_line(alloc, list, rank, &directory.path),

@@ -4,7 +4,7 @@
 ghost use Rattle.std.specs.Prelude.{◌≡◌, ◌++◌, All, IfErr, IfOk, OnOk};
 ghost use Rattle.std.specs.List.{flat_map};
 ghost use Rattle.ceph_plan.specs.Words.{quoted_word};
-ghost use Rattle.ceph_report.specs.PinsScript.{AreWritable, HasNoNul, IsWritable, change_line, pin_line};
+ghost use Rattle.ceph_report.specs.PinsScript.{AreWritable, HasNoNul, IsChangeWritable, change_line, pin_line};
 ghost use Rattle.ceph_report.specs.PinsScript.{pin_text, pins_script, variable_lines};
 ghost use Rattle.ceph_report.specs.declared.script_error.ScriptError.TheVariants as cause;
 
@@ -30,7 +30,7 @@ const HEAD: &str = "#!/bin/sh
 # Sets CephFS export pins: new pins first, the deepest before those above it. Then it removes the pins of an earlier
 # plan that are no longer wanted, from the top down.
 # usage: sh FILE [-n]    With -n the script only prints what it would do.
-# Status 0: done. 1: this is another file system, a pin failed, or no directory is there. 2: the command line is refused.
+# Status 0: done. 1: another file system, a pin failed, or every directory is gone. 2: the command line is refused.
 LC_ALL=C; export LC_ALL
 only_print= changed=0 gone=0 failed=0
 case $#:${1-} in
@@ -134,7 +134,7 @@ fn push_change(
     change: PinChange,
 ) -> Result<(), ScriptError>
     ensures line { OnOk result (script.new.items ≡ script.old.items ++ change_line mount.now directories.now change) }
-    ensures refused { HasNoNul mount.now → IsWritable directories.now change
+    ensures refused { HasNoNul mount.now → IsChangeWritable directories.now change
         → IfErr result (λ error. error ≡ cause.Memory) }
 {
     let Some(directory) = directories.get(change.row as usize) else {
@@ -155,7 +155,7 @@ fn push_changes(
 ) -> Result<(), ScriptError>
     ensures lines { OnOk result (script.new.items ≡ script.old.items
         ++ flat_map (change_line mount.now directories.now) changes.now) }
-    ensures refused { HasNoNul mount.now → All (IsWritable directories.now) changes.now
+    ensures refused { HasNoNul mount.now → All (IsChangeWritable directories.now) changes.now
         → IfErr result (λ error. error ≡ cause.Memory) }
 {
     for change in changes {
@@ -172,8 +172,8 @@ fn push_variables(
 ) -> Result<(), ScriptError>
     ensures lines { OnOk result (script.new.items ≡ script.old.items
         ++ variable_lines mounted.entry.mount.now mounted.entry.name.now mounted.entry.fsid.now) }
-    ensures refused { HasNoNul mounted.entry.mount.now → HasNoNul mounted.entry.name.now → HasNoNul mounted.entry.fsid.now
-        → IfErr result (λ error. error ≡ cause.Memory) }
+    ensures refused { HasNoNul mounted.entry.mount.now → HasNoNul mounted.entry.name.now
+        → HasNoNul mounted.entry.fsid.now → IfErr result (λ error. error ≡ cause.Memory) }
 {
     script.extend_from_slice(b"mount=")?;
     push_word(alloc, script, mounted.mount)?;

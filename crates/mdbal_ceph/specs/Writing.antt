@@ -9,7 +9,7 @@ use Rattle.ceph_report.specs.PinsScript.{pins_script}
 use Rattle.mdbal_ceph.specs.declared.outcome.Outcome.{Outcome}
 use Rattle.mdbal_ceph.specs.declared.settings.PlanSettings.{PlanSettings}
 use Rattle.mdbal_ceph.specs.declared.writing.PinFiles.{PinFiles}
-use Rattle.mdbal_ceph.specs.declared.writing.Output.{Output}
+use Rattle.mdbal_ceph.specs.declared.writing.PlanOutput.{PlanOutput}
 
 -- the hottest rank gets cooler, and by at least so many percent
 abbrev pub IsWorthIt : ℕ → ℕ → ℕ → Type 0
@@ -37,7 +37,7 @@ pub record ArePinFiles (mount : List ℕ) (outcome : Outcome) (changes : List Pi
 
 -- the plan is proposed where the hottest of all ranks gets cooler by the percentage that is asked for, and the files of
 -- the pins are there where they are asked for, with the changes that are proposed
-pub record IsWritten (settings : PlanSettings) (outcome : Outcome) (output : Output) : Type 0 where
+pub record IsWritten (settings : PlanSettings) (outcome : Outcome) (output : PlanOutput) : Type 0 where
   pub proposed : IsTrue output.is_proposed
       ↔ IsWorthIt (hottest outcome.decision.sums.now.items) (hottest outcome.decision.proposal.plan.packing.load.items)
       settings.least_gain

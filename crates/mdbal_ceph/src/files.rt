@@ -4,7 +4,7 @@ use crate::collected::read_collected;
 use crate::outcome::planned;
 use crate::progress::Progress;
 use crate::settings::PlanSettings;
-use crate::writing::{Output, PinFiles, written};
+use crate::writing::{PlanOutput, PinFiles, written};
 use anyhow::{Context, Error};
 use std::fs;
 use std::rt::{Clock, Files};
@@ -35,7 +35,7 @@ fn write_text<R: Files>(rt: &R, file: Option<&str>, text: Option<&String>) -> Re
 fn write_files<R: Files + AllocGlobal>(
     rt: &R,
     settings: &PlanSettings,
-    output: &Output,
+    output: &PlanOutput,
 ) -> Result<(), Error> {
     write_text(rt, settings.svg, output.picture.as_ref())?;
     write_text(rt, settings.script, output.script.as_ref())?;
@@ -49,7 +49,7 @@ fn write_files<R: Files + AllocGlobal>(
 pub fn carry_out<R: Files + AllocGlobal + Clock + Eprint>(
     rt: &R,
     settings: &PlanSettings,
-) -> Result<Output, Error> {
+) -> Result<PlanOutput, Error> {
     let mut progress = Progress::begin(rt);
     let collected = read_collected(rt, &mut progress, settings.folder, settings.own)?;
     progress.tell(rt, "planning");

@@ -33,7 +33,7 @@ pub struct Decision {
 
 /// What was planned, and of what.
 #[derive(Drop)]
-pub struct Outcome {
+pub(crate) struct Outcome {
     /// Which file system it is of.
     pub file_system: FileSystem,
     /// How many ranks the file system is to have.

@@ -1,8 +1,7 @@
 //! What is written of a plan: the text for standard output, and the files.
-ghost use Rattle.std.specs.Prelude.{◌≡◌, ◌<◌, ◌≤◌, ◌-◌, ◌*◌, ◌↔◌, IfOk, IsTrue, length, slice_index, string_bytes};
-ghost use Rattle.mds_types.specs.Sums.{max_below};
+ghost use Rattle.std.specs.Prelude.{◌≡◌, ◌↔◌, IfOk, IsTrue, length};
 ghost use Rattle.ceph_report.specs.PinsScript.{pins_script};
-ghost use Rattle.mdbal_ceph.specs.Writing.{ArePinFiles, IsWorthIt, IsWritten, proposed_changes};
+ghost use Rattle.mdbal_ceph.specs.Writing.{ArePinFiles, IsWorthIt, IsWritten, hottest as hottest_of, proposed_changes};
 
 use crate::outcome::Outcome;
 use crate::settings::PlanSettings;
@@ -28,7 +27,7 @@ pub struct PinFiles {
 
 /// What is written of a plan.
 #[derive(Drop)]
-pub struct Output {
+pub struct PlanOutput {
     /// The report, or the plan as JSON.
     pub text: String,
     /// Whether the plan is worth a proposal.
@@ -51,9 +50,8 @@ fn is_worth_it(now: u64, planned: u64, percent: u8) -> bool
 
 /// Whether the plan is worth a proposal: the hottest of all ranks gets cooler by at least so many percent.
 fn is_proposed(outcome: &Outcome, percent: u8) -> bool
-    ensures { let now = outcome.now.decision.sums.now.items in let
-        planned = outcome.now.decision.proposal.plan.packing.load.items in IsTrue result
-        ↔ IsWorthIt (max_below (length now) (slice_index now)) (max_below (length planned) (slice_index planned)) percent }
+    ensures { IsTrue result ↔ IsWorthIt (hottest_of outcome.now.decision.sums.now.items)
+        (hottest_of outcome.now.decision.proposal.plan.packing.load.items) percent }
 {
     let planned = hottest(&outcome.decision.proposal.plan.packing.load);
     is_worth_it(hottest(&outcome.decision.sums.now), planned, percent)
@@ -163,7 +161,7 @@ fn pin_files(
 }
 
 /// What is written of a plan.
-pub fn written(alloc: Global, settings: &PlanSettings, outcome: &Outcome) -> Result<Output, Error>
+pub fn written(alloc: Global, settings: &PlanSettings, outcome: &Outcome) -> Result<PlanOutput, Error>
     ensures { IfOk result (IsWritten settings.now outcome.now) }
 {
     let is_proposed = is_proposed(outcome, settings.least_gain);
@@ -183,7 +181,7 @@ pub fn written(alloc: Global, settings: &PlanSettings, outcome: &Outcome) -> Res
         }
         None => None,
     };
-    Ok(Output {
+    Ok(PlanOutput {
         text,
         is_proposed,
         pins,
