@@ -4,7 +4,7 @@ use crate::collected::read_collected;
 use crate::outcome::planned;
 use crate::progress::Progress;
 use crate::settings::PlanSettings;
-use crate::writing::{PlanOutput, PinFiles, written};
+use crate::writing::{PinFiles, PlanOutput, written};
 use anyhow::{Context, Error};
 use std::fs;
 use std::rt::{Clock, Files};

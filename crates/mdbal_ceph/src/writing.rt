@@ -161,7 +161,11 @@ fn pin_files(
 }
 
 /// What is written of a plan.
-pub fn written(alloc: Global, settings: &PlanSettings, outcome: &Outcome) -> Result<PlanOutput, Error>
+pub fn written(
+    alloc: Global,
+    settings: &PlanSettings,
+    outcome: &Outcome,
+) -> Result<PlanOutput, Error>
     ensures { IfOk result (IsWritten settings.now outcome.now) }
 {
     let is_proposed = is_proposed(outcome, settings.least_gain);
