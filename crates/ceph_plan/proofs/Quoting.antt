@@ -4,10 +4,7 @@ use Rattle.std.specs.List.{flat_map}
 use Rattle.std.proofs.lemmas.Bool.{cases_Bool, eq-eqb, eqb-true, ne_eqb, both_ways}
 use Rattle.std.proofs.lemmas.List.{append_assoc, flat_map_more, take_more}
 use Rattle.std.proofs.lemmas.List.Elements.{All-head, All-tail}
-use Rattle.ceph_plan.specs.Words.{Plain, Quoted, is_end, ends_word, read_word, with_byte, IsWordFor}
-
-abbrev pub escaped : ℕ → List ℕ
-escaped c = cond (eqb c 39) (39 ∷ 92 ∷ 39 ∷ 39 ∷ []) (c ∷ [])
+use Rattle.ceph_plan.specs.Words.{Plain, Quoted, escaped, is_end, ends_word, read_word, with_byte, IsWordFor}
 
 -- a quote in quotes is read as one
 reads_quote : (text : List ℕ) → read_word Quoted (39 ∷ 92 ∷ 39 ∷ 39 ∷ text) ≡ with_byte 39 (read_word Quoted text)

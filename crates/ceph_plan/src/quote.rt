@@ -1,13 +1,15 @@
 //! A word in single quotes.
-ghost use Rattle.std.specs.Prelude.{◌<◌, All, IfOk};
-ghost use Rattle.ceph_plan.specs.Words.{IsWordFor};
+ghost use Rattle.std.specs.Prelude.{◌≡◌, ◌<◌, All, IfOk};
+ghost use Rattle.ceph_plan.specs.Words.{IsWordFor, quoted_word};
 
 use std::alloc::{AllocError, Global};
 
 /// A word that `sh` reads as these bytes: they stand in single quotes, and each single quote among them as `'\''`.
 pub fn quoted(alloc: Global, bytes: &[u8]) -> Result<Vec<u8>, AllocError>
     requires { All (λ byte. 0 < byte) bytes.now }
-    ensures { IfOk result (λ word. IsWordFor bytes.now word.items) }
+    ensures word { IfOk result (λ word. word.items ≡ quoted_word bytes.now) }
+    // sh reads the word as the bytes
+    ensures read { IfOk result (λ word. IsWordFor bytes.now word.items) }
 {
     let mut word = Vec::with_capacity(alloc, 2)?;
     word.push(b'\'')?;

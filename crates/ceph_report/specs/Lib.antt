@@ -1,3 +1,6 @@
 pub mod Amounts
+pub mod Back
+pub mod OwnList
 pub mod OwnPins
+pub mod PinsScript
 pub mod Standing

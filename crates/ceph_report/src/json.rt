@@ -2,7 +2,7 @@
 //!
 //! A path needn't be UTF-8: each of its bytes is one character there, U+0000 to U+00FF. Heat is in thousandths.
 
-use crate::report::{Facts, is_told, number_at};
+use crate::report::{Facts, hottest, hottest_bound, is_told, number_at};
 use crate::writer::TextWriter;
 use ceph_plan::PinChange;
 use ceph_snapshot::Directory;
@@ -80,14 +80,17 @@ pub fn make_json(
     alloc: Global,
     facts: &Facts,
     changes: &[PinChange],
+    is_proposed: bool,
 ) -> Result<String, AllocError> {
     let mut text = TextWriter::new(alloc);
     let packing = &facts.plan.packing;
-    text.number("{\"directories\":", facts.directories.len() as u64);
+    text.text("{\"format\":1,\"proposed\":");
+    text.text(if is_proposed { "true" } else { "false" });
+    text.number(",\n\"directories\":", facts.directories.len() as u64);
     text.number(",\"folded\":", facts.folded as u64);
     text.number(",\"samples\":", facts.samples);
-    text.number(",\n\"greatest\":", packing.greatest);
-    text.number(",\"bound\":", packing.bound);
+    text.number(",\n\"greatest\":", hottest(&packing.load));
+    text.number(",\"bound\":", hottest_bound(packing.bound, facts.pinned));
     text.number(",\"inodes_moved\":", facts.plan.moved);
     text.number(",\"pins_standing\":", facts.standing as u64);
     text.text(",\n\"ranks\":[");

@@ -2,6 +2,7 @@
 //! the same directories as a script of `mdbal`.
 #![tactic(auto)]
 
+pub mod back;
 pub mod foreign;
 pub mod json;
 pub mod mdbal_script;
@@ -11,9 +12,11 @@ pub mod picture;
 pub mod pins;
 pub mod pins_script;
 pub mod report;
+pub mod script_error;
 pub mod shown;
 mod writer;
 
+pub use back::changes_back;
 pub use foreign::own_pins;
 pub use json::make_json;
 pub use mdbal_script::make_script;
@@ -21,5 +24,6 @@ pub use moves::{Move, Sums, goals_of, moves_of, sums_of};
 pub use own_list::make_own_list;
 pub use picture::make_picture;
 pub use pins::standing_pins;
-pub use pins_script::make_pins_script;
-pub use report::{Facts, greatest_now, make_report};
+pub use pins_script::{MountedFileSystem, make_pins_script};
+pub use report::{Facts, hottest, hottest_bound, make_report};
+pub use script_error::ScriptError;

@@ -1,5 +1,5 @@
 //! The report, for people.
-ghost use Rattle.std.specs.Prelude.{◌≡◌, ◌<◌, ◌↔◌, length, slice_index, IsTrue};
+ghost use Rattle.std.specs.Prelude.{◌≡◌, ◌<◌, ◌↔◌, length, max, slice_index, IsTrue};
 ghost use Rattle.mds_types.specs.Sums.{max_below};
 ghost use Rattle.mds_types.specs.declared.limits.TheConstants.{HEAT_LIMIT};
 
@@ -40,15 +40,23 @@ pub struct Facts<'a> {
 /// How many moves are told one by one.
 const MOVES_TOLD: usize = 40;
 
-/// The greatest heat of a rank now, in thousandths.
-pub fn greatest_now(sums: &Sums) -> u64
-    ensures { result ≡ max_below (length sums.entry.now.now.items) (slice_index sums.entry.now.now.items) }
+/// The heat of the hottest rank, in thousandths, where `heats[r]` is the heat of rank r.
+pub fn hottest(heats: &[u64]) -> u64
+    ensures { result ≡ max_below (length heats.now) (slice_index heats.now) }
 {
     let mut greatest = 0;
-    for heat in sums.now.as_slice() {
+    for heat in heats {
         greatest = (*heat).max(greatest);
     }
     greatest
+}
+
+/// What the hottest of all ranks can't get below, in thousandths: the bound of the ranks that may have a part, and the
+/// most that is pinned to any rank.
+pub fn hottest_bound(bound: u64, pinned: &[u64]) -> u64
+    ensures { result ≡ max bound (max_below (length pinned.now) (slice_index pinned.now)) }
+{
+    bound.max(hottest(pinned))
 }
 
 /// The number at a place, 0 where there is none.
@@ -93,8 +101,9 @@ const CAVEAT: &str = " of it
 
 /// Adds what the plan comes to.
 fn push_result(text: &mut TextWriter, facts: &Facts) {
-    let (greatest, bound) = (facts.plan.packing.greatest, facts.plan.packing.bound);
-    let now = greatest_now(facts.sums);
+    let greatest = hottest(&facts.plan.packing.load);
+    let bound = hottest_bound(facts.plan.packing.bound, facts.pinned);
+    let now = hottest(&facts.sums.now);
     let doubled = now.saturating_add(now.saturating_sub(greatest));
     push_heat(text, "\nhottest rank now     ", now);
     push_heat(text, "\nhottest rank planned ", greatest);
@@ -199,8 +208,12 @@ fn hot_count(directories: &[Directory]) -> u64 {
     count
 }
 
+/// The last line of the report where nothing is proposed.
+const NOTHING: &str =
+    "\nnothing is proposed: the hottest rank gets cooler by less than --least-gain asks\n";
+
 /// The report.
-pub fn make_report(alloc: Global, facts: &Facts) -> Result<String, AllocError> {
+pub fn make_report(alloc: Global, facts: &Facts, is_proposed: bool) -> Result<String, AllocError> {
     let mut text = TextWriter::new(alloc);
     text.number("", facts.directories.len() as u64);
     text.number(" directories, ", hot_count(facts.directories));
@@ -211,5 +224,8 @@ pub fn make_report(alloc: Global, facts: &Facts) -> Result<String, AllocError> {
     push_moves(&mut text, facts);
     push_left_out(&mut text, facts);
     push_capped(&mut text, facts.directories);
+    if !is_proposed {
+        text.text(NOTHING);
+    }
     text.finish()
 }

@@ -1,7 +1,6 @@
 //! Texts that are made piece by piece. No piece is an error of its own: where memory was refused, `finish` says so.
 ghost use Rattle.std.specs.Prelude.{◌≡◌, IsErr, IsOkAnd, false, true};
 
-use mds_types::Rank;
 use std::alloc::{AllocError, Global};
 use std::fmt::Write;
 
@@ -72,59 +71,6 @@ impl TextWriter {
             Err(AllocError)
         } else {
             Ok(self.text)
-        }
-    }
-}
-
-/// Bytes that grow.
-#[derive(Drop)]
-pub(crate) struct BytesWriter {
-    bytes: Vec<u8>,
-    is_refused: bool,
-}
-
-impl BytesWriter {
-    /// No bytes.
-    pub(crate) fn new(alloc: Global) -> BytesWriter {
-        BytesWriter {
-            bytes: Vec::new(alloc),
-            is_refused: false,
-        }
-    }
-
-    /// Adds bytes.
-    pub(crate) fn bytes(&mut self, more: &[u8]) {
-        self.is_refused |= self.bytes.extend_from_slice(more).is_err();
-    }
-
-    /// Adds a byte.
-    pub(crate) fn byte(&mut self, one: u8) {
-        self.is_refused |= self.bytes.push(one).is_err();
-    }
-
-    /// Adds the number of a rank.
-    pub(crate) fn rank(&mut self, rank: Rank) {
-        let number = rank.number();
-        if number >= 10 {
-            self.byte(b'0' + number / 10);
-        }
-        self.byte(b'0' + number % 10);
-    }
-
-    /// Notes that memory was refused for a piece before it came here.
-    pub(crate) fn refuse(&mut self) {
-        self.is_refused = true;
-    }
-
-    /// The bytes, unless memory was refused for any of them.
-    pub(crate) fn finish(self) -> Result<Vec<u8>, AllocError>
-        ensures bytes { self.is_refused ≡ false → IsOkAnd result (λ bytes. bytes ≡ self.bytes) }
-        ensures refused { self.is_refused ≡ true → IsErr result }
-    {
-        if self.is_refused {
-            Err(AllocError)
-        } else {
-            Ok(self.bytes)
         }
     }
 }

@@ -2,13 +2,15 @@
 #![tactic(auto)]
 
 mod collected;
+mod files;
 mod input;
 mod outcome;
 mod progress;
 mod settings;
+mod writing;
 
 use anyhow::Error;
-use outcome::carry_out;
+use files::carry_out;
 use settings::{PlanSettings, settings_of};
 use std::env::Env;
 use std::process::ExitCode;
@@ -21,14 +23,14 @@ fn words<R: Env + AllocGlobal>(rt: &R) -> io::Result<Vec<String>> {
     Ok(words)
 }
 
-/// Plans, and says what came of it.
+/// Plans, and prints the report. Gives whether a change is proposed.
 fn run<R: Files + AllocGlobal + Clock + Print + Eprint>(
     rt: &R,
     settings: &PlanSettings,
-) -> Result<(), Error> {
-    let text = carry_out(rt, settings)?;
-    print!(rt; "{text}")?;
-    Ok(())
+) -> Result<bool, Error> {
+    let output = carry_out(rt, settings)?;
+    print!(rt; "{}", output.text)?;
+    Ok(output.is_proposed)
 }
 
 /// Does what these words ask for. Gives the status.
@@ -38,7 +40,8 @@ fn done<R: Files + AllocGlobal + Clock + Print + Eprint>(rt: &R, words: &[String
         Err(refused) => return refused.told(rt),
     };
     match run(rt, &settings) {
-        Ok(()) => 0,
+        Ok(true) => 0,
+        Ok(false) => 3,
         Err(error) => {
             let _ = eprintln!(rt; "mdbal_ceph: {error:#}");
             1

@@ -143,7 +143,8 @@ const OPTIONS: &[PlanOption] = &[
         name: "pins",
         takes: Takes::Text,
         value: "FILE",
-        help: "Write the pins as a shell script to FILE, and their list to FILE.own",
+        help: "Write a shell script that sets the pins to FILE, one that restores the pins of now to FILE.back, and \
+               the list of the pins to FILE.own",
     },
     PlanOption {
         name: "svg",
@@ -192,8 +193,8 @@ fn folder_arg<'a>(alloc: Global) -> Arg<'a> {
 /// The program's command without its options, as `clap` knows it.
 fn plain_command<'a>(alloc: Global) -> Command<'a> {
     Command::new(alloc, "mdbal_ceph").version(VERSION).about(
-        "Says which export pins balance a live CephFS. Status 0: planned; 1: a file is missing or broken, or there \
-         is no plan; 2: the command line is refused",
+        "Plans export pins that balance a live CephFS. Status 0: changes are proposed; 1: a file is missing or \
+         broken, or there is no plan; 2: the command line is refused; 3: nothing is proposed",
     )
 }
 
@@ -228,10 +229,19 @@ fn mask_of(text: Option<&str>) -> Result<Option<RankSet>, Refused> {
     }
 }
 
+/// Where the file system is mounted: an absolute path.
+fn mount_of(text: &str) -> Result<&str, Refused> {
+    match text.as_bytes() {
+        [b'/', ..] => Ok(text),
+        _ => Err(Refused::Value("--mount takes an absolute path")),
+    }
+}
+
 /// The settings that were found.
 fn found<'a>(matches: &ArgMatches<'a>) -> Result<PlanSettings<'a>, Refused> {
     let mask = mask_of(matches.get_str("mask"))?;
     let parts = parts_of(matches.get_str("parts").unwrap_or("auto"))?;
+    let mount = mount_of(matches.get_str("mount").unwrap_or("/mnt/cephfs"))?;
     Ok(PlanSettings {
         folder: matches.get_str("folder").unwrap_or("."),
         parts,
@@ -239,7 +249,7 @@ fn found<'a>(matches: &ArgMatches<'a>) -> Result<PlanSettings<'a>, Refused> {
         own: matches.get_str("own"),
         least_gain: matches.get_one::<u8>("least-gain").unwrap_or(5),
         keep: matches.get_one::<u8>("keep").unwrap_or(5),
-        mount: matches.get_str("mount").unwrap_or("/mnt/cephfs"),
+        mount,
         pins: matches.get_str("pins"),
         svg: matches.get_str("svg"),
         script: matches.get_str("script"),

@@ -1,6 +1,6 @@
 use Rattle.std.proofs.Common.{◌≡◌, ◌∷◌, take}
 use Rattle.std.specs.List.{flat_map}
-use Rattle.ceph_plan.proofs.Quoting.{escaped}
+use Rattle.ceph_plan.specs.Words.{escaped}
 use Rattle.ceph_plan.proofs.quote.quoted.Given as goal
 
 abbrev pub invariant-loop-byte : goal.invariant-loop-byte

@@ -1,0 +1,61 @@
+//! Reads what was collected, and writes the files of a plan.
+
+use crate::collected::read_collected;
+use crate::outcome::planned;
+use crate::progress::Progress;
+use crate::settings::PlanSettings;
+use crate::writing::{PinFiles, PlanOutput, written};
+use anyhow::{Context, Error};
+use std::fs;
+use std::rt::{Clock, Files};
+
+/// Writes a file.
+fn write_file<R: Files>(rt: &R, file: &str, content: &[u8]) -> Result<(), Error> {
+    fs::write(rt, file, content).context(format_args!("{file}"))
+}
+
+/// Writes the files of `--pins`. The script comes last, so that the others are there once it is.
+fn write_pins<R: Files + AllocGlobal>(rt: &R, file: &str, pins: &PinFiles) -> Result<(), Error> {
+    let own = format!(in rt.alloc(); "{file}.own")?;
+    write_file(rt, own.as_str(), &pins.own)?;
+    let back = format!(in rt.alloc(); "{file}.back")?;
+    write_file(rt, back.as_str(), &pins.back)?;
+    write_file(rt, file, &pins.script)
+}
+
+/// Writes a text to a file, where both are there.
+fn write_text<R: Files>(rt: &R, file: Option<&str>, text: Option<&String>) -> Result<(), Error> {
+    match (file, text) {
+        (Some(file), Some(text)) => write_file(rt, file, text.as_bytes()),
+        _ => Ok(()),
+    }
+}
+
+/// Writes the files that are asked for.
+fn write_files<R: Files + AllocGlobal>(
+    rt: &R,
+    settings: &PlanSettings,
+    output: &PlanOutput,
+) -> Result<(), Error> {
+    write_text(rt, settings.svg, output.picture.as_ref())?;
+    write_text(rt, settings.script, output.script.as_ref())?;
+    match (settings.pins, output.pins.as_ref()) {
+        (Some(file), Some(pins)) => write_pins(rt, file, pins),
+        _ => Ok(()),
+    }
+}
+
+/// Reads what was collected, plans, and writes the files that are asked for.
+pub fn carry_out<R: Files + AllocGlobal + Clock + Eprint>(
+    rt: &R,
+    settings: &PlanSettings,
+) -> Result<PlanOutput, Error> {
+    let mut progress = Progress::begin(rt);
+    let collected = read_collected(rt, &mut progress, settings.folder, settings.own)?;
+    progress.tell(rt, "planning");
+    let outcome = planned(rt.alloc(), settings, collected)?;
+    progress.tell(rt, "writing");
+    let output = written(rt.alloc(), settings, &outcome)?;
+    write_files(rt, settings, &output)?;
+    Ok(output)
+}

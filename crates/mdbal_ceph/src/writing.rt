@@ -1,0 +1,195 @@
+//! What is written of a plan: the text for standard output, and the files.
+ghost use Rattle.std.specs.Prelude.{◌≡◌, ◌↔◌, IfOk, IsTrue, length};
+ghost use Rattle.ceph_report.specs.PinsScript.{pins_script};
+ghost use Rattle.mdbal_ceph.specs.Writing.{ArePinFiles, IsWorthIt, IsWritten, hottest as hottest_of, proposed_changes};
+
+use crate::outcome::Outcome;
+use crate::settings::PlanSettings;
+use anyhow::{Error, bail};
+use ceph_plan::PinChange;
+use ceph_report::{
+    Facts, MountedFileSystem, Move, ScriptError, changes_back, hottest, make_json, make_own_list,
+    make_picture, make_pins_script, make_report, make_script, moves_of, standing_pins,
+};
+use ceph_snapshot::Directory;
+use std::alloc::{AllocError, Global};
+
+/// The files of `--pins`.
+#[derive(Drop)]
+pub struct PinFiles {
+    /// The script that makes the changes.
+    pub script: Vec<u8>,
+    /// The script that undoes them.
+    pub back: Vec<u8>,
+    /// The list of the pins of this program once the first script has run.
+    pub own: Vec<u8>,
+}
+
+/// What is written of a plan.
+#[derive(Drop)]
+pub struct PlanOutput {
+    /// The report, or the plan as JSON.
+    pub text: String,
+    /// Whether the plan is worth a proposal.
+    pub is_proposed: bool,
+    /// The files of `--pins`, where it is given.
+    pub pins: Option<PinFiles>,
+    /// The picture, where `--svg` is given.
+    pub picture: Option<String>,
+    /// The directories as a script of `mdbal`, where `--script` is given.
+    pub script: Option<String>,
+}
+
+/// Whether the hottest rank gets cooler by at least so many percent.
+fn is_worth_it(now: u64, planned: u64, percent: u8) -> bool
+    ensures { IsTrue result ↔ IsWorthIt now planned percent }
+{
+    let gain = now.saturating_sub(planned);
+    gain > 0 && u128::from(gain) * 100 >= u128::from(now) * u128::from(percent)
+}
+
+/// Whether the plan is worth a proposal: the hottest of all ranks gets cooler by at least so many percent.
+fn is_proposed(outcome: &Outcome, percent: u8) -> bool
+    ensures { IsTrue result ↔ IsWorthIt (hottest_of outcome.now.decision.sums.now.items)
+        (hottest_of outcome.now.decision.proposal.plan.packing.load.items) percent }
+{
+    let planned = hottest(&outcome.decision.proposal.plan.packing.load);
+    is_worth_it(hottest(&outcome.decision.sums.now), planned, percent)
+}
+
+/// What the report tells of an outcome.
+fn facts_of<'a>(outcome: &'a Outcome, moves: &'a [Move], standing: usize) -> Facts<'a>
+    ensures directories { result.directories.now ≡ outcome.now.directories.items }
+    ensures folded { result.folded ≡ outcome.now.folded }
+    ensures samples { result.samples ≡ outcome.now.samples }
+    ensures ranks { result.ranks ≡ outcome.now.ranks }
+    ensures plan { result.plan.now ≡ outcome.now.decision.proposal.plan }
+    ensures sums { result.sums.now ≡ outcome.now.decision.sums }
+    ensures pinned { result.pinned.now ≡ outcome.now.decision.pinned.items }
+    ensures moves { result.moves.now ≡ moves.now }
+    ensures changes { result.changes ≡ length outcome.now.decision.proposal.changes.items }
+    ensures standing { result.standing ≡ standing }
+{
+    Facts {
+        directories: &outcome.directories,
+        folded: outcome.folded,
+        samples: outcome.samples,
+        ranks: outcome.ranks,
+        plan: &outcome.decision.proposal.plan,
+        sums: &outcome.decision.sums,
+        pinned: &outcome.decision.pinned,
+        moves,
+        changes: outcome.decision.proposal.changes.len(),
+        standing,
+    }
+}
+
+/// The report, or the plan as JSON.
+fn told(
+    alloc: Global,
+    outcome: &Outcome,
+    is_json: bool,
+    is_proposed: bool,
+) -> Result<String, AllocError> {
+    let (directories, holds) = (&outcome.directories, &outcome.decision.holds);
+    let proposal = &outcome.decision.proposal;
+    let (rows, changes) = (&proposal.rows, &proposal.changes);
+    let standing = standing_pins(alloc, rows, changes)?;
+    let moves = moves_of(alloc, directories, holds, rows, changes)?;
+    let facts = facts_of(outcome, &moves, standing);
+    if is_json {
+        make_json(alloc, &facts, changes_of(outcome, is_proposed), is_proposed)
+    } else {
+        make_report(alloc, &facts, is_proposed)
+    }
+}
+
+/// The changes that are proposed: none where the plan isn't worth a proposal.
+fn changes_of(outcome: &Outcome, is_proposed: bool) -> &[PinChange]
+    ensures { result.now ≡ proposed_changes outcome.now is_proposed }
+{
+    if is_proposed {
+        &outcome.decision.proposal.changes
+    } else {
+        &[]
+    }
+}
+
+/// The script of these changes.
+fn script_of(
+    alloc: Global,
+    mounted: MountedFileSystem,
+    directories: &[Directory],
+    changes: &[PinChange],
+) -> Result<Vec<u8>, Error>
+    ensures { IfOk result (λ script. script.items ≡ pins_script mounted.entry.mount.now mounted.entry.name.now
+        mounted.entry.fsid.now directories.now changes.now) }
+{
+    match make_pins_script(alloc, mounted, directories, changes) {
+        Ok(script) => Ok(script),
+        Err(ScriptError::Memory) => bail!("out of memory"),
+        Err(ScriptError::Nul) => bail!("a path or the mount has a NUL byte"),
+        Err(ScriptError::NoDirectory(row)) => bail!(
+            "a change names directory {row}, which does not exist"
+        ),
+    }
+}
+
+/// The files of `--pins`.
+fn pin_files(
+    alloc: Global,
+    mount: &str,
+    outcome: &Outcome,
+    is_proposed: bool,
+) -> Result<PinFiles, Error>
+    ensures { IfOk result (ArePinFiles mount.now outcome.now (proposed_changes outcome.now is_proposed)) }
+{
+    let directories = outcome.directories.as_slice();
+    let rows = outcome.decision.proposal.rows.as_slice();
+    let changes = changes_of(outcome, is_proposed);
+    let mounted = MountedFileSystem {
+        mount: mount.as_bytes(),
+        name: outcome.file_system.name.as_bytes(),
+        fsid: outcome.file_system.fsid.as_bytes(),
+    };
+    let back = changes_back(alloc, rows, changes)?;
+    Ok(PinFiles {
+        script: script_of(alloc, mounted, directories, changes)?,
+        back: script_of(alloc, mounted, directories, &back)?,
+        own: make_own_list(alloc, directories, rows, changes)?,
+    })
+}
+
+/// What is written of a plan.
+pub fn written(
+    alloc: Global,
+    settings: &PlanSettings,
+    outcome: &Outcome,
+) -> Result<PlanOutput, Error>
+    ensures { IfOk result (IsWritten settings.now outcome.now) }
+{
+    let is_proposed = is_proposed(outcome, settings.least_gain);
+    let text = told(alloc, outcome, settings.is_json, is_proposed)?;
+    let pins = match settings.pins {
+        Some(_) => Some(pin_files(alloc, settings.mount, outcome, is_proposed)?),
+        None => None,
+    };
+    let picture = match settings.svg {
+        Some(_) => Some(make_picture(alloc, &outcome.directories, &outcome.decision.goals)?),
+        None => None,
+    };
+    let script = match settings.script {
+        Some(_) => {
+            let holds = outcome.decision.holds.as_slice();
+            Some(make_script(alloc, &outcome.directories, holds, outcome.size)?)
+        }
+        None => None,
+    };
+    Ok(PlanOutput {
+        text,
+        is_proposed,
+        pins,
+        picture,
+        script,
+    })
+}
