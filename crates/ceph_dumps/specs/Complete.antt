@@ -1,5 +1,6 @@
 -- The line of the file that says which file system was collected.
-use Rattle.std.specs.Prelude.{◌≡◌, ◌==◌, ◌&&◌, ◌||◌, ◌<◌, ◌++◌, ℕ, Bool, true, List, [], ◌∷◌, length, slice_index, nat_le}
+use Rattle.std.specs.Prelude.{◌≡◌, ◌==◌, ◌&&◌, ◌||◌, ◌<◌, ◌++◌, ℕ}
+use Rattle.std.specs.Prelude.{Bool, true, List, [], ◌∷◌, length, slice_index, nat_le}
 
 -- a letter or digit of ASCII, an underscore, a dot or a hyphen
 abbrev pub is_word_byte : ℕ → Bool

@@ -2,7 +2,7 @@
 ghost use Rattle.std.specs.Prelude.{◌≡◌, ◌<◌, ◌≤◌, ◌↔◌, ℕ, length, slice_index, true, IfErr, IfOk, IsErrOf, IsOk};
 ghost use Rattle.mds_types.specs.declared.limits.TheConstants.{RANK_LIMIT};
 ghost use Rattle.mds_types.specs.RankSet.{has_rank};
-ghost use Rattle.ceph_dumps.specs.Cluster.{IsIn};
+ghost use Rattle.ceph_dumps.specs.Cluster.{IsListed};
 
 use crate::dump_error::DumpError;
 use crate::json::read_json;
@@ -199,8 +199,8 @@ fn size_of(count: u32) -> Result<u8, DumpError>
 
 /// The ranks of these numbers, or the first number that is none.
 fn ranks_of(numbers: &[u32]) -> Result<RankSet, u32>
-    ensures same { IfOk result (λ ranks. (rank : ℕ) → (has_rank ranks rank ≡ true) ↔ IsIn numbers.now rank) }
-    ensures bad { IfErr result (λ number. IsIn numbers.now number × (RANK_LIMIT ≤ number)) }
+    ensures same { IfOk result (λ ranks. (rank : ℕ) → (has_rank ranks rank ≡ true) ↔ IsListed numbers.now rank) }
+    ensures bad { IfErr result (λ number. IsListed numbers.now number × (RANK_LIMIT ≤ number)) }
     ensures taken { ((i : ℕ) → i < length numbers.now → slice_index numbers.now i < RANK_LIMIT) → IsOk result }
 {
     for number in numbers {
@@ -213,12 +213,12 @@ fn ranks_of(numbers: &[u32]) -> Result<RankSet, u32>
 
 /// The ranks that a file system has. Rank 0, which has the root, is one of them.
 fn all_ranks(numbers: &[u32]) -> Result<RankSet, DumpError>
-    ensures same { IfOk result (λ ranks. (rank : ℕ) → (has_rank ranks rank ≡ true) ↔ IsIn numbers.now rank) }
+    ensures same { IfOk result (λ ranks. (rank : ℕ) → (has_rank ranks rank ≡ true) ↔ IsListed numbers.now rank) }
     ensures zero { IfOk result (λ ranks. has_rank ranks 0 ≡ true) }
     ensures none { IsErrOf result DumpError.NoRank → length numbers.now ≡ 0 }
-    ensures no_zero { IsErrOf result DumpError.NoRankZero → IsIn numbers.now 0 → ⊥ }
+    ensures no_zero { IsErrOf result DumpError.NoRankZero → IsListed numbers.now 0 → ⊥ }
     ensures bad { (number : ℕ) → IsErrOf result (DumpError.BadRank number)
-        → IsIn numbers.now number × (RANK_LIMIT ≤ number) }
+        → IsListed numbers.now number × (RANK_LIMIT ≤ number) }
 {
     if numbers.is_empty() {
         return Err(DumpError::NoRank);

@@ -36,7 +36,7 @@ pub enum DumpError {
     #[error("line {0}: expected `# file: NAME` or `NAME=\"VALUE\"`")]
     Listing(usize),
     /// This line of a listing has an attribute that the collector doesn't ask for, or a value that is no number.
-    #[error("line {0}: expected a number of ceph.dir.entries, ceph.dir.pin, ceph.dir.pin.distributed or ceph.dir.pin.random")]
+    #[error("line {0}: expected a number of ceph.dir.entries or of a ceph.dir.pin")]
     Value(usize),
     /// This line of a list of pins is no rank and path.
     #[error("line {0}: expected `RANK /PATH`")]

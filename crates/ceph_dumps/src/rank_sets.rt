@@ -1,7 +1,7 @@
 //! Sets of ranks: of numbers, and what two of them share.
 ghost use Rattle.std.specs.Prelude.{◌≡◌, ◌==◌, ◌<◌, ◌&&◌, ◌||◌, ◌↔◌, ℕ, true};
 ghost use Rattle.mds_types.specs.RankSet.{has_rank};
-ghost use Rattle.ceph_dumps.specs.Cluster.{IsIn};
+ghost use Rattle.ceph_dumps.specs.Cluster.{IsListed};
 
 use mds_types::{Rank, RankSet};
 
@@ -15,7 +15,7 @@ fn with_rank(bits: u64, number: u8) -> u64
 
 /// The set of those of these numbers that are below 64.
 pub fn set_of(numbers: &[u32]) -> RankSet
-    ensures { (rank : ℕ) → rank < 64 → (has_rank result rank ≡ true) ↔ IsIn numbers.now rank }
+    ensures { (rank : ℕ) → rank < 64 → (has_rank result rank ≡ true) ↔ IsListed numbers.now rank }
 {
     let mut bits = 0;
     for number in numbers {

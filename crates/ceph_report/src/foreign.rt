@@ -8,7 +8,8 @@ use ceph_snapshot::Directory;
 use mds_types::Rank;
 use std::alloc::{AllocError, Global};
 
-/// The pin of a directory below the root that is to stay. One that is spread or may not be pinned counts as pinned where it lies.
+/// The pin of a directory below the root that is to stay. One that is spread or may not be pinned counts as pinned
+/// where it lies.
 fn foreign(directory: &Directory) -> Option<Rank>
     ensures { result ≡ first_of directory.entry.now.pin
         (if directory.entry.now.is_spread || directory.entry.now.is_kept then Some directory.entry.now.now else None) }

@@ -9,7 +9,7 @@ use Rattle.ceph_dumps.specs.declared.listing.EphemeralPin.TheVariants.{Random}
 use Rattle.ceph_snapshot.specs.declared.directory.Directory.{Directory}
 use Rattle.ceph_snapshot.specs.Folding.{is_marked}
 use Rattle.ceph_snapshot.specs.Holding.{AreParentsFirst, is_kept_at, parent_at, pin_at}
-use Rattle.ceph_snapshot.specs.Policies.{AreKept, HasBeaten, IsAbove, IsAboveRandom, idle_at, kept_where, policy_at}
+use Rattle.ceph_snapshot.specs.Policies.{KeepUnpinnable, HasBeaten, LeadsToRandom, IsAboveRandom, idle_at, kept_where, policy_at}
 
 slice_get_some : (ds : List Directory) (i : ℕ) → i < length ds → (d : Directory) × (slice_get ds i ≡ Some d)
 slice_get_some ds i inside =
@@ -39,7 +39,7 @@ from_children : (ds : List Directory) (at : ℕ) → (HasBeaten ds (at + 1) at �
 from_children ds at (inl h) = record { steps = suc h.above.steps; policy = (h.child, h.parent, h.unpinned, h.above.policy) }
 from_children ds at (inr here) = record { steps = 0; policy = here }
 
-to_children : (ds : List Directory) (at steps : ℕ) → AreParentsFirst ds → 0 < at → IsAbove ds steps at → HasBeaten ds (at + 1) at ⊎ (policy_at ds at ≡ Some Random)
+to_children : (ds : List Directory) (at steps : ℕ) → AreParentsFirst ds → 0 < at → LeadsToRandom ds steps at → HasBeaten ds (at + 1) at ⊎ (policy_at ds at ≡ Some Random)
 to_children ds at zero first below here = inr here
 to_children ds at (suc n) first below is =
     let later : at < is.0 = child_later ds is.0 at first below is.1 in
@@ -149,12 +149,12 @@ pub record IsAlike (old new : List Directory) : Type 0 where
   pub pins : (i : ℕ) → pin_at new i ≡ pin_at old i
   pub policies : (i : ℕ) → policy_at new i ≡ policy_at old i
 
-pub above_alike : (old new : List Directory) (steps i : ℕ) → IsAlike old new → IsAbove old steps i → IsAbove new steps i
+pub above_alike : (old new : List Directory) (steps i : ℕ) → IsAlike old new → LeadsToRandom old steps i → LeadsToRandom new steps i
 above_alike old new zero i same is = same.policies i ∙ is
 above_alike old new (suc n) i same is =
     (is.0, same.parents is.0 ∙ is.1, same.pins is.0 ∙ is.2, above_alike old new n is.0 same is.3)
 
-pub back_alike : (old new : List Directory) (steps i : ℕ) → IsAlike old new → IsAbove new steps i → IsAbove old steps i
+pub back_alike : (old new : List Directory) (steps i : ℕ) → IsAlike old new → LeadsToRandom new steps i → LeadsToRandom old steps i
 back_alike old new zero i same is = sym (same.policies i) ∙ is
 back_alike old new (suc n) i same is =
     (is.0, sym (same.parents is.0) ∙ is.1, sym (same.pins is.0) ∙ is.2, back_alike old new n is.0 same is.3)
@@ -229,7 +229,7 @@ kept_at_is old new marks i made inside =
 -- those are kept that may not be pinned
 pub are_kept : (old new : List Directory) (marks : List Bool) → length new ≡ length old → Marked old new marks
     → (AreParentsFirst old → (i : ℕ) → 0 < i → i < length old → (is_marked marks i ≡ true) ↔ HasBeaten old 1 i)
-    → AreParentsFirst new → AreKept new
+    → AreParentsFirst new → KeepUnpinnable new
 are_kept old new marks size made found first i low inside =
     let same : IsAlike old new = alike old new marks size made in
     let was : AreParentsFirst old = first_alike old new same first in

@@ -1,6 +1,7 @@
 -- Which directories may not be pinned, by Ceph's rule. (The CephFS documentation, "Configuring multiple active MDS
 -- daemons", sections on pinning directory trees and on dynamic subtree partitioning with ephemeral pins.)
-use Rattle.std.specs.Prelude.{◌≡◌, ◌<◌, ◌⊎◌, ◌↔◌, ◌≤◌, ◌||◌, ℕ, zero, suc, Bool, true, is_some, List, length, slice_get, Option, Some, None}
+use Rattle.std.specs.Prelude.{◌≡◌, ◌<◌, ◌⊎◌, ◌↔◌, ◌≤◌, ◌||◌, ℕ, zero, suc}
+use Rattle.std.specs.Prelude.{Bool, true, is_some, List, length, slice_get, Option, Some, None}
 use Rattle.std.specs.Option.{option_map_or}
 use Rattle.ceph_dumps.specs.declared.listing.EphemeralPin.{EphemeralPin}
 use Rattle.ceph_dumps.specs.declared.listing.EphemeralPin.TheVariants.{Random}
@@ -15,24 +16,27 @@ idle_at directories i = option_map_or (λ (d : Directory). d.idle) (slice_get di
 
 -- a directory so many steps below directory i has a random policy, and from there up to the child of i there is no pin.
 -- An export pin on i would beat the random pins below, as no other pin is nearer
-abbrev pub IsAbove : List Directory → ℕ → ℕ → Type 0
-IsAbove directories zero i = policy_at directories i ≡ Some Random
-IsAbove directories (suc steps) i =
-    (child : ℕ) × (parent_at directories child ≡ i) × (pin_at directories child ≡ None) × IsAbove directories steps child
+abbrev pub LeadsToRandom : List Directory → ℕ → ℕ → Type 0
+LeadsToRandom directories zero i = policy_at directories i ≡ Some Random
+LeadsToRandom directories (suc steps) i =
+    (child : ℕ) × (parent_at directories child ≡ i) × (pin_at directories child ≡ None)
+    × LeadsToRandom directories steps child
 
 pub record IsAboveRandom (directories : List Directory) (i : ℕ) : Type 0 where
   pub steps : ℕ
-  pub policy : IsAbove directories steps i
+  pub policy : LeadsToRandom directories steps i
 
 -- a directory with a policy of its own, whose children Ceph spreads or whose descendants it pins, whether or not they
 -- are cached now; one with somebody's pin to a rank that isn't there; and one above a random policy
 abbrev pub IsUnpinnable : List Directory → ℕ → Type 0
 IsUnpinnable directories i =
-    (is_some (policy_at directories i) ≡ true) ⊎ ((is_some (idle_at directories i) ≡ true) ⊎ IsAboveRandom directories i)
+    (is_some (policy_at directories i) ≡ true)
+    ⊎ ((is_some (idle_at directories i) ≡ true) ⊎ IsAboveRandom directories i)
 
 -- those below the root are kept that may not be pinned, and no others
-abbrev pub AreKept : List Directory → Type 0
-AreKept directories = (i : ℕ) → 0 < i → i < length directories → (is_kept_at directories i ≡ true) ↔ IsUnpinnable directories i
+abbrev pub KeepUnpinnable : List Directory → Type 0
+KeepUnpinnable directories =
+    (i : ℕ) → 0 < i → i < length directories → (is_kept_at directories i ≡ true) ↔ IsUnpinnable directories i
 
 -- how it is found: from the children of directory i, of those from place n on
 pub record HasBeaten (directories : List Directory) (n i : ℕ) : Type 0 where

@@ -1,10 +1,11 @@
 //! Which directories may not be pinned: what Ceph itself pins, and what somebody pinned to a rank that isn't there.
-ghost use Rattle.std.specs.Prelude.{◌≡◌, ◌==◌, ◌<◌, ◌&&◌, ◌||◌, ◌↔◌, ◌⊎◌, ℕ, None, Some, length, true, IfOk, OnOk, slice_get};
+ghost use Rattle.std.specs.Prelude.{◌≡◌, ◌==◌, ◌<◌, ◌&&◌, ◌||◌, ◌↔◌, ◌⊎◌};
+ghost use Rattle.std.specs.Prelude.{ℕ, None, Some, length, true, IfOk, OnOk, slice_get};
 ghost use Rattle.std.specs.Option.{option_map};
 ghost use Rattle.ceph_dumps.specs.declared.listing.EphemeralPin.TheVariants.{Random};
 ghost use Rattle.ceph_snapshot.specs.Folding.{is_marked};
 ghost use Rattle.ceph_snapshot.specs.Holding.{AreParentsFirst};
-ghost use Rattle.ceph_snapshot.specs.Policies.{AreKept, HasBeaten, kept_where};
+ghost use Rattle.ceph_snapshot.specs.Policies.{KeepUnpinnable, HasBeaten, kept_where};
 
 use crate::directory::Directory;
 use ceph_dumps::EphemeralPin;
@@ -60,7 +61,7 @@ fn mark_kept(directories: &mut Vec<Directory>, above: &[bool])
 /// Keeps those directories that may not be pinned: they stay where they lie.
 pub(crate) fn keep(alloc: Global, directories: &mut Vec<Directory>) -> Result<(), AllocError>
     ensures size { OnOk result (length directories.new.items ≡ length directories.old.items) }
-    ensures kept { OnOk result (AreParentsFirst directories.new.items → AreKept directories.new.items) }
+    ensures kept { OnOk result (AreParentsFirst directories.new.items → KeepUnpinnable directories.new.items) }
 {
     let above = above_random(alloc, directories.as_slice())?;
     mark_kept(directories, above.as_slice());

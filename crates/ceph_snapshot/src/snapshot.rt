@@ -4,9 +4,9 @@ ghost use Rattle.std.specs.Prelude.{◌≡◌, ◌==◌, ◌||◌, ◌<◌, ◌/
 ghost use Rattle.std.specs.Prelude.{IfOk, if◌then◌else◌};
 ghost use Rattle.mds_types.specs.RankSet.{has_rank};
 ghost use Rattle.mds_types.specs.declared.limits.TheConstants.{HEAT_LIMIT};
-ghost use Rattle.ceph_snapshot.specs.Gathered.{foreign_pin, idle_pin, own_pin, seen_heat};
+ghost use Rattle.ceph_snapshot.specs.Gathered.{foreign_pin, idle_pin, our_pin, seen_heat};
 ghost use Rattle.ceph_snapshot.specs.Holding.{AreParentsFirst};
-ghost use Rattle.ceph_snapshot.specs.Policies.{AreKept};
+ghost use Rattle.ceph_snapshot.specs.Policies.{KeepUnpinnable};
 
 use crate::directory::Directory;
 use crate::gathering::{Gathering, Hearsay, Node, Sighting};
@@ -106,7 +106,7 @@ fn rank_in(ranks: RankSet, number: u64) -> Option<Rank>
 fn pins_of(pinned: Option<u64>, own: Option<u64>, ranks: RankSet) -> Pins
     ensures pin { result.pin ≡ foreign_pin pinned own ranks }
     ensures idle { result.idle ≡ idle_pin pinned own ranks }
-    ensures earlier { result.earlier ≡ own_pin pinned own }
+    ensures earlier { result.earlier ≡ our_pin pinned own }
 {
     let (mut pin, mut idle, mut earlier) = (None, None, None);
     if let Some(number) = pinned {
@@ -129,7 +129,7 @@ fn finished(node: Node, samples: u64, ranks: RankSet) -> Directory
     ensures now { result.now ≡ node.directory.now }
     ensures pin { result.pin ≡ foreign_pin node.pinned node.own ranks }
     ensures idle { result.idle ≡ idle_pin node.pinned node.own ranks }
-    ensures earlier { result.earlier ≡ own_pin node.pinned node.own }
+    ensures earlier { result.earlier ≡ our_pin node.pinned node.own }
     ensures policy { result.policy ≡ node.directory.policy }
 {
     let Pins { pin, idle, earlier } = pins_of(node.pinned, node.own, ranks);
@@ -205,7 +205,7 @@ impl Gathering {
         requires { 0 < samples }
         ensures spread { IfOk result (λ snapshot. length snapshot.spread.items ≡ 64) }
         ensures kept { IfOk result (λ snapshot. AreParentsFirst snapshot.directories.items
-            → AreKept snapshot.directories.items) }
+            → KeepUnpinnable snapshot.directories.items) }
     {
         let Gathering {
             alloc,

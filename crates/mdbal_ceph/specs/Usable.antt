@@ -1,5 +1,6 @@
 -- Which ranks may have a part.
-use Rattle.std.specs.Prelude.{◌≡◌, ◌||◌, ◌&&◌, ◌-◌, ◌^◌, ℕ, Bool, List, Option, Some, None, codes, nat_lt, if◌then◌else◌}
+use Rattle.std.specs.Prelude.{◌≡◌, ◌||◌, ◌&&◌, ◌-◌, ◌^◌, ℕ, Bool}
+use Rattle.std.specs.Prelude.{List, Option, Some, None, codes, nat_lt, if◌then◌else◌}
 use Rattle.std.specs.Str.{bytes_eq}
 use Rattle.mds_types.specs.Mask.{mask_bits}
 use Rattle.mds_types.specs.RankSet.{has_rank}
@@ -13,7 +14,8 @@ abbrev pub cluster_mask : List ℕ → Option ℕ
 cluster_mask text =
     if bytes_eq text (codes "") || bytes_eq text (codes "all") then Some all_ranks else mask_bits text
 
--- a rank may have a part that the mask has, that is below max_mds, that is in the file system, and whose daemon is active
+-- a rank may have a part that the mask has, that is below max_mds, that is in the file system, and whose daemon is
+-- active
 abbrev pub may_have_part : ℕ → FileSystemRanks → ℕ → Bool
 may_have_part mask cluster rank =
     (nat_lt rank cluster.size && has_rank mask rank) && (has_rank cluster.ranks rank && has_rank cluster.active rank)

@@ -11,7 +11,7 @@ use Rattle.rank_threads.specs.declared.work.WorkAnswer.{WorkAnswer}
 use Rattle.rank_threads.specs.declared.work.WorkError.{WorkError}
 use Rattle.rank_threads.specs.declared.work.WorkError.TheVariants as error
 use Rattle.rank_threads.specs.Answered.{AreAnswered, IsRankAnswered}
-use Rattle.rank_threads.specs.Asking.{HasRoom}
+use Rattle.rank_threads.specs.Asking.{IsRoomFor}
 use Rattle.rank_threads.specs.Serving.{AreReturned, AreShort, IsDeposited, IsReturned, IsServed, IsShort}
 
 -- a share that counts no less is as full
@@ -67,9 +67,9 @@ module _ {A B : Type 0} (R : A → B → Type 0) where
   zip_last (v ∷ xs) (w ∷ ys) x y all = let rest = zip_last xs ys x y all.1 in ((all.0, rest.0), rest.1)
 
 pub rooms_last : (scripts before : List (Vec Work Global)) (script : Vec Work Global) (rooms rest : List (Vec WorkAnswer Global)) (room : Vec WorkAnswer Global)
-    → scripts ≡ before ++ script ∷ [] → rooms ≡ rest ++ room ∷ [] → AllZip HasRoom scripts rooms → AllZip HasRoom before rest × HasRoom script room
+    → scripts ≡ before ++ script ∷ [] → rooms ≡ rest ++ room ∷ [] → AllZip IsRoomFor scripts rooms → AllZip IsRoomFor before rest × IsRoomFor script room
 rooms_last scripts before script rooms rest room es er all =
-    zip_last HasRoom before rest script room (subst (λ (l : List (Vec WorkAnswer Global)). AllZip HasRoom (before ++ script ∷ []) l) er (subst (λ (l : List (Vec Work Global)). AllZip HasRoom l rooms) es all))
+    zip_last IsRoomFor before rest script room (subst (λ (l : List (Vec WorkAnswer Global)). AllZip IsRoomFor (before ++ script ∷ []) l) er (subst (λ (l : List (Vec Work Global)). AllZip IsRoomFor l rooms) es all))
 
 pub clean_last : (news back : List ShareData) (new : ShareData) → back ≡ news ++ new ∷ [] → All (λ s. IsClean s) news → IsClean new → All (λ s. IsClean s) back
 clean_last news back new is all last = subst (λ (l : List ShareData). All (λ s. IsClean s) l) (sym is) (All-push (λ (s : ShareData). IsClean s) news new all last)

@@ -1,6 +1,7 @@
 //! A whole script from a reader, with its answers to a writer.
 ghost use Rattle.std.specs.Option.{option_and_then};
-ghost use Rattle.std.specs.Prelude.{◌≡◌, ◌⊎◌, ℕ, ◌≤◌, ◌^◌, ◌++◌, [], List, Err, Ok, IfOk, IfSome, IsErrOf, true, false, not};
+ghost use Rattle.std.specs.Prelude.{◌≡◌, ◌⊎◌, ℕ, ◌≤◌, ◌^◌, ◌++◌, [], List};
+ghost use Rattle.std.specs.Prelude.{Err, Ok, IfOk, IfSome, IsErrOf, true, false, not};
 ghost use Rattle.std.specs.Prelude.{◌&&◌, vec_len};
 ghost use Rattle.script_engine.specs.Lines.{lines_of};
 ghost use Rattle.script_engine.specs.Runs.{Gives, IsEnded};
