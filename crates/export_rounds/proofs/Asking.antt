@@ -74,6 +74,18 @@ newly_started first now new order waiting x h is e more = (
       ∙ (ap (λ n. slice_get (now.state.cluster.orders ++ waiting ∷ []) n) e ∙ (get_last now.state.cluster.orders waiting ∙ ap (λ (o : Order). Some o) is)),
 )
 
+later : (first now : World) (o : Order) (s : Standing) (x : ℕ) → IsAsked first now o s → s ≡ Started x → length first.state.cluster.orders ≤ x
+later first now o s x h is = let started : IsStarted first now o x = subst (λ (t : Standing). IsAsked first now o t) is h in started.0
+
+-- an export that stands for an order was started in the phase
+pub begun_later : (first now : World) (orders : List Order) (standings : List Standing) (k x : ℕ) (d : Standing) → k < length standings
+    → AreAsked first now orders standings → get_or standings k d ≡ Started x → length first.state.cluster.orders ≤ x
+begun_later first now (o ∷ orders) (s ∷ standings) zero x d near h is = later first now o s x h.0 is
+begun_later first now (o ∷ orders) (s ∷ standings) (suc k) x d near h is = begun_later first now orders standings k x d (omega arith) h.1 is
+begun_later first now [] [] k x d near h is = absurd (omega arith)
+begun_later first now [] (s ∷ standings) k x d near h is = absurd h
+begun_later first now (o ∷ orders) [] k x d near h is = absurd h
+
 -- one more doesn't wait
 pub settled_more : (xs : List Standing) (i : ℕ) (s : Standing) → i < length xs → ((k : ℕ) (d : Standing) → k < i → is_waiting (get_or xs k d) ≡ false)
     → is_waiting s ≡ false → (k : ℕ) (d : Standing) → k < i + 1 → is_waiting (get_or (set xs i s) k d) ≡ false

@@ -6,6 +6,7 @@ use Rattle.export_rounds.specs.declared.standing.Standing.{Standing}
 use Rattle.export_rounds.specs.declared.standing.Standing.TheVariants.{Waiting, Started, Refused}
 use Rattle.export_machine.specs.declared.event.Event.{Event}
 use Rattle.export_machine.specs.declared.event.Event.TheVariants.{Start}
+use Rattle.export_rounds.specs.Adding.{GoesOnBy}
 use Rattle.export_rounds.specs.Further.{IsFurther}
 use Rattle.export_rounds.specs.Outcomes.{IsStarted, IsRefused}
 use Rattle.export_rounds.specs.Pairs.{AreEach}
@@ -37,10 +38,11 @@ abbrev pub is_later : Event → Bool
 is_later (Start from to dirs) = false
 is_later _ = true
 
--- it goes on, and no export is started
+-- It goes on by events of exports, and none is started or aborted.
 pub record StartsNone (old new : World) : Type 0 where
   pub further : IsFurther old new
   pub orders : new.state.cluster.orders ≡ old.state.cluster.orders
+  pub events : (before : ℕ) → GoesOnBy before old new
 
 abbrev pub ones : Bool → ℕ
 ones b = if b then 1 else 0

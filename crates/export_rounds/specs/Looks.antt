@@ -4,7 +4,7 @@ use Rattle.export_machine.specs.declared.exporter.ExporterState.{ExporterState}
 use Rattle.export_machine.specs.declared.exporter.ExporterState.TheVariants.{Aborted, Discovering, Done, Exporting}
 use Rattle.export_machine.specs.declared.exporter.ExporterState.TheVariants.{Freezing, Logged, Preparing}
 use Rattle.export_machine.specs.declared.importer.ImporterState.{ImporterState}
-use Rattle.export_machine.specs.declared.importer.ImporterState.TheVariants.{Dropped, Imported}
+use Rattle.export_machine.specs.declared.importer.ImporterState.TheVariants.{Dropped, Imported, Unknown}
 
 -- the exporter has steps to make
 abbrev pub is_under_way : ExporterState → Bool
@@ -28,8 +28,9 @@ is_before_log Preparing = true
 is_before_log Exporting = true
 is_before_log _ = false
 
--- the importer has neither imported nor dropped it
-abbrev pub is_awaited : ImporterState → Bool
-is_awaited Imported = false
-is_awaited Dropped = false
-is_awaited _ = true
+-- The importer has neither imported nor dropped it, and knows of it where the exporter has aborted it.
+abbrev pub is_awaited : ExporterState → ImporterState → Bool
+is_awaited _ Imported = false
+is_awaited _ Dropped = false
+is_awaited Aborted Unknown = false
+is_awaited _ _ = true

@@ -3,15 +3,17 @@ ghost use Rattle.std.specs.Prelude.{◌≡◌, ◌<◌, ◌≤◌, List, [], cou
 ghost use Rattle.export_machine.specs.Authority.{exporter_of, importer_of};
 ghost use Rattle.mds_board.specs.History.{World};
 ghost use Rattle.mds_types.specs.declared.order.Order.{Order as TheOrder};
-ghost use Rattle.export_rounds.specs.Asked.{AreAsked, AreSettled, IsAsked, StartsNone, is_begun, is_waiting};
+ghost use Rattle.export_rounds.specs.Adding.{GoesOnBy};
+ghost use Rattle.export_rounds.specs.Asked.{AreAsked, AreSettled, IsAsked, is_begun, is_waiting};
+ghost use Rattle.export_rounds.specs.Further.{IsFurther};
 ghost use Rattle.export_rounds.specs.Outcomes.{AreOutcomes, IsOutcome, is_started, word};
 
 use crate::looks::is_before_log;
 use crate::outcome::Outcome;
 use crate::standing::Standing;
-use crate::stepping::try_step;
+use crate::stepping::try_abort;
 use authority_map::Publisher;
-use export_machine::{Cluster, Event, ExporterState, ImporterState};
+use export_machine::{Cluster, ExporterState, ImporterState};
 use mds_board::Board;
 use naming::Naming;
 use std::alloc::Global;
@@ -22,12 +24,15 @@ pub(crate) fn abort_rest<J: Naming, M: Publisher<J>>(
     alloc: Global,
     standings: &[Standing],
 )
-    ensures { StartsNone board.old board.new }
+    ensures further { IsFurther board.old board.new }
+    ensures orders { board.new.state.cluster.orders ≡ board.old.state.cluster.orders }
+    ensures events { (first : World) (orders : List TheOrder) → AreAsked first board.old orders standings.now
+        → GoesOnBy (length first.state.cluster.orders) board.old board.new }
 {
     for standing in standings {
         if let Standing::Started(export) = standing {
             if is_before_log(board.cluster(), *export) {
-                try_step(board, alloc, Event::Abort(*export));
+                try_abort(board, alloc, *export);
             }
         }
     }

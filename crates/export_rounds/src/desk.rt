@@ -2,8 +2,8 @@
 ghost use Rattle.std.specs.Prelude.{◌≡◌, []};
 
 use crate::looks::{is_awaited, is_under_way};
-use export_machine::{Cluster, ImporterState};
-use mds_types::{Order, Rank};
+use export_machine::{Cluster, Event, ImporterState, StepError};
+use mds_types::{Dir, Order, Rank};
 use std::alloc::{AllocError, Global};
 use std::ops::Range;
 
@@ -102,7 +102,8 @@ fn lay_exports(cluster: &Cluster, desks: &mut Vec<Desk>) -> Result<(), AllocErro
     Ok(())
 }
 
-/// Lays messages that came on the desks of the ranks that they are for, but for those that can't do anything any more.
+/// Lays messages that came on the desks of the ranks that they are for, except those that can't do anything any more. A
+/// stopped rank gets none.
 pub fn sort_out(
     cluster: &Cluster,
     desks: &mut Vec<Desk>,
@@ -110,7 +111,7 @@ pub fn sort_out(
 ) -> Result<(), AllocError> {
     for message in messages {
         if let Some((export, rank)) = cluster.to(message) {
-            if is_awaited(cluster, export) {
+            if is_awaited(cluster, export) && !is_stopped(cluster, rank) {
                 if let Some(desk) = desks.get_mut(rank.number() as usize) {
                     desk.messages.push(message)?;
                 }
@@ -118,4 +119,10 @@ pub fn sort_out(
         }
     }
     Ok(())
+}
+
+// Whether a rank has stopped. Where the history is full the answer is no, and no event is accepted.
+fn is_stopped(cluster: &Cluster, rank: Rank) -> bool {
+    let refused = cluster.can_apply(&Event::Begin(rank, Dir::ROOT));
+    matches!(refused, Err(StepError::Stopped(_)))
 }

@@ -56,16 +56,16 @@ pub fn is_before_log(cluster: &Cluster, export: u32) -> bool
     )
 }
 
-/// Whether messages about an export may still do something: its importer has neither imported nor dropped it.
+/// Whether messages about an export may still do something: its importer has neither imported nor dropped it, and knows
+/// of it where its exporter has aborted it.
 pub fn is_awaited(cluster: &Cluster, export: u32) -> bool
     ensures there { export < length cluster.now.world.orders
-        → result ≡ looks.is_awaited (importer_of cluster.now.world export) }
+        → result ≡ looks.is_awaited (exporter_of cluster.now.world export) (importer_of cluster.now.world export) }
 {
     match cluster.states(export) {
-        Some((_, importer)) => !matches!(
-            importer,
-            ImporterState::Imported | ImporterState::Dropped
-        ),
+        Some((_, ImporterState::Imported | ImporterState::Dropped)) => false,
+        Some((ExporterState::Aborted, ImporterState::Unknown)) => false,
+        Some(_) => true,
         None => false,
     }
 }

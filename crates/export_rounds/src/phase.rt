@@ -1,7 +1,8 @@
 //! A phase of exports.
-ghost use Rattle.std.specs.Prelude.{◌≡◌, ◌+◌, List, count_by, length, IfOk, OnErr};
+ghost use Rattle.std.specs.Prelude.{◌≡◌, ◌+◌, ℕ, List, count_by, length, IfOk, OnErr};
 ghost use Rattle.mds_board.specs.History.{World};
 ghost use Rattle.mds_types.specs.declared.order.Order.{Order as TheOrder};
+ghost use Rattle.export_rounds.specs.Adding.{GoesOnBy};
 ghost use Rattle.export_rounds.specs.Asked.{AreAsked, StartsNone, is_begun};
 ghost use Rattle.export_rounds.specs.Further.{IsFurther};
 ghost use Rattle.export_rounds.specs.Outcomes.{AreAll, AreOutcomes};
@@ -34,6 +35,7 @@ pub fn carry_out_orders<J: Naming, M: Publisher<J>>(
     orders: &[Order],
 ) -> Result<Vec<Outcome>, AllocError>
     ensures further { IsFurther board.old board.new }
+    ensures events { GoesOnBy (length board.old.state.cluster.orders) board.old board.new }
     ensures outcomes { IfOk result (λ outcomes. AreOutcomes board.old board.new orders.now outcomes.items) }
     ensures all { IfOk result (λ outcomes. AreAll board.old board.new outcomes.items) }
     ensures unchanged { OnErr result (board.new ≡ board.old) }
@@ -58,6 +60,7 @@ fn first_round<J: Naming, M: Publisher<J>>(
     desks: &mut Vec<Desk>,
 )
     ensures further { IsFurther board.old board.new }
+    ensures events { (before : ℕ) → GoesOnBy before board.old board.new }
     ensures asked { (first : World) (orders : List TheOrder) → IsFurther first board.old
         → AreAsked first board.old orders standings.old.items → AreAsked first board.new orders standings.new.items }
     ensures counted { length board.new.state.cluster.orders + count_by is_begun standings.old.items

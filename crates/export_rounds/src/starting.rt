@@ -37,6 +37,7 @@ pub(crate) fn start_at<J: Naming, M: Publisher<J>>(
     desk: &mut Desk,
 )
     ensures further { IsFurther board.old board.new }
+    ensures events { (before : ℕ) → GoesOnBy before board.old board.new }
     ensures asked { (first : World) (orders : List TheOrder) → IsFurther first board.old
         → AreAsked first board.old orders standings.old.items → AreAsked first board.new orders standings.new.items }
     ensures counted { length board.new.state.cluster.orders + count_by is_begun standings.old.items
@@ -82,6 +83,7 @@ pub(crate) fn settle_rest<J: Naming, M: Publisher<J>>(
     standings: &mut Vec<Standing>,
 )
     ensures further { IsFurther board.old board.new }
+    ensures events { (before : ℕ) → GoesOnBy before board.old board.new }
     ensures asked { (first : World) (orders : List TheOrder) → IsFurther first board.old
         → AreAsked first board.old orders standings.old.items → AreAsked first board.new orders standings.new.items }
     ensures counted { length board.new.state.cluster.orders + count_by is_begun standings.old.items

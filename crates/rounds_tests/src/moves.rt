@@ -21,6 +21,8 @@ pub(crate) enum Act {
     Move(&'static [(u8, u8, u32)], &'static [Told]),
     /// An export has these states.
     States(u32, ExporterState, ImporterState),
+    /// The history has this many entries.
+    Entries(usize),
     /// Each of these directories has this authority, which the map names, too.
     Stand(&'static [(u32, u8)]),
 }
@@ -73,6 +75,7 @@ fn try_act<J: Naming, M: Publisher<J>>(
             let states = board.cluster().states(export);
             same_in(rt, &states, &Some((exporter, importer)), &name);
         }
+        Act::Entries(entries) => same_in(rt, &board.history().len(), &entries, &name),
         Act::Stand(rows) => stand(rt, board, name, rows),
     }
 }
@@ -105,6 +108,21 @@ const MOVES: &[(&str, &[Act])] = &[
             Act::Play(&[Do::Stop(1)]),
             Act::Move(&[(0, 1, 0)], &[Told::Aborted(0)]),
             Act::Stand(&[(0, 0)]),
+        ],
+    ),
+    (
+        // Two directories and a stop, and then each move starts an export and aborts it.
+        "an export that was aborted makes later moves no longer",
+        &[
+            Act::Play(&[Do::Stop(1)]),
+            Act::Move(&[(0, 1, 1)], &[Told::Aborted(0)]),
+            Act::Entries(5),
+            Act::Move(&[(0, 1, 1)], &[Told::Aborted(1)]),
+            Act::Move(&[(0, 1, 1)], &[Told::Aborted(2)]),
+            Act::Entries(9),
+            Act::Play(&[Do::Restart(1)]),
+            Act::Move(&[(0, 1, 1)], &[Told::Done(3)]),
+            Act::Stand(&[(1, 1)]),
         ],
     ),
     (

@@ -3,6 +3,7 @@ use Rattle.std.specs.List.{count_by}
 use Rattle.mds_types.specs.declared.order.Order.{Order}
 use Rattle.export_rounds.specs.declared.standing.Standing.{Standing}
 use Rattle.export_rounds.specs.Asked.{AreAsked, IsAsked, is_begun}
+use Rattle.export_rounds.proofs.Adding.{adds_more}
 use Rattle.export_rounds.proofs.Asking.{all_stay, each_long}
 use Rattle.export_rounds.proofs.Going.{joins, stays}
 use Rattle.export_rounds.proofs.phase.carry_out_orders.Goals as goal
@@ -22,6 +23,16 @@ tell-requires-clause-room g c =
 pub returns-clause-further : goal.returns-clause-further
 returns-clause-further g c =
     joins _ _ _ c.first_round.ensures.further (joins _ _ _ c.later_rounds.ensures.further (joins _ _ _ c.settle_rest.ensures.further c.abort_rest.ensures.further))
+
+pub returns-clause-events : goal.returns-clause-events
+returns-clause-events g c =
+    let b = c.args.board.now in
+    let orders = c.args.orders.now in
+    let asked = c.first_round.ensures.asked b orders (stays b) (c.in_ok-standings.ensures.asked b) in
+    let later = all_stay b c.first_round.new.board c.later_rounds.new.board orders c.first_round.new.standings.items c.later_rounds.ensures.further asked in
+    let settled = c.settle_rest.ensures.asked b orders (joins _ _ _ c.first_round.ensures.further c.later_rounds.ensures.further) later in
+    let aborted = c.abort_rest.ensures.events b orders (subst (λ (xs : List Standing). AreAsked b c.settle_rest.new.board orders xs) (sym c.deref.ensures.value) settled) in
+    adds_more _ _ _ _ (c.first_round.ensures.events _) (adds_more _ _ _ _ (c.later_rounds.ensures.events _) (adds_more _ _ _ _ (c.settle_rest.ensures.events _) aborted))
 
 pub returns-clause-outcomes : goal.returns-clause-outcomes
 returns-clause-outcomes g c =

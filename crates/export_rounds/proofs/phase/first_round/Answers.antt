@@ -1,5 +1,6 @@
 use Rattle.std.proofs.Common.{List, length, ap, arith}
 use Rattle.mds_types.specs.declared.order.Order.{Order}
+use Rattle.export_rounds.proofs.Adding.{adds_more}
 use Rattle.export_rounds.proofs.Asking.{all_stay}
 use Rattle.export_rounds.proofs.Going.{joins}
 use Rattle.export_rounds.proofs.Ordering.{joins_none}
@@ -11,6 +12,7 @@ loop-desk-preserved g c =
     let rest = after.further in
     record {
       further = joins _ _ _ c.loop-desk.invariant.further (joins _ _ _ c.start_at.ensures.further rest);
+      events = λ before. adds_more before _ _ _ (c.loop-desk.invariant.events before) (adds_more before _ _ _ (c.start_at.ensures.events before) (after.events before));
       asked = λ first orders h all.
           all_stay first _ _ orders _ rest
           (c.start_at.ensures.asked first orders (joins _ _ _ h c.loop-desk.invariant.further) (c.loop-desk.invariant.asked first orders h all));

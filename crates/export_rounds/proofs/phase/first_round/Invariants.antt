@@ -1,7 +1,8 @@
-use Rattle.std.proofs.Common.{◌≡◌, ◌+◌, List, length}
+use Rattle.std.proofs.Common.{◌≡◌, ◌+◌, ℕ, List, length}
 use Rattle.std.specs.List.{count_by}
 use Rattle.mds_board.specs.History.{World}
 use Rattle.mds_types.specs.declared.order.Order.{Order}
+use Rattle.export_rounds.specs.Adding.{GoesOnBy}
 use Rattle.export_rounds.specs.Asked.{AreAsked, is_begun}
 use Rattle.export_rounds.specs.Further.{IsFurther}
 use Rattle.export_rounds.proofs.phase.first_round.Given as goal
@@ -9,6 +10,7 @@ use Rattle.export_rounds.proofs.phase.first_round.Given as goal
 abbrev pub invariant-loop-desk : goal.invariant-loop-desk
 invariant-loop-desk g l = record {
   further : IsFurther l.fn.board l.board;
+  events : (before : ℕ) → GoesOnBy before l.fn.board l.board;
   asked : (first : World) (orders : List Order) → IsFurther first l.fn.board → AreAsked first l.fn.board orders l.fn.standings.items → AreAsked first l.board orders l.standings.items;
   counted : length l.board.state.cluster.orders + count_by is_begun l.fn.standings.items ≡ length l.fn.board.state.cluster.orders + count_by is_begun l.standings.items;
 }
