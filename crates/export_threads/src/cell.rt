@@ -5,6 +5,7 @@ ghost use Rattle.board_state.specs.Steps.{is_inner};
 ghost use Rattle.export_rounds.specs.Adding.{IsOfPhase};
 ghost use Rattle.export_rounds.specs.Asked.{AreAsked, is_begun, is_later};
 ghost use Rattle.export_threads.specs.Carrying.{IsUnderWay};
+ghost use Rattle.mds_board.specs.Promises.{IsKept};
 
 use authority_map::Publisher;
 use export_machine::{Cluster, Event};
@@ -56,6 +57,15 @@ impl<J: Naming, M: Publisher<J>, K: ExportPhase> Model for Exporting<J, M, K> {
 }
 
 impl<J: Naming, M: Publisher<J>, K: ExportPhase> Exporting<J, M, K> {
+    /// What holds of the board each time that it is found under the lock: what holds of every board, and that it has
+    /// gone on by exports alone from the one with which the phase began. It does nothing.
+    pub(crate) fn promises(&self)
+        ensures kept { IsKept self.now.board }
+        ensures under_way { IsUnderWay K.before K.orders self.now }
+    {
+        self.board.promises();
+    }
+
     /// The cluster of ranks, with its exports.
     pub(crate) fn cluster(&self) -> &Cluster
         ensures { result.now.world ≡ self.now.board.state.cluster }

@@ -12,7 +12,7 @@ pub(crate) enum Call {
     /// Nothing yet, or nothing more in this round.
     Nothing,
     /// Its turn in this round.
-    Turn(usize),
+    Turn(u64),
     /// The phase is over.
     End,
 }
@@ -47,13 +47,13 @@ impl Place {
     }
 
     /// Lays a desk here, for the rank's turn in a round. It says whether the rank has a thread.
-    pub(crate) fn call<R: Wait>(&self, rt: &R, round: usize, desk: &mut Desk) -> bool {
+    pub(crate) fn call<R: Wait>(&self, rt: &R, round: u64, desk: &mut Desk) -> bool {
         let is_taken = self.lay(rt, round, desk);
         self.called.notify_one();
         is_taken
     }
 
-    fn lay<R: Wait>(&self, rt: &R, round: usize, desk: &mut Desk) -> bool {
+    fn lay<R: Wait>(&self, rt: &R, round: u64, desk: &mut Desk) -> bool {
         let mut seat = self.seat.lock(rt);
         swap(&mut seat.desk, desk);
         seat.call = Call::Turn(round);

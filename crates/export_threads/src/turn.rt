@@ -17,7 +17,7 @@ pub(crate) fn take_turn<J: Naming, M: Publisher<J>, K: ExportPhase, R: Wait, G: 
     alloc: Global,
     cell: &ExportCell<J, M, K>,
     gate: &G,
-    round: usize,
+    round: u64,
     desk: &mut Desk,
 ) {
     gate.before(desk.rank, round);

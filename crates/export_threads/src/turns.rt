@@ -8,6 +8,7 @@ use crate::under_way::UnderWay;
 use authority_map::Publisher;
 use export_rounds::Desk;
 use export_rounds::desk::sort_out;
+use mds_types::RankSet;
 use naming::Naming;
 use std::alloc::Global;
 use std::marker::{Send, Sync};
@@ -15,7 +16,7 @@ use std::sync::Wait;
 use std::thread::Scope;
 
 /// Rounds of a phase.
-const ROUNDS: usize = 8;
+const ROUNDS: u64 = 8;
 
 /// What the threads of a phase work with.
 #[derive(Drop)]
@@ -25,6 +26,17 @@ pub(crate) struct Rounds<'a, J: Naming, M: Publisher<J>, K: ExportPhase, R: Wait
     pub(crate) cell: &'a ExportCell<J, M, K>,
     pub(crate) gate: &'a G,
     pub(crate) under_way: UnderWay,
+}
+
+// The ranks that have nothing to look after.
+fn idle_ranks(desks: &[Desk]) -> RankSet {
+    let mut bits: u64 = 0;
+    for desk in desks {
+        if desk.is_empty() {
+            bits |= 1 << desk.rank.number();
+        }
+    }
+    RankSet::from_bits(bits)
 }
 
 impl<
@@ -69,13 +81,7 @@ impl<
 
     // Calls a rank for its turn. A thread is made for it where it has none, and where none is to be had, this one takes
     // the turn.
-    fn call<'s, E>(
-        &'s self,
-        scope: &Scope<'s, E>,
-        round: usize,
-        place: &'s Place,
-        desk: &mut Desk,
-    ) {
+    fn call<'s, E>(&'s self, scope: &Scope<'s, E>, round: u64, place: &'s Place, desk: &mut Desk) {
         self.under_way.begin(self.rt);
         let has_thread = place.call(self.rt, round, desk);
         if !has_thread && scope.spawn(move || self.serve(place)).is_err() {
@@ -83,21 +89,33 @@ impl<
         }
     }
 
-    // Each rank that has something to look after takes its turn in a round.
+    // Each rank takes its turn in a round.
     fn take_turns<'s, E>(
         &'s self,
         scope: &Scope<'s, E>,
-        round: usize,
+        round: u64,
         places: &'s [Place],
         desks: &mut [Desk],
     ) {
+        let idle = idle_ranks(desks);
         for (place, desk) in places.iter().zip(desks.iter_mut()) {
-            if !desk.is_empty() {
+            if !idle.has(desk.rank) {
                 self.call(scope, round, place, desk);
             }
         }
+        self.pass_idle(round, idle, desks);
         self.under_way.wait(self.rt);
         self.clear(places, desks);
+    }
+
+    // Calls the gate for the ranks that have nothing to look after in a round.
+    fn pass_idle(&self, round: u64, idle: RankSet, desks: &[Desk]) {
+        for desk in desks {
+            if idle.has(desk.rank) {
+                self.gate.before(desk.rank, round);
+                self.gate.after(desk.rank, round);
+            }
+        }
     }
 
     // Takes the desks back.
@@ -138,7 +156,7 @@ impl<
     ) {
         let mut seen = self.sent();
         for round in 0..ROUNDS {
-            self.take_turns(scope, round, places, desks);
+            self.take_turns(scope, round + 1, places, desks);
             seen = self.sort_out(desks, seen);
         }
         self.end(places);

@@ -1,7 +1,6 @@
 -- Shares come back in rank order.
-use Rattle.std.proofs.Common.{◌≡◌, ℕ, suc, ◌+◌, ◌<◌, ◌≤◌, Option, Some, None, List, [], ◌∷◌, ◌++◌, length, map, Vec, Global, vec_capacity, refl, sym, ap, arith, ◌∙◌, subst, inl, inr}
+use Rattle.std.proofs.Common.{◌≡◌, ℕ, suc, ◌+◌, ◌<◌, ◌≤◌, Option, Some, None, List, [], ◌∷◌, ◌++◌, length, Vec, Global, refl, sym, ap, arith, ◌∙◌, subst, inl, inr}
 use Rattle.std.specs.List.{All, AllZip}
-use Rattle.std.proofs.lemmas.List.{length-map, map-append}
 use Rattle.std.proofs.lemmas.List.Elements.{All-push}
 use Rattle.heat_ledger.specs.declared.hit_error.HitError.TheVariants as hit
 use Rattle.heat_ledger.specs.Ledger.{ShareData, IsClean}
@@ -12,6 +11,7 @@ use Rattle.rank_threads.specs.declared.work.WorkAnswer.{WorkAnswer}
 use Rattle.rank_threads.specs.declared.work.WorkError.{WorkError}
 use Rattle.rank_threads.specs.declared.work.WorkError.TheVariants as error
 use Rattle.rank_threads.specs.Answered.{AreAnswered, IsRankAnswered}
+use Rattle.rank_threads.specs.Asking.{HasRoom}
 use Rattle.rank_threads.specs.Serving.{AreReturned, AreShort, IsDeposited, IsReturned, IsServed, IsShort}
 
 -- a share that counts no less is as full
@@ -66,24 +66,10 @@ module _ {A B : Type 0} (R : A → B → Type 0) where
   zip_last (v ∷ u ∷ xs) [] x y all = absurd all.1
   zip_last (v ∷ xs) (w ∷ ys) x y all = let rest = zip_last xs ys x y all.1 in ((all.0, rest.0), rest.1)
 
--- room for the answers to a script
-abbrev pub HasRoom : Vec Work Global → Vec WorkAnswer Global → Type 0
-HasRoom script room = (room.items ≡ []) × (length script.items ≤ vec_capacity room)
-
 pub rooms_last : (scripts before : List (Vec Work Global)) (script : Vec Work Global) (rooms rest : List (Vec WorkAnswer Global)) (room : Vec WorkAnswer Global)
     → scripts ≡ before ++ script ∷ [] → rooms ≡ rest ++ room ∷ [] → AllZip HasRoom scripts rooms → AllZip HasRoom before rest × HasRoom script room
 rooms_last scripts before script rooms rest room es er all =
     zip_last HasRoom before rest script room (subst (λ (l : List (Vec WorkAnswer Global)). AllZip HasRoom (before ++ script ∷ []) l) er (subst (λ (l : List (Vec Work Global)). AllZip HasRoom l rooms) es all))
-
-pub returned_all : (limit : ℕ) (shares olds : List ShareData) (old : ShareData) (scripts before : List (Vec Work Global)) (script : Vec Work Global)
-    (some all : List (Vec WorkAnswer Global)) (given : Vec WorkAnswer Global) (news back : List ShareData) (new : ShareData)
-    → shares ≡ olds ++ old ∷ [] → scripts ≡ before ++ script ∷ [] → all ≡ some ++ given ∷ [] → back ≡ news ++ new ∷ []
-    → AreReturned limit olds (map (λ (s : Vec Work Global). s.items) before) (map (λ (a : Vec WorkAnswer Global). a.items) some) news
-    → IsReturned limit old script.items given.items new
-    → AreReturned limit shares (map (λ (s : Vec Work Global). s.items) scripts) (map (λ (a : Vec WorkAnswer Global). a.items) all) back
-returned_all limit shares olds old scripts before script some all given news back new es ew ea eb rest last =
-    rw (es, ew, ea, eb, map-append (λ (s : Vec Work Global). s.items) before (script ∷ []), map-append (λ (a : Vec WorkAnswer Global). a.items) some (given ∷ []))
-    (returned_last limit olds (map (λ (s : Vec Work Global). s.items) before) (map (λ (a : Vec WorkAnswer Global). a.items) some) news old script.items given.items new rest last)
 
 pub clean_last : (news back : List ShareData) (new : ShareData) → back ≡ news ++ new ∷ [] → All (λ s. IsClean s) news → IsClean new → All (λ s. IsClean s) back
 clean_last news back new is all last = subst (λ (l : List ShareData). All (λ s. IsClean s) l) (sym is) (All-push (λ (s : ShareData). IsClean s) news new all last)
@@ -102,7 +88,7 @@ module _ {A B : Type 0} (R : A → B → Type 0) where
   zip_length (v ∷ xs) (w ∷ ys) all = ap (λ n. suc n) (zip_length xs ys all.1)
 
 -- the answers of one rank more
-answered_last : (before : World) (first : ℕ) (scripts : List (List Work)) (answers : List (List WorkAnswer)) (works : List Work) (given : List WorkAnswer)
+pub answered_last : (before : World) (first : ℕ) (scripts : List (List Work)) (answers : List (List WorkAnswer)) (works : List Work) (given : List WorkAnswer)
     → AreAnswered before first scripts answers → IsRankAnswered before (first + length scripts) works given
     → AreAnswered before first (scripts ++ works ∷ []) (answers ++ given ∷ [])
 answered_last before first [] [] works given all last =
@@ -112,15 +98,3 @@ answered_last before first (w ∷ scripts) [] works given all last = absurd all
 answered_last before first (w ∷ scripts) (a ∷ answers) works given all last =
     let same : first + suc (length scripts) ≡ first + 1 + length scripts = omega arith in
     (all.0, answered_last before (first + 1) scripts answers works given all.1 (subst (λ (r : ℕ). IsRankAnswered before r works given) same last))
-
-pub answered_all : (first : World) (scripts before : List (Vec Work Global)) (script : Vec Work Global) (some all : List (Vec WorkAnswer Global)) (given : Vec WorkAnswer Global) (rank : ℕ)
-    → scripts ≡ before ++ script ∷ [] → all ≡ some ++ given ∷ [] → rank ≡ length before
-    → AreAnswered first 0 (map (λ (s : Vec Work Global). s.items) before) (map (λ (a : Vec WorkAnswer Global). a.items) some)
-    → IsRankAnswered first rank script.items given.items
-    → AreAnswered first 0 (map (λ (s : Vec Work Global). s.items) scripts) (map (λ (a : Vec WorkAnswer Global). a.items) all)
-answered_all first scripts before script some all given rank ew ea er rest last =
-    let items : List (List Work) = map (λ (s : Vec Work Global). s.items) before in
-    let size : length items ≡ length before = length-map before (λ (s : Vec Work Global). s.items) in
-    let at_last : 0 + length items ≡ rank = omega (arith, size, er) in
-    rw (ew, ea, map-append (λ (s : Vec Work Global). s.items) before (script ∷ []), map-append (λ (a : Vec WorkAnswer Global). a.items) some (given ∷ []))
-    (answered_last first 0 items (map (λ (a : Vec WorkAnswer Global). a.items) some) script.items given.items rest (subst (λ (r : ℕ). IsRankAnswered first r script.items given.items) (sym at_last) last))

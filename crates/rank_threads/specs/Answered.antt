@@ -1,6 +1,6 @@
 -- What the answers of a phase say of its board.
-use Rattle.std.specs.Prelude.{◌≡◌, ◌≢◌, ◌⊎◌, ℕ, ◌+◌, List, [], ◌∷◌, Option, Some}
-use Rattle.std.specs.Prelude.{None, All, IfSome, IsOk, Result, Ok, Err}
+use Rattle.std.specs.Prelude.{◌≡◌, ◌≢◌, ◌≤◌, ◌⊎◌, ℕ, ◌+◌, List, [], ◌∷◌, Option, Some}
+use Rattle.std.specs.Prelude.{None, All, IsOk, Result, Ok, Err, length}
 use Rattle.std.specs.List.{AllZip}
 use Rattle.export_machine.specs.declared.event.Event.TheVariants.{Begin, End}
 use Rattle.export_machine.specs.declared.event.Reply.TheVariants.{Ticket}
@@ -72,17 +72,14 @@ abbrev pub IsDepositTold : World → Result Unit BoardError → Type 0
 IsDepositTold before (Ok done) = Unit {0}
 IsDepositTold before (Err error) = (rows : List (ℕ × ℕ)) × IsMet before (Deposit rows) error
 
--- a request with a ticket doesn't run any more
-abbrev pub HasEnded : World → WorkAnswer → Type 0
-HasEnded now answer = IfSome answer.ticket (λ ticket. request_of now.state.cluster ticket ≡ None)
-
 -- All ends were accepted, or one was refused so.
 abbrev pub IsEndMet : World → Result Unit BoardError → Type 0
 IsEndMet before (Ok done) = Unit {0}
 IsEndMet before (Err error) =
     (ticket : ℕ) × IsMet before (Step (End ticket)) error × (error ≢ board_error.Step NoTicket)
 
--- No request whose ticket an answer names runs any more, or the end of one was refused.
-abbrev pub IsEndTold : World → World → List (List WorkAnswer) → Result Unit BoardError → Type 0
-IsEndTold before now answers ended =
-    IsEndMet before ended × (IsOk ended → All (λ of_rank. All (HasEnded now) of_rank) answers)
+-- No request runs any more that began since, or the end of one was refused.
+abbrev pub IsEndTold : World → World → Result Unit BoardError → Type 0
+IsEndTold before now ended =
+    IsEndMet before ended
+    × (IsOk ended → (ticket : ℕ) → length before.state.cluster.tickets ≤ ticket → request_of now.state.cluster ticket ≡ None)

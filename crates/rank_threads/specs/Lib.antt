@@ -1,4 +1,5 @@
 pub mod Answered
+pub mod Asking
 pub mod Going
 pub mod Refused
 pub mod Serving

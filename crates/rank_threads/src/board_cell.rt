@@ -4,6 +4,7 @@ ghost use Rattle.heat_ledger.specs.Rows.{counted_rows, raised};
 ghost use Rattle.board_state.specs.Steps.{spelled};
 ghost use Rattle.export_machine.specs.Step.{refusal};
 ghost use Rattle.mds_board.specs.History.{IsAnswer};
+ghost use Rattle.mds_board.specs.Promises.{IsKept};
 ghost use Rattle.rank_threads.specs.Answered.{IsBegun, IsMet};
 ghost use Rattle.rank_threads.specs.Going.{WentOn};
 
@@ -94,6 +95,22 @@ impl<J: Naming, M: Publisher<J>, K: Phase> Phased<J, M, K> {
         ensures unchanged { OnErr result (share.new ≡ share.old) }
     {
         self.board.deposit(alloc, share)
+    }
+
+    /// What holds of the board each time that it is found under the lock: what holds of every board, and that it has
+    /// gone on from the one with which the phase began. It does nothing.
+    pub fn promises(&self)
+        ensures kept { IsKept self.now }
+        ensures went { WentOn K.before self.now }
+    {
+        self.board.promises();
+    }
+
+    // The board.
+    pub(crate) fn board(&self) -> &Board<J, M>
+        ensures { result.now ≡ self.now }
+    {
+        &self.board
     }
 
     /// The board.

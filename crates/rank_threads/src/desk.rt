@@ -1,5 +1,5 @@
 //! A thread for the requests of one rank.
-ghost use Rattle.std.specs.Prelude.{◌≡◌, ◌≤◌, [], length, vec_capacity};
+ghost use Rattle.std.specs.Prelude.{◌≡◌, ◌≤◌, [], IfErr, IfOk, length, vec_capacity};
 ghost use Rattle.rank_threads.specs.Answered.{IsRankServed};
 
 use crate::board_cell::{BoardCell, Phase};
@@ -11,12 +11,11 @@ use heat_ledger::Share;
 use mds_types::Rank;
 use naming::Naming;
 use std::alloc::Global;
-use std::marker::{PhantomData, Send, Sync};
+use std::marker::{Model, PhantomData, Send, Sync};
 use std::snapshot::Snapshot;
 use std::sync::Wait;
-use std::sync::atomic::{AtomicBool, Ordering};
-use std::thread;
-use std::thread::{Promise, Threads};
+use std::sync::atomic::{AtomicU64, Ordering};
+use std::thread::{Promise, PromisedHandle, Scope, Threads};
 
 /// A rank's share, with the answers to its requests.
 #[derive(Drop)]
@@ -41,98 +40,164 @@ impl<J: Naming, K: Phase> Promise<Desk<J>> for Served<J, K> {
         desk.answers.items desk.share };
 }
 
-// Serves the requests of a rank, or refuses them where it has no thread.
-fn serve_desk<J: Naming, M: Publisher<J>, K: Phase, R: Wait, G: Gate>(
-    rt: &R,
-    alloc: Global,
-    cell: &BoardCell<J, M, K>,
-    gate: &G,
-    no_thread: &AtomicBool,
+/// A rank that was asked to serve its requests. A contract sees the rank, and its share and its script before.
+#[derive(Drop)]
+pub(crate) struct Asked<J: Naming, K: Phase> {
     rank: Rank,
-    script: &Vec<Work>,
-    desk: Desk<J>,
-) -> Desk<J>
-    requires empty { desk.answers.items ≡ [] }
-    requires room { length script.now.items ≤ vec_capacity desk.answers }
-    ensures { IsRankServed J.limit K.before rank desk.share script.now.items result.answers.items result.share }
-{
-    let Desk {
-        mut share,
-        mut answers,
-    } = desk;
-    let has_thread = !no_thread.load(Ordering::SeqCst);
-    serve_script(
-        rt,
-        alloc,
-        cell,
-        gate,
-        has_thread,
-        rank,
-        script,
-        &mut share,
-        &mut answers,
-    );
-    Desk { share, answers }
+    share: Snapshot<Share<J>>,
+    script: Snapshot<Vec<Work>>,
+    // the rank's thread, or its desk where it has none
+    desk: Result<PromisedHandle<Desk<J>, Served<J, K>>, Desk<J>>,
 }
 
-/// Serves the requests of a rank by a thread of its own, while this one does the rest. Where there is no thread they
-/// are refused, and where there are no requests none is made.
-pub(crate) fn serve_beside<
+impl<J: Naming, K: Phase> Model for Asked<J, K> {
+    ghost use Rattle.std.specs.Prelude.{◌≡◌, IfErr, IfOk};
+    ghost use Rattle.rank_threads.specs.Answered.{IsRankServed};
+    ghost use Rattle.rank_threads.specs.Asking.{Asking};
+
+    ghost Value = { Asking };
+
+    ghost view = { λ a. record { rank = a.rank; share = a.share.value; script = a.script.value.items } };
+
+    ghost invariant = { λ a. IfOk a.desk (λ child. (child.promise.rank ≡ a.rank)
+        × (child.promise.share.value ≡ a.share.value) × (child.promise.script.value ≡ a.script.value))
+        × IfErr a.desk (λ desk. IsRankServed J.limit K.before a.rank a.share.value a.script.value.items
+        desk.answers.items desk.share) };
+}
+
+impl<J: Naming, K: Phase> Asked<J, K> {
+    /// Waits for the rank's thread, if it has one, and gives its desk.
+    pub(crate) fn join<R: Threads>(self, rt: &R) -> Desk<J>
+        ensures { IsRankServed J.limit K.before self.rank self.share self.script result.answers.items result.share }
+    {
+        let Asked {
+            rank: _rank,
+            share: _share,
+            script: _script,
+            desk,
+        } = self;
+        match desk {
+            Ok(child) => child.join(rt),
+            Err(desk) => desk,
+        }
+    }
+}
+
+/// What the threads of a phase work with.
+#[derive(Drop)]
+pub(crate) struct Serving<'a, J: Naming, M: Publisher<J>, K: Phase, R: Wait, G: Gate> {
+    pub(crate) rt: &'a R,
+    pub(crate) alloc: Global,
+    pub(crate) cell: &'a BoardCell<J, M, K>,
+    pub(crate) gate: &'a G,
+    // the number of the rank for which the last thread was refused
+    refused: AtomicU64,
+}
+
+impl<
+    'a,
     J: Naming + Send + Sync,
     M: Publisher<J> + Send,
     K: Phase + Send + Sync,
-    R: Threads + Wait + Sync,
+    R: Wait + Sync,
     G: Gate + Sync,
-    T,
-    F: FnOnce() -> T,
->(
-    rt: &R,
-    alloc: Global,
-    cell: &BoardCell<J, M, K>,
-    gate: &G,
-    rank: Rank,
-    script: &Vec<Work>,
-    desk: Desk<J>,
-    rest: F,
-) -> (Desk<J>, T)
-    requires rest { F.pre rest }
-    requires empty { desk.answers.items ≡ [] }
-    requires room { length script.now.items ≤ vec_capacity desk.answers }
-    ensures served { IsRankServed J.limit K.before rank desk.share script.now.items result.0.answers.items
-        result.0.share }
-    ensures rest { F.post rest result.1 }
-{
-    if script.is_empty() {
-        return (desk, rest());
+> Serving<'a, J, M, K, R, G> {
+    pub(crate) fn new(rt: &'a R, alloc: Global, cell: &'a BoardCell<J, M, K>, gate: &'a G) -> Self {
+        Serving {
+            rt,
+            alloc,
+            cell,
+            gate,
+            refused: AtomicU64::new(u64::MAX),
+        }
     }
-    let no_thread = AtomicBool::new(false);
-    thread::scope(
-        thread::scope_env(),
-        rt,
-        |scope| -> (Desk<J>, T)
-            requires { F.pre rest × (desk.answers.items ≡ []) × (length script.now.items ≤ vec_capacity desk.answers) }
-            ensures { IsRankServed J.limit K.before rank desk.share script.entry.now.items result.0.answers.items
-                result.0.share × F.post rest result.1 }
-        {
-            let promise = Served::<J, K> {
-                share: Snapshot::of(&desk.share),
-                script: Snapshot::of(script),
-                rank,
-                of: PhantomData,
-            };
-            match scope.spawn_with(promise, || {
-                serve_desk(rt, alloc, cell, gate, &no_thread, rank, script, desk)
-            }) {
-                Ok(child) => {
-                    let done = rest();
-                    (child.join(rt), done)
-                }
-                Err(refused) => {
-                    no_thread.store(true, Ordering::SeqCst);
-                    let desk = (refused.value)();
-                    (desk, rest())
-                }
+
+    // Serves the requests of a rank, or refuses them where it has no thread.
+    fn serve(&self, rank: Rank, script: &Vec<Work>, desk: Desk<J>) -> Desk<J>
+        requires empty { desk.answers.items ≡ [] }
+        requires room { length script.now.items ≤ vec_capacity desk.answers }
+        ensures { IsRankServed J.limit K.before rank desk.share script.now.items result.answers.items result.share }
+    {
+        let Desk {
+            mut share,
+            mut answers,
+        } = desk;
+        let has_thread = self.refused.load(Ordering::SeqCst) != u64::from(rank.number());
+        serve_script(
+            self.rt,
+            self.alloc,
+            self.cell,
+            self.gate,
+            has_thread,
+            rank,
+            script,
+            &mut share,
+            &mut answers,
+        );
+        Desk { share, answers }
+    }
+
+    // Serves the requests of a rank by a thread of its own. Where there is none they are refused.
+    fn spawn<'s, E>(
+        &'s self,
+        scope: &Scope<'s, E>,
+        rank: Rank,
+        script: &'s Vec<Work>,
+        desk: Desk<J>,
+    ) -> Result<PromisedHandle<Desk<J>, Served<J, K>>, Desk<J>>
+        requires empty { desk.answers.items ≡ [] }
+        requires room { length script.now.items ≤ vec_capacity desk.answers }
+        ensures child { IfOk result (λ child. (child.promise.rank ≡ rank) × (child.promise.share.value ≡ desk.share)
+            × (child.promise.script.value ≡ script.now)) }
+        ensures desk { IfErr result (λ done. IsRankServed J.limit K.before rank desk.share script.now.items
+            done.answers.items done.share) }
+    {
+        let promise = Served::<J, K> {
+            share: Snapshot::of(&desk.share),
+            script: Snapshot::of(script),
+            rank,
+            of: PhantomData,
+        };
+        let served = move || -> Desk<J>
+            requires { (desk.answers.items ≡ []) × (length script.now.items ≤ vec_capacity desk.answers) }
+            ensures { IsRankServed J.limit K.before rank desk.share script.entry.now.items result.answers.items
+                result.share }
+        { self.serve(rank, script, desk) };
+        match scope.spawn_with(promise, served) {
+            Ok(child) => Ok(child),
+            Err(refused) => {
+                self.refused
+                    .store(u64::from(rank.number()), Ordering::SeqCst);
+                Err((refused.value)())
             }
-        },
-    )
+        }
+    }
+
+    /// Asks a rank to serve its requests, by a thread of its own. Where there is no thread they are refused, and where
+    /// there are no requests none is made.
+    pub(crate) fn ask<'s, E>(
+        &'s self,
+        scope: &Scope<'s, E>,
+        rank: Rank,
+        script: &'s Vec<Work>,
+        desk: Desk<J>,
+    ) -> Asked<J, K>
+        requires empty { desk.answers.items ≡ [] }
+        requires room { length script.now.items ≤ vec_capacity desk.answers }
+        ensures { result ≡ record { rank = rank; share = desk.share; script = script.now.items } }
+    {
+        let share = Snapshot::of(&desk.share);
+        let kept = Snapshot::of(script);
+        let desk = if script.is_empty() {
+            Err(desk)
+        } else {
+            self.spawn(scope, rank, script, desk)
+        };
+        Asked {
+            rank,
+            share,
+            script: kept,
+            desk,
+        }
+    }
 }

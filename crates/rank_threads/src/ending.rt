@@ -1,12 +1,17 @@
 //! Requests that still run when the threads of a phase have joined end.
-ghost use Rattle.std.specs.Prelude.{◌≡◌, ◌⊎◌, ◌↔◌, ℕ, All, IsOk, None, map};
+ghost use Rattle.std.specs.Prelude.{◌≡◌, ◌⊎◌, ◌↔◌, ◌++◌, ◌<◌, ℕ, IsOk, List, None, Some, length, slice_get};
+ghost use Rattle.board_state.specs.declared.change.Answer.TheVariants as answer;
 ghost use Rattle.export_machine.specs.Authority.{request_of};
-ghost use Rattle.rank_threads.specs.Answered.{HasEnded, IsEndMet, IsEndTold};
+ghost use Rattle.export_machine.specs.declared.event.Reply.TheVariants as reply;
+ghost use Rattle.mds_board.specs.declared.entry.Entry.{Entry};
+ghost use Rattle.mds_board.specs.Stored.{shown_entry};
+ghost use Rattle.rank_threads.specs.Answered.{IsEndMet, IsEndTold};
 
 use crate::board_cell::{Phase, Phased};
-use crate::work::WorkAnswer;
 use authority_map::Publisher;
-use board_state::BoardError;
+use board_state::{Answer, BoardError};
+use export_machine::Reply;
+use mds_board::Shown;
 use naming::Naming;
 use std::alloc::Global;
 
@@ -24,6 +29,20 @@ pub(crate) fn first_refusal(
     }
 }
 
+// The ticket with which a request began, if an entry says that one began.
+fn ticket_of(shown: Shown<'_>) -> Option<u32>
+    ensures { (ticket : ℕ) → (shown_entry shown.entry).reply ≡ answer.Reply (reply.Ticket ticket) → result ≡ Some ticket }
+{
+    match shown {
+        Shown::Began(_, _, ticket) => Some(ticket),
+        Shown::Ended(_) => None,
+        Shown::Other(entry) => match &entry.reply {
+            Answer::Reply(Reply::Ticket(ticket)) => Some(*ticket),
+            _ => None,
+        },
+    }
+}
+
 impl<J: Naming, M: Publisher<J>, K: Phase> Phased<J, M, K> {
     // Ends a request, unless it has ended.
     fn end_once(&mut self, alloc: Global, ticket: u32) -> Result<(), BoardError>
@@ -31,6 +50,7 @@ impl<J: Naming, M: Publisher<J>, K: Phase> Phased<J, M, K> {
         ensures others { (t : ℕ) → request_of self.old.state.cluster t ≡ None
             → request_of self.new.state.cluster t ≡ None }
         ensures refused { IsEndMet K.before result }
+        ensures history { (more : List Entry) × (self.new.history ≡ self.old.history ++ more) }
     {
         if self.has_ended(ticket) {
             return Ok(());
@@ -41,34 +61,35 @@ impl<J: Naming, M: Publisher<J>, K: Phase> Phased<J, M, K> {
         }
     }
 
-    // Ends the requests of a rank that still run.
-    fn end_those(&mut self, alloc: Global, answers: &[WorkAnswer]) -> Result<(), BoardError>
-        ensures ended { IsOk result → All (HasEnded self.new) answers.now }
-        ensures others { (t : ℕ) → request_of self.old.state.cluster t ≡ None
-            → request_of self.new.state.cluster t ≡ None }
-        ensures refused { IsEndMet K.before result }
+    /// Ends the requests that began in the phase and still run, and reports the first refusal. The history had `first`
+    /// entries when the phase began.
+    pub(crate) fn end_all(&mut self, alloc: Global, first: usize) -> Result<(), BoardError>
+        requires { first ≡ length K.before.history }
+        ensures { IsEndTold K.before self.new result }
     {
+        self.promises();
         let mut ended = Ok(());
-        for answer in answers {
-            if let Some(ticket) = answer.ticket {
+        for number in first..self.entries() {
+            if let Some(ticket) = self.ticket_at(number) {
                 ended = first_refusal(ended, self.end_once(alloc, ticket));
             }
         }
         ended
     }
 
-    /// Ends the requests that began and still run, and tells the first refusal.
-    pub(crate) fn end_all(
-        &mut self,
-        alloc: Global,
-        answers: &[Vec<WorkAnswer>],
-    ) -> Result<(), BoardError>
-        ensures { IsEndTold K.before self.new (map (λ a. a.items) answers.now) result }
+    // How many entries the history has.
+    fn entries(&self) -> usize
+        ensures { result ≡ length self.now.history }
     {
-        let mut ended = Ok(());
-        for of_rank in answers {
-            ended = first_refusal(ended, self.end_those(alloc, of_rank));
-        }
-        ended
+        self.board().history().len()
+    }
+
+    // The ticket with which a request began, if the entry of this number says that one began.
+    fn ticket_at(&self, number: usize) -> Option<u32>
+        requires { number < length self.now.history }
+        ensures { (ticket : ℕ) (entry : Entry) → slice_get self.now.history number ≡ Some entry
+            → entry.reply ≡ answer.Reply (reply.Ticket ticket) → result ≡ Some ticket }
+    {
+        ticket_of(self.board().history().at(number))
     }
 }

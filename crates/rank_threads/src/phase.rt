@@ -1,14 +1,16 @@
 //! The requests of all ranks, by a thread a rank.
-ghost use Rattle.std.specs.Prelude.{◌≡◌, ◌<◌, ◌≤◌, ◌+◌, [], ◌∷◌, ◌++◌, IfErr, IfOk, IsOk};
+ghost use Rattle.std.specs.Prelude.{◌≡◌, ◌<◌, ◌≤◌, ◌+◌, [], ◌∷◌, ◌++◌, IfErr, IfOk, IsOk, List};
 ghost use Rattle.std.specs.Prelude.{OnErr, length, map, vec_capacity, vec_len};
 ghost use Rattle.std.specs.List.{All, AllZip};
 ghost use Rattle.heat_ledger.specs.Ledger.{IsClean, ShareData};
+ghost use Rattle.rank_threads.specs.declared.work.Work.{Work as TheWork};
 ghost use Rattle.rank_threads.specs.Answered.{AreAnswered, IsDepositTold, IsEndTold};
+ghost use Rattle.rank_threads.specs.Asking.{AreJoined, AreLaid, HasRoom, askings};
 ghost use Rattle.rank_threads.specs.Going.{WentOn};
 ghost use Rattle.rank_threads.specs.Serving.{AreReturned, IsDeposited};
 
 use crate::board_cell::{BoardCell, Phase};
-use crate::desk::{Desk, serve_beside};
+use crate::desk::{Asked, Desk, Serving};
 use crate::ending::first_refusal;
 use crate::work::{Work, WorkAnswer};
 use authority_map::Publisher;
@@ -21,7 +23,8 @@ use naming::Naming;
 use std::alloc::{AllocError, AllocFailed, Global};
 use std::marker::{Brand, Send, Sync};
 use std::sync::Wait;
-use std::thread::Threads;
+use std::thread;
+use std::thread::{Scope, Threads};
 
 /// What a phase leaves of the shares and the requests, in rank order.
 #[derive(Drop)]
@@ -32,7 +35,7 @@ pub struct Ranks<J: Naming> {
     pub answers: Vec<Vec<WorkAnswer>>,
     /// Whether all hits were deposited, or why a share's weren't, the first such.
     pub deposited: Result<(), BoardError>,
-    /// Whether no request runs any more that began, or why the end of one was refused, the first such.
+    /// Whether no request runs any more that began in the phase, or why the end of one was refused, the first such.
     pub ended: Result<(), BoardError>,
 }
 
@@ -42,6 +45,14 @@ struct Joined<J: Naming> {
     shares: Vec<Share<J>>,
     answers: Vec<Vec<WorkAnswer>>,
     deposited: Result<(), BoardError>,
+}
+
+// The shares, room for the answers, and room for the ranks that are asked.
+#[derive(Drop)]
+struct Laid<J: Naming, K: Phase> {
+    shares: Vec<Share<J>>,
+    rooms: Vec<Vec<WorkAnswer>>,
+    asked: Vec<Asked<J, K>>,
 }
 
 // Deposits a share's hits.
@@ -111,90 +122,159 @@ fn last_desk<J: Naming>(shares: &mut Vec<Share<J>>, rooms: &mut Vec<Vec<WorkAnsw
     Desk { share, answers }
 }
 
-// Serves the requests of all ranks, those of the last by a thread beside the ranks before it, and then deposits each
-// share's hits, in rank order.
+impl<
+    J: Naming + Send + Sync,
+    M: Publisher<J> + Send,
+    K: Phase + Send + Sync,
+    R: Threads + Wait + Sync,
+    G: Gate + Sync,
+> Serving<'_, J, M, K, R, G> {
+    // Asks all ranks to serve their requests, the last rank first.
+    fn ask_all<'s, E>(
+        &'s self,
+        scope: &Scope<'s, E>,
+        scripts: &'s [Vec<Work>],
+        laid: Laid<J, K>,
+    ) -> Laid<J, K>
+        requires few { length scripts.now ≤ 64 }
+        requires laid { AreLaid scripts.now laid.shares laid.rooms laid.asked }
+        ensures asked { result.asked.items ≡ askings 0 laid.shares.items (map (λ s. s.items) scripts.now) }
+        ensures empty { (result.shares.items ≡ []) × (result.rooms.items ≡ []) }
+        ensures count { vec_len result.asked ≡ length scripts.now }
+        ensures room { (length scripts.now ≤ vec_capacity result.shares)
+            × (length scripts.now ≤ vec_capacity result.rooms) }
+    {
+        let Laid {
+            mut shares,
+            mut rooms,
+            mut asked,
+        } = laid;
+        let mut left = scripts;
+        while let Some((script, before)) = left.split_last() {
+            let Some(rank) = Rank::new(before.len() as u8) else {
+                unreachable!()
+            };
+            let desk = last_desk(&mut shares, &mut rooms);
+            asked.push_reserved(self.ask(scope, rank, script, desk));
+            left = before;
+        }
+        Laid {
+            shares,
+            rooms,
+            asked,
+        }
+    }
+
+    // Waits for each rank, from rank 0 on, and deposits its share's hits.
+    fn join_all(&self, asked: Vec<Asked<J, K>>, ranks: Joined<J>) -> Joined<J>
+        requires none { (ranks.shares.items ≡ []) × (ranks.answers.items ≡ []) }
+        requires deposited { IsOk ranks.deposited }
+        requires room { (vec_len asked ≤ vec_capacity ranks.shares) × (vec_len asked ≤ vec_capacity ranks.answers) }
+        ensures joined { (shares : List ShareData) (scripts : List (List TheWork)) → length shares ≡ length scripts
+            → asked.items ≡ askings 0 shares scripts → AreJoined J.limit K.before shares scripts
+            (map (λ a. a.items) result.answers.items) result.shares.items result.deposited }
+    {
+        let mut asked = asked;
+        let mut ranks = ranks;
+        while let Some(rank) = asked.pop() {
+            let desk = rank.join(self.rt);
+            ranks = with_desk(self.rt, self.alloc, self.cell, ranks, desk);
+        }
+        ranks
+    }
+
+    // Serves the requests of all ranks, and then deposits each share's hits, in rank order.
+    fn serve_all<'s, E>(
+        &'s self,
+        scope: &Scope<'s, E>,
+        scripts: &'s [Vec<Work>],
+        laid: Laid<J, K>,
+    ) -> Joined<J>
+        requires few { length scripts.now ≤ 64 }
+        requires laid { AreLaid scripts.now laid.shares laid.rooms laid.asked }
+        ensures { AreJoined J.limit K.before laid.shares.items (map (λ s. s.items) scripts.now)
+            (map (λ a. a.items) result.answers.items) result.shares.items result.deposited }
+    {
+        let Laid {
+            shares,
+            rooms,
+            asked,
+        } = self.ask_all(scope, scripts, laid);
+        let ranks = Joined {
+            shares,
+            answers: rooms,
+            deposited: Ok(()),
+        };
+        self.join_all(asked, ranks)
+    }
+}
+
+// Serves the requests of all ranks, each rank's by a thread of its own, and deposits each share's hits.
 fn serve_ranks<
+    'a,
     J: Naming + Send + Sync,
     M: Publisher<J> + Send,
     K: Phase + Send + Sync,
     R: Threads + Wait + Sync,
     G: Gate + Sync,
 >(
-    rt: &R,
+    rt: &'a R,
     alloc: Global,
-    cell: &BoardCell<J, M, K>,
-    gate: &G,
-    scripts: &[Vec<Work>],
-    shares: Vec<Share<J>>,
-    rooms: Vec<Vec<WorkAnswer>>,
+    cell: &'a BoardCell<J, M, K>,
+    gate: &'a G,
+    scripts: &'a [Vec<Work>],
+    laid: Laid<J, K>,
 ) -> Joined<J>
     requires few { length scripts.now ≤ 64 }
-    requires equal { vec_len shares ≡ length scripts.now }
-    requires rooms { (vec_len rooms ≡ length scripts.now)
-        × AllZip (λ script room. (room.items ≡ []) × (length script.items ≤ vec_capacity room)) scripts.now
-        rooms.items }
-    ensures returned { AreReturned J.limit shares.items (map (λ s. s.items) scripts.now)
-        (map (λ a. a.items) result.answers.items) result.shares.items }
-    ensures clean { IsOk result.deposited → All (λ s. IsClean s) result.shares.items }
-    ensures answered { AreAnswered K.before 0 (map (λ s. s.items) scripts.now)
-        (map (λ a. a.items) result.answers.items) }
-    ensures told { IsDepositTold K.before result.deposited }
-    ensures count { (vec_len result.shares ≡ length scripts.now) × (vec_len result.answers ≡ length scripts.now) }
-    ensures shares { vec_capacity result.shares ≡ vec_capacity shares }
-    ensures answers { vec_capacity result.answers ≡ vec_capacity rooms }
+    requires laid { AreLaid scripts.now laid.shares laid.rooms laid.asked }
+    ensures { AreJoined J.limit K.before laid.shares.items (map (λ s. s.items) scripts.now)
+        (map (λ a. a.items) result.answers.items) result.shares.items result.deposited }
 {
-    let mut shares = shares;
-    let mut rooms = rooms;
-    let Some((script, before)) = scripts.split_last() else {
-        return Joined {
-            shares,
-            answers: rooms,
-            deposited: Ok(()),
-        };
-    };
-    let Some(rank) = Rank::new(before.len() as u8) else {
-        unreachable!()
-    };
-    let desk = last_desk(&mut shares, &mut rooms);
-    let (desk, ranks) = serve_beside(
+    let serving = Serving::new(rt, alloc, cell, gate);
+    thread::scope(
+        thread::scope_env(),
         rt,
-        alloc,
-        cell,
-        gate,
-        rank,
-        script,
-        desk,
-        || -> Joined<J>
-            requires few { length before.now ≤ 64 }
-            requires equal { vec_len shares ≡ length before.now }
-            requires rooms { (vec_len rooms ≡ length before.now)
-                × AllZip (λ script room. (room.items ≡ []) × (length script.items ≤ vec_capacity room)) before.now
-                rooms.items }
-            ensures returned { AreReturned J.limit shares.items (map (λ s. s.items) before.entry.now)
-                (map (λ a. a.items) result.answers.items) result.shares.items }
-            ensures clean { IsOk result.deposited → All (λ s. IsClean s) result.shares.items }
-            ensures answered { AreAnswered K.before 0 (map (λ s. s.items) before.entry.now)
-                (map (λ a. a.items) result.answers.items) }
-            ensures told { IsDepositTold K.before result.deposited }
-            ensures count { (vec_len result.shares ≡ length before.entry.now)
-                × (vec_len result.answers ≡ length before.entry.now) }
-            ensures shares { vec_capacity result.shares ≡ vec_capacity shares }
-            ensures answers { vec_capacity result.answers ≡ vec_capacity rooms }
-        { serve_ranks(rt, alloc, cell, gate, before, shares, rooms) },
-    );
-    with_desk(rt, alloc, cell, ranks, desk)
+        |scope| -> Joined<J>
+            requires { (length scripts.now ≤ 64) × AreLaid scripts.now laid.shares laid.rooms laid.asked }
+            ensures { AreJoined J.limit K.before laid.shares.items (map (λ s. s.items) scripts.entry.now)
+                (map (λ a. a.items) result.answers.items) result.shares.items result.deposited }
+        { serving.serve_all(scope, scripts, laid) },
+    )
 }
 
 // An empty list for each script, with room for its answers.
-fn lay(alloc: Global, scripts: &[Vec<Work>]) -> Result<Vec<Vec<WorkAnswer>>, AllocError>
-    ensures { IfOk result (λ rooms. AllZip
-        (λ script room. (room.items ≡ []) × (length script.items ≤ vec_capacity room)) scripts.now rooms.items) }
+fn rooms_for(alloc: Global, scripts: &[Vec<Work>]) -> Result<Vec<Vec<WorkAnswer>>, AllocError>
+    ensures { IfOk result (λ rooms. AllZip HasRoom scripts.now rooms.items) }
 {
     let mut rooms = Vec::new(alloc);
     for script in scripts {
         rooms.push(Vec::with_capacity(alloc, script.len())?)?;
     }
     Ok(rooms)
+}
+
+// Lays the shares out with room for answers and ranks. Where memory is refused they come back.
+fn lay<J: Naming, K: Phase>(
+    alloc: Global,
+    scripts: &[Vec<Work>],
+    shares: Vec<Share<J>>,
+) -> Result<Laid<J, K>, AllocFailed<Vec<Share<J>>>>
+    requires equal { vec_len shares ≡ length scripts.now }
+    ensures laid { IfOk result (λ laid. AreLaid scripts.now laid.shares laid.rooms laid.asked
+        × (laid.shares.items ≡ shares.items)) }
+    ensures memory { IfErr result (λ e. e.value.items ≡ shares.items) }
+{
+    let Ok(rooms) = rooms_for(alloc, scripts) else {
+        return Err(AllocFailed { value: shares });
+    };
+    let Ok(asked) = Vec::with_capacity(alloc, scripts.len()) else {
+        return Err(AllocFailed { value: shares });
+    };
+    Ok(Laid {
+        shares,
+        rooms,
+        asked,
+    })
 }
 
 // Serves the requests of all ranks over a board that `K` names.
@@ -211,39 +291,41 @@ fn serve_named<
     gate: &G,
     scripts: &[Vec<Work>],
     shares: Vec<Share<J>>,
-    rooms: Vec<Vec<WorkAnswer>>,
-) -> (Board<J, M>, Ranks<J>)
+) -> (Board<J, M>, Result<Ranks<J>, AllocFailed<Vec<Share<J>>>>)
     requires board { board ≡ K.before }
     requires few { length scripts.now ≤ 64 }
     requires equal { vec_len shares ≡ length scripts.now }
-    requires rooms { (vec_len rooms ≡ length scripts.now)
-        × AllZip (λ script room. (room.items ≡ []) × (length script.items ≤ vec_capacity room)) scripts.now
-        rooms.items }
     ensures board { WentOn K.before result.0 }
-    ensures returned { AreReturned J.limit shares.items (map (λ s. s.items) scripts.now)
-        (map (λ a. a.items) result.1.answers.items) result.1.shares.items }
-    ensures clean { IsOk result.1.deposited → All (λ s. IsClean s) result.1.shares.items }
-    ensures answered { AreAnswered K.before 0 (map (λ s. s.items) scripts.now)
-        (map (λ a. a.items) result.1.answers.items) }
-    ensures told { IsDepositTold K.before result.1.deposited }
-    ensures ended { IsEndTold K.before result.0 (map (λ a. a.items) result.1.answers.items) result.1.ended }
+    ensures returned { IfOk result.1 (λ ranks. AreReturned J.limit shares.items (map (λ s. s.items) scripts.now)
+        (map (λ a. a.items) ranks.answers.items) ranks.shares.items) }
+    ensures clean { IfOk result.1 (λ ranks. IsOk ranks.deposited → All (λ s. IsClean s) ranks.shares.items) }
+    ensures answered { IfOk result.1 (λ ranks. AreAnswered K.before 0 (map (λ s. s.items) scripts.now)
+        (map (λ a. a.items) ranks.answers.items)) }
+    ensures told { IfOk result.1 (λ ranks. IsDepositTold K.before ranks.deposited) }
+    ensures ended { IfOk result.1 (λ ranks. IsEndTold K.before result.0 ranks.ended) }
+    ensures memory { IfErr result.1 (λ e. e.value.items ≡ shares.items) }
+    ensures unchanged { OnErr result.1 (result.0 ≡ board) }
 {
+    let laid = match lay::<J, K>(alloc, scripts, shares) {
+        Ok(laid) => laid,
+        Err(refused) => return (board, Err(refused)),
+    };
+    let first = board.history().len();
     let cell = BoardCell::<J, M, K>::new(board);
-    let joined = serve_ranks(rt, alloc, &cell, gate, scripts, shares, rooms);
     let Joined {
         shares,
         answers,
         deposited,
-    } = joined;
+    } = serve_ranks(rt, alloc, &cell, gate, scripts, laid);
     let mut phased = cell.into_phased();
-    let ended = phased.end_all(alloc, &answers);
+    let ended = phased.end_all(alloc, first);
     let ranks = Ranks {
         shares,
         answers,
         deposited,
         ended,
     };
-    (phased.into_board(), ranks)
+    (phased.into_board(), Ok(ranks))
 }
 
 /// Serves the requests of each rank in order, by a thread a rank, and deposits the hits of their shares. `scripts[k]`
@@ -274,16 +356,9 @@ pub fn serve_phase<
     ensures answered { IfOk result.1 (λ ranks. AreAnswered board 0 (map (λ s. s.items) scripts.now)
         (map (λ a. a.items) ranks.answers.items)) }
     ensures told { IfOk result.1 (λ ranks. IsDepositTold board ranks.deposited) }
-    ensures ended { IfOk result.1 (λ ranks. IsEndTold board result.0 (map (λ a. a.items) ranks.answers.items)
-        ranks.ended) }
+    ensures ended { IfOk result.1 (λ ranks. IsEndTold board result.0 ranks.ended) }
     ensures memory { IfErr result.1 (λ e. e.value.items ≡ shares.items) }
     ensures unchanged { OnErr result.1 (result.0 ≡ board) }
 {
-    let Ok(rooms) = lay(alloc, scripts) else {
-        return (board, Err(AllocFailed { value: shares }));
-    };
-    let (board, ranks) = serve_named::<J, M, Brand, R, G>(
-        rt, alloc, board, gate, scripts, shares, rooms,
-    );
-    (board, Ok(ranks))
+    serve_named::<J, M, Brand, R, G>(rt, alloc, board, gate, scripts, shares)
 }

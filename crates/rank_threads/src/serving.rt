@@ -53,7 +53,7 @@ fn serve_one<J: Naming, M: Publisher<J>, K: Phase, R: Wait, G: Gate>(
 {
     let _rows = share.limit();
     let begun = cell.lock(rt).begin(share, rank, work.dir);
-    gate.before(rank, number);
+    gate.before(rank, number as u64);
     let answer = match begun {
         Ok(ticket) => {
             let (hits, refused) = count(share, work.dir, work.hits);
@@ -63,7 +63,7 @@ fn serve_one<J: Naming, M: Publisher<J>, K: Phase, R: Wait, G: Gate>(
         }
         Err(error) => WorkAnswer::refused(WorkError::Board(error)),
     };
-    gate.after(rank, number);
+    gate.after(rank, number as u64);
     answer
 }
 

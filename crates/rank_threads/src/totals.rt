@@ -55,8 +55,7 @@ pub fn serve_with_totals<
     ensures answered { IfOk result.1 (λ ranks. AreAnswered board 0 (map (λ s. s.items) scripts.now)
         (map (λ a. a.items) ranks.answers.items)) }
     ensures told { IfOk result.1 (λ ranks. IsDepositTold board ranks.deposited) }
-    ensures ended { IfOk result.1 (λ ranks. IsEndTold board result.0 (map (λ a. a.items) ranks.answers.items)
-        ranks.ended) }
+    ensures ended { IfOk result.1 (λ ranks. IsEndTold board result.0 ranks.ended) }
     ensures memory { IfErr result.1 (λ e. e.value.items ≡ shares.items) }
     ensures unchanged { OnErr result.1 (result.0 ≡ board) }
 {

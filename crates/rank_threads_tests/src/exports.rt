@@ -1,6 +1,6 @@
 //! Orders of three ranks, and what they leave on the board.
 use crate::boards::{authorities, done, orders, rank};
-use crate::gates::JitterGate;
+use crate::gates::{JitterGate, RoundsGate};
 use crate::same::{Sure, same};
 use crate::trials::{Trial, try_often};
 use authority_map::Publisher;
@@ -59,6 +59,31 @@ pub(crate) fn go_and_come<
 #[test]
 fn ranks_carry_out_orders(rt: HostRuntime) {
     try_often(&rt, Trial::Orders, 100)
+}
+
+/// Two ranks are in the first round at once, where rank 1 gives a directory back to rank 0, and each is named in each of
+/// eight rounds.
+pub(crate) fn meet<
+    J: Naming + Send + Sync,
+    M: Publisher<J> + Send,
+    R: Abort + Threads + Wait + Sync,
+>(rt: &R, alloc: Global, board: Board<J, M>) {
+    let there = orders(alloc, &[(0, 1, 1)]).sure(rt);
+    let back = orders(alloc, &[(1, 0, 1)]).sure(rt);
+    let gate = RoundsGate::new();
+    let (board, there) = export_phase(rt, alloc, board, &JitterGate, &there);
+    let (board, back) = export_phase(rt, alloc, board, &gate, &back);
+    let authorities = authorities(&board);
+    board.end();
+    same(rt, &there.sure(rt).as_slice(), &[done(0)].as_slice());
+    same(rt, &back.sure(rt).as_slice(), &[done(1)].as_slice());
+    same(rt, &authorities, &(Some(rank(0)), None));
+    same(rt, &gate.seen(), &(2, 72, 72));
+}
+
+#[test]
+fn turns_of_two_ranks_meet(rt: HostRuntime) {
+    try_often(&rt, Trial::MeetingTurns, 1)
 }
 
 // What is printed where a rank has no thread.

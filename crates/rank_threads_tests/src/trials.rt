@@ -22,6 +22,8 @@ use std::thread::Threads;
 pub(crate) enum Trial {
     /// Orders of three ranks.
     Orders,
+    /// Orders of two ranks whose turns meet.
+    MeetingTurns,
     /// An end without room in the history.
     FullHistory,
     /// A phase without requests.
@@ -93,6 +95,7 @@ fn try_on<J: Naming + Send + Sync, M: Publisher<J> + Send, R: Abort + Threads + 
         Trial::GrowthOfAnswers => return growths::serve_on(rt, alloc, board, shares),
         Trial::GrowthOfOutcomes => return growths::move_on(rt, alloc, board),
         Trial::Orders => exports::go_and_come(rt, alloc, board),
+        Trial::MeetingTurns => exports::meet(rt, alloc, board),
         Trial::FullHistory => full::end_without_room(rt, alloc, board, shares),
         Trial::NoRequests => full::serve_nothing(rt, alloc, board, shares),
         Trial::ManyRequests => many::serve_on(rt, alloc, board, shares),

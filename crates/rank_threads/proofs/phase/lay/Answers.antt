@@ -1,16 +1,18 @@
-use Rattle.std.proofs.Common.{◌≤◌, length, take, get_or, vec_capacity, subst, arith, Vec, Global}
+use Rattle.std.proofs.Common.{refl, arith}
 use Rattle.std.proofs.lemmas.Grind.{common_steps}
-use Rattle.std.proofs.lemmas.List.{take_more}
-use Rattle.rank_threads.specs.declared.work.Work.{Work}
-use Rattle.rank_threads.proofs.Returning.{zip_more, HasRoom}
+use Rattle.rank_threads.specs.Asking.{HasRoom}
+use Rattle.rank_threads.proofs.Returning.{zip_length}
 use Rattle.rank_threads.proofs.phase.lay.Goals as goal
 
-pub loop-script-preserved : goal.loop-script-preserved
-loop-script-preserved c =
-    let item = c.script-item.result in
-    let at = get_or c.args.scripts.now c.loop-script.script-index item in
-    let room = c.in_ok-with_capacity.field-0 in
-    let small : length item.items ≤ vec_capacity room = grind (arith, common_steps, c.in_ok-with_capacity.ensures.capacity) in
-    let fits : length at.items ≤ vec_capacity room = subst (λ (s : Vec Work Global). length s.items ≤ vec_capacity room) c.script-item.is small in
-    rw (c.in_ok-push.ensures.items, take_more c.args.scripts.now c.loop-script.script-index item c.loop-script-test.true)
-    (zip_more HasRoom (take c.loop-script.script-index c.args.scripts.now) c.loop-script.rooms.items at room c.loop-script.invariant (c.in_ok-with_capacity.ensures.items, fits))
+pub returns-clause-laid : goal.returns-clause-laid
+returns-clause-laid g c =
+    let same = zip_length HasRoom c.args.scripts.now c.in-Ok.rooms.items c.in-Ok.ensures in (
+      record {
+        equal = c.requires.equal;
+        as_many = grind (arith, common_steps);
+        roomy = c.in-Ok.ensures;
+        none = c.in-Ok-with_capacity.ensures.items;
+        place = grind (arith, common_steps, c.in-Ok-with_capacity.ensures.capacity);
+      },
+      refl,
+    )

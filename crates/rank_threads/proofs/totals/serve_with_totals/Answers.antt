@@ -40,4 +40,4 @@ pub returns-in-Ok-clause-ended : goal.returns-in-Ok-clause-ended
 returns-in-Ok-clause-ended g c =
     let same = c.audit.ensures.same in
     let told = rw c.in-Ok.is at c.serve_phase-board.ensures.ended in
-    rw (c.audited-board.ensures.ended, c.audited-board.ensures.answers, c.audited-board.ensures.board, ← same.0) told
+    rw (c.audited-board.ensures.ended, c.audited-board.ensures.board, ← same.0) told

@@ -1,10 +1,8 @@
 use Rattle.export_rounds.proofs.Ordering.{publishes_none}
-use Rattle.export_rounds.proofs.Adding.{publish_added}
 use Rattle.export_threads.proofs.Carrying.{goes_on}
 use Rattle.export_threads.proofs.cell.Exporting.publish.Goals as goal
 
 pub invariant_of-self : goal.invariant_of-self
 invariant_of-self g c =
-    goes_on g.K.ExportPhase.before c.self.inside.board c.publish.new.self g.K.ExportPhase.orders c.self.inside.standings.items c.self.invariant
-    (publishes_none c.publish.result c.self.inside.board c.publish.new.self c.publish.ensures)
-    (publish_added _ c.publish.result c.self.inside.board c.publish.new.self c.publish.ensures)
+    let none = publishes_none c.publish.result c.self.inside.board c.publish.new.self c.publish.ensures in
+    goes_on g.K.ExportPhase.before c.self.inside.board c.publish.new.self g.K.ExportPhase.orders c.self.inside.standings.items c.self.invariant none.further none.orders (none.events _)

@@ -1,37 +1,50 @@
-use Rattle.std.proofs.Common.{◌≡◌, ◌+◌, ◌++◌, ◌∷◌, [], List, Vec, Global, take, map, sym, subst, ap, refl, ◌∙◌}
-use Rattle.std.specs.Prelude.{IsOk, All}
-use Rattle.std.proofs.lemmas.List.{map_more, take_all}
-use Rattle.std.proofs.lemmas.List.Elements.{All-push}
-use Rattle.mds_board.specs.History.{World}
-use Rattle.rank_threads.specs.declared.work.WorkAnswer.{WorkAnswer}
-use Rattle.rank_threads.specs.Answered.{HasEnded}
-use Rattle.rank_threads.proofs.Ended.{all_ranks_ended, either_met}
+use Rattle.std.proofs.Common.{◌≡◌, ◌++◌, ◌∙◌, [], ℕ, List, Some, None, ap, sym, subst, append-nil, append_assoc, arith}
+use Rattle.export_machine.specs.Authority.{request_of}
+use Rattle.mds_board.specs.declared.entry.Entry.{Entry}
+use Rattle.rank_threads.proofs.Ended.{either_met, none_runs, over_more}
 use Rattle.rank_threads.proofs.board_cell.Phased.end_all.Goals as goal
+use Rattle.rank_threads.proofs.board_cell.Phased.end_all.Goals.{in-Some, in_default}
 
--- the requests of all these ranks have ended
-abbrev Ended : World → List (List WorkAnswer) → Type 0
-Ended now answers = All (λ of_rank. All (HasEnded now) of_rank) answers
+pub loop-number-init : goal.loop-number-init
+loop-number-init g c = record {
+  over = λ ok k e low high is. absurd (omega arith);
+  others = λ t gone. gone;
+  history = ([], sym (append-nil c.args.self.now.history));
+  refused = tt;
+}
 
-abbrev items : List (Vec WorkAnswer Global) → List (List WorkAnswer)
-items answers = map (λ (a : Vec WorkAnswer Global). a.items) answers
-
-pub loop-of_rank-preserved : goal.loop-of_rank-preserved
-loop-of_rank-preserved g c =
-    let inv = c.loop-of_rank.invariant in
-    let both = c.first_refusal-ended.ensures.both.0 in
-    let now : World = c.end_those.new.self in
-    let item : Vec WorkAnswer Global = c.of_rank-item.result in
-    let so_far = take c.loop-of_rank.of_rank-index c.args.answers.now in record {
-      ended = λ ok. subst (λ (l : List (List WorkAnswer)). Ended now l)
-          (sym (map_more (λ (a : Vec WorkAnswer Global). a.items) c.args.answers.now c.loop-of_rank.of_rank-index item c.loop-of_rank-test.true))
-          (All-push (λ of_rank. All (HasEnded now) of_rank) (items so_far) _
-          (all_ranks_ended c.loop-of_rank.self now (items so_far) c.end_those.ensures.others (inv.ended (both ok).0))
-          (subst (λ (l : List WorkAnswer). All (HasEnded now) l) (c.deref.ensures.value ∙ ap (λ (a : Vec WorkAnswer Global). a.items) c.of_rank-item.is) (c.end_those.ensures.ended (both ok).1)));
-      refused = either_met g.K.Phase.before c.loop-of_rank.ended c.end_those.result c.first_refusal-ended.result c.first_refusal-ended.ensures.either inv.refused c.end_those.ensures.refused;
-    }
+pub loop-number-preserved : goal.loop-number-preserved
+loop-number-preserved g c =
+    let inv = c.loop-number.invariant in
+    let first = c.args.self.now in
+    let old = c.loop-number.self in
+    elim c.match-ticket_at.branch [
+      | in-Some w ↦
+          let both = w.first_refusal-ended.ensures.both.0 in
+          let new = w.end_once.new.self in
+          let more = w.end_once.ensures.history in
+          rw (w.self-is, w.ended-is) record {
+            over = λ ok. over_more first old new c.args.first c.loop-number.number c.ticket_at.result inv.history.0 inv.history.1 c.ticket_at.ensures
+                (λ t is. (let e : Some w.in-Some.ticket ≡ Some t = sym w.in-Some.is ∙ is in let same : w.in-Some.ticket ≡ t = cc in
+                subst (λ (x : ℕ). request_of new.state.cluster x ≡ None) same (w.end_once.ensures.ended (both ok).1)))
+                w.end_once.ensures.others (inv.over (both ok).0);
+            others = λ t gone. w.end_once.ensures.others t (inv.others t gone);
+            history = (inv.history.0 ++ more.0, more.1 ∙ (ap (λ (h : List Entry). h ++ more.0) inv.history.1 ∙ append_assoc first.history inv.history.0 more.0));
+            refused = either_met g.K.Phase.before c.loop-number.ended w.end_once.result w.first_refusal-ended.result w.first_refusal-ended.ensures.either inv.refused w.end_once.ensures.refused;
+          }
+      | in_default w ↦
+          rw (w.self-is, w.ended-is) record {
+            over = λ ok. over_more first old old c.args.first c.loop-number.number c.ticket_at.result inv.history.0 inv.history.1 c.ticket_at.ensures
+                (λ t is. (let e : None ≡ Some t = sym w.in_default.is ∙ is in absurd (cc))) (λ t gone. gone) (inv.over ok);
+            others = inv.others;
+            history = inv.history;
+            refused = inv.refused;
+          }
+    ]
 
 pub returns : goal.returns
 returns g c = (
-  c.loop-of_rank.invariant.refused,
-  subst (λ (l : List (Vec WorkAnswer Global)). IsOk c.loop-of_rank.ended → Ended c.loop-of_rank.self (items l)) (take_all c.loop-of_rank.of_rank-index c.args.answers.now c.loop-of_rank-test.false) c.loop-of_rank.invariant.ended,
+  c.loop-number.invariant.refused,
+  λ ok. none_runs g.K.Phase.before c.args.self.now c.loop-number.self c.promises.ensures.went
+      (λ k e low high is. c.loop-number.invariant.over ok k e (omega arith) (omega arith) is) c.loop-number.invariant.others,
 )

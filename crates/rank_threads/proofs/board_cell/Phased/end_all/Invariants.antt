@@ -1,11 +1,16 @@
-use Rattle.std.proofs.Common.{map, take}
-use Rattle.std.specs.Prelude.{All, IsOk}
-use Rattle.rank_threads.specs.Answered.{HasEnded, IsEndMet}
+use Rattle.std.proofs.Common.{◌≡◌, ◌≤◌, ◌<◌, ◌++◌, ℕ, List, None, Some, slice_get}
+use Rattle.std.specs.Prelude.{IsOk}
+use Rattle.export_machine.specs.Authority.{request_of}
+use Rattle.mds_board.specs.declared.entry.Entry.{Entry}
+use Rattle.rank_threads.specs.Answered.{IsEndMet}
+use Rattle.rank_threads.proofs.Ended.{IsOver}
 use Rattle.rank_threads.proofs.board_cell.Phased.end_all.Given as goal
 
--- the requests of the ranks so far have ended, or a refusal is told
-abbrev pub invariant-loop-of_rank : goal.invariant-loop-of_rank
-invariant-loop-of_rank g l = record {
-  ended : IsOk l.ended → All (λ of_rank. All (HasEnded l.self) of_rank) (map (λ a. a.items) (take l.of_rank-index l.answers));
+-- the requests that the entries so far began are over, or a refusal is told
+abbrev pub invariant-loop-number : goal.invariant-loop-number
+invariant-loop-number g l = record {
+  over : IsOk l.ended → (k : ℕ) (e : Entry) → l.first ≤ k → k < l.number → slice_get l.initial.self.history k ≡ Some e → IsOver l.self e;
+  others : (t : ℕ) → request_of l.initial.self.state.cluster t ≡ None → request_of l.self.state.cluster t ≡ None;
+  history : (more : List Entry) × (l.self.history ≡ l.initial.self.history ++ more);
   refused : IsEndMet g.K.Phase.before l.ended;
 }

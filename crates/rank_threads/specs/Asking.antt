@@ -1,0 +1,45 @@
+-- Which ranks a phase has asked to serve their requests, and what is laid out for that.
+use Rattle.std.specs.Global.{Global}
+use Rattle.std.specs.List.{All, AllZip}
+use Rattle.std.specs.Prelude.{◌≡◌, ◌≤◌, ℕ, ◌+◌, List, [], ◌∷◌, ◌++◌, length, Result, IsOk, Vec, vec_len, vec_capacity}
+use Rattle.board_state.specs.declared.board_error.BoardError.{BoardError}
+use Rattle.heat_ledger.specs.Ledger.{IsClean, ShareData}
+use Rattle.mds_board.specs.History.{World}
+use Rattle.rank_threads.specs.declared.work.Work.{Work}
+use Rattle.rank_threads.specs.declared.work.WorkAnswer.{WorkAnswer}
+use Rattle.rank_threads.specs.Answered.{AreAnswered, IsDepositTold}
+use Rattle.rank_threads.specs.Serving.{AreReturned}
+
+-- a rank, the share that it has, and its script
+pub record Asking : Type 0 where
+  pub rank : ℕ
+  pub share : ShareData
+  pub script : List Work
+
+-- the ranks of these shares and scripts, numbered from this one on, the last rank first
+abbrev pub askings : ℕ → List ShareData → List (List Work) → List Asking
+askings rank [] scripts = []
+askings rank (share ∷ shares) [] = []
+askings rank (share ∷ shares) (script ∷ scripts) =
+    askings (rank + 1) shares scripts ++ record { rank = rank; share = share; script = script } ∷ []
+
+-- room for the answers to a script
+abbrev pub HasRoom : Vec Work Global → Vec WorkAnswer Global → Type 0
+HasRoom script room = (room.items ≡ []) × (length script.items ≤ vec_capacity room)
+
+-- A share for each script, room for its answers, and room for all ranks that are asked.
+pub record AreLaid (scripts : List (Vec Work Global)) (shares : Vec ShareData Global)
+    (rooms : Vec (Vec WorkAnswer Global) Global) (asked : Vec Asking Global) : Type 0 where
+  pub equal : vec_len shares ≡ length scripts
+  pub as_many : vec_len rooms ≡ length scripts
+  pub roomy : AllZip HasRoom scripts rooms.items
+  pub none : asked.items ≡ []
+  pub place : length scripts ≤ vec_capacity asked
+
+-- All ranks have answered, and their shares deposited their hits, or a deposit was refused so.
+pub record AreJoined (limit : ℕ) (before : World) (shares : List ShareData) (scripts : List (List Work))
+    (answers : List (List WorkAnswer)) (after : List ShareData) (deposited : Result Unit BoardError) : Type 0 where
+  pub returned : AreReturned limit shares scripts answers after
+  pub answered : AreAnswered before 0 scripts answers
+  pub clean : IsOk deposited → All (λ s. IsClean s) after
+  pub told : IsDepositTold before deposited
