@@ -100,7 +100,7 @@ pub record IsServed (old : BoardData) (refused : List Fault) (new : BoardData) :
   pub deposited : Result Unit BoardError
   pub dealt : IsDealt old.world (length old.shares) (waiting old) scripts seats
   pub answered : AreAnswered old.world 0 scripts answers
-  pub end_told : IsEndTold old.world new.world answers ended
+  pub end_told : IsEndTold old.world new.world ended
   pub deposit_told : IsDepositTold old.world deposited
   pub went : WentOn old.world new.world
   pub returned : AreReturned old.world.state.directories.limit old.shares scripts answers new.shares
