@@ -11,7 +11,7 @@ use Rattle.rank_threads.specs.declared.work.WorkAnswer.{WorkAnswer}
 use Rattle.rank_threads.specs.declared.work.WorkError.{WorkError}
 use Rattle.rank_threads.specs.declared.work.WorkError.TheVariants as error
 use Rattle.rank_threads.specs.Answered.{AreAnswered, IsRankAnswered}
-use Rattle.rank_threads.specs.Asking.{HasRoom}
+use Rattle.rank_threads.specs.Asking.{IsRoomFor}
 use Rattle.rank_threads.specs.Serving.{AreReturned, AreShort, IsDeposited, IsReturned, IsServed, IsShort}
 
 -- a share that counts no less is as full
@@ -69,7 +69,7 @@ module _ {A B : Type 0} (R : A → B → Type 0) where
 pub rooms_last : (scripts before : List (Vec Work Global)) (script : Vec Work Global) (rooms rest : List (Vec WorkAnswer Global)) (room : Vec WorkAnswer Global)
     → scripts ≡ before ++ script ∷ [] → rooms ≡ rest ++ room ∷ [] → AllZip IsRoomFor scripts rooms → AllZip IsRoomFor before rest × IsRoomFor script room
 rooms_last scripts before script rooms rest room es er all =
-    zip_last HasRoom before rest script room (subst (λ (l : List (Vec WorkAnswer Global)). AllZip HasRoom (before ++ script ∷ []) l) er (subst (λ (l : List (Vec Work Global)). AllZip HasRoom l rooms) es all))
+    zip_last IsRoomFor before rest script room (subst (λ (l : List (Vec WorkAnswer Global)). AllZip IsRoomFor (before ++ script ∷ []) l) er (subst (λ (l : List (Vec Work Global)). AllZip IsRoomFor l rooms) es all))
 
 pub clean_last : (news back : List ShareData) (new : ShareData) → back ≡ news ++ new ∷ [] → All (λ s. IsClean s) news → IsClean new → All (λ s. IsClean s) back
 clean_last news back new is all last = subst (λ (l : List ShareData). All (λ s. IsClean s) l) (sym is) (All-push (λ (s : ShareData). IsClean s) news new all last)

@@ -24,15 +24,15 @@ askings rank (share ∷ shares) (script ∷ scripts) =
     askings (rank + 1) shares scripts ++ record { rank = rank; share = share; script = script } ∷ []
 
 -- room for the answers to a script
-abbrev pub HasRoom : Vec Work Global → Vec WorkAnswer Global → Type 0
-HasRoom script room = (room.items ≡ []) × (length script.items ≤ vec_capacity room)
+abbrev pub IsRoomFor : Vec Work Global → Vec WorkAnswer Global → Type 0
+IsRoomFor script room = (room.items ≡ []) × (length script.items ≤ vec_capacity room)
 
 -- A share for each script, room for its answers, and room for all ranks that are asked.
 pub record AreLaid (scripts : List (Vec Work Global)) (shares : Vec ShareData Global)
     (rooms : Vec (Vec WorkAnswer Global) Global) (asked : Vec Asking Global) : Type 0 where
   pub equal : vec_len shares ≡ length scripts
   pub as_many : vec_len rooms ≡ length scripts
-  pub roomy : AllZip HasRoom scripts rooms.items
+  pub roomy : AllZip IsRoomFor scripts rooms.items
   pub none : asked.items ≡ []
   pub place : length scripts ≤ vec_capacity asked
 

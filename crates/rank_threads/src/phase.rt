@@ -5,7 +5,7 @@ ghost use Rattle.std.specs.List.{All, AllZip};
 ghost use Rattle.heat_ledger.specs.Ledger.{IsClean, ShareData};
 ghost use Rattle.rank_threads.specs.declared.work.Work.{Work as TheWork};
 ghost use Rattle.rank_threads.specs.Answered.{AreAnswered, IsDepositTold, IsEndTold};
-ghost use Rattle.rank_threads.specs.Asking.{AreJoined, AreLaid, HasRoom, askings};
+ghost use Rattle.rank_threads.specs.Asking.{AreJoined, AreLaid, IsRoomFor, askings};
 ghost use Rattle.rank_threads.specs.Going.{WentOn};
 ghost use Rattle.rank_threads.specs.Serving.{AreReturned, IsDeposited};
 
@@ -244,7 +244,7 @@ fn serve_ranks<
 
 // An empty list for each script, with room for its answers.
 fn rooms_for(alloc: Global, scripts: &[Vec<Work>]) -> Result<Vec<Vec<WorkAnswer>>, AllocError>
-    ensures { IfOk result (λ rooms. AllZip HasRoom scripts.now rooms.items) }
+    ensures { IfOk result (λ rooms. AllZip IsRoomFor scripts.now rooms.items) }
 {
     let mut rooms = Vec::new(alloc);
     for script in scripts {

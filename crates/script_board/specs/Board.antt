@@ -3,7 +3,7 @@ use Rattle.std.specs.Prelude.{◌≡◌, ℕ, ◌<◌, ◌≤◌, List, [], leng
 use Rattle.heat_ledger.specs.Ledger.{ShareData, weight_of}
 use Rattle.heat_ledger.specs.Opening.{fresh_share}
 use Rattle.mds_types.specs.declared.order.Order.{Order}
-use Rattle.board_state.specs.State.{start}
+use Rattle.board_state.specs.State.{first_operations, start}
 use Rattle.mds_board.specs.History.{World}
 use Rattle.script_board.specs.declared.load.Load.{Load}
 
@@ -14,10 +14,16 @@ pub record BoardData : Type 0 where
   pub loads : List Load
   pub kept : List Order
 
--- the root alone at rank 0, without pin, heat, hit, mask or request; the map isn't published yet
+-- the root alone at rank 0, without pin, heat, hit, mask or request; the map's first operation is published
 abbrev pub empty_board : ℕ → ℕ → BoardData
 empty_board limit active = record {
-  world = record { state = start limit active; is_open = true; shares = active; published = []; history = [] };
+  world = record {
+    state = start limit active;
+    is_open = true;
+    shares = active;
+    published = first_operations true;
+    history = [];
+  };
   shares = replicate active (fresh_share limit);
   loads = [];
   kept = [];

@@ -1,12 +1,12 @@
 use Rattle.std.proofs.Common.{refl, arith}
 use Rattle.std.proofs.lemmas.Grind.{common_steps}
-use Rattle.rank_threads.specs.Asking.{HasRoom}
+use Rattle.rank_threads.specs.Asking.{IsRoomFor}
 use Rattle.rank_threads.proofs.Returning.{zip_length}
 use Rattle.rank_threads.proofs.phase.lay.Goals as goal
 
 pub returns-clause-laid : goal.returns-clause-laid
 returns-clause-laid g c =
-    let same = zip_length HasRoom c.args.scripts.now c.in-Ok.rooms.items c.in-Ok.ensures in (
+    let same = zip_length IsRoomFor c.args.scripts.now c.in-Ok.rooms.items c.in-Ok.ensures in (
       record {
         equal = c.requires.equal;
         as_many = grind (arith, common_steps);

@@ -2,7 +2,7 @@ use Rattle.std.proofs.Common.{◌≤◌, length, take, get_or, vec_capacity, sub
 use Rattle.std.proofs.lemmas.Grind.{common_steps}
 use Rattle.std.proofs.lemmas.List.{take_more}
 use Rattle.rank_threads.specs.declared.work.Work.{Work}
-use Rattle.rank_threads.specs.Asking.{HasRoom}
+use Rattle.rank_threads.specs.Asking.{IsRoomFor}
 use Rattle.rank_threads.proofs.Returning.{zip_more}
 use Rattle.rank_threads.proofs.phase.rooms_for.Goals as goal
 
@@ -14,4 +14,4 @@ loop-script-preserved c =
     let small : length item.items ≤ vec_capacity room = grind (arith, common_steps, c.in_ok-with_capacity.ensures.capacity) in
     let fits : length at.items ≤ vec_capacity room = subst (λ (s : Vec Work Global). length s.items ≤ vec_capacity room) c.script-item.is small in
     rw (c.in_ok-push.ensures.items, take_more c.args.scripts.now c.loop-script.script-index item c.loop-script-test.true)
-    (zip_more HasRoom (take c.loop-script.script-index c.args.scripts.now) c.loop-script.rooms.items at room c.loop-script.invariant (c.in_ok-with_capacity.ensures.items, fits))
+    (zip_more IsRoomFor (take c.loop-script.script-index c.args.scripts.now) c.loop-script.rooms.items at room c.loop-script.invariant (c.in_ok-with_capacity.ensures.items, fits))

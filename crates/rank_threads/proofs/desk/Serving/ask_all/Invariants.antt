@@ -1,6 +1,6 @@
 use Rattle.std.proofs.Common.{◌≡◌, ◌≤◌, ◌+◌, length, vec_len, vec_capacity}
 use Rattle.std.specs.List.{AllZip}
-use Rattle.rank_threads.specs.Asking.{HasRoom}
+use Rattle.rank_threads.specs.Asking.{IsRoomFor}
 use Rattle.rank_threads.proofs.Joining.{AreAsked}
 use Rattle.rank_threads.proofs.desk.Serving.ask_all.Given as goal
 
@@ -11,7 +11,7 @@ invariant-loop-script g l = record {
   few : length l.left ≤ 64;
   equal : vec_len l.shares ≡ length l.left;
   as_many : vec_len l.rooms ≡ length l.left;
-  roomy : AllZip HasRoom l.left l.rooms.items;
+  roomy : AllZip IsRoomFor l.left l.rooms.items;
   count : length l.left + vec_len l.asked ≡ length l.scripts;
   place : length l.scripts ≤ vec_capacity l.asked;
   capacity : (vec_capacity l.shares ≡ vec_capacity l.fn.laid.shares) × (vec_capacity l.rooms ≡ vec_capacity l.fn.laid.rooms);
