@@ -82,4 +82,5 @@ IsEndMet before (Err error) =
 abbrev pub IsEndTold : World → World → Result Unit BoardError → Type 0
 IsEndTold before now ended =
     IsEndMet before ended
-    × (IsOk ended → (ticket : ℕ) → length before.state.cluster.tickets ≤ ticket → request_of now.state.cluster ticket ≡ None)
+    × (IsOk ended → (ticket : ℕ) → length before.state.cluster.tickets ≤ ticket
+    → request_of now.state.cluster ticket ≡ None)

@@ -31,7 +31,8 @@ pub(crate) fn first_refusal(
 
 // The ticket with which a request began, if an entry says that one began.
 fn ticket_of(shown: Shown<'_>) -> Option<u32>
-    ensures { (ticket : ℕ) → (shown_entry shown.entry).reply ≡ answer.Reply (reply.Ticket ticket) → result ≡ Some ticket }
+    ensures { (ticket : ℕ) → (shown_entry shown.entry).reply ≡ answer.Reply (reply.Ticket ticket)
+        → result ≡ Some ticket }
 {
     match shown {
         Shown::Began(_, _, ticket) => Some(ticket),

@@ -61,8 +61,8 @@ fn ranks_carry_out_orders(rt: HostRuntime) {
     try_often(&rt, Trial::Orders, 100)
 }
 
-/// Two ranks are in the first round at once, where rank 1 gives a directory back to rank 0, and each is named in each of
-/// eight rounds.
+/// Two ranks are in the first round at once, where rank 1 gives a directory back to rank 0, and each is named in
+/// each of eight rounds.
 pub(crate) fn meet<
     J: Naming + Send + Sync,
     M: Publisher<J> + Send,
