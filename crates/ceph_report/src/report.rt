@@ -21,6 +21,12 @@ pub struct Facts<'a> {
     pub folded: usize,
     /// How many samples of heat there are.
     pub samples: u64,
+    /// How many ranks the file system is to have (`max_mds`).
+    pub size: u8,
+    /// The ranks that are in the file system.
+    pub there: RankSet,
+    /// Those of them whose daemons are active.
+    pub active: RankSet,
     /// The ranks that may have a part.
     pub ranks: RankSet,
     /// The plan.
@@ -37,8 +43,8 @@ pub struct Facts<'a> {
     pub standing: usize,
 }
 
-/// How many moves are told one by one.
-const MOVES_TOLD: usize = 40;
+/// How many moves, or directories that are left where they are, have a line each.
+const LINES_EACH: usize = 40;
 
 /// The heat of the hottest rank, in thousandths, where `heats[r]` is the heat of rank r.
 pub fn hottest(heats: &[u64]) -> u64
@@ -143,10 +149,10 @@ fn push_moves(text: &mut TextWriter, facts: &Facts) {
         return;
     }
     text.text("\n  inodes        heat  to  directory that is pinned\n");
-    for one in facts.moves.get(..MOVES_TOLD).unwrap_or(facts.moves) {
+    for one in facts.moves.get(..LINES_EACH).unwrap_or(facts.moves) {
         push_move(text, facts.directories, *one);
     }
-    let more = facts.moves.len().saturating_sub(MOVES_TOLD);
+    let more = facts.moves.len().saturating_sub(LINES_EACH);
     if more > 0 {
         text.number("and ", more as u64);
         text.text(" smaller ones\n");
@@ -184,19 +190,61 @@ fn is_spread_first(directories: &[Directory], directory: &Directory) -> bool {
     }
 }
 
+/// Why a directory is left where it is, if others decide about it.
+fn why_left(directories: &[Directory], directory: &Directory) -> Option<&'static str> {
+    if directory.policy.is_some() {
+        Some("has a policy of ephemeral pins, and is left where it is: ")
+    } else if directory.idle.is_some() {
+        Some("pinned by others to a rank that is not there, and left where it is: ")
+    } else if is_spread_first(directories, directory) {
+        Some("spread over several ranks, and left where it is: ")
+    } else {
+        None
+    }
+}
+
+/// Adds the directories that are left where they are.
+fn push_left(text: &mut TextWriter, directories: &[Directory]) {
+    let mut lines = 0usize;
+    for directory in directories {
+        if let Some(why) = why_left(directories, directory) {
+            if lines < LINES_EACH {
+                text.text(why);
+                push_path(text, directory.path.as_slice());
+                text.character('\n');
+            }
+            lines = lines.saturating_add(1);
+        }
+    }
+    if lines > LINES_EACH {
+        text.number("and ", (lines - LINES_EACH) as u64);
+        text.text(" more that are left where they are\n");
+    }
+}
+
+/// Adds a line for each rank below `max_mds` that can't have a part, as it is not in the file system or not active.
+fn push_absent(text: &mut TextWriter, facts: &Facts) {
+    for number in 0..facts.size {
+        if let Some(rank) = Rank::new(number) {
+            if !facts.there.has(rank) {
+                text.number("rank ", u64::from(number));
+                text.text(" is below max_mds and not in the file system: it gets no part\n");
+            } else if !facts.active.has(rank) {
+                text.number("rank ", u64::from(number));
+                text.text(" is not active: it gets no part\n");
+            }
+        }
+    }
+}
+
 /// Adds what was left out or has no single rank.
 fn push_left_out(text: &mut TextWriter, facts: &Facts) {
     if facts.folded > 0 {
         text.number("\n", facts.folded as u64);
         text.text(" directories were folded into their parents\n");
     }
-    for directory in facts.directories {
-        if is_spread_first(facts.directories, directory) {
-            text.text("spread over several ranks, and left where it is: ");
-            push_path(text, directory.path.as_slice());
-            text.character('\n');
-        }
-    }
+    push_absent(text, facts);
+    push_left(text, facts.directories);
 }
 
 /// How many directories have heat of their own.

@@ -62,6 +62,9 @@ fn facts_of<'a>(outcome: &'a Outcome, moves: &'a [Move], standing: usize) -> Fac
     ensures directories { result.directories.now ≡ outcome.now.directories.items }
     ensures folded { result.folded ≡ outcome.now.folded }
     ensures samples { result.samples ≡ outcome.now.samples }
+    ensures size { result.size ≡ outcome.now.size }
+    ensures there { result.there ≡ outcome.now.there }
+    ensures active { result.active ≡ outcome.now.active }
     ensures ranks { result.ranks ≡ outcome.now.ranks }
     ensures plan { result.plan.now ≡ outcome.now.decision.proposal.plan }
     ensures sums { result.sums.now ≡ outcome.now.decision.sums }
@@ -74,6 +77,9 @@ fn facts_of<'a>(outcome: &'a Outcome, moves: &'a [Move], standing: usize) -> Fac
         directories: &outcome.directories,
         folded: outcome.folded,
         samples: outcome.samples,
+        size: outcome.size,
+        there: outcome.there,
+        active: outcome.active,
         ranks: outcome.ranks,
         plan: &outcome.decision.proposal.plan,
         sums: &outcome.decision.sums,
