@@ -58,8 +58,12 @@ fn refuse<J: Naming, M: Publisher<J>>(rt: &impl Abort, alloc: Global, board: &mu
     let late = board.adopt(alloc, plan(alloc, 5).sure(rt));
     same(rt, &late.err(), &Some(BoardError::Changed(4)));
     assert!(rt; board.open_problem(alloc).is_ok());
-    let forged = board.adopt(alloc, plan(alloc, 4).sure(rt));
-    same(rt, &forged.err(), &Some(BoardError::NotBest));
+    let hotter = board.adopt(alloc, plan(alloc, 4).sure(rt));
+    same(rt, &hotter.err(), &Some(BoardError::NotBest));
+    let mut forged = plan(alloc, 5).sure(rt);
+    forged.cut = CutProof::Zero;
+    let unproved = board.adopt(alloc, forged);
+    same(rt, &unproved.err(), &Some(BoardError::NotBest));
     assert!(rt; board.plan_in_force().is_none());
     same(rt, &board.history().len(), &6);
 }

@@ -18,10 +18,14 @@ use std::process::Abort;
 
 const FULL: BoardError = BoardError::HistoryFull;
 
-fn fill<J: Naming, M: Publisher<J>>(rt: &impl Abort, board: &mut Board<J, M>) {
-    for _ in 0..1_048_576 {
+// All places but one are taken. A balance needs two, so it is refused, and a tick takes the last one.
+fn fill<J: Naming, M: Publisher<J>>(rt: &impl Abort, alloc: Global, board: &mut Board<J, M>) {
+    same(rt, &board.set_mask(RankSet::from_bits(3)), &Ok(()));
+    for _ in 0..1_048_574 {
         same(rt, &board.tick(), &Ok(()));
     }
+    same(rt, &board.balance(alloc, &Idle).err(), &Some(FULL));
+    same(rt, &board.tick(), &Ok(()));
 }
 
 // Each of these changes has another cause to be refused, or none.
@@ -67,7 +71,8 @@ fn refuse_plans<J: Naming, M: Publisher<J>>(
     same(rt, &board.balance(alloc, &Idle).err(), &Some(FULL));
 }
 
-// Every change is refused for the same cause, before its own, and what the board says stays.
+// Readers find the root of a new board. Once it is full, every change is refused for the same cause, before its own,
+// and what the board says stays.
 fn refuse<J: Naming, M: Publisher<J>>(
     rt: &impl Abort,
     alloc: Global,
@@ -75,7 +80,12 @@ fn refuse<J: Naming, M: Publisher<J>>(
     share: &mut Share<J>,
     reader: &mut MapReader<J>,
 ) {
-    fill(rt, board);
+    same(
+        rt,
+        &board.find_published(reader, Dir::ROOT),
+        &Some(Rank::default()),
+    );
+    fill(rt, alloc, board);
     let before = said(board, share, reader);
     refuse_settings(rt, alloc, board);
     refuse_events(rt, alloc, board, share);

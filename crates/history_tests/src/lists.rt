@@ -134,6 +134,14 @@ fn run<J: Naming, M: Publisher<J>>(
     reader: &mut MapReader<J>,
 ) -> (Vec<Given>, Reading) {
     let list = commands(alloc).expect(rt, "it failed");
+    for command in &list {
+        same(rt, &command.is_fit(), &true);
+    }
+    same(
+        rt,
+        &BoardCommand::Step(Event::Made(Dir::ROOT)).is_fit(),
+        &false,
+    );
     let answers = board.run(alloc, &Idle, &list).sure(rt);
     (answers, said(board, share, reader))
 }
