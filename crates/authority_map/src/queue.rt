@@ -1,5 +1,5 @@
 //! The operations that a writer hasn't handed to its copies.
-ghost use Rattle.std.specs.Prelude.{◌≡◌, ◌++◌, ◌∷◌, [], None, IsTrue, IfSome, IfNone};
+ghost use Rattle.std.specs.Prelude.{◌≡◌, ◌≤◌, ◌^◌, ◌↔◌, ◌++◌, ◌∷◌, [], None, IsTrue, IfSome, IfNone, length};
 ghost use Rattle.left_right.specs.Handles.{published, pending};
 ghost use Rattle.authority_map.specs.LogEntries.{operations_of, ready_operation};
 
@@ -135,6 +135,13 @@ impl<J: Naming> Queue<J> {
     }
 }
 
+// Whether the list of all operations takes no more.
+fn is_full<J: Naming>(end: &LogPrefix<J>) -> bool
+    ensures { IsTrue result ↔ (2 ^ 60 ≤ length end.now) }
+{
+    end.len() >= OPERATION_LIMIT
+}
+
 // The operation that is ready, or the first that waits, which is in the list from now on.
 fn next_entry<J: Naming>(
     ready: &mut Option<Logged<J>>,
@@ -151,7 +158,7 @@ fn next_entry<J: Naming>(
     if let Some(entry) = ready.take() {
         return Some(entry);
     }
-    if end.len() >= OPERATION_LIMIT {
+    if is_full(end) {
         return None;
     }
     let operation = waiting.pop_front()?;
