@@ -1,27 +1,22 @@
 //! The key of the hash by which names are found.
+ghost use Rattle.std.specs.Prelude.{◌≡◌};
+ghost use Rattle.std.specs.Hash.FoldHasher as folding;
 
 use std::hash::{FoldHasher, Hasher};
 
-/// Picks the hash by which a tree finds names. No answer depends on it.
+/// The key of the hash by which a tree finds names. No answer depends on it.
 ///
-/// With a key that they don't know, those who name directories can't pick many names of one hash, which would be slow
-/// to find.
+/// Whoever names directories cannot pick many names of one hash, which would be slow to find, unless they know the
+/// key.
 #[derive(Clone, Copy, Default)]
-pub struct NameKey {
-    secret: u64,
-}
+pub struct NameKey(pub [u8; 8]);
 
 impl NameKey {
-    /// The key of these bytes.
-    pub fn from_bytes(bytes: [u8; 8]) -> NameKey {
-        NameKey {
-            secret: u64::from_le_bytes(bytes),
-        }
-    }
-
-    pub(crate) fn hasher(self) -> FoldHasher {
+    pub(crate) fn hasher(self) -> FoldHasher
+        ensures { result ≡ folding.write folding.initial self.0 }
+    {
         let mut hasher = FoldHasher::default();
-        hasher.write_u64(self.secret);
+        hasher.write(&self.0);
         hasher
     }
 }

@@ -89,7 +89,7 @@ fn carry_out<T: Threads + Wait + Files + RandomSource + Sync, R: Read, W: Write,
 fn name_key<T: RandomSource>(rt: &T) -> io::Result<NameKey> {
     let mut bytes = [0; 8];
     rt.fill_bytes(&mut bytes)?;
-    Ok(NameKey::from_bytes(bytes))
+    Ok(NameKey(bytes))
 }
 
 // The file for certificates, if one is asked for, without what it held.
