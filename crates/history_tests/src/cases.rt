@@ -1,4 +1,4 @@
-//! What is tried on a board: but for random changes, one of two ranks with room for eight directories.
+//! What is tried on a board of two ranks, with room for eight directories.
 //!
 //! The board is opened in one place, since a function that knows the type of its map's writer is dear to prove. What is
 //! opened is asked for again where memory was refused.
@@ -6,10 +6,9 @@ ghost use Rattle.std.specs.Prelude.{◌≡◌, ◌≤◌};
 
 use crate::boards::board_of;
 use crate::lists::Given;
-use crate::plain::{LIMIT, RANKS};
 use crate::said::Reading;
 use crate::same::Sure;
-use crate::{adopting, changes, full, lists, random_changes, refused};
+use crate::{adopting, changes, full, lists, refused};
 use authority_map::{MapReader, MapWriter, NewMap, Publisher};
 use board_state::BoardParts;
 use heat_ledger::{NewBook, Share};
@@ -36,23 +35,8 @@ pub(crate) enum Case {
     Full,
     /// The same commands as a list.
     Listed,
-    /// Random changes.
-    Random,
     /// Refused growths in the changes.
     RefusedGrowth,
-}
-
-impl Case {
-    // How many directories and ranks its board has room for.
-    fn room(self) -> (u32, u8)
-        ensures some { (8 ≤ result.0) × (1 ≤ result.1) }
-        ensures few { (result.0 ≤ 65536) × (result.1 ≤ 64) }
-    {
-        match self {
-            Case::Random => (LIMIT, RANKS),
-            _ => (8, 2),
-        }
-    }
 }
 
 fn on_board<J: Naming, M: Publisher<J>, R: Abort + Threads>(
@@ -72,7 +56,6 @@ fn on_board<J: Naming, M: Publisher<J>, R: Abort + Threads>(
         Case::Called => return Some(lists::answers(rt, alloc, board, shares, readers, false)),
         Case::Full => full::on_board(rt, alloc, board, shares, readers),
         Case::Listed => return Some(lists::answers(rt, alloc, board, shares, readers, true)),
-        Case::Random => random_changes::on_board(rt, alloc, board, shares, readers),
         Case::RefusedGrowth => refused::on_board(rt, alloc, board, shares, readers),
     }
     None
@@ -83,14 +66,11 @@ fn on_parts<J: Naming, M: Publisher<J>, R: Abort + Threads>(
     alloc: Global,
     parts: BoardParts<J, M>,
     readers: Vec<MapReader<J>>,
-    room: (u32, u8),
     case: Case,
 ) -> Option<(Vec<Given>, Reading)>
-    requires limit { room.0 ≡ J.limit }
-    requires some { (8 ≤ room.0) × (1 ≤ room.1) }
-    requires few { (room.0 ≤ 65536) × (room.1 ≤ 64) }
+    requires limit { 8 ≡ J.limit }
 {
-    let (board, shares) = board_of(rt, alloc, parts, room.0, room.1);
+    let (board, shares) = board_of(rt, alloc, parts, 8, 2);
     on_board(rt, alloc, board, shares, readers, case)
 }
 
@@ -99,29 +79,19 @@ fn on_names<J: Naming, R: Abort + Threads + Wait>(
     alloc: Global,
     book: NewBook,
     map: NewMap,
-    room: (u32, u8),
     case: Case,
 ) -> Option<(Vec<Given>, Reading)>
     requires book { book ≡ J.ledger }
     requires map { map ≡ J.map }
-    requires limit { room.0 ≡ J.limit }
-    requires some { (8 ≤ room.0) × (1 ≤ room.1) }
-    requires few { (room.0 ≤ 65536) × (room.1 ≤ 64) }
+    requires limit { 8 ≡ J.limit }
 {
-    let opened = match MapWriter::<J, &R>::open(rt, alloc, map, room.0, 1) {
+    let opened = match MapWriter::<J, &R>::open(rt, alloc, map, 8, 1) {
         Ok(opened) => Ok(opened),
-        Err((_error, map)) => MapWriter::<J, &R>::open(rt, alloc, map, room.0, 1),
+        Err((_error, map)) => MapWriter::<J, &R>::open(rt, alloc, map, 8, 1),
     };
     match opened {
         Ok((writer, readers)) => {
-            on_parts(
-                rt,
-                alloc,
-                BoardParts::new(book, writer),
-                readers,
-                room,
-                case,
-            )
+            on_parts(rt, alloc, BoardParts::new(book, writer), readers, case)
         }
         Err(_) => panic!(rt; "no map"),
     }
@@ -140,7 +110,7 @@ pub(crate) fn answers_in<R: Abort + AllocGlobal + Threads + Wait>(
     case: Case,
 ) -> Option<(Vec<Given>, Reading)> {
     let book = book_at_last(rt.alloc()).sure(rt);
-    on_names::<Brand, R>(rt, rt.alloc(), book, NewMap::new(), case.room(), case)
+    on_names::<Brand, R>(rt, rt.alloc(), book, NewMap::new(), case)
 }
 
 /// Tries it on a new board.
