@@ -12,8 +12,8 @@ use mds_types::{CutProof, Problem, ProblemRow};
 use residual_cut::{Weighed, cut_cool, cut_linked, weigh};
 use std::alloc::{AllocError, Global};
 
-/// A cut into at most `ranks` parts with the least greatest heat.
-fn search_rows(alloc: Global, rows: &[ProblemRow], ranks: u32) -> Result<BestCut, AllocError>
+/// A cut into at most `ranks` parts with the least greatest heat. They may be more than a set of ranks holds.
+pub fn search_rows(alloc: Global, rows: &[ProblemRow], ranks: u32) -> Result<BestCut, AllocError>
     requires forest { IsForest rows.now }
     requires some { 0 < length rows.now }
     requires ranks { 0 < ranks }
