@@ -77,7 +77,7 @@ split_add : (b : Bool) (x y : ℕ) → cond b (x + y) 0 ≡ cond b x 0 + cond b 
 split_add true x y = refl
 split_add false x y = omega arith
 
-totals : (m n : ℕ) (has : ℕ → Bool) (pinned to h : ℕ → ℕ) → ((i : ℕ) → i < n → has (to i) ≡ true) → ((i : ℕ) → i < n → to i < m) → sum_below m (λ r. cond (has r) (pinned r + sum_below n (λ i. cond (eqb (to i) r) (h i) 0)) 0) ≡ sum_below m (λ r. cond (has r) (pinned r) 0) + sum_below n h
+pub totals : (m n : ℕ) (has : ℕ → Bool) (pinned to h : ℕ → ℕ) → ((i : ℕ) → i < n → has (to i) ≡ true) → ((i : ℕ) → i < n → to i < m) → sum_below m (λ r. cond (has r) (pinned r + sum_below n (λ i. cond (eqb (to i) r) (h i) 0)) 0) ≡ sum_below m (λ r. cond (has r) (pinned r) 0) + sum_below n h
 totals m n has pinned to h usable small =
     sum_below-same m (λ r. cond (has r) (pinned r + sum_below n (λ i. cond (eqb (to i) r) (h i) 0)) 0) (λ r. cond (has r) (pinned r) 0 + cond (has r) (sum_below n (λ i. cond (eqb (to i) r) (h i) 0)) 0) (λ r l.
     split_add (has r) (pinned r) (sum_below n (λ i. cond (eqb (to i) r) (h i) 0)))
@@ -100,7 +100,7 @@ ceil-le t r g some le =
     (λ (fine : c ≤ g). fine)
     (cases_lt g c)
 
-max_reached : (n : ℕ) (f : ℕ → ℕ) → (max_below n f ≡ 0) ⊎ ((i : ℕ) × (i < n) × (f i ≡ max_below n f))
+pub max_reached : (n : ℕ) (f : ℕ → ℕ) → (max_below n f ≡ 0) ⊎ ((i : ℕ) × (i < n) × (f i ≡ max_below n f))
 max_reached zero f = inl refl
 max_reached (suc n) f =
     ⊎_elim (λ (less : f n < max_below n f).

@@ -1,12 +1,9 @@
 -- A division of rows that are capped is one of the rows.
-use Rattle.std.proofs.Common.{◌≡◌, ◌∙◌, ◌<◌, ◌≤◌, ℕ, zero, suc, List, [], ◌∷◌, length, min, slice_index, ap, refl, sym, subst, inl, inr, ⊎_elim, arith}
+use Rattle.std.proofs.Common.{◌≡◌, ◌∙◌, ◌<◌, ◌≤◌, ℕ, zero, suc, List, [], ◌∷◌, length, slice_index, ap, refl, sym, subst, inl, inr, ⊎_elim, arith}
 use Rattle.mds_types.specs.declared.problem.ProblemRow.{ProblemRow}
 use Rattle.mds_types.specs.Connected.{IsChain}
 use Rattle.mds_types.specs.Division.{InPart, IsDivision, IsEdge}
-use Rattle.mds_types.specs.declared.problem.ProblemError.{ProblemError}
-use Rattle.mds_types.specs.declared.problem.ProblemError.TheVariants.{TooMany, NoRanks, BadParent, TooHot}
-use Rattle.mds_types.specs.Problem.{IsFirstFault, IsForest, ProblemData, heat_at, parent_at}
-use Rattle.mds_types.specs.RankSet.{rank_count}
+use Rattle.mds_types.specs.Problem.{IsForest, heat_at, parent_at}
 use Rattle.minmax_search.specs.Found.{IsFound}
 use Rattle.minmax_search.specs.declared.found.BestCut.{BestCut}
 use Rattle.std.proofs.Math.Nat.{le_trans}
@@ -58,30 +55,25 @@ division-capped cap rows k label division =
     record { size = length-map rows (capped_row cap); parents = λ i l. parent-capped cap rows i } in
     division-same rows (capped_rows cap rows) k label same division
 
--- what is found of the problem of these rows
-pub found-capped : (rows capped : List ProblemRow) (cap parts divided : ℕ) (problem : ProblemData) (best : BestCut)
-    → problem ≡ record { rows = capped; ranks = divided } → capped ≡ capped_rows cap rows → rank_count divided ≡ min parts 64
-    → IsFound problem.rows (rank_count problem.ranks) best → IsFound (capped_rows cap rows) (min parts 64) best
-found-capped rows capped cap parts divided problem best is rows_are parts_are found =
-    subst (λ (n : ℕ). IsFound (capped_rows cap rows) n best) (ap (λ (one : ProblemData). rank_count one.ranks) is ∙ parts_are)
-    (subst (λ (those : List ProblemRow). IsFound those (rank_count problem.ranks) best) (ap (λ (one : ProblemData). one.rows) is ∙ rows_are) found)
-
-at_most-min : (n most : ℕ) → min n most ≤ most
-at_most-min n most = omega arith
+-- what is found of the rows that are capped
+pub found-capped : (rows those : List ProblemRow) (cap parts : ℕ) (best : BestCut) → those ≡ capped_rows cap rows → IsFound those parts best
+    → IsFound (capped_rows cap rows) parts best
+found-capped rows those cap parts best is found = subst (λ (some : List ProblemRow). IsFound some parts best) is found
 
 -- each row has one of these parts
 pub record AreParts (rows : List ProblemRow) (part : List ℕ) (count : ℕ) : Type 0 where
-  pub few : count ≤ 64
+  pub few : count ≤ 65536
   pub size : length part ≡ length rows
   pub below : (i : ℕ) → i < length rows → slice_index part i < count
 
-pub parts-found : (rows : List ProblemRow) (cap parts : ℕ) (best : BestCut) (part : List ℕ) → part ≡ best.cut.part.items
-    → IsFound (capped_rows cap rows) (min parts 64) best → AreParts rows part best.cut.count
-parts-found rows cap parts best part is found =
+pub parts-found : (rows those : List ProblemRow) (cap parts : ℕ) (best : BestCut) (part : List ℕ) → part ≡ best.cut.part.items → parts ≤ 65536
+    → those ≡ capped_rows cap rows → IsFound those parts best → AreParts rows part best.cut.count
+parts-found rows those cap parts best part is few capped those_found =
+    let found : IsFound (capped_rows cap rows) parts best = found-capped rows those cap parts best capped those_found in
     let same : length (capped_rows cap rows) ≡ length rows = length-map rows (capped_row cap) in
-    subst (λ (those : List ℕ). AreParts rows those best.cut.count) (sym is)
+    subst (λ (some : List ℕ). AreParts rows some best.cut.count) (sym is)
     (record {
-      few = le_trans found.few (at_most-min parts 64);
+      few = le_trans found.few few;
       size = found.cut.size ∙ same;
       below = λ i lt. found.cut.parts.division.below i (subst (λ (n : ℕ). i < n) (sym same) lt);
     })
@@ -91,16 +83,16 @@ heat-capped cap [] i = omega arith
 heat-capped cap (row ∷ rows) zero = omega arith
 heat-capped cap (row ∷ rows) (suc i) = heat-capped cap rows i
 
--- the rows of a forest stay one when they are capped, so a fault is that there are no ranks
-pub fault-capped : (cap : ℕ) (rows : List ProblemRow) (ranks : ℕ) (fault : ProblemError) → IsForest rows → IsFirstFault (capped_rows cap rows) ranks fault
-    → rank_count ranks ≡ 0
-fault-capped cap rows ranks TooMany forest many =
-    let none : ⊥ = omega (arith, many, length-map rows (capped_row cap), forest.few) in absurd none
-fault-capped cap rows ranks NoRanks forest none = none.1
-fault-capped cap rows ranks (BadParent i) forest bad =
-    let inside : i < length rows = omega (arith, bad.0, length-map rows (capped_row cap)) in
-    let same : parent_at (capped_rows cap rows) i ≡ parent_at rows i = parent-capped cap rows i in
-    absurd (bad.2 (λ first. same ∙ (ap (parent_at rows) first ∙ forest.root), λ later. omega (arith, same, forest.above i later inside)))
-fault-capped cap rows ranks (TooHot i) forest hot =
-    let inside : i < length rows = omega (arith, hot.0, length-map rows (capped_row cap)) in
-    let none : ⊥ = omega (arith, hot.3, heat-capped cap rows i, forest.cool i inside) in absurd none
+-- the rows of a forest stay one when they are capped
+pub forest-capped : (cap : ℕ) (rows those : List ProblemRow) → those ≡ capped_rows cap rows → IsForest rows → IsForest those
+forest-capped cap rows those is forest =
+    let size : length (capped_rows cap rows) ≡ length rows = length-map rows (capped_row cap) in
+    subst IsForest (sym is) (record {
+      few = omega (arith, size, forest.few);
+      root = parent-capped cap rows 0 ∙ forest.root;
+      above = λ i later inside. omega (arith, parent-capped cap rows i, forest.above i later (let lt : i < length rows = omega (arith, inside, size) in lt));
+      cool = λ i inside. omega (arith, heat-capped cap rows i, forest.cool i (let lt : i < length rows = omega (arith, inside, size) in lt));
+    })
+
+pub some-capped : (cap : ℕ) (rows those : List ProblemRow) → those ≡ capped_rows cap rows → 0 < length rows → 0 < length those
+some-capped cap rows those is some = omega (arith, ap length is, length-map rows (capped_row cap), some)

@@ -6,11 +6,12 @@ pub mod Climbs
 pub mod Found
 pub mod Held
 pub mod Least
+pub mod Means
 pub mod Moves
+pub mod Packed
+pub mod PartSums
 pub mod PinList
 pub mod Quoting
-pub mod RankCounts
-pub mod Refused
 pub mod Script
 pub mod ScriptEnds
 pub mod Weighed

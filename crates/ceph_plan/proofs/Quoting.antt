@@ -1,5 +1,5 @@
 -- Reading gives back what was quoted.
-use Rattle.std.proofs.Common.{◌≡◌, ◌≢◌, ◌∙◌, ◌<◌, ℕ, true, false, cond, eqb, List, [], ◌∷◌, ◌++◌, ◌+◌, All, Some, get_or, length, take, refl, ap, sym, arith, ⊎_elim}
+use Rattle.std.proofs.Common.{◌≡◌, ◌≢◌, ◌∙◌, ◌<◌, ℕ, true, false, eqb, List, [], ◌∷◌, ◌++◌, ◌+◌, All, Some, get_or, length, take, refl, ap, sym, arith, ⊎_elim}
 use Rattle.std.specs.List.{flat_map}
 use Rattle.std.proofs.lemmas.Bool.{cases_Bool, eq-eqb, eqb-true, ne_eqb, both_ways}
 use Rattle.std.proofs.lemmas.List.{append_assoc, flat_map_more, take_more}

@@ -7,11 +7,11 @@ use Rattle.std.proofs.lemmas.List.Elements.{All-append, All-cons, All-nil}
 use Rattle.ceph_plan.specs.declared.row.PinRow.{PinRow}
 use Rattle.ceph_plan.specs.declared.row.PinChange.{PinChange}
 use Rattle.ceph_plan.specs.declared.hold.Hold.{Hold}
-use Rattle.ceph_plan.specs.declared.hold.Hold.TheVariants.{Free, Own}
-use Rattle.ceph_plan.specs.Rule.{AreRows, IsNearest, IsRealized, first_of, foreign_at, no_row, own_pin, row_at, target_at}
-use Rattle.ceph_plan.specs.Holds.{AreHolds, hold_at, is_own, pins_below, rests_at}
-use Rattle.ceph_plan.specs.Changes.{AreNeeded, applied, before_pin, drops_from, is_dropped, is_set, sets_below, stands, while_set, while_unset}
-use Rattle.ceph_plan.proofs.Held.{IsHeld, IsOwnBy, own_by, own_held}
+use Rattle.ceph_plan.specs.declared.hold.Hold.TheVariants.{Foreign, Free, Own}
+use Rattle.ceph_plan.specs.Rule.{AreRows, IsNearest, IsRealized, first_of, foreign_at, no_row, own_pin, parent_at, row_at, target_at}
+use Rattle.ceph_plan.specs.Holds.{AreHolds, hold_at, hold_of, is_own, pins_below, rests_at}
+use Rattle.ceph_plan.specs.Changes.{AreNeeded, AreUntouched, StillHolds, applied, before_pin, drops_from, is_dropped, is_set, sets_below, stands, while_set, while_unset}
+use Rattle.ceph_plan.proofs.Held.{IsHeld, IsOwnBy, own_below, own_by, own_held, own_inside}
 use Rattle.ceph_plan.proofs.Held as held
 use Rattle.ceph_plan.proofs.Script.{AreSame, AreStates, ends, once, same_at, same_near}
 
@@ -208,3 +208,55 @@ needed rows holds changes f =
     subst (λ (cs : List PinChange). AreNeeded rows cs) (sym f.changes_are)
     (All-append (λ (change : PinChange). before_pin rows change.row ≢ change.pin) (sets_below rows holds (length rows)) (drops_from rows holds (length rows) 0)
     (needed_sets rows holds (length rows)) (needed_drops rows holds (length rows) 0))
+
+-- no change is of a row whose pin is to stay
+no_foreign : (row parent : PinRow) (above : Hold) → is_own (hold_of row parent above) ≡ true → row.foreign ≡ None
+no_foreign row parent above own =
+    ⊎_elim (λ (some : is_some row.foreign ≡ true).
+    let hold : hold_of row parent above ≡ Foreign = rw some refl in
+    absurd (both_ways (is_own (hold_of row parent above)) (ap is_own hold) own))
+    (λ (none : is_some row.foreign ≡ false). none_of row.foreign none)
+    (cases_Bool (is_some row.foreign))
+  where
+    none_of : (o : Option ℕ) → is_some o ≡ false → o ≡ None
+    none_of None e = refl
+    none_of (Some r) e = absurd (both_ways true e refl)
+
+own_unpinned : (rows : List PinRow) (holds : List Hold) (i : ℕ) → AreHolds rows holds (length rows) → length holds ≡ length rows → is_own (hold_at holds i) ≡ true
+    → foreign_at rows i ≡ None
+own_unpinned rows holds i holds_are size own =
+    no_foreign (row_at rows i) (row_at rows (parent_at rows i)) (hold_at holds (parent_at rows i))
+    (sym (ap is_own (holds_are.below i (own_below rows holds i holds_are size own) (own_inside rows holds i size own))) ∙ own)
+
+untouched_sets : (rows : List PinRow) (holds : List Hold) (n : ℕ) → AreHolds rows holds (length rows) → length holds ≡ length rows → AreUntouched rows (sets_below rows holds n)
+untouched_sets rows holds zero are size = All-nil (λ (change : PinChange). foreign_at rows change.row ≡ None)
+untouched_sets rows holds (suc n) are size =
+    ⊎_elim (λ (is : is_set (row_at rows n) (hold_at holds n) ≡ true).
+    rw is (All-cons (λ (change : PinChange). foreign_at rows change.row ≡ None) (record { row = n; pin = Some (target_at rows n) }) (sets_below rows holds n)
+    (own_unpinned rows holds n are size (and_parts (is_own (hold_at holds n)) (not (stands (row_at rows n))) is).0)
+    (untouched_sets rows holds n are size)))
+    (λ (is : is_set (row_at rows n) (hold_at holds n) ≡ false). rw is (untouched_sets rows holds n are size))
+    (cases_Bool (is_set (row_at rows n) (hold_at holds n)))
+
+untouched_drops : (rows : List PinRow) (holds : List Hold) (n m : ℕ) → AreUntouched rows (drops_from rows holds n m)
+untouched_drops rows holds zero m = All-nil (λ (change : PinChange). foreign_at rows change.row ≡ None)
+untouched_drops rows holds (suc n) m =
+    ⊎_elim (λ (is : is_dropped (row_at rows m) (hold_at holds m) ≡ true).
+    let parts = and_parts (is_none (foreign_at rows m)) (is_some (row_at rows m).earlier && not (is_own (hold_at holds m))) is in
+    rw is (All-cons (λ (change : PinChange). foreign_at rows change.row ≡ None) (record { row = m; pin = None }) (drops_from rows holds n (suc m))
+    (is_none_none (foreign_at rows m) parts.0)
+    (untouched_drops rows holds n (suc m))))
+    (λ (is : is_dropped (row_at rows m) (hold_at holds m) ≡ false). rw is (untouched_drops rows holds n (suc m)))
+    (cases_Bool (is_dropped (row_at rows m) (hold_at holds m)))
+
+pub untouched : (rows : List PinRow) (holds : List Hold) (changes : List PinChange) → AreChanges rows holds changes → AreUntouched rows changes
+untouched rows holds changes f =
+    subst (λ (cs : List PinChange). AreUntouched rows cs) (sym f.changes_are)
+    (All-append (λ (change : PinChange). foreign_at rows change.row ≡ None) (sets_below rows holds (length rows)) (drops_from rows holds (length rows) 0)
+    (untouched_sets rows holds (length rows) f.holds_are f.size) (untouched_drops rows holds (length rows) 0))
+
+-- what a pin holds that is to stay, it still holds
+pub kept : (rows : List PinRow) (holds : List Hold) (changes : List PinChange) → AreChanges rows holds changes → StillHolds rows (applied (before_pin rows) changes)
+kept rows holds changes f i r near =
+    same_near rows (new_pin rows holds) (applied (before_pin rows) changes) i r (back (applied (before_pin rows) changes) (new_pin rows holds) (in_the_end rows holds changes f))
+    (held.kept rows holds (new_pin rows holds) f.are f.holds_are f.size (own_by rows holds f.size) i r near)

@@ -1,8 +1,7 @@
 -- What is weighed, with one more number of parts.
-use Rattle.std.proofs.Common.{◌≡◌, ◌∙◌, ◌<◌, ◌≤◌, ◌+◌, ◌%◌, ◌==◌, ◌⊎◌, ◌||◌, ◌≢◌, ℕ, zero, suc, Bool, true, false, List, [], ◌∷◌, ◌++◌, length, Option, Some, None, inl, inr, ⊎_elim, ap, sym, subst, refl, arith}
-use Rattle.std.proofs.Math.Nat.{le-add_right, le_of_eq, le_refl, le_trans}
-use Rattle.std.proofs.Math.Numerals.{lt-add-one}
-use Rattle.std.proofs.lemmas.Bool.{both_ways, cases_Bool, cases_eq, eq-eqb}
+use Rattle.std.proofs.Common.{◌≡◌, ◌∙◌, ◌<◌, ◌≤◌, ◌+◌, ◌⊎◌, ◌||◌, ℕ, zero, suc, Bool, true, false, List, [], ◌∷◌, ◌++◌, length, Option, Some, inl, inr, ⊎_elim, ap, sym, subst, refl, arith}
+use Rattle.std.proofs.Math.Nat.{le_refl, le_trans}
+use Rattle.std.proofs.lemmas.Bool.{both_ways, cases_lt}
 use Rattle.std.proofs.lemmas.Option.{none-some, slice_get_within}
 use Rattle.std.specs.List.{slice_get}
 use Rattle.std.specs.Option.{option_map_or}
@@ -10,14 +9,8 @@ use Rattle.mds_types.specs.declared.problem.ProblemRow.{ProblemRow}
 use Rattle.mds_types.specs.RankSet.{rank_count}
 use Rattle.ceph_plan.specs.declared.plan.Planned.{Planned}
 use Rattle.ceph_plan.specs.declared.plan.Size.{Size}
-use Rattle.ceph_plan.specs.Choice.{AreWeighed, HasHeavyPlan, HasPlanOf, fair_share, size_of, total_of_rows}
+use Rattle.ceph_plan.specs.Choice.{AreWeighed, HasHeavyPlan, HasPlanOf, IsWeighed, fair_share, gap, size_of, total_of_rows}
 use Rattle.ceph_plan.specs.Plans.{IsPlan, IsPlanOf, no_cap}
-
-below-other : (parts n : ℕ) → parts < n + 1 → parts ≢ n → parts < n
-below-other parts n high other = omega arith
-
-positive : (k n : ℕ) → k < n → 0 < n
-positive k n inside = omega arith
 
 get_kept : {X : Type 0} (xs : List X) (x y : X) (k : ℕ) → slice_get xs k ≡ Some y → slice_get (xs ++ x ∷ []) k ≡ Some y
 get_kept [] x y k is = absurd (none-some y is)
@@ -35,14 +28,14 @@ get_either (a ∷ xs) x y zero is = inl is
 get_either (a ∷ xs) x y (suc k) is = get_either xs x y k is
 
 -- what is there stays there
-plan_kept : (ranks : ℕ) (pinned : List ℕ) (rows : List ProblemRow) (plans : List Planned) (more : Planned) (parts cap : ℕ)
-    → HasPlanOf ranks pinned rows plans parts cap → HasPlanOf ranks pinned rows (plans ++ more ∷ []) parts cap
-plan_kept ranks pinned rows plans more parts cap has =
+plan_kept : (ranks keep : ℕ) (pinned : List ℕ) (rows : List ProblemRow) (plans : List Planned) (more : Planned) (parts cap : ℕ)
+    → HasPlanOf ranks keep pinned rows plans parts cap → HasPlanOf ranks keep pinned rows (plans ++ more ∷ []) parts cap
+plan_kept ranks keep pinned rows plans more parts cap has =
     record { k = has.k; plan = has.plan; there = get_kept plans more has.plan has.k has.there; of = has.of }
 
-heavy_kept : (ranks : ℕ) (pinned : List ℕ) (rows : List ProblemRow) (plans : List Planned) (more : Planned) (parts next : ℕ) → parts ≤ next
-    → HasHeavyPlan ranks pinned rows plans parts → HasHeavyPlan ranks pinned rows (plans ++ more ∷ []) next
-heavy_kept ranks pinned rows plans more parts next le has = record {
+heavy_kept : (ranks keep : ℕ) (pinned : List ℕ) (rows : List ProblemRow) (plans : List Planned) (more : Planned) (parts next : ℕ) → parts ≤ next
+    → HasHeavyPlan ranks keep pinned rows plans parts → HasHeavyPlan ranks keep pinned rows (plans ++ more ∷ []) next
+heavy_kept ranks keep pinned rows plans more parts next le has = record {
   fewer = has.fewer;
   less = le_trans has.less le;
   k = has.k;
@@ -52,120 +45,102 @@ heavy_kept ranks pinned rows plans more parts next le has = record {
   heavy = has.heavy;
 }
 
-pub heavy_later : (ranks : ℕ) (pinned : List ℕ) (rows : List ProblemRow) (plans : List Planned) (parts next : ℕ) → parts ≤ next
-    → HasHeavyPlan ranks pinned rows plans parts → HasHeavyPlan ranks pinned rows plans next
-heavy_later ranks pinned rows plans parts next le has = record {
-  fewer = has.fewer;
-  less = le_trans has.less le;
-  k = has.k;
-  plan = has.plan;
-  there = has.there;
-  of = has.of;
-  heavy = has.heavy;
+weighed_kept : (ranks keep : ℕ) (pinned : List ℕ) (rows : List ProblemRow) (plans : List Planned) (more : Planned) (parts : ℕ)
+    → IsWeighed ranks keep pinned rows plans parts → IsWeighed ranks keep pinned rows (plans ++ more ∷ []) parts
+weighed_kept ranks keep pinned rows plans more parts is = record {
+  tried = is.tried;
+  low = is.low;
+  near = is.near;
+  of = elim is.of [
+    | inl has ↦ inl (plan_kept ranks keep pinned rows plans more is.tried no_cap has)
+    | inr has ↦ inr (
+      heavy_kept ranks keep pinned rows plans more is.tried is.tried (le_refl is.tried) has.0,
+      plan_kept ranks keep pinned rows plans more is.tried (fair_share (total_of_rows rows) is.tried) has.1,
+    )
+  ];
 }
 
--- a number that is no multiple is passed over
-pub weighed_passed : (ranks : ℕ) (pinned : List ℕ) (rows : List ProblemRow) (plans : List Planned) (n : ℕ) → AreWeighed ranks pinned rows plans n
-    → HasHeavyPlan ranks pinned rows plans n → ¬ (n % rank_count ranks ≡ 0) → AreWeighed ranks pinned rows plans (n + 1)
-weighed_passed ranks pinned rows plans n before heavy odd = record {
-  all = before.all;
-  each = λ parts low high.
-      ⊎_elim (λ (same : parts ≡ n). inr (heavy_later ranks pinned rows plans n parts (le_of_eq (sym same)) heavy))
-      (λ (other : parts ≢ n). before.each parts low (below-other parts n high other))
-      (cases_eq parts n);
-  capped = λ parts low high multiple.
-      ⊎_elim (λ (same : parts ≡ n). absurd (odd (sym (ap (λ (m : ℕ). m % rank_count ranks) same) ∙ multiple)))
-      (λ (other : parts ≢ n). before.capped parts low (below-other parts n high other) multiple)
-      (cases_eq parts n);
-}
-
--- one more plan: of this number of parts, or with rows capped where one row alone was the hottest part before
-pub weighed_more : (ranks : ℕ) (pinned : List ℕ) (rows : List ProblemRow) (plans : List Planned) (n : ℕ) (more : Planned) → AreWeighed ranks pinned rows plans n
-    → IsPlan ranks pinned rows more
-    → HasPlanOf ranks pinned rows (plans ++ more ∷ []) n no_cap ⊎ HasHeavyPlan ranks pinned rows (plans ++ more ∷ []) n
-    → HasPlanOf ranks pinned rows (plans ++ more ∷ []) n no_cap ⊎ HasPlanOf ranks pinned rows (plans ++ more ∷ []) n (fair_share (total_of_rows rows) n)
-    → AreWeighed ranks pinned rows (plans ++ more ∷ []) (n + 1)
-weighed_more ranks pinned rows plans n more before is each capped = record {
+-- one more plan, of this number of parts
+pub weighed_more : (ranks keep : ℕ) (pinned : List ℕ) (rows : List ProblemRow) (plans : List Planned) (n next : ℕ) (more : Planned) → AreWeighed ranks keep pinned rows plans n
+    → next ≡ n + gap n + 1 → IsPlan ranks keep pinned rows more
+    → HasPlanOf ranks keep pinned rows (plans ++ more ∷ []) n no_cap
+    ⊎ (HasHeavyPlan ranks keep pinned rows (plans ++ more ∷ []) n × HasPlanOf ranks keep pinned rows (plans ++ more ∷ []) n (fair_share (total_of_rows rows) n))
+    → AreWeighed ranks keep pinned rows (plans ++ more ∷ []) next
+weighed_more ranks keep pinned rows plans n next more before step is of = record {
   all = λ k plan there.
       ⊎_elim (λ (old : slice_get plans k ≡ Some plan). before.all k plan old)
-      (λ (new : more ≡ plan). subst (IsPlan ranks pinned rows) new is)
+      (λ (new : more ≡ plan). subst (IsPlan ranks keep pinned rows) new is)
       (get_either plans more plan k there);
   each = λ parts low high.
-      ⊎_elim (λ (same : parts ≡ n). subst (λ (m : ℕ). HasPlanOf ranks pinned rows (plans ++ more ∷ []) m no_cap ⊎ HasHeavyPlan ranks pinned rows (plans ++ more ∷ []) m) (sym same) each)
-      (λ (other : parts ≢ n).
-      ⊎_elim (λ (has : HasPlanOf ranks pinned rows plans parts no_cap). inl (plan_kept ranks pinned rows plans more parts no_cap has))
-      (λ (has : HasHeavyPlan ranks pinned rows plans parts). inr (heavy_kept ranks pinned rows plans more parts parts (le_refl parts) has))
-      (before.each parts low (below-other parts n high other)))
-      (cases_eq parts n);
-  capped = λ parts low high multiple.
-      ⊎_elim (λ (same : parts ≡ n). subst (λ (m : ℕ). HasPlanOf ranks pinned rows (plans ++ more ∷ []) m no_cap ⊎ HasPlanOf ranks pinned rows (plans ++ more ∷ []) m (fair_share (total_of_rows rows) m)) (sym same) capped)
-      (λ (other : parts ≢ n).
-      ⊎_elim (λ (has : HasPlanOf ranks pinned rows plans parts no_cap). inl (plan_kept ranks pinned rows plans more parts no_cap has))
-      (λ (has : HasPlanOf ranks pinned rows plans parts (fair_share (total_of_rows rows) parts)). inr (plan_kept ranks pinned rows plans more parts (fair_share (total_of_rows rows) parts) has))
-      (before.capped parts low (below-other parts n high other) multiple))
-      (cases_eq parts n);
+      ⊎_elim (λ (old : parts < n). weighed_kept ranks keep pinned rows plans more parts (before.each parts low old))
+      (λ (new : n ≤ parts). record { tried = n; low = new; near = below-next parts n (gap n) next high step; of = of })
+      (cases_lt parts n);
 }
+  where
+    below-next : (parts n over next : ℕ) → parts < next → next ≡ n + over + 1 → parts ≤ n + over
+    below-next parts n over next high step = omega (arith, high, step)
 
-has_last : (ranks : ℕ) (pinned : List ℕ) (rows : List ProblemRow) (plans : List Planned) (more : Planned) (n cap : ℕ) → IsPlanOf ranks pinned rows n cap more
-    → HasPlanOf ranks pinned rows (plans ++ more ∷ []) n cap
-has_last ranks pinned rows plans more n cap of = record { k = length plans; plan = more; there = get_last plans more; of = of }
+has_last : (ranks keep : ℕ) (pinned : List ℕ) (rows : List ProblemRow) (plans : List Planned) (more : Planned) (n cap : ℕ) → IsPlanOf ranks keep pinned rows n cap more
+    → HasPlanOf ranks keep pinned rows (plans ++ more ∷ []) n cap
+has_last ranks keep pinned rows plans more n cap of = record { k = length plans; plan = more; there = get_last plans more; of = of }
 
 -- what was weighed so far, and that a plan was heavy where the flag is set
-pub record IsSoFar (ranks : ℕ) (pinned : List ℕ) (rows : List ProblemRow) (plans : List Planned) (heavy : Bool) (n : ℕ) : Type 0 where
-  pub weighed : AreWeighed ranks pinned rows plans n
-  pub flag : heavy ≡ true → HasHeavyPlan ranks pinned rows plans n
+pub record IsSoFar (ranks keep : ℕ) (pinned : List ℕ) (rows : List ProblemRow) (plans : List Planned) (heavy : Bool) (n : ℕ) : Type 0 where
+  pub weighed : AreWeighed ranks keep pinned rows plans n
+  pub flag : heavy ≡ true → HasHeavyPlan ranks keep pinned rows plans n
 
 -- a plan of the size that is to be weighed is added
-pub more-so_far : (ranks : ℕ) (pinned : List ℕ) (rows : List ProblemRow) (plans : List Planned) (heavy now : Bool) (n heat count : ℕ) (size : Size) (more : Planned)
-    → heat ≡ total_of_rows rows → count ≡ rank_count ranks → size_of heat count n heavy ≡ Some size → IsPlanOf ranks pinned rows size.parts size.cap more
-    → now ≡ (heavy || more.is_heavy) → IsSoFar ranks pinned rows plans heavy n → IsSoFar ranks pinned rows (plans ++ more ∷ []) now (n + 1)
-more-so_far ranks pinned rows plans false now n heat count size more heat_is count_is sized of now_is before =
-    let parts_is : size.parts ≡ n = ap (λ (o : Option Size). option_map_or (λ (s : Size). s.parts) o 0) (sym sized) in
-    let cap_is : size.cap ≡ no_cap = ap (λ (o : Option Size). option_map_or (λ (s : Size). s.cap) o 0) (sym sized) in
-    let plain : IsPlanOf ranks pinned rows n no_cap more =
-    subst (λ (m : ℕ). IsPlanOf ranks pinned rows n m more) cap_is (subst (λ (m : ℕ). IsPlanOf ranks pinned rows m size.cap more) parts_is of) in
-    let has : HasPlanOf ranks pinned rows (plans ++ more ∷ []) n no_cap = has_last ranks pinned rows plans more n no_cap plain in
+pub more-so_far : (ranks keep : ℕ) (pinned : List ℕ) (rows : List ProblemRow) (plans : List Planned) (heavy now : Bool) (n next heat : ℕ) (size : Size) (more : Planned)
+    → heat ≡ total_of_rows rows → size ≡ size_of heat n heavy → IsPlanOf ranks keep pinned rows size.parts size.cap more → next ≡ n + gap n + 1
+    → now ≡ (heavy || more.is_heavy) → IsSoFar ranks keep pinned rows plans heavy n → IsSoFar ranks keep pinned rows (plans ++ more ∷ []) now next
+more-so_far ranks keep pinned rows plans false now n next heat size more heat_is sized of step now_is before =
+    let plain : IsPlanOf ranks keep pinned rows n no_cap more = subst (λ (s : Size). IsPlanOf ranks keep pinned rows s.parts s.cap more) sized of in
+    let less : n < next = later n (gap n) next step in
     record {
-      weighed = weighed_more ranks pinned rows plans n more before.weighed of.is (inl has) (inl has);
-      flag = λ set. record { fewer = n; less = lt-add-one n; k = length plans; plan = more; there = get_last plans more; of = plain; heavy = sym now_is ∙ set };
+      weighed = weighed_more ranks keep pinned rows plans n next more before.weighed step of.is (inl (has_last ranks keep pinned rows plans more n no_cap plain));
+      flag = λ set. record { fewer = n; less = less; k = length plans; plan = more; there = get_last plans more; of = plain; heavy = sym now_is ∙ set };
     }
-more-so_far ranks pinned rows plans true now n heat count size more heat_is count_is sized of now_is before =
-    let heavy : HasHeavyPlan ranks pinned rows plans n = before.flag refl in
-    ⊎_elim (λ (even : (n % count == 0) ≡ true).
-    let is : Some (record { parts = n; cap = fair_share heat n }) ≡ Some size = rw even at sized in
-    let parts_is : size.parts ≡ n = ap (λ (o : Option Size). option_map_or (λ (s : Size). s.parts) o 0) (sym is) in
-    let cap_is : size.cap ≡ fair_share heat n = ap (λ (o : Option Size). option_map_or (λ (s : Size). s.cap) o 0) (sym is) in
-    let share : size.cap ≡ fair_share (total_of_rows rows) n = cap_is ∙ ap (λ (h : ℕ). fair_share h n) heat_is in
-    let capped : IsPlanOf ranks pinned rows n (fair_share (total_of_rows rows) n) more =
-    subst (λ (m : ℕ). IsPlanOf ranks pinned rows n m more) share (subst (λ (m : ℕ). IsPlanOf ranks pinned rows m size.cap more) parts_is of) in
-    let result : IsSoFar ranks pinned rows (plans ++ more ∷ []) now (n + 1) = record {
-      weighed = weighed_more ranks pinned rows plans n more before.weighed of.is (inr (heavy_kept ranks pinned rows plans more n n (le_refl n) heavy))
-          (inr (has_last ranks pinned rows plans more n (fair_share (total_of_rows rows) n) capped));
-      flag = λ set. heavy_kept ranks pinned rows plans more n (n + 1) (le-add_right n 1) heavy;
-    } in result)
-    (λ (odd : (n % count == 0) ≡ false). absurd (none-some size (rw odd at sized)))
-    (cases_Bool (n % count == 0))
+  where
+    later : (n over next : ℕ) → next ≡ n + over + 1 → n < next
+    later n over next step = omega (arith, step)
+more-so_far ranks keep pinned rows plans true now n next heat size more heat_is sized of step now_is before =
+    let heavy : HasHeavyPlan ranks keep pinned rows plans n = before.flag refl in
+    let capped : IsPlanOf ranks keep pinned rows n (fair_share (total_of_rows rows) n) more =
+    subst (λ (h : ℕ). IsPlanOf ranks keep pinned rows n (fair_share h n) more) heat_is
+    (subst (λ (s : Size). IsPlanOf ranks keep pinned rows s.parts s.cap more) sized of) in
+    record {
+      weighed = weighed_more ranks keep pinned rows plans n next more before.weighed step of.is
+          (inr (heavy_kept ranks keep pinned rows plans more n n (le_refl n) heavy, has_last ranks keep pinned rows plans more n (fair_share (total_of_rows rows) n) capped));
+      flag = λ set. heavy_kept ranks keep pinned rows plans more n next (later n (gap n) next step) heavy;
+    }
+  where
+    later : (n over next : ℕ) → next ≡ n + over + 1 → n ≤ next
+    later n over next step = omega (arith, step)
 
--- no plan of this number of parts is to be weighed
-pub passed-so_far : (ranks : ℕ) (pinned : List ℕ) (rows : List ProblemRow) (plans : List Planned) (heavy : Bool) (n heat count : ℕ)
-    → count ≡ rank_count ranks → size_of heat count n heavy ≡ None → IsSoFar ranks pinned rows plans heavy n → IsSoFar ranks pinned rows plans heavy (n + 1)
-passed-so_far ranks pinned rows plans false n heat count count_is sized before = absurd (none-some (record { parts = n; cap = no_cap }) (sym sized))
-passed-so_far ranks pinned rows plans true n heat count count_is sized before =
-    let heavy : HasHeavyPlan ranks pinned rows plans n = before.flag refl in
-    ⊎_elim (λ (even : (n % count == 0) ≡ true). absurd (none-some (record { parts = n; cap = fair_share heat n }) (sym (rw even at sized))))
-    (λ (odd : (n % count == 0) ≡ false).
-    let not_zero : ¬ (n % rank_count ranks ≡ 0) = λ zero_is.
-    let yes : (n % count == 0) ≡ true = eq-eqb (n % count) 0 (ap (λ (m : ℕ). n % m) count_is ∙ zero_is) in
-    both_ways (n % count == 0) odd yes in
-    let result : IsSoFar ranks pinned rows plans true (n + 1) = record {
-      weighed = weighed_passed ranks pinned rows plans n before.weighed heavy not_zero;
-      flag = λ set. heavy_later ranks pinned rows plans n (n + 1) (le-add_right n 1) heavy;
-    } in result)
-    (cases_Bool (n % count == 0))
+-- what is weighed below a number is so below a smaller one
+pub weighed_fewer : (ranks keep : ℕ) (pinned : List ℕ) (rows : List ProblemRow) (plans : List Planned) (n m : ℕ) → m ≤ n → AreWeighed ranks keep pinned rows plans n
+    → AreWeighed ranks keep pinned rows plans m
+weighed_fewer ranks keep pinned rows plans n m le are = record { all = are.all; each = λ parts low high. are.each parts low (le_trans high le) }
 
 -- some plan was weighed
-pub some_weighed : (ranks : ℕ) (pinned : List ℕ) (rows : List ProblemRow) (plans : List Planned) → rank_count ranks ≤ 64 → AreWeighed ranks pinned rows plans 65 → 0 < length plans
-some_weighed ranks pinned rows plans few weighed =
-    ⊎_elim (λ (has : HasPlanOf ranks pinned rows plans 64 no_cap). let inside : has.k < length plans = slice_get_within plans has.k has.plan has.there in positive has.k (length plans) inside)
-    (λ (has : HasHeavyPlan ranks pinned rows plans 64). let inside : has.k < length plans = slice_get_within plans has.k has.plan has.there in positive has.k (length plans) inside)
-    (weighed.each 64 few (le_refl 65))
+pub some_weighed : (ranks keep : ℕ) (pinned : List ℕ) (rows : List ProblemRow) (plans : List Planned) (n : ℕ) → rank_count ranks < n → AreWeighed ranks keep pinned rows plans n → 0 < length plans
+some_weighed ranks keep pinned rows plans n more weighed = elim (weighed.each (rank_count ranks) (le_refl (rank_count ranks)) more).of [
+  | inl has ↦ positive has.k (length plans) (slice_get_within plans has.k has.plan has.there)
+  | inr has ↦ positive has.1.k (length plans) (slice_get_within plans has.1.k has.1.plan has.1.there)
+]
+  where
+    positive : (k n : ℕ) → k < n → 0 < n
+    positive k n inside = omega arith
+
+-- none is weighed before the first
+none_weighed : (ranks keep : ℕ) (pinned : List ℕ) (rows : List ProblemRow) → AreWeighed ranks keep pinned rows [] (rank_count ranks)
+none_weighed ranks keep pinned rows = record {
+  all = λ k plan there. absurd (none-some plan there);
+  each = λ parts low high. let none : ⊥ = omega (arith, low, high) in absurd none;
+}
+
+pub none-so_far : (ranks keep : ℕ) (pinned : List ℕ) (rows : List ProblemRow) → IsSoFar ranks keep pinned rows [] false (rank_count ranks)
+none-so_far ranks keep pinned rows = record { weighed = none_weighed ranks keep pinned rows; flag = λ set. absurd (both_ways false refl set) }
+
+pub later-count : (first n over next : ℕ) → first ≤ n → next ≡ n + over + 1 → first ≤ next
+later-count first n over next from step = omega (arith, from, step)

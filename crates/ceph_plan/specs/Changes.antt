@@ -1,10 +1,10 @@
 -- The rows' own pins while they are changed.
-use Rattle.std.specs.Prelude.{◌≢◌, All, ℕ, zero, suc, Bool, ◌==◌, ◌&&◌, ◌++◌, not, is_some, is_none}
+use Rattle.std.specs.Prelude.{◌≡◌, ◌≢◌, All, ℕ, zero, suc, Bool, ◌==◌, ◌&&◌, ◌++◌, not, is_some, is_none}
 use Rattle.std.specs.Prelude.{List, [], ◌∷◌, Option, Some, None, nat_lt, if◌then◌else◌}
 use Rattle.ceph_plan.specs.declared.hold.Hold.{Hold}
 use Rattle.ceph_plan.specs.declared.row.PinChange.{PinChange}
 use Rattle.ceph_plan.specs.declared.row.PinRow.{PinRow}
-use Rattle.ceph_plan.specs.Rule.{first_of, foreign_at, row_at, target_at}
+use Rattle.ceph_plan.specs.Rule.{IsNearest, first_of, foreign_at, row_at, target_at}
 use Rattle.ceph_plan.specs.Holds.{hold_at, is_own, rests_at}
 
 -- the rows' own pins before: foreign ones, and those of an earlier plan
@@ -22,6 +22,14 @@ applied own (change ∷ changes) = applied (changed own change) changes
 -- each change gives its row another pin than it had before, or takes the one that it had
 abbrev pub AreNeeded : List PinRow → List PinChange → Type 0
 AreNeeded rows changes = All (λ change. before_pin rows change.row ≢ change.pin) changes
+
+-- no change is of a row whose pin is to stay
+abbrev pub AreUntouched : List PinRow → List PinChange → Type 0
+AreUntouched rows changes = All (λ change. foreign_at rows change.row ≡ None) changes
+
+-- what a pin holds that is to stay, it holds with these pins
+abbrev pub StillHolds : List PinRow → (ℕ → Option ℕ) → Type 0
+StillHolds rows own = (i r : ℕ) → IsNearest rows (foreign_at rows) i r → IsNearest rows own i r
 
 -- the new pins are set at the rows from this one on; the old ones still stand
 abbrev pub while_set : (ℕ → Option ℕ) → (ℕ → Option ℕ) → ℕ → ℕ → Option ℕ

@@ -1,4 +1,5 @@
 pub mod Asked
+pub mod Balance
 pub mod Changes
 pub mod Choice
 pub mod Holds

@@ -5,6 +5,7 @@ use Rattle.mds_types.specs.declared.problem.ProblemRow.{ProblemRow}
 use Rattle.mds_types.specs.Division.{IsDivision, IsLeast, IsWithin}
 use Rattle.mds_types.specs.Problem.{IsForest, heat_at, inodes_at, now_at}
 use Rattle.mds_types.specs.Sums.{sum_below}
+use Rattle.ceph_plan.specs.Balance.{IsPackedEvenly}
 use Rattle.ceph_plan.specs.Packing.{IsAsGreatAsThree, IsLowerBound, IsPacking, packed_rank}
 use Rattle.ceph_plan.specs.declared.plan.Planned.{Planned}
 
@@ -14,12 +15,14 @@ moved_inodes rows part rank n =
     sum_below n (λ i. if packed_rank rank part i == now_at rows i then 0 else inodes_at rows i)
 
 -- each row is in one part, each part is connected and on one rank of the set, the root's on rank 0; loads are what
--- they are told to be, the bound is one for every assignment of rows to ranks, and the inodes that move are told
-pub record IsPlan (ranks : ℕ) (pinned : List ℕ) (rows : List ProblemRow) (plan : Planned) : Type 0 where
+-- they are told to be, and no greater than the parts and `keep` allow; the bound is one for every assignment of rows to
+-- ranks, and the inodes that move are told
+pub record IsPlan (ranks keep : ℕ) (pinned : List ℕ) (rows : List ProblemRow) (plan : Planned) : Type 0 where
   pub forest : IsForest rows
   pub size : length plan.part.items ≡ length rows
   pub division : IsDivision rows plan.count (slice_index plan.part.items)
   pub packing : IsPacking ranks pinned rows plan.part.items plan.count plan.packing
+  pub balanced : IsPackedEvenly ranks pinned rows plan.part.items plan.count keep plan.packing
   pub bound : IsLowerBound ranks pinned rows plan.packing.bound
   pub three : IsAsGreatAsThree ranks pinned rows plan.packing.bound
   pub moved : plan.moved ≡ moved_inodes rows plan.part.items plan.packing.rank.items (length rows)
@@ -35,14 +38,14 @@ capped_rows cap rows = map (capped_row cap) rows
 abbrev pub no_cap : ℕ
 no_cap = 2 ^ 64 - 1
 
--- a plan of at most so many parts, and at most 64: its hottest part is as cool as that of any such division, where no
--- row counts as hotter than the cap. It is heavy where one row alone is as hot, so that more parts change nothing
-pub record IsPlanOf (ranks : ℕ) (pinned : List ℕ) (rows : List ProblemRow) (parts cap : ℕ)
+-- a plan of at most so many parts: its hottest part is as cool as that of any such division, where no row counts as
+-- hotter than the cap. It is heavy where one row alone is as hot, so that more parts change nothing
+pub record IsPlanOf (ranks keep : ℕ) (pinned : List ℕ) (rows : List ProblemRow) (parts cap : ℕ)
     (plan : Planned) : Type 0 where
-  pub is : IsPlan ranks pinned rows plan
-  pub few : plan.count ≤ min parts 64
+  pub is : IsPlan ranks keep pinned rows plan
+  pub few : plan.count ≤ parts
   pub greatest : ℕ
   pub within : IsWithin (capped_rows cap rows) plan.count (slice_index plan.part.items) greatest
-  pub least : IsLeast (capped_rows cap rows) (min parts 64) greatest
+  pub least : IsLeast (capped_rows cap rows) parts greatest
   pub heavy : IsTrue plan.is_heavy ↔ ((i : ℕ) × (i < length (capped_rows cap rows))
       × (greatest ≤ heat_at (capped_rows cap rows) i))

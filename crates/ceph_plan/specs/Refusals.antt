@@ -6,6 +6,7 @@ use Rattle.mds_types.specs.RankSet.{has_rank}
 use Rattle.ceph_plan.specs.Asked.{own_at}
 use Rattle.ceph_plan.specs.declared.choice.PartCount.{PartCount}
 use Rattle.ceph_plan.specs.declared.choice.PartCount.TheVariants.{AtMost, Auto}
+use Rattle.ceph_plan.specs.declared.choice.Wanted.{Wanted}
 use Rattle.ceph_plan.specs.declared.plan_error.PlanError.{PlanError}
 use Rattle.ceph_plan.specs.declared.plan_error.PlanError.TheVariants as cause
 use Rattle.ceph_plan.specs.declared.proposal.OwnPins.{OwnPins}
@@ -32,21 +33,21 @@ IsPartsRefusal parts (cause.Problem fault) = parts ≡ 0
 
 -- no parts are asked for
 abbrev pub AsksNoParts : PartCount → Type 0
-AsksNoParts Auto = ⊥
+AsksNoParts (Auto most) = ⊥
 AsksNoParts (AtMost parts) = parts ≡ 0
 
 -- why rows aren't planned: the first thing that is wrong, or want of memory where it is none of the first three
-abbrev pub IsPlanRefusal : ℕ → List ℕ → List ProblemRow → PartCount → PlanError → Type 0
-IsPlanRefusal ranks pinned rows parts cause.Memory = IsPlannable ranks pinned rows
-IsPlanRefusal ranks pinned rows parts cause.NoDirectory = (has_rank ranks 0 ≡ true) × (length rows ≡ 0)
-IsPlanRefusal ranks pinned rows parts cause.NoRankZero = has_rank ranks 0 ≡ false
-IsPlanRefusal ranks pinned rows parts cause.PinnedTooHot =
+abbrev pub IsPlanRefusal : ℕ → List ℕ → List ProblemRow → Wanted → PlanError → Type 0
+IsPlanRefusal ranks pinned rows wanted cause.Memory = IsPlannable ranks pinned rows
+IsPlanRefusal ranks pinned rows wanted cause.NoDirectory = (has_rank ranks 0 ≡ true) × (length rows ≡ 0)
+IsPlanRefusal ranks pinned rows wanted cause.NoRankZero = has_rank ranks 0 ≡ false
+IsPlanRefusal ranks pinned rows wanted cause.PinnedTooHot =
     (has_rank ranks 0 ≡ true) × (0 < length rows) × (IsPinnedHeat pinned → ⊥)
-IsPlanRefusal ranks pinned rows parts cause.PinnedRoot = ⊥
-IsPlanRefusal ranks pinned rows parts (cause.Problem fault) =
-    IsPlannable ranks pinned rows × (IsFirstFault rows ranks fault ⊎ AsksNoParts parts)
+IsPlanRefusal ranks pinned rows wanted cause.PinnedRoot = ⊥
+IsPlanRefusal ranks pinned rows wanted (cause.Problem fault) =
+    IsPlannable ranks pinned rows × (IsFirstFault rows ranks fault ⊎ AsksNoParts wanted.parts)
 
 -- why there is no proposal: the root has a pin that is to stay, or the rows aren't planned
-abbrev pub IsProposalRefusal : ℕ → List ℕ → List ProblemRow → PartCount → List OwnPins → PlanError → Type 0
-IsProposalRefusal ranks pinned rows parts own error =
-    ((error ≡ cause.PinnedRoot) × ((own_at own 0).foreign ≡ None → ⊥)) ⊎ IsPlanRefusal ranks pinned rows parts error
+abbrev pub IsProposalRefusal : ℕ → List ℕ → List ProblemRow → Wanted → List OwnPins → PlanError → Type 0
+IsProposalRefusal ranks pinned rows wanted own error =
+    ((error ≡ cause.PinnedRoot) × ((own_at own 0).foreign ≡ None → ⊥)) ⊎ IsPlanRefusal ranks pinned rows wanted error

@@ -1,7 +1,7 @@
 //! The changes from the pins of an earlier plan to those of a new one.
 ghost use Rattle.std.specs.Prelude.{◌≡◌, ◌<◌, ◌≤◌, ◌⊎◌, ◌++◌, ◌^◌, ℕ, length, take, IfOk, OnOk};
 ghost use Rattle.ceph_plan.specs.Rule.{AreRows, IsNearest, IsRealized};
-ghost use Rattle.ceph_plan.specs.Changes.{AreNeeded, applied, before_pin, drops_from};
+ghost use Rattle.ceph_plan.specs.Changes.{AreNeeded, AreUntouched, StillHolds, applied, before_pin, drops_from};
 ghost use Rattle.ceph_plan.specs.Changes.{is_dropped, is_set, sets_below, stands};
 
 use crate::hold::{Hold, holds_of};
@@ -88,6 +88,9 @@ pub fn changes_for(alloc: Global, rows: &[PinRow]) -> Result<Vec<PinChange>, All
         ⊎ IsNearest rows.now (applied (before_pin rows.now) changes.items) i r) }
     // each changes its row's pin
     ensures needed { IfOk result (λ changes. AreNeeded rows.now changes.items) }
+    // none is of a row whose pin is to stay, and what such a pin holds it still holds
+    ensures untouched { IfOk result (λ changes. AreUntouched rows.now changes.items) }
+    ensures kept { IfOk result (λ changes. StillHolds rows.now (applied (before_pin rows.now) changes.items)) }
 {
     let holds = holds_of(alloc, rows)?;
     let mut changes = Vec::new(alloc);

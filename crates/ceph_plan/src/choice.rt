@@ -1,26 +1,38 @@
-//! How many parts: each number from that of the ranks to 64 is tried.
-ghost use Rattle.std.specs.Prelude.{◌≡◌, ◌<◌, ◌≤◌, ◌+◌, ◌/◌, ◌^◌, ◌↔◌, ℕ, All, length};
+//! How many parts: numbers from that of the ranks up to the most that are allowed are tried.
+ghost use Rattle.std.specs.Prelude.{◌≡◌, ◌<◌, ◌≤◌, ◌+◌, ◌/◌, ◌^◌, ◌↔◌, ℕ, All, length, max};
 ghost use Rattle.std.specs.Prelude.{true, IfErr, IfOk, IsTrue};
 ghost use Rattle.mds_types.specs.Problem.{IsForest};
-ghost use Rattle.mds_types.specs.RankSet.{has_rank};
-ghost use Rattle.ceph_plan.specs.Choice.{AreWeighed, IsBest, IsChosen, IsPlanChoice, greatest_at, moved_at, size_of};
-ghost use Rattle.ceph_plan.specs.Refusals.{IsPlanRefusal};
+ghost use Rattle.mds_types.specs.RankSet.{has_rank, rank_count};
+ghost use Rattle.ceph_plan.specs.Choice.{AreWeighed, IsBest, IsChosen, IsLess, IsPlanChoice};
+ghost use Rattle.ceph_plan.specs.Choice.{part_count_at, gap, greatest_at, moved_at, size_of};
+ghost use Rattle.ceph_plan.specs.Plans.{IsPlanOf, no_cap};
+ghost use Rattle.ceph_plan.specs.Refusals.{IsPartsRefusal, IsPlanRefusal};
 
 use crate::bound::total_heat;
 use crate::packing::are_pinned;
 use crate::plan::{Planned, Size, plan_parts};
 use crate::plan_error::PlanError;
-use mds_types::limits::RANK_LIMIT;
-use mds_types::{Problem, ProblemRow, Rank, RankSet};
+use mds_types::{Problem, ProblemError, ProblemRow, Rank, RankSet};
 use std::alloc::Global;
 
 /// Into how many parts the directories are divided.
 #[derive(Clone, Copy)]
 pub enum PartCount {
-    /// As many as give the coolest plan, or one within 1 % of it that moves less.
-    Auto,
-    /// At most so many.
-    AtMost(u8),
+    /// As many as give the coolest plan, or one within 1 % of it that has no more parts and moves no more inodes. At
+    /// most this many, or as many as there are ranks.
+    Auto(u16),
+    /// At most this many.
+    AtMost(u16),
+}
+
+/// What plan is wanted.
+#[derive(Clone, Copy)]
+pub struct Wanted {
+    /// Into how many parts the directories are divided.
+    pub parts: PartCount,
+    /// The percent by which a load may pass the greatest of the packing that looks at heat only, so that a part stays
+    /// where it is.
+    pub keep: u8,
 }
 
 /// The place of the coolest.
@@ -47,17 +59,28 @@ fn limit_of(plans: &[Planned], at: usize) -> u128
     greatest + greatest / 100
 }
 
-/// Whether a plan is within the limit and moves fewer inodes than another.
+/// Whether a plan is within the limit, and has fewer parts than another and moves no more inodes, or the other way
+/// round.
 fn is_better(plans: &[Planned], at: usize, best: usize, limit: u128) -> bool
     requires at { at < length plans.now }
     requires best { best < length plans.now }
-    ensures { IsTrue result ↔ ((greatest_at plans.now at ≤ limit) × (moved_at plans.now at < moved_at plans.now best)) }
+    ensures { IsTrue result ↔ ((greatest_at plans.now at ≤ limit)
+        × IsLess (part_count_at plans.now at) (moved_at plans.now at) (part_count_at plans.now best)
+        (moved_at plans.now best)) }
 {
-    let is_cool = u128::from(plans[at].packing.greatest) <= limit;
-    is_cool && plans[at].moved < plans[best].moved
+    let (here, other) = (&plans[at], &plans[best]);
+    let is_cool = u128::from(here.packing.greatest) <= limit;
+    is_cool && is_less(here.count, here.moved, other.count, other.moved)
 }
 
-/// The place of the one that moves the fewest inodes, of those within 1 % of the coolest.
+/// Whether one of two numbers is less than the other pair's, and the other no more.
+fn is_less(count: u32, moved: u64, others: u32, other: u64) -> bool
+    ensures { IsTrue result ↔ IsLess count moved others other }
+{
+    count <= others && moved <= other && (count < others || moved < other)
+}
+
+/// The place of one within 1 % of the coolest, where no other of these has as few parts and moves as few inodes.
 fn chosen(plans: &[Planned]) -> usize
     requires { 0 < length plans.now }
     ensures { IsChosen plans.now result }
@@ -73,32 +96,38 @@ fn chosen(plans: &[Planned]) -> usize
     best
 }
 
-/// How finely rows of this heat are divided for so many parts, if they are, where there are so many ranks.
-///
-/// Once one row alone was the hottest part, more parts change nothing: rows are then capped at a fair share, and only
-/// each number that is a multiple of that of the ranks is tried.
-fn size_for(parts: u8, ranks: u8, heat: u64, is_heavy: bool) -> Option<Size>
-    requires ranks { 0 < ranks }
-    requires parts { 0 < parts }
-    ensures { result ≡ size_of heat ranks parts is_heavy }
+/// How finely rows of this heat are divided for so many parts. Once one row alone was the hottest part, more parts
+/// change nothing: rows are then capped at a fair share.
+fn size_for(parts: u32, heat: u64, is_heavy: bool) -> Size
+    requires { 0 < parts }
+    ensures { result ≡ size_of heat parts is_heavy }
 {
-    if !is_heavy {
-        return Some(Size {
-            parts,
-            cap: u64::MAX,
-        });
-    }
-    if parts % ranks > 0 {
-        return None;
-    }
-    let cap = (heat / u64::from(parts)).max(1);
-    Some(Size { parts, cap })
+    let cap = if is_heavy {
+        (heat / u64::from(parts)).max(1)
+    } else {
+        u64::MAX
+    };
+    Size { parts, cap }
 }
 
-/// A plan of each number of parts from that of the ranks to 64, as results don't fall steadily with the number.
+/// The number of parts that is tried after this one: the next up to 64, and then numbers that grow by a quarter.
+fn next_count(parts: u32) -> u32
+    requires { parts ≤ 65536 }
+    ensures { result ≡ parts + gap parts + 1 }
+{
+    if parts < 64 {
+        parts + 1
+    } else {
+        parts + parts / 4 + 1
+    }
+}
+
+/// A plan of each number of parts that is tried, from that of the ranks to the most, as results don't fall steadily
+/// with the number.
 fn weighed(
     alloc: Global,
     rows: &[ProblemRow],
+    most: u16,
     pinned: &[u64],
     ranks: RankSet,
     keep: u8,
@@ -108,27 +137,31 @@ fn weighed(
     requires size { length pinned.now ≡ 64 }
     requires small { All (λ n. n ≤ 2 ^ 57) pinned.now }
     requires zero { has_rank ranks 0 ≡ true }
-    ensures weighed { IfOk result (λ plans. AreWeighed ranks pinned.now rows.now plans.items 65) }
+    ensures weighed { IfOk result (λ plans. AreWeighed ranks keep pinned.now rows.now plans.items
+        (max most (rank_count ranks) + 1)) }
     ensures some { IfOk result (λ plans. 0 < length plans.items) }
     ensures refused { IfErr result (λ error. error ≡ PlanError.Memory) }
 {
-    let (heat, count) = (total_heat(rows), ranks.len());
+    let (heat, count) = (total_heat(rows), u32::from(ranks.len()));
+    let last = u32::from(most).max(count);
     let mut plans = Vec::new(alloc);
     let mut is_heavy = false;
-    for parts in count..RANK_LIMIT + 1 {
-        if let Some(size) = size_for(parts, count, heat, is_heavy) {
-            let plan = plan_parts(alloc, rows, size, pinned, ranks, keep)?;
-            is_heavy |= plan.is_heavy;
-            plans.push(plan)?;
-        }
+    let mut parts = count;
+    while parts <= last {
+        let size = size_for(parts, heat, is_heavy);
+        let plan = plan_parts(alloc, rows, size, pinned, ranks, keep)?;
+        is_heavy |= plan.is_heavy;
+        plans.push(plan)?;
+        parts = next_count(parts);
     }
     Ok(plans)
 }
 
-/// Of a plan of each number of parts the coolest, or one within 1 % of it that moves less.
+/// Of the plans of all numbers that are tried the coolest, or one within 1 % of it that needs less.
 fn best_plan(
     alloc: Global,
     rows: &[ProblemRow],
+    most: u16,
     pinned: &[u64],
     ranks: RankSet,
     keep: u8,
@@ -138,30 +171,52 @@ fn best_plan(
     requires size { length pinned.now ≡ 64 }
     requires small { All (λ n. n ≤ 2 ^ 57) pinned.now }
     requires zero { has_rank ranks 0 ≡ true }
-    ensures best { IfOk result (IsBest ranks pinned.now rows.now) }
+    ensures best { IfOk result (IsBest ranks keep pinned.now rows.now most) }
     ensures refused { IfErr result (λ error. error ≡ PlanError.Memory) }
 {
-    let mut plans = weighed(alloc, rows, pinned, ranks, keep)?;
+    let mut plans = weighed(alloc, rows, most, pinned, ranks, keep)?;
     let at = chosen(&plans);
     Ok(plans.swap_remove(at))
 }
 
-/// Which rank of the set each row is to be at, in connected parts, several a rank.
-///
-/// `pinned[r]` is the heat that is held at rank r, and `keep` the percent by which a load may pass the greatest so
-/// that a part stays where it is. The root's part goes to rank 0, as Ceph never moves
-/// the root: without rank 0 there is no plan.
-pub fn choose_plan(
+/// A plan of at most this many parts, if any are asked for.
+fn plan_of_count(
     alloc: Global,
     rows: &[ProblemRow],
-    parts: PartCount,
+    parts: u16,
     pinned: &[u64],
     ranks: RankSet,
     keep: u8,
 ) -> Result<Planned, PlanError>
-    ensures chosen { IfOk result (IsPlanChoice ranks pinned.now rows.now parts) }
+    requires forest { IsForest rows.now }
+    requires some { 0 < length rows.now }
+    requires size { length pinned.now ≡ 64 }
+    requires small { All (λ n. n ≤ 2 ^ 57) pinned.now }
+    requires zero { has_rank ranks 0 ≡ true }
+    ensures plan { IfOk result (IsPlanOf ranks keep pinned.now rows.now parts no_cap) }
+    ensures refused { IfErr result (IsPartsRefusal parts) }
+{
+    if parts == 0 {
+        return Err(PlanError::Problem(ProblemError::NoRanks));
+    }
+    let (parts, cap) = (u32::from(parts), u64::MAX);
+    plan_parts(alloc, rows, Size { parts, cap }, pinned, ranks, keep)
+}
+
+/// Which rank of the set each row is to be at, in connected parts, several a rank.
+///
+/// `pinned[r]` is the heat that is held at rank r. The root's part goes to rank 0, as Ceph never moves the root:
+/// without rank 0 there is no plan.
+pub fn choose_plan(
+    alloc: Global,
+    rows: &[ProblemRow],
+    wanted: Wanted,
+    pinned: &[u64],
+    ranks: RankSet,
+) -> Result<Planned, PlanError>
+    ensures chosen { IfOk result (IsPlanChoice ranks pinned.now rows.now wanted) }
     // it is refused for what is wrong first
-    ensures refused { IfErr result (IsPlanRefusal ranks pinned.now rows.now parts) }
+    ensures refused { IfErr result (IsPlanRefusal ranks pinned.now rows.now wanted) }
 {
     if !ranks.has(Rank::default()) {
         return Err(PlanError::NoRankZero);
@@ -177,11 +232,8 @@ pub fn choose_plan(
         Err((error, _)) => return Err(PlanError::Problem(error)),
     };
     let rows = problem.rows();
-    match parts {
-        PartCount::Auto => best_plan(alloc, rows, pinned, ranks, keep),
-        PartCount::AtMost(parts) => {
-            let cap = u64::MAX;
-            plan_parts(alloc, rows, Size { parts, cap }, pinned, ranks, keep)
-        }
+    match wanted.parts {
+        PartCount::Auto(most) => best_plan(alloc, rows, most, pinned, ranks, wanted.keep),
+        PartCount::AtMost(parts) => plan_of_count(alloc, rows, parts, pinned, ranks, wanted.keep),
     }
 }

@@ -25,7 +25,7 @@ pub mod row;
 
 pub use bound::{lower_bound, total_heat};
 pub use changes::changes_for;
-pub use choice::{PartCount, choose_plan};
+pub use choice::{PartCount, Wanted, choose_plan};
 pub use packing::{Packing, are_parts, are_pinned, pack};
 pub use pins::{are_rows, pins_for};
 pub use plan::Planned;

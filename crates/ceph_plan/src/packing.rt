@@ -2,11 +2,12 @@
 ghost use Rattle.std.specs.Prelude.{◌≡◌, ◌<◌, ◌≤◌, ◌^◌, ℕ, All, length, slice_index, true, IfOk, IsTrue};
 ghost use Rattle.mds_types.specs.Problem.{IsForest};
 ghost use Rattle.mds_types.specs.RankSet.{has_rank};
+ghost use Rattle.ceph_plan.specs.Balance.{IsPackedEvenly};
 ghost use Rattle.ceph_plan.specs.Packing.{IsAsGreatAsThree, IsLowerBound, IsPacking};
 
 use crate::bound::{lower_bound, most};
 use crate::loads::loads;
-use crate::rank_choice::{choose, part_heats, part_inodes};
+use crate::rank_choice::{PartAmounts, choose, part_heats, part_inodes};
 use mds_types::{ProblemRow, Rank, RankSet};
 use std::alloc::{AllocError, Global};
 
@@ -56,19 +57,26 @@ pub fn pack(
 ) -> Result<Packing, AllocError>
     requires forest { IsForest rows.now }
     requires some { 0 < length rows.now }
-    requires few { count ≤ 64 }
+    requires few { count ≤ 65536 }
     requires parts { length part.now ≡ length rows.now }
     requires below { (i : ℕ) → i < length rows.now → slice_index part.now i < count }
     requires size { length pinned.now ≡ 64 }
     requires small { All (λ n. n ≤ 2 ^ 57) pinned.now }
     requires zero { has_rank ranks 0 ≡ true }
     ensures packing { IfOk result (λ packing. IsPacking ranks pinned.now rows.now part.now count packing) }
+    ensures balanced { IfOk result (λ packing. IsPackedEvenly ranks pinned.now rows.now part.now count keep packing) }
     ensures bound { IfOk result (λ packing. IsLowerBound ranks pinned.now rows.now packing.bound) }
     ensures three { IfOk result (λ packing. IsAsGreatAsThree ranks pinned.now rows.now packing.bound) }
 {
     let heats = part_heats(alloc, rows, part, count)?;
-    let cells = part_inodes(alloc, rows, part, count)?;
-    let rank = choose(alloc, &heats, &cells, part[0], pinned, ranks, keep)?;
+    let inodes = part_inodes(alloc, rows, part, count)?;
+    let parts = PartAmounts {
+        heats: &heats,
+        inodes: &inodes,
+        root: part[0],
+        pinned,
+    };
+    let rank = choose(alloc, parts, ranks, keep)?;
     let load = loads(alloc, rows, part, &rank, pinned)?;
     let greatest = most(&load, ranks);
     let bound = lower_bound(rows, pinned, ranks);

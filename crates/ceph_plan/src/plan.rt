@@ -1,15 +1,14 @@
 //! A plan of one number of parts.
-ghost use Rattle.std.specs.Prelude.{◌≡◌, ◌<◌, ◌≤◌, ◌^◌, ◌↔◌, ℕ, All, IsTrue, length, min, slice_index, true};
+ghost use Rattle.std.specs.Prelude.{◌≡◌, ◌<◌, ◌≤◌, ◌^◌, ◌↔◌, ℕ, All, IsTrue, length, slice_index, true};
 ghost use Rattle.std.specs.Prelude.{IfErr, IfOk};
 ghost use Rattle.mds_types.specs.Problem.{IsForest, heat_at};
-ghost use Rattle.mds_types.specs.RankSet.{has_rank, rank_count};
+ghost use Rattle.mds_types.specs.RankSet.{has_rank};
 ghost use Rattle.ceph_plan.specs.Plans.{IsPlanOf, capped_rows, moved_inodes};
-ghost use Rattle.ceph_plan.specs.Refusals.{IsPartsRefusal};
 
 use crate::packing::{Packing, pack};
 use crate::plan_error::PlanError;
-use mds_types::{Problem, ProblemRow, Rank, RankSet};
-use minmax_search::{BestCut, search};
+use mds_types::{ProblemRow, Rank, RankSet};
+use minmax_search::{BestCut, search_rows};
 use std::alloc::{AllocError, Global};
 
 /// The directories divided into connected parts, and the parts packed on the ranks.
@@ -30,8 +29,8 @@ pub struct Planned {
 /// How finely rows are divided.
 #[derive(Clone, Copy)]
 pub struct Size {
-    /// At most so many parts.
-    pub parts: u8,
+    /// At most this many parts.
+    pub parts: u32,
     /// No row counts as hotter than this.
     pub cap: u64,
 }
@@ -68,13 +67,6 @@ fn capped(alloc: Global, rows: &[ProblemRow], cap: u64) -> Result<Vec<ProblemRow
     Ok(found)
 }
 
-/// So many ranks, at most 64.
-fn first_ranks(count: u8) -> RankSet
-    ensures { rank_count result ≡ min count 64 }
-{
-    RankSet::from_bits(u64::MAX).among(count)
-}
-
 /// Whether some row is at least as hot as this by itself.
 fn has_row_of(rows: &[ProblemRow], heat: u64) -> bool
     ensures { IsTrue result ↔ ((i : ℕ) × (i < length rows.now) × (heat ≤ heat_at rows.now i)) }
@@ -105,24 +97,22 @@ pub fn plan_parts(
 ) -> Result<Planned, PlanError>
     requires forest { IsForest rows.now }
     requires some { 0 < length rows.now }
+    requires parts { 0 < size.parts }
+    requires few { size.parts ≤ 65536 }
     requires size { length pinned.now ≡ 64 }
     requires small { All (λ n. n ≤ 2 ^ 57) pinned.now }
     requires zero { has_rank ranks 0 ≡ true }
-    ensures plan { IfOk result (IsPlanOf ranks pinned.now rows.now size.parts size.cap) }
-    ensures refused { IfErr result (IsPartsRefusal size.parts) }
+    ensures plan { IfOk result (IsPlanOf ranks keep pinned.now rows.now size.parts size.cap) }
+    ensures refused { IfErr result (λ error. error ≡ PlanError.Memory) }
 {
-    let divided = first_ranks(size.parts);
-    let problem = match Problem::new(capped(alloc, rows, size.cap)?, divided) {
-        Ok(problem) => problem,
-        Err((error, _)) => return Err(PlanError::Problem(error)),
-    };
+    let capped = capped(alloc, rows, size.cap)?;
     let BestCut {
         cut,
         greatest,
         proof: _,
         passes: _,
-    } = search(&problem, alloc)?;
-    let is_heavy = has_row_of(problem.rows(), greatest);
+    } = search_rows(alloc, &capped, size.parts)?;
+    let is_heavy = has_row_of(&capped, greatest);
     let packing = pack(alloc, rows, &cut.part, cut.count, pinned, ranks, keep)?;
     let moved = moved(rows, &cut.part, &packing.rank);
     Ok(Planned {

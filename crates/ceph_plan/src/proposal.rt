@@ -5,7 +5,7 @@ ghost use Rattle.ceph_plan.specs.Proposals.{IsProposal};
 ghost use Rattle.ceph_plan.specs.Refusals.{IsProposalRefusal};
 
 use crate::changes::changes_for;
-use crate::choice::{PartCount, choose_plan};
+use crate::choice::{Wanted, choose_plan};
 use crate::pins::are_rows;
 use crate::plan::Planned;
 use crate::plan_error::PlanError;
@@ -66,17 +66,16 @@ fn pin_rows(
 pub fn propose(
     alloc: Global,
     rows: &[ProblemRow],
-    parts: PartCount,
+    wanted: Wanted,
     pinned: &[u64],
     ranks: RankSet,
-    keep: u8,
     own: &[OwnPins],
 ) -> Result<Proposal, PlanError>
     requires own { length own.now ≡ length rows.now }
-    ensures proposal { IfOk result (IsProposal ranks pinned.now rows.now parts own.now) }
-    ensures refused { IfErr result (IsProposalRefusal ranks pinned.now rows.now parts own.now) }
+    ensures proposal { IfOk result (IsProposal ranks pinned.now rows.now wanted own.now) }
+    ensures refused { IfErr result (IsProposalRefusal ranks pinned.now rows.now wanted own.now) }
 {
-    let plan = choose_plan(alloc, rows, parts, pinned, ranks, keep)?;
+    let plan = choose_plan(alloc, rows, wanted, pinned, ranks)?;
     let asked = pin_rows(alloc, rows, &plan.part, &plan.packing.rank, own)?;
     if !are_rows(&asked) {
         return Err(PlanError::PinnedRoot);

@@ -1,7 +1,12 @@
 //! Which rank each part goes to: the hottest part first, where most of it is or on the least loaded rank.
-ghost use Rattle.std.specs.Prelude.{◌≡◌, ◌<◌, ◌≤◌, ◌-◌, ◌*◌, ◌^◌, ℕ, length, min, slice_index, true, IfOk};
+ghost use Rattle.std.specs.Prelude.{◌≡◌, ◌≢◌, ◌<◌, ◌≤◌, ◌+◌, ◌*◌, ◌^◌, ◌&&◌, ◌||◌, ◌==◌, ◌⊎◌};
+ghost use Rattle.std.specs.Prelude.{ℕ, All, length, nat_lt, slice_index, slice_index_or, true, false, IfOk};
 ghost use Rattle.mds_types.specs.Division.{part_heat};
+ghost use Rattle.mds_types.specs.Problem.{IsForest};
 ghost use Rattle.mds_types.specs.RankSet.{has_rank};
+ghost use Rattle.mds_types.specs.Sums.{sum_below};
+ghost use Rattle.ceph_plan.specs.Balance.{IsChosenPacking, IsHomeRank, IsKeptWithin, IsSent, allowed, greatest_by};
+ghost use Rattle.ceph_plan.specs.Balance.{IsNearMean, inodes_there, is_hotter, part_inodes_at};
 
 use crate::bound::{has_number, most};
 use mds_types::{ProblemRow, Rank, RankSet};
@@ -14,60 +19,91 @@ pub fn part_heats(
     part: &[u32],
     count: u32,
 ) -> Result<Vec<u64>, AllocError>
+    requires forest { IsForest rows.now }
     requires size { length part.now ≡ length rows.now }
     requires below { (i : ℕ) → i < length rows.now → slice_index part.now i < count }
     ensures size { IfOk result (λ heats. length heats.items ≡ count) }
     ensures heats { IfOk result (λ heats. (p : ℕ) → p < count
-        → slice_index heats.items p ≡ min (2 ^ 64 - 1) (part_heat rows.now (slice_index part.now) p)) }
+        → slice_index heats.items p ≡ part_heat rows.now (slice_index part.now) p) }
 {
     let mut heats = vec![in alloc; 0u64; count as usize]?;
     for (i, row) in rows.iter().enumerate() {
-        let at = part[i] as usize;
-        heats[at] = heats[at].saturating_add(row.heat);
+        heats[part[i] as usize] += row.heat;
     }
     Ok(heats)
 }
 
-/// The inodes of each part at each rank, 64 cells a part.
+/// The inodes of a row.
+fn inodes_of(row: &ProblemRow) -> u64
+    ensures is { result ≡ row.entry.now.inodes }
+    ensures small { result < 2 ^ 32 }
+{
+    u64::from(row.inodes)
+}
+
+/// The inodes of each part at each rank, 64 numbers a part.
 pub fn part_inodes(
     alloc: Global,
     rows: &[ProblemRow],
     part: &[u32],
     count: u32,
 ) -> Result<Vec<u64>, AllocError>
-    requires few { count ≤ 64 }
+    requires forest { IsForest rows.now }
+    requires few { count ≤ 65536 }
     requires size { length part.now ≡ length rows.now }
     requires below { (i : ℕ) → i < length rows.now → slice_index part.now i < count }
-    ensures { IfOk result (λ cells. length cells.items ≡ count * 64) }
+    ensures size { IfOk result (λ inodes. length inodes.items ≡ count * 64) }
+    ensures inodes { IfOk result (λ inodes. (p r : ℕ) → p < count → r < 64
+        → inodes_there inodes.items p r ≡ part_inodes_at rows.now part.now p r) }
 {
-    let mut cells = vec![in alloc; 0u64; count as usize * 64]?;
+    let mut inodes = vec![in alloc; 0u64; count as usize * 64]?;
     for (i, row) in rows.iter().enumerate() {
         let at = part[i] as usize * 64 + usize::from(row.now.number());
-        cells[at] = cells[at].saturating_add(u64::from(row.inodes));
+        inodes[at] += inodes_of(row);
     }
-    Ok(cells)
+    Ok(inodes)
 }
 
-/// The parts, hottest first.
-fn hottest_first(alloc: Global, heats: &[u64]) -> Result<Vec<(u64, u32)>, AllocError>
-    requires { length heats.now ≤ 64 }
+/// What is packed.
+#[derive(Clone, Copy)]
+pub struct PartAmounts<'a> {
+    /// The heat of each part.
+    pub heats: &'a [u64],
+    /// The inodes of each part at each rank, 64 numbers a part.
+    pub inodes: &'a [u64],
+    /// The part of the root, which goes to rank 0.
+    pub root: u32,
+    /// The heat that is pinned to each rank.
+    pub pinned: &'a [u64],
+}
+
+/// The hottest part that is left, of those that are as hot the first; past the last part if none is left.
+fn hottest_left(heats: &[u64], done: &[bool]) -> usize
+    requires { length done.now ≡ length heats.now }
+    ensures none { length heats.now ≤ result
+        → (q : ℕ) → q < length heats.now → slice_index_or done.now q false ≡ true }
+    ensures some { result < length heats.now → slice_index_or done.now result false ≡ false }
+    ensures first { result < length heats.now → (q : ℕ) → q < length heats.now → q ≢ result
+        → slice_index_or done.now q false ≡ false → is_hotter heats.now result q ≡ true }
 {
-    let mut order = Vec::new(alloc);
-    for (part, heat) in heats.iter().enumerate() {
-        order.push((u64::MAX - *heat, part as u32))?;
+    let mut hottest = heats.len();
+    for part in 0..heats.len() {
+        if !done[part] && (hottest == heats.len() || heats[part] > heats[hottest]) {
+            hottest = part;
+        }
     }
-    order.sort()?;
-    Ok(order)
+    hottest
 }
 
 /// The least loaded rank of the set; among equals the one that has most of the part's inodes.
-fn best_rank(loads: &[u64], here: &[u64], ranks: RankSet) -> Rank
+fn best_rank(loads: &[u64], inodes: &[u64], part: usize, ranks: RankSet) -> Rank
     requires loads { length loads.now ≡ 64 }
-    requires here { length here.now ≡ 64 }
+    requires inside { part * 64 + 64 ≤ length inodes.now }
     requires zero { has_rank ranks 0 ≡ true }
     ensures usable { has_rank ranks result ≡ true }
     ensures least { (r : ℕ) → has_rank ranks r ≡ true → slice_index loads.now result ≤ slice_index loads.now r }
 {
+    let here = &inodes[part * 64..part * 64 + 64];
     let mut best = Rank::default();
     for number in 1..64u8 {
         let at = usize::from(number);
@@ -82,14 +118,16 @@ fn best_rank(loads: &[u64], here: &[u64], ranks: RankSet) -> Rank
     best
 }
 
-/// The rank that has most of the part's inodes; rank 0 where none has more.
-fn rank_of_most(here: &[u64]) -> Rank
-    requires { length here.now ≡ 64 }
-    ensures { (r : ℕ) → r < 64 → slice_index here.now r ≤ slice_index here.now result }
+/// The first rank that has most of the part's inodes.
+fn home_of(inodes: &[u64], part: usize) -> Rank
+    requires { part * 64 + 64 ≤ length inodes.now }
+    ensures { IsHomeRank inodes.now part result }
 {
     let mut most = Rank::default();
     for number in 1..64u8 {
-        if here[usize::from(number)] > here[usize::from(most.number())] {
+        if inodes[part * 64 + usize::from(number)]
+            > inodes[part * 64 + usize::from(most.number())]
+        {
             if let Some(rank) = Rank::new(number) {
                 most = rank;
             }
@@ -98,20 +136,29 @@ fn rank_of_most(here: &[u64]) -> Rank
     most
 }
 
-/// The rank that a part of this heat goes to: the one that has most of its inodes if the load there stays within the
-/// limit, else the least loaded one.
-fn rank_for(loads: &[u64], here: &[u64], heat: u64, limit: u64, ranks: RankSet) -> Rank
+/// The rank that a part of this heat goes to when these are the loads: the one that has most of its inodes if the load
+/// there is then within the limit, else the least loaded one.
+fn rank_for(
+    loads: &[u64],
+    inodes: &[u64],
+    part: usize,
+    heat: u64,
+    limit: u64,
+    ranks: RankSet,
+) -> Rank
     requires loads { length loads.now ≡ 64 }
-    requires here { length here.now ≡ 64 }
+    requires inside { part * 64 + 64 ≤ length inodes.now }
+    requires room { (r : ℕ) → r < 64 → slice_index loads.now r + heat < 2 ^ 64 }
     requires zero { has_rank ranks 0 ≡ true }
-    ensures { has_rank ranks result ≡ true }
+    ensures usable { has_rank ranks result ≡ true }
+    ensures sent { IsSent ranks (slice_index loads.now) inodes.now part heat limit result }
 {
-    let most = rank_of_most(here);
-    let load = loads[usize::from(most.number())].saturating_add(heat);
-    if load <= limit && ranks.has(most) {
-        most
+    let home = home_of(inodes, part);
+    let load = loads[usize::from(home.number())] + heat;
+    if load <= limit && ranks.has(home) {
+        home
     } else {
-        best_rank(loads, here, ranks)
+        best_rank(loads, inodes, part, ranks)
     }
 }
 
@@ -124,71 +171,80 @@ struct Choice {
     greatest: u64,
 }
 
-/// A rank of the set for each part: rank 0 for part `top`. A part stays where most of it is while the load there is
-/// within the limit.
-fn choose_within(
+/// Packs the parts, the hottest first. A part stays where most of it is while the load there is within the limit.
+fn packed_within(
     alloc: Global,
-    heats: &[u64],
-    cells: &[u64],
-    top: u32,
-    pinned: &[u64],
+    parts: PartAmounts<'_>,
     ranks: RankSet,
     limit: u64,
 ) -> Result<Choice, AllocError>
-    requires few { length heats.now ≤ 64 }
-    requires cells { length cells.now ≡ length heats.now * 64 }
-    requires top { top < length heats.now }
-    requires pinned { length pinned.now ≡ 64 }
+    requires few { length parts.heats.now ≤ 65536 }
+    requires inodes { length parts.inodes.now ≡ length parts.heats.now * 64 }
+    requires root { parts.root < length parts.heats.now }
+    requires pinned { length parts.pinned.now ≡ 64 }
+    requires small { All (λ n. n ≤ 2 ^ 57) parts.pinned.now }
+    requires total { sum_below (length parts.heats.now) (slice_index parts.heats.now) ≤ 2 ^ 56 }
     requires zero { has_rank ranks 0 ≡ true }
-    ensures size { IfOk result (λ choice. length choice.rank.items ≡ length heats.now) }
-    ensures top { IfOk result (λ choice. slice_index choice.rank.items top ≡ 0) }
-    ensures usable { IfOk result (λ choice. (p : ℕ) → p < length heats.now
-        → has_rank ranks (slice_index choice.rank.items p) ≡ true) }
+    ensures kept { IfOk result (λ choice. IsKeptWithin ranks parts.entry.pinned.now parts.entry.heats.now
+        parts.entry.inodes.now parts.entry.root limit choice.rank.items) }
+    ensures near_mean { limit ≡ 0 → IfOk result (λ choice. IsNearMean ranks parts.entry.pinned.now
+        parts.entry.heats.now parts.entry.root choice.greatest) }
+    ensures greatest { IfOk result (λ choice. choice.greatest
+        ≡ greatest_by ranks parts.entry.pinned.now parts.entry.heats.now choice.rank.items) }
 {
-    let mut rank = vec![in alloc; Rank::default(); heats.len()]?;
-    let mut loads = pinned.to_vec(alloc)?;
-    loads[0] = loads[0].saturating_add(heats[top as usize]);
-    for (_, part) in hottest_first(alloc, heats)? {
-        let at = part as usize;
-        if part != top && at < heats.len() {
-            let here = &cells[at * 64..at * 64 + 64];
-            let to = rank_for(&loads, here, heats[at], limit, ranks);
-            let number = usize::from(to.number());
-            loads[number] = loads[number].saturating_add(heats[at]);
-            rank[at] = to;
+    let (heats, inodes, root) = (parts.heats, parts.inodes, parts.root as usize);
+    let count = heats.len();
+    let mut rank = vec![in alloc; Rank::default(); count]?;
+    let mut done = vec![in alloc; false; count]?;
+    let mut loads = parts.pinned.to_vec(alloc)?;
+    loads[0] += heats[root];
+    done[root] = true;
+    let mut left = count;
+    while left > 0 {
+        left -= 1;
+        let part = hottest_left(heats, &done);
+        if part < count {
+            let to = rank_for(&loads, inodes, part, heats[part], limit, ranks);
+            loads[usize::from(to.number())] += heats[part];
+            rank[part] = to;
+            done[part] = true;
         }
     }
     let greatest = most(&loads, ranks);
     Ok(Choice { rank, greatest })
 }
 
-/// A rank of the set for each part: rank 0 for part `top`.
+/// The load that is greater by so many percent, where each full hundredth counts.
+fn with_percent(load: u64, keep: u8) -> u64
+    requires { load ≤ 2 ^ 58 }
+    ensures { result ≡ allowed keep load }
+{
+    load + load / 100 * u64::from(keep)
+}
+
+/// A rank of the set for each part: rank 0 for the root's part.
 ///
 /// Another part stays at the rank that has most of its inodes, unless the load there would pass by `keep` percent the
-/// greatest load of a choice that looks at heat alone.
+/// greatest load of a choice that looks at heat only.
 pub fn choose(
     alloc: Global,
-    heats: &[u64],
-    cells: &[u64],
-    top: u32,
-    pinned: &[u64],
+    parts: PartAmounts<'_>,
     ranks: RankSet,
     keep: u8,
 ) -> Result<Vec<Rank>, AllocError>
-    requires few { length heats.now ≤ 64 }
-    requires cells { length cells.now ≡ length heats.now * 64 }
-    requires top { top < length heats.now }
-    requires pinned { length pinned.now ≡ 64 }
+    requires few { length parts.heats.now ≤ 65536 }
+    requires inodes { length parts.inodes.now ≡ length parts.heats.now * 64 }
+    requires root { parts.root < length parts.heats.now }
+    requires pinned { length parts.pinned.now ≡ 64 }
+    requires small { All (λ n. n ≤ 2 ^ 57) parts.pinned.now }
+    requires total { sum_below (length parts.heats.now) (slice_index parts.heats.now) ≤ 2 ^ 56 }
     requires zero { has_rank ranks 0 ≡ true }
-    ensures size { IfOk result (λ rank. length rank.items ≡ length heats.now) }
-    ensures top { IfOk result (λ rank. slice_index rank.items top ≡ 0) }
-    ensures usable { IfOk result (λ rank. (p : ℕ) → p < length heats.now
-        → has_rank ranks (slice_index rank.items p) ≡ true) }
+    ensures { IfOk result (λ rank. IsChosenPacking ranks parts.entry.pinned.now parts.entry.heats.now
+        parts.entry.inodes.now parts.entry.root keep rank.items) }
 {
-    let plain = choose_within(alloc, heats, cells, top, pinned, ranks, 0)?;
-    let more = (plain.greatest / 100).saturating_mul(u64::from(keep));
-    let limit = plain.greatest.saturating_add(more);
-    let kept = choose_within(alloc, heats, cells, top, pinned, ranks, limit)?;
-    let choice = if kept.greatest <= limit { kept } else { plain };
+    let plain = packed_within(alloc, parts, ranks, 0)?;
+    let limit = with_percent(plain.greatest, keep);
+    let near = packed_within(alloc, parts, ranks, limit)?;
+    let choice = if near.greatest <= limit { near } else { plain };
     Ok(choice.rank)
 }

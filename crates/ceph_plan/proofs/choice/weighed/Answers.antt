@@ -1,55 +1,57 @@
-use Rattle.std.proofs.Common.{◌≡◌, ◌<◌, ◌+◌, ◌∙◌, ◌∷◌, ◌++◌, ℕ, Bool, List, [], Vec, Global, ap, subst, sym, arith, rules}
+use Rattle.std.proofs.Common.{◌≡◌, ◌<◌, ◌≤◌, ◌+◌, ◌∙◌, ◌||◌, ℕ, Bool, false, List, ap, arith, max, refl, subst, sym}
 use Rattle.mds_types.specs.declared.problem.ProblemRow.{ProblemRow}
-use Rattle.ceph_plan.proofs.Bounds.{count-positive}
+use Rattle.mds_types.specs.RankSet.{rank_count}
 use Rattle.ceph_plan.specs.declared.plan.Planned.{Planned}
-use Rattle.ceph_plan.specs.Choice.{AreWeighed}
-use Rattle.ceph_plan.specs.declared.plan_error.PlanError.TheVariants as cause
-use Rattle.ceph_plan.proofs.Refused.{only-memory}
-use Rattle.ceph_plan.proofs.Weighed.{IsSoFar, more-so_far, passed-so_far, some_weighed}
+use Rattle.ceph_plan.specs.declared.plan.Size.{Size}
+use Rattle.ceph_plan.proofs.Bounds.{count-positive}
+use Rattle.ceph_plan.specs.Choice.{gap}
+use Rattle.ceph_plan.proofs.Weighed.{IsSoFar, later-count, more-so_far, none-so_far, some_weighed, weighed_fewer}
 use Rattle.ceph_plan.proofs.choice.weighed.Goals as goal
-use Rattle.ceph_plan.proofs.choice.weighed.Goals.{in-Some+in_ok-plan+in_ok-push, in_default}
 
-pub size_for-requires-clause-ranks : goal.size_for-requires-clause-ranks
-size_for-requires-clause-ranks c = omega (arith, c.len-count.ensures.count, count-positive c.args.ranks c.requires.zero)
+pub loop-parts-init : goal.loop-parts-init
+loop-parts-init c =
+    let count : c.from-count.result ≡ rank_count c.args.ranks = c.from-count.ensures ∙ c.len.ensures.count in
+    record {
+      weighed = subst (λ (n : ℕ). IsSoFar c.args.ranks c.args.keep c.args.pinned.now c.args.rows.now c.new-plans.result.items false n) (sym count)
+          (subst (λ (plans : List Planned). IsSoFar c.args.ranks c.args.keep c.args.pinned.now c.args.rows.now plans false (rank_count c.args.ranks)) (sym c.new-plans.ensures.items)
+          (none-so_far c.args.ranks c.args.keep c.args.pinned.now c.args.rows.now));
+      from = omega (arith, count);
+    }
 
-pub size_for-requires-clause-parts : goal.size_for-requires-clause-parts
-size_for-requires-clause-parts c = omega (arith, c.len-count.ensures.count, count-positive c.args.ranks c.requires.zero, c.loop-parts.auto.parts)
+pub size_for-size-requires : goal.size_for-size-requires
+size_for-size-requires c = omega (arith, c.loop-parts.invariant.from, count-positive c.args.ranks c.requires.zero)
+
+pub plan_parts-requires-clause-parts : goal.plan_parts-requires-clause-parts
+plan_parts-requires-clause-parts c =
+    let same : c.size_for-size.result.parts ≡ c.loop-parts.parts = ap (λ (size : Size). size.parts) c.size_for-size.ensures in
+    omega (arith, same, c.loop-parts.invariant.from, count-positive c.args.ranks c.requires.zero)
 
 pub loop-parts-preserved : goal.loop-parts-preserved
 loop-parts-preserved c =
     let ranks : ℕ = c.args.ranks in
     let pinned : List ℕ = c.args.pinned.now in
     let rows : List ProblemRow = c.args.rows.now in
-    let before : List Planned = c.loop-parts.plans.items in
-    let n : ℕ = c.loop-parts.parts in
-    elim c.match-size_for.branch [
-      | in-Some+in_ok-plan+in_ok-push w ↦
-          let plans_are : c.match-size_for.plans.items ≡ before ++ w.in_ok-plan.plan ∷ [] =
-          ap (λ (plans : Vec Planned Global). plans.items) w.plans-is ∙ w.in_ok-push.ensures.items in
-          subst (λ (plans : List Planned). IsSoFar ranks pinned rows plans c.match-size_for.is_heavy (n + 1)) (sym plans_are)
-          (more-so_far ranks pinned rows before c.loop-parts.is_heavy c.match-size_for.is_heavy n c.total_heat-heat.result c.len-count.result w.in-Some.size w.in_ok-plan.plan
-          c.total_heat-heat.ensures.total c.len-count.ensures.count (sym c.size_for.ensures ∙ w.in-Some.is) w.in_ok-plan.ensures.plan w.is_heavy-is c.loop-parts.invariant)
-      | in_default w ↦
-          subst (λ (heavy : Bool). IsSoFar ranks pinned rows c.match-size_for.plans.items heavy (n + 1)) (sym w.is_heavy-is)
-          (subst (λ (plans : Vec Planned Global). IsSoFar ranks pinned rows plans.items c.loop-parts.is_heavy (n + 1)) (sym w.plans-is)
-          (passed-so_far ranks pinned rows before c.loop-parts.is_heavy n c.total_heat-heat.result c.len-count.result
-          c.len-count.ensures.count (sym c.size_for.ensures ∙ w.in_default.is) c.loop-parts.invariant))
-    ]
+    let heavy : Bool = c.loop-parts.is_heavy || c.in_ok-plan.plan.is_heavy in
+    record {
+      weighed = subst (λ (plans : List Planned). IsSoFar ranks c.args.keep pinned rows plans heavy c.next_count-parts.result) (sym c.in_ok-push.ensures.items)
+          (more-so_far ranks c.args.keep pinned rows c.loop-parts.plans.items c.loop-parts.is_heavy heavy c.loop-parts.parts c.next_count-parts.result c.total_heat-heat.result
+          c.size_for-size.result c.in_ok-plan.plan c.total_heat-heat.ensures.total c.size_for-size.ensures c.in_ok-plan.ensures.plan c.next_count-parts.ensures refl c.loop-parts.invariant.weighed);
+      from = later-count (rank_count ranks) c.loop-parts.parts (gap c.loop-parts.parts) c.next_count-parts.result c.loop-parts.invariant.from c.next_count-parts.ensures;
+    }
+
+last_is : (most count last from parts ranks : ℕ) → from ≡ most → count ≡ ranks → last ≡ max from count → last < parts → max most ranks + 1 ≤ parts
+last_is most count last from parts ranks from_is count_is is past = omega (arith, from_is, count_is, is, past)
+
+pub returns-clause-weighed : goal.returns-clause-weighed
+returns-clause-weighed c =
+    weighed_fewer c.args.ranks c.args.keep c.args.pinned.now c.args.rows.now c.loop-parts.plans.items c.loop-parts.parts (max c.args.most (rank_count c.args.ranks) + 1)
+    (last_is c.args.most c.from-count.result c.max-last.result c.from.result c.loop-parts.parts (rank_count c.args.ranks) c.from.ensures (c.from-count.ensures ∙ c.len.ensures.count)
+    c.max-last.ensures c.loop-parts-test.false)
+    c.loop-parts.invariant.weighed.weighed
 
 pub returns-clause-some : goal.returns-clause-some
 returns-clause-some c =
-    let all : c.loop-parts.parts ≡ 65 = omega arith in
-    let weighed : AreWeighed c.args.ranks c.args.pinned.now c.args.rows.now c.loop-parts.plans.items 65 =
-    subst (λ (n : ℕ). AreWeighed c.args.ranks c.args.pinned.now c.args.rows.now c.loop-parts.plans.items n) all c.loop-parts.invariant.weighed in
-    let few = c.len-count.ensures in
-    some_weighed c.args.ranks c.args.pinned.now c.args.rows.now c.loop-parts.plans.items (omega (arith, few.count, few.few)) weighed
-
-pub returns-in_err-plan-clause-refused : goal.returns-in_err-plan-clause-refused
-returns-in_err-plan-clause-refused c =
-    let ranks : ℕ = c.len-count.result in
-    let parts : ℕ = c.loop-parts.parts in
-    let some : 0 < parts = omega (arith, c.len-count.ensures.count, count-positive c.args.ranks c.requires.zero, c.loop-parts.auto.parts) in
-    let memory : c.in_err-plan.field-0.0 ≡ cause.Memory =
-    only-memory c.total_heat-heat.result ranks parts c.loop-parts.is_heavy c.in-Some.size c.in_err-plan.field-0.0 some
-    (sym c.size_for.ensures ∙ c.in-Some.is) c.in_err-plan.ensures.refused in
-    search (rules, memory)
+    let past : max c.args.most (rank_count c.args.ranks) + 1 ≤ c.loop-parts.parts =
+    last_is c.args.most c.from-count.result c.max-last.result c.from.result c.loop-parts.parts (rank_count c.args.ranks) c.from.ensures (c.from-count.ensures ∙ c.len.ensures.count)
+    c.max-last.ensures c.loop-parts-test.false in
+    some_weighed c.args.ranks c.args.keep c.args.pinned.now c.args.rows.now c.loop-parts.plans.items c.loop-parts.parts (omega (arith, past)) c.loop-parts.invariant.weighed.weighed

@@ -1,6 +1,14 @@
+use Rattle.std.proofs.Common.{◌≤◌, ◌+◌, ◌-◌}
+use Rattle.mds_types.specs.RankSet.{rank_count}
 use Rattle.ceph_plan.proofs.Weighed.{IsSoFar}
 use Rattle.ceph_plan.proofs.choice.weighed.Given as goal
 
 -- what was weighed below this number of parts
 abbrev pub invariant-loop-parts : goal.invariant-loop-parts
-invariant-loop-parts l = IsSoFar l.ranks l.pinned l.rows l.plans.items l.is_heavy l.parts
+invariant-loop-parts l = record {
+  weighed : IsSoFar l.ranks l.keep l.pinned l.rows l.plans.items l.is_heavy l.parts;
+  from : rank_count l.ranks ≤ l.parts;
+}
+
+abbrev pub decreases-loop-parts : goal.decreases-loop-parts
+decreases-loop-parts l = l.last + 1 - l.parts

@@ -6,7 +6,7 @@ use Rattle.ceph_plan.specs.declared.proposal.OwnPins.{OwnPins}
 use Rattle.ceph_plan.specs.declared.row.PinChange.{PinChange}
 use Rattle.ceph_plan.specs.declared.row.PinRow.{PinRow}
 use Rattle.ceph_plan.specs.Rule.{AreRows, IsRealized}
-use Rattle.ceph_plan.specs.Changes.{AreNeeded, applied, before_pin}
+use Rattle.ceph_plan.specs.Changes.{AreNeeded, AreUntouched, StillHolds, applied, before_pin}
 use Rattle.ceph_plan.specs.Asked.{ArePinRows, MovesOnce, own_at}
 use Rattle.ceph_plan.proofs.AskedRows.{asked-rows, same-asked}
 use Rattle.ceph_plan.proofs.proposal.propose.Goals as goal
@@ -47,4 +47,6 @@ returns-clause-proposal c =
       realized = subst (λ (asked : List PinRow). IsRealized asked (applied (before_pin asked) changes)) c.deref-4.ensures.value c.in_ok-changes.ensures.realized;
       once = subst (λ (asked : List PinRow). MovesOnce asked changes) c.deref-4.ensures.value c.in_ok-changes.ensures.once;
       needed = subst (λ (asked : List PinRow). AreNeeded asked changes) c.deref-4.ensures.value c.in_ok-changes.ensures.needed;
+      untouched = subst (λ (asked : List PinRow). AreUntouched asked changes) c.deref-4.ensures.value c.in_ok-changes.ensures.untouched;
+      kept = subst (λ (asked : List PinRow). StillHolds asked (applied (before_pin asked) changes)) c.deref-4.ensures.value c.in_ok-changes.ensures.kept;
     }

@@ -1,0 +1,364 @@
+-- The packing with one more part.
+use Rattle.std.proofs.Common.{All, ◌^◌, ◌/◌, ◌≡◌, ◌≢◌, ◌∙◌, ◌+◌, ◌*◌, ◌<◌, ◌≤◌, ◌&&◌, ◌||◌, ◌==◌, ℕ, zero, suc, Bool, true, false, List, length, length-set, get_or, set, slice_index, cond, eqb, nat_lt, inl, inr, ⊎_elim, ap, arith, refl, replicate, subst, sym}
+use Rattle.std.proofs.Math.Nat.{le-add_right, le_of_eq, le_of_lt}
+use Rattle.std.proofs.lemmas.Bool.{and_parts, both_ways, cases_Bool, cases_eq, eq-eqb, eqb-true, le-ltb, ltb-true, ne_eqb, or_cases, or_from, or_left, or_right}
+use Rattle.std.proofs.lemmas.List.{get_or-replicate, get_or-set_other, get_or-set_same, get_or_default, length-replicate}
+use Rattle.std.proofs.lemmas.List.Elements.{All-get_or}
+use Rattle.mds_types.specs.RankSet.{has_rank}
+use Rattle.mds_types.specs.Sums.{count_below, sum_below}
+use Rattle.mds_types.proofs.SumsLemmas.{count_below-le, sum_below-add, sum_below-pick, sum_below-same, sum_below-zero}
+use Rattle.ceph_plan.specs.Balance.{HaveRanks, IsChosenPacking, IsKeptWithin, IsLargestFirst, IsNearMean, IsSent, allowed, goes_before, greatest_by, is_hotter, load_before, load_by, load_of_parts}
+use Rattle.ceph_plan.proofs.Bounds.{rank-small, set_usable}
+use Rattle.ceph_plan.proofs.Means.{IsFairLoad, fair-least, load-small, near-mean}
+
+abbrev pub is_done : List Bool → ℕ → Bool
+is_done done q = get_or done q false
+
+-- the parts that are done are packed, and no other is hotter than one of them
+pub record ArePacked (ranks : ℕ) (pinned heats inodes : List ℕ) (root limit : ℕ) (rank : List ℕ) (done : List Bool) (loads : List ℕ)
+    (left : ℕ) : Type 0 where
+  pub ranks_are : HaveRanks ranks heats root rank
+  pub size : length done ≡ length heats
+  pub root_done : is_done done root ≡ true
+  pub loads_size : length loads ≡ 64
+  pub loads_are : (r : ℕ) → r < 64 → slice_index loads r ≡ load_by pinned heats rank (is_done done) r
+  pub order : (q p : ℕ) → q < length heats → p < length heats → q ≢ root → is_done done q ≡ true → is_done done p ≡ false → is_hotter heats q p ≡ true
+  pub sent : (p : ℕ) → p < length heats → p ≢ root → is_done done p ≡ true
+      → IsSent ranks (load_before pinned heats root rank p) inodes p (slice_index heats p) limit (slice_index rank p)
+  pub fair : (r : ℕ) → has_rank ranks r ≡ true → IsFairLoad ranks pinned heats root limit r (slice_index loads r)
+  pub enough : length heats ≤ count_below (length heats) (is_done done) + left
+
+and-no : (x y : Bool) → y ≡ false → (x && y) ≡ false
+and-no true y is = is
+and-no false y is = refl
+
+colder : (a b q p : ℕ) → (nat_lt a b || ((a == b) && nat_lt q p)) ≡ true → (nat_lt b a || ((b == a) && nat_lt p q)) ≡ false
+colder a b q p is =
+    ⊎_elim (λ (less : nat_lt a b ≡ true).
+    let lt : a < b = ltb-true a b less in
+    or_from (nat_lt b a) ((b == a) && nat_lt p q) (le-ltb b a (le_of_lt lt)) (ap (λ (x : Bool). x && nat_lt p q) (ne_eqb b a (λ same. let none : ⊥ = omega (arith, lt, same) in none))))
+    (λ (both : ((a == b) && nat_lt q p) ≡ true).
+    let parts = and_parts (a == b) (nat_lt q p) both in
+    let same : a ≡ b = eqb-true a b parts.0 in
+    let lt : q < p = ltb-true q p parts.1 in
+    or_from (nat_lt b a) ((b == a) && nat_lt p q) (le-ltb b a (le_of_eq same)) (and-no (b == a) (nat_lt p q) (le-ltb p q (le_of_lt lt))))
+    (or_cases (nat_lt a b) ((a == b) && nat_lt q p) is)
+
+hotter-not : (heats : List ℕ) (q p : ℕ) → is_hotter heats q p ≡ true → is_hotter heats p q ≡ false
+hotter-not heats q p is = colder (slice_index heats p) (slice_index heats q) q p is
+
+hotter-self : (heats : List ℕ) (k : ℕ) → is_hotter heats k k ≡ false
+hotter-self heats k =
+    or_from (nat_lt (slice_index heats k) (slice_index heats k)) ((slice_index heats k == slice_index heats k) && nat_lt k k) (le-ltb _ _ (omega arith))
+    (and-no (slice_index heats k == slice_index heats k) (nat_lt k k) (le-ltb k k (omega arith)))
+
+-- loads are alike where the same parts are at the rank
+load-same : (pinned heats rank others : List ℕ) (some those : ℕ → Bool) (r : ℕ)
+    → ((q : ℕ) → q < length heats → (some q && (get_or rank q 0 == r)) ≡ (those q && (get_or others q 0 == r)))
+    → load_by pinned heats rank some r ≡ load_by pinned heats others those r
+load-same pinned heats rank others some those r same =
+    ap (λ (x : ℕ). slice_index pinned r + x)
+    (sum_below-same (length heats) (λ q. cond (some q && (get_or rank q 0 == r)) (slice_index heats q) 0) (λ q. cond (those q && (get_or others q 0 == r)) (slice_index heats q) 0)
+    (λ q l. ap (λ (b : Bool). cond b (slice_index heats q) 0) (same q l)))
+
+sent-same : (ranks : ℕ) (load other : ℕ → ℕ) (inodes : List ℕ) (p heat limit to : ℕ) → ((r : ℕ) → r < 64 → load r ≡ other r) → to < 64
+    → IsSent ranks load inodes p heat limit to → IsSent ranks other inodes p heat limit to
+sent-same ranks load other inodes p heat limit to same small sent = record {
+  home = sent.home;
+  is = sent.is;
+  goes = elim sent.goes [
+    | inl kept ↦ inl (kept.0, omega (arith, same sent.home sent.is.small, kept.1), kept.2)
+    | inr moved ↦ inr (
+      λ has. omega (arith, same sent.home sent.is.small, moved.0 has),
+      λ r has. omega (arith, same to small, same r (rank-small ranks r has), moved.1 r has),
+    )
+  ];
+}
+
+-- where a part goes the load is fair
+fair-there : (ranks : ℕ) (pinned heats inodes : List ℕ) (root limit : ℕ) (rank : List ℕ) (done : List Bool) (loads : List ℕ) (k to : ℕ) → k < length heats
+    → ((p : ℕ) → p < length heats → has_rank ranks (slice_index rank p) ≡ true)
+    → ((r : ℕ) → r < 64 → slice_index loads r ≡ load_by pinned heats rank (is_done done) r)
+    → IsSent ranks (slice_index loads) inodes k (slice_index heats k) limit to
+    → IsFairLoad ranks pinned heats root limit to (slice_index loads to + slice_index heats k)
+fair-there ranks pinned heats inodes root limit rank done loads k to inside usable are sent = elim sent.goes [
+  | inl kept ↦ inr (inr (inl (subst (λ (t : ℕ). slice_index loads t + slice_index heats k ≤ limit) (sym kept.2) kept.1)))
+  | inr moved ↦ inr (inr (inr (fair-least ranks pinned heats rank (is_done done) (slice_index loads) k to inside usable are moved.1)))
+]
+
+add-zero : (x : ℕ) → x + 0 ≡ x
+add-zero x = omega arith
+
+-- one more is done
+sum-set : (n k x : ℕ) (f g : ℕ → ℕ) → k < n → f k ≡ g k + x → ((q : ℕ) → q < n → q ≢ k → f q ≡ g q) → sum_below n f ≡ sum_below n g + x
+sum-set n k x f g inside here others =
+    sum_below-same n f (λ q. g q + cond (eqb k q) x 0) (λ q l.
+    ⊎_elim (λ (same : q ≡ k). subst (λ (j : ℕ). f j ≡ g j + cond (eqb k j) x 0) (sym same) (rw (eq-eqb k k refl) here))
+    (λ (other : q ≢ k). rw (ne_eqb k q (λ same. other (sym same))) (omega (arith, others q l other)))
+    (cases_eq q k))
+    ∙ (sum_below-add n g (λ q. cond (eqb k q) x 0) ∙ ap (λ (y : ℕ). sum_below n g + y) (sum_below-pick n k (λ q. x) inside))
+
+load-set : (pinned heats rank : List ℕ) (done : List Bool) (k to r : ℕ) → k < length heats → length rank ≡ length heats → length done ≡ length heats → is_done done k ≡ false
+    → load_by pinned heats (set rank k to) (is_done (set done k true)) r ≡ load_by pinned heats rank (is_done done) r + cond (eqb to r) (slice_index heats k) 0
+load-set pinned heats rank done k to r inside ranks size new =
+    let x : ℕ = cond (eqb to r) (slice_index heats k) 0 in
+    let f : ℕ → ℕ = λ q. cond (get_or (set done k true) q false && (get_or (set rank k to) q 0 == r)) (slice_index heats q) 0 in
+    let g : ℕ → ℕ = λ q. cond (get_or done q false && (get_or rank q 0 == r)) (slice_index heats q) 0 in
+    let here : f k ≡ g k + x = rw (get_or-set_same done k true false (omega (arith, inside, size)), get_or-set_same rank k to 0 (omega (arith, inside, ranks)), new) (omega arith) in
+    let others : (q : ℕ) → q < length heats → q ≢ k → f q ≡ g q = λ q l other.
+    rw (get_or-set_other done k q true false other, get_or-set_other rank k q to 0 other) refl in
+    let sums : sum_below (length heats) f ≡ sum_below (length heats) g + x = sum-set (length heats) k x f g inside here others in
+    omega (arith, sums)
+
+count-set : (n k : ℕ) (done : List Bool) → k < n → length done ≡ n → is_done done k ≡ false
+    → count_below n (is_done (set done k true)) ≡ count_below n (is_done done) + 1
+count-set n k done inside size new =
+    sum-set n k 1 (λ q. cond (get_or (set done k true) q false) 1 0) (λ q. cond (get_or done q false) 1 0) inside
+    (rw (get_or-set_same done k true false (omega (arith, inside, size)), new) refl)
+    (λ q l other. rw (get_or-set_other done k q true false other) refl)
+
+pub count-all : (n : ℕ) (p : ℕ → Bool) → ((q : ℕ) → q < n → p q ≡ true) → count_below n p ≡ n
+count-all zero p all = refl
+count-all (suc n) p all = rw (all n (omega arith)) (omega (arith, count-all n p (λ q l. all q (omega (arith, l)))))
+
+pub all-counted : (n : ℕ) (p : ℕ → Bool) → n ≤ count_below n p → (q : ℕ) → q < n → p q ≡ true
+all-counted zero p enough q l = let none : ⊥ = omega (arith, l) in absurd none
+all-counted (suc n) p enough q l =
+    ⊎_elim (λ (is : p n ≡ true).
+    let before : n ≤ count_below n p = less n (count_below n p) (p n) enough in
+    ⊎_elim (λ (same : q ≡ n). ap p same ∙ is)
+    (λ (other : q ≢ n). all-counted n p before q (omega (arith, l, other)))
+    (cases_eq q n))
+    (λ (not : p n ≡ false).
+    let none : ⊥ = short n (count_below n p) (p n) not enough (count_below-le n p) in absurd none)
+    (cases_Bool (p n))
+  where
+    less : (n m : ℕ) (b : Bool) → suc n ≤ m + cond b 1 0 → n ≤ m
+    less n m true h = omega (arith, h)
+    less n m false h = omega (arith, h)
+
+    short : (n m : ℕ) (b : Bool) → b ≡ false → suc n ≤ m + cond b 1 0 → m ≤ n → ⊥
+    short n m true is h le = both_ways true is refl
+    short n m false is h le = omega (arith, h, le)
+
+-- of the part that is next: those before it are done
+before-next : (heats : List ℕ) (root k q : ℕ) (done : List Bool) → is_done done root ≡ true → q < length heats → k < length heats → q ≢ k → is_done done k ≡ false
+    → ((q p : ℕ) → q < length heats → p < length heats → q ≢ root → is_done done q ≡ true → is_done done p ≡ false → is_hotter heats q p ≡ true)
+    → ((q : ℕ) → q < length heats → q ≢ k → is_done done q ≡ false → is_hotter heats k q ≡ true)
+    → goes_before heats root q k ≡ is_done done q
+before-next heats root k q done root_done inside here other new order first =
+    ⊎_elim (λ (is : is_done done q ≡ true).
+    ⊎_elim (λ (same : q ≡ root). or_left (q == root) (is_hotter heats q k) (eq-eqb q root same) ∙ sym is)
+    (λ (later : q ≢ root). or_right (q == root) (is_hotter heats q k) (order q k inside here later is new) ∙ sym is)
+    (cases_eq q root))
+    (λ (not : is_done done q ≡ false).
+    let later : q ≢ root = λ same. both_ways (is_done done q) not (ap (is_done done) same ∙ root_done) in
+    or_from (q == root) (is_hotter heats q k) (ne_eqb q root later) (hotter-not heats k q (first q inside other not)) ∙ sym not)
+    (cases_Bool (is_done done q))
+
+-- the part that is next doesn't go before one that is done, nor before itself
+not-before : (heats : List ℕ) (root k p : ℕ) → k ≢ root → is_hotter heats k p ≡ false → goes_before heats root k p ≡ false
+not-before heats root k p later not = or_from (k == root) (is_hotter heats k p) (ne_eqb k root later) not
+
+pub packed-more : (ranks : ℕ) (pinned heats inodes : List ℕ) (root limit : ℕ) (rank : List ℕ) (done : List Bool) (loads : List ℕ) (left next k to : ℕ) (more : List ℕ)
+    → ArePacked ranks pinned heats inodes root limit rank done loads left → k < length heats → is_done done k ≡ false
+    → ((q : ℕ) → q < length heats → q ≢ k → is_done done q ≡ false → is_hotter heats k q ≡ true)
+    → has_rank ranks to ≡ true → IsSent ranks (slice_index loads) inodes k (slice_index heats k) limit to
+    → length more ≡ 64 → ((r : ℕ) → r < 64 → slice_index more r ≡ slice_index loads r + cond (eqb to r) (slice_index heats k) 0) → left ≡ next + 1
+    → ArePacked ranks pinned heats inodes root limit (set rank k to) (set done k true) more next
+packed-more ranks pinned heats inodes root limit rank done loads left next k to more before inside new first has sent size added less =
+    let n : ℕ = length heats in
+    let ranks_size : length rank ≡ n = before.ranks_are.size in
+    let later : k ≢ root = λ same. both_ways (is_done done k) new (ap (is_done done) same ∙ before.root_done) in
+    let now : get_or (set rank k to) k 0 ≡ to = get_or-set_same rank k to 0 (omega (arith, inside, ranks_size)) in
+    let now_done : is_done (set done k true) k ≡ true = get_or-set_same done k true false (omega (arith, inside, before.size)) in
+    let ahead : (r : ℕ) → r < 64 → slice_index loads r ≡ load_before pinned heats root (set rank k to) k r = λ r small.
+    before.loads_are r small ∙ load-same pinned heats rank (set rank k to) (is_done done) (λ q. goes_before heats root q k) r (λ q l.
+    ⊎_elim (λ (same : q ≡ k). subst (λ (j : ℕ). (is_done done j && (get_or rank j 0 == r)) ≡ (goes_before heats root j k && (get_or (set rank k to) j 0 == r))) (sym same)
+    (rw (new, not-before heats root k k later (hotter-self heats k)) refl))
+    (λ (other : q ≢ k). rw (get_or-set_other rank k q to 0 other, before-next heats root k q done before.root_done l inside other new before.order first) refl)
+    (cases_eq q k)) in
+    let same_before : (p : ℕ) → p < n → p ≢ root → is_done done p ≡ true → (r : ℕ) → r < 64
+    → load_before pinned heats root rank p r ≡ load_before pinned heats root (set rank k to) p r = λ p lp below was r small.
+    load-same pinned heats rank (set rank k to) (λ q. goes_before heats root q p) (λ q. goes_before heats root q p) r (λ q l.
+    ⊎_elim (λ (same : q ≡ k). subst (λ (j : ℕ). (goes_before heats root j p && (get_or rank j 0 == r)) ≡ (goes_before heats root j p && (get_or (set rank k to) j 0 == r))) (sym same)
+    (rw (not-before heats root k p later (hotter-not heats p k (before.order p k lp inside below was new))) refl))
+    (λ (other : q ≢ k). rw (get_or-set_other rank k q to 0 other) refl)
+    (cases_eq q k)) in
+    record {
+      ranks_are = record {
+        size = length-set rank k to ∙ ranks_size;
+        usable = set_usable ranks n k to rank ranks_size before.ranks_are.usable has;
+        at_zero = get_or-set_other rank k root to 0 (λ same. later (sym same)) ∙ before.ranks_are.at_zero;
+      };
+      size = length-set done k true ∙ before.size;
+      root_done = get_or-set_other done k root true false (λ same. later (sym same)) ∙ before.root_done;
+      loads_size = size;
+      loads_are = λ r small. omega (arith, added r small, before.loads_are r small, load-set pinned heats rank done k to r inside ranks_size before.size new);
+      order = λ q p lq lp below is not.
+          let other : p ≢ k = λ same. both_ways (is_done (set done k true) p) not (ap (is_done (set done k true)) same ∙ now_done) in
+          let not_before : is_done done p ≡ false = sym (get_or-set_other done k p true false other) ∙ not in
+          ⊎_elim (λ (same : q ≡ k). ap (λ (j : ℕ). is_hotter heats j p) same ∙ first p lp other not_before)
+          (λ (old : q ≢ k). before.order q p lq lp below (sym (get_or-set_other done k q true false old) ∙ is) not_before)
+          (cases_eq q k);
+      sent = λ p l below is.
+          ⊎_elim (λ (same : p ≡ k).
+          subst (λ (j : ℕ). IsSent ranks (load_before pinned heats root (set rank k to) j) inodes j (slice_index heats j) limit (get_or (set rank k to) j 0)) (sym same)
+          (subst (λ (t : ℕ). IsSent ranks (load_before pinned heats root (set rank k to) k) inodes k (slice_index heats k) limit t) (sym now)
+          (sent-same ranks (slice_index loads) (load_before pinned heats root (set rank k to) k) inodes k (slice_index heats k) limit to ahead (rank-small ranks to has) sent)))
+          (λ (old : p ≢ k).
+          let was : is_done done p ≡ true = sym (get_or-set_other done k p true false old) ∙ is in
+          subst (λ (t : ℕ). IsSent ranks (load_before pinned heats root (set rank k to) p) inodes p (slice_index heats p) limit t) (sym (get_or-set_other rank k p to 0 old))
+          (sent-same ranks (load_before pinned heats root rank p) (load_before pinned heats root (set rank k to) p) inodes p (slice_index heats p) limit (get_or rank p 0)
+          (same_before p l below was) (rank-small ranks (get_or rank p 0) (before.ranks_are.usable p l)) (before.sent p l below was)))
+          (cases_eq p k);
+      fair = λ r is.
+          let small : r < 64 = rank-small ranks r is in
+          ⊎_elim (λ (same : r ≡ to).
+          let sum : slice_index more to ≡ slice_index loads to + slice_index heats k =
+          added to (rank-small ranks to has) ∙ ap (λ (b : Bool). slice_index loads to + cond b (slice_index heats k) 0) (eq-eqb to to refl) in
+          subst (λ (t : ℕ). IsFairLoad ranks pinned heats root limit t (slice_index more t)) (sym same)
+          (subst (λ (x : ℕ). IsFairLoad ranks pinned heats root limit to x) (sym sum)
+          (fair-there ranks pinned heats inodes root limit rank done loads k to inside before.ranks_are.usable before.loads_are sent)))
+          (λ (other : r ≢ to).
+          let sum : slice_index more r ≡ slice_index loads r =
+          added r small ∙ (ap (λ (b : Bool). slice_index loads r + cond b (slice_index heats k) 0) (ne_eqb to r (λ same. other (sym same))) ∙ add-zero (slice_index loads r)) in
+          subst (λ (x : ℕ). IsFairLoad ranks pinned heats root limit r x) (sym sum) (before.fair r is))
+          (cases_eq r to);
+      enough = omega (arith, before.enough, less, count-set n k done inside before.size new);
+    }
+
+-- all are done already
+pub packed-none : (ranks : ℕ) (pinned heats inodes : List ℕ) (root limit : ℕ) (rank : List ℕ) (done : List Bool) (loads : List ℕ) (left next : ℕ)
+    → ArePacked ranks pinned heats inodes root limit rank done loads left → ((q : ℕ) → q < length heats → is_done done q ≡ true)
+    → ArePacked ranks pinned heats inodes root limit rank done loads next
+packed-none ranks pinned heats inodes root limit rank done loads left next before all = record {
+  ranks_are = before.ranks_are;
+  size = before.size;
+  root_done = before.root_done;
+  loads_size = before.loads_size;
+  loads_are = before.loads_are;
+  order = before.order;
+  sent = before.sent;
+  fair = before.fair;
+  enough = omega (arith, count-all (length heats) (is_done done) all);
+}
+
+-- the root's part is done
+pub packed-first : (ranks : ℕ) (pinned heats inodes : List ℕ) (root limit : ℕ) (rank : List ℕ) (done : List Bool) (loads : List ℕ) (n : ℕ)
+    → n ≡ length heats → root < n → has_rank ranks 0 ≡ true → rank ≡ replicate n 0 → done ≡ replicate n false → length loads ≡ 64
+    → ((r : ℕ) → r < 64 → slice_index loads r ≡ slice_index pinned r + cond (eqb 0 r) (slice_index heats root) 0)
+    → ArePacked ranks pinned heats inodes root limit rank (set done root true) loads n
+packed-first ranks pinned heats inodes root limit rank done loads n size_is inside has rank_is done_is size added =
+    let marks : length done ≡ n = ap length done_is ∙ length-replicate n false in
+    let zeros : (p : ℕ) → p < n → get_or rank p 0 ≡ 0 = λ p l. ap (λ (xs : List ℕ). get_or xs p 0) rank_is ∙ get_or-replicate n p 0 0 l in
+    let falses : (p : ℕ) → p < n → get_or done p false ≡ false = λ p l. ap (λ (xs : List Bool). get_or xs p false) done_is ∙ get_or-replicate n p false false l in
+    let only : (q : ℕ) → q < length heats → q ≢ root → is_done (set done root true) q ≡ false = λ q l other.
+    get_or-set_other done root q true false other ∙ falses q (omega (arith, l, size_is)) in
+    let there : is_done (set done root true) root ≡ true = get_or-set_same done root true false (omega (arith, marks, inside)) in
+    record {
+      ranks_are = record {
+        size = ap length rank_is ∙ (length-replicate n 0 ∙ size_is);
+        usable = λ p l. ap (has_rank ranks) (zeros p (omega (arith, l, size_is))) ∙ has;
+        at_zero = zeros root inside;
+      };
+      size = length-set done root true ∙ (marks ∙ size_is);
+      root_done = there;
+      loads_size = size;
+      loads_are = λ r small.
+          let f : ℕ → ℕ = λ q. cond (get_or (set done root true) q false && (get_or rank q 0 == r)) (slice_index heats q) 0 in
+          let here : f root ≡ cond (eqb 0 r) (slice_index heats root) 0 = rw (there, zeros root inside) refl in
+          let sums : sum_below (length heats) f ≡ sum_below (length heats) (λ q. 0) + cond (eqb 0 r) (slice_index heats root) 0 =
+          sum-set (length heats) root (cond (eqb 0 r) (slice_index heats root) 0) f (λ q. 0) (omega (arith, inside, size_is)) (omega (arith, here))
+          (λ q l other. rw (only q l other) refl) in
+          omega (arith, added r small, sums, sum_below-zero (length heats) (λ q. 0) (λ q l. refl));
+      order = λ q p lq lp later is not. absurd (both_ways (is_done (set done root true) q) (only q lq later) is);
+      sent = λ p l later is. absurd (both_ways (is_done (set done root true) p) (only p l later) is);
+      fair = λ r is.
+          ⊎_elim (λ (same : r ≡ 0). inr (inl (subst (λ (t : ℕ). slice_index loads t ≤ slice_index pinned 0 + slice_index heats root) (sym same)
+          (omega (arith, added 0 (omega arith))))))
+          (λ (other : r ≢ 0). inl (omega (
+            arith,
+            added r (rank-small ranks r is),
+            ap (λ (b : Bool). cond b (slice_index heats root) 0) (ne_eqb 0 r (λ same. other (sym same))),
+          )))
+          (cases_eq r 0);
+      enough = omega (arith, size_is);
+    }
+
+-- all parts are packed
+pub packed-all : (ranks : ℕ) (pinned heats inodes : List ℕ) (root limit : ℕ) (rank : List ℕ) (done : List Bool) (loads : List ℕ)
+    → ArePacked ranks pinned heats inodes root limit rank done loads 0 → IsKeptWithin ranks pinned heats inodes root limit rank
+packed-all ranks pinned heats inodes root limit rank done loads packed = record {
+  ranks_are = packed.ranks_are;
+  sent = λ p l later. packed.sent p l later (all-counted (length heats) (is_done done) (omega (arith, packed.enough)) p l);
+}
+
+pub loads-all : (ranks : ℕ) (pinned heats inodes : List ℕ) (root limit : ℕ) (rank : List ℕ) (done : List Bool) (loads : List ℕ)
+    → ArePacked ranks pinned heats inodes root limit rank done loads 0 → (r : ℕ) → r < 64 → slice_index loads r ≡ load_of_parts pinned heats rank r
+loads-all ranks pinned heats inodes root limit rank done loads packed r small =
+    packed.loads_are r small ∙ load-same pinned heats rank rank (is_done done) (λ q. true) r (λ q l.
+    ap (λ (b : Bool). b && (get_or rank q 0 == r)) (all-counted (length heats) (is_done done) (omega (arith, packed.enough)) q l))
+
+-- where no load is within the limit, no rank was loaded less
+pub largest-first : (ranks : ℕ) (pinned heats inodes : List ℕ) (root : ℕ) (rank : List ℕ) → IsKeptWithin ranks pinned heats inodes root 0 rank
+    → IsLargestFirst ranks pinned heats root rank
+largest-first ranks pinned heats inodes root rank kept = record {
+  ranks_are = kept.ranks_are;
+  least = λ p r l later has.
+      let sent = kept.sent p l later in
+      elim sent.goes [
+        | inl stays ↦ subst (λ (t : ℕ). load_before pinned heats root rank p t ≤ load_before pinned heats root rank p r) (sym stays.2) (omega (arith, stays.1))
+        | inr moved ↦ moved.1 r has
+      ];
+}
+
+-- the greatest load where all parts are packed and none is kept at home
+pub fair-all : (ranks : ℕ) (pinned heats inodes : List ℕ) (root : ℕ) (rank : List ℕ) (done : List Bool) (loads : List ℕ)
+    → ArePacked ranks pinned heats inodes root 0 rank done loads 0 → IsNearMean ranks pinned heats root (greatest_by ranks pinned heats rank)
+fair-all ranks pinned heats inodes root rank done loads packed =
+    near-mean ranks pinned heats rank root (λ r has.
+    subst (λ (x : ℕ). IsFairLoad ranks pinned heats root 0 r x) (loads-all ranks pinned heats inodes root 0 rank done loads packed r (rank-small ranks r has)) (packed.fair r has))
+
+-- what is read of a list, whatever stands past its end
+pub read-value : (xs ys : List ℕ) (i x : ℕ) → xs ≡ ys → i < length ys → x ≡ get_or xs i x → x ≡ get_or ys i 0
+read-value xs ys i x same inside is = is ∙ (ap (λ (zs : List ℕ). get_or zs i x) same ∙ get_or_default ys i x 0 inside)
+
+-- more is loaded on one rank
+pub added-set : (loads : List ℕ) (to h v r : ℕ) → to < length loads → v ≡ get_or loads to 0 + h → get_or (set loads to v) r 0 ≡ get_or loads r 0 + cond (eqb to r) h 0
+added-set loads to h v r inside is =
+    ⊎_elim (λ (same : r ≡ to). subst (λ (j : ℕ). get_or (set loads to v) j 0 ≡ get_or loads j 0 + cond (eqb to j) h 0) (sym same)
+    (rw (eq-eqb to to refl, get_or-set_same loads to v 0 inside) is))
+    (λ (other : r ≢ to). rw (get_or-set_other loads to r v 0 other, ne_eqb to r (λ same. other (sym same))) (omega arith))
+    (cases_eq r to)
+
+pub load-bound : (ranks : ℕ) (pinned heats inodes : List ℕ) (root limit : ℕ) (rank : List ℕ) (done : List Bool) (loads : List ℕ) (left r : ℕ)
+    → ArePacked ranks pinned heats inodes root limit rank done loads left → All (λ (n : ℕ). n ≤ 2 ^ 57) pinned → length pinned ≡ 64
+    → sum_below (length heats) (slice_index heats) ≤ 2 ^ 56 → r < 64 → slice_index loads r ≤ 2 ^ 57 + 2 ^ 56
+load-bound ranks pinned heats inodes root limit rank done loads left r packed small size total inside =
+    let most : slice_index pinned r ≤ 2 ^ 57 = All-get_or (λ (n : ℕ). n ≤ 2 ^ 57) pinned r 0 (omega (arith, size, inside)) small in
+    omega (arith, packed.loads_are r inside, load-small ranks pinned heats rank (is_done done) r, most, total)
+
+-- whichever packing is taken, each part has a rank
+pub ranks-chosen : (ranks : ℕ) (pinned heats inodes : List ℕ) (root keep : ℕ) (rank : List ℕ) → IsChosenPacking ranks pinned heats inodes root keep rank
+    → HaveRanks ranks heats root rank
+ranks-chosen ranks pinned heats inodes root keep rank chosen = elim chosen.taken [
+  | inl near ↦ subst (HaveRanks ranks heats root) (sym near.1) chosen.kept.ranks_are
+  | inr plain ↦ subst (HaveRanks ranks heats root) (sym plain.1) chosen.largest_first.ranks_are
+]
+
+-- and the greatest load is allowed
+pub within-chosen : (ranks : ℕ) (pinned heats inodes : List ℕ) (root keep : ℕ) (rank : List ℕ) → (chosen : IsChosenPacking ranks pinned heats inodes root keep rank)
+    → greatest_by ranks pinned heats rank ≤ allowed keep (greatest_by ranks pinned heats chosen.plain)
+within-chosen ranks pinned heats inodes root keep rank chosen = elim chosen.taken [
+  | inl near ↦ subst (λ (xs : List ℕ). greatest_by ranks pinned heats xs ≤ allowed keep (greatest_by ranks pinned heats chosen.plain)) (sym near.1) near.0
+  | inr plain ↦ subst (λ (xs : List ℕ). greatest_by ranks pinned heats xs ≤ allowed keep (greatest_by ranks pinned heats chosen.plain)) (sym plain.1)
+      (le-add_right (greatest_by ranks pinned heats chosen.plain) (greatest_by ranks pinned heats chosen.plain / 100 * keep))
+]
+
+-- the same is chosen of the same lists
+pub chosen-same : (ranks : ℕ) (pinned heats inodes those others : List ℕ) (root keep : ℕ) (rank : List ℕ) → those ≡ heats → others ≡ inodes
+    → IsChosenPacking ranks pinned those others root keep rank → IsChosenPacking ranks pinned heats inodes root keep rank
+chosen-same ranks pinned heats inodes those others root keep rank heats_are inodes_are chosen =
+    subst (λ (xs : List ℕ). IsChosenPacking ranks pinned xs inodes root keep rank) heats_are
+    (subst (λ (xs : List ℕ). IsChosenPacking ranks pinned those xs root keep rank) inodes_are chosen)

@@ -1,0 +1,118 @@
+use Rattle.std.proofs.Common.{◌≡◌, ◌<◌, ◌≤◌, ◌+◌, ◌-◌, ◌^◌, ◌∙◌, ℕ, Bool, false, List, ap, arith, cond, eqb, get_or, length, length-set, refl, replicate, set, slice_index, subst, sym}
+use Rattle.mds_types.proofs.SumsLemmas.{sum_below-term}
+use Rattle.ceph_plan.specs.Balance.{IsNearMean, IsSent, greatest_by, load_of_parts}
+use Rattle.ceph_plan.specs.Packing.{greatest_of}
+use Rattle.ceph_plan.proofs.Bounds.{greatest-same}
+use Rattle.ceph_plan.proofs.Packed.{ArePacked, added-set, fair-all, load-bound, loads-all, packed-all, packed-first, packed-more, packed-none, read-value}
+use Rattle.ceph_plan.proofs.rank_choice.packed_within.Goals as goal
+
+pub overflow_add-index_mut : goal.overflow_add-index_mut
+overflow_add-index_mut c =
+    let pinned : List ℕ = c.args.parts.pinned.now in
+    let heats : List ℕ = c.args.parts.heats.now in
+    let first : c.index_mut.result.now ≡ get_or pinned 0 0 =
+    read-value c.in_ok-loads.loads.items pinned 0 c.index_mut.result.now (c.in_ok-loads.ensures.items_if_clones_equal (λ x y same. same)) (omega (arith, c.requires.pinned)) c.index_mut.ensures.value in
+    let most : get_or pinned 0 0 ≤ 2 ^ 57 = c.requires.small 0 0 (omega (arith, c.requires.pinned)) in
+    omega (arith, first, most, sum_below-term (length heats) c.args.parts.root (slice_index heats) c.requires.root, c.requires.total)
+
+pub loop-left-init : goal.loop-left-init
+loop-left-init c =
+    let pinned : List ℕ = c.args.parts.pinned.now in
+    let heats : List ℕ = c.args.parts.heats.now in
+    let root : ℕ = c.args.parts.root in
+    let n : ℕ = length heats in
+    let loads : List ℕ = c.in_ok-loads.loads.items in
+    let more : ℕ = c.index_mut.result.now + get_or heats root 0 in
+    let same : loads ≡ pinned = c.in_ok-loads.ensures.items_if_clones_equal (λ x y is. is) in
+    let size : length loads ≡ 64 = ap length same ∙ c.requires.pinned in
+    let first : c.index_mut.result.now ≡ get_or loads 0 0 =
+    read-value loads loads 0 c.index_mut.result.now refl (omega (arith, size)) c.index_mut.ensures.value in
+    let zero : c.default.result ≡ 0 = sym c.default.ensures.1 ∙ c.default.ensures.2 in
+    let rank_is : c.in_ok-rank.rank.items ≡ replicate n 0 = c.in_ok-rank.ensures.items_if_clones_equal (λ y is. is) ∙ ap (λ (x : ℕ). replicate n x) zero in
+    packed-first c.args.ranks pinned heats c.args.parts.inodes.now root c.args.limit c.in_ok-rank.rank.items c.in_ok-done.done.items (set loads 0 more) n refl
+    c.requires.root c.requires.zero rank_is (c.in_ok-done.ensures.items_if_clones_equal (λ y is. is)) (length-set loads 0 more ∙ size)
+    (λ r small. added-set loads 0 (get_or heats root 0) more r (omega (arith, size)) (ap (λ (x : ℕ). x + get_or heats root 0) first)
+    ∙ ap (λ (xs : List ℕ). get_or xs r 0 + cond (eqb 0 r) (get_or heats root 0) 0) same)
+
+pub rank_for-to-requires-clause-room : goal.rank_for-to-requires-clause-room
+rank_for-to-requires-clause-room c = λ r small.
+    let heats : List ℕ = c.args.parts.heats.now in
+    let loads : List ℕ = c.loop-left.loads.items in
+    let bound : slice_index loads r ≤ 2 ^ 57 + 2 ^ 56 =
+    load-bound c.args.ranks c.args.parts.pinned.now heats c.args.parts.inodes.now c.args.parts.root c.args.limit c.loop-left.rank.items c.loop-left.done.items loads
+    c.loop-left.left r c.loop-left.invariant c.requires.small c.requires.pinned c.requires.total small in
+    let read : slice_index c.deref-then-part-count.result.now r ≡ slice_index loads r = ap (λ (xs : List ℕ). slice_index xs r) c.deref-then-part-count.ensures.value in
+    omega (arith, read, bound, sum_below-term (length heats) c.hottest_left-part.result (slice_index heats) c.if-part-count.true, c.requires.total)
+
+pub overflow_add-index_mut-then-part-count : goal.overflow_add-index_mut-then-part-count
+overflow_add-index_mut-then-part-count c =
+    let heats : List ℕ = c.args.parts.heats.now in
+    let loads : List ℕ = c.loop-left.loads.items in
+    let to : ℕ = c.from.result in
+    let small : to < 64 = omega (arith, c.from.ensures, c.number.ensures.small) in
+    let bound : slice_index loads to ≤ 2 ^ 57 + 2 ^ 56 =
+    load-bound c.args.ranks c.args.parts.pinned.now heats c.args.parts.inodes.now c.args.parts.root c.args.limit c.loop-left.rank.items c.loop-left.done.items loads
+    c.loop-left.left to c.loop-left.invariant c.requires.small c.requires.pinned c.requires.total small in
+    let read : c.index_mut-then-part-count.result.now ≡ get_or loads to 0 =
+    read-value loads loads to c.index_mut-then-part-count.result.now refl (omega (arith, c.loop-left.invariant.loads_size, small)) c.index_mut-then-part-count.ensures.value in
+    omega (arith, read, bound, sum_below-term (length heats) c.hottest_left-part.result (slice_index heats) c.if-part-count.true, c.requires.total)
+
+pub loop-left-preserved-then-part-count : goal.loop-left-preserved-then-part-count
+loop-left-preserved-then-part-count c =
+    let heats : List ℕ = c.args.parts.heats.now in
+    let loads : List ℕ = c.loop-left.loads.items in
+    let part : ℕ = c.hottest_left-part.result in
+    let to : ℕ = c.from.result in
+    let same : to ≡ c.rank_for-to.result = c.from.ensures ∙ c.number.ensures.value in
+    let more : ℕ = c.index_mut-then-part-count.result.now + get_or heats part 0 in
+    let inside : to < length loads = omega (arith, c.loop-left.invariant.loads_size, c.from.ensures, c.number.ensures.small) in
+    let read : c.index_mut-then-part-count.result.now ≡ get_or loads to 0 =
+    read-value loads loads to c.index_mut-then-part-count.result.now refl inside c.index_mut-then-part-count.ensures.value in
+    packed-more c.args.ranks c.args.parts.pinned.now heats c.args.parts.inodes.now c.args.parts.root c.args.limit c.loop-left.rank.items c.loop-left.done.items loads
+    c.loop-left.left (c.loop-left.left - 1) part c.rank_for-to.result (set loads to more) c.loop-left.invariant c.if-part-count.true
+    (ap (λ (xs : List Bool). get_or xs part false) (sym c.deref.ensures.value) ∙ c.hottest_left-part.ensures.some c.if-part-count.true)
+    (λ q l other new. c.hottest_left-part.ensures.first c.if-part-count.true q l other (ap (λ (xs : List Bool). get_or xs q false) c.deref.ensures.value ∙ new))
+    c.rank_for-to.ensures.usable
+    (subst (λ (xs : List ℕ). IsSent c.args.ranks (slice_index xs) c.args.parts.inodes.now part (get_or heats part 0) c.args.limit c.rank_for-to.result)
+    c.deref-then-part-count.ensures.value c.rank_for-to.ensures.sent)
+    (length-set loads to more ∙ c.loop-left.invariant.loads_size)
+    (λ r small. added-set loads to (get_or heats part 0) more r inside (ap (λ (x : ℕ). x + get_or heats part 0) read)
+    ∙ ap (λ (t : ℕ). get_or loads r 0 + cond (eqb t r) (get_or heats part 0) 0) same)
+    (omega (arith, c.loop-left-test.true))
+
+pub loop-left-preserved : goal.loop-left-preserved
+loop-left-preserved c =
+    packed-none c.args.ranks c.args.parts.pinned.now c.args.parts.heats.now c.args.parts.inodes.now c.args.parts.root c.args.limit c.loop-left.rank.items
+    c.loop-left.done.items c.loop-left.loads.items c.loop-left.left (c.loop-left.left - 1) c.loop-left.invariant
+    (λ q l. ap (λ (xs : List Bool). get_or xs q false) (sym c.deref.ensures.value) ∙ c.hottest_left-part.ensures.none c.if-part-count.false q l)
+
+pub returns-clause-kept : goal.returns-clause-kept
+returns-clause-kept c =
+    packed-all c.args.ranks c.args.parts.pinned.now c.args.parts.heats.now c.args.parts.inodes.now c.args.parts.root c.args.limit c.loop-left.rank.items
+    c.loop-left.done.items c.loop-left.loads.items
+    (subst (λ (n : ℕ). ArePacked c.args.ranks c.args.parts.pinned.now c.args.parts.heats.now c.args.parts.inodes.now c.args.parts.root c.args.limit
+    c.loop-left.rank.items c.loop-left.done.items c.loop-left.loads.items n) (omega (arith, c.loop-left-test.false)) c.loop-left.invariant)
+
+greatest_is : (c : goal.After-drop-done-2) → c.most-greatest.result
+    ≡ greatest_by c.args.ranks c.args.parts.pinned.now c.args.parts.heats.now c.loop-left.rank.items
+greatest_is c =
+    c.most-greatest.ensures
+    ∙ (ap (λ (xs : List ℕ). greatest_of c.args.ranks (slice_index xs)) c.deref-2.ensures.value
+    ∙ greatest-same c.args.ranks (slice_index c.loop-left.loads.items) (load_of_parts c.args.parts.pinned.now c.args.parts.heats.now c.loop-left.rank.items)
+    (λ r small. loads-all c.args.ranks c.args.parts.pinned.now c.args.parts.heats.now c.args.parts.inodes.now c.args.parts.root c.args.limit c.loop-left.rank.items
+    c.loop-left.done.items c.loop-left.loads.items
+    (subst (λ (n : ℕ). ArePacked c.args.ranks c.args.parts.pinned.now c.args.parts.heats.now c.args.parts.inodes.now c.args.parts.root c.args.limit
+    c.loop-left.rank.items c.loop-left.done.items c.loop-left.loads.items n) (omega (arith, c.loop-left-test.false)) c.loop-left.invariant) r small))
+
+pub returns-clause-near_mean : goal.returns-clause-near_mean
+returns-clause-near_mean c = λ plain.
+    subst (λ (x : ℕ). IsNearMean c.args.ranks c.args.parts.pinned.now c.args.parts.heats.now c.args.parts.root x) (sym (greatest_is c))
+    (fair-all c.args.ranks c.args.parts.pinned.now c.args.parts.heats.now c.args.parts.inodes.now c.args.parts.root c.loop-left.rank.items
+    c.loop-left.done.items c.loop-left.loads.items
+    (subst (λ (limit : ℕ). ArePacked c.args.ranks c.args.parts.pinned.now c.args.parts.heats.now c.args.parts.inodes.now c.args.parts.root limit
+    c.loop-left.rank.items c.loop-left.done.items c.loop-left.loads.items 0) plain
+    (subst (λ (n : ℕ). ArePacked c.args.ranks c.args.parts.pinned.now c.args.parts.heats.now c.args.parts.inodes.now c.args.parts.root c.args.limit
+    c.loop-left.rank.items c.loop-left.done.items c.loop-left.loads.items n) (omega (arith, c.loop-left-test.false)) c.loop-left.invariant)))
+
+pub returns-clause-greatest : goal.returns-clause-greatest
+returns-clause-greatest c = greatest_is c

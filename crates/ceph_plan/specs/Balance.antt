@@ -1,0 +1,124 @@
+-- How parts are packed by their heat: one after another, the hottest first, each on the least loaded rank.
+use Rattle.std.specs.Prelude.{◌≡◌, ◌≢◌, ◌==◌, ◌<◌, ◌≤◌, ◌+◌, ◌*◌, ◌/◌, ◌||◌, ◌&&◌, ◌⊎◌, ℕ, Bool, true}
+use Rattle.std.specs.Prelude.{List, length, nat_lt, slice_index, if◌then◌else◌}
+use Rattle.mds_types.specs.declared.problem.ProblemRow.{ProblemRow}
+use Rattle.mds_types.specs.Division.{part_heat}
+use Rattle.mds_types.specs.Problem.{inodes_at, now_at}
+use Rattle.mds_types.specs.RankSet.{has_rank, rank_count}
+use Rattle.mds_types.specs.Sums.{max_below, sum_below}
+use Rattle.ceph_plan.specs.declared.packing.Packing.{Packing}
+use Rattle.ceph_plan.specs.Packing.{greatest_of, total_of}
+
+-- part q is hotter than part p, or as hot and its number is smaller
+abbrev pub is_hotter : List ℕ → ℕ → ℕ → Bool
+is_hotter heats q p =
+    nat_lt (slice_index heats p) (slice_index heats q)
+    || ((slice_index heats p == slice_index heats q) && nat_lt q p)
+
+-- the root's part goes first, and of two others the hotter one
+abbrev pub goes_before : List ℕ → ℕ → ℕ → ℕ → Bool
+goes_before heats root q p = (q == root) || is_hotter heats q p
+
+-- the load of rank r by some of the parts: what is pinned there, and those of them that go there
+abbrev pub load_by : List ℕ → List ℕ → List ℕ → (ℕ → Bool) → ℕ → ℕ
+load_by pinned heats rank some r =
+    slice_index pinned r
+    + sum_below (length heats) (λ q. if some q && (slice_index rank q == r) then slice_index heats q else 0)
+
+-- by all parts, and by those that go before part p
+abbrev pub load_of_parts : List ℕ → List ℕ → List ℕ → ℕ → ℕ
+load_of_parts pinned heats rank r = load_by pinned heats rank (λ q. true) r
+
+abbrev pub load_before : List ℕ → List ℕ → ℕ → List ℕ → ℕ → ℕ → ℕ
+load_before pinned heats root rank p r = load_by pinned heats rank (λ q. goes_before heats root q p) r
+
+-- the greatest load of a rank of the set
+abbrev pub greatest_by : ℕ → List ℕ → List ℕ → List ℕ → ℕ
+greatest_by ranks pinned heats rank = greatest_of ranks (load_of_parts pinned heats rank)
+
+-- each part has a rank of the set, the root's part rank 0
+pub record HaveRanks (ranks : ℕ) (heats : List ℕ) (root : ℕ) (rank : List ℕ) : Type 0 where
+  pub size : length rank ≡ length heats
+  pub usable : (p : ℕ) → p < length heats → has_rank ranks (slice_index rank p) ≡ true
+  pub at_zero : slice_index rank root ≡ 0
+
+-- the packing that looks at heat only, largest first: no rank is loaded less than that of a part when its turn comes
+pub record IsLargestFirst (ranks : ℕ) (pinned heats : List ℕ) (root : ℕ) (rank : List ℕ) : Type 0 where
+  pub ranks_are : HaveRanks ranks heats root rank
+  pub least : (p r : ℕ) → p < length heats → p ≢ root → has_rank ranks r ≡ true
+      → load_before pinned heats root rank p (slice_index rank p) ≤ load_before pinned heats root rank p r
+
+-- the inodes of part p at rank r, 64 numbers a part
+abbrev pub inodes_there : List ℕ → ℕ → ℕ → ℕ
+inodes_there inodes p r = slice_index inodes (p * 64 + r)
+
+-- the first rank that has most of the part's inodes
+pub record IsHomeRank (inodes : List ℕ) (p home : ℕ) : Type 0 where
+  pub small : home < 64
+  pub most : (r : ℕ) → r < 64 → inodes_there inodes p r ≤ inodes_there inodes p home
+  pub first : (r : ℕ) → r < home → inodes_there inodes p r < inodes_there inodes p home
+
+-- where a part goes when these are the loads: it stays at home if the load there is then within the limit, and goes to
+-- a least loaded rank if not
+pub record IsSent (ranks : ℕ) (load : ℕ → ℕ) (inodes : List ℕ) (p heat limit to : ℕ) : Type 0 where
+  pub home : ℕ
+  pub is : IsHomeRank inodes p home
+  pub goes : ((has_rank ranks home ≡ true) × (load home + heat ≤ limit) × (to ≡ home))
+      ⊎ ((has_rank ranks home ≡ true → limit < load home + heat)
+      × ((r : ℕ) → has_rank ranks r ≡ true → load to ≤ load r))
+
+-- the packing that keeps parts at home within a limit, largest first
+pub record IsKeptWithin (ranks : ℕ) (pinned heats inodes : List ℕ) (root limit : ℕ) (rank : List ℕ) : Type 0 where
+  pub ranks_are : HaveRanks ranks heats root rank
+  pub sent : (p : ℕ) → p < length heats → p ≢ root
+      → IsSent ranks (load_before pinned heats root rank p) inodes p (slice_index heats p) limit (slice_index rank p)
+
+-- a load that is greater by so many percent, where each full hundredth counts
+abbrev pub allowed : ℕ → ℕ → ℕ
+allowed keep load = load + load / 100 * keep
+
+-- what is pinned and all parts, and the hottest part
+abbrev pub all_of_parts : ℕ → List ℕ → List ℕ → ℕ
+all_of_parts ranks pinned heats = total_of ranks (slice_index pinned) + sum_below (length heats) (slice_index heats)
+
+abbrev pub hottest_of : List ℕ → ℕ
+hottest_of heats = max_below (length heats) (slice_index heats)
+
+-- a greatest load is at most one of three: the most that is pinned; the root's part with what is pinned at rank 0; the
+-- mean load and the hottest part (times the number of ranks, so that nothing is rounded)
+abbrev pub IsNearMean : ℕ → List ℕ → List ℕ → ℕ → ℕ → Type 0
+IsNearMean ranks pinned heats root greatest =
+    (greatest ≤ greatest_of ranks (slice_index pinned))
+    ⊎ ((greatest ≤ slice_index pinned 0 + slice_index heats root)
+    ⊎ (greatest * rank_count ranks ≤ all_of_parts ranks pinned heats + hottest_of heats * rank_count ranks))
+
+-- which packing is taken: the one that keeps parts at home, if its greatest load is at most `keep` percent above that
+-- of the largest first, and else that one
+pub record IsChosenPacking (ranks : ℕ) (pinned heats inodes : List ℕ) (root keep : ℕ) (rank : List ℕ) : Type 0 where
+  pub plain : List ℕ
+  pub largest_first : IsLargestFirst ranks pinned heats root plain
+  pub near_mean : IsNearMean ranks pinned heats root (greatest_by ranks pinned heats plain)
+  pub near : List ℕ
+  pub kept : IsKeptWithin ranks pinned heats inodes root (allowed keep (greatest_by ranks pinned heats plain)) near
+  pub taken : ((greatest_by ranks pinned heats near ≤ allowed keep (greatest_by ranks pinned heats plain))
+      × (rank ≡ near))
+      ⊎ ((allowed keep (greatest_by ranks pinned heats plain) < greatest_by ranks pinned heats near) × (rank ≡ plain))
+
+-- the inodes of part p at rank r
+abbrev pub part_inodes_at : List ProblemRow → List ℕ → ℕ → ℕ → ℕ
+part_inodes_at rows part p r =
+    sum_below (length rows)
+    (λ i. if (slice_index part i == p) && (now_at rows i == r) then inodes_at rows i else 0)
+
+-- the greatest load of a packing is at most `keep` percent above that of its parts packed by heat only, largest first,
+-- and parts stay at home where that leaves it within this limit
+pub record IsPackedEvenly (ranks : ℕ) (pinned : List ℕ) (rows : List ProblemRow) (part : List ℕ) (count keep : ℕ)
+    (packing : Packing) : Type 0 where
+  pub heats : List ℕ
+  pub inodes : List ℕ
+  pub size : length heats ≡ count
+  pub heat : (p : ℕ) → p < count → slice_index heats p ≡ part_heat rows (slice_index part) p
+  pub there : (p r : ℕ) → p < count → r < 64 → inodes_there inodes p r ≡ part_inodes_at rows part p r
+  pub chosen : IsChosenPacking ranks pinned heats inodes (slice_index part 0) keep packing.rank.items
+  pub greatest : packing.greatest ≡ greatest_by ranks pinned heats packing.rank.items
+  pub within : packing.greatest ≤ allowed keep (greatest_by ranks pinned heats chosen.plain)
