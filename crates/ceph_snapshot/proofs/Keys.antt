@@ -1,5 +1,5 @@
 -- Which directories go: keys, and how many are at most one of them.
-use Rattle.std.proofs.Common.{◌≡◌, ◌≢◌, ◌∙◌, ℕ, zero, suc, ◌+◌, ◌-◌, ◌<◌, ◌≤◌, Bool, true, false, not, cond, List, [], ◌∷◌, ◌++◌, add_assoc, add-zero, length, get_or, set, slice_index, refl, ap, sym, subst, ⊎_elim, arith}
+use Rattle.std.proofs.Common.{◌≡◌, ◌≢◌, ◌∙◌, ℕ, zero, suc, ◌+◌, ◌-◌, ◌<◌, ◌≤◌, Bool, true, false, not, ◌&&◌, cond, List, [], ◌∷◌, ◌++◌, add_assoc, add-zero, length, get_or, set, slice_index, refl, ap, sym, subst, ⊎_elim, arith}
 use Rattle.std.specs.Cmp.{IsTotalOrder}
 use Rattle.std.proofs.Math.Nat.{lt_trans}
 use Rattle.std.proofs.lemmas.Grind.{common_steps}
@@ -8,18 +8,18 @@ use Rattle.std.specs.List.{count_by, sum_by}
 use Rattle.std.specs.List.Sorted.{IsPermutation, IsSorted}
 use Rattle.std.proofs.Common.{Ordering, Equal, Greater, Less}
 use Rattle.std.specs.Ordering.{is_le, is_lt, ordering_reverse}
-use Rattle.std.proofs.lemmas.Bool.{and_from, and_parts, cases_Bool, cases_eq, not-true, not_from_false}
+use Rattle.std.proofs.lemmas.Bool.{and_from, and_parts, cases_Bool, cases_eq, cases_lt, not-true, not_from_false}
 use Rattle.std.proofs.lemmas.List.{get_or-set_other, get_or-set_same, get_or_append_left, get_or_push}
 use Rattle.std.proofs.lemmas.List.Sorted.{length_permutation, ranks_by, sorted_far, sum_by-IsPermutation}
 use Rattle.std.proofs.lemmas.List.Sums.{sum_by-cons}
 use Rattle.mds_types.specs.Sums.{count_below, sum_below}
 use Rattle.mds_types.proofs.RankSetLemmas.{count_below_more}
-use Rattle.mds_types.proofs.SumsLemmas.{sum_below-fewer, sum_below-le}
+use Rattle.mds_types.proofs.SumsLemmas.{sum_below-add, sum_below-fewer, sum_below-le, sum_below-once}
 use Rattle.ceph_snapshot.specs.declared.coldest.Key.{Key}
 use Rattle.ceph_snapshot.specs.declared.directory.Directory.{Directory}
 use Rattle.ceph_snapshot.specs.Folding.{AreGone, IsPlain, is_marked}
 use Rattle.ceph_snapshot.specs.Holding.{AreParentsFirst, parent_at}
-use Rattle.ceph_snapshot.specs.Keys.{goes, is_at_most, key_at, key_cmp}
+use Rattle.ceph_snapshot.specs.Keys.{goes, is_at_most, is_below, key_at, key_cmp, passes}
 
 pub sum_front : (n : ℕ) (f : ℕ → ℕ) → sum_below (suc n) f ≡ f 0 + sum_below n (λ i. f (suc i))
 sum_front zero f = omega arith
@@ -70,6 +70,64 @@ enough keys sorted count last some inside moved up is =
     sym (sum_keys f last sorted) ∙ sum_by-IsPermutation f keys sorted moved in
     omega (arith, ones count, first, more, whole)
 
+-- fewer keys are below the last of so many in order
+none_of : (n : ℕ) (f : ℕ → ℕ) (m : ℕ) → ((i : ℕ) → i < n → f i ≤ 1) → ((i : ℕ) → m ≤ i → i < n → f i ≡ 0) → sum_below n f ≤ m
+none_of zero f m one none = omega arith
+none_of (suc n) f m one none =
+    ⊎_elim (λ (low : n < m). omega (arith, none_of n f n (λ i l. one i (omega (arith, l))) (λ i past l. let no : ⊥ = omega (arith, past, l) in absurd no), one n (omega arith), low))
+    (λ (high : m ≤ n). omega (arith, none_of n f m (λ i l. one i (omega (arith, l))) (λ i past l. none i past (omega (arith, l))), none n high (omega arith)))
+    (cases_lt n m)
+
+at_most_one : (b : Bool) → cond b 1 0 ≤ 1
+at_most_one true = omega arith
+at_most_one false = omega arith
+
+pub fewer-below : (keys sorted : List Key) (count : ℕ) (last : Key) → 0 < count → count ≤ length keys → IsPermutation keys sorted → IsSorted key_cmp sorted
+    → last ≡ get_or sorted (count - 1) last → count_by (λ key. is_below key last) keys < count
+fewer-below keys sorted count last some inside moved up is =
+    let f : Key → ℕ = λ key. cond (is_below key last) 1 0 in
+    let long : length sorted ≡ length keys = length_permutation keys sorted moved in
+    let few : sum_below (length sorted) (λ i. f (get_or sorted i last)) ≤ count - 1 =
+    none_of (length sorted) (λ i. f (get_or sorted i last)) (count - 1) (λ i l. at_most_one (is_below (get_or sorted i last) last)) (λ i past l.
+    let behind : is_lt (key_cmp (get_or sorted i last) (get_or sorted (count - 1) last)) ≡ false =
+    sorted_far (λ a b. is_lt (key_cmp a b)) (ranks_by key_total (λ (key : Key). key)) sorted up (count - 1) i last past l in
+    let no : is_below (get_or sorted i last) last ≡ false = ap (is_below (get_or sorted i last)) is ∙ behind in
+    rw no refl) in
+    let whole : sum_below (length sorted) (λ i. f (get_or sorted i last)) ≡ count_by (λ key. is_below key last) keys =
+    sym (sum_keys f last sorted) ∙ sum_by-IsPermutation f keys sorted moved in
+    omega (arith, few, whole, some)
+
+-- no two directories have one key
+same_key : (heats : List ℕ) (last : Key) (i : ℕ) → is_at_most (key_at heats i) last ≡ true → is_below (key_at heats i) last ≡ false
+    → length heats - 1 - i ≡ last.behind
+same_key heats last i most below = grind (arith, common_steps)
+
+-- so at most one more goes than are below the last
+pub one-more : (heats : List ℕ) (stays : List Bool) (last : Key)
+    → count_below (length heats) (goes heats stays last) ≤ count_below (length heats) (passes heats stays (λ key. is_below key last)) + 1
+one-more heats stays last =
+    let n : ℕ = length heats in
+    let d : ℕ → ℕ = λ i. cond (is_at_most (key_at heats i) last && not (is_below (key_at heats i) last)) 1 0 in
+    let once : sum_below n d ≤ 1 = sum_below-once n 1 d (λ i l. at_most_one (is_at_most (key_at heats i) last && not (is_below (key_at heats i) last)))
+    (λ i j li lj hi hj.
+    let a = and_parts (is_at_most (key_at heats i) last) (not (is_below (key_at heats i) last)) (counts (is_at_most (key_at heats i) last && not (is_below (key_at heats i) last)) hi) in
+    let b = and_parts (is_at_most (key_at heats j) last) (not (is_below (key_at heats j) last)) (counts (is_at_most (key_at heats j) last && not (is_below (key_at heats j) last)) hj) in
+    omega (arith, li, lj, same_key heats last i a.0 (not-true (is_below (key_at heats i) last) a.1), same_key heats last j b.0 (not-true (is_below (key_at heats j) last) b.1))) in
+    let sums : sum_below n (λ i. cond (goes heats stays last i) 1 0) ≤ sum_below n (λ i. cond (passes heats stays (λ key. is_below key last) i) 1 0 + d i) =
+    sum_below-le n (λ i. cond (goes heats stays last i) 1 0) (λ i. cond (passes heats stays (λ key. is_below key last) i) 1 0 + d i)
+    (λ i l. either (not (is_marked stays i)) (is_at_most (key_at heats i) last) (is_below (key_at heats i) last)) in
+    omega (arith, sums, sum_below-add n (λ i. cond (passes heats stays (λ key. is_below key last) i) 1 0) d, once)
+  where
+    counts : (b : Bool) → 0 < cond b 1 0 → b ≡ true
+    counts true h = refl
+    counts false h = let none : ⊥ = omega (arith, h) in absurd none
+
+    either : (a b c : Bool) → cond (a && b) 1 0 ≤ cond (a && c) 1 0 + cond (b && not c) 1 0
+    either false b c = omega arith
+    either true false c = omega arith
+    either true true true = omega arith
+    either true true false = omega arith
+
 -- what doesn't pass and what does are all
 pub count_both : (n : ℕ) (p q : ℕ → Bool) → ((i : ℕ) → i < n → p i ≡ q i) → count_below n (λ i. not (p i)) + count_below n q ≡ n
 count_both zero p q same = refl
@@ -82,24 +140,24 @@ count_both (suc n) p q same =
 apart : {X : Type 0} (b : Bool) → b ≡ true → b ≡ false → X
 apart b is_true is_false = cc
 
--- one more directory that doesn't stay is counted where its key is at most the last
-pub goes_more : (heats : List ℕ) (stays : List Bool) (last : Key) (at : ℕ) (keys : List Key) → is_marked stays at ≡ false
-    → count_by (λ key. is_at_most key last) keys ≡ count_below at (goes heats stays last)
-    → count_by (λ key. is_at_most key last) (keys ++ key_at heats at ∷ []) ≡ count_below (at + 1) (goes heats stays last)
-goes_more heats stays last at keys free before =
-    let same : goes heats stays last at ≡ is_at_most (key_at heats at) last = rw free refl in
-    count_push (λ key. is_at_most key last) keys (key_at heats at)
-    ∙ (ap (λ (n : ℕ). n + cond (is_at_most (key_at heats at) last) 1 0) before
-    ∙ (ap (λ (b : Bool). count_below at (goes heats stays last) + cond b 1 0) (sym same)
-    ∙ sym (count_below_more at (goes heats stays last))))
+-- one more directory that doesn't stay is counted where its key passes the test
+pub passes_more : (heats : List ℕ) (stays : List Bool) (test : Key → Bool) (at : ℕ) (keys : List Key) → is_marked stays at ≡ false
+    → count_by test keys ≡ count_below at (passes heats stays test)
+    → count_by test (keys ++ key_at heats at ∷ []) ≡ count_below (at + 1) (passes heats stays test)
+passes_more heats stays test at keys free before =
+    let same : passes heats stays test at ≡ test (key_at heats at) = rw free refl in
+    count_push test keys (key_at heats at)
+    ∙ (ap (λ (n : ℕ). n + cond (test (key_at heats at)) 1 0) before
+    ∙ (ap (λ (b : Bool). count_below at (passes heats stays test) + cond b 1 0) (sym same)
+    ∙ sym (count_below_more at (passes heats stays test))))
 
 -- one that stays isn't
-pub stays_passed : (heats : List ℕ) (stays : List Bool) (last : Key) (at : ℕ) → is_marked stays at ≡ true
-    → count_below (at + 1) (goes heats stays last) ≡ count_below at (goes heats stays last)
-stays_passed heats stays last at stay =
-    let same : goes heats stays last at ≡ false = rw stay refl in
-    count_below_more at (goes heats stays last)
-    ∙ (ap (λ (b : Bool). count_below at (goes heats stays last) + cond b 1 0) same ∙ add-zero (count_below at (goes heats stays last)))
+pub stays_passed : (heats : List ℕ) (stays : List Bool) (test : Key → Bool) (at : ℕ) → is_marked stays at ≡ true
+    → count_below (at + 1) (passes heats stays test) ≡ count_below at (passes heats stays test)
+stays_passed heats stays test at stay =
+    let same : passes heats stays test at ≡ false = rw stay refl in
+    count_below_more at (passes heats stays test)
+    ∙ (ap (λ (b : Bool). count_below at (passes heats stays test) + cond b 1 0) same ∙ add-zero (count_below at (passes heats stays test)))
 
 -- one more value behind those of the first n
 pub values_more : {A : Type 0} (none : A) (value : ℕ → A) (xs : List A) (x : A) (n : ℕ) → length xs ≡ n

@@ -1,7 +1,7 @@
 -- Which directories may not be pinned, by Ceph's rule. (The CephFS documentation, "Configuring multiple active MDS
 -- daemons", sections on pinning directory trees and on dynamic subtree partitioning with ephemeral pins.)
 use Rattle.std.specs.Prelude.{◌≡◌, ◌<◌, ◌⊎◌, ◌↔◌, ◌≤◌, ◌||◌, ℕ, zero, suc}
-use Rattle.std.specs.Prelude.{Bool, true, is_some, List, length, slice_get, Option, Some, None}
+use Rattle.std.specs.Prelude.{Bool, true, is_some, List, [], length, slice_get, Option, Some, None}
 use Rattle.std.specs.Option.{option_map_or}
 use Rattle.ceph_dumps.specs.declared.listing.EphemeralPin.{EphemeralPin}
 use Rattle.ceph_dumps.specs.declared.listing.EphemeralPin.TheVariants.{Random}
@@ -10,6 +10,9 @@ use Rattle.ceph_snapshot.specs.Holding.{is_kept_at, parent_at, pin_at}
 
 abbrev pub policy_at : List Directory → ℕ → Option EphemeralPin
 policy_at directories i = option_map_or (λ (d : Directory). d.policy) (slice_get directories i) None
+
+abbrev pub dir_path_at : List Directory → ℕ → List ℕ
+dir_path_at directories i = option_map_or (λ (d : Directory). d.path.items) (slice_get directories i) []
 
 abbrev pub idle_at : List Directory → ℕ → Option ℕ
 idle_at directories i = option_map_or (λ (d : Directory). d.idle) (slice_get directories i) None
@@ -37,6 +40,20 @@ IsUnpinnable directories i =
 abbrev pub KeepUnpinnable : List Directory → Type 0
 KeepUnpinnable directories =
     (i : ℕ) → 0 < i → i < length directories → (is_kept_at directories i ≡ true) ↔ IsUnpinnable directories i
+
+-- where a directory that may not be pinned is among those that are left, marked as one: it has its path and its policy
+pub record IsLeftKept (directories left : List Directory) (i : ℕ) : Type 0 where
+  pub place : ℕ
+  pub below : 0 < place
+  pub inside : place < length left
+  pub path : dir_path_at left place ≡ dir_path_at directories i
+  pub policy : policy_at left place ≡ policy_at directories i
+  pub kept : is_kept_at left place ≡ true
+
+-- each that may not be pinned is still there
+abbrev pub StillKeepUnpinnable : List Directory → List Directory → Type 0
+StillKeepUnpinnable directories left =
+    (i : ℕ) → 0 < i → i < length directories → IsUnpinnable directories i → IsLeftKept directories left i
 
 -- how it is found: from the children of directory i, of those from place n on
 pub record HasBeaten (directories : List Directory) (n i : ℕ) : Type 0 where

@@ -2,12 +2,12 @@
 //!
 //! A directory goes by the heat at and below it, so it never goes before what is below it; of two that are as cold
 //! the last goes first. One that isn't plain stays, and so does all that is above it.
-ghost use Rattle.std.specs.Prelude.{◌≡◌, ◌<◌, ◌≤◌, ◌↔◌, ℕ, IsTrue, true, false, count_by};
+ghost use Rattle.std.specs.Prelude.{◌≡◌, ◌<◌, ◌≤◌, ◌↔◌, ℕ, Bool, IsTrue, true, false, count_by};
 ghost use Rattle.std.specs.Prelude.{length, slice_index, slice_set, IfOk, IfSome};
 ghost use Rattle.mds_types.specs.Sums.{count_below};
 ghost use Rattle.ceph_snapshot.specs.Folding.{AreGone, IsPlain, is_marked, kept_below};
 ghost use Rattle.ceph_snapshot.specs.Holding.{AreParentsFirst, parent_at};
-ghost use Rattle.ceph_snapshot.specs.Keys.{goes, is_at_most, key_at};
+ghost use Rattle.ceph_snapshot.specs.Keys.{goes, is_at_most, is_below, key_at, passes};
 
 use crate::amounts::own_heats;
 use crate::directory::Directory;
@@ -95,9 +95,8 @@ fn key_of(heats: &[u64], at: usize) -> Key
 /// What those directories go by that don't stay.
 fn keys(alloc: Global, heats: &[u64], stays: &[bool]) -> Result<Vec<Key>, AllocError>
     requires { length stays.now ≡ length heats.now }
-    ensures { IfOk result (λ keys. (last : Key)
-        → count_by (λ key. is_at_most key last) keys.items
-        ≡ count_below (length heats.now) (goes heats.now stays.now last)) }
+    ensures { IfOk result (λ keys. (test : Key → Bool)
+        → count_by test keys.items ≡ count_below (length heats.now) (passes heats.now stays.now test)) }
 {
     let mut keys = Vec::new(alloc);
     for at in 0..heats.len() {
@@ -111,7 +110,10 @@ fn keys(alloc: Global, heats: &[u64], stays: &[bool]) -> Result<Vec<Key>, AllocE
 /// The key of the last that goes where so many go, if there are so many.
 fn last_key(mut keys: Vec<Key>, count: usize) -> Result<Option<Key>, AllocError>
     requires { 0 < count }
-    ensures { IfOk result (λ found. IfSome found (λ last. count ≤ count_by (λ key. is_at_most key last) keys.items)) }
+    ensures enough { IfOk result (λ found. IfSome found (λ last.
+        count ≤ count_by (λ key. is_at_most key last) keys.items)) }
+    ensures needed { IfOk result (λ found. IfSome found (λ last.
+        count_by (λ key. is_below key last) keys.items < count)) }
 {
     if keys.len() < count {
         return Ok(None);
@@ -151,7 +153,7 @@ pub fn coldest(
     requires more { limit < length directories.now }
     ensures size { IfOk result (λ gone. length gone.items ≡ length directories.now) }
     ensures gone { IfOk result (λ gone. AreGone directories.now (is_marked gone.items)) }
-    ensures left { IfOk result (λ gone. kept_below (is_marked gone.items) (length directories.now) ≤ limit) }
+    ensures left { IfOk result (λ gone. kept_below (is_marked gone.items) (length directories.now) ≡ limit) }
 {
     let stays = staying(alloc, directories)?;
     let heats = heats_below(alloc, directories)?;

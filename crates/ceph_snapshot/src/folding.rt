@@ -1,10 +1,11 @@
 //! Folds the coldest directories into those above them, where there are more than the planner takes.
 ghost use Rattle.std.specs.Prelude.{◌≡◌, ◌+◌, ◌<◌, ◌≤◌, ◌^◌, ℕ, IsTrue, false, true};
-ghost use Rattle.std.specs.Prelude.{length, slice_get, slice_index, IfOk, IsOkAnd};
+ghost use Rattle.std.specs.Prelude.{length, min, slice_get, slice_index, IfOk, IsOkAnd};
 ghost use Rattle.std.specs.Option.{option_map};
 ghost use Rattle.ceph_snapshot.specs.Folding.{HasLeft, IsFolded, IsHome, all_heat, all_inodes, is_marked};
 ghost use Rattle.ceph_snapshot.specs.Folding.{kept_below, put_together, with_amounts};
 ghost use Rattle.ceph_snapshot.specs.Holding.{AreParentsFirst, parent_at};
+ghost use Rattle.ceph_snapshot.specs.Policies.{KeepUnpinnable, StillKeepUnpinnable};
 
 use crate::amounts::{Amount, brought_home};
 use crate::coldest::coldest;
@@ -155,7 +156,7 @@ fn folded(
     Ok(directories)
 }
 
-/// Folds the coldest directories, each with all below it, until at most `limit` are left: what they have, heat and
+/// Folds the coldest directories, each with all below it, until `limit` are left: what they have, heat and
 /// inodes, goes to the nearest directory above them that is kept. Gives how many were folded.
 ///
 /// Directories with a pin, those that are spread, and those that are at another rank than their parent stay.
@@ -164,11 +165,13 @@ pub fn fold(
     directories: Vec<Directory>,
     limit: usize,
 ) -> Result<(Vec<Directory>, usize), SnapshotError>
-    ensures limit { IfOk result (λ found. length found.0.items ≤ limit) }
+    ensures limit { IfOk result (λ found. length found.0.items ≡ min (length directories.items) limit) }
     ensures folded { IfOk result (λ found. IsFolded directories.items found.0.items) }
     ensures same { length directories.items ≤ limit → IsOkAnd result (λ found. found.0.items ≡ directories.items) }
     ensures heat { IfOk result (λ found. all_heat found.0.items ≡ all_heat directories.items) }
     ensures inodes { IfOk result (λ found. all_inodes found.0.items ≡ all_inodes directories.items) }
+    ensures unpinnable { KeepUnpinnable directories.items
+        → IfOk result (λ found. StillKeepUnpinnable directories.items found.0.items) }
     ensures count { IfOk result (λ found. length found.0.items + found.1 ≡ length directories.items) }
 {
     let count = directories.len();

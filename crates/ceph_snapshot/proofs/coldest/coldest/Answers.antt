@@ -3,8 +3,8 @@ use Rattle.std.specs.List.{count_by}
 use Rattle.mds_types.specs.Sums.{count_below}
 use Rattle.ceph_snapshot.specs.declared.coldest.Key.{Key}
 use Rattle.ceph_snapshot.specs.Folding.{is_marked}
-use Rattle.ceph_snapshot.specs.Keys.{goes, is_at_most}
-use Rattle.ceph_snapshot.proofs.Keys.{count_both, gone-marked}
+use Rattle.ceph_snapshot.specs.Keys.{goes, is_at_most, is_below, passes}
+use Rattle.ceph_snapshot.proofs.Keys.{count_both, gone-marked, one-more}
 use Rattle.ceph_snapshot.proofs.coldest.coldest.Goals as goal
 
 pub marks-requires : goal.marks-requires
@@ -30,8 +30,12 @@ returns-clause-left c =
     let size : length heats ≡ n = c.in_ok-heats.ensures.size in
     let both : count_below n (λ i. not (is_marked gone i)) + count_below n (goes heats stays last) ≡ n =
     count_both n (is_marked gone) (goes heats stays last) (λ i l. rw (c.deref-3.ensures.value, c.deref-4.ensures.value) at (c.in_ok-marks.ensures.marks i (let within : i < length c.deref-3.result.now = omega (arith, l, size, ap length c.deref-3.ensures.value) in within))) in
-    let counted : count_by (λ key. is_at_most key last) c.in_ok-keys.keys.items ≡ count_below (length heats) (goes heats stays last) =
-    rw (c.deref.ensures.value, c.deref-2.ensures.value) at (c.in_ok-keys.ensures last) in
-    let many : n - c.args.limit ≤ count_by (λ key. is_at_most key last) c.in_ok-keys.keys.items = rw c.in-Some.is at c.in_ok-last.ensures in
-    let some : n - c.args.limit ≤ count_below n (goes heats stays last) = omega (arith, many, counted, ap (λ (m : ℕ). count_below m (goes heats stays last)) size) in
-    omega (arith, both, some, c.requires.more)
+    let counted : (test : Key → Bool) → count_by test c.in_ok-keys.keys.items ≡ count_below (length heats) (passes heats stays test) =
+    rw (c.deref.ensures.value, c.deref-2.ensures.value) at c.in_ok-keys.ensures in
+    let many : n - c.args.limit ≤ count_by (λ key. is_at_most key last) c.in_ok-keys.keys.items = rw c.in-Some.is at c.in_ok-last.ensures.enough in
+    let few : count_by (λ key. is_below key last) c.in_ok-keys.keys.items < n - c.args.limit = rw c.in-Some.is at c.in_ok-last.ensures.needed in
+    let some : n - c.args.limit ≤ count_below n (goes heats stays last) =
+    omega (arith, many, counted (λ key. is_at_most key last), ap (λ (m : ℕ). count_below m (goes heats stays last)) size) in
+    let no_more : count_below n (goes heats stays last) ≤ n - c.args.limit =
+    omega (arith, few, counted (λ key. is_below key last), one-more heats stays last, ap (λ (m : ℕ). count_below m (goes heats stays last)) size) in
+    omega (arith, both, some, no_more, c.requires.more)

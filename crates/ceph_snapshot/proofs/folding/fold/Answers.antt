@@ -1,4 +1,8 @@
+use Rattle.std.proofs.Common.{Bool, List, subst}
+use Rattle.ceph_snapshot.specs.declared.directory.Directory.{Directory}
+use Rattle.ceph_snapshot.specs.Folding.{AreGone, HasLeft, is_marked}
 use Rattle.ceph_snapshot.proofs.Folds.{nothing_folded, same_heat, same_inodes}
+use Rattle.ceph_snapshot.proofs.StillKept.{still-kept}
 use Rattle.ceph_snapshot.proofs.folding.fold.Goals as goal
 
 pub returns-then-count-limit-clause-folded : goal.returns-then-count-limit-clause-folded
@@ -9,3 +13,15 @@ returns-clause-heat c = same_heat _ _ _ _ c.in_ok-left.ensures.1
 
 pub returns-clause-inodes : goal.returns-clause-inodes
 returns-clause-inodes c = same_inodes _ _ _ _ c.in_ok-left.ensures.1
+
+pub returns-then-count-limit-clause-unpinnable : goal.returns-then-count-limit-clause-unpinnable
+returns-then-count-limit-clause-unpinnable c = λ keep. still-kept c.args.directories.items c.args.directories.items (nothing_folded c.args.directories.items) keep
+
+pub returns-clause-unpinnable : goal.returns-clause-unpinnable
+returns-clause-unpinnable c = λ keep.
+    still-kept c.args.directories.items c.in_ok-left.left.items (
+      is_marked c.in_ok-gone.gone.items,
+      c.in_ok-left.ensures.0,
+      subst (λ (ds : List Directory). AreGone ds (is_marked c.in_ok-gone.gone.items)) c.deref-2.ensures.value c.in_ok-gone.ensures.gone,
+      subst (λ (gone : List Bool). HasLeft c.args.directories.items c.in_ok-left.left.items (is_marked gone) c.in_ok-left.ensures.0) c.deref-3.ensures.value c.in_ok-left.ensures.1,
+    ) keep
