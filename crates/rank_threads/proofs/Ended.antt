@@ -48,7 +48,7 @@ stays_taken (x ∷ tickets) zero (suc other) h = h
 stays_taken (x ∷ tickets) (suc t) zero h = h
 stays_taken (x ∷ tickets) (suc t) (suc other) h = stays_taken tickets t other h
 
-next_tickets : (s : State) (t : ℕ) → (state.next s (Step (End t))).cluster.tickets ≡ slice_set s.cluster.tickets t None
+pub next_tickets : (s : State) (t : ℕ) → (state.next s (Step (End t))).cluster.tickets ≡ slice_set s.cluster.tickets t None
 unfolding state.happens machine.happens
 next_tickets s t = refl
 
@@ -109,7 +109,7 @@ past [] t h = refl
 past (x ∷ tickets) zero h = absurd (omega arith)
 past (x ∷ tickets) (suc t) h = past tickets t (omega arith)
 
-as_long : (tickets : List (Option Request)) (t : ℕ) → length (slice_set tickets t None) ≡ length tickets
+pub as_long : (tickets : List (Option Request)) (t : ℕ) → length (slice_set tickets t None) ≡ length tickets
 as_long [] t = refl
 as_long (x ∷ tickets) zero = refl
 as_long (x ∷ tickets) (suc t) = ap suc (as_long tickets t)
@@ -126,15 +126,15 @@ from_drop (x ∷ xs) (suc n) k e h = let same : suc (n + k) ≡ suc n + k = omeg
 
 -- tickets
 
-begin_tickets : (s : State) (r d : ℕ) → (state.next s (Step (Begin r d))).cluster.tickets ≡ s.cluster.tickets ++ Some (record { rank = r; dir = d }) ∷ []
+pub begin_tickets : (s : State) (r d : ℕ) → (state.next s (Step (Begin r d))).cluster.tickets ≡ s.cluster.tickets ++ Some (record { rank = r; dir = d }) ∷ []
 unfolding state.happens machine.happens
 begin_tickets s r d = refl
 
-begin_reply : (s : State) (r d : ℕ) → (state.happens s (Step (Begin r d))).reply ≡ answer.Reply (Ticket (length s.cluster.tickets))
+pub begin_reply : (s : State) (r d : ℕ) → (state.happens s (Step (Begin r d))).reply ≡ answer.Reply (Ticket (length s.cluster.tickets))
 unfolding state.happens machine.happens
 begin_reply s r d = refl
 
-deposit_tickets : (s : State) (hits : List (ℕ × ℕ)) → (state.next s (Deposit hits)).cluster.tickets ≡ s.cluster.tickets
+pub deposit_tickets : (s : State) (hits : List (ℕ × ℕ)) → (state.next s (Deposit hits)).cluster.tickets ≡ s.cluster.tickets
 unfolding state.happens
 deposit_tickets s hits = refl
 
@@ -215,6 +215,6 @@ over_more initial old new first number found more grown told ended stays over k 
     ]
 
 -- of two tellings, one is handed on
-pub either_met : (before : World) (first second told : Result Unit BoardError) → (told ≡ first) ⊎ (told ≡ second) → IsEndMet before first → IsEndMet before second → IsEndMet before told
-either_met before first second told (inl is) one two = subst (λ (r : Result Unit BoardError). IsEndMet before r) (sym is) one
-either_met before first second told (inr is) one two = subst (λ (r : Result Unit BoardError). IsEndMet before r) (sym is) two
+pub either_met : (before : World) (log : List Entry) (first second told : Result Unit BoardError) → (told ≡ first) ⊎ (told ≡ second) → IsEndMet before log first → IsEndMet before log second → IsEndMet before log told
+either_met before log first second told (inl is) one two = subst (λ (r : Result Unit BoardError). IsEndMet before log r) (sym is) one
+either_met before log first second told (inr is) one two = subst (λ (r : Result Unit BoardError). IsEndMet before log r) (sym is) two

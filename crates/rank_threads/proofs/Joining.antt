@@ -1,14 +1,19 @@
 -- Ranks are asked from the last one on, and joined from the first one on.
-use Rattle.std.proofs.Common.{◌≡◌, ℕ, ◌+◌, List, [], ◌∷◌, ◌++◌, length, map, Vec, Global, refl, sym, ap, arith, ◌∙◌, subst, append-nil, append_assoc, length-append, Result, Ok, Err}
+use Rattle.std.proofs.Common.{◌≡◌, ℕ, ◌+◌, List, [], ◌∷◌, ◌++◌, length, map, Vec, Global, refl, sym, ap, arith, ◌∙◌, subst, append-nil, append_assoc, length-append, Result, Ok, Err, inl, inr, ◌⊎◌}
 use Rattle.std.specs.Prelude.{IsOk}
+use mathlib.Core.List.{IsPrefix}
 use Rattle.board_state.specs.declared.board_error.BoardError.{BoardError}
 use Rattle.heat_ledger.specs.Ledger.{ShareData}
+use Rattle.mds_board.specs.declared.entry.Entry.{Entry}
 use Rattle.mds_board.specs.History.{World}
 use Rattle.rank_threads.specs.declared.work.Work.{Work}
 use Rattle.rank_threads.specs.declared.work.WorkAnswer.{WorkAnswer}
 use Rattle.rank_threads.specs.Answered.{AreAnswered, IsDepositTold, IsRankAnswered, IsRankServed}
 use Rattle.rank_threads.specs.Asking.{Asking, askings}
 use Rattle.rank_threads.specs.Serving.{AreReturned, IsDeposited}
+use Rattle.rank_threads.specs.Tickets.{AreApart, all_tickets}
+use Rattle.rank_threads.proofs.Given.{apart_more}
+use Rattle.rank_threads.proofs.Later.{all_later, rank_later}
 use Rattle.rank_threads.proofs.Returning.{answered_last, returned, returned_last}
 
 module _ {A : Type 0} where
@@ -110,7 +115,7 @@ none_left rank (s ∷ shares) [] e h = absurd (cc)
 none_left rank (s ∷ shares) (w ∷ scripts) e h = absurd (no_snoc (askings (rank + 1) shares scripts) (record { rank = rank; share = s; script = w }) h)
 
 -- the first ranks have answered, and these are left
-pub record AreJoinedBut (limit : ℕ) (before : World) (shares : List ShareData) (scripts : List (List Work)) (asked : List Asking)
+pub record AreJoinedBut (limit : ℕ) (before : World) (log : List Entry) (shares : List ShareData) (scripts : List (List Work)) (asked : List Asking)
     (answers : List (List WorkAnswer)) (after : List ShareData) : Type 0 where
   pub first_shares : List ShareData
   pub more_shares : List ShareData
@@ -121,11 +126,12 @@ pub record AreJoinedBut (limit : ℕ) (before : World) (shares : List ShareData)
   pub equal : length more_shares ≡ length more_scripts
   pub left : asked ≡ askings (length first_scripts) more_shares more_scripts
   pub returned : AreReturned limit first_shares first_scripts answers after
-  pub answered : AreAnswered before 0 first_scripts answers
+  pub answered : AreAnswered before log 0 first_scripts answers
+  pub apart : AreApart (all_tickets answers)
 
-pub none_joined : (limit : ℕ) (before : World) (shares : List ShareData) (scripts : List (List Work)) (asked : List Asking) → length shares ≡ length scripts
-    → asked ≡ askings 0 shares scripts → AreJoinedBut limit before shares scripts asked [] []
-none_joined limit before shares scripts asked e h = record {
+pub none_joined : (limit : ℕ) (before : World) (log : List Entry) (shares : List ShareData) (scripts : List (List Work)) (asked : List Asking) → length shares ≡ length scripts
+    → asked ≡ askings 0 shares scripts → AreJoinedBut limit before log shares scripts asked [] []
+none_joined limit before log shares scripts asked e h = record {
   first_shares = [];
   more_shares = shares;
   first_scripts = [];
@@ -136,18 +142,22 @@ none_joined limit before shares scripts asked e h = record {
   left = h;
   returned = tt;
   answered = tt;
+  apart = tt;
 }
 
-pub one_joined : (limit : ℕ) (before : World) (shares : List ShareData) (scripts : List (List Work)) (asked rest : List Asking) (it : Asking)
+pub one_joined : (limit : ℕ) (before : World) (log of_rank longer : List Entry) (shares : List ShareData) (scripts : List (List Work)) (asked rest : List Asking) (it : Asking)
     (answers : List (List WorkAnswer)) (given : List WorkAnswer) (after : List ShareData) (mid last : ShareData)
-    → AreJoinedBut limit before shares scripts asked answers after → asked ≡ rest ++ it ∷ []
-    → IsRankServed limit before it.rank it.share it.script given mid → IsDeposited mid last
-    → AreJoinedBut limit before shares scripts rest (answers ++ given ∷ []) (after ++ last ∷ [])
-one_joined limit before shares scripts asked rest it answers given after mid last h is served deposited =
+    → AreJoinedBut limit before log shares scripts asked answers after → asked ≡ rest ++ it ∷ []
+    → IsRankServed limit before of_rank it.rank it.share it.script given mid → IsDeposited mid last
+    → IsPrefix log longer × IsPrefix of_rank longer
+    → AreJoinedBut limit before longer shares scripts rest (answers ++ given ∷ []) (after ++ last ∷ [])
+one_joined limit before log of_rank longer shares scripts asked rest it answers given after mid last h is served deposited seen =
     let n = next_asking (length h.first_scripts) h.more_shares h.more_scripts rest it h.equal (sym h.left ∙ is) in
     let long = length-append h.first_scripts (it.script ∷ []) in
     let size : length h.first_scripts + 1 ≡ length (h.first_scripts ++ it.script ∷ []) = omega (arith, long) in
     let at : it.rank ≡ 0 + length h.first_scripts = let r = n.rank_is in omega (arith, r) in
+    let earlier = all_later before log longer 0 h.first_scripts answers seen.0 h.answered in
+    let newest = rank_later before of_rank longer it.rank it.script given seen.1 served.answered in
     record {
       first_shares = h.first_shares ++ it.share ∷ [];
       more_shares = n.more_shares;
@@ -159,24 +169,31 @@ one_joined limit before shares scripts asked rest it answers given after mid las
       left = n.left ∙ ap (λ (r : ℕ). askings r n.more_shares n.more_scripts) size;
       returned = returned_last limit h.first_shares h.first_scripts answers after it.share it.script given last h.returned
           (returned limit it.share mid last it.script given served.served deposited);
-      answered = answered_last before 0 h.first_scripts answers it.script given h.answered
-          (subst (λ (r : ℕ). IsRankAnswered before r it.script given) at served.answered);
+      answered = answered_last before longer 0 h.first_scripts answers it.script given earlier
+          (subst (λ (r : ℕ). IsRankAnswered before longer r it.script given) at newest);
+      apart = apart_more before longer h.first_scripts answers it.script given earlier (subst (λ (r : ℕ). IsRankAnswered before longer r it.script given) n.rank_is newest) h.apart served.apart;
     }
 
-pub all_joined : (limit : ℕ) (before : World) (shares : List ShareData) (scripts : List (List Work)) (asked : List Asking) (answers : List (List WorkAnswer))
-    (after : List ShareData) → AreJoinedBut limit before shares scripts asked answers after → length asked ≡ 0
-    → AreReturned limit shares scripts answers after × AreAnswered before 0 scripts answers
-all_joined limit before shares scripts asked answers after h few =
+pub all_joined : (limit : ℕ) (before : World) (log : List Entry) (shares : List ShareData) (scripts : List (List Work)) (asked : List Asking) (answers : List (List WorkAnswer))
+    (after : List ShareData) → AreJoinedBut limit before log shares scripts asked answers after → length asked ≡ 0
+    → AreReturned limit shares scripts answers after × AreAnswered before log 0 scripts answers
+all_joined limit before log shares scripts asked answers after h few =
     let none = none_of asked few in
     let gone = none_left (length h.first_scripts) h.more_shares h.more_scripts h.equal (sym none ∙ h.left) in
     let ss : shares ≡ h.first_shares = h.shares_are ∙ (ap (λ (l : List ShareData). h.first_shares ++ l) gone.0 ∙ append-nil h.first_shares) in
     let ws : scripts ≡ h.first_scripts = h.scripts_are ∙ (ap (λ (l : List (List Work)). h.first_scripts ++ l) gone.1 ∙ append-nil h.first_scripts) in (
       subst (λ (l : List (List Work)). AreReturned limit shares l answers after) (sym ws)
           (subst (λ (l : List ShareData). AreReturned limit l h.first_scripts answers after) (sym ss) h.returned),
-      subst (λ (l : List (List Work)). AreAnswered before 0 l answers) (sym ws) h.answered,
+      subst (λ (l : List (List Work)). AreAnswered before log 0 l answers) (sym ws) h.answered,
     )
 
 -- all was deposited
-pub told_done : (before : World) (deposited : Result Unit BoardError) → IsOk deposited → IsDepositTold before deposited
-told_done before (Ok done) h = tt
-told_done before (Err error) h = absurd (cc)
+pub told_done : (before : World) (log : List Entry) (deposited : Result Unit BoardError) → IsOk deposited → IsDepositTold before log deposited
+told_done before log (Ok done) h = tt
+told_done before log (Err error) h = absurd (cc)
+
+-- of two tellings, one is handed on
+pub either_told : (before : World) (log : List Entry) (first second told : Result Unit BoardError) → (told ≡ first) ⊎ (told ≡ second) → IsDepositTold before log first → IsDepositTold before log second
+    → IsDepositTold before log told
+either_told before log first second told (inl is) one two = subst (λ (r : Result Unit BoardError). IsDepositTold before log r) (sym is) one
+either_told before log first second told (inr is) one two = subst (λ (r : Result Unit BoardError). IsDepositTold before log r) (sym is) two

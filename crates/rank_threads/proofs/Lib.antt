@@ -1,6 +1,9 @@
 pub mod Counting
 pub mod Ended
+pub mod Full
+pub mod Given
 pub mod GoingOn
 pub mod Joining
+pub mod Later
 pub mod Returning
 pub mod Summing

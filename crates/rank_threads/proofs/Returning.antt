@@ -5,6 +5,7 @@ use Rattle.std.proofs.lemmas.List.Elements.{All-push}
 use Rattle.heat_ledger.specs.declared.hit_error.HitError.TheVariants as hit
 use Rattle.heat_ledger.specs.Ledger.{ShareData, IsClean}
 use Rattle.heat_ledger.specs.Rows.{at}
+use Rattle.mds_board.specs.declared.entry.Entry.{Entry}
 use Rattle.mds_board.specs.History.{World}
 use Rattle.rank_threads.specs.declared.work.Work.{Work}
 use Rattle.rank_threads.specs.declared.work.WorkAnswer.{WorkAnswer}
@@ -88,13 +89,13 @@ module _ {A B : Type 0} (R : A → B → Type 0) where
   zip_length (v ∷ xs) (w ∷ ys) all = ap (λ n. suc n) (zip_length xs ys all.1)
 
 -- the answers of one rank more
-pub answered_last : (before : World) (first : ℕ) (scripts : List (List Work)) (answers : List (List WorkAnswer)) (works : List Work) (given : List WorkAnswer)
-    → AreAnswered before first scripts answers → IsRankAnswered before (first + length scripts) works given
-    → AreAnswered before first (scripts ++ works ∷ []) (answers ++ given ∷ [])
-answered_last before first [] [] works given all last =
-    let same : first + 0 ≡ first = omega arith in (subst (λ (r : ℕ). IsRankAnswered before r works given) same last, tt)
-answered_last before first [] (a ∷ answers) works given all last = absurd all
-answered_last before first (w ∷ scripts) [] works given all last = absurd all
-answered_last before first (w ∷ scripts) (a ∷ answers) works given all last =
+pub answered_last : (before : World) (log : List Entry) (first : ℕ) (scripts : List (List Work)) (answers : List (List WorkAnswer)) (works : List Work) (given : List WorkAnswer)
+    → AreAnswered before log first scripts answers → IsRankAnswered before log (first + length scripts) works given
+    → AreAnswered before log first (scripts ++ works ∷ []) (answers ++ given ∷ [])
+answered_last before log first [] [] works given all last =
+    let same : first + 0 ≡ first = omega arith in (subst (λ (r : ℕ). IsRankAnswered before log r works given) same last, tt)
+answered_last before log first [] (a ∷ answers) works given all last = absurd all
+answered_last before log first (w ∷ scripts) [] works given all last = absurd all
+answered_last before log first (w ∷ scripts) (a ∷ answers) works given all last =
     let same : first + suc (length scripts) ≡ first + 1 + length scripts = omega arith in
-    (all.0, answered_last before (first + 1) scripts answers works given all.1 (subst (λ (r : ℕ). IsRankAnswered before r works given) same last))
+    (all.0, answered_last before log (first + 1) scripts answers works given all.1 (subst (λ (r : ℕ). IsRankAnswered before log r works given) same last))

@@ -4,11 +4,13 @@ use Rattle.std.specs.List.{All, AllZip}
 use Rattle.std.specs.Prelude.{◌≡◌, ◌≤◌, ℕ, ◌+◌, List, [], ◌∷◌, ◌++◌, length, Result, IsOk, Vec, vec_len, vec_capacity}
 use Rattle.board_state.specs.declared.board_error.BoardError.{BoardError}
 use Rattle.heat_ledger.specs.Ledger.{IsClean, ShareData}
+use Rattle.mds_board.specs.declared.entry.Entry.{Entry}
 use Rattle.mds_board.specs.History.{World}
 use Rattle.rank_threads.specs.declared.work.Work.{Work}
 use Rattle.rank_threads.specs.declared.work.WorkAnswer.{WorkAnswer}
 use Rattle.rank_threads.specs.Answered.{AreAnswered, IsDepositTold}
 use Rattle.rank_threads.specs.Serving.{AreReturned}
+use Rattle.rank_threads.specs.Tickets.{AreApart, all_tickets}
 
 -- a rank, the share that it has, and its script
 pub record Asking : Type 0 where
@@ -37,9 +39,11 @@ pub record AreLaid (scripts : List (Vec Work Global)) (shares : Vec ShareData Gl
   pub place : length scripts ≤ vec_capacity asked
 
 -- All ranks have answered, and their shares deposited their hits, or a deposit was refused so.
-pub record AreJoined (limit : ℕ) (before : World) (shares : List ShareData) (scripts : List (List Work))
-    (answers : List (List WorkAnswer)) (after : List ShareData) (deposited : Result Unit BoardError) : Type 0 where
+pub record AreJoined (limit : ℕ) (before : World) (log : List Entry) (shares : List ShareData)
+    (scripts : List (List Work)) (answers : List (List WorkAnswer)) (after : List ShareData)
+    (deposited : Result Unit BoardError) : Type 0 where
   pub returned : AreReturned limit shares scripts answers after
-  pub answered : AreAnswered before 0 scripts answers
+  pub answered : AreAnswered before log 0 scripts answers
+  pub apart : AreApart (all_tickets answers)
   pub clean : IsOk deposited → All (λ s. IsClean s) after
-  pub told : IsDepositTold before deposited
+  pub told : IsDepositTold before log deposited

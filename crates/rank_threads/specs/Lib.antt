@@ -3,4 +3,5 @@ pub mod Asking
 pub mod Going
 pub mod Refused
 pub mod Serving
+pub mod Tickets
 pub mod Totals

@@ -6,21 +6,25 @@ ghost use Rattle.export_machine.specs.Step.{refusal};
 ghost use Rattle.mds_board.specs.History.{IsAnswer};
 ghost use Rattle.mds_board.specs.Promises.{IsKept};
 ghost use Rattle.rank_threads.specs.Answered.{IsBegun, IsMet};
+ghost use Rattle.rank_threads.specs.Tickets.{IsGivenBetween};
+ghost use mathlib.Core.List.{IsPrefix};
 ghost use Rattle.rank_threads.specs.Going.{WentOn};
 
 use authority_map::Publisher;
 use board_state::{Answer, BoardError, Change};
 use export_machine::{Event, Reply, StepError};
 use heat_ledger::Share;
-use mds_board::Board;
+use mds_board::{Board, Entry};
 use mds_types::{Dir, Rank};
 use naming::Naming;
+use seen_log::{Log, LogName, NewLog, Seen};
 use std::alloc::Global;
 use std::marker::{Brand, Model, PhantomData};
 use std::sync::{Mutex, MutexGuard, Wait};
 
-/// Names the board with which a phase begins. It exists in proofs alone, and a phase picks it.
-pub trait Phase {
+/// Names the board with which a phase begins, and the log of what happens to it. It exists in proofs only, and a phase
+/// picks it.
+pub trait Phase: LogName {
     ghost use Rattle.mds_board.specs.History.{World};
 
     ghost before: { World };
@@ -36,44 +40,56 @@ impl Phase for Brand {
 /// all that a thread can do to it.
 pub struct Phased<J: Naming, M: Publisher<J>, K: Phase> {
     board: Board<J, M>,
+    log: Log<Entry, K>,
     of: PhantomData<K>,
 }
 
 impl<J: Naming, M: Publisher<J>, K: Phase> Model for Phased<J, M, K> {
     ghost use Rattle.mds_board.specs.History.{World};
+    ghost use Rattle.std.specs.Prelude.{◌≡◌};
     ghost use Rattle.rank_threads.specs.Going.{WentOn};
 
     ghost Value = { World };
 
     ghost view = { λ p. p.board };
 
-    ghost invariant = { λ p. WentOn K.before p.board };
+    ghost invariant = { λ p. WentOn K.before p.board × (p.log ≡ p.board.history) };
 }
 
 impl<J: Naming, M: Publisher<J>, K: Phase> Phased<J, M, K> {
-    /// A request on a directory begins at a rank, and is counted in a share. It answers the ticket.
-    #[tactic(auto, unfolding(board_state::specs::State::happens, export_machine::specs::Step::happens))]
-    pub fn begin(&mut self, share: &mut Share<J>, rank: Rank, dir: Dir) -> Result<u32, BoardError>
+    /// A request on a directory begins at a rank, and is counted in a share. It answers the ticket. The thread has then
+    /// seen the board's history.
+    pub fn begin(
+        &mut self,
+        seen: &mut Seen<Entry, K>,
+        share: &mut Share<J>,
+        rank: Rank,
+        dir: Dir,
+    ) -> Result<u32, BoardError>
         ensures answer { IsAnswer self.old (Change.Step (Event.Begin rank dir))
             (spelled (λ ticket. Answer.Reply (Reply.Ticket ticket)) result) self.new }
-        ensures begun { IfOk result (λ ticket. IsBegun K.before rank dir ticket) }
-        ensures refused { IfErr result (λ error. IsMet K.before (Change.Step (Event.Begin rank dir)) error) }
+        ensures begun { IfOk result (λ ticket. IsBegun K.before seen.new rank dir ticket) }
+        ensures given { IfOk result (λ ticket. IsGivenBetween K.before seen.old ticket seen.new) }
+        ensures refused { IfErr result (λ error. IsMet K.before seen.new (Change.Step (Event.Begin rank dir)) error) }
+        ensures seen { IsPrefix seen.old seen.new }
         ensures share { OnOk result (share.new ≡ record share.old { begun = raised share.old.begun dir }) }
         ensures unchanged { OnErr result (share.new ≡ share.old) }
     {
-        match self.board.begin(share, rank, dir) {
-            Ok(Reply::Ticket(ticket)) => Ok(ticket),
-            Ok(_) => unreachable!(),
-            Err(error) => Err(error),
-        }
+        self.log.show(seen);
+        let begun = begin(&mut self.board, share, rank, dir);
+        tell(&self.board, &mut self.log, seen);
+        begun
     }
 
     /// A request ends: its ticket is given back.
     pub fn end(&mut self, alloc: Global, ticket: u32) -> Result<Reply, BoardError>
         ensures answer { IsAnswer self.old (Change.Step (Event.End ticket)) (spelled Answer.Reply result) self.new }
-        ensures refused { IfErr result (λ error. IsMet K.before (Change.Step (Event.End ticket)) error) }
+        ensures refused { IfErr result (λ error. IsMet K.before self.new.history (Change.Step (Event.End ticket))
+            error) }
     {
-        self.board.step(alloc, Event::End(ticket))
+        let ended = self.board.step(alloc, Event::End(ticket));
+        note(&self.board, &mut self.log);
+        ended
     }
 
     /// Whether no request with this ticket runs any more, as far as the cluster says: at its limit of events it
@@ -85,16 +101,45 @@ impl<J: Naming, M: Publisher<J>, K: Phase> Phased<J, M, K> {
         matches!(refused, Err(StepError::NoTicket))
     }
 
-    /// Counts the hits that a share has pending.
-    pub fn deposit(&mut self, alloc: Global, share: &mut Share<J>) -> Result<(), BoardError>
+    /// Counts the hits that a share has pending. The thread has then seen the board's history, which goes on from what
+    /// the rank's thread has seen.
+    pub fn deposit(
+        &mut self,
+        alloc: Global,
+        seen: &mut Seen<Entry, K>,
+        of_rank: Seen<Entry, K>,
+        share: &mut Share<J>,
+    ) -> Result<(), BoardError>
         ensures answer { IsAnswer self.old (Change.Deposit (counted_rows share.old.pending))
             (spelled (λ _. Answer.Done) result) self.new }
-        ensures refused { IfErr result (λ error. IsMet K.before (Change.Deposit (counted_rows share.old.pending))
-            error) }
+        ensures refused { IfErr result (λ error. IsMet K.before seen.new
+            (Change.Deposit (counted_rows share.old.pending)) error) }
+        ensures seen { IsPrefix seen.old seen.new × IsPrefix of_rank seen.new }
         ensures share { OnOk result (share.new ≡ record share.old { pending = replicate J.limit 0 }) }
         ensures unchanged { OnErr result (share.new ≡ share.old) }
     {
-        self.board.deposit(alloc, share)
+        let deposited = self.board.deposit(alloc, share);
+        let mut of_rank = of_rank;
+        tell(&self.board, &mut self.log, &mut of_rank);
+        tell(&self.board, &mut self.log, seen);
+        deposited
+    }
+
+    /// What a thread knows that has seen the board's history.
+    pub fn seen(&mut self) -> Seen<Entry, K>
+        ensures seen { result ≡ self.old.history }
+        ensures same { self.new ≡ self.old }
+    {
+        self.log.seen()
+    }
+
+    /// The board's history goes on from what a thread has seen. It does nothing.
+    pub fn compare(&mut self, seen: Seen<Entry, K>)
+        ensures before { IsPrefix seen self.old.history }
+        ensures same { self.new ≡ self.old }
+    {
+        let mut seen = seen;
+        self.log.show(&mut seen);
     }
 
     /// What holds of the board each time that it is found under the lock: what holds of every board, and that it has
@@ -118,9 +163,56 @@ impl<J: Naming, M: Publisher<J>, K: Phase> Phased<J, M, K> {
         ensures same { result ≡ self }
         ensures went { WentOn K.before result }
     {
-        let Phased { board, of: _of } = self;
+        let Phased {
+            board,
+            log: _log,
+            of: _of,
+        } = self;
         board
     }
+}
+
+// A request begins. It answers the ticket.
+#[tactic(auto, unfolding(board_state::specs::State::happens, export_machine::specs::Step::happens))]
+fn begin<J: Naming, M: Publisher<J>>(
+    board: &mut Board<J, M>,
+    share: &mut Share<J>,
+    rank: Rank,
+    dir: Dir,
+) -> Result<u32, BoardError>
+    ensures answer { IsAnswer board.old (Change.Step (Event.Begin rank dir))
+        (spelled (λ ticket. Answer.Reply (Reply.Ticket ticket)) result) board.new }
+    ensures share { OnOk result (share.new ≡ record share.old { begun = raised share.old.begun dir }) }
+    ensures unchanged { OnErr result (share.new ≡ share.old) }
+{
+    match board.begin(share, rank, dir) {
+        Ok(Reply::Ticket(ticket)) => Ok(ticket),
+        Ok(_) => unreachable!(),
+        Err(error) => Err(error),
+    }
+}
+
+// The log goes on to the board's history.
+fn note<J: Naming, M: Publisher<J>, K: Phase>(board: &Board<J, M>, log: &mut Log<Entry, K>)
+    requires { IsPrefix log.old board.now.history }
+    ensures { log.new ≡ board.now.history }
+{
+    log.grow::<Brand, Board<J, M>>(board);
+}
+
+// The log goes on to the board's history, and is shown to a thread.
+fn tell<J: Naming, M: Publisher<J>, K: Phase>(
+    board: &Board<J, M>,
+    log: &mut Log<Entry, K>,
+    seen: &mut Seen<Entry, K>,
+)
+    requires { IsPrefix log.old board.now.history }
+    ensures log { log.new ≡ board.now.history }
+    ensures seen { seen.new ≡ board.now.history }
+    ensures before { IsPrefix seen.old board.now.history }
+{
+    note(board, log);
+    log.show(seen);
 }
 
 /// One board for the threads of a phase, of whom one at a time has it.
@@ -130,12 +222,16 @@ pub struct BoardCell<J: Naming, M: Publisher<J>, K: Phase> {
 
 impl<J: Naming, M: Publisher<J>, K: Phase> BoardCell<J, M, K> {
     /// Lays the board under the lock with which the phase begins.
-    pub fn new(board: Board<J, M>) -> BoardCell<J, M, K>
-        requires { board ≡ K.before }
+    pub fn new(board: Board<J, M>, log: NewLog<Entry>) -> BoardCell<J, M, K>
+        requires board { board ≡ K.before }
+        requires log { log ≡ K.log }
     {
+        let mut log = log.named::<K>();
+        note(&board, &mut log);
         BoardCell {
             board: Mutex::new(Phased {
                 board,
+                log,
                 of: PhantomData,
             }),
         }

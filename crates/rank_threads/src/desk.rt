@@ -8,8 +8,10 @@ use crate::work::{Work, WorkAnswer};
 use authority_map::Publisher;
 use export_threads::Gate;
 use heat_ledger::Share;
+use mds_board::Entry;
 use mds_types::Rank;
 use naming::Naming;
+use seen_log::Seen;
 use std::alloc::Global;
 use std::marker::{Model, PhantomData, Send, Sync};
 use std::snapshot::Snapshot;
@@ -17,11 +19,19 @@ use std::sync::Wait;
 use std::sync::atomic::{AtomicU64, Ordering};
 use std::thread::{Promise, PromisedHandle, Scope, Threads};
 
-/// A rank's share, with the answers to its requests.
+/// A rank's share, with room for the answers to its requests.
 #[derive(Drop)]
 pub(crate) struct Desk<J: Naming> {
     pub(crate) share: Share<J>,
     pub(crate) answers: Vec<WorkAnswer>,
+}
+
+/// A rank's share, with the answers to its requests, and what the rank's thread has seen of the board in the phase `K`.
+#[derive(Drop)]
+pub(crate) struct Done<J: Naming, K: Phase> {
+    pub(crate) share: Share<J>,
+    pub(crate) answers: Vec<WorkAnswer>,
+    pub(crate) seen: Seen<Entry, K>,
 }
 
 // What a thread makes of a desk: the share that it had, and the rank and its script, in the phase `K`.
@@ -33,11 +43,11 @@ struct Served<J: Naming, K: Phase> {
     of: PhantomData<K>,
 }
 
-impl<J: Naming, K: Phase> Promise<Desk<J>> for Served<J, K> {
+impl<J: Naming, K: Phase> Promise<Done<J, K>> for Served<J, K> {
     ghost use Rattle.rank_threads.specs.Answered.{IsRankServed};
 
-    ghost kept_by = { λ p desk. IsRankServed J.limit K.before p.rank p.share.value p.script.value.items
-        desk.answers.items desk.share };
+    ghost kept_by = { λ p done. IsRankServed J.limit K.before done.seen p.rank p.share.value p.script.value.items
+        done.answers.items done.share };
 }
 
 /// A rank that was asked to serve its requests. A contract sees the rank, and its share and its script before.
@@ -46,8 +56,8 @@ pub(crate) struct Asked<J: Naming, K: Phase> {
     rank: Rank,
     share: Snapshot<Share<J>>,
     script: Snapshot<Vec<Work>>,
-    // the rank's thread, or its desk where it has none
-    desk: Result<PromisedHandle<Desk<J>, Served<J, K>>, Desk<J>>,
+    // the rank's thread, or what was done where it has none
+    done: Result<PromisedHandle<Done<J, K>, Served<J, K>>, Done<J, K>>,
 }
 
 impl<J: Naming, K: Phase> Model for Asked<J, K> {
@@ -59,26 +69,27 @@ impl<J: Naming, K: Phase> Model for Asked<J, K> {
 
     ghost view = { λ a. record { rank = a.rank; share = a.share.value; script = a.script.value.items } };
 
-    ghost invariant = { λ a. IfOk a.desk (λ child. (child.promise.rank ≡ a.rank)
+    ghost invariant = { λ a. IfOk a.done (λ child. (child.promise.rank ≡ a.rank)
         × (child.promise.share.value ≡ a.share.value) × (child.promise.script.value ≡ a.script.value))
-        × IfErr a.desk (λ desk. IsRankServed J.limit K.before a.rank a.share.value a.script.value.items
-        desk.answers.items desk.share) };
+        × IfErr a.done (λ done. IsRankServed J.limit K.before done.seen a.rank a.share.value a.script.value.items
+        done.answers.items done.share) };
 }
 
 impl<J: Naming, K: Phase> Asked<J, K> {
-    /// Waits for the rank's thread, if it has one, and gives its desk.
-    pub(crate) fn join<R: Threads>(self, rt: &R) -> Desk<J>
-        ensures { IsRankServed J.limit K.before self.rank self.share self.script result.answers.items result.share }
+    /// Waits for the rank's thread, if it has one, and gives what was done.
+    pub(crate) fn join<R: Threads>(self, rt: &R) -> Done<J, K>
+        ensures { IsRankServed J.limit K.before result.seen self.rank self.share self.script result.answers.items
+            result.share }
     {
         let Asked {
             rank: _rank,
             share: _share,
             script: _script,
-            desk,
+            done,
         } = self;
-        match desk {
+        match done {
             Ok(child) => child.join(rt),
-            Err(desk) => desk,
+            Err(done) => done,
         }
     }
 }
@@ -113,15 +124,17 @@ impl<
     }
 
     // Serves the requests of a rank, or refuses them where it has no thread.
-    fn serve(&self, rank: Rank, script: &Vec<Work>, desk: Desk<J>) -> Desk<J>
+    fn serve(&self, rank: Rank, script: &Vec<Work>, desk: Desk<J>) -> Done<J, K>
         requires empty { desk.answers.items ≡ [] }
         requires room { length script.now.items ≤ vec_capacity desk.answers }
-        ensures { IsRankServed J.limit K.before rank desk.share script.now.items result.answers.items result.share }
+        ensures { IsRankServed J.limit K.before result.seen rank desk.share script.now.items result.answers.items
+            result.share }
     {
         let Desk {
             mut share,
             mut answers,
         } = desk;
+        let mut seen = self.cell.lock(self.rt).seen();
         let has_thread = self.refused.load(Ordering::SeqCst) != u64::from(rank.number());
         serve_script(
             self.rt,
@@ -131,10 +144,15 @@ impl<
             has_thread,
             rank,
             script,
+            &mut seen,
             &mut share,
             &mut answers,
         );
-        Desk { share, answers }
+        Done {
+            share,
+            answers,
+            seen,
+        }
     }
 
     // Serves the requests of a rank by a thread of its own. Where there is none they are refused.
@@ -144,12 +162,12 @@ impl<
         rank: Rank,
         script: &'s Vec<Work>,
         desk: Desk<J>,
-    ) -> Result<PromisedHandle<Desk<J>, Served<J, K>>, Desk<J>>
+    ) -> Result<PromisedHandle<Done<J, K>, Served<J, K>>, Done<J, K>>
         requires empty { desk.answers.items ≡ [] }
         requires room { length script.now.items ≤ vec_capacity desk.answers }
         ensures child { IfOk result (λ child. (child.promise.rank ≡ rank) × (child.promise.share.value ≡ desk.share)
             × (child.promise.script.value ≡ script.now)) }
-        ensures desk { IfErr result (λ done. IsRankServed J.limit K.before rank desk.share script.now.items
+        ensures done { IfErr result (λ done. IsRankServed J.limit K.before done.seen rank desk.share script.now.items
             done.answers.items done.share) }
     {
         let promise = Served::<J, K> {
@@ -158,10 +176,10 @@ impl<
             rank,
             of: PhantomData,
         };
-        let served = move || -> Desk<J>
+        let served = move || -> Done<J, K>
             requires { (desk.answers.items ≡ []) × (length script.now.items ≤ vec_capacity desk.answers) }
-            ensures { IsRankServed J.limit K.before rank desk.share script.entry.now.items result.answers.items
-                result.share }
+            ensures { IsRankServed J.limit K.before result.seen rank desk.share script.entry.now.items
+                result.answers.items result.share }
         { self.serve(rank, script, desk) };
         match scope.spawn_with(promise, served) {
             Ok(child) => Ok(child),
@@ -188,8 +206,8 @@ impl<
     {
         let share = Snapshot::of(&desk.share);
         let kept = Snapshot::of(script);
-        let desk = if script.is_empty() {
-            Err(desk)
+        let done = if script.is_empty() {
+            Err(self.serve(rank, script, desk))
         } else {
             self.spawn(scope, rank, script, desk)
         };
@@ -197,7 +215,7 @@ impl<
             rank,
             share,
             script: kept,
-            desk,
+            done,
         }
     }
 }

@@ -50,7 +50,7 @@ impl<J: Naming, M: Publisher<J>, K: Phase> Phased<J, M, K> {
         ensures ended { IsOk result → request_of self.new.state.cluster ticket ≡ None }
         ensures others { (t : ℕ) → request_of self.old.state.cluster t ≡ None
             → request_of self.new.state.cluster t ≡ None }
-        ensures refused { IsEndMet K.before result }
+        ensures refused { IsEndMet K.before self.new.history result }
         ensures history { (more : List Entry) × (self.new.history ≡ self.old.history ++ more) }
     {
         if self.has_ended(ticket) {

@@ -9,6 +9,7 @@
 pub mod board_cell;
 mod desk;
 mod ending;
+pub mod laws;
 pub mod phase;
 mod serving;
 pub mod totals;

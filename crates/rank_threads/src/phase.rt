@@ -8,18 +8,21 @@ ghost use Rattle.rank_threads.specs.Answered.{AreAnswered, IsDepositTold, IsEndT
 ghost use Rattle.rank_threads.specs.Asking.{AreJoined, AreLaid, IsRoomFor, askings};
 ghost use Rattle.rank_threads.specs.Going.{WentOn};
 ghost use Rattle.rank_threads.specs.Serving.{AreReturned, IsDeposited};
+ghost use Rattle.rank_threads.specs.Tickets.{AreApart, all_tickets};
+ghost use mathlib.Core.List.{IsPrefix};
 
 use crate::board_cell::{BoardCell, Phase};
-use crate::desk::{Asked, Desk, Serving};
+use crate::desk::{Asked, Desk, Done, Serving};
 use crate::ending::first_refusal;
 use crate::work::{Work, WorkAnswer};
 use authority_map::Publisher;
 use board_state::BoardError;
 use export_threads::Gate;
 use heat_ledger::Share;
-use mds_board::Board;
+use mds_board::{Board, Entry};
 use mds_types::Rank;
 use naming::Naming;
+use seen_log::{NewLog, Seen};
 use std::alloc::{AllocError, AllocFailed, Global};
 use std::marker::{Brand, Send, Sync};
 use std::sync::Wait;
@@ -39,12 +42,13 @@ pub struct Ranks<J: Naming> {
     pub ended: Result<(), BoardError>,
 }
 
-// What the threads leave, of the ranks so far.
+// What the threads leave, of the ranks so far, and what was seen of the board.
 #[derive(Drop)]
-struct Joined<J: Naming> {
+struct Joined<J: Naming, K: Phase> {
     shares: Vec<Share<J>>,
     answers: Vec<Vec<WorkAnswer>>,
     deposited: Result<(), BoardError>,
+    seen: Seen<Entry, K>,
 }
 
 // The shares, room for the answers, and room for the ranks that are asked.
@@ -60,13 +64,16 @@ fn deposit<J: Naming, M: Publisher<J>, K: Phase, R: Wait>(
     rt: &R,
     alloc: Global,
     cell: &BoardCell<J, M, K>,
+    seen: &mut Seen<Entry, K>,
+    of_rank: Seen<Entry, K>,
     share: &mut Share<J>,
 ) -> Result<(), BoardError>
     ensures deposited { IsDeposited share.old share.new }
     ensures clean { IsOk result → IsClean share.new }
-    ensures told { IsDepositTold K.before result }
+    ensures told { IsDepositTold K.before seen.new result }
+    ensures seen { IsPrefix seen.old seen.new × IsPrefix of_rank seen.new }
 {
-    cell.lock(rt).deposit(alloc, share)
+    cell.lock(rt).deposit(alloc, seen, of_rank, share)
 }
 
 // Deposits the hits of a rank's share, and puts it behind those of the ranks before.
@@ -74,16 +81,18 @@ fn with_desk<J: Naming, M: Publisher<J>, K: Phase, R: Wait>(
     rt: &R,
     alloc: Global,
     cell: &BoardCell<J, M, K>,
-    ranks: Joined<J>,
-    desk: Desk<J>,
-) -> Joined<J>
+    ranks: Joined<J, K>,
+    done: Done<J, K>,
+) -> Joined<J, K>
     requires shares { vec_len ranks.shares < vec_capacity ranks.shares }
     requires answers { vec_len ranks.answers < vec_capacity ranks.answers }
-    ensures last { (last : ShareData) × IsDeposited desk.share last × (IsOk result.deposited → IsClean last)
+    ensures last { (last : ShareData) × IsDeposited done.share last × (IsOk result.deposited → IsClean last)
         × (result.shares.items ≡ ranks.shares.items ++ last ∷ []) }
-    ensures given { result.answers.items ≡ ranks.answers.items ++ desk.answers ∷ [] }
+    ensures given { result.answers.items ≡ ranks.answers.items ++ done.answers ∷ [] }
     ensures deposited { IsOk result.deposited → IsOk ranks.deposited }
-    ensures told { IsDepositTold K.before ranks.deposited → IsDepositTold K.before result.deposited }
+    ensures told { IsDepositTold K.before ranks.seen ranks.deposited → IsDepositTold K.before result.seen
+        result.deposited }
+    ensures seen { IsPrefix ranks.seen result.seen × IsPrefix done.seen result.seen }
     ensures shares { vec_capacity result.shares ≡ vec_capacity ranks.shares }
     ensures answers { vec_capacity result.answers ≡ vec_capacity ranks.answers }
 {
@@ -91,18 +100,21 @@ fn with_desk<J: Naming, M: Publisher<J>, K: Phase, R: Wait>(
         mut shares,
         mut answers,
         deposited,
+        mut seen,
     } = ranks;
-    let Desk {
+    let Done {
         mut share,
         answers: given,
-    } = desk;
-    let last = deposit(rt, alloc, cell, &mut share);
+        seen: of_rank,
+    } = done;
+    let last = deposit(rt, alloc, cell, &mut seen, of_rank, &mut share);
     shares.push_reserved(share);
     answers.push_reserved(given);
     Joined {
         shares,
         answers,
         deposited: first_refusal(deposited, last),
+        seen,
     }
 }
 
@@ -166,19 +178,19 @@ impl<
     }
 
     // Waits for each rank, from rank 0 on, and deposits its share's hits.
-    fn join_all(&self, asked: Vec<Asked<J, K>>, ranks: Joined<J>) -> Joined<J>
+    fn join_all(&self, asked: Vec<Asked<J, K>>, ranks: Joined<J, K>) -> Joined<J, K>
         requires none { (ranks.shares.items ≡ []) × (ranks.answers.items ≡ []) }
         requires deposited { IsOk ranks.deposited }
         requires room { (vec_len asked ≤ vec_capacity ranks.shares) × (vec_len asked ≤ vec_capacity ranks.answers) }
         ensures joined { (shares : List ShareData) (scripts : List (List TheWork)) → length shares ≡ length scripts
-            → asked.items ≡ askings 0 shares scripts → AreJoined J.limit K.before shares scripts
+            → asked.items ≡ askings 0 shares scripts → AreJoined J.limit K.before result.seen shares scripts
             (map (λ a. a.items) result.answers.items) result.shares.items result.deposited }
     {
         let mut asked = asked;
         let mut ranks = ranks;
         while let Some(rank) = asked.pop() {
-            let desk = rank.join(self.rt);
-            ranks = with_desk(self.rt, self.alloc, self.cell, ranks, desk);
+            let done = rank.join(self.rt);
+            ranks = with_desk(self.rt, self.alloc, self.cell, ranks, done);
         }
         ranks
     }
@@ -189,10 +201,10 @@ impl<
         scope: &Scope<'s, E>,
         scripts: &'s [Vec<Work>],
         laid: Laid<J, K>,
-    ) -> Joined<J>
+    ) -> Joined<J, K>
         requires few { length scripts.now ≤ 64 }
         requires laid { AreLaid scripts.now laid.shares laid.rooms laid.asked }
-        ensures { AreJoined J.limit K.before laid.shares.items (map (λ s. s.items) scripts.now)
+        ensures { AreJoined J.limit K.before result.seen laid.shares.items (map (λ s. s.items) scripts.now)
             (map (λ a. a.items) result.answers.items) result.shares.items result.deposited }
     {
         let Laid {
@@ -204,6 +216,7 @@ impl<
             shares,
             answers: rooms,
             deposited: Ok(()),
+            seen: self.cell.lock(self.rt).seen(),
         };
         self.join_all(asked, ranks)
     }
@@ -224,19 +237,19 @@ fn serve_ranks<
     gate: &'a G,
     scripts: &'a [Vec<Work>],
     laid: Laid<J, K>,
-) -> Joined<J>
+) -> Joined<J, K>
     requires few { length scripts.now ≤ 64 }
     requires laid { AreLaid scripts.now laid.shares laid.rooms laid.asked }
-    ensures { AreJoined J.limit K.before laid.shares.items (map (λ s. s.items) scripts.now)
+    ensures { AreJoined J.limit K.before result.seen laid.shares.items (map (λ s. s.items) scripts.now)
         (map (λ a. a.items) result.answers.items) result.shares.items result.deposited }
 {
     let serving = Serving::new(rt, alloc, cell, gate);
     thread::scope(
         thread::scope_env(),
         rt,
-        |scope| -> Joined<J>
+        |scope| -> Joined<J, K>
             requires { (length scripts.now ≤ 64) × AreLaid scripts.now laid.shares laid.rooms laid.asked }
-            ensures { AreJoined J.limit K.before laid.shares.items (map (λ s. s.items) scripts.entry.now)
+            ensures { AreJoined J.limit K.before result.seen laid.shares.items (map (λ s. s.items) scripts.entry.now)
                 (map (λ a. a.items) result.answers.items) result.shares.items result.deposited }
         { serving.serve_all(scope, scripts, laid) },
     )
@@ -288,20 +301,23 @@ fn serve_named<
     rt: &R,
     alloc: Global,
     board: Board<J, M>,
+    log: NewLog<Entry>,
     gate: &G,
     scripts: &[Vec<Work>],
     shares: Vec<Share<J>>,
 ) -> (Board<J, M>, Result<Ranks<J>, AllocFailed<Vec<Share<J>>>>)
     requires board { board ≡ K.before }
+    requires log { log ≡ K.log }
     requires few { length scripts.now ≤ 64 }
     requires equal { vec_len shares ≡ length scripts.now }
     ensures board { WentOn K.before result.0 }
     ensures returned { IfOk result.1 (λ ranks. AreReturned J.limit shares.items (map (λ s. s.items) scripts.now)
         (map (λ a. a.items) ranks.answers.items) ranks.shares.items) }
     ensures clean { IfOk result.1 (λ ranks. IsOk ranks.deposited → All (λ s. IsClean s) ranks.shares.items) }
-    ensures answered { IfOk result.1 (λ ranks. AreAnswered K.before 0 (map (λ s. s.items) scripts.now)
-        (map (λ a. a.items) ranks.answers.items)) }
-    ensures told { IfOk result.1 (λ ranks. IsDepositTold K.before ranks.deposited) }
+    ensures answered { IfOk result.1 (λ ranks. AreAnswered K.before result.0.history 0
+        (map (λ s. s.items) scripts.now) (map (λ a. a.items) ranks.answers.items)) }
+    ensures apart { IfOk result.1 (λ ranks. AreApart (all_tickets (map (λ a. a.items) ranks.answers.items))) }
+    ensures told { IfOk result.1 (λ ranks. IsDepositTold K.before result.0.history ranks.deposited) }
     ensures ended { IfOk result.1 (λ ranks. IsEndTold K.before result.0 ranks.ended) }
     ensures memory { IfErr result.1 (λ e. e.value.items ≡ shares.items) }
     ensures unchanged { OnErr result.1 (result.0 ≡ board) }
@@ -311,14 +327,16 @@ fn serve_named<
         Err(refused) => return (board, Err(refused)),
     };
     let first = board.history().len();
-    let cell = BoardCell::<J, M, K>::new(board);
+    let cell = BoardCell::<J, M, K>::new(board, log);
     let Joined {
         shares,
         answers,
         deposited,
+        seen,
     } = serve_ranks(rt, alloc, &cell, gate, scripts, laid);
     let mut phased = cell.into_phased();
     let ended = phased.end_all(alloc, first);
+    phased.compare(seen);
     let ranks = Ranks {
         shares,
         answers,
@@ -353,12 +371,16 @@ pub fn serve_phase<
     ensures returned { IfOk result.1 (λ ranks. AreReturned J.limit shares.items (map (λ s. s.items) scripts.now)
         (map (λ a. a.items) ranks.answers.items) ranks.shares.items) }
     ensures clean { IfOk result.1 (λ ranks. IsOk ranks.deposited → All (λ s. IsClean s) ranks.shares.items) }
-    ensures answered { IfOk result.1 (λ ranks. AreAnswered board 0 (map (λ s. s.items) scripts.now)
+    ensures answered { IfOk result.1 (λ ranks. AreAnswered board result.0.history 0 (map (λ s. s.items) scripts.now)
         (map (λ a. a.items) ranks.answers.items)) }
-    ensures told { IfOk result.1 (λ ranks. IsDepositTold board ranks.deposited) }
+    ensures apart { IfOk result.1 (λ ranks. AreApart (all_tickets (map (λ a. a.items) ranks.answers.items))) }
+    ensures told { IfOk result.1 (λ ranks. IsDepositTold board result.0.history ranks.deposited) }
     ensures ended { IfOk result.1 (λ ranks. IsEndTold board result.0 ranks.ended) }
     ensures memory { IfErr result.1 (λ e. e.value.items ≡ shares.items) }
     ensures unchanged { OnErr result.1 (result.0 ≡ board) }
 {
-    serve_named::<J, M, Brand, R, G>(rt, alloc, board, gate, scripts, shares)
+    let Ok(log) = NewLog::new(alloc) else {
+        return (board, Err(AllocFailed { value: shares }));
+    };
+    serve_named::<J, M, Brand, R, G>(rt, alloc, board, log, gate, scripts, shares)
 }

@@ -2,6 +2,9 @@
 ghost use Rattle.std.specs.Prelude.{◌≡◌, ◌<◌, ◌≤◌, [], ◌∷◌, IsNone, IsSome, Some, false, length, true, vec_capacity};
 ghost use Rattle.std.specs.Option.{option_map};
 ghost use Rattle.rank_threads.specs.Answered.{IsAnswered, IsRankAnswered};
+ghost use Rattle.rank_threads.specs.Tickets.{AreApart, IsGivenBetween, tickets_of};
+ghost use Rattle.std.specs.Prelude.{IfSome};
+ghost use mathlib.Core.List.{IsPrefix};
 ghost use Rattle.rank_threads.specs.Serving.{Counted, Fits, IsServed, IsShort, after_hits, no_thread};
 
 use crate::board_cell::{BoardCell, Phase};
@@ -9,8 +12,10 @@ use crate::work::{Work, WorkAnswer, WorkError};
 use authority_map::Publisher;
 use export_threads::Gate;
 use heat_ledger::{HitError, Share};
+use mds_board::Entry;
 use mds_types::{Dir, Rank};
 use naming::Naming;
+use seen_log::Seen;
 use std::alloc::Global;
 use std::sync::Wait;
 
@@ -41,6 +46,7 @@ fn serve_one<J: Naming, M: Publisher<J>, K: Phase, R: Wait, G: Gate>(
     alloc: Global,
     cell: &BoardCell<J, M, K>,
     gate: &G,
+    seen: &mut Seen<Entry, K>,
     share: &mut Share<J>,
     rank: Rank,
     number: usize,
@@ -49,10 +55,12 @@ fn serve_one<J: Naming, M: Publisher<J>, K: Phase, R: Wait, G: Gate>(
     ensures fits { Fits work result }
     ensures counted { Counted J.limit share.old (work ∷ []) (result ∷ []) share.new }
     ensures short { IsShort J.limit share.new work.dir result.refused }
-    ensures answered { IsAnswered K.before rank work result }
+    ensures answered { IsAnswered K.before seen.new rank work result }
+    ensures given { IfSome result.ticket (λ ticket. IsGivenBetween K.before seen.old ticket seen.new) }
+    ensures seen { IsPrefix seen.old seen.new }
 {
     let _rows = share.limit();
-    let begun = cell.lock(rt).begin(share, rank, work.dir);
+    let begun = cell.lock(rt).begin(seen, share, rank, work.dir);
     gate.before(rank, number as u64);
     let answer = match begun {
         Ok(ticket) => {
@@ -91,6 +99,7 @@ fn answer_to<J: Naming, M: Publisher<J>, K: Phase, R: Wait, G: Gate>(
     cell: &BoardCell<J, M, K>,
     gate: &G,
     has_thread: bool,
+    seen: &mut Seen<Entry, K>,
     share: &mut Share<J>,
     rank: Rank,
     number: usize,
@@ -99,11 +108,13 @@ fn answer_to<J: Naming, M: Publisher<J>, K: Phase, R: Wait, G: Gate>(
     ensures fits { Fits work result }
     ensures counted { Counted J.limit share.old (work ∷ []) (result ∷ []) share.new }
     ensures short { IsShort J.limit share.new work.dir result.refused }
-    ensures answered { has_thread ≡ true → IsAnswered K.before rank work result }
+    ensures answered { has_thread ≡ true → IsAnswered K.before seen.new rank work result }
     ensures refused { has_thread ≡ false → result ≡ no_thread }
+    ensures given { IfSome result.ticket (λ ticket. IsGivenBetween K.before seen.old ticket seen.new) }
+    ensures seen { IsPrefix seen.old seen.new }
 {
     if has_thread {
-        serve_one(rt, alloc, cell, gate, share, rank, number, work)
+        serve_one(rt, alloc, cell, gate, seen, share, rank, number, work)
     } else {
         WorkAnswer::no_thread()
     }
@@ -118,17 +129,19 @@ pub(crate) fn serve_script<J: Naming, M: Publisher<J>, K: Phase, R: Wait, G: Gat
     has_thread: bool,
     rank: Rank,
     script: &[Work],
+    seen: &mut Seen<Entry, K>,
     share: &mut Share<J>,
     answers: &mut Vec<WorkAnswer>,
 )
     requires empty { answers.old.items ≡ [] }
     requires room { length script.now ≤ vec_capacity answers.old }
     ensures served { IsServed J.limit share.old script.now answers.new.items share.new }
-    ensures answered { IsRankAnswered K.before rank script.now answers.new.items }
+    ensures answered { IsRankAnswered K.before seen.new rank script.now answers.new.items }
+    ensures apart { AreApart (tickets_of answers.new.items) }
 {
     for (number, work) in script.iter().enumerate() {
         let answer = answer_to(
-            rt, alloc, cell, gate, has_thread, share, rank, number, *work,
+            rt, alloc, cell, gate, has_thread, seen, share, rank, number, *work,
         );
         answers.push_reserved(answer);
     }

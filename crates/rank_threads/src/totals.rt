@@ -6,6 +6,7 @@ ghost use Rattle.heat_ledger.specs.Rows.{at};
 ghost use Rattle.rank_threads.specs.Answered.{AreAnswered, IsDepositTold, IsEndTold};
 ghost use Rattle.rank_threads.specs.Going.{WentOn};
 ghost use Rattle.rank_threads.specs.Serving.{AreReturned, begun_on, hits_on};
+ghost use Rattle.rank_threads.specs.Tickets.{AreApart, all_tickets};
 ghost use Rattle.rank_threads.specs.Totals.{over_ranks};
 
 use crate::phase::{Ranks, serve_phase};
@@ -52,9 +53,10 @@ pub fn serve_with_totals<
         → at result.0.state.counted d + pending_of ranks.shares.items d
         ≡ (at board.state.counted d + pending_of shares.items d)
         + over_ranks (hits_on d) (map (λ s. s.items) scripts.now) (map (λ a. a.items) ranks.answers.items)) }
-    ensures answered { IfOk result.1 (λ ranks. AreAnswered board 0 (map (λ s. s.items) scripts.now)
+    ensures answered { IfOk result.1 (λ ranks. AreAnswered board result.0.history 0 (map (λ s. s.items) scripts.now)
         (map (λ a. a.items) ranks.answers.items)) }
-    ensures told { IfOk result.1 (λ ranks. IsDepositTold board ranks.deposited) }
+    ensures apart { IfOk result.1 (λ ranks. AreApart (all_tickets (map (λ a. a.items) ranks.answers.items))) }
+    ensures told { IfOk result.1 (λ ranks. IsDepositTold board result.0.history ranks.deposited) }
     ensures ended { IfOk result.1 (λ ranks. IsEndTold board result.0 ranks.ended) }
     ensures memory { IfErr result.1 (λ e. e.value.items ≡ shares.items) }
     ensures unchanged { OnErr result.1 (result.0 ≡ board) }

@@ -8,4 +8,4 @@ use Rattle.rank_threads.proofs.board_cell.Phased.deposit.Goals as goal
 
 pub invariant_of-self : goal.invariant_of-self
 invariant_of-self g c =
-    goes_on g.K.Phase.before c.self.inside.board (change.Deposit (counted_rows c.args.share.now.pending)) (spelled (λ _. answer.Done) c.deposit.result) c.deposit.new.self c.self.invariant refl c.deposit.ensures.answer
+    (goes_on g.K.Phase.before c.self.inside.board (change.Deposit (counted_rows c.args.share.now.pending)) (spelled (λ _. answer.Done) c.deposit-deposited.result) c.deposit-deposited.new.self c.self.invariant.0 refl c.deposit-deposited.ensures.answer, c.tell-2.ensures.log)

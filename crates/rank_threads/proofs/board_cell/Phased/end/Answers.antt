@@ -8,4 +8,4 @@ use Rattle.rank_threads.proofs.board_cell.Phased.end.Goals as goal
 
 pub invariant_of-self : goal.invariant_of-self
 invariant_of-self g c =
-    goes_on g.K.Phase.before c.self.inside.board (change.Step (Event.End c.args.ticket)) (spelled answer.Reply c.step.result) c.step.new.self c.self.invariant refl c.step.ensures
+    (goes_on g.K.Phase.before c.self.inside.board (change.Step (Event.End c.args.ticket)) (spelled answer.Reply c.step-ended.result) c.step-ended.new.self c.self.invariant.0 refl c.step-ended.ensures, c.note.ensures)

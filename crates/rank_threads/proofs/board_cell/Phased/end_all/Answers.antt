@@ -2,6 +2,7 @@ use Rattle.std.proofs.Common.{◌≡◌, ◌++◌, ◌∙◌, [], ℕ, List, Som
 use Rattle.export_machine.specs.Authority.{request_of}
 use Rattle.mds_board.specs.declared.entry.Entry.{Entry}
 use Rattle.rank_threads.proofs.Ended.{either_met, none_runs, over_more}
+use Rattle.rank_threads.proofs.Later.{end_later}
 use Rattle.rank_threads.proofs.board_cell.Phased.end_all.Goals as goal
 use Rattle.rank_threads.proofs.board_cell.Phased.end_all.Goals.{in-Some, in_default}
 
@@ -30,7 +31,8 @@ loop-number-preserved g c =
                 w.end_once.ensures.others (inv.over (both ok).0);
             others = λ t gone. w.end_once.ensures.others t (inv.others t gone);
             history = (inv.history.0 ++ more.0, more.1 ∙ (ap (λ (h : List Entry). h ++ more.0) inv.history.1 ∙ append_assoc first.history inv.history.0 more.0));
-            refused = either_met g.K.Phase.before c.loop-number.ended w.end_once.result w.first_refusal-ended.result w.first_refusal-ended.ensures.either inv.refused w.end_once.ensures.refused;
+            refused = either_met g.K.Phase.before new.history c.loop-number.ended w.end_once.result w.first_refusal-ended.result w.first_refusal-ended.ensures.either
+                (end_later g.K.Phase.before old.history new.history c.loop-number.ended (more.0, sym more.1) inv.refused) w.end_once.ensures.refused;
           }
       | in_default w ↦
           rw (w.self-is, w.ended-is) record {

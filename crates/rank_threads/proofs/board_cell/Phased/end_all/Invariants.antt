@@ -12,5 +12,5 @@ invariant-loop-number g l = record {
   over : IsOk l.ended → (k : ℕ) (e : Entry) → l.first ≤ k → k < l.number → slice_get l.initial.self.history k ≡ Some e → IsOver l.self e;
   others : (t : ℕ) → request_of l.initial.self.state.cluster t ≡ None → request_of l.self.state.cluster t ≡ None;
   history : (more : List Entry) × (l.self.history ≡ l.initial.self.history ++ more);
-  refused : IsEndMet g.K.Phase.before l.ended;
+  refused : IsEndMet g.K.Phase.before l.self.history l.ended;
 }

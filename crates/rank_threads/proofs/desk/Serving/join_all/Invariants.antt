@@ -12,9 +12,9 @@ use Rattle.rank_threads.proofs.desk.Serving.join_all.Given as goal
 abbrev pub invariant-loop-rank : goal.invariant-loop-rank
 invariant-loop-rank g l = record {
   joined : (shares : List ShareData) (scripts : List (List Work)) → length shares ≡ length scripts → l.fn.asked.items ≡ askings 0 shares scripts
-      → AreJoinedBut g.J.Naming.limit g.K.Phase.before shares scripts l.asked.items (map (λ a. a.items) l.ranks.answers.items) l.ranks.shares.items;
+      → AreJoinedBut g.J.Naming.limit g.K.Phase.before l.ranks.seen shares scripts l.asked.items (map (λ a. a.items) l.ranks.answers.items) l.ranks.shares.items;
   clean : IsOk l.ranks.deposited → All (λ s. IsClean s) l.ranks.shares.items;
-  told : IsDepositTold g.K.Phase.before l.ranks.deposited;
+  told : IsDepositTold g.K.Phase.before l.ranks.seen l.ranks.deposited;
   shares : vec_len l.asked + vec_len l.ranks.shares ≤ vec_capacity l.ranks.shares;
   answers : vec_len l.asked + vec_len l.ranks.answers ≤ vec_capacity l.ranks.answers;
 }

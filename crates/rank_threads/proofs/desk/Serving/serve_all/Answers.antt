@@ -1,0 +1,10 @@
+use Rattle.std.proofs.Common.{Vec, Global, map, arith}
+use Rattle.std.proofs.lemmas.Grind.{common_steps}
+use Rattle.std.proofs.lemmas.List.{length-map}
+use Rattle.rank_threads.specs.declared.work.Work.{Work}
+use Rattle.rank_threads.proofs.desk.Serving.serve_all.Goals as goal
+
+pub returns : goal.returns
+returns g c =
+    let same = length-map c.args.scripts.now (λ (s : Vec Work Global). s.items) in
+    c.join_all.ensures.joined c.args.laid.shares.items (map (λ (s : Vec Work Global). s.items) c.args.scripts.now) (grind (arith, common_steps, c.requires.laid.equal, same)) c.ask_all-shares.ensures.asked
