@@ -1,19 +1,23 @@
 -- Where the present placement is best, its ranks' rows are a certified division that can stay where it is.
-use Rattle.std.proofs.Common.{◌≡◌, ◌∙◌, ◌<◌, ◌≤◌, ℕ, Bool, true, false, cond, eqb, List, [], ◌∷◌, ◌++◌, ◌+◌, ◌⊎◌, inl, inr, ⊎_elim, length, slice_index, refl, sym, ap, subst, arith}
+use Rattle.std.proofs.Common.{◌≡◌, ◌∙◌, ◌<◌, ◌≤◌, ℕ, ℤ, pos, ◌+ℤ◌, ◌≤ℤ◌, All, Bool, true, false, cond, eqb, List, [], ◌∷◌, ◌++◌, ◌+◌, ◌⊎◌, inl, inr, ⊎_elim, length, slice_index, refl, sym, ap, subst, arith}
+use Rattle.std.proofs.lemmas.Int.{ints}
 use Rattle.std.proofs.lemmas.Bool.{cases_order, eq-eqb, eqb-true}
 use Rattle.std.proofs.lemmas.List.{get_or_append_left, get_or_push, length-append}
+use Rattle.std.proofs.lemmas.List.Elements.{All-from_get_or, All-get_or}
 use Rattle.mds_types.specs.declared.problem.ProblemRow.{ProblemRow}
 use Rattle.mds_types.specs.declared.cut_proof.CutProof.{CutProof}
-use Rattle.mds_types.specs.Certificate.{AreRanks, IsCutCertified, IsCutProof}
+use Rattle.mds_types.specs.declared.dual_proof.DualProof.{DualProof}
+use Rattle.mds_types.specs.Certificate.{AreRanks, IsCertified, IsCutProof, part_price_at, rank_price_at}
 use Rattle.mds_types.specs.Connected.{IsChain, IsConnected}
 use Rattle.mds_types.specs.Division.{IsDivision, IsEdge, IsLeast, InPart, part_heat, greatest_heat}
-use Rattle.mds_types.specs.Placing.{moved, moved_at}
+use Rattle.mds_types.specs.Placing.{cost, moved, moved_at}
 use Rattle.mds_types.specs.Problem.{ProblemData, heat_at, inodes_at, now_at}
 use Rattle.mds_types.specs.RankSet.{has_rank, rank_count}
 use Rattle.mds_types.proofs.CertificateLemmas.{AreRanks-le, IsDivision-more, greatest_heat-more}
 use Rattle.mds_types.proofs.PlacingLemmas.{has_rank-lt}
 use Rattle.mds_types.proofs.SumsLemmas.{max_below-le, max_below-term, sum_below-same, sum_below-zero}
-use Rattle.planner.specs.Present.{AreRanksNow, IsDistinct, IsPartOf, IsPresentBest, IsStaying}
+use Rattle.plan_checker.specs.Present.{IsPresentBest}
+use Rattle.planner.specs.Present.{AreRanksNow, IsBestDivision, IsDistinct, IsPartOf}
 
 -- a chain of members of one set is one of members of another that has them
 chain_in :
@@ -182,14 +186,12 @@ no_hotter problem part rank are ranks =
     max_below-term 64 (slice_index rank p) at (has_rank-lt problem.ranks (slice_index rank p) (ranks.usable p lp)) in
     rw (same_heat problem.rows part rank are p lp) most)
 
--- the present placement is a certified division, with any proof that there is
-pub present_certified :
-    (problem : ProblemData) (greatest : ℕ) (proof : CutProof) (part rank : List ℕ)
-    → IsLeast problem.rows (rank_count problem.ranks) greatest
-    → IsCutProof problem.rows (rank_count problem.ranks) greatest proof
+-- the present placement is a best division
+pub present_divides :
+    (problem : ProblemData) (greatest : ℕ) (part rank : List ℕ) → IsLeast problem.rows (rank_count problem.ranks) greatest
     → AreRanksNow problem.rows (length problem.rows) part rank → IsPresentBest problem
-    → IsCutCertified problem.rows (rank_count problem.ranks) part (length rank) greatest proof
-present_certified problem greatest proof part rank least proven are best =
+    → IsBestDivision problem part (length rank) greatest
+present_divides problem greatest part rank least are best =
     let k = length rank in
     let all = rank_count problem.ranks in
     let ranks = ranks_now problem part rank are best in
@@ -209,16 +211,88 @@ present_certified problem greatest proof part rank least proven are best =
         least.lowest (slice_index part) wide,
         greatest_heat-more problem.rows k all (slice_index part) few division,
       );
-      cut = proven;
     }
 
--- and its parts can stay where they are
-pub present_stays :
+-- and all its ranks are in the set
+pub ranks_usable :
     (problem : ProblemData) (part rank : List ℕ) → AreRanksNow problem.rows (length problem.rows) part rank
-    → IsPresentBest problem → IsStaying problem (slice_index part) (length rank)
-present_stays problem part rank are best = (
-  slice_index rank,
-  ranks_now problem part rank are best,
-  sum_below-zero (length problem.rows) (λ i. moved_at problem.rows i (slice_index rank (slice_index part i)))
-      (λ i li. rw (eq-eqb (now_at problem.rows i) (slice_index rank (slice_index part i)) (sym (are.now i li))) refl),
-)
+    → IsPresentBest problem → All (λ r. has_rank problem.ranks r ≡ true) rank
+ranks_usable problem part rank are best =
+    All-from_get_or (λ r. has_rank problem.ranks r ≡ true) rank 0 (ranks_now problem part rank are best).usable
+
+-- ranks that are all in the set
+pub ranks_of :
+    (problem : ProblemData) (part rank : List ℕ) → AreRanksNow problem.rows (length problem.rows) part rank
+    → All (λ r. has_rank problem.ranks r ≡ true) rank → AreRanks problem.ranks (length rank) (slice_index rank)
+ranks_of problem part rank are all = record {
+  usable = λ p l. All-get_or (λ r. has_rank problem.ranks r ≡ true) rank p 0 l all;
+  distinct = are.distinct;
+}
+
+-- the present placement's parts have their rows where they are
+pub moves_none :
+    (rows : List ProblemRow) (part rank : List ℕ) → AreRanksNow rows (length rows) part rank
+    → moved rows (slice_index part) (slice_index rank) ≡ 0
+moves_none rows part rank are =
+    sum_below-zero (length rows) (λ i. moved_at rows i (slice_index rank (slice_index part i)))
+    (λ i li. rw (eq-eqb (now_at rows i) (slice_index rank (slice_index part i)) (sym (are.now i li))) refl)
+
+costs_none_at :
+    (rows : List ProblemRow) (part rank : List ℕ) → AreRanksNow rows (length rows) part rank → (p i : ℕ)
+    → i < length rows → (here : Bool) → eqb (slice_index part i) p ≡ here
+    → cond here (moved_at rows i (slice_index rank p)) 0 ≡ 0
+costs_none_at rows part rank are p i li true is =
+    rw (eq-eqb (now_at rows i) (slice_index rank p)
+    (sym (are.now i li) ∙ ap (slice_index rank) (eqb-true (slice_index part i) p is))) refl
+costs_none_at rows part rank are p i li false is = refl
+
+-- so a part costs nothing at its rank
+costs_none :
+    (rows : List ProblemRow) (part rank : List ℕ) → AreRanksNow rows (length rows) part rank → (p : ℕ)
+    → cost rows (slice_index part) p (slice_index rank p) ≡ 0
+costs_none rows part rank are p =
+    sum_below-zero (length rows) (λ i. cond (eqb (slice_index part i) p) (moved_at rows i (slice_index rank p)) 0)
+    (λ i li. costs_none_at rows part rank are p i li (eqb (slice_index part i) p) refl)
+
+no_price : (x y : ℤ) (cost : ℕ) → x ≡ pos 0 → y ≡ pos 0 → (x +ℤ y) ≤ℤ pos cost
+no_price x y cost x_is y_is = rw (x_is, y_is) (grind (arith, ints))
+
+same_price : (x y : ℤ) (cost : ℕ) → x ≡ pos 0 → y ≡ pos 0 → cost ≡ 0 → (x +ℤ y) ≡ pos cost
+same_price x y cost x_is y_is cost_is = rw (x_is, y_is, cost_is) refl
+
+-- with prices of 0 they are a certified plan that moves nothing
+pub still_certified :
+    (problem : ProblemData) (greatest : ℕ) (proof : CutProof) (part rank : List ℕ) (dual : DualProof)
+    → AreRanksNow problem.rows (length problem.rows) part rank → IsBestDivision problem part (length rank) greatest
+    → AreRanks problem.ranks (length rank) (slice_index rank)
+    → IsCutProof problem.rows (rank_count problem.ranks) greatest proof
+    → length dual.part_price ≡ length rank → length dual.rank_price ≡ rank_count problem.ranks
+    → ((p : ℕ) → part_price_at dual p ≡ pos 0) → ((r : ℕ) → rank_price_at dual problem.ranks r ≡ pos 0)
+    → IsCertified problem (record {
+      part = part;
+      rank = rank;
+      greatest = greatest;
+      moved = 0;
+      cut = proof;
+      dual = dual;
+    })
+still_certified problem greatest proof part rank dual are division ranks proven parts_are ranks_are no_part no_rank = record {
+  size = division.size;
+  parts = division.parts;
+  ranks = ranks;
+  greatest = division.greatest_is;
+  moved_is = moves_none problem.rows part rank are;
+  cut = proven;
+  dual = record {
+    part_prices = parts_are;
+    rank_prices = ranks_are;
+    below = λ p r lp has.
+        no_price (part_price_at dual p) (rank_price_at dual problem.ranks r) (cost problem.rows (slice_index part) p r) (no_part p) (no_rank r);
+    not_above = λ r has. rw (no_rank r) (grind (arith, ints));
+    unused = λ r has free. no_rank r;
+    chosen = λ p lp.
+        same_price (part_price_at dual p) (rank_price_at dual problem.ranks (slice_index rank p))
+        (cost problem.rows (slice_index part) p (slice_index rank p)) (no_part p) (no_rank (slice_index rank p))
+        (costs_none problem.rows part rank are p);
+  };
+}

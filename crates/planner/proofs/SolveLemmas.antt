@@ -3,12 +3,12 @@ use Rattle.std.proofs.Common.{◌≡◌, ◌∙◌, ◌<◌, ◌≤◌, ℕ, Lis
 use Rattle.mds_types.specs.declared.cut_proof.CutProof.{CutProof}
 use Rattle.mds_types.specs.declared.plan.Plan.{Plan}
 use Rattle.mds_types.specs.declared.problem.ProblemRow.{ProblemRow}
-use Rattle.mds_types.specs.Certificate.{AreRanks, IsCutCertified, IsCertified, plan_label, plan_rank}
+use Rattle.mds_types.specs.Certificate.{AreRanks, IsCutCertified, IsCutProof, IsCertified, plan_label, plan_rank}
 use Rattle.mds_types.specs.Division.{part_heat, greatest_heat}
-use Rattle.mds_types.specs.Placing.{cost}
-use Rattle.mds_types.specs.Problem.{ProblemData}
+use Rattle.mds_types.specs.Placing.{IsPlacing, cost, moved}
+use Rattle.mds_types.specs.Problem.{IsProblem, ProblemData}
 use Rattle.mds_types.specs.RankSet.{rank_count}
-use Rattle.mds_types.proofs.CertificateLemmas.{IsCertified-from, IsDivision-more, greatest_heat-more}
+use Rattle.mds_types.proofs.CertificateLemmas.{best, IsCertified-from, IsDivision-more, greatest_heat-more}
 use Rattle.mds_types.proofs.SumsLemmas.{max_below-le}
 use Rattle.minmax_search.specs.declared.found.BestCut.{BestCut}
 use Rattle.minmax_search.specs.Found.{IsFound}
@@ -16,7 +16,7 @@ use Rattle.rank_assign.specs.Assigned.{CostData}
 use Rattle.rank_assign.specs.declared.assigned.Assigned.{Assigned}
 use Rattle.cost_table.specs.Costs.{cell_at, chosen_cost, AreCosts}
 use Rattle.cost_table.specs.Prices.{ArePrices}
-use Rattle.planner.specs.Present.{IsStaying}
+use Rattle.planner.specs.Present.{IsBestDivision}
 use Rattle.cost_table.proofs.PriceLemmas.{prices_over, dual_from_prices, moved-cells}
 
 -- a cut that was found is certified
@@ -36,6 +36,19 @@ found_certified rows ranks found is =
       greatest_is = omega (arith, within, above, same);
       cut = is.proven;
     }
+
+-- so is a division with the greatest heat of a certified plan
+pub division_certified :
+    (problem : ProblemData) (part : List ℕ) (count greatest : ℕ) (proof : CutProof) → IsBestDivision problem part count greatest
+    → IsCutProof problem.rows (rank_count problem.ranks) greatest proof
+    → IsCutCertified problem.rows (rank_count problem.ranks) part count greatest proof
+division_certified problem part count greatest proof division proven = record {
+  few = division.few;
+  size = division.size;
+  parts = division.parts;
+  greatest_is = division.greatest_is;
+  cut = proven;
+}
 
 -- with the cheapest placing it is a certified plan
 pub plan_certified :
@@ -89,13 +102,39 @@ solved problem part count greatest proof costs assigned division count_is ranks_
     costs.cells (rw k_is division) (rw (size, ← ranks_is) are)
     (rw k_is cells) (rw (size, ← ranks_is) moved) (rw (size, ← ranks_is) prices)
 
--- parts that can stay where they are, placed best, move nothing
-pub still :
-    (problem : ProblemData) (label : ℕ → ℕ) (count least : ℕ) (costs : CostData) → ((i : ℕ) → i < length problem.rows → label i < count)
-    → costs.count ≡ count → costs.ranks ≡ problem.ranks → AreCosts problem.rows label count problem.ranks costs.cells
-    → ((other : ℕ → ℕ) → AreRanks costs.ranks costs.count other → least ≤ chosen_cost costs.ranks costs.cells costs.count other)
-    → IsStaying problem label count → least ≡ 0
-still problem label count least costs below count_is ranks_is cells at_most (rank, are, none) =
-    let most : least ≤ chosen_cost problem.ranks costs.cells count rank =
-    (rw (count_is, ranks_is) at at_most) rank are in
-    omega (arith, most, none, moved-cells problem.rows count problem.ranks label rank costs.cells below are cells)
+-- the same with the proof of a plan that is certified
+pub recertified :
+    (problem : ProblemData) (plan : Plan) (part : List ℕ) (count : ℕ) (costs : CostData) (assigned : Assigned)
+    → IsCertified problem plan → IsBestDivision problem part count plan.greatest → costs.count ≡ count
+    → costs.ranks ≡ problem.ranks → AreCosts problem.rows (slice_index part) count problem.ranks costs.cells
+    → length assigned.ranks.items ≡ costs.count
+    → AreRanks costs.ranks costs.count (slice_index assigned.ranks.items)
+    → assigned.moved ≡ chosen_cost costs.ranks costs.cells costs.count (slice_index assigned.ranks.items)
+    → ArePrices costs.ranks costs.count (cell_at costs.ranks costs.cells) (slice_index assigned.ranks.items) assigned.proof
+    → IsCertified problem (record {
+      part = part;
+      rank = assigned.ranks.items;
+      greatest = plan.greatest;
+      moved = assigned.moved;
+      cut = plan.cut;
+      dual = assigned.proof;
+    })
+recertified problem plan part count costs assigned is division count_is ranks_is cells size are moved prices =
+    solved problem part count plan.greatest plan.cut costs assigned
+    (division_certified problem part count plan.greatest plan.cut division is.cut) count_is ranks_is cells size are moved prices
+
+-- a plan that moves no more than the cheapest placing of a cut
+pub no_worse :
+    (problem : ProblemData) (plan : Plan) (found : BestCut) (fewer : ℕ) → IsProblem problem
+    → IsFound problem.rows (rank_count problem.ranks) found → IsCertified problem plan → plan.part ≡ found.cut.part.items
+    → fewer ≤ plan.moved
+    → (found : BestCut) × IsFound problem.rows (rank_count problem.ranks) found
+    × ((rank : ℕ → ℕ) → IsPlacing problem.rows problem.ranks (slice_index found.cut.part.items) rank
+    → fewer ≤ moved problem.rows (slice_index found.cut.part.items) rank)
+no_worse problem plan found fewer valid is certified same most = (
+  found,
+  is,
+  λ rank placing.
+      (let least = (best problem plan valid certified).cheapest rank (rw same placing) in
+      omega (arith, most, rw same at least)),
+)

@@ -1,1 +1,2 @@
+pub mod Fewer
 pub mod Present

@@ -1,20 +1,18 @@
--- The present placement of a problem: each row at the rank that has it now.
-use Rattle.std.specs.Prelude.{◌≡◌, ◌≢◌, ◌<◌, ◌⊎◌, ◌++◌, ◌∷◌, [], ℕ, true, List, length, slice_index}
+-- The parts of the present placement: the rows that a rank has now are one part.
+use Rattle.std.specs.Prelude.{◌≡◌, ◌≢◌, ◌<◌, ◌≤◌, ◌⊎◌, ◌++◌, ◌∷◌, [], ℕ, List, length, slice_index}
 use Rattle.mds_types.specs.declared.problem.ProblemRow.{ProblemRow}
 use Rattle.mds_types.specs.Problem.{ProblemData, now_at}
-use Rattle.mds_types.specs.RankSet.{has_rank, rank_count}
-use Rattle.mds_types.specs.Connected.{IsConnected}
-use Rattle.mds_types.specs.Certificate.{AreRanks}
-use Rattle.mds_types.specs.Placing.{moved}
-use Rattle.mds_types.specs.Division.{IsEdge, InPart, greatest_heat, IsLowerBound}
+use Rattle.mds_types.specs.RankSet.{rank_count}
+use Rattle.mds_types.specs.Certificate.{AreRanks, IsPartition}
+use Rattle.mds_types.specs.Division.{greatest_heat}
+use Rattle.planner.specs.declared.present.Present.{Present}
 
--- The present placement is itself best: the rows of each rank are connected, their ranks are in the set, and no
--- division into as many parts as there are ranks has a cooler hottest part than the hottest rank.
-pub record IsPresentBest (problem : ProblemData) : Type 0 where
-  pub usable : (i : ℕ) → i < length problem.rows → has_rank problem.ranks (now_at problem.rows i) ≡ true
-  pub connected : (rank : ℕ) → IsConnected (IsEdge problem.rows) (InPart problem.rows (now_at problem.rows) rank)
-  pub coolest : IsLowerBound problem.rows (rank_count problem.ranks)
-      (greatest_heat problem.rows 64 (now_at problem.rows))
+-- a division into connected parts, no more than there are ranks, with this greatest heat
+pub record IsBestDivision (problem : ProblemData) (part : List ℕ) (count greatest : ℕ) : Type 0 where
+  pub few : count ≤ rank_count problem.ranks
+  pub size : length part ≡ length problem.rows
+  pub parts : IsPartition problem.rows count (slice_index part)
+  pub greatest_is : greatest_heat problem.rows count (slice_index part) ≡ greatest
 
 -- no rank comes twice
 abbrev pub IsDistinct : List ℕ → Type 0
@@ -41,6 +39,8 @@ IsPartOf old new now part =
     ((new ≡ old) × (part < length old) × (slice_index old part ≡ now))
     ⊎ ((new ≡ old ++ now ∷ []) × (part ≡ length old) × ((p : ℕ) → p < length old → slice_index old p ≢ now))
 
--- the parts can go to different ranks of the set so that nothing moves
-abbrev pub IsStaying : ProblemData → (ℕ → ℕ) → ℕ → Type 0
-IsStaying problem label k = (rank : ℕ → ℕ) × AreRanks problem.ranks k rank × (moved problem.rows label rank ≡ 0)
+-- these are the parts of the present placement, with this greatest heat, and their ranks are in the set
+pub record IsKept (problem : ProblemData) (greatest : ℕ) (now : Present) : Type 0 where
+  pub are : AreRanksNow problem.rows (length problem.rows) now.part.items now.rank.items
+  pub division : IsBestDivision problem now.part.items (length now.rank.items) greatest
+  pub ranks : AreRanks problem.ranks (length now.rank.items) (slice_index now.rank.items)

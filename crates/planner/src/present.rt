@@ -1,8 +1,9 @@
 //! The present placement as parts: the rows that a rank has now are one part.
-ghost use Rattle.std.specs.Prelude.{◌≡◌, ◌<◌, ◌≤◌, ◌+◌, ◌++◌, ◌∷◌, [], ℕ, IfOk, OnOk, length, slice_index};
+ghost use Rattle.std.specs.Prelude.{◌≡◌, ◌<◌, ◌≤◌, ◌+◌, ◌++◌, ◌∷◌, [], ℕ, IfOk, OnOk, IsTrue, ◌↔◌, All, true, length, slice_index};
+ghost use Rattle.mds_types.specs.RankSet.{has_rank};
 ghost use Rattle.planner.specs.Present.{AreRanksNow, IsNumber, IsPartOf};
 
-use mds_types::{ProblemRow, Rank};
+use mds_types::{ProblemRow, Rank, RankSet};
 use std::alloc::{AllocError, Global};
 
 /// What stands for the number of a rank that has no row.
@@ -52,4 +53,11 @@ pub fn ranks_now(alloc: Global, rows: &[ProblemRow]) -> Result<Present, AllocErr
         found.part.push(part)?;
     }
     Ok(found)
+}
+
+/// Whether all ranks are in the set.
+pub fn are_usable(ranks: RankSet, rank: &[Rank]) -> bool
+    ensures { IsTrue result ↔ All (λ r. has_rank ranks r ≡ true) rank.now }
+{
+    rank.iter().all(|r| ranks.has(*r))
 }
