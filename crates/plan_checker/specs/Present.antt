@@ -16,10 +16,10 @@ pub record IsPresentBest (problem : ProblemData) : Type 0 where
       (greatest_heat problem.rows 64 (now_at problem.rows))
 
 -- the plan leaves each row at the rank that has it now, and moves no inode
-pub record IsStill (problem : ProblemData) (plan : Plan) : Type 0 where
+pub record IsUnmoved (problem : ProblemData) (plan : Plan) : Type 0 where
   pub stays : (i : ℕ) → i < length problem.rows → plan_rank plan (plan_label plan i) ≡ now_at problem.rows i
   pub none : plan.moved ≡ 0
 
 -- the plan moves nothing where the present placement is itself best
 abbrev pub KeepsBest : ProblemData → Plan → Type 0
-KeepsBest problem plan = IsPresentBest problem → IsStill problem plan
+KeepsBest problem plan = IsPresentBest problem → IsUnmoved problem plan

@@ -8,10 +8,10 @@ use Rattle.mds_types.specs.declared.problem.ProblemRow.{ProblemRow}
 use Rattle.mds_types.specs.declared.cut_proof.CutProof.{CutProof}
 use Rattle.mds_types.specs.declared.dual_proof.DualProof.{DualProof}
 use Rattle.mds_types.specs.Certificate.{AreRanks, IsCertified, IsCutProof, part_price_at, rank_price_at}
-use Rattle.mds_types.specs.Connected.{IsChain, IsConnected}
+use Rattle.mds_types.specs.Connected.{IsChain}
 use Rattle.mds_types.specs.Division.{IsDivision, IsEdge, IsLeast, InPart, part_heat, greatest_heat}
 use Rattle.mds_types.specs.Placing.{cost, moved, moved_at}
-use Rattle.mds_types.specs.Problem.{ProblemData, heat_at, inodes_at, now_at}
+use Rattle.mds_types.specs.Problem.{ProblemData, heat_at, now_at}
 use Rattle.mds_types.specs.RankSet.{has_rank, rank_count}
 use Rattle.mds_types.proofs.CertificateLemmas.{AreRanks-le, IsDivision-more, greatest_heat-more}
 use Rattle.mds_types.proofs.PlacingLemmas.{has_rank-lt}

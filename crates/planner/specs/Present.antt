@@ -40,7 +40,7 @@ IsPartOf old new now part =
     ⊎ ((new ≡ old ++ now ∷ []) × (part ≡ length old) × ((p : ℕ) → p < length old → slice_index old p ≢ now))
 
 -- these are the parts of the present placement, with this greatest heat, and their ranks are in the set
-pub record IsKept (problem : ProblemData) (greatest : ℕ) (now : Present) : Type 0 where
+pub record IsStaying (problem : ProblemData) (greatest : ℕ) (now : Present) : Type 0 where
   pub are : AreRanksNow problem.rows (length problem.rows) now.part.items now.rank.items
   pub division : IsBestDivision problem now.part.items (length now.rank.items) greatest
   pub ranks : AreRanks problem.ranks (length now.rank.items) (slice_index now.rank.items)

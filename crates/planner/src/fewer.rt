@@ -6,7 +6,7 @@
 ghost use Rattle.std.specs.Prelude.{◌≡◌, length};
 ghost use Rattle.mds_types.specs.Problem.{IsForest};
 
-use crate::parts::{Parts, is_top, set_top};
+use crate::parts::{Divided, is_top, set_top};
 use crate::pieces::{Piece, pieces_of};
 use mds_types::{ProblemRow, RankSet};
 use std::alloc::{AllocError, Global};
@@ -52,7 +52,7 @@ fn kept(
     limits: Limits,
     tops: &[bool],
 ) -> Result<Option<u64>, AllocError> {
-    match Parts::new(alloc, pieces, limits, tops)? {
+    match Divided::new(alloc, pieces, limits, tops)? {
         Some(parts) => Ok(Some(parts.kept(alloc, pieces, limits.ranks)?)),
         None => Ok(None),
     }
@@ -77,7 +77,7 @@ impl<'a> Search<'a> {
     }
 
     /// Whether a top may be added in place of one. `near` opens the edges next to borders and cuts.
-    fn can_change(&self, parts: &Parts, dropped: usize, added: usize, near: bool) -> bool {
+    fn can_change(&self, parts: &Divided, dropped: usize, added: usize, near: bool) -> bool {
         let above = self
             .pieces
             .get(dropped)
@@ -96,7 +96,7 @@ impl<'a> Search<'a> {
     fn replace(
         &mut self,
         alloc: Global,
-        parts: &Parts,
+        parts: &Divided,
         dropped: usize,
         near: bool,
     ) -> Result<bool, AllocError> {
@@ -113,7 +113,7 @@ impl<'a> Search<'a> {
 
     /// Makes one change, so that more inodes stay, and says whether any does.
     fn improve(&mut self, alloc: Global, near: bool) -> Result<bool, AllocError> {
-        let Some(parts) = Parts::new(alloc, self.pieces, self.limits, &self.tops)? else {
+        let Some(parts) = Divided::new(alloc, self.pieces, self.limits, &self.tops)? else {
             return Ok(false);
         };
         for dropped in 0..self.pieces.len() {
@@ -155,7 +155,7 @@ fn better_parts(
     alloc: Global,
     pieces: &[Piece],
     limits: Limits,
-) -> Result<Option<Parts>, AllocError> {
+) -> Result<Option<Divided>, AllocError> {
     let cuts = tops_of(alloc, pieces, false)?;
     let borders = tops_of(alloc, pieces, true)?;
     let by_cuts = kept(alloc, pieces, limits, &cuts)?.unwrap_or(0);
@@ -170,7 +170,7 @@ fn better_parts(
     search.run(alloc, false)?;
     search.run(alloc, true)?;
     if search.kept > by_cuts {
-        Parts::new(alloc, pieces, limits, &search.tops)
+        Divided::new(alloc, pieces, limits, &search.tops)
     } else {
         Ok(None)
     }

@@ -6,14 +6,15 @@ mod parts;
 mod pieces;
 mod present;
 
-ghost use Rattle.std.specs.Prelude.{◌≡◌, ◌≤◌, ◌↔◌, IfOk, IfSome, IsSome, IsTrue, All, ℕ, pos, true, length, slice_index_or};
+ghost use Rattle.std.specs.Prelude.{◌≡◌, ◌≤◌, ◌↔◌, ℕ, pos, true, length, slice_index_or};
+ghost use Rattle.std.specs.Prelude.{All, IfOk, IfSome, IsSome, IsTrue};
 ghost use Rattle.mds_types.specs.Certificate.{IsBest, IsCertified, IsCutCertified};
 ghost use Rattle.mds_types.specs.Division.{IsLeast};
 ghost use Rattle.mds_types.specs.Problem.{IsProblem};
 ghost use Rattle.minmax_search.specs.Found.{IsFound};
 ghost use Rattle.mds_types.specs.RankSet.{has_rank, rank_count};
-ghost use Rattle.plan_checker.specs.Present.{IsPresentBest, IsStill, KeepsBest};
-ghost use Rattle.planner.specs.Present.{IsBestDivision, IsKept};
+ghost use Rattle.plan_checker.specs.Present.{IsPresentBest, IsUnmoved, KeepsBest};
+ghost use Rattle.planner.specs.Present.{IsBestDivision, IsStaying};
 ghost use Rattle.planner.specs.Fewer.{IsNoWorse};
 
 use arrayvec::ArrayVec;
@@ -78,7 +79,7 @@ fn is_kept(
 /// The parts of the present placement, where they are a division with the least greatest heat, at ranks of the set.
 fn kept(alloc: Global, problem: &Problem, greatest: u64) -> Result<Option<Present>, AllocError>
     requires { IsLeast problem.now.rows (rank_count problem.now.ranks) greatest }
-    ensures kept { IfOk result (λ now. IfSome now (IsKept problem.now greatest)) }
+    ensures kept { IfOk result (λ now. IfSome now (IsStaying problem.now greatest)) }
     ensures best { IsPresentBest problem.now → IfOk result (λ now. IsSome now) }
 {
     let now = ranks_now(alloc, problem.rows())?;
@@ -124,11 +125,11 @@ fn sound(problem: &Problem)
 
 /// The plan that leaves each row at the rank that has it.
 fn still(alloc: Global, problem: &Problem, now: Present, found: BestCut) -> Result<Plan, AllocError>
-    requires kept { IsKept problem.now found.greatest now }
+    requires kept { IsStaying problem.now found.greatest now }
     requires found { IsFound problem.now.rows (rank_count problem.now.ranks) found }
     ensures certified { IfOk result (IsCertified problem.now) }
     ensures best { IfOk result (IsBest problem.now) }
-    ensures still { IfOk result (IsStill problem.now) }
+    ensures still { IfOk result (IsUnmoved problem.now) }
     ensures fewer { IfOk result (IsNoWorse problem.now) }
 {
     sound(problem);

@@ -7,7 +7,7 @@ use std::alloc::{AllocError, Global};
 
 /// A division of pieces.
 #[derive(Drop)]
-pub struct Parts {
+pub struct Divided {
     /// `label[i]` is the part of piece i.
     label: Vec<usize>,
     /// `heat[p]` is the heat of part p, in accesses.
@@ -33,7 +33,7 @@ pub fn set_top(tops: &mut [bool], piece: usize, is: bool) {
     }
 }
 
-impl Parts {
+impl Divided {
     /// The division that begins a part with the first piece and with each top. There is none where there are too many
     /// parts or one is too hot.
     pub fn new(
@@ -41,9 +41,9 @@ impl Parts {
         pieces: &[Piece],
         limits: Limits,
         tops: &[bool],
-    ) -> Result<Option<Parts>, AllocError> {
+    ) -> Result<Option<Divided>, AllocError> {
         let most = usize::from(limits.ranks.len());
-        let mut parts = Parts {
+        let mut parts = Divided {
             label: Vec::with_capacity(alloc, pieces.len())?,
             heat: Vec::with_capacity(alloc, most)?,
         };

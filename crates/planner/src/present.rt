@@ -1,5 +1,6 @@
 //! The present placement as parts: the rows that a rank has now are one part.
-ghost use Rattle.std.specs.Prelude.{◌≡◌, ◌<◌, ◌≤◌, ◌+◌, ◌++◌, ◌∷◌, [], ℕ, IfOk, OnOk, IsTrue, ◌↔◌, All, true, length, slice_index};
+ghost use Rattle.std.specs.Prelude.{◌≡◌, ◌<◌, ◌≤◌, ◌+◌, ◌++◌, ◌∷◌, [], ℕ, length, slice_index};
+ghost use Rattle.std.specs.Prelude.{◌↔◌, All, IfOk, IsTrue, OnOk, true};
 ghost use Rattle.mds_types.specs.RankSet.{has_rank};
 ghost use Rattle.planner.specs.Present.{AreRanksNow, IsNumber, IsPartOf};
 

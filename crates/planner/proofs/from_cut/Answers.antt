@@ -1,5 +1,3 @@
-use Rattle.std.proofs.Common.{◌≤◌, ℕ, slice_index, List, ap, subst, arith}
-use Rattle.mds_types.specs.Placing.{IsPlacing, moved}
 use Rattle.mds_types.specs.RankSet.{rank_count}
 use Rattle.mds_types.proofs.CertificateLemmas.{best}
 use Rattle.planner.proofs.SolveLemmas.{found_certified, no_worse}

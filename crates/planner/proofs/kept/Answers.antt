@@ -1,4 +1,4 @@
-use Rattle.std.proofs.Common.{◌∙◌, length, sym, true≢false}
+use Rattle.std.proofs.Common.{◌∙◌, sym, true≢false}
 use Rattle.planner.proofs.PresentLemmas.{present_divides, ranks_usable}
 use Rattle.planner.proofs.kept.Goals as goal
 
