@@ -22,11 +22,12 @@ module _ {F R W E : Type 0} (holds : F → List ℕ → Option (List ℕ)) (rema
       ⊎ ((status ≡ 3) × (new ≡ old))
 
   -- the words of the command line are accepted, and the file that they name is judged, or standard input; or they ask
-  -- for the help or the version; or they are refused, or there is no memory to read them, and nothing is printed
+  -- for the help or the version, which is written or ends with 3; or they are refused, or there is no memory to read
+  -- them, and nothing is printed
   abbrev pub IsExit : List Text → ℕ → Type 0
   IsExit words status =
       ((fault_of mdbal_check words ≡ []) × IsRun (file_of words) status)
-      ⊎ ((status ≡ 0) × (IsAmong DisplayHelp (fault_of mdbal_check words)
+      ⊎ (((status ≡ 0) ⊎ (status ≡ 3)) × (IsAmong DisplayHelp (fault_of mdbal_check words)
       ⊎ IsAmong DisplayVersion (fault_of mdbal_check words)))
       ⊎ ((status ≡ 2) × (new ≡ old) × ((fault_of mdbal_check words ≢ [])
       ⊎ GrowsByFront (said before) (said after) memory_line))

@@ -2,7 +2,7 @@
 ghost use Rattle.std.specs.Prelude.{◌≡◌, ◌⊎◌, IfOk, IfSome, None, map, option_map};
 ghost use Rattle.certificate_judge.specs.Exit.{IsExit, IsRun, given_bytes};
 ghost use Rattle.certificate_judge.specs.Judged.{GrowsByFront, memory_line};
-ghost use Rattle.command_line.specs.Outcome.{status_of};
+ghost use Rattle.command_line.specs.Outcome.{EndsWith};
 ghost use Rattle.command_line.specs.declared.options_error.OptionsError.TheVariants.{Memory};
 
 use crate::files::CertificateFiles;
@@ -83,19 +83,13 @@ fn read_bytes<F: CertificateFiles, R: Read>(
 
 /// Prints why the words name no file: the help and the version to `writer`, all else to `errors`. Gives the status.
 fn explain<W: Write, E: Write>(error: &OptionsError, writer: &mut W, errors: &mut E) -> u8
-    ensures status { result ≡ status_of error.now }
+    ensures status { EndsWith error.now result }
     ensures unprinted { result ≡ 2 → writer.new ≡ writer.old }
     ensures memory { error.now ≡ Memory → GrowsByFront (E.contents errors.old) (E.contents errors.new) memory_line }
 {
-    let status = error.status();
-    match error {
-        OptionsError::Memory => say_memory(errors),
-        OptionsError::Help(text) | OptionsError::Version(text) => {
-            let _ = write!(writer, "{text}");
-        }
-        OptionsError::Refused(text) => {
-            let _ = write!(errors, "{text}");
-        }
+    if let OptionsError::Memory = error {
+        say_memory(errors);
+        return 2;
     }
-    status
+    error.print(writer, errors)
 }

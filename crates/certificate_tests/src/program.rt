@@ -133,6 +133,16 @@ fn a_failed_device_ends_with_3(rt: HostRuntime) {
         &mut Broken,
         &mut errors,
     );
+    let mut input = EMPTY.as_bytes();
+    let version = start(
+        &files,
+        rt.alloc(),
+        &["mdbal_check", "--version"],
+        &mut input,
+        &mut Broken,
+        &mut errors,
+    );
+    holds_in(&rt, version == 3, &"version");
     holds_in(&rt, read == 3 && writer.is_empty(), &"read");
     holds_in(&rt, written == 3, &"write");
 }

@@ -1,5 +1,5 @@
 -- What stands for a line that gives no settings.
-use Rattle.std.specs.Prelude.{◌≡◌, ◌≢◌, ⊤, ℕ}
+use Rattle.std.specs.Prelude.{◌≡◌, ◌≢◌, ◌⊎◌, ⊤, ℕ}
 use Rattle.clap.specs.Words.{IsAmong, Kinds, kind_of}
 use Rattle.clap.specs.declared.error.Error.{Error}
 use Rattle.clap.specs.declared.error.kind.ErrorKind.TheVariants as kind
@@ -15,11 +15,11 @@ StandsFor error (Refused given) =
     (given ≡ error) × (kind_of error ≢ kind.OutOfMemory) × (kind_of error ≢ kind.DisplayHelp)
     × (kind_of error ≢ kind.DisplayVersion)
 
--- the status of the program
-abbrev pub status_of : OptionsError → ℕ
-status_of (Help error) = 0
-status_of (Version error) = 0
-status_of _ = 2
+-- the program ends with this status: 0 where the help or the version was written, 3 where it wasn't, and else 2
+abbrev pub EndsWith : OptionsError → ℕ → Type 0
+EndsWith (Help error) status = (status ≡ 0) ⊎ (status ≡ 3)
+EndsWith (Version error) status = (status ≡ 0) ⊎ (status ≡ 3)
+EndsWith _ status = status ≡ 2
 
 -- the outcome fits the kinds of fault that the words have: memory was refused, or the help or the version is one of
 -- them and was asked for, or the fault is one of the others

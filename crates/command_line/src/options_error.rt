@@ -1,11 +1,12 @@
 //! Why a command line gives no settings.
-ghost use Rattle.std.specs.Prelude.{◌≡◌};
-ghost use Rattle.command_line.specs.Outcome.{StandsFor, status_of};
+ghost use Rattle.std.specs.Prelude.{◌≡◌, ◌≢◌};
+ghost use Rattle.command_line.specs.Outcome.{EndsWith, StandsFor};
 ghost use Rattle.command_line.specs.declared.options_error.OptionsError.TheVariants.{Memory};
 
 use clap::Error;
 use clap::error::ErrorKind;
 use std::alloc::AllocError;
+use std::io::Write;
 
 /// Why a command line gives no settings. It prints as the text for the user, with the end of its last line.
 #[derive(Debug, Drop, thiserror::Error)]
@@ -25,15 +26,22 @@ pub enum OptionsError {
 }
 
 impl OptionsError {
-    /// The status that the program ends with: 0 where the help or the version was asked for, and else 2.
-    ///
-    /// Where it is 0 the text goes to standard output, and else to standard error.
-    pub fn status(&self) -> u8
-        ensures { result ≡ status_of self.now }
+    /// Prints the help and the version to `writer`, and all else to `errors`. Gives the status that the program ends
+    /// with: 0 where the help or the version was written, 3 where it could not be, and else 2.
+    pub fn print<W: Write, E: Write>(&self, writer: &mut W, errors: &mut E) -> u8
+        ensures status { EndsWith self.now result }
+        ensures unprinted { result ≡ 2 → writer.new ≡ writer.old }
+        ensures silent { result ≢ 2 → errors.new ≡ errors.old }
     {
         match self {
-            OptionsError::Help(_) | OptionsError::Version(_) => 0,
-            OptionsError::Memory | OptionsError::Refused(_) => 2,
+            OptionsError::Help(_) | OptionsError::Version(_) => match write!(writer, "{self}") {
+                Ok(()) => 0,
+                Err(_) => 3,
+            },
+            OptionsError::Memory | OptionsError::Refused(_) => {
+                let _ = write!(errors, "{self}");
+                2
+            }
         }
     }
 }

@@ -56,11 +56,13 @@ AreProved before after =
     (cs : List Certificate) × All (λ c. IsBest c.problem c.plan) cs × Appends before after (texts cs)
 
 -- The words of the command line are accepted, and the script is carried out with the limit and the flag that they
--- name; or nothing is read, as they ask for the help or the version, or are refused.
+-- name; or nothing is read, as they ask for the help or the version, or are refused. The status is 3 where the help or
+-- the version could not be written.
 abbrev pub IsExit : {R : Type 0} → (R → Option (List ℕ)) → List Text → Reading R → Reading R → Option (List ℕ)
     → Option (List ℕ) → ℕ → Type 0
 IsExit remaining words old new before after status =
     ((fault_of mdbal words ≡ []) × IsRun remaining (limit_of words) (is_strict words) old new before after status)
-    ⊎ ((status ≡ 0) × (IsAmong DisplayHelp (fault_of mdbal words) ⊎ IsAmong DisplayVersion (fault_of mdbal words))
+    ⊎ (((status ≡ 0) ⊎ (status ≡ 3))
+    × (IsAmong DisplayHelp (fault_of mdbal words) ⊎ IsAmong DisplayVersion (fault_of mdbal words))
     × (new ≡ old))
-    ⊎ ((status ≡ 2) × (new ≡ old))
+    ⊎ ((status ≡ 2) × (new ≡ old) × (after ≡ before))

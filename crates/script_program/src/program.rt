@@ -2,20 +2,19 @@
 ghost use Rattle.std.specs.Prelude.{◌≡◌, ◌≤◌, ◌⊎◌, ⊤, map};
 ghost use Rattle.clap.specs.Words.{IsAmong, fault_of};
 ghost use Rattle.command_line.specs.CommandLine.{mdbal};
-ghost use Rattle.command_line.specs.Outcome.{status_of};
 ghost use Rattle.script_engine.specs.Known.{AppendsFront};
 ghost use Rattle.script_program.specs.Exit.{AreProved, IsExit, IsRun, message, run_status};
 ghost use Rattle.std.specs.Option.{option_and_then};
 
 use crate::hints::LineHints;
-use command_line::{OptionsError, Settings, options};
+use command_line::{Settings, create_file, options};
 use dirtree::NameKey;
 use script_engine::{Input, RunError, write_whole};
 use script_session::laws::certificates_are_best;
 use script_session::{RunOptions, run};
 use std::alloc::Global;
 use std::convert::AsStr;
-use std::fs::{File, Files};
+use std::fs::Files;
 use std::io;
 use std::io::{Read, Write};
 use std::marker::Sync;
@@ -44,7 +43,7 @@ pub fn start<
 {
     match options(alloc, words) {
         Ok(settings) => carry_out(rt, alloc, settings, input, writer, errors),
-        Err(error) => explain(&error, writer, errors),
+        Err(error) => error.print(writer, errors),
     }
 }
 
@@ -95,7 +94,7 @@ fn name_key<T: RandomSource>(rt: &T) -> io::Result<NameKey> {
 // The file for certificates, if one is asked for, without what it held.
 fn open_proofs<T: Files>(rt: &T, file: Option<&str>) -> io::Result<Option<T::File>> {
     match file {
-        Some(path) => Ok(Some(File::create(rt, path)?)),
+        Some(path) => Ok(Some(create_file(rt, path)?)),
         None => Ok(None),
     }
 }
@@ -147,18 +146,5 @@ fn fail<E: Write>(failure: RunError, errors: &mut E) -> u8
         RunError::Write => (3, b"mdbal: write failed\n".as_slice()),
     };
     let _ = write_whole(errors, message);
-    status
-}
-
-// Writes why a command line gives no settings, the help and the version to the writer, all else to the errors.
-fn explain<W: Write, E: Write>(error: &OptionsError, writer: &mut W, errors: &mut E) -> u8
-    ensures { result ≡ status_of error.now }
-{
-    let status = error.status();
-    let _ = if status == 0 {
-        write!(writer, "{error}")
-    } else {
-        write!(errors, "{error}")
-    };
     status
 }

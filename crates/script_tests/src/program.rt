@@ -1,8 +1,8 @@
 //! The program over devices of its own.
-use crate::same::{holds_in, same, same_in};
-use script_engine::Input;
+use crate::same::{Sure, holds_in, same, same_in};
+use script_engine::{Input, Output};
 use script_program::start;
-use std::alloc::Global;
+use std::alloc::{AllocError, Global};
 use std::fs::Files;
 use std::io;
 use std::io::{Read, Write};
@@ -158,4 +158,63 @@ fn says_that_a_read_failed(rt: HostRuntime) {
         errors.as_slice() == b"mdbal: read failed\n".as_slice(),
         &"errors",
     );
+}
+
+/// Counts the bytes of all writes, and those of the longest. It can't be flushed.
+#[derive(Drop)]
+struct Counter {
+    bytes: usize,
+    longest: usize,
+}
+
+impl Write for Counter {
+    fn write(&mut self, buf: &[u8]) -> io::Result<usize> {
+        self.bytes = self.bytes.saturating_add(buf.len());
+        self.longest = self.longest.max(buf.len());
+        Ok(buf.len())
+    }
+
+    fn flush(&mut self) -> io::Result<()> {
+        Err(io::Error::from(io::ErrorKind::BrokenPipe))
+    }
+}
+
+/// Makes directories with names of 100 bytes, and reports on them.
+fn long_stat(alloc: Global, dirs: u32) -> Result<String, AllocError> {
+    let mut script = String::from_str(alloc, "ranks 1\n")?;
+    for number in 0..dirs {
+        let line = format!(in alloc; "dir /{number:0100} 1\n")?;
+        script.push_str(&line)?;
+    }
+    script.push_str("stat\n")?;
+    Ok(script)
+}
+
+// A long reply is written in pieces of 64 KB or a little more, and not kept whole.
+#[test]
+fn a_long_reply_is_written_in_pieces(rt: HostRuntime) {
+    let script = long_stat(rt.alloc(), 2000).sure(&rt);
+    let mut input = Input::new(script.as_bytes());
+    let (bytes, longest) = (0, 0);
+    let mut writer = Counter { bytes, longest };
+    let mut errors = Vec::new(rt.alloc());
+    let status = start(
+        &rt,
+        rt.alloc(),
+        &["mdbal"],
+        &mut input,
+        &mut writer,
+        &mut errors,
+    );
+    same(&rt, &status, &0);
+    holds_in(&rt, writer.bytes > 200_000, &writer.bytes);
+    let is_piece = (65_536..66_000).contains(&writer.longest);
+    holds_in(&rt, is_piece, &writer.longest);
+}
+
+#[test]
+fn a_failed_flush_is_an_error(rt: HostRuntime) {
+    let (bytes, longest) = (0, 0);
+    let mut output = Output::new(Counter { bytes, longest });
+    holds_in(&rt, output.flush().is_err(), &"flush");
 }

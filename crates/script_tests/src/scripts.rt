@@ -272,7 +272,7 @@ fn each_failed_write_ends_a_run(rt: HostRuntime) {
 // With `rt try --test --fail-alloc N`, the N-th growth is refused: one answer at most says so, and a `ranks` that was
 // refused is accepted when it is tried again.
 #[test]
-fn a_refused_ranks_is_tried_again(rt: HostRuntime) {
+fn a_refused_growth_of_ranks_is_tried_again(rt: HostRuntime) {
     let mut sink = sink_of(rt.alloc(), ENOUGH);
     let source = source_of(b"ranks 1\nranks 1\nstat\n", ENOUGH);
     let (result, _left) = carried_out(&rt, rt.alloc(), source, &mut sink, 4, false);

@@ -1,5 +1,6 @@
 //! Command lines and what they come to.
 
+use crate::devices::{ENOUGH, sink_of};
 use crate::same::{Sure, holds_in, same, same_in};
 use command_line::{OptionsError, Settings, options};
 use std::alloc::Global;
@@ -67,16 +68,24 @@ const REFUSED: &[&[&str]] = &[
     &["mdbal", "--proofs", "a", "--proofs", "b"],
 ];
 
-/// The words are refused, with the text of an error and with status 2.
+/// What an error prints on a device that fails after so many writes, and on standard error, with the status.
+fn printed(alloc: Global, error: &OptionsError, writes: usize) -> (u8, Vec<u8>, Vec<u8>) {
+    let mut sink = sink_of(alloc, 4096);
+    sink.writes = writes;
+    let mut errors = Vec::new(alloc);
+    let status = error.print(&mut sink, &mut errors);
+    (status, sink.bytes, errors)
+}
+
+/// The words are refused, with the text of an error on standard error and with status 2.
 fn is_refused(rt: &impl Abort, alloc: Global, words: &[&str]) {
-    match options(alloc, words) {
-        Err(OptionsError::Refused(error)) => {
-            let text = format!(in alloc; "{error}").sure(rt);
-            holds_in(rt, text.starts_with("error: "), &words);
-            same_in(rt, &OptionsError::Refused(error).status(), &2, &words);
-        }
-        _ => holds_in(rt, false, &words),
-    }
+    let Err(error) = options(alloc, words) else {
+        panic!(rt; "they are accepted")
+    };
+    let (status, writer, errors) = printed(alloc, &error, ENOUGH);
+    same_in(rt, &status, &2, &words);
+    holds_in(rt, writer.is_empty(), &words);
+    holds_in(rt, errors.as_slice().starts_with(b"error: "), &words);
 }
 
 #[test]
@@ -92,33 +101,42 @@ const HELP: &[&[&str]] = &[
     &["mdbal", "--strict", "--help", "--limit"],
 ];
 
-/// What stands in the text of help.
+/// What is in the text of help: each option with a phrase of its own help, and the ends of the commands and statuses.
 const HELP_WORDS: &[&str] = &[
     "Usage: mdbal [OPTIONS]",
-    "--limit <N>",
-    "--strict",
-    "--quiet",
+    "--limit <N>      Limit on directory numbers",
+    "--strict         End the run with the first faulty line",
+    "--proofs <FILE>  File to write the certificates",
+    "--quiet          Write no hints",
+    "stat              print a report",
+    "3  a read or a write failed",
 ];
 
-/// Help is told, with all of its words.
+/// The help goes to standard output only, with all of its words. Where it can't be written, the status is 3.
 fn is_help(rt: &impl Abort, alloc: Global, words: &[&str]) {
-    match options(alloc, words) {
-        Err(help) => {
-            same_in(rt, &help.status(), &0, &words);
-            has_help_words(rt, &format!(in alloc; "{help}").sure(rt));
-        }
-        Ok(_) => holds_in(rt, false, &words),
-    }
+    let Err(help) = options(alloc, words) else {
+        panic!(rt; "they are accepted")
+    };
+    let (status, writer, errors) = printed(alloc, &help, ENOUGH);
+    same_in(rt, &status, &0, &words);
+    holds_in(rt, errors.is_empty(), &words);
+    has_help_words(rt, &writer);
+    let (failed, _beginning, unsaid) = printed(alloc, &help, 0);
+    same_in(rt, &failed, &3, &words);
+    holds_in(rt, unsaid.is_empty(), &words);
 }
 
-fn has_help_words(rt: &impl Abort, text: &str) {
+fn has_help_words(rt: &impl Abort, text: &[u8]) {
+    let Ok(text) = str::from_utf8(text) else {
+        panic!(rt; "the help is no text")
+    };
     for word in HELP_WORDS {
         holds_in(rt, text.contains(word), word);
     }
 }
 
 #[test]
-fn tells_help_apart(rt: HostRuntime) {
+fn help_goes_to_standard_output(rt: HostRuntime) {
     for words in HELP {
         is_help(&rt, rt.alloc(), words);
     }
@@ -127,28 +145,34 @@ fn tells_help_apart(rt: HostRuntime) {
 const VERSION: &[&[&str]] = &[&["mdbal", "--version"], &["mdbal", "-V"]];
 
 fn is_version(rt: &impl Abort, alloc: Global, words: &[&str]) {
-    match options(alloc, words) {
-        Err(OptionsError::Version(error)) => {
-            let text = format!(in alloc; "{error}").sure(rt);
-            same_in(rt, &text.as_str(), &"mdbal 0.1.0\n", &words);
-            same_in(rt, &OptionsError::Version(error).status(), &0, &words);
-        }
-        _ => holds_in(rt, false, &words),
-    }
+    let Err(version) = options(alloc, words) else {
+        panic!(rt; "they are accepted")
+    };
+    let (status, writer, errors) = printed(alloc, &version, ENOUGH);
+    same_in(rt, &status, &0, &words);
+    holds_in(rt, writer.as_slice() == b"mdbal 0.1.0\n".as_slice(), &words);
+    holds_in(rt, errors.is_empty(), &words);
+    let (failed, _beginning, _unsaid) = printed(alloc, &version, 0);
+    same_in(rt, &failed, &3, &words);
 }
 
 #[test]
-fn tells_the_version_apart(rt: HostRuntime) {
+fn the_version_goes_to_standard_output(rt: HostRuntime) {
     for words in VERSION {
         is_version(&rt, rt.alloc(), words);
     }
 }
 
 #[test]
-fn prints_want_of_memory(rt: HostRuntime) {
-    let text = format!(in rt.alloc(); "{}", OptionsError::Memory).sure(&rt);
-    same(&rt, &text.as_str(), &"mdbal: 0 Memory\n");
-    same(&rt, &OptionsError::Memory.status(), &2);
+fn prints_out_of_memory(rt: HostRuntime) {
+    let (status, writer, errors) = printed(rt.alloc(), &OptionsError::Memory, ENOUGH);
+    same(&rt, &status, &2);
+    holds_in(&rt, writer.is_empty(), &"writer");
+    holds_in(
+        &rt,
+        errors.as_slice() == b"mdbal: 0 Memory\n".as_slice(),
+        &"errors",
+    );
 }
 
 /// Words that are accepted.
