@@ -2,6 +2,7 @@
 ghost use Rattle.std.specs.Prelude.{◌≡◌, []};
 
 use crate::looks::{is_awaited, is_under_way};
+use crate::unsettled::Unsettled;
 use export_machine::{Cluster, Event, ImporterState, StepError};
 use mds_types::{Dir, Order, Rank};
 use std::alloc::{AllocError, Global};
@@ -50,12 +51,13 @@ impl Desk {
     }
 }
 
-/// A desk for each active rank, with its orders and with what is open when the phase begins.
+/// A desk for each active rank, with its orders and with what isn't settled when the phase begins.
 pub fn set_up(
     alloc: Global,
     cluster: &Cluster,
     active: u8,
     orders: &[Order],
+    unsettled: &Unsettled,
 ) -> Result<Vec<Desk>, AllocError> {
     let mut desks = Vec::with_capacity(alloc, active as usize)?;
     for number in 0..active {
@@ -64,8 +66,8 @@ pub fn set_up(
         }
     }
     lay_orders(orders, &mut desks)?;
-    lay_exports(cluster, &mut desks)?;
-    sort_out(cluster, &mut desks, 0..cluster.sent())?;
+    lay_exports(cluster, &mut desks, unsettled.exports())?;
+    lay_messages(cluster, &mut desks, unsettled.messages())?;
     Ok(desks)
 }
 
@@ -79,23 +81,55 @@ fn lay_orders(orders: &[Order], desks: &mut Vec<Desk>) -> Result<(), AllocError>
     Ok(())
 }
 
-// Lays the exports that are open on the desks of their ranks.
-fn lay_exports(cluster: &Cluster, desks: &mut Vec<Desk>) -> Result<(), AllocError> {
-    for export in 0..u32::MAX {
-        let (Some(order), Some((exporter, importer))) = (
-            cluster.export(export),
-            cluster.states(export),
-        ) else {
-            break;
-        };
-        if let ImporterState::Started = importer {
-            if let Some(desk) = desks.get_mut(order.to.number() as usize) {
-                desk.imports.push(export)?;
-            }
+// Lays exports on the desks of their ranks.
+fn lay_exports(
+    cluster: &Cluster,
+    desks: &mut Vec<Desk>,
+    exports: &[u32],
+) -> Result<(), AllocError> {
+    for export in exports {
+        lay_export(cluster, desks, *export)?;
+    }
+    Ok(())
+}
+
+// Lays messages on the desks of the ranks that they are for.
+fn lay_messages(
+    cluster: &Cluster,
+    desks: &mut Vec<Desk>,
+    messages: &[u32],
+) -> Result<(), AllocError> {
+    for message in messages {
+        lay_message(cluster, desks, *message)?;
+    }
+    Ok(())
+}
+
+// Lays an export on the desks of its ranks, as far as these have to look after it.
+fn lay_export(cluster: &Cluster, desks: &mut Vec<Desk>, export: u32) -> Result<(), AllocError> {
+    let (Some(order), Some((exporter, importer))) = (cluster.export(export), cluster.states(export))
+    else {
+        return Ok(());
+    };
+    if let ImporterState::Started = importer {
+        if let Some(desk) = desks.get_mut(order.to.number() as usize) {
+            desk.imports.push(export)?;
         }
-        if is_under_way(exporter) {
-            if let Some(desk) = desks.get_mut(order.from.number() as usize) {
-                desk.exports.push(export)?;
+    }
+    if is_under_way(exporter) {
+        if let Some(desk) = desks.get_mut(order.from.number() as usize) {
+            desk.exports.push(export)?;
+        }
+    }
+    Ok(())
+}
+
+// Lays a message on the desk of the rank that it is for, unless it can't do anything any more or the rank has stopped.
+fn lay_message(cluster: &Cluster, desks: &mut Vec<Desk>, message: u32) -> Result<(), AllocError> {
+    if let Some((export, rank)) = cluster.to(message) {
+        if is_awaited(cluster, export) && !is_stopped(cluster, rank) {
+            if let Some(desk) = desks.get_mut(rank.number() as usize) {
+                desk.messages.push(message)?;
             }
         }
     }
@@ -110,13 +144,7 @@ pub fn sort_out(
     messages: Range<u32>,
 ) -> Result<(), AllocError> {
     for message in messages {
-        if let Some((export, rank)) = cluster.to(message) {
-            if is_awaited(cluster, export) && !is_stopped(cluster, rank) {
-                if let Some(desk) = desks.get_mut(rank.number() as usize) {
-                    desk.messages.push(message)?;
-                }
-            }
-        }
+        lay_message(cluster, desks, message)?;
     }
     Ok(())
 }

@@ -15,8 +15,10 @@ pub mod standing;
 pub mod starting;
 mod stepping;
 mod turn;
+pub mod unsettled;
 
 pub use desk::Desk;
 pub use outcome::Outcome;
-pub use phase::carry_out_orders;
+pub use phase::{carry_out_orders, carry_out_orders_from};
 pub use standing::Standing;
+pub use unsettled::Unsettled;

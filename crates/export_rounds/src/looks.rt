@@ -1,5 +1,5 @@
 //! What the states of an export ask of its ranks.
-ghost use Rattle.std.specs.Prelude.{◌≡◌, ◌<◌, ◌≤◌, false, length};
+ghost use Rattle.std.specs.Prelude.{◌≡◌, ◌<◌, ◌≤◌, ◌||◌, false, length};
 ghost use Rattle.export_machine.specs.Authority.{exporter_of, importer_of};
 ghost use Rattle.export_rounds.specs.Looks as looks;
 
@@ -68,6 +68,15 @@ pub fn is_awaited(cluster: &Cluster, export: u32) -> bool
         Some(_) => true,
         None => false,
     }
+}
+
+/// Whether an export may still go on: its exporter has steps to make, or messages about it may still do something.
+pub fn is_unsettled(cluster: &Cluster, export: u32) -> bool
+    ensures there { export < length cluster.now.world.orders
+        → result ≡ (looks.is_under_way (exporter_of cluster.now.world export) || looks.is_awaited
+        (exporter_of cluster.now.world export) (importer_of cluster.now.world export)) }
+{
+    is_at_work(cluster, export) || is_awaited(cluster, export)
 }
 
 /// Whether a message may still do something.

@@ -13,6 +13,7 @@ use crate::outcome::Outcome;
 use crate::standing::Standing;
 use crate::starting::{settle_rest, start_at, waiting};
 use crate::turn::{ask, take_turn};
+use crate::unsettled::Unsettled;
 use authority_map::Publisher;
 use mds_board::Board;
 use mds_types::Order;
@@ -22,13 +23,10 @@ use std::alloc::{AllocError, Global};
 /// Rounds of a phase after its first.
 const LATER_ROUNDS: u32 = 7;
 
-/// Carries out orders in eight rounds, and tells what became of each.
+/// Carries out orders in eight rounds, and tells what became of each. It looks at all exports and messages that ever
+/// were.
 ///
-/// In a round each rank, from 0 on, takes the messages that had come when the round began, in rising order, freezes its
-/// exports in state freezing, notifies of its logged ones and publishes the map if it did. In the first round it
-/// starts its orders and asks about its imports that were left started before that. An event that is refused is
-/// passed over. What isn't logged after the last round is aborted. All memory for
-/// the answer is asked for before the first event.
+/// For a board that has many phases, `carry_out_orders_from` keeps what isn't settled.
 pub fn carry_out_orders<J: Naming, M: Publisher<J>>(
     board: &mut Board<J, M>,
     alloc: Global,
@@ -40,9 +38,34 @@ pub fn carry_out_orders<J: Naming, M: Publisher<J>>(
     ensures all { IfOk result (λ outcomes. AreAll board.old board.new outcomes.items) }
     ensures unchanged { OnErr result (board.new ≡ board.old) }
 {
+    carry_out_orders_from(board, alloc, orders, &mut Unsettled::new(alloc))
+}
+
+/// Carries out orders in eight rounds, and tells what became of each.
+///
+/// In a round each rank, from 0 on, takes the messages that had come when the round began, in rising order, freezes its
+/// exports in state freezing, notifies of its logged ones and publishes the map if it did. In the first round it
+/// starts its orders and asks about its imports that were left started before that. An event that is refused is
+/// passed over. What isn't logged after the last round is aborted. All memory for
+/// the answer is asked for before the first event. `unsettled` is what the board's earlier phases left, so that this
+/// one looks only at that and at what is newer.
+pub fn carry_out_orders_from<J: Naming, M: Publisher<J>>(
+    board: &mut Board<J, M>,
+    alloc: Global,
+    orders: &[Order],
+    unsettled: &mut Unsettled,
+) -> Result<Vec<Outcome>, AllocError>
+    ensures further { IsFurther board.old board.new }
+    ensures events { GoesOnBy (length board.old.state.cluster.orders) board.old board.new }
+    ensures outcomes { IfOk result (λ outcomes. AreOutcomes board.old board.new orders.now outcomes.items) }
+    ensures all { IfOk result (λ outcomes. AreAll board.old board.new outcomes.items) }
+    ensures unchanged { OnErr result (board.new ≡ board.old) }
+{
     let mut outcomes = Vec::with_capacity(alloc, orders.len())?;
     let mut standings = waiting(alloc, orders)?;
-    let mut desks = set_up(alloc, board.cluster(), board.pins().active(), orders)?;
+    unsettled.update(board.cluster())?;
+    let active = board.pins().active();
+    let mut desks = set_up(alloc, board.cluster(), active, orders, unsettled)?;
     let sent = board.cluster().sent();
     first_round(board, alloc, &mut standings, &mut desks);
     later_rounds(board, alloc, &mut desks, sent);

@@ -17,7 +17,7 @@ use export_machine::Event;
 use export_rounds::desk::set_up;
 use export_rounds::looks::is_before_log;
 use export_rounds::starting::waiting;
-use export_rounds::{Desk, Standing};
+use export_rounds::{Desk, Standing, Unsettled};
 use mds_board::Board;
 use mds_types::Order;
 use naming::Naming;
@@ -49,6 +49,7 @@ fn prepare<J: Naming, M: Publisher<J>>(
     alloc: Global,
     board: &Board<J, M>,
     orders: &[Order],
+    unsettled: &mut Unsettled,
 ) -> Result<Prepared, AllocError>
     ensures asked { IfOk result (λ p. AreAsked board.now board.now orders.now p.standings.items) }
     ensures none { IfOk result (λ p. count_by is_begun p.standings.items ≡ 0) }
@@ -56,7 +57,9 @@ fn prepare<J: Naming, M: Publisher<J>>(
 {
     let outcomes = Vec::with_capacity(alloc, orders.len())?;
     let standings = waiting(alloc, orders)?;
-    let desks = set_up(alloc, board.cluster(), board.pins().active(), orders)?;
+    unsettled.update(board.cluster())?;
+    let active = board.pins().active();
+    let desks = set_up(alloc, board.cluster(), active, orders, unsettled)?;
     let places = places_for(alloc, &desks)?;
     Ok(Prepared {
         outcomes,
@@ -169,16 +172,9 @@ fn carry_out_named<
 }
 
 /// Carries out orders in eight rounds, by a thread for each rank that has something to do, and tells what became of
-/// each.
+/// each. It looks at all exports and messages that ever were.
 ///
-/// In a round each rank takes the messages that had come when the round began, in rising order, freezes its exports
-/// in state freezing, notifies of its logged ones and publishes the map if it did. In the first round it starts its
-/// orders and asks about its imports that were left started before that. An event that is refused is passed over.
-/// What isn't logged after the last round is aborted, but for exports of earlier phases. The orders of a rank for
-/// which there is no thread in the first round aren't started; what else it has to look after goes on by the calling
-/// thread.
-///
-/// All memory for the answer is asked for before the first event.
+/// For a board that has many phases, `export_phase_from` keeps what isn't settled.
 pub fn export_phase<
     J: Naming + Send + Sync,
     M: Publisher<J> + Send,
@@ -197,7 +193,42 @@ pub fn export_phase<
     ensures all { IfOk result.1 (λ outcomes. AreAll board result.0 outcomes.items) }
     ensures unchanged { OnErr result.1 (result.0 ≡ board) }
 {
-    let prepared = match prepare(alloc, &board, orders) {
+    let mut unsettled = Unsettled::new(alloc);
+    export_phase_from(rt, alloc, board, gate, orders, &mut unsettled)
+}
+
+/// Carries out orders in eight rounds, by a thread for each rank that has something to do, and tells what became of
+/// each.
+///
+/// In a round each rank takes the messages that had come when the round began, in rising order, freezes its exports
+/// in state freezing, notifies of its logged ones and publishes the map if it did. In the first round it starts its
+/// orders and asks about its imports that were left started before that. An event that is refused is passed over.
+/// What isn't logged after the last round is aborted, but for exports of earlier phases. The orders of a rank for
+/// which there is no thread in the first round aren't started; what else it has to look after goes on by the calling
+/// thread.
+///
+/// All memory for the answer is asked for before the first event. `unsettled` is what the board's earlier phases left,
+/// so that this one looks only at that and at what is newer.
+pub fn export_phase_from<
+    J: Naming + Send + Sync,
+    M: Publisher<J> + Send,
+    R: Threads + Wait + Sync,
+    G: Gate + Sync,
+>(
+    rt: &R,
+    alloc: Global,
+    board: Board<J, M>,
+    gate: &G,
+    orders: &[Order],
+    unsettled: &mut Unsettled,
+) -> (Board<J, M>, Result<Vec<OrderOutcome>, AllocError>)
+    ensures further { IsFurther board result.0 }
+    ensures events { GoesOnBy (length board.state.cluster.orders) board result.0 }
+    ensures outcomes { IfOk result.1 (λ outcomes. AreTold board result.0 orders.now outcomes.items) }
+    ensures all { IfOk result.1 (λ outcomes. AreAll board result.0 outcomes.items) }
+    ensures unchanged { OnErr result.1 (result.0 ≡ board) }
+{
+    let prepared = match prepare(alloc, &board, orders, unsettled) {
         Ok(prepared) => prepared,
         Err(error) => return (board, Err(error)),
     };

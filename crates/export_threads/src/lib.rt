@@ -14,7 +14,7 @@ mod turn;
 mod turns;
 mod under_way;
 
-pub use export_rounds::Outcome;
-pub use exporting::export_phase;
+pub use export_rounds::{Outcome, Unsettled};
+pub use exporting::{export_phase, export_phase_from};
 pub use gate::{Gate, OpenGate};
 pub use order_outcome::OrderOutcome;

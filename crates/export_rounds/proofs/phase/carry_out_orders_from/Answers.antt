@@ -6,7 +6,7 @@ use Rattle.export_rounds.specs.Asked.{AreAsked, IsAsked, is_begun}
 use Rattle.export_rounds.proofs.Adding.{adds_more}
 use Rattle.export_rounds.proofs.Asking.{all_stay, each_long}
 use Rattle.export_rounds.proofs.Going.{joins, stays}
-use Rattle.export_rounds.proofs.phase.carry_out_orders.Goals as goal
+use Rattle.export_rounds.proofs.phase.carry_out_orders_from.Goals as goal
 
 pub tell-requires-clause-room : goal.tell-requires-clause-room
 tell-requires-clause-room g c =
@@ -42,7 +42,7 @@ returns-clause-outcomes g c =
     let later = all_stay b c.first_round.new.board c.later_rounds.new.board orders c.first_round.new.standings.items c.later_rounds.ensures.further asked in
     let settled = c.settle_rest.ensures.asked b orders (joins _ _ _ c.first_round.ensures.further c.later_rounds.ensures.further) later in
     let last = all_stay b c.settle_rest.new.board c.abort_rest.new.board orders c.settle_rest.new.standings.items c.abort_rest.ensures.further settled in
-    c.tell.ensures.told b c.abort_rest.new.board orders (sym c.cluster-3.ensures)
+    c.tell.ensures.told b c.abort_rest.new.board orders (sym c.cluster-4.ensures)
     (subst (λ (xs : List Standing). AreAsked b c.abort_rest.new.board orders xs) (sym c.deref-2.ensures.value) last)
 
 pub returns-clause-all : goal.returns-clause-all
