@@ -26,7 +26,7 @@ use Rattle.rank_threads.specs.declared.work.WorkError.{WorkError}
 use Rattle.rank_threads.specs.Answered.{AreAnswered, IsAnswered, IsBegun, IsRankAnswered, IsReply}
 use Rattle.rank_threads.specs.Going.{WentOn, added, is_of_requests}
 use Rattle.rank_threads.specs.Serving.{no_thread}
-use Rattle.rank_threads.specs.Tickets.{AreApart, IsGivenBefore, IsGivenBetween, IsNew, all_tickets, begun_in, named_by, one_begun, tickets_of}
+use Rattle.rank_threads.specs.Tickets.{AreApart, IsGivenBefore, IsGivenBetween, IsNew, all_tickets, begun_in, ticket_named, one_begun, tickets_of}
 use Rattle.rank_threads.proofs.Ended.{as_long, begin_reply, begin_tickets, deposit_tickets, next_tickets}
 use Rattle.rank_threads.proofs.Full.{parts_of}
 
@@ -166,9 +166,9 @@ apart_append : (xs ys : List ℕ) → AreApart xs → AreApart ys → EachIs (λ
 apart_append [] ys p q e = q
 apart_append (x ∷ xs) ys p q e = (new_append x xs ys p.0 e.0, apart_append xs ys p.1 q e.1)
 
-tickets_more : (answers : List WorkAnswer) (a : WorkAnswer) → tickets_of (answers ++ a ∷ []) ≡ tickets_of answers ++ named_by a.ticket
-tickets_more [] a = append-nil (named_by a.ticket)
-tickets_more (b ∷ answers) a = ap (λ (l : List ℕ). named_by b.ticket ++ l) (tickets_more answers a) ∙ sym (append_assoc (named_by b.ticket) (tickets_of answers) (named_by a.ticket))
+tickets_more : (answers : List WorkAnswer) (a : WorkAnswer) → tickets_of (answers ++ a ∷ []) ≡ tickets_of answers ++ ticket_named a.ticket
+tickets_more [] a = append-nil (ticket_named a.ticket)
+tickets_more (b ∷ answers) a = ap (λ (l : List ℕ). ticket_named b.ticket ++ l) (tickets_more answers a) ∙ sym (append_assoc (ticket_named b.ticket) (tickets_of answers) (ticket_named a.ticket))
 
 all_more : (answers : List (List WorkAnswer)) (given : List WorkAnswer) → all_tickets (answers ++ given ∷ []) ≡ all_tickets answers ++ tickets_of given
 all_more [] given = append-nil (tickets_of given)
@@ -181,7 +181,7 @@ abbrev pub AreGiven : World → List Entry → List ℕ → Type 0
 AreGiven before log tickets = AreApart tickets × EachIs (IsGivenBefore before log) tickets
 
 named_more : (before : World) (old new : List Entry) (ts : List ℕ) (ticket : Option ℕ) → IsPrefix old new → IfSome ticket (λ t. IsGivenBetween before old t new)
-    → AreGiven before old ts → AreGiven before new (ts ++ named_by ticket)
+    → AreGiven before old ts → AreGiven before new (ts ++ ticket_named ticket)
 named_more before old new ts None seen is h =
     let less = begun_less old new seen in
     let later = each_then (IsGivenBefore before old) (IsGivenBefore before new) (λ x p. omega (arith, p, less)) ts h.1 in
@@ -206,12 +206,12 @@ given_more before old new answers a seen is h =
 none_named : (answers : List WorkAnswer) → All (λ a. a ≡ no_thread) answers → tickets_of answers ≡ []
 none_named [] h = refl
 none_named (a ∷ answers) h =
-    let first = ap (λ (b : WorkAnswer). named_by b.ticket) (head_has (λ (b : WorkAnswer). b ≡ no_thread) a answers h) in
+    let first = ap (λ (b : WorkAnswer). ticket_named b.ticket) (head_has (λ (b : WorkAnswer). b ≡ no_thread) a answers h) in
     let rest = none_named answers (tail_have (λ (b : WorkAnswer). b ≡ no_thread) a answers h) in
     ap (λ (l : List ℕ). l ++ tickets_of answers) first ∙ rest
 
 one_new : (before : World) (log : List Entry) (r d t rank dir : ℕ) (ticket : Option ℕ) (refused : Option WorkError) → IsBegun before log r d t → r ≢ rank
-    → IsReply before log rank dir ticket refused → IsNew t (named_by ticket)
+    → IsReply before log rank dir ticket refused → IsNew t (ticket_named ticket)
 one_new before log r d t rank dir None refused begun other reply = tt
 one_new before log r d t rank dir (Some u) refused begun other reply =
     (λ same. other (one_rank before log r d rank dir t begun (subst (λ (x : ℕ). IsBegun before log rank dir x) (sym same) reply)), tt)
@@ -222,7 +222,7 @@ each_new before log r d t rank [] [] begun other all = tt
 each_new before log r d t rank [] (a ∷ given) begun other all = absurd all
 each_new before log r d t rank (w ∷ works) [] begun other all = absurd all
 each_new before log r d t rank (w ∷ works) (a ∷ given) begun other all =
-    new_append t (named_by a.ticket) (tickets_of given) (one_new before log r d t rank w.dir a.ticket a.refused begun other all.0)
+    new_append t (ticket_named a.ticket) (tickets_of given) (one_new before log r d t rank w.dir a.ticket a.refused begun other all.0)
     (each_new before log r d t rank works given begun other all.1)
 
 rank_new : (before : World) (log : List Entry) (r d t rank : ℕ) (works : List Work) (given : List WorkAnswer) → IsBegun before log r d t → r ≢ rank
@@ -231,7 +231,7 @@ rank_new before log r d t rank works given begun other (inl all) = each_new befo
 rank_new before log r d t rank works given begun other (inr none) = subst (λ (l : List ℕ). IsNew t l) (sym (none_named given none)) tt
 
 one_apart : (before : World) (log : List Entry) (r dir rank : ℕ) (ticket : Option ℕ) (refused : Option WorkError) (works : List Work) (given : List WorkAnswer) → r ≢ rank
-    → IsReply before log r dir ticket refused → IsRankAnswered before log rank works given → EachIs (λ x. IsNew x (tickets_of given)) (named_by ticket)
+    → IsReply before log r dir ticket refused → IsRankAnswered before log rank works given → EachIs (λ x. IsNew x (tickets_of given)) (ticket_named ticket)
 one_apart before log r dir rank None refused works given other reply last = tt
 one_apart before log r dir rank (Some t) refused works given other reply last = (rank_new before log r dir t rank works given reply other last, tt)
 
@@ -241,7 +241,7 @@ rank_apart before log r rank [] [] works given other all last = tt
 rank_apart before log r rank [] (a ∷ answers) works given other all last = absurd all
 rank_apart before log r rank (w ∷ mine) [] works given other all last = absurd all
 rank_apart before log r rank (w ∷ mine) (a ∷ answers) works given other all last =
-    each_append (λ x. IsNew x (tickets_of given)) (named_by a.ticket) (tickets_of answers)
+    each_append (λ x. IsNew x (tickets_of given)) (ticket_named a.ticket) (tickets_of answers)
     (one_apart before log r w.dir rank a.ticket a.refused works given other all.0 last) (rank_apart before log r rank mine answers works given other all.1 last)
 
 some_apart : (before : World) (log : List Entry) (r rank : ℕ) (mine : List Work) (answers : List WorkAnswer) (works : List Work) (given : List WorkAnswer) → r ≢ rank

@@ -7,14 +7,14 @@ use Rattle.mds_board.specs.declared.entry.Entry.{Entry}
 use Rattle.mds_board.specs.History.{World}
 use Rattle.rank_threads.specs.declared.work.WorkAnswer.{WorkAnswer}
 
-abbrev pub named_by : Option ℕ → List ℕ
-named_by None = []
-named_by (Some ticket) = ticket ∷ []
+abbrev pub ticket_named : Option ℕ → List ℕ
+ticket_named None = []
+ticket_named (Some ticket) = ticket ∷ []
 
 -- the tickets that the answers of a rank name, in order
 abbrev pub tickets_of : List WorkAnswer → List ℕ
 tickets_of [] = []
-tickets_of (a ∷ answers) = named_by a.ticket ++ tickets_of answers
+tickets_of (a ∷ answers) = ticket_named a.ticket ++ tickets_of answers
 
 -- the tickets that the answers of all ranks name
 abbrev pub all_tickets : List (List WorkAnswer) → List ℕ

@@ -17,7 +17,7 @@ use heat_ledger::Share;
 use mds_board::{Board, Entry};
 use mds_types::{Dir, Rank};
 use naming::Naming;
-use seen_log::{Log, LogName, NewLog, Seen};
+use seen_log::{Log, LogName, NewLog, Sight};
 use std::alloc::Global;
 use std::marker::{Brand, Model, PhantomData};
 use std::sync::{Mutex, MutexGuard, Wait};
@@ -61,7 +61,7 @@ impl<J: Naming, M: Publisher<J>, K: Phase> Phased<J, M, K> {
     /// seen the board's history.
     pub fn begin(
         &mut self,
-        seen: &mut Seen<Entry, K>,
+        seen: &mut Sight<Entry, K>,
         share: &mut Share<J>,
         rank: Rank,
         dir: Dir,
@@ -106,8 +106,8 @@ impl<J: Naming, M: Publisher<J>, K: Phase> Phased<J, M, K> {
     pub fn deposit(
         &mut self,
         alloc: Global,
-        seen: &mut Seen<Entry, K>,
-        of_rank: Seen<Entry, K>,
+        seen: &mut Sight<Entry, K>,
+        of_rank: Sight<Entry, K>,
         share: &mut Share<J>,
     ) -> Result<(), BoardError>
         ensures answer { IsAnswer self.old (Change.Deposit (counted_rows share.old.pending))
@@ -126,7 +126,7 @@ impl<J: Naming, M: Publisher<J>, K: Phase> Phased<J, M, K> {
     }
 
     /// What a thread knows that has seen the board's history.
-    pub fn seen(&mut self) -> Seen<Entry, K>
+    pub fn seen(&mut self) -> Sight<Entry, K>
         ensures seen { result ≡ self.old.history }
         ensures same { self.new ≡ self.old }
     {
@@ -134,7 +134,7 @@ impl<J: Naming, M: Publisher<J>, K: Phase> Phased<J, M, K> {
     }
 
     /// The board's history goes on from what a thread has seen. It does nothing.
-    pub fn compare(&mut self, seen: Seen<Entry, K>)
+    pub fn compare(&mut self, seen: Sight<Entry, K>)
         ensures before { IsPrefix seen self.old.history }
         ensures same { self.new ≡ self.old }
     {
@@ -204,7 +204,7 @@ fn note<J: Naming, M: Publisher<J>, K: Phase>(board: &Board<J, M>, log: &mut Log
 fn tell<J: Naming, M: Publisher<J>, K: Phase>(
     board: &Board<J, M>,
     log: &mut Log<Entry, K>,
-    seen: &mut Seen<Entry, K>,
+    seen: &mut Sight<Entry, K>,
 )
     requires { IsPrefix log.old board.now.history }
     ensures log { log.new ≡ board.now.history }

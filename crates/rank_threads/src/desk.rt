@@ -11,7 +11,7 @@ use heat_ledger::Share;
 use mds_board::Entry;
 use mds_types::Rank;
 use naming::Naming;
-use seen_log::Seen;
+use seen_log::Sight;
 use std::alloc::Global;
 use std::marker::{Model, PhantomData, Send, Sync};
 use std::snapshot::Snapshot;
@@ -31,7 +31,7 @@ pub(crate) struct Desk<J: Naming> {
 pub(crate) struct Done<J: Naming, K: Phase> {
     pub(crate) share: Share<J>,
     pub(crate) answers: Vec<WorkAnswer>,
-    pub(crate) seen: Seen<Entry, K>,
+    pub(crate) seen: Sight<Entry, K>,
 }
 
 // What a thread makes of a desk: the share that it had, and the rank and its script, in the phase `K`.

@@ -22,7 +22,7 @@ use heat_ledger::Share;
 use mds_board::{Board, Entry};
 use mds_types::Rank;
 use naming::Naming;
-use seen_log::{NewLog, Seen};
+use seen_log::{NewLog, Sight};
 use std::alloc::{AllocError, AllocFailed, Global};
 use std::marker::{Brand, Send, Sync};
 use std::sync::Wait;
@@ -48,7 +48,7 @@ struct Joined<J: Naming, K: Phase> {
     shares: Vec<Share<J>>,
     answers: Vec<Vec<WorkAnswer>>,
     deposited: Result<(), BoardError>,
-    seen: Seen<Entry, K>,
+    seen: Sight<Entry, K>,
 }
 
 // The shares, room for the answers, and room for the ranks that are asked.
@@ -64,8 +64,8 @@ fn deposit<J: Naming, M: Publisher<J>, K: Phase, R: Wait>(
     rt: &R,
     alloc: Global,
     cell: &BoardCell<J, M, K>,
-    seen: &mut Seen<Entry, K>,
-    of_rank: Seen<Entry, K>,
+    seen: &mut Sight<Entry, K>,
+    of_rank: Sight<Entry, K>,
     share: &mut Share<J>,
 ) -> Result<(), BoardError>
     ensures deposited { IsDeposited share.old share.new }

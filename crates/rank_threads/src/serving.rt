@@ -15,7 +15,7 @@ use heat_ledger::{HitError, Share};
 use mds_board::Entry;
 use mds_types::{Dir, Rank};
 use naming::Naming;
-use seen_log::Seen;
+use seen_log::Sight;
 use std::alloc::Global;
 use std::sync::Wait;
 
@@ -46,7 +46,7 @@ fn serve_one<J: Naming, M: Publisher<J>, K: Phase, R: Wait, G: Gate>(
     alloc: Global,
     cell: &BoardCell<J, M, K>,
     gate: &G,
-    seen: &mut Seen<Entry, K>,
+    seen: &mut Sight<Entry, K>,
     share: &mut Share<J>,
     rank: Rank,
     number: usize,
@@ -99,7 +99,7 @@ fn answer_to<J: Naming, M: Publisher<J>, K: Phase, R: Wait, G: Gate>(
     cell: &BoardCell<J, M, K>,
     gate: &G,
     has_thread: bool,
-    seen: &mut Seen<Entry, K>,
+    seen: &mut Sight<Entry, K>,
     share: &mut Share<J>,
     rank: Rank,
     number: usize,
@@ -129,7 +129,7 @@ pub(crate) fn serve_script<J: Naming, M: Publisher<J>, K: Phase, R: Wait, G: Gat
     has_thread: bool,
     rank: Rank,
     script: &[Work],
-    seen: &mut Seen<Entry, K>,
+    seen: &mut Sight<Entry, K>,
     share: &mut Share<J>,
     answers: &mut Vec<WorkAnswer>,
 )

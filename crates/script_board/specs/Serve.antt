@@ -15,6 +15,7 @@ use Rattle.rank_threads.specs.declared.work.WorkAnswer.{WorkAnswer}
 use Rattle.rank_threads.specs.Answered.{AreAnswered, IsDepositTold, IsEndTold}
 use Rattle.rank_threads.specs.Going.{WentOn}
 use Rattle.rank_threads.specs.Serving.{AreReturned, begun_on, hits_on}
+use Rattle.rank_threads.specs.Tickets.{AreApart, all_tickets}
 use Rattle.rank_threads.specs.Totals.{over_ranks}
 use Rattle.script_board.specs.declared.dealing.Seat.{Seat}
 use Rattle.script_board.specs.declared.fault.Fault.{Fault}
@@ -99,9 +100,10 @@ pub record IsServed (old : BoardData) (refused : List Fault) (new : BoardData) :
   pub ended : Result Unit BoardError
   pub deposited : Result Unit BoardError
   pub dealt : IsDealt old.world (length old.shares) (waiting old) scripts seats
-  pub answered : AreAnswered old.world 0 scripts answers
+  pub answered : AreAnswered old.world new.world.history 0 scripts answers
+  pub apart : AreApart (all_tickets answers)
   pub end_told : IsEndTold old.world new.world ended
-  pub deposit_told : IsDepositTold old.world deposited
+  pub deposit_told : IsDepositTold old.world new.world.history deposited
   pub went : WentOn old.world new.world
   pub returned : AreReturned old.world.state.directories.limit old.shares scripts answers new.shares
   pub clean : IsOk deposited → All (λ s. IsClean s) new.shares

@@ -9,8 +9,8 @@ use Rattle.atomic_table.specs.declared.shared.Seat.{Seat}
 use Rattle.seen_log.specs.declared.rule.TokenState.{TokenState}
 
 -- the name of no log
-abbrev pub no_table : TableId
-no_table = record { words = 0; slots = 0; views_name = 0; atom = 0; block = 0; offset = 0; slot_names = [] }
+abbrev pub no_name : TableId
+no_name = record { words = 0; slots = 0; views_name = 0; atom = 0; block = 0; offset = 0; slot_names = [] }
 
 module _ {E : Type 0} where
   abbrev pub state : Bool → List E → List E → TokenState E

@@ -8,4 +8,4 @@
 mod log;
 mod rule;
 
-pub use log::{Growth, Log, LogName, NewLog, Seen};
+pub use log::{Growth, Log, LogName, NewLog, Sight};

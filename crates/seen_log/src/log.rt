@@ -16,9 +16,9 @@ pub trait LogName {
 }
 
 impl LogName for Brand {
-    ghost use Rattle.seen_log.specs.Growing.{no_table};
+    ghost use Rattle.seen_log.specs.Growing.{no_name};
 
-    ghost log = { no_table };
+    ghost log = { no_name };
 }
 
 /// What a log becomes. It exists in proofs only, and a caller picks it.
@@ -99,12 +99,12 @@ impl<E, N: LogName> Model for Log<E, N> {
 
 /// What a thread has seen of a log. To a contract it is the log's entries at that time. It takes no bytes.
 #[derive(Drop)]
-pub struct Seen<E, N: LogName> {
+pub struct Sight<E, N: LogName> {
     token: Token<E>,
     of: PhantomData<N>,
 }
 
-impl<E, N: LogName> Model for Seen<E, N> {
+impl<E, N: LogName> Model for Sight<E, N> {
     ghost use Rattle.std.specs.Prelude.{◌≡◌, List, []};
 
     ghost Value = { List E };
@@ -125,20 +125,20 @@ impl<E, N: LogName> Log<E, N> {
     }
 
     /// What a thread knows that sees the log now.
-    pub fn seen(&mut self) -> Seen<E, N>
+    pub fn seen(&mut self) -> Sight<E, N>
         ensures seen { result ≡ self.old }
         ensures log { self.new ≡ self.old }
     {
         let table = &self.table;
         let token = rule::split(&table.shared, &mut self.token);
-        Seen {
+        Sight {
             token,
             of: PhantomData,
         }
     }
 
     /// Shows the log to a thread. It begins with what the thread saw before.
-    pub fn show(&mut self, seen: &mut Seen<E, N>)
+    pub fn show(&mut self, seen: &mut Sight<E, N>)
         ensures seen { seen.new ≡ self.old }
         ensures before { IsPrefix seen.old self.old }
         ensures log { self.new ≡ self.old }

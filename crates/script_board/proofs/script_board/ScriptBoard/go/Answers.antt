@@ -48,6 +48,7 @@ returns-clause-done g c =
         dealt = subst (λ (l : List (Vec Work Global)). IsDealt old.world (length old.shares) (waiting old) (map (λ (s : Vec Work Global). s.items) l) seats) (sym c.deref.ensures.value)
             (subst (λ (b : BoardData). IsDealt b.world (length b.shares) (waiting b) (map (λ (s : Vec Work Global). s.items) c.in-Ok.prepared.0.scripts.items) seats) (sym as_before) c.in-Ok.ensures.dealt);
         answered = rw c.in-Ok-done.is at c.serve_with_totals-board.ensures.answered;
+        apart = rw c.in-Ok-done.is at c.serve_with_totals-board.ensures.apart;
         end_told = rw c.in-Ok-done.is at c.serve_with_totals-board.ensures.ended;
         deposit_told = rw c.in-Ok-done.is at c.serve_with_totals-board.ensures.told;
         went = c.serve_with_totals-board.ensures.board;
