@@ -1,44 +1,45 @@
 -- Texts that grow line by line.
-use Rattle.std.proofs.Common.{◌≡◌, ◌∙◌, ◌==◌, ◌<◌, ◌+◌, ℕ, zero, suc, false, true, List, [], ◌∷◌, ◌++◌, All, Option, Some, None, get_or, length, take, slice_get, refl, ap, sym, arith, append_assoc}
-use Rattle.std.specs.List.{flat_map}
-use Rattle.std.proofs.lemmas.Bool.{both_ways}
-use Rattle.std.proofs.lemmas.List.{flat_map_more, take_more}
-use Rattle.std.proofs.lemmas.List.Elements.{All-append}
-use Rattle.ceph_plan.specs.declared.row.PinChange.{PinChange}
-use Rattle.ceph_snapshot.specs.declared.directory.Directory.{Directory}
-use Rattle.ceph_report.specs.OwnList.{pin_line_of, own_lines}
-use Rattle.ceph_report.specs.PinsScript.{HasNoNul, IsChangeWritable, change_line, path_at, pins_script, variable_lines}
-use Rattle.ceph_report.specs.declared.pins_script.TheConstants.{HEAD, CHECKS, FOOT}
+use Rattle.std.proofs.Common.{◌≡◌, ◌∙◌, ◌+◌, ◌≤◌, ℕ, suc, Bool, true, false, cond, List, ◌++◌, ap, sym, refl, arith, append_assoc, append-nil}
+use Rattle.mds_types.specs.Sums.{count_below}
+use Rattle.ceph_report.specs.Text.{lines_below}
 
--- one more element's text
-pub more_lines : {A : Type 0} (f : A → List ℕ) (old before after : List ℕ) (xs : List A) (i : ℕ) (d : A) → i < length xs
-    → before ≡ old ++ flat_map f (take i xs) → after ≡ before ++ f (get_or xs i d) → after ≡ old ++ flat_map f (take (i + 1) xs)
-more_lines {A} f old before after xs i d inside before_is after_is =
-    after_is
-    ∙ (ap (λ (text : List ℕ). text ++ f (get_or xs i d)) before_is
-    ∙ (flat_map_more f old (take i xs) (get_or xs i d)
-    ∙ ap (λ (those : List A). old ++ flat_map f those) (sym (take_more xs i d inside))))
+pub below_none : (line : ℕ → List ℕ) (old : List ℕ) → old ≡ old ++ lines_below line 0
+unfolding lines_below
+below_none line old = sym (append-nil old)
 
--- the script of some changes
-pub script_of : (mount name fsid : List ℕ) (directories : List Directory) (changes : List PinChange) → (length changes == 0) ≡ false
-    → HEAD.now ++ variable_lines mount name fsid ++ CHECKS.now ++ flat_map (change_line mount directories) changes ++ FOOT.now
-    ≡ pins_script mount name fsid directories changes
-script_of mount name fsid directories [] some = absurd (both_ways true some refl)
-script_of mount name fsid directories (change ∷ changes) some = refl
+-- one more line
+pub below_more : (line : ℕ → List ℕ) (old before after : List ℕ) (i : ℕ) → before ≡ old ++ lines_below line i → after ≡ before ++ line i → after ≡ old ++ lines_below line (i + 1)
+unfolding lines_below
+below_more line old before after i was more =
+    let next : i + 1 ≡ suc i = omega arith in
+    more ∙ (ap (λ (text : List ℕ). text ++ line i) was ∙ (append_assoc old (lines_below line i) (line i) ∙ ap (λ (n : ℕ). old ++ lines_below line n) (sym next)))
 
--- a place without a NUL
-pub place_no_nul : (mount path place : List ℕ) → place ≡ mount ++ path → HasNoNul mount → HasNoNul path → HasNoNul place
-place_no_nul mount path place is fine others = rw is (All-append (λ byte. 0 < byte) mount path fine others)
+-- all lines, behind a head
+pub below_all : (line : ℕ → List ℕ) (old head before after : List ℕ) (i n : ℕ) → before ≡ old ++ head → after ≡ before ++ lines_below line i → i ≡ n → after ≡ old ++ (head ++ lines_below line n)
+below_all line old head before after i n was more same =
+    more ∙ (ap (λ (text : List ℕ). text ++ lines_below line i) was ∙ (append_assoc old head (lines_below line i) ∙ ap (λ (k : ℕ). old ++ (head ++ lines_below line k)) same))
 
--- the path of a directory that is there
-pub path_read : (directories : List Directory) (i : ℕ) (one : Directory) → i < length directories → one ≡ get_or directories i one → path_at directories i ≡ one.path.items
-path_read [] i one inside is = absurd (omega (arith, inside))
-path_read (first ∷ directories) zero one inside is = ap (λ (d : Directory). d.path.items) (sym is)
-path_read (first ∷ directories) (suc i) one inside is = path_read directories i one (omega (arith, inside)) is
+-- all lines, and a foot
+pub below_foot : (line : ℕ → List ℕ) (old before after foot : List ℕ) (i n : ℕ) → before ≡ old ++ lines_below line i → i ≡ n → after ≡ before ++ foot → after ≡ old ++ (lines_below line n ++ foot)
+below_foot line old before after foot i n was same more =
+    more ∙ (ap (λ (text : List ℕ). text ++ foot) was ∙ (append_assoc old (lines_below line i) foot ∙ ap (λ (k : ℕ). old ++ (lines_below line k ++ foot)) same))
 
--- the lines of the same pins
-pub own_lines_same : (directories : List Directory) (f g : ℕ → Option ℕ) (n : ℕ) → ((i : ℕ) → i < n → f i ≡ g i) → own_lines directories f n ≡ own_lines directories g n
-own_lines_same directories f g zero same = refl
-own_lines_same directories f g (suc n) same =
-    ap (λ (pin : Option ℕ). pin_line_of pin (slice_get directories n) ++ own_lines directories f n) (same n (omega arith))
-    ∙ ap (λ (text : List ℕ). pin_line_of (g n) (slice_get directories n) ++ text) (own_lines_same directories f g n (λ i l. same i (omega (arith, l))))
+pub below_same : (line : ℕ → List ℕ) (old after : List ℕ) (i n : ℕ) → after ≡ old ++ lines_below line i → i ≡ n → after ≡ old ++ lines_below line n
+below_same line old after i n was same = was ∙ ap (λ (k : ℕ). old ++ lines_below line k) same
+
+-- all lines, between a head and a foot
+pub below_framed : (line : ℕ → List ℕ) (old head before middle after foot : List ℕ) (i n : ℕ) → before ≡ old ++ head → middle ≡ before ++ lines_below line i → i ≡ n → after ≡ middle ++ foot
+    → after ≡ old ++ (head ++ (lines_below line n ++ foot))
+below_framed line old head before middle after foot i n was more same last =
+    below_foot line before middle after foot i n more same last
+    ∙ (ap (λ (text : List ℕ). text ++ (lines_below line n ++ foot)) was ∙ append_assoc old head (lines_below line n ++ foot))
+
+-- one more is counted, or not
+pub counted : (p : ℕ → Bool) (i n before : ℕ) → before ≡ count_below i p → n ≡ before + cond (p i) 1 0 → n ≡ count_below (i + 1) p
+counted p i n before was is =
+    let next : i + 1 ≡ suc i = omega arith in
+    rw next (is ∙ ap (λ (k : ℕ). k + cond (p i) 1 0) was)
+
+pub few_more : (one : Bool) (i n before : ℕ) → before ≤ i → n ≡ before + cond one 1 0 → n ≤ i + 1
+few_more true i n before few is = omega arith
+few_more false i n before few is = omega arith

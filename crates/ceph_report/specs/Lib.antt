@@ -1,6 +1,6 @@
 pub mod Amounts
-pub mod Back
-pub mod OwnList
-pub mod OwnPins
-pub mod PinsScript
-pub mod Standing
+pub mod Json
+pub mod Picture
+pub mod Report
+pub mod Text
+pub mod Told

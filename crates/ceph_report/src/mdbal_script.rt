@@ -3,62 +3,67 @@
 //! Names hold bytes from 0x21 to 0x7e there: others, and `%`, are written as `%` and
 //! two hexadecimal digits. Heat is in hundredths.
 
-use crate::writer::TextWriter;
+use crate::text::{push_hexadecimal, push_number, push_text};
 use ceph_snapshot::{Directory, Held};
 use std::alloc::{AllocError, Global};
 
 /// The most hits of one line.
 const HITS_LIMIT: u64 = 1_000_000;
 
+/// Adds a byte of a name.
+fn push_byte(script: &mut Vec<u8>, byte: u8) -> Result<(), AllocError> {
+    match byte {
+        b'%' => push_text(script, "%25"),
+        b'!'..=b'~' => {
+            script.push(byte)?;
+            Ok(())
+        }
+        other => push_hexadecimal(script, "%", other),
+    }
+}
+
 /// Adds a line: a word, a path and a number.
-fn push_line(script: &mut TextWriter, word: &str, path: &[u8], number: u64) {
-    script.text(word);
+fn push_line(script: &mut Vec<u8>, word: &str, path: &[u8], number: u64) -> Result<(), AllocError> {
+    push_text(script, word)?;
     if path.is_empty() {
-        script.character('/');
+        push_text(script, "/")?;
     }
     for byte in path {
-        match *byte {
-            b'%' => script.text("%25"),
-            b'!'..=b'~' => script.character(char::from(*byte)),
-            other => script.hexadecimal("%", other),
-        }
+        push_byte(script, *byte)?;
     }
-    script.number(" ", number);
-    script.character('\n');
+    push_number(script, " ", number)?;
+    push_text(script, "\n")
 }
 
 /// Adds the lines that make a directory, and pin it where it is held but its parent isn't.
-fn push_directory(script: &mut TextWriter, directory: &Directory, holds: &[Held], hold: Held) {
+fn push_directory(
+    script: &mut Vec<u8>,
+    directory: &Directory,
+    holds: &[Held],
+    hold: Held,
+) -> Result<(), AllocError> {
     let above = holds.get(directory.parent as usize).copied();
     let above = above.unwrap_or(Held::Free);
     let path = directory.path.as_slice();
-    push_line(
-        script,
-        "dir ",
-        path,
-        directory.inodes.min(u64::from(u32::MAX)),
-    );
+    let inodes = directory.inodes.min(u64::from(u32::MAX));
+    push_line(script, "dir ", path, inodes)?;
     match hold.rank() {
-        Some(rank) if hold != above => {
-            push_line(script, "pin ", path, u64::from(rank.number()));
-        }
-        _ => (),
+        Some(rank) if hold != above => push_line(script, "pin ", path, u64::from(rank.number())),
+        _ => Ok(()),
     }
 }
 
 /// Adds the lines that load a directory, as many as its heat takes.
-fn push_load(script: &mut TextWriter, path: &[u8], heat: u64) {
+fn push_load(script: &mut Vec<u8>, path: &[u8], heat: u64) -> Result<(), AllocError> {
     let hits = heat / 10;
     let (full, rest) = (hits / HITS_LIMIT, hits % HITS_LIMIT);
     for _ in 0..full {
-        if script.is_refused() {
-            return;
-        }
-        push_line(script, "load ", path, HITS_LIMIT);
+        push_line(script, "load ", path, HITS_LIMIT)?;
     }
-    if rest > 0 {
-        push_line(script, "load ", path, rest);
+    if rest == 0 {
+        return Ok(());
     }
+    push_line(script, "load ", path, rest)
 }
 
 /// A script that makes these directories with their heat and what holds them, and plans them for so many ranks.
@@ -67,18 +72,18 @@ pub fn make_script(
     directories: &[Directory],
     holds: &[Held],
     ranks: u8,
-) -> Result<String, AllocError> {
-    let mut script = TextWriter::new(alloc);
-    script.number("ranks ", u64::from(ranks));
-    script.text("\nmask -1\n");
+) -> Result<Vec<u8>, AllocError> {
+    let mut script = Vec::new(alloc);
+    push_number(&mut script, "ranks ", u64::from(ranks))?;
+    push_text(&mut script, "\nmask -1\n")?;
     for at in 1..directories.len() {
         if let Some(hold) = holds.get(at) {
-            push_directory(&mut script, &directories[at], holds, *hold);
+            push_directory(&mut script, &directories[at], holds, *hold)?;
         }
     }
     for directory in directories {
-        push_load(&mut script, directory.path.as_slice(), directory.heat);
+        push_load(&mut script, &directory.path, directory.heat)?;
     }
-    script.text("go\nplan\n");
-    script.finish()
+    push_text(&mut script, "go\nplan\n")?;
+    Ok(script)
 }

@@ -4,7 +4,7 @@ ghost use Rattle.std.specs.Prelude.{◌≡◌, ◌==◌, ◌&&◌, ◌<◌, ◌+
 ghost use Rattle.ceph_snapshot.specs.Rows.{is_free};
 ghost use Rattle.ceph_report.specs.Amounts.{AreAmounts, goal_at, goal_of, going_of, heat_now, inodes_from, inodes_to};
 
-use crate::pins::pins_after;
+use ceph_pins::pins_after;
 use ceph_plan::{PinChange, PinRow};
 use ceph_snapshot::{Directory, Held};
 use mds_types::Rank;

@@ -1,11 +1,14 @@
 //! A picture of the directories: a box a directory under its parent's, as wide as the heat at and below it, in the
-//! colour of the rank that it is to be at. Where the rank differs from the parent's the edge is thick. The children
-//! of a directory that are too cold for boxes of their own have a grey one together, behind the others.
+//! colour of the rank that it is to be at. Where the rank differs from the parent's the edge is thick. Where it is to
+//! go, a stripe at the foot has the colour of the rank that has it now. The children of a directory that are too cold
+//! for boxes of their own have a grey one together, behind the others. The last row says which colour a rank has.
+ghost use Rattle.std.specs.Prelude.{◌≡◌, ◌++◌, OnOk};
+ghost use Rattle.ceph_report.specs.Picture.{colour_text, hundredths_text, hover_text, rest_text};
 
-use crate::shown::push_path;
-use crate::writer::TextWriter;
+use crate::text::{push_number, push_path, push_text};
 use ceph_snapshot::Directory;
-use mds_types::Rank;
+use mds_types::limits::RANK_LIMIT;
+use mds_types::{Rank, RankSet};
 use std::alloc::{AllocError, Global};
 
 /// The width of the root's box, in hundredths of a pixel.
@@ -16,6 +19,12 @@ const LEAST_WIDTH: u64 = 100;
 
 /// The height of a box, in pixels.
 const HEIGHT: u64 = 18;
+
+/// The height of a stripe, in pixels.
+const STRIPE: u64 = 4;
+
+/// The width of a rank in the legend, in hundredths of a pixel.
+const KEY_WIDTH: u64 = 6_000;
 
 /// The width of a character, in hundredths of a pixel.
 const CHARACTER: u64 = 680;
@@ -171,118 +180,193 @@ fn name_of(path: &[u8]) -> &[u8] {
     path
 }
 
-/// Adds text as text of XML.
-fn push_escaped(text: &mut TextWriter, shown: &[u8]) {
-    for byte in shown {
-        match *byte {
-            b'&' => text.text("&amp;"),
-            b'<' => text.text("&lt;"),
-            b'>' => text.text("&gt;"),
-            b'"' => text.text("&quot;"),
-            other => text.character(char::from(other)),
+/// Adds a byte as text of XML.
+fn push_escaped(text: &mut Vec<u8>, byte: u8) -> Result<(), AllocError> {
+    match byte {
+        b'&' => push_text(text, "&amp;"),
+        b'<' => push_text(text, "&lt;"),
+        b'>' => push_text(text, "&gt;"),
+        b'"' => push_text(text, "&quot;"),
+        other => {
+            text.push(other)?;
+            Ok(())
         }
     }
 }
 
 /// Adds the first characters of a path as text of XML.
-fn push_xml(text: &mut TextWriter, alloc: Global, path: &[u8], most: usize) {
-    let mut shown = TextWriter::new(alloc);
-    push_path(&mut shown, path);
-    match shown.finish() {
-        Ok(shown) => {
-            let bytes = shown.as_bytes();
-            push_escaped(text, bytes.get(..most).unwrap_or(bytes));
-        }
-        Err(_) => text.refuse(),
+fn push_xml(text: &mut Vec<u8>, alloc: Global, path: &[u8], most: usize) -> Result<(), AllocError> {
+    let mut shown = Vec::new(alloc);
+    push_path(&mut shown, path)?;
+    let bytes = shown.as_slice();
+    for byte in bytes.get(..most).unwrap_or(bytes) {
+        push_escaped(text, *byte)?;
     }
+    Ok(())
 }
 
 /// Adds a label and a number of hundredths.
-fn push_hundredths(text: &mut TextWriter, label: &str, hundredths: u64) {
-    let (whole, rest) = (hundredths / 100, hundredths % 100);
-    text.number(label, whole);
-    text.number(if rest < 10 { ".0" } else { "." }, rest);
+#[tactic(auto, unfolding(crate::specs::Picture::hundredths_text))]
+fn push_hundredths(text: &mut Vec<u8>, label: &str, hundredths: u64) -> Result<(), AllocError>
+    ensures { OnOk result (text.new.items ≡ text.old.items ++ hundredths_text label.now hundredths) }
+{
+    push_number(text, label, hundredths / 100)?;
+    push_number(text, ".", hundredths % 100 / 10)?;
+    push_number(text, "", hundredths % 10)
 }
 
-/// Adds the beginning of a box, up to what it is filled with.
-fn push_frame(text: &mut TextWriter, left: u64, top: u64, width: u64) {
-    push_hundredths(text, "<rect x=\"", left);
-    text.number("\" y=\"", top);
-    push_hundredths(text, "\" width=\"", width);
-    text.number("\" height=\"", HEIGHT);
-    text.text("\" fill=\"");
+/// Adds the colour of a rank.
+#[tactic(auto, unfolding(crate::specs::Picture::colour_text))]
+fn push_colour(text: &mut Vec<u8>, rank: Rank) -> Result<(), AllocError>
+    ensures { OnOk result (text.new.items ≡ text.old.items ++ colour_text rank) }
+{
+    push_number(text, "hsl(", u64::from(rank.number()) * 137 % 360)?;
+    push_text(text, ",60%,75%)")
+}
+
+/// Where a rectangle is: how far from the left, and how wide, in hundredths of a pixel; how far from the top, and how
+/// high, in pixels.
+#[derive(Clone, Copy)]
+struct Frame {
+    left: u64,
+    width: u64,
+    top: u64,
+    height: u64,
+}
+
+/// Adds the beginning of a rectangle, up to what it is filled with.
+fn push_frame(text: &mut Vec<u8>, frame: Frame) -> Result<(), AllocError> {
+    push_hundredths(text, "<rect x=\"", frame.left)?;
+    push_number(text, "\" y=\"", frame.top)?;
+    push_hundredths(text, "\" width=\"", frame.width)?;
+    push_number(text, "\" height=\"", frame.height)?;
+    push_text(text, "\" fill=\"")
 }
 
 /// Adds the beginning of the words in a box.
-fn push_label(text: &mut TextWriter, left: u64, top: u64) {
-    push_hundredths(text, "<text x=\"", left.saturating_add(300));
-    text.number("\" y=\"", top.saturating_add(13));
-    text.text("\">");
+fn push_label(text: &mut Vec<u8>, frame: Frame) -> Result<(), AllocError> {
+    push_hundredths(text, "<text x=\"", frame.left.saturating_add(300))?;
+    push_number(text, "\" y=\"", frame.top.saturating_add(13))?;
+    push_text(text, "\">")
 }
 
-/// Adds what is shown on hover.
-fn push_title(
-    text: &mut TextWriter,
+/// Adds the numbers that are shown on hover.
+#[tactic(auto, unfolding(crate::specs::Picture::hover_text))]
+fn push_hover(
+    text: &mut Vec<u8>,
+    directory: &Directory,
+    place: Place,
+    rank: Rank,
+) -> Result<(), AllocError>
+    ensures { OnOk result (text.new.items ≡ text.old.items
+        ++ hover_text directory.entry.now place.heat place.inodes rank) }
+{
+    push_number(text, "\nrank ", u64::from(rank.number()))?;
+    push_number(text, ", now ", u64::from(directory.now.number()))?;
+    push_number(text, "\nheat ", directory.heat / 1000)?;
+    push_number(text, ", with what is below ", place.heat / 1000)?;
+    push_number(text, "\ninodes ", directory.inodes)?;
+    push_number(text, ", with what is below ", place.inodes)
+}
+
+/// Adds a stripe at the foot of a box, in the colour of the rank that has the directory now, if it is to go.
+fn push_stripe(text: &mut Vec<u8>, frame: Frame, now: Rank, rank: Rank) -> Result<(), AllocError> {
+    if now == rank {
+        return Ok(());
+    }
+    let stripe = Frame {
+        top: frame.top.saturating_add(HEIGHT - STRIPE),
+        height: STRIPE,
+        ..frame
+    };
+    push_frame(text, stripe)?;
+    push_colour(text, now)?;
+    push_text(text, "\" class=\"now\"/>\n")
+}
+
+/// Adds the name of a directory to its box, where that fits.
+fn push_name(
+    text: &mut Vec<u8>,
+    alloc: Global,
+    path: &[u8],
+    frame: Frame,
+) -> Result<(), AllocError> {
+    let most = (frame.width.saturating_sub(600) / CHARACTER) as usize;
+    if most <= 2 {
+        return Ok(());
+    }
+    push_label(text, frame)?;
+    push_xml(text, alloc, name_of(path), most)?;
+    push_text(text, "</text>")
+}
+
+/// Adds the box of a directory.
+fn push_box(
+    text: &mut Vec<u8>,
     alloc: Global,
     directory: &Directory,
     place: Place,
     rank: Rank,
-) {
-    text.text("<g><title>");
-    push_xml(text, alloc, directory.path.as_slice(), usize::MAX);
-    text.number("\nrank ", u64::from(rank.number()));
-    text.number(", heat ", directory.heat / 1000);
-    text.number(", with what is below ", place.heat / 1000);
-    text.number("\ninodes ", directory.inodes);
-    text.number(", with what is below ", place.inodes);
-    text.text("</title>\n");
+    is_cut: bool,
+) -> Result<(), AllocError> {
+    let frame = Frame {
+        left: place.left,
+        width: place.width,
+        top: place.depth.saturating_mul(HEIGHT),
+        height: HEIGHT,
+    };
+    push_text(text, "<g><title>")?;
+    push_xml(text, alloc, &directory.path, usize::MAX)?;
+    push_hover(text, directory, place, rank)?;
+    push_text(text, "</title>\n")?;
+    push_frame(text, frame)?;
+    push_colour(text, rank)?;
+    push_text(
+        text,
+        if is_cut {
+            "\" class=\"cut\"/>\n"
+        } else {
+            "\"/>\n"
+        },
+    )?;
+    push_stripe(text, frame, directory.now, rank)?;
+    push_name(text, alloc, &directory.path, frame)?;
+    push_text(text, "</g>\n")
 }
 
-/// Adds the box of a directory, with its name where that fits.
-fn push_box(
-    text: &mut TextWriter,
-    alloc: Global,
-    path: &[u8],
-    place: Place,
-    rank: Rank,
-    is_cut: bool,
-) {
-    let top = place.depth.saturating_mul(HEIGHT);
-    push_frame(text, place.left, top, place.width);
-    text.number("hsl(", u64::from(rank.number()).saturating_mul(137) % 360);
-    text.text(",60%,75%)\"");
-    text.text(if is_cut { " class=\"cut\"/>\n" } else { "/>\n" });
-    let most = (place.width.saturating_sub(600) / CHARACTER) as usize;
-    if most > 2 {
-        push_label(text, place.left, top);
-        push_xml(text, alloc, name_of(path), most);
-        text.text("</text>");
-    }
-    text.text("</g>\n");
+/// Adds the numbers of the children of a directory that have no box of their own.
+#[tactic(auto, unfolding(crate::specs::Picture::rest_text))]
+fn push_rest_hover(text: &mut Vec<u8>, rest: Rest) -> Result<(), AllocError>
+    ensures { OnOk result (text.new.items ≡ text.old.items ++ rest_text rest.count rest.heat rest.inodes) }
+{
+    push_number(text, "<g><title>", rest.count)?;
+    push_number(text, " directories together\nheat ", rest.heat / 1000)?;
+    push_number(text, "\ninodes ", rest.inodes)?;
+    push_text(text, "</title>\n")
 }
 
 /// Adds the box that the children of a directory have together that have none of their own, if that is wide enough, and
 /// how many they are, if the words fit into it.
-fn push_rest(text: &mut TextWriter, place: Place, all: u64) {
-    let width = width_of(place.rest.heat, all);
-    if width < LEAST_WIDTH {
-        return;
+fn push_rest(text: &mut Vec<u8>, place: Place, all: u64) -> Result<(), AllocError> {
+    let frame = Frame {
+        left: place.left.saturating_add(place.taken),
+        width: width_of(place.rest.heat, all),
+        top: place.depth.saturating_add(1).saturating_mul(HEIGHT),
+        height: HEIGHT,
+    };
+    if frame.width < LEAST_WIDTH {
+        return Ok(());
     }
-    let left = place.left.saturating_add(place.taken);
-    let top = place.depth.saturating_add(1).saturating_mul(HEIGHT);
-    text.number("<g><title>", place.rest.count);
-    text.number(" directories together\nheat ", place.rest.heat / 1000);
-    text.number("\ninodes ", place.rest.inodes);
-    text.text("</title>\n");
-    push_frame(text, left, top, width);
-    text.text("#ddd\"/>\n");
+    push_rest_hover(text, place.rest)?;
+    push_frame(text, frame)?;
+    push_text(text, "#ddd\"/>\n")?;
     // "and ", " more" and five digits, as there are at most 65,536 directories
-    if width >= CHARACTER.saturating_mul(14).saturating_add(600) {
-        push_label(text, left, top);
-        text.number("and ", place.rest.count);
-        text.text(" more</text>");
+    if frame.width >= CHARACTER * 14 + 600 {
+        push_label(text, frame)?;
+        push_number(text, "and ", place.rest.count)?;
+        push_text(text, " more</text>")?;
     }
-    text.text("</g>\n");
+    push_text(text, "</g>\n")
 }
 
 /// How many boxes are drawn above one another.
@@ -298,18 +382,58 @@ fn levels(places: &[Place]) -> u64 {
 
 /// What a box and its words look like.
 const STYLE: &str = "\">
-<style>rect{stroke:#fff;stroke-width:0.5}rect.cut{stroke:#222;stroke-width:2}\
+<style>rect{stroke:#fff;stroke-width:0.5}rect.cut{stroke:#222;stroke-width:2}rect.now{stroke:none}\
 text{font:11px monospace;pointer-events:none}</style>
 ";
 
 /// Adds what stands before the boxes.
-fn push_head(text: &mut TextWriter, levels: u64) {
-    let (width, height) = (WIDTH / 100, levels.saturating_mul(HEIGHT));
-    text.number("<svg xmlns=\"http://www.w3.org/2000/svg\" width=\"", width);
-    text.number("\" height=\"", height);
-    text.number("\" viewBox=\"0 0 ", width);
-    text.number(" ", height);
-    text.text(STYLE);
+fn push_head(text: &mut Vec<u8>, height: u64) -> Result<(), AllocError> {
+    push_number(
+        text,
+        "<svg xmlns=\"http://www.w3.org/2000/svg\" width=\"",
+        WIDTH / 100,
+    )?;
+    push_number(text, "\" height=\"", height)?;
+    push_number(text, "\" viewBox=\"0 0 ", WIDTH / 100)?;
+    push_number(text, " ", height)?;
+    push_text(text, STYLE)
+}
+
+/// Adds the colours of these ranks, and what a stripe is, from this far from the top.
+fn push_legend(text: &mut Vec<u8>, ranks: RankSet, top: u64) -> Result<(), AllocError> {
+    let mut left = 0;
+    for number in 0..RANK_LIMIT {
+        if let Some(rank) = Rank::new(number) {
+            if ranks.has(rank) && left < WIDTH - 2 * KEY_WIDTH {
+                push_key(text, rank, left, top)?;
+                left += KEY_WIDTH;
+            }
+        }
+    }
+    let words = Frame {
+        left,
+        width: 0,
+        top,
+        height: HEIGHT,
+    };
+    push_label(text, words)?;
+    push_text(text, "stripe: rank now</text>\n")
+}
+
+/// Adds the colour of a rank to the legend.
+fn push_key(text: &mut Vec<u8>, rank: Rank, left: u64, top: u64) -> Result<(), AllocError> {
+    let frame = Frame {
+        left,
+        width: KEY_WIDTH,
+        top,
+        height: HEIGHT,
+    };
+    push_frame(text, frame)?;
+    push_colour(text, rank)?;
+    push_text(text, "\"/>")?;
+    push_label(text, frame)?;
+    push_number(text, "rank ", u64::from(rank.number()))?;
+    push_text(text, "</text>\n")
 }
 
 /// Whether a directory is to be at another rank than the one above it.
@@ -322,18 +446,48 @@ fn is_cut(ranks: &[Rank], parent: usize, rank: Rank) -> bool {
 
 /// Adds the box of the directory at a place.
 fn push_directory(
-    text: &mut TextWriter,
+    text: &mut Vec<u8>,
     alloc: Global,
     directories: &[Directory],
     ranks: &[Rank],
     at: usize,
     place: Place,
-) {
-    if let (Some(directory), Some(rank)) = (directories.get(at), ranks.get(at)) {
-        let is_cut = is_cut(ranks, directory.parent as usize, *rank);
-        push_title(text, alloc, directory, place, *rank);
-        push_box(text, alloc, directory.path.as_slice(), place, *rank, is_cut);
+) -> Result<(), AllocError> {
+    let (Some(directory), Some(rank)) = (directories.get(at), ranks.get(at)) else {
+        return Ok(());
+    };
+    let is_cut = is_cut(ranks, directory.parent as usize, *rank);
+    push_box(text, alloc, directory, place, *rank, is_cut)
+}
+
+/// Adds the boxes of all directories.
+fn push_boxes(
+    text: &mut Vec<u8>,
+    alloc: Global,
+    directories: &[Directory],
+    ranks: &[Rank],
+    places: &[Place],
+) -> Result<(), AllocError> {
+    let all = all_heat(places);
+    for (at, place) in places.iter().enumerate() {
+        if place.width >= LEAST_WIDTH {
+            push_directory(text, alloc, directories, ranks, at, *place)?;
+            push_rest(text, *place, all)?;
+        }
     }
+    Ok(())
+}
+
+/// The ranks of these directories, now and as planned.
+fn ranks_of(directories: &[Directory], ranks: &[Rank]) -> RankSet {
+    let mut bits = 0u64;
+    for directory in directories {
+        bits |= 1 << directory.now.number();
+    }
+    for rank in ranks {
+        bits |= 1 << rank.number();
+    }
+    RankSet::from_bits(bits)
 }
 
 /// The picture, as SVG. `ranks[i]` is the rank that directory i is to be at.
@@ -341,17 +495,13 @@ pub fn make_picture(
     alloc: Global,
     directories: &[Directory],
     ranks: &[Rank],
-) -> Result<String, AllocError> {
+) -> Result<Vec<u8>, AllocError> {
     let places = places_of(alloc, directories)?;
-    let mut text = TextWriter::new(alloc);
-    push_head(&mut text, levels(places.as_slice()));
-    let all = all_heat(places.as_slice());
-    for (at, place) in places.iter().enumerate() {
-        if place.width >= LEAST_WIDTH {
-            push_directory(&mut text, alloc, directories, ranks, at, *place);
-            push_rest(&mut text, *place, all);
-        }
-    }
-    text.text("</svg>\n");
-    text.finish()
+    let foot = levels(&places).saturating_mul(HEIGHT);
+    let mut text = Vec::new(alloc);
+    push_head(&mut text, foot.saturating_add(HEIGHT))?;
+    push_boxes(&mut text, alloc, directories, ranks, &places)?;
+    push_legend(&mut text, ranks_of(directories, ranks), foot)?;
+    push_text(&mut text, "</svg>\n")?;
+    Ok(text)
 }

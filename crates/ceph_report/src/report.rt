@@ -1,279 +1,480 @@
 //! The report, for people.
-ghost use Rattle.std.specs.Prelude.{◌≡◌, ◌<◌, ◌↔◌, length, max, slice_index, IsTrue};
-ghost use Rattle.mds_types.specs.Sums.{max_below};
+ghost use Rattle.std.specs.Prelude.{◌≡◌, ◌<◌, ◌≤◌, ◌+◌, ◌++◌, OnOk, IfOk, length, nat_lt, slice_get, if◌then◌else◌};
 ghost use Rattle.mds_types.specs.declared.limits.TheConstants.{HEAT_LIMIT};
+ghost use Rattle.ceph_snapshot.specs.Holding.{heat_at, is_spread_at};
+ghost use Rattle.ceph_report.specs.Report.{absence, absent_line, absent_lines, brought_line, brought_lines};
+ghost use Rattle.ceph_report.specs.Report.{brought_text, capped_line, capped_lines, capped_text, count_line};
+ghost use Rattle.ceph_report.specs.Report.{folded_line, head_line, heat_lines, hot_count, hottest_line, is_left};
+ghost use Rattle.ceph_report.specs.Report.{left_lines, left_out, left_text, more_line, moves_table, moves_text};
+ghost use Rattle.ceph_report.specs.Report.{place_text, plan_text, rank_heats, rank_inodes, rank_row, rank_table};
+ghost use Rattle.ceph_report.specs.Report.{reason, reason_at, report, standing_text, told_line};
 
-use crate::moves::{Move, Sums};
-use crate::shown::{per_mille_above, push_heat, push_path, push_percent};
-use crate::writer::TextWriter;
-use ceph_plan::Planned;
+use crate::facts::{Facts, has_number, number_at};
+use crate::moves::Move;
+use crate::text::{
+    per_mille, push_columns, push_heat, push_number, push_path, push_percent, push_text,
+};
 use ceph_snapshot::Directory;
-use mds_types::limits::HEAT_LIMIT;
-use mds_types::{Rank, RankSet};
+use mds_types::limits::{HEAT_LIMIT, RANK_LIMIT};
 use std::alloc::{AllocError, Global};
-
-/// What is told in a report.
-#[derive(Clone, Copy)]
-pub struct Facts<'a> {
-    /// The directories that were planned.
-    pub directories: &'a [Directory],
-    /// How many directories were folded into their parents before.
-    pub folded: usize,
-    /// How many samples of heat there are.
-    pub samples: u64,
-    /// How many ranks the file system is to have (`max_mds`).
-    pub size: u8,
-    /// The ranks that are in the file system.
-    pub there: RankSet,
-    /// Those of them whose daemons are active.
-    pub active: RankSet,
-    /// The ranks that may have a part.
-    pub ranks: RankSet,
-    /// The plan.
-    pub plan: &'a Planned,
-    /// What each rank has now, and what comes and goes.
-    pub sums: &'a Sums,
-    /// The heat that is held at each rank by pins of others, in thousandths.
-    pub pinned: &'a [u64],
-    /// What each new pin brings.
-    pub moves: &'a [Move],
-    /// How many changes of pins there are.
-    pub changes: usize,
-    /// How many pins of an earlier plan stand as they are.
-    pub standing: usize,
-}
 
 /// How many moves, or directories that are left where they are, have a line each.
 const LINES_EACH: usize = 40;
 
-/// The heat of the hottest rank, in thousandths, where `heats[r]` is the heat of rank r.
-pub fn hottest(heats: &[u64]) -> u64
-    ensures { result ≡ max_below (length heats.now) (slice_index heats.now) }
+/// How many directories have heat of their own.
+#[tactic(auto, unfolding(crate::specs::Report::hot_count))]
+fn hot_count(directories: &[Directory]) -> usize
+    ensures { result ≡ hot_count directories.now }
 {
-    let mut greatest = 0;
-    for heat in heats {
-        greatest = (*heat).max(greatest);
+    let mut count = 0usize;
+    for directory in directories {
+        if directory.heat > 0 {
+            count += 1;
+        }
     }
-    greatest
+    count
 }
 
-/// What the hottest of all ranks can't get below, in thousandths: the bound of the ranks that may have a part, and the
-/// most that is pinned to any rank.
-pub fn hottest_bound(bound: u64, pinned: &[u64]) -> u64
-    ensures { result ≡ max bound (max_below (length pinned.now) (slice_index pinned.now)) }
+/// Adds the first line.
+#[tactic(auto, unfolding(crate::specs::Report::head_line))]
+fn push_head(text: &mut Vec<u8>, facts: &Facts) -> Result<(), AllocError>
+    ensures { OnOk result (text.new.items ≡ text.old.items ++ head_line facts.now) }
 {
-    bound.max(hottest(pinned))
+    push_number(text, "", facts.directories.len() as u64)?;
+    push_number(text, " directories, ", hot_count(facts.directories) as u64)?;
+    push_number(text, " with heat of their own; mean of ", facts.samples)?;
+    push_text(text, " samples\n\n")
 }
 
-/// The number at a place, 0 where there is none.
-pub(crate) fn number_at(numbers: &[u64], at: usize) -> u64
-    ensures { result ≡ slice_index numbers.now at }
+/// Adds a rank and its heat: now, as planned, and what pins of others hold there.
+#[tactic(auto, unfolding(crate::specs::Report::rank_heats))]
+fn push_rank_heats(text: &mut Vec<u8>, facts: &Facts, number: u8) -> Result<(), AllocError>
+    ensures { OnOk result (text.new.items ≡ text.old.items ++ rank_heats facts.now number) }
 {
-    numbers.get(at).copied().unwrap_or(0)
+    push_columns(text, u64::from(number), 4)?;
+    push_heat(text, "", number_at(&facts.sums.now, number))?;
+    push_heat(text, "", number_at(&facts.plan.packing.load, number))?;
+    push_heat(text, "", number_at(facts.pinned, number))
 }
 
-/// Whether a rank has a line: it may have a part, or something is there now.
-pub(crate) fn is_told(facts: &Facts, number: usize, now: u64) -> bool {
-    let rank = u8::try_from(number).ok().and_then(Rank::new);
-    match rank {
-        Some(rank) => now > 0 || facts.ranks.has(rank),
-        None => now > 0,
+/// Adds the inodes that come to a rank, and those that go from it.
+#[tactic(auto, unfolding(crate::specs::Report::rank_inodes))]
+fn push_rank_inodes(text: &mut Vec<u8>, facts: &Facts, number: u8) -> Result<(), AllocError>
+    ensures { OnOk result (text.new.items ≡ text.old.items ++ rank_inodes facts.now number) }
+{
+    push_columns(text, number_at(&facts.sums.into, number), 12)?;
+    push_columns(text, number_at(&facts.sums.out, number), 12)?;
+    push_text(text, "\n")
+}
+
+/// Adds the line of a rank.
+#[tactic(auto, unfolding(crate::specs::Report::rank_row))]
+fn push_rank(text: &mut Vec<u8>, facts: &Facts, number: u8) -> Result<(), AllocError>
+    ensures { OnOk result (text.new.items ≡ text.old.items ++ rank_row facts.now number) }
+{
+    push_rank_heats(text, facts, number)?;
+    push_rank_inodes(text, facts, number)
+}
+
+/// Adds the line of a rank, if it has one.
+#[tactic(auto, unfolding(crate::specs::Report::told_line))]
+fn push_told(text: &mut Vec<u8>, facts: &Facts, number: u8) -> Result<(), AllocError>
+    requires { number < 64 }
+    ensures { OnOk result (text.new.items ≡ text.old.items ++ told_line facts.now number) }
+{
+    if facts.is_told(number) {
+        push_rank(text, facts, number)
+    } else {
+        Ok(())
     }
 }
 
 /// Adds the table of ranks.
-fn push_ranks(text: &mut TextWriter, facts: &Facts) {
-    text.text("rank         now     planned      pinned   inodes in  inodes out\n");
-    let sums = facts.sums;
-    for (number, now) in sums.now.iter().enumerate() {
-        if is_told(facts, number, *now) {
-            text.columns(number as u64, 4);
-            push_heat(text, "", *now);
-            push_heat(text, "", number_at(&facts.plan.packing.load, number));
-            push_heat(text, "", number_at(facts.pinned, number));
-            text.columns(number_at(&sums.into, number), 12);
-            text.columns(number_at(&sums.out, number), 12);
-            text.character('\n');
-        }
+#[tactic(auto, unfolding(crate::specs::Report::rank_table))]
+fn push_ranks(text: &mut Vec<u8>, facts: &Facts) -> Result<(), AllocError>
+    ensures { OnOk result (text.new.items ≡ text.old.items ++ rank_table facts.now) }
+{
+    push_text(
+        text,
+        "rank         now     planned      pinned   inodes in  inodes out\n",
+    )?;
+    for number in 0..RANK_LIMIT {
+        push_told(text, facts, number)?;
     }
+    Ok(())
 }
 
 /// What is said of the bound and of heat.
-const CAVEAT: &str = " of it
-  No assignment of these directories to these ranks, connected or not, has a cooler hottest rank than the bound.
+const CAVEAT: &str =
+    "  No assignment of these directories to these ranks, connected or not, has a cooler hottest rank than the bound.
   Heat is a sample: it lies 3 to 5 % from the load that is offered, and more behind a walk over the directories.
 
 ";
 
-/// Adds what the plan comes to.
-fn push_result(text: &mut TextWriter, facts: &Facts) {
-    let greatest = hottest(&facts.plan.packing.load);
-    let bound = hottest_bound(facts.plan.packing.bound, facts.pinned);
-    let now = hottest(&facts.sums.now);
-    let doubled = now.saturating_add(now.saturating_sub(greatest));
-    push_heat(text, "\nhottest rank now     ", now);
-    push_heat(text, "\nhottest rank planned ", greatest);
-    push_percent(text, ", cooler than now: ", per_mille_above(doubled, now));
-    push_heat(text, "\nlower bound          ", bound);
-    push_percent(
-        text,
-        ", the plan is within ",
-        per_mille_above(greatest, bound),
-    );
-    text.number(CAVEAT, u64::from(facts.plan.count));
-    text.number(" parts, ", facts.plan.moved);
-    text.number(" inodes move, ", facts.changes as u64);
-    text.text(" changes of pins");
-    if facts.standing > 0 {
-        text.number(", ", facts.standing as u64);
-        text.text(" pins stand already");
+/// Adds the heat of the hottest rank, and the bound.
+#[tactic(auto, unfolding(crate::specs::Report::heat_lines))]
+fn push_heats(text: &mut Vec<u8>, facts: &Facts) -> Result<(), AllocError>
+    ensures { OnOk result (text.new.items ≡ text.old.items ++ heat_lines facts.now) }
+{
+    let (now, planned) = (facts.hottest_now(), facts.hottest_planned());
+    let bound = facts.hottest_bound();
+    push_heat(text, "\nhottest rank now     ", now)?;
+    push_heat(text, "\nhottest rank planned ", planned)?;
+    let cooler = per_mille(now.saturating_sub(planned), now);
+    push_percent(text, ", cooler than now: ", cooler)?;
+    push_heat(text, "\nlower bound          ", bound)?;
+    let within = per_mille(planned.saturating_sub(bound), bound);
+    push_percent(text, ", the plan is within ", within)?;
+    push_text(text, " of it")
+}
+
+/// Adds the hottest directory that is planned.
+#[tactic(auto, unfolding(crate::specs::Report::hottest_line))]
+fn push_hottest(text: &mut Vec<u8>, facts: &Facts) -> Result<(), AllocError>
+    ensures { OnOk result (text.new.items ≡ text.old.items ++ hottest_line facts.now) }
+{
+    let at = facts.hottest_place();
+    push_heat(text, "\nhottest directory    ", facts.free_heat(at))?;
+    push_text(text, "  ")?;
+    push_place(text, facts.directories, at)
+}
+
+/// Adds how many pins of an earlier plan stand.
+#[tactic(auto, unfolding(crate::specs::Report::standing_text))]
+fn push_standing(text: &mut Vec<u8>, count: usize) -> Result<(), AllocError>
+    ensures { OnOk result (text.new.items ≡ text.old.items ++ standing_text count) }
+{
+    if count == 0 {
+        return Ok(());
     }
-    text.character('\n');
+    push_number(text, ", ", count as u64)?;
+    push_text(text, " pins stand already")
+}
+
+/// Adds how many parts there are, and what changes.
+#[tactic(auto, unfolding(crate::specs::Report::count_line))]
+fn push_counts(text: &mut Vec<u8>, facts: &Facts) -> Result<(), AllocError>
+    ensures { OnOk result (text.new.items ≡ text.old.items ++ count_line facts.now) }
+{
+    push_number(text, CAVEAT, u64::from(facts.plan.count))?;
+    push_number(text, " parts, ", facts.plan.moved)?;
+    push_number(text, " inodes move, ", facts.changes as u64)?;
+    push_text(text, " changes of pins")?;
+    push_standing(text, facts.standing)?;
+    push_text(text, "\n")
+}
+
+/// Adds the path of a directory, and ends the line.
+#[tactic(auto, unfolding(crate::specs::Report::place_text))]
+fn push_place(text: &mut Vec<u8>, directories: &[Directory], at: usize) -> Result<(), AllocError>
+    ensures { OnOk result (text.new.items ≡ text.old.items ++ place_text directories.now at) }
+{
+    match directories.get(at) {
+        Some(directory) => push_path(text, &directory.path)?,
+        None => push_path(text, b"")?,
+    }
+    push_text(text, "\n")
 }
 
 /// Adds the line of a move.
-fn push_move(text: &mut TextWriter, directories: &[Directory], one: Move) {
-    text.columns(one.inodes, 8);
-    push_heat(text, "", one.heat);
-    text.columns(u64::from(one.to.number()), 4);
-    text.text("  ");
-    if let Some(directory) = directories.get(one.directory) {
-        push_path(text, directory.path.as_slice());
-    }
-    text.character('\n');
-}
-
-/// Adds the moves, the largest first.
-fn push_moves(text: &mut TextWriter, facts: &Facts) {
-    if facts.moves.is_empty() {
-        return;
-    }
-    text.text("\n  inodes        heat  to  directory that is pinned\n");
-    for one in facts.moves.get(..LINES_EACH).unwrap_or(facts.moves) {
-        push_move(text, facts.directories, *one);
-    }
-    let more = facts.moves.len().saturating_sub(LINES_EACH);
-    if more > 0 {
-        text.number("and ", more as u64);
-        text.text(" smaller ones\n");
-    }
-}
-
-/// Whether a directory is hotter than a plan can count.
-fn is_capped(heat: u64) -> bool
-    ensures { IsTrue result ↔ (HEAT_LIMIT < heat) }
+#[tactic(auto, unfolding(crate::specs::Report::brought_text))]
+fn push_brought(text: &mut Vec<u8>, directories: &[Directory], one: Move) -> Result<(), AllocError>
+    ensures { OnOk result (text.new.items ≡ text.old.items ++ brought_text directories.now one) }
 {
-    heat > HEAT_LIMIT
+    push_columns(text, one.inodes, 8)?;
+    push_heat(text, "", one.heat)?;
+    push_columns(text, u64::from(one.to.number()), 4)?;
+    push_text(text, "  ")?;
+    push_place(text, directories, one.directory)
 }
 
-/// Adds the directories whose heat is counted as less than it is.
-fn push_capped(text: &mut TextWriter, directories: &[Directory]) {
-    for directory in directories {
-        if is_capped(directory.heat) {
-            push_heat(
-                text,
-                "hotter than a plan can count, and counted as ",
-                HEAT_LIMIT,
-            );
-            text.text(": ");
-            push_path(text, directory.path.as_slice());
-            text.character('\n');
-        }
+/// Adds the line of a move, if there is one at this place.
+#[tactic(auto, unfolding(crate::specs::Report::brought_line))]
+fn push_move(
+    text: &mut Vec<u8>,
+    directories: &[Directory],
+    moves: &[Move],
+    at: usize,
+) -> Result<(), AllocError>
+    ensures { OnOk result (text.new.items ≡ text.old.items ++ brought_line directories.now (slice_get moves.now at)) }
+{
+    match moves.get(at).copied() {
+        Some(one) => push_brought(text, directories, one),
+        None => Ok(()),
     }
 }
 
-/// Whether a directory is spread, and the one above it isn't.
-fn is_spread_first(directories: &[Directory], directory: &Directory) -> bool {
-    match directories.get(directory.parent as usize) {
-        Some(above) => directory.is_spread && !above.is_spread,
+/// Adds how many have no line of their own, if any.
+#[tactic(auto, unfolding(crate::specs::Report::more_line))]
+fn push_more(text: &mut Vec<u8>, count: usize, what: &str) -> Result<(), AllocError>
+    ensures { OnOk result (text.new.items ≡ text.old.items ++ more_line count what.now) }
+{
+    if count == 0 {
+        return Ok(());
+    }
+    push_number(text, "and ", count as u64)?;
+    push_text(text, what)
+}
+
+/// Adds the first moves, and how many more there are.
+#[tactic(auto, unfolding(crate::specs::Report::brought_lines))]
+fn push_move_lines(
+    text: &mut Vec<u8>,
+    directories: &[Directory],
+    moves: &[Move],
+) -> Result<(), AllocError>
+    ensures { OnOk result (text.new.items ≡ text.old.items ++ brought_lines directories.now moves.now) }
+{
+    for at in 0..LINES_EACH.min(moves.len()) {
+        push_move(text, directories, moves, at)?;
+    }
+    push_more(
+        text,
+        moves.len().saturating_sub(LINES_EACH),
+        " smaller ones\n",
+    )
+}
+
+/// Adds the table of moves.
+#[tactic(auto, unfolding(crate::specs::Report::moves_table))]
+fn push_move_table(
+    text: &mut Vec<u8>,
+    directories: &[Directory],
+    moves: &[Move],
+) -> Result<(), AllocError>
+    ensures { OnOk result (text.new.items ≡ text.old.items ++ moves_table directories.now moves.now) }
+{
+    push_text(
+        text,
+        "\n  inodes        heat  to  directory that is pinned\n",
+    )?;
+    push_move_lines(text, directories, moves)
+}
+
+/// Adds the moves, the largest first, if there are any.
+#[tactic(auto, unfolding(crate::specs::Report::moves_text))]
+fn push_moves(
+    text: &mut Vec<u8>,
+    directories: &[Directory],
+    moves: &[Move],
+) -> Result<(), AllocError>
+    ensures { OnOk result (text.new.items ≡ text.old.items ++ moves_text directories.now moves.now) }
+{
+    if moves.is_empty() {
+        Ok(())
+    } else {
+        push_move_table(text, directories, moves)
+    }
+}
+
+/// Adds how many directories were folded.
+#[tactic(auto, unfolding(crate::specs::Report::folded_line))]
+fn push_folded(text: &mut Vec<u8>, count: usize) -> Result<(), AllocError>
+    ensures { OnOk result (text.new.items ≡ text.old.items ++ folded_line count) }
+{
+    if count == 0 {
+        return Ok(());
+    }
+    push_number(text, "\n", count as u64)?;
+    push_text(text, " directories were folded into their parents\n")
+}
+
+/// Why a rank below `max_mds` can't have a part; empty where it can.
+#[tactic(auto, unfolding(crate::specs::Report::absence))]
+fn absence(facts: &Facts, number: u8) -> &'static str
+    ensures { result.now ≡ absence facts.now number }
+{
+    if !has_number(facts.there, number) {
+        " is below max_mds and not in the file system: it gets no part\n"
+    } else if !has_number(facts.active, number) {
+        " is not active: it gets no part\n"
+    } else {
+        ""
+    }
+}
+
+/// Adds the line of a rank below `max_mds`, if it can't have a part.
+#[tactic(auto, unfolding(crate::specs::Report::absent_line))]
+fn push_absent(text: &mut Vec<u8>, facts: &Facts, number: u8) -> Result<(), AllocError>
+    ensures { OnOk result (text.new.items ≡ text.old.items ++ absent_line facts.now number) }
+{
+    let why = absence(facts, number);
+    if why.is_empty() {
+        return Ok(());
+    }
+    push_number(text, "rank ", u64::from(number))?;
+    push_text(text, why)
+}
+
+/// Adds the ranks that get no part.
+#[tactic(auto, unfolding(crate::specs::Report::absent_lines))]
+fn push_all_absent(text: &mut Vec<u8>, facts: &Facts) -> Result<(), AllocError>
+    ensures { OnOk result (text.new.items ≡ text.old.items ++ absent_lines facts.now) }
+{
+    for number in 0..facts.size {
+        push_absent(text, facts, number)?;
+    }
+    Ok(())
+}
+
+/// Whether the directory at a place is spread.
+fn is_spread(directories: &[Directory], at: u32) -> bool
+    ensures { result ≡ is_spread_at directories.now at }
+{
+    match directories.get(at as usize) {
+        Some(directory) => directory.is_spread,
         None => false,
     }
 }
 
-/// Why a directory is left where it is, if others decide about it.
-fn why_left(directories: &[Directory], directory: &Directory) -> Option<&'static str> {
+/// Why a directory is left where it is, if others decide about it; otherwise empty.
+#[tactic(auto, unfolding(crate::specs::Report::reason))]
+fn reason(directories: &[Directory], directory: &Directory) -> &'static str
+    ensures { result.now ≡ reason directories.now directory.entry.now }
+{
     if directory.policy.is_some() {
-        Some("has a policy of ephemeral pins, and is left where it is: ")
+        "has a policy of ephemeral pins, and is left where it is: "
     } else if directory.idle.is_some() {
-        Some("pinned by others to a rank that is not there, and left where it is: ")
-    } else if is_spread_first(directories, directory) {
-        Some("spread over several ranks, and left where it is: ")
+        "pinned by others to a rank that is not there, and left where it is: "
+    } else if directory.is_spread && !is_spread(directories, directory.parent) {
+        "spread over several ranks, and left where it is: "
     } else {
-        None
+        ""
     }
 }
 
-/// Adds the directories that are left where they are.
-fn push_left(text: &mut TextWriter, directories: &[Directory]) {
-    let mut lines = 0usize;
-    for directory in directories {
-        if let Some(why) = why_left(directories, directory) {
-            if lines < LINES_EACH {
-                text.text(why);
-                push_path(text, directory.path.as_slice());
-                text.character('\n');
-            }
-            lines = lines.saturating_add(1);
-        }
-    }
-    if lines > LINES_EACH {
-        text.number("and ", (lines - LINES_EACH) as u64);
-        text.text(" more that are left where they are\n");
+/// The same of the directory at a place.
+fn reason_at(directories: &[Directory], at: usize) -> &'static str
+    ensures { result.now ≡ reason_at directories.now (slice_get directories.now at) }
+{
+    match directories.get(at) {
+        Some(directory) => reason(directories, directory),
+        None => "",
     }
 }
 
-/// Adds a line for each rank below `max_mds` that can't have a part, as it is not in the file system or not active.
-fn push_absent(text: &mut TextWriter, facts: &Facts) {
-    for number in 0..facts.size {
-        if let Some(rank) = Rank::new(number) {
-            if !facts.there.has(rank) {
-                text.number("rank ", u64::from(number));
-                text.text(" is below max_mds and not in the file system: it gets no part\n");
-            } else if !facts.active.has(rank) {
-                text.number("rank ", u64::from(number));
-                text.text(" is not active: it gets no part\n");
-            }
-        }
+/// Adds the line of a directory if it is left where it is, and fewer than 40 have one before it. Gives how many are
+/// left where they are so far.
+#[tactic(auto, unfolding(crate::specs::Report::left_text))]
+fn push_left(
+    text: &mut Vec<u8>,
+    directories: &[Directory],
+    at: usize,
+    before: usize,
+) -> Result<usize, AllocError>
+    requires inside { at < length directories.now }
+    requires few { before ≤ at }
+    ensures line { OnOk result (text.new.items ≡ text.old.items ++ left_text directories.now at before) }
+    ensures count { IfOk result (λ count. count ≡ before + (if is_left directories.now at then 1 else 0)) }
+{
+    let why = reason_at(directories, at);
+    if why.is_empty() {
+        return Ok(before);
+    }
+    if before < LINES_EACH {
+        push_text(text, why)?;
+        push_place(text, directories, at)?;
+    }
+    Ok(before + 1)
+}
+
+/// Adds the directories that are left where they are: the first ones, and how many more there are.
+#[tactic(auto, unfolding(crate::specs::Report::left_lines))]
+fn push_all_left(text: &mut Vec<u8>, directories: &[Directory]) -> Result<(), AllocError>
+    ensures { OnOk result (text.new.items ≡ text.old.items ++ left_lines directories.now) }
+{
+    let mut count = 0usize;
+    for at in 0..directories.len() {
+        count = push_left(text, directories, at, count)?;
+    }
+    let more = count.saturating_sub(LINES_EACH);
+    push_more(text, more, " more that are left where they are\n")
+}
+
+/// Whether a directory is hotter than a plan can count.
+fn is_capped(directories: &[Directory], at: usize) -> bool
+    ensures { result ≡ nat_lt HEAT_LIMIT (heat_at directories.now at) }
+{
+    match directories.get(at) {
+        Some(directory) => directory.heat > HEAT_LIMIT,
+        None => false,
     }
 }
 
-/// Adds what was left out or has no single rank.
-fn push_left_out(text: &mut TextWriter, facts: &Facts) {
-    if facts.folded > 0 {
-        text.number("\n", facts.folded as u64);
-        text.text(" directories were folded into their parents\n");
-    }
-    push_absent(text, facts);
-    push_left(text, facts.directories);
+/// Adds the line of a directory whose heat is counted as less than it is.
+#[tactic(auto, unfolding(crate::specs::Report::capped_text))]
+fn push_capped_text(
+    text: &mut Vec<u8>,
+    directories: &[Directory],
+    at: usize,
+) -> Result<(), AllocError>
+    ensures { OnOk result (text.new.items ≡ text.old.items ++ capped_text directories.now at) }
+{
+    let label = "hotter than a plan can count, and counted as ";
+    push_heat(text, label, HEAT_LIMIT)?;
+    push_text(text, ": ")?;
+    push_place(text, directories, at)
 }
 
-/// How many directories have heat of their own.
-fn hot_count(directories: &[Directory]) -> u64 {
-    let mut count = 0u64;
-    for directory in directories {
-        count = count.saturating_add(u64::from(directory.heat > 0));
+/// Adds the line of a directory, if its heat is counted as less than it is.
+#[tactic(auto, unfolding(crate::specs::Report::capped_line))]
+fn push_capped(text: &mut Vec<u8>, directories: &[Directory], at: usize) -> Result<(), AllocError>
+    ensures { OnOk result (text.new.items ≡ text.old.items ++ capped_line directories.now at) }
+{
+    if is_capped(directories, at) {
+        push_capped_text(text, directories, at)
+    } else {
+        Ok(())
     }
-    count
+}
+
+/// Adds the directories whose heat is counted as less than it is.
+#[tactic(auto, unfolding(crate::specs::Report::capped_lines))]
+fn push_all_capped(text: &mut Vec<u8>, directories: &[Directory]) -> Result<(), AllocError>
+    ensures { OnOk result (text.new.items ≡ text.old.items ++ capped_lines directories.now) }
+{
+    for at in 0..directories.len() {
+        push_capped(text, directories, at)?;
+    }
+    Ok(())
 }
 
 /// The last line of the report where nothing is proposed.
 const NOTHING: &str =
     "\nnothing is proposed: the hottest rank gets cooler by less than --least-gain asks\n";
 
+/// Adds what the plan comes to.
+#[tactic(auto, unfolding(crate::specs::Report::plan_text))]
+fn push_plan(text: &mut Vec<u8>, facts: &Facts) -> Result<(), AllocError>
+    ensures { OnOk result (text.new.items ≡ text.old.items ++ plan_text facts.now) }
+{
+    push_head(text, facts)?;
+    push_ranks(text, facts)?;
+    push_heats(text, facts)?;
+    push_hottest(text, facts)?;
+    push_counts(text, facts)?;
+    push_moves(text, facts.directories, facts.moves)
+}
+
+/// Adds what was left out, or has no single rank.
+#[tactic(auto, unfolding(crate::specs::Report::left_out))]
+fn push_left_out(text: &mut Vec<u8>, facts: &Facts) -> Result<(), AllocError>
+    ensures { OnOk result (text.new.items ≡ text.old.items ++ left_out facts.now) }
+{
+    push_folded(text, facts.folded)?;
+    push_all_absent(text, facts)?;
+    push_all_left(text, facts.directories)?;
+    push_all_capped(text, facts.directories)
+}
+
 /// The report.
-pub fn make_report(alloc: Global, facts: &Facts, is_proposed: bool) -> Result<String, AllocError> {
-    let mut text = TextWriter::new(alloc);
-    text.number("", facts.directories.len() as u64);
-    text.number(" directories, ", hot_count(facts.directories));
-    text.number(" with heat of their own; mean of ", facts.samples);
-    text.text(" samples\n\n");
-    push_ranks(&mut text, facts);
-    push_result(&mut text, facts);
-    push_moves(&mut text, facts);
-    push_left_out(&mut text, facts);
-    push_capped(&mut text, facts.directories);
-    if !is_proposed {
-        text.text(NOTHING);
-    }
-    text.finish()
+#[tactic(auto, unfolding(crate::specs::Report::report))]
+pub fn make_report(alloc: Global, facts: &Facts, is_proposed: bool) -> Result<Vec<u8>, AllocError>
+    ensures { IfOk result (λ text. text.items ≡ report facts.now is_proposed) }
+{
+    let mut text = Vec::new(alloc);
+    push_plan(&mut text, facts)?;
+    push_left_out(&mut text, facts)?;
+    push_text(&mut text, if is_proposed { "" } else { NOTHING })?;
+    Ok(text)
 }

@@ -12,7 +12,7 @@ use Rattle.ceph_plan.specs.declared.proposal.OwnPins.{OwnPins}
 use Rattle.ceph_plan.specs.declared.proposal.Proposal.{Proposal}
 use Rattle.ceph_plan.specs.Proposals.{IsProposal}
 use Rattle.ceph_report.specs.Amounts.{AreAmounts, goal_at, heat_now, inodes_from, inodes_to}
-use Rattle.ceph_report.specs.OwnPins.{AreOwnPins}
+use Rattle.ceph_pins.specs.OwnPins.{AreOwnPins}
 use Rattle.mdbal_ceph.specs.declared.outcome.Decision.{Decision}
 use Rattle.mdbal_ceph.specs.declared.outcome.Outcome.{Outcome}
 

@@ -1,11 +1,16 @@
 -- What is written of a plan.
-use Rattle.std.specs.Prelude.{◌≡◌, ◌<◌, ◌≤◌, ◌-◌, ◌*◌, ◌↔◌, ℕ, Bool, List, [], length, slice_index, string_bytes}
+use Rattle.std.specs.Prelude.{◌≡◌, ◌<◌, ◌≤◌, ◌-◌, ◌*◌, ◌↔◌, ℕ, Bool, List, [], length, string_bytes}
 use Rattle.std.specs.Prelude.{IfSome, IsTrue, is_some, if◌then◌else◌}
-use Rattle.mds_types.specs.Sums.{max_below}
+use Rattle.mds_types.specs.Sums.{count_below}
 use Rattle.ceph_plan.specs.declared.row.PinChange.{PinChange}
-use Rattle.ceph_report.specs.Back.{inverted}
-use Rattle.ceph_report.specs.OwnList.{own_list}
-use Rattle.ceph_report.specs.PinsScript.{pins_script}
+use Rattle.ceph_pins.specs.Back.{inverted}
+use Rattle.ceph_pins.specs.OwnList.{own_list}
+use Rattle.ceph_pins.specs.PinsScript.{pins_script}
+use Rattle.ceph_pins.specs.Standing.{is_standing}
+use Rattle.ceph_report.specs.Json.{json}
+use Rattle.ceph_report.specs.Report.{report}
+use Rattle.ceph_report.specs.Told.{hottest}
+use Rattle.ceph_report.specs.declared.facts.Facts.{Facts}
 use Rattle.mdbal_ceph.specs.declared.outcome.Outcome.{Outcome}
 use Rattle.mdbal_ceph.specs.declared.settings.PlanSettings.{PlanSettings}
 use Rattle.mdbal_ceph.specs.declared.writing.PinFiles.{PinFiles}
@@ -15,9 +20,9 @@ use Rattle.mdbal_ceph.specs.declared.writing.PlanOutput.{PlanOutput}
 abbrev pub IsWorthIt : ℕ → ℕ → ℕ → Type 0
 IsWorthIt now planned percent = (planned < now) × (now * percent ≤ (now - planned) * 100)
 
--- the heat of the hottest of all ranks
-abbrev pub hottest : List ℕ → ℕ
-hottest heats = max_below (length heats) (slice_index heats)
+-- the status of the program
+abbrev pub plan_status : Bool → ℕ
+plan_status is_proposed = if is_proposed then 0 else 3
 
 -- the changes that are proposed: none where the plan isn't worth a proposal
 abbrev pub proposed_changes : Outcome → Bool → List PinChange
@@ -35,11 +40,42 @@ pub record ArePinFiles (mount : List ℕ) (outcome : Outcome) (changes : List Pi
   pub back : files.back.items ≡ script_of mount outcome (inverted outcome.decision.proposal.rows.items changes)
   pub own : files.own.items ≡ own_list outcome.directories.items outcome.decision.proposal.rows.items changes
 
--- the plan is proposed where the hottest of all ranks gets cooler by the percentage that is asked for, and the files of
--- the pins are there where they are asked for, with the changes that are proposed
+-- the facts of the report are those of the outcome
+pub record AreFacts (outcome : Outcome) (count : ℕ) (facts : Facts) : Type 0 where
+  pub directories : facts.directories.now ≡ outcome.directories.items
+  pub holds : facts.holds.now ≡ outcome.decision.holds.items
+  pub folded : facts.folded ≡ outcome.folded
+  pub samples : facts.samples ≡ outcome.samples
+  pub size : facts.size ≡ outcome.size
+  pub there : facts.there ≡ outcome.there
+  pub active : facts.active ≡ outcome.active
+  pub ranks : facts.ranks ≡ outcome.ranks
+  pub plan : facts.plan.now ≡ outcome.decision.proposal.plan
+  pub sums : facts.sums.now ≡ outcome.decision.sums
+  pub pinned : facts.pinned.now ≡ outcome.decision.pinned.items
+  pub changes : facts.changes ≡ length outcome.decision.proposal.changes.items
+  pub standing : facts.standing ≡ count
+
+-- how many pins of an earlier plan stand as they are
+abbrev pub standing_count : Outcome → ℕ
+standing_count outcome =
+    count_below (length outcome.decision.proposal.rows.items)
+    (is_standing outcome.decision.proposal.rows.items outcome.decision.proposal.changes.items)
+
+-- the text is the report of the outcome's facts, or the plan as JSON
+pub record IsTold (outcome : Outcome) (is_json is_proposed : Bool) (text : List ℕ) : Type 0 where
+  pub facts : Facts
+  pub of : AreFacts outcome (standing_count outcome) facts
+  pub told : text
+      ≡ (if is_json then json facts (proposed_changes outcome is_proposed) is_proposed else report facts is_proposed)
+
+-- the plan is proposed where the hottest of all ranks gets cooler by the percentage that is asked for; the report, or
+-- JSON, is that of the outcome; and the files of the pins are there where they are asked for, with the changes that are
+-- proposed
 pub record IsWritten (settings : PlanSettings) (outcome : Outcome) (output : PlanOutput) : Type 0 where
   pub proposed : IsTrue output.is_proposed
       ↔ IsWorthIt (hottest outcome.decision.sums.now.items) (hottest outcome.decision.proposal.plan.packing.load.items)
       settings.least_gain
+  pub text : IsTold outcome settings.is_json output.is_proposed output.text.items
   pub asked : is_some output.pins ≡ is_some settings.pins
   pub pins : IfSome output.pins (ArePinFiles settings.mount.now outcome (proposed_changes outcome output.is_proposed))

@@ -24,9 +24,9 @@ fn write_pins<R: Files + AllocGlobal>(rt: &R, file: &str, pins: &PinFiles) -> Re
 }
 
 /// Writes a text to a file, where both are there.
-fn write_text<R: Files>(rt: &R, file: Option<&str>, text: Option<&String>) -> Result<(), Error> {
+fn write_text<R: Files>(rt: &R, file: Option<&str>, text: Option<&Vec<u8>>) -> Result<(), Error> {
     match (file, text) {
-        (Some(file), Some(text)) => write_file(rt, file, text.as_bytes()),
+        (Some(file), Some(text)) => write_file(rt, file, text),
         _ => Ok(()),
     }
 }

@@ -2,6 +2,7 @@
 #![tactic(auto)]
 
 mod collected;
+mod devices;
 mod files;
 mod input;
 mod outcome;
@@ -9,10 +10,12 @@ mod progress;
 mod settings;
 mod writing;
 
-use anyhow::Error;
+use anyhow::{Context, Error};
+use devices::hold_devices;
 use files::carry_out;
 use settings::{PlanSettings, settings_of};
 use std::env::Env;
+use std::io::Write;
 use std::process::ExitCode;
 use std::rt::{Clock, Files};
 use std::{env, io};
@@ -23,14 +26,15 @@ fn words<R: Env + AllocGlobal>(rt: &R) -> io::Result<Vec<String>> {
     Ok(words)
 }
 
-/// Plans, and prints the report. Gives whether a change is proposed.
+/// Plans, and prints the report. Gives the status.
 fn run<R: Files + AllocGlobal + Clock + Print + Eprint>(
     rt: &R,
     settings: &PlanSettings,
-) -> Result<bool, Error> {
+) -> Result<u8, Error> {
     let output = carry_out(rt, settings)?;
-    print!(rt; "{}", output.text)?;
-    Ok(output.is_proposed)
+    let written = io::writer(rt).write_all(&output.text);
+    written.context("standard output")?;
+    Ok(output.status())
 }
 
 /// Does what these words ask for. Gives the status.
@@ -40,8 +44,7 @@ fn done<R: Files + AllocGlobal + Clock + Print + Eprint>(rt: &R, words: &[String
         Err(refused) => return refused.told(rt),
     };
     match run(rt, &settings) {
-        Ok(true) => 0,
-        Ok(false) => 3,
+        Ok(status) => status,
         Err(error) => {
             let _ = eprintln!(rt; "mdbal_ceph: {error:#}");
             1
@@ -61,5 +64,11 @@ fn status<R: Env + Files + AllocGlobal + Clock + Print + Eprint>(rt: &R) -> u8 {
 }
 
 fn main(rt: HostRuntime) -> ExitCode {
-    ExitCode::from(status(&rt))
+    match hold_devices(&rt) {
+        Ok(_held) => ExitCode::from(status(&rt)),
+        Err(error) => {
+            let _ = eprintln!(rt; "mdbal_ceph: /dev/null: {error}");
+            ExitCode::from(1)
+        }
+    }
 }

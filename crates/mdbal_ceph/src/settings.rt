@@ -62,15 +62,17 @@ impl From<Error> for Refused {
 }
 
 impl Refused {
-    /// Says why. Gives the status: 0 for the help and the version, else 2.
+    /// Says why. Gives the status: 0 for the help and the version, 1 where they can't be written, else 2.
     pub fn told(&self, rt: &(impl Print + Eprint)) -> u8 {
         let told = match self {
             Refused::Memory => eprintln!(rt; "mdbal_ceph: no memory"),
             Refused::Value(option) => eprintln!(rt; "mdbal_ceph: {option}: see --help"),
             Refused::Words(error) => match error.kind() {
                 ErrorKind::DisplayHelp | ErrorKind::DisplayVersion => {
-                    let _ = print!(rt; "{error}");
-                    return 0;
+                    return match print!(rt; "{error}") {
+                        Ok(()) => 0,
+                        Err(_) => 1,
+                    };
                 }
                 _ => eprint!(rt; "{error}"),
             },
@@ -193,8 +195,8 @@ fn folder_arg<'a>(alloc: Global) -> Arg<'a> {
 /// The program's command without its options, as `clap` knows it.
 fn plain_command<'a>(alloc: Global) -> Command<'a> {
     Command::new(alloc, "mdbal_ceph").version(VERSION).about(
-        "Plans export pins that balance a live CephFS. Status 0: changes are proposed; 1: a file is missing or \
-         broken, or there is no plan; 2: the command line is refused; 3: nothing is proposed",
+        "Plans export pins that balance a live CephFS. Status 0: changes are proposed; 1: a file is missing, broken \
+         or can't be written, or there is no plan; 2: the command line is refused; 3: nothing is proposed",
     )
 }
 

@@ -1,15 +1,19 @@
 //! What is written of a plan: the text for standard output, and the files.
-ghost use Rattle.std.specs.Prelude.{◌≡◌, ◌↔◌, IfOk, IsTrue, length};
-ghost use Rattle.ceph_report.specs.PinsScript.{pins_script};
-ghost use Rattle.mdbal_ceph.specs.Writing.{ArePinFiles, IsWorthIt, IsWritten, hottest as hottest_of, proposed_changes};
+ghost use Rattle.std.specs.Prelude.{◌≡◌, ◌↔◌, IfOk, IsTrue};
+ghost use Rattle.ceph_pins.specs.PinsScript.{pins_script};
+ghost use Rattle.ceph_report.specs.Told.{hottest as hottest_of};
+ghost use Rattle.mdbal_ceph.specs.Writing.{AreFacts, ArePinFiles, IsTold, IsWorthIt, IsWritten};
+ghost use Rattle.mdbal_ceph.specs.Writing.{plan_status, proposed_changes};
 
 use crate::outcome::Outcome;
 use crate::settings::PlanSettings;
 use anyhow::{Error, bail};
+use ceph_pins::{
+    MountedFileSystem, ScriptError, changes_back, make_own_list, make_pins_script, standing_pins,
+};
 use ceph_plan::PinChange;
 use ceph_report::{
-    Facts, MountedFileSystem, Move, ScriptError, changes_back, hottest, make_json, make_own_list,
-    make_picture, make_pins_script, make_report, make_script, moves_of, standing_pins,
+    Facts, Move, hottest, make_json, make_picture, make_report, make_script, moves_of,
 };
 use ceph_snapshot::Directory;
 use std::alloc::{AllocError, Global};
@@ -29,15 +33,24 @@ pub struct PinFiles {
 #[derive(Drop)]
 pub struct PlanOutput {
     /// The report, or the plan as JSON.
-    pub text: String,
+    pub text: Vec<u8>,
     /// Whether the plan is worth a proposal.
     pub is_proposed: bool,
     /// The files of `--pins`, where it is given.
     pub pins: Option<PinFiles>,
     /// The picture, where `--svg` is given.
-    pub picture: Option<String>,
+    pub picture: Option<Vec<u8>>,
     /// The directories as a script of `mdbal`, where `--script` is given.
-    pub script: Option<String>,
+    pub script: Option<Vec<u8>>,
+}
+
+impl PlanOutput {
+    /// The status of the program: 0 where changes are proposed, 3 where none are.
+    pub fn status(&self) -> u8
+        ensures { result ≡ plan_status self.now.is_proposed }
+    {
+        if self.is_proposed { 0 } else { 3 }
+    }
 }
 
 /// Whether the hottest rank gets cooler by at least so many percent.
@@ -59,22 +72,11 @@ fn is_proposed(outcome: &Outcome, percent: u8) -> bool
 
 /// What the report tells of an outcome.
 fn facts_of<'a>(outcome: &'a Outcome, moves: &'a [Move], standing: usize) -> Facts<'a>
-    ensures directories { result.directories.now ≡ outcome.now.directories.items }
-    ensures folded { result.folded ≡ outcome.now.folded }
-    ensures samples { result.samples ≡ outcome.now.samples }
-    ensures size { result.size ≡ outcome.now.size }
-    ensures there { result.there ≡ outcome.now.there }
-    ensures active { result.active ≡ outcome.now.active }
-    ensures ranks { result.ranks ≡ outcome.now.ranks }
-    ensures plan { result.plan.now ≡ outcome.now.decision.proposal.plan }
-    ensures sums { result.sums.now ≡ outcome.now.decision.sums }
-    ensures pinned { result.pinned.now ≡ outcome.now.decision.pinned.items }
-    ensures moves { result.moves.now ≡ moves.now }
-    ensures changes { result.changes ≡ length outcome.now.decision.proposal.changes.items }
-    ensures standing { result.standing ≡ standing }
+    ensures { AreFacts outcome.now standing result }
 {
     Facts {
         directories: &outcome.directories,
+        holds: &outcome.decision.holds,
         folded: outcome.folded,
         samples: outcome.samples,
         size: outcome.size,
@@ -96,7 +98,9 @@ fn told(
     outcome: &Outcome,
     is_json: bool,
     is_proposed: bool,
-) -> Result<String, AllocError> {
+) -> Result<Vec<u8>, AllocError>
+    ensures { IfOk result (λ text. IsTold outcome.now is_json is_proposed text.items) }
+{
     let (directories, holds) = (&outcome.directories, &outcome.decision.holds);
     let proposal = &outcome.decision.proposal;
     let (rows, changes) = (&proposal.rows, &proposal.changes);

@@ -1,5 +1,0 @@
-use Rattle.ceph_report.specs.OwnPins.{AreOwnPins}
-use Rattle.ceph_report.proofs.foreign.own_pins.Given as goal
-
-abbrev pub invariant-loop-at : goal.invariant-loop-at
-invariant-loop-at l = AreOwnPins l.directories l.at l.own.items

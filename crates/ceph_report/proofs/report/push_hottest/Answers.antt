@@ -1,0 +1,8 @@
+use Rattle.std.proofs.Common.{◌∙◌, append_assoc}
+use Rattle.std.proofs.lemmas.Result.{on_ok_weaker}
+use Rattle.ceph_report.specs.Report.{hottest_line}
+use Rattle.ceph_report.proofs.report.push_hottest.Goals as goal
+
+pub returns : goal.returns
+unfolding hottest_line
+returns c = on_ok_weaker c.push_place.result (λ e. e ∙ simp (append_assoc, c.in_ok-push_text.ensures, c.in_ok-push_heat.ensures, c.hottest_place-at.ensures, c.free_heat.ensures)) c.push_place.ensures

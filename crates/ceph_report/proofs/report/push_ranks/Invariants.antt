@@ -1,0 +1,7 @@
+use Rattle.std.proofs.Common.{◌≡◌, ◌++◌}
+use Rattle.ceph_report.specs.Text.{lines_below}
+use Rattle.ceph_report.specs.Report.{told_line}
+use Rattle.ceph_report.proofs.report.push_ranks.Given as goal
+
+abbrev pub invariant-loop-number : goal.invariant-loop-number
+invariant-loop-number l = l.text.items ≡ l.initial.text.items ++ lines_below (told_line l.facts) l.number

@@ -1,0 +1,26 @@
+-- The numbers in the picture.
+use Rattle.std.specs.Prelude.{◌*◌, ◌/◌, ◌%◌, ◌++◌, ℕ, List, [], codes}
+use Rattle.ceph_snapshot.specs.declared.directory.Directory.{Directory}
+use Rattle.ceph_report.specs.Text.{field}
+
+unfoldable pub hundredths_text : List ℕ → ℕ → List ℕ
+hundredths_text label hundredths =
+    field label (hundredths / 100) ++ field (codes ".") (hundredths % 100 / 10) ++ field [] (hundredths % 10)
+
+-- the colour of a rank
+unfoldable pub colour_text : ℕ → List ℕ
+colour_text rank = field (codes "hsl(") (rank * 137 % 360) ++ codes ",60%,75%)"
+
+-- what is shown of a directory on hover, under its path: the rank that it is to be at and the one that has it, its heat
+-- and inodes, and those with what is below
+unfoldable pub hover_text : Directory → ℕ → ℕ → ℕ → List ℕ
+hover_text directory heat inodes rank =
+    field (codes "\nrank ") rank ++ field (codes ", now ") directory.now
+    ++ field (codes "\nheat ") (directory.heat / 1000) ++ field (codes ", with what is below ") (heat / 1000)
+    ++ field (codes "\ninodes ") directory.inodes ++ field (codes ", with what is below ") inodes
+
+-- what is shown of the children together that have no box of their own
+unfoldable pub rest_text : ℕ → ℕ → ℕ → List ℕ
+rest_text count heat inodes =
+    field (codes "<g><title>") count ++ field (codes " directories together\nheat ") (heat / 1000)
+    ++ field (codes "\ninodes ") inodes ++ codes "</title>\n"

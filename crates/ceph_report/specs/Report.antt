@@ -1,0 +1,179 @@
+-- The report, byte by byte.
+use Rattle.std.specs.Prelude.{◌==◌, ◌&&◌, ◌-◌, ◌++◌, ℕ, Bool, List, [], codes, decimal, length, min, nat_lt, not}
+use Rattle.std.specs.Prelude.{is_some, slice_get, Option, Some, None, if◌then◌else◌}
+use Rattle.mds_types.specs.RankSet.{has_rank}
+use Rattle.mds_types.specs.Sums.{count_below}
+use Rattle.mds_types.specs.declared.limits.TheConstants.{HEAT_LIMIT}
+use Rattle.ceph_pins.specs.PinsScript.{path_at}
+use Rattle.ceph_snapshot.specs.declared.directory.Directory.{Directory}
+use Rattle.ceph_snapshot.specs.Holding.{heat_at, is_spread_at}
+use Rattle.ceph_report.specs.Text.{columns, field, heat_text, lines_below, per_mille, percent_text, shown_path}
+use Rattle.ceph_report.specs.Told.{free_heat, hottest_place}
+use Rattle.ceph_report.specs.Told.{hottest_bound, hottest_now, hottest_planned, into_of, is_told, now_of, out_of}
+use Rattle.ceph_report.specs.Told.{pinned_of, planned_of}
+use Rattle.ceph_report.specs.declared.facts.Facts.{Facts}
+use Rattle.ceph_report.specs.declared.moves.Move.{Move}
+use Rattle.ceph_report.specs.declared.report.TheConstants.{CAVEAT, LINES_EACH, NOTHING}
+
+unfoldable pub hot_count : List Directory → ℕ
+hot_count directories = count_below (length directories) (λ i. nat_lt 0 (heat_at directories i))
+
+unfoldable pub head_line : Facts → List ℕ
+head_line facts =
+    field [] (length facts.directories.now) ++ field (codes " directories, ") (hot_count facts.directories.now)
+    ++ field (codes " with heat of their own; mean of ") facts.samples ++ codes " samples\n\n"
+
+-- a rank and its heat: now, as planned, and what pins of others hold there
+unfoldable pub rank_heats : Facts → ℕ → List ℕ
+rank_heats facts r =
+    columns 4 r ++ heat_text [] (now_of facts r) ++ heat_text [] (planned_of facts r)
+    ++ heat_text [] (pinned_of facts r)
+
+-- the inodes that come to it, and those that go from it
+unfoldable pub rank_inodes : Facts → ℕ → List ℕ
+rank_inodes facts r = columns 12 (into_of facts r) ++ columns 12 (out_of facts r) ++ codes "\n"
+
+unfoldable pub rank_row : Facts → ℕ → List ℕ
+rank_row facts r = rank_heats facts r ++ rank_inodes facts r
+
+unfoldable pub told_line : Facts → ℕ → List ℕ
+told_line facts r = if is_told facts r then rank_row facts r else []
+
+unfoldable pub rank_table : Facts → List ℕ
+rank_table facts =
+    codes "rank         now     planned      pinned   inodes in  inodes out\n" ++ lines_below (told_line facts) 64
+
+-- the hottest of all ranks now and as planned, and what it can't get below
+unfoldable pub heat_lines : Facts → List ℕ
+heat_lines facts =
+    heat_text (codes "\nhottest rank now     ") (hottest_now facts)
+    ++ heat_text (codes "\nhottest rank planned ") (hottest_planned facts)
+    ++ percent_text (codes ", cooler than now: ")
+    (per_mille (hottest_now facts - hottest_planned facts) (hottest_now facts))
+    ++ heat_text (codes "\nlower bound          ") (hottest_bound facts)
+    ++ percent_text (codes ", the plan is within ")
+    (per_mille (hottest_planned facts - hottest_bound facts) (hottest_bound facts))
+    ++ codes " of it"
+
+-- a directory's path, and the end of the line
+unfoldable pub place_text : List Directory → ℕ → List ℕ
+place_text directories i = shown_path (path_at directories i) ++ codes "\n"
+
+-- the hottest directory that is planned: no pin divides it
+unfoldable pub hottest_line : Facts → List ℕ
+hottest_line facts =
+    heat_text (codes "\nhottest directory    ") (free_heat facts (hottest_place facts)) ++ codes "  "
+    ++ place_text facts.directories.now (hottest_place facts)
+
+unfoldable pub standing_text : ℕ → List ℕ
+standing_text count = if nat_lt 0 count then field (codes ", ") count ++ codes " pins stand already" else []
+
+unfoldable pub count_line : Facts → List ℕ
+count_line facts =
+    field CAVEAT.now facts.plan.now.count ++ field (codes " parts, ") facts.plan.now.moved
+    ++ field (codes " inodes move, ") facts.changes ++ codes " changes of pins" ++ standing_text facts.standing
+    ++ codes "\n"
+
+-- the line of a move: the inodes and the heat that a pin brings, its rank, and the directory that is pinned
+unfoldable pub brought_text : List Directory → Move → List ℕ
+brought_text directories one =
+    columns 8 one.inodes ++ heat_text [] one.heat ++ columns 4 one.to ++ codes "  "
+    ++ place_text directories one.directory
+
+unfoldable pub brought_line : List Directory → Option Move → List ℕ
+brought_line directories None = []
+brought_line directories (Some one) = brought_text directories one
+
+-- how many have no line of their own
+unfoldable pub more_line : ℕ → List ℕ → List ℕ
+more_line count what = if nat_lt 0 count then field (codes "and ") count ++ what else []
+
+unfoldable pub brought_lines : List Directory → List Move → List ℕ
+brought_lines directories moves =
+    lines_below (λ i. brought_line directories (slice_get moves i)) (min LINES_EACH (length moves))
+    ++ more_line (length moves - LINES_EACH) (codes " smaller ones\n")
+
+unfoldable pub moves_table : List Directory → List Move → List ℕ
+moves_table directories moves =
+    codes "\n  inodes        heat  to  directory that is pinned\n" ++ brought_lines directories moves
+
+unfoldable pub moves_text : List Directory → List Move → List ℕ
+moves_text directories moves = if length moves == 0 then [] else moves_table directories moves
+
+unfoldable pub folded_line : ℕ → List ℕ
+folded_line count =
+    if nat_lt 0 count then field (codes "\n") count ++ codes " directories were folded into their parents\n" else []
+
+-- why a rank below max_mds can't have a part
+unfoldable pub absence : Facts → ℕ → List ℕ
+absence facts r =
+    if not (has_rank facts.there r)
+    then codes " is below max_mds and not in the file system: it gets no part\n"
+    else if not (has_rank facts.active r) then codes " is not active: it gets no part\n" else []
+
+unfoldable pub absent_line : Facts → ℕ → List ℕ
+absent_line facts r = if length (absence facts r) == 0 then [] else field (codes "rank ") r ++ absence facts r
+
+-- the ranks that get no part
+unfoldable pub absent_lines : Facts → List ℕ
+absent_lines facts = lines_below (absent_line facts) facts.size
+
+-- why a directory is left where it is, if others decide about it
+unfoldable pub reason : List Directory → Directory → List ℕ
+reason directories one =
+    if is_some one.policy then codes "has a policy of ephemeral pins, and is left where it is: "
+    else if is_some one.idle
+    then codes "pinned by others to a rank that is not there, and left where it is: "
+    else if one.is_spread && not (is_spread_at directories one.parent)
+    then codes "spread over several ranks, and left where it is: "
+    else []
+
+abbrev pub reason_at : List Directory → Option Directory → List ℕ
+reason_at directories None = []
+reason_at directories (Some one) = reason directories one
+
+abbrev pub is_left : List Directory → ℕ → Bool
+is_left directories i = not (length (reason_at directories (slice_get directories i)) == 0)
+
+-- the line of a directory that is left where it is, where so many are before it; the first 40 have one
+unfoldable pub left_text : List Directory → ℕ → ℕ → List ℕ
+left_text directories i before =
+    if is_left directories i && nat_lt before LINES_EACH
+    then reason_at directories (slice_get directories i) ++ place_text directories i else []
+
+abbrev pub left_line : List Directory → ℕ → List ℕ
+left_line directories i = left_text directories i (count_below i (is_left directories))
+
+unfoldable pub left_lines : List Directory → List ℕ
+left_lines directories =
+    lines_below (left_line directories) (length directories)
+    ++ more_line (count_below (length directories) (is_left directories) - LINES_EACH)
+    (codes " more that are left where they are\n")
+
+-- the line of a directory that is hotter than a plan can count
+unfoldable pub capped_text : List Directory → ℕ → List ℕ
+capped_text directories i =
+    heat_text (codes "hotter than a plan can count, and counted as ") HEAT_LIMIT ++ codes ": "
+    ++ place_text directories i
+
+unfoldable pub capped_line : List Directory → ℕ → List ℕ
+capped_line directories i = if nat_lt HEAT_LIMIT (heat_at directories i) then capped_text directories i else []
+
+unfoldable pub capped_lines : List Directory → List ℕ
+capped_lines directories = lines_below (capped_line directories) (length directories)
+
+-- what the plan comes to, and what it moves
+unfoldable pub plan_text : Facts → List ℕ
+plan_text facts =
+    head_line facts ++ rank_table facts ++ heat_lines facts ++ hottest_line facts ++ count_line facts
+    ++ moves_text facts.directories.now facts.moves.now
+
+-- what was left out, or has no single rank
+unfoldable pub left_out : Facts → List ℕ
+left_out facts =
+    folded_line facts.folded ++ absent_lines facts ++ left_lines facts.directories.now
+    ++ capped_lines facts.directories.now
+
+unfoldable pub report : Facts → Bool → List ℕ
+report facts is_proposed =
+    plan_text facts ++ left_out facts ++ (if is_proposed then [] else NOTHING.now)

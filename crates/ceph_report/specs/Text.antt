@@ -1,0 +1,64 @@
+-- How numbers and paths are written.
+use Rattle.std.specs.Prelude.{◌==◌, ◌&&◌, ◌||◌, ◌+◌, ◌-◌, ◌*◌, ◌/◌, ◌%◌, ◌++◌, ℕ, zero, suc, Bool, List, [], ◌∷◌}
+use Rattle.std.specs.Prelude.{codes, decimal, length, min, not, nat_le, nat_lt, take, if◌then◌else◌}
+use Rattle.std.specs.List.{flat_map}
+use Rattle.ceph_snapshot.specs.Holding.{most_heat}
+
+-- the texts of the numbers below n, in their order
+unfoldable pub lines_below : (ℕ → List ℕ) → ℕ → List ℕ
+lines_below line zero = []
+lines_below line (suc n) = lines_below line n ++ line n
+
+-- a label and a number
+unfoldable pub field : List ℕ → ℕ → List ℕ
+field label number = label ++ decimal number
+
+-- a number at the right of so many columns, 12 at most
+unfoldable pub columns : ℕ → ℕ → List ℕ
+columns width number = take (width - length (decimal number)) (codes "            ") ++ decimal number
+
+-- a heat in thousandths, with one digit behind the point
+unfoldable pub heat_text : List ℕ → ℕ → List ℕ
+heat_text label heat = label ++ columns 10 (heat / 1000) ++ field (codes ".") (heat % 1000 / 100)
+
+-- tenths of a percent
+unfoldable pub percent_text : List ℕ → ℕ → List ℕ
+percent_text label tenths = field label (tenths / 10) ++ field (codes ".") (tenths % 10) ++ codes " %"
+
+-- a part of a whole in tenths of a percent, rounded down, as far as 64 bits count
+unfoldable pub per_mille : ℕ → ℕ → ℕ
+per_mille part whole = if whole == 0 then 0 else min most_heat (part * 1000) / whole
+
+-- a byte that ASCII prints
+abbrev pub is_printed : ℕ → Bool
+is_printed c = nat_le 32 c && nat_lt c 127
+
+-- a byte as a backslash and three octal digits, unless it is printed and no backslash
+unfoldable pub shown_byte : ℕ → List ℕ
+shown_byte c =
+    if is_printed c && not (c == 92) then c ∷ [] else 92 ∷ (48 + c / 64) ∷ (48 + c / 8 % 8) ∷ (48 + c % 8) ∷ []
+
+-- a path; the root's is empty
+unfoldable pub shown_path : List ℕ → List ℕ
+shown_path [] = codes "/"
+shown_path (c ∷ path) = flat_map shown_byte (c ∷ path)
+
+unfoldable pub hex_digit : ℕ → ℕ
+hex_digit d = if nat_lt d 10 then 48 + d else 87 + d
+
+-- a label, and a byte as two hexadecimal digits
+unfoldable pub hexadecimal : List ℕ → ℕ → List ℕ
+hexadecimal label c = label ++ hex_digit (c / 16) ∷ hex_digit (c % 16) ∷ []
+
+-- a byte in a string of JSON, where it is one character, U+0000 to U+00FF
+unfoldable pub json_byte : ℕ → List ℕ
+json_byte c =
+    if (c == 34) || (c == 92) then 92 ∷ c ∷ []
+    else if is_printed c then c ∷ [] else hexadecimal (codes "\\u00") c
+
+unfoldable pub json_string : List ℕ → List ℕ
+json_string path = codes "\"" ++ flat_map json_byte path ++ codes "\""
+
+-- what stands before the member of a list at this place
+unfoldable pub comma : ℕ → List ℕ
+comma at = if at == 0 then [] else codes ","

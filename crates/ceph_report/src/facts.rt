@@ -1,0 +1,126 @@
+//! What is told of a plan, in the report and as JSON.
+ghost use Rattle.std.specs.Prelude.{◌≡◌, ◌<◌, slice_index};
+ghost use Rattle.mds_types.specs.RankSet.{has_rank};
+ghost use Rattle.ceph_report.specs.Told.{free_heat, hottest_place};
+ghost use Rattle.ceph_report.specs.Told.{hottest, hottest_bound, hottest_now, hottest_planned, is_told};
+
+use crate::moves::{Move, Sums};
+use ceph_plan::Planned;
+use ceph_snapshot::{Directory, Held};
+use mds_types::{Rank, RankSet};
+
+/// What is told of a plan.
+#[derive(Clone, Copy)]
+pub struct Facts<'a> {
+    /// The directories that were planned.
+    pub directories: &'a [Directory],
+    /// What holds each of them.
+    pub holds: &'a [Held],
+    /// How many directories were folded into their parents before.
+    pub folded: usize,
+    /// How many samples of heat there are.
+    pub samples: u64,
+    /// How many ranks the file system is to have (`max_mds`).
+    pub size: u8,
+    /// The ranks that are in the file system.
+    pub there: RankSet,
+    /// Those of them whose daemons are active.
+    pub active: RankSet,
+    /// The ranks that may have a part.
+    pub ranks: RankSet,
+    /// The plan.
+    pub plan: &'a Planned,
+    /// What each rank has now, and what comes and goes.
+    pub sums: &'a Sums,
+    /// The heat that is held at each rank by pins of others, in thousandths.
+    pub pinned: &'a [u64],
+    /// What each new pin brings.
+    pub moves: &'a [Move],
+    /// How many changes of pins there are.
+    pub changes: usize,
+    /// How many pins of an earlier plan stand as they are.
+    pub standing: usize,
+}
+
+/// The heat of the hottest rank, in thousandths, where `heats[r]` is the heat of rank r.
+pub fn hottest(heats: &[u64]) -> u64
+    ensures { result ≡ hottest heats.now }
+{
+    let mut greatest = 0;
+    for heat in heats {
+        greatest = (*heat).max(greatest);
+    }
+    greatest
+}
+
+/// The number at a place, 0 where there is none.
+pub(crate) fn number_at(numbers: &[u64], at: u8) -> u64
+    ensures { result ≡ slice_index numbers.now at }
+{
+    numbers.get(usize::from(at)).copied().unwrap_or(0)
+}
+
+impl Facts<'_> {
+    /// The heat of the hottest rank now, in thousandths.
+    pub(crate) fn hottest_now(&self) -> u64
+        ensures { result ≡ hottest_now self.now }
+    {
+        hottest(&self.sums.now)
+    }
+
+    /// The heat of the hottest rank as planned, in thousandths.
+    pub(crate) fn hottest_planned(&self) -> u64
+        ensures { result ≡ hottest_planned self.now }
+    {
+        hottest(&self.plan.packing.load)
+    }
+
+    /// What the hottest of all ranks can't get below, in thousandths: the bound of the ranks that may have a part, and
+    /// the most that is pinned to any rank.
+    pub(crate) fn hottest_bound(&self) -> u64
+        ensures { result ≡ hottest_bound self.now }
+    {
+        self.plan.packing.bound.max(hottest(self.pinned))
+    }
+
+    /// The heat of a directory that is planned, in thousandths; 0 of one that is held.
+    pub(crate) fn free_heat(&self, at: usize) -> u64
+        ensures { result ≡ free_heat self.now at }
+    {
+        match (self.holds.get(at), self.directories.get(at)) {
+            (Some(Held::Pinned(_) | Held::Spread(_)), _) | (_, None) => 0,
+            (_, Some(directory)) => directory.heat,
+        }
+    }
+
+    /// The place of the hottest directory that is planned.
+    pub(crate) fn hottest_place(&self) -> usize
+        ensures { result ≡ hottest_place self.now }
+    {
+        let mut hottest = 0;
+        for at in 0..self.directories.len() {
+            if self.free_heat(hottest) < self.free_heat(at) {
+                hottest = at;
+            }
+        }
+        hottest
+    }
+
+    /// Whether a rank is told of: it may have a part, or something is there now.
+    pub(crate) fn is_told(&self, number: u8) -> bool
+        requires { number < 64 }
+        ensures { result ≡ is_told self.now number }
+    {
+        number_at(&self.sums.now, number) > 0 || has_number(self.ranks, number)
+    }
+}
+
+/// Whether the set has the rank of this number.
+pub(crate) fn has_number(ranks: RankSet, number: u8) -> bool
+    ensures { result ≡ has_rank ranks number }
+{
+    match Rank::new(number) {
+        Some(rank) => ranks.has(rank),
+        None => false,
+    }
+}
