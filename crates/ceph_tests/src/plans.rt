@@ -1,9 +1,9 @@
 //! Plans and proposals of small trees.
 
 use crate::given::{by_rank, first};
-use crate::refused::proposed;
+use crate::refused::{WANTED, proposed};
 use crate::same::{Sure, same_in};
-use ceph_plan::{PartCount, PlanError, choose_plan};
+use ceph_plan::{PlanError, choose_plan};
 use mds_types::{ProblemRow, Rank, RankSet};
 use std::alloc::Global;
 use std::process::Abort;
@@ -56,7 +56,7 @@ fn plans_as_cool_as_can_be(rt: HostRuntime) {
 /// Why there is no plan of these rows, pinned heats and ranks.
 fn refusal(alloc: Global, rows: &[ProblemRow], held: &[u64], mask: u64) -> Option<PlanError> {
     let ranks = RankSet::from_bits(mask);
-    choose_plan(alloc, rows, PartCount::Auto, held, ranks, 0).err()
+    choose_plan(alloc, rows, WANTED, held, ranks).err()
 }
 
 /// No heat is pinned to any rank.

@@ -2,7 +2,7 @@
 
 use crate::same::{holds_in, same};
 use ceph_dumps::{DumpError, read_listing, read_loads, read_subtrees};
-use ceph_plan::{OwnPins, PartCount, PlanError, Proposal, propose};
+use ceph_plan::{OwnPins, PartCount, PlanError, Proposal, Wanted, propose};
 use ceph_snapshot::{
     Directory, Gathering, Held, Snapshot, SnapshotError, fold, held_heat, holds, rows_of,
 };
@@ -99,6 +99,12 @@ fn left(alloc: Global, directories: Vec<Directory>) -> Result<Vec<Directory>, Re
     }
 }
 
+/// As many parts as give the coolest plan, and none stays where it is for its inodes only.
+pub(crate) const WANTED: Wanted = Wanted {
+    parts: PartCount::Auto(1000),
+    keep: 0,
+};
+
 /// A plan of these rows for three ranks, where nothing is pinned yet.
 pub(crate) fn proposed(
     alloc: Global,
@@ -114,7 +120,7 @@ pub(crate) fn proposed(
         return Err(Refused::Wrong);
     }
     let ranks = RankSet::from_bits(7);
-    Ok(propose(alloc, rows, PartCount::Auto, pinned, ranks, 0, &own)?)
+    Ok(propose(alloc, rows, WANTED, pinned, ranks, &own)?)
 }
 
 /// A plan of these directories, of which these are held.

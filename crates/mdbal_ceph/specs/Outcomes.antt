@@ -1,13 +1,14 @@
 -- What the report's numbers are of.
-use Rattle.std.specs.Prelude.{◌≡◌, ◌<◌, ◌≤◌, ◌+◌, ℕ, List, length, min, slice_index}
+use Rattle.std.specs.Prelude.{◌≡◌, ◌≢◌, ◌<◌, ◌≤◌, ◌+◌, ℕ, All, List, length, min, slice_index, true}
 use Rattle.mds_types.specs.declared.limits.TheConstants.{DIR_LIMIT}
 use Rattle.mds_types.specs.declared.problem.ProblemRow.{ProblemRow}
 use Rattle.ceph_snapshot.specs.declared.directory.Directory.{Directory}
 use Rattle.ceph_snapshot.specs.declared.held.Held.{Held}
 use Rattle.ceph_snapshot.specs.Folding.{IsFolded}
-use Rattle.ceph_snapshot.specs.Holding.{IsHeld, held_at, held_below, most_heat}
+use Rattle.ceph_snapshot.specs.Holding.{IsHeld, held_at, held_below, is_holding, most_heat}
+use Rattle.ceph_snapshot.specs.Policies.{KeepUnpinnable, StillKeepUnpinnable}
 use Rattle.ceph_snapshot.specs.Rows.{AreRowsOf}
-use Rattle.ceph_plan.specs.declared.choice.PartCount.{PartCount}
+use Rattle.ceph_plan.specs.declared.choice.Wanted.{Wanted}
 use Rattle.ceph_plan.specs.declared.proposal.OwnPins.{OwnPins}
 use Rattle.ceph_plan.specs.declared.proposal.Proposal.{Proposal}
 use Rattle.ceph_plan.specs.Proposals.{IsProposal}
@@ -27,20 +28,23 @@ pub record IsHeldHeat (directories : List Directory) (holds : List Held) (spread
 -- something does; the plan is the one that is chosen of all that are weighed of
 -- these rows, with the held heat at its ranks
 pub record IsProposalOf (directories : List Directory) (holds : List Held) (pinned : List ℕ) (ranks : ℕ)
-    (parts : PartCount) (proposal : Proposal) : Type 0 where
+    (wanted : Wanted) (proposal : Proposal) : Type 0 where
   pub rows : List ProblemRow
   pub own : List OwnPins
   pub rows_of : AreRowsOf directories holds (length directories) rows
   pub own_pins : AreOwnPins directories (length directories) own
-  pub proposed : IsProposal ranks pinned rows parts own proposal
+  pub proposed : IsProposal ranks pinned rows wanted own proposal
 
--- what is decided for directories, with this heat by rank of what is spread
-pub record IsDecision (directories : List Directory) (spread : List ℕ) (ranks : ℕ) (parts : PartCount)
+-- what is decided for directories, with this heat by rank of what is spread. No pin changes where somebody else set
+-- one, where a directory is spread, and where it may not be pinned
+pub record IsDecision (directories : List Directory) (spread : List ℕ) (ranks : ℕ) (wanted : Wanted)
     (decision : Decision) : Type 0 where
   pub size : length decision.holds.items ≡ length directories
   pub held : (i : ℕ) → i < length directories → IsHeld directories i (held_at decision.holds.items i)
   pub pinned : IsHeldHeat directories decision.holds.items spread decision.pinned.items
-  pub planned : IsProposalOf directories decision.holds.items decision.pinned.items ranks parts decision.proposal
+  pub planned : IsProposalOf directories decision.holds.items decision.pinned.items ranks wanted decision.proposal
+  pub untouched : (i : ℕ) → 0 < i → i < length directories → is_holding directories i ≡ true
+      → All (λ change. change.row ≢ i) decision.proposal.changes.items
   pub goals : (i : ℕ) → i < length directories
       → slice_index decision.goals.items i ≡ goal_at decision.holds.items decision.proposal.rows.items i
   pub now : AreAmounts decision.sums.now.items (λ r. slice_index spread r + heat_now directories r (length directories))
@@ -49,13 +53,14 @@ pub record IsDecision (directories : List Directory) (spread : List ℕ) (ranks 
   pub out : AreAmounts decision.sums.out.items
       (λ r. inodes_from directories decision.holds.items decision.goals.items r (length directories))
 
--- what was collected of directories, with this heat by rank of what is spread, and what came of it: at most as many
+-- what was collected of directories, with this heat by rank of what is spread, and what came of it: as many
 -- directories as the planner takes, all that were collected where they are no more than that, with all their heat and
--- inodes, and what is decided for these
+-- inodes, each that may not be pinned among them, and what is decided for these
 pub record IsOutcome
-    (collected : List Directory) (spread : List ℕ) (parts : PartCount) (outcome : Outcome) : Type 0 where
-  pub few : length outcome.directories.items ≤ DIR_LIMIT
+    (collected : List Directory) (spread : List ℕ) (wanted : Wanted) (outcome : Outcome) : Type 0 where
+  pub few : length outcome.directories.items ≡ min (length collected) DIR_LIMIT
   pub same : length collected ≤ DIR_LIMIT → outcome.directories.items ≡ collected
   pub folded : IsFolded collected outcome.directories.items
   pub count : length outcome.directories.items + outcome.folded ≡ length collected
-  pub decided : IsDecision outcome.directories.items spread outcome.ranks parts outcome.decision
+  pub unpinnable : KeepUnpinnable collected → StillKeepUnpinnable collected outcome.directories.items
+  pub decided : IsDecision outcome.directories.items spread outcome.ranks wanted outcome.decision

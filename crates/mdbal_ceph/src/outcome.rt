@@ -1,7 +1,8 @@
 //! Plans what was collected.
-ghost use Rattle.std.specs.Prelude.{◌≡◌, ◌≤◌, ◌+◌, IfOk, IsOkAnd, length, string_bytes};
+ghost use Rattle.std.specs.Prelude.{◌≡◌, ◌≤◌, ◌+◌, IfOk, IsOkAnd, length, min, string_bytes};
 ghost use Rattle.std.specs.Option.{option_map};
 ghost use Rattle.ceph_snapshot.specs.Folding.{IsFolded};
+ghost use Rattle.ceph_snapshot.specs.Policies.{KeepUnpinnable, StillKeepUnpinnable};
 ghost use Rattle.mdbal_ceph.specs.Outcomes.{IsDecision, IsOutcome};
 ghost use Rattle.mdbal_ceph.specs.Usable.{AreUsable};
 
@@ -77,15 +78,15 @@ fn decided(
     spread: &[u64],
 ) -> Result<Decision, Error>
     requires { length spread.now ≡ 64 }
-    ensures { IfOk result (IsDecision directories.now spread.now ranks settings.now.parts) }
+    ensures { IfOk result (IsDecision directories.now spread.now ranks settings.now.wanted) }
 {
     let holds = holds(alloc, directories)?;
     let held = holds.as_slice();
     let pinned = held_heat(alloc, directories, held, spread)?;
     let rows = rows_of(alloc, directories, held)?;
     let own = own_pins(alloc, directories)?;
-    let (parts, keep) = (settings.parts, settings.keep);
-    let proposal = propose(alloc, &rows, parts, &pinned, ranks, keep, &own)?;
+    let wanted = settings.wanted;
+    let proposal = propose(alloc, &rows, wanted, &pinned, ranks, &own)?;
     let goals = goals_of(alloc, held, &proposal.rows)?;
     let sums = sums_of(alloc, directories, held, &goals, spread)?;
     Ok(Decision {
@@ -103,8 +104,10 @@ fn folded(
     alloc: Global,
     directories: Vec<Directory>,
 ) -> Result<(Vec<Directory>, usize), SnapshotError>
-    ensures few { IfOk result (λ found. length found.0.items ≤ DIR_LIMIT) }
+    ensures few { IfOk result (λ found. length found.0.items ≡ min (length directories.items) DIR_LIMIT) }
     ensures folded { IfOk result (λ found. IsFolded directories.items found.0.items) }
+    ensures unpinnable { KeepUnpinnable directories.items
+        → IfOk result (λ found. StillKeepUnpinnable directories.items found.0.items) }
     ensures same { length directories.items ≤ DIR_LIMIT
         → IsOkAnd result (λ found. found.0.items ≡ directories.items) }
     ensures count { IfOk result (λ found. length found.0.items + found.1 ≡ length directories.items) }
@@ -120,7 +123,7 @@ pub fn planned(
 ) -> Result<Outcome, Error>
     requires { length collected.snapshot.spread.items ≡ 64 }
     ensures outcome { IfOk result (IsOutcome collected.snapshot.directories.items collected.snapshot.spread.items
-        settings.now.parts) }
+        settings.now.wanted) }
     ensures ranks { IfOk result (λ outcome. AreUsable settings.now.mask
         (option_map string_bytes collected.cluster.mask) collected.cluster outcome.ranks) }
     ensures there { IfOk result (λ outcome. outcome.there ≡ collected.cluster.ranks) }

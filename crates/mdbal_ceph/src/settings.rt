@@ -1,10 +1,9 @@
 //! What the words of the command line ask for.
 
-use ceph_plan::PartCount;
+use ceph_plan::{PartCount, Wanted};
 use clap::error::ErrorKind;
 use clap::{Arg, ArgAction, ArgMatches, Command, Error, value_parser};
 use mds_types::RankSet;
-use mds_types::limits::RANK_LIMIT;
 use std::alloc::{AllocError, Global};
 use std::convert::AsStr;
 
@@ -16,16 +15,15 @@ const VERSION: &str = "0.1.0";
 pub struct PlanSettings<'a> {
     /// The folder that `ceph/collect` wrote.
     pub folder: &'a str,
-    /// Into how many parts the directories are divided.
-    pub parts: PartCount,
+    /// Into how many parts the directories are divided, and by how many percent a load may pass the greatest so that a
+    /// part stays where it is.
+    pub wanted: Wanted,
     /// The ranks that may have a part; where there is none, those of the cluster's own mask.
     pub mask: Option<RankSet>,
     /// The list of pins that this program set before.
     pub own: Option<&'a str>,
     /// The least gain that is worth a proposal, in percent.
     pub least_gain: u8,
-    /// By how many percent a load may pass the greatest so that a part stays where it is.
-    pub keep: u8,
     /// Where the file system is mounted on the machine that sets the pins.
     pub mount: &'a str,
     /// Where the script that sets the pins goes.
@@ -109,7 +107,13 @@ const OPTIONS: &[PlanOption] = &[
         name: "parts",
         takes: Takes::TextOr("auto"),
         value: "auto|N",
-        help: "Into how many connected parts the directories are divided, 1 to 64, or auto",
+        help: "Into how many connected parts the directories are divided, 1 to 65535, or auto",
+    },
+    PlanOption {
+        name: "most-pins",
+        takes: Takes::TextOr("1000"),
+        value: "N",
+        help: "The most connected parts that --parts auto tries, 1 to 65535: each may take a pin",
     },
     PlanOption {
         name: "mask",
@@ -210,14 +214,21 @@ fn command<'a>(alloc: Global) -> Result<Command<'a>, AllocError> {
 }
 
 /// The number of parts that a text names.
-fn parts_of(text: &str) -> Result<PartCount, Refused> {
+fn count_of(text: &str, refused: &'static str) -> Result<u16, Refused> {
+    match text.parse::<u16>() {
+        Ok(count) if 0 < count => Ok(count),
+        _ => Err(Refused::Value(refused)),
+    }
+}
+
+/// Into how many parts the directories are divided, where `most` is the most that `auto` tries.
+fn parts_of(text: &str, most: &str) -> Result<PartCount, Refused> {
+    let most = count_of(most, "--most-pins takes a number from 1 to 65535")?;
     if text == "auto" {
-        return Ok(PartCount::Auto);
+        return Ok(PartCount::Auto(most));
     }
-    match text.parse::<u8>() {
-        Ok(count) if 0 < count && count <= RANK_LIMIT => Ok(PartCount::AtMost(count)),
-        _ => Err(Refused::Value("--parts takes auto, or a number from 1 to 64")),
-    }
+    let count = count_of(text, "--parts takes auto, or a number from 1 to 65535")?;
+    Ok(PartCount::AtMost(count))
 }
 
 /// The ranks that a mask names, where one is given.
@@ -242,15 +253,16 @@ fn mount_of(text: &str) -> Result<&str, Refused> {
 /// The settings that were found.
 fn found<'a>(matches: &ArgMatches<'a>) -> Result<PlanSettings<'a>, Refused> {
     let mask = mask_of(matches.get_str("mask"))?;
-    let parts = parts_of(matches.get_str("parts").unwrap_or("auto"))?;
+    let most = matches.get_str("most-pins").unwrap_or("1000");
+    let parts = parts_of(matches.get_str("parts").unwrap_or("auto"), most)?;
+    let keep = matches.get_one::<u8>("keep").unwrap_or(5);
     let mount = mount_of(matches.get_str("mount").unwrap_or("/mnt/cephfs"))?;
     Ok(PlanSettings {
         folder: matches.get_str("folder").unwrap_or("."),
-        parts,
+        wanted: Wanted { parts, keep },
         mask,
         own: matches.get_str("own"),
         least_gain: matches.get_one::<u8>("least-gain").unwrap_or(5),
-        keep: matches.get_one::<u8>("keep").unwrap_or(5),
         mount,
         pins: matches.get_str("pins"),
         svg: matches.get_str("svg"),

@@ -4,12 +4,13 @@ use Rattle.ceph_snapshot.specs.declared.directory.Directory.{Directory}
 use Rattle.ceph_snapshot.specs.declared.held.Held.{Held}
 use Rattle.ceph_snapshot.specs.Holding.{held_below, most_heat}
 use Rattle.ceph_snapshot.specs.Rows.{AreRowsOf}
-use Rattle.ceph_plan.specs.declared.choice.PartCount.{PartCount}
+use Rattle.ceph_plan.specs.declared.choice.Wanted.{Wanted}
 use Rattle.ceph_plan.specs.declared.proposal.OwnPins.{OwnPins}
 use Rattle.ceph_plan.specs.declared.proposal.Proposal.{Proposal}
 use Rattle.ceph_plan.specs.Proposals.{IsProposal}
 use Rattle.ceph_report.specs.Amounts.{AreAmounts, inodes_from, inodes_to}
 use Rattle.mdbal_ceph.proofs.Parents.{parents_first}
+use Rattle.mdbal_ceph.proofs.Untouched.{untouched}
 use Rattle.mdbal_ceph.proofs.outcome.decided.Goals as goal
 
 pub returns : goal.returns
@@ -23,11 +24,11 @@ returns c =
     let held_is : c.as_slice-held.result.now ≡ holds = c.as_slice-held.ensures.value in
     let rows_of : AreRowsOf directories holds n rows = subst (λ (others : List Held). AreRowsOf directories others n rows) held_is c.in_ok-rows.ensures in
     let proposal : Proposal = c.in_ok-proposal.proposal in
-    let parts : PartCount = c.args.settings.now.parts in
-    let proposed : IsProposal c.args.ranks pinned rows parts own proposal =
-    subst (λ (pins : List OwnPins). IsProposal c.args.ranks pinned rows parts pins proposal) c.deref-3.ensures.value
-    (subst (λ (heats : List ℕ). IsProposal c.args.ranks heats rows parts c.deref-3.result.now proposal) c.deref-2.ensures.value
-    (subst (λ (others : List ProblemRow). IsProposal c.args.ranks c.deref-2.result.now others parts c.deref-3.result.now proposal) c.deref.ensures.value
+    let wanted : Wanted = c.args.settings.now.wanted in
+    let proposed : IsProposal c.args.ranks pinned rows wanted own proposal =
+    subst (λ (pins : List OwnPins). IsProposal c.args.ranks pinned rows wanted pins proposal) c.deref-3.ensures.value
+    (subst (λ (heats : List ℕ). IsProposal c.args.ranks heats rows wanted c.deref-3.result.now proposal) c.deref-2.ensures.value
+    (subst (λ (others : List ProblemRow). IsProposal c.args.ranks c.deref-2.result.now others wanted c.deref-3.result.now proposal) c.deref.ensures.value
     c.in_ok-proposal.ensures.proposal)) in
     record {
       size = c.in_ok-holds.ensures.size;
@@ -44,6 +45,8 @@ returns c =
         own_pins = c.in_ok-own.ensures;
         proposed = proposed;
       };
+      untouched = untouched directories rows proposal.plan.part.items proposal.plan.packing.rank.items own (length rows) proposal.rows.items proposal.changes.items
+          rows_of.size c.in_ok-own.ensures proposed.targets proposed.untouched;
       goals = λ i l. rw (held_is, c.deref-4.ensures.value) at (c.in_ok-goals.ensures.goals i (let inside : i < length c.deref-4.result.now = omega (arith, l, ap length c.deref-4.ensures.value, proposed.targets.size, rows_of.size) in inside));
       now = c.in_ok-sums.ensures.now;
       into =

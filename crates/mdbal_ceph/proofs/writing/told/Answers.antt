@@ -18,8 +18,8 @@ returns-then-is_json c =
     })
     c.make_json.ensures
 
-pub returns-else-is_json : goal.returns-else-is_json
-returns-else-is_json c =
+pub returns : goal.returns
+returns c =
     let facts : Facts = c.facts_of-facts.result in
     let standing : c.in_ok-standing.standing ≡ standing_count c.args.outcome.now = rw (c.deref.ensures.value, c.deref-2.ensures.value) at c.in_ok-standing.ensures in
     IfOk-weaker c.make_report.result _ _
