@@ -89,9 +89,11 @@ impl<J: Naming, M: Publisher<J>> BoardState<J, M> {
 fn solved<S: Solver>(alloc: Global, solver: &S, problem: &Problem) -> Result<KeptPlan, AllocError>
     ensures best { IfOk result (λ plan. IsBest problem.now plan) }
     ensures certified { IfOk result (λ plan. IsCertified problem.now plan) }
+    ensures keeps { IfOk result (λ plan. KeepsBest problem.now plan) }
 {
     let plan = solver.solve(alloc, problem)?;
     KeptPlan::new(alloc, plan)
 }
 
 ghost use Rattle.mds_types.specs.Certificate.{IsBest, IsCertified};
+ghost use Rattle.plan_checker.specs.Present.{KeepsBest};

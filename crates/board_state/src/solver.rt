@@ -1,14 +1,17 @@
 //! Who solves a board's problems.
 ghost use Rattle.std.specs.Prelude.{IfOk};
 ghost use Rattle.mds_types.specs.Certificate.{IsBest, IsCertified};
+ghost use Rattle.plan_checker.specs.Present.{KeepsBest};
 
 use mds_types::{Plan, Problem};
 use std::alloc::{AllocError, Global};
 
 /// Solves problems, as the planner does at a program's runtime.
 pub trait Solver {
-    /// A best plan for a problem, with proofs that hold. It refuses for want of memory alone.
+    /// A best plan for a problem, with proofs that hold. Where the present placement is itself best, it moves nothing.
+    /// It fails only when it is out of memory.
     fn solve(&self, alloc: Global, problem: &Problem) -> Result<Plan, AllocError>
         ensures best { IfOk result (IsBest problem.now) }
-        ensures certified { IfOk result (IsCertified problem.now) };
+        ensures certified { IfOk result (IsCertified problem.now) }
+        ensures keeps { IfOk result (KeepsBest problem.now) };
 }

@@ -2,6 +2,7 @@
 use Rattle.std.specs.Prelude.{◌≡◌, ◌⊎◌, Bool, true, List, [], ◌∷◌, Result, Ok, Err, Some, None}
 use Rattle.mds_types.specs.declared.plan.Plan.{Plan}
 use Rattle.mds_types.specs.Certificate.{IsBest, IsCertified}
+use Rattle.plan_checker.specs.Present.{KeepsBest}
 use Rattle.board_state.specs.declared.board_error.BoardError.{BoardError}
 use Rattle.board_state.specs.declared.board_error.BoardError.TheVariants.{Memory}
 use Rattle.board_state.specs.declared.change.Answer.{Answer}
@@ -17,12 +18,13 @@ abbrev pub is_fit : BoardCommand → Bool
 is_fit (command.Step e) = is_inner e
 is_fit _ = true
 
--- The problem is opened, and a best plan for it adopted, whose orders are the answer. It is refused for want of
--- places, a balancer that is off and memory alone, and then changes nothing.
+-- The problem is opened, and a best plan for it adopted, whose orders are the answer. The plan moves nothing where the
+-- present placement is itself best. Only a full history, a balancer that is off and memory refuse it, which changes
+-- nothing.
 abbrev pub IsBalanced : World → Result Answer BoardError → World → Type 0
 IsBalanced old (Ok reply) new =
-    (plan : Plan) × IsBest (problem_of old.state) plan × IsCertified (problem_of old.state) plan × (refusal old.state
-    change.Open ≡ None)
+    (plan : Plan) × IsBest (problem_of old.state) plan × IsCertified (problem_of old.state) plan
+    × KeepsBest (problem_of old.state) plan × (refusal old.state change.Open ≡ None)
     × (reply ≡ (happens (next old.state change.Open) (change.Adopt plan)).reply)
     × (new ≡ recorded (recorded old change.Open) (change.Adopt plan))
 IsBalanced old (Err e) new =

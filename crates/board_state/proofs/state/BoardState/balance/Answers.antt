@@ -1,6 +1,7 @@
 use Rattle.std.proofs.Common.{◌∙◌, sym, ap, subst, refl}
 use Rattle.mds_types.specs.Certificate.{IsBest, IsCertified}
 use Rattle.mds_types.specs.Problem.{ProblemData}
+use Rattle.plan_checker.specs.Present.{KeepsBest}
 use Rattle.board_state.specs.State.{Opened, happens}
 use Rattle.board_state.proofs.Accepted.{may_open, balance_opens, balance_adopts}
 use Rattle.board_state.proofs.state.BoardState.balance.Goals as goal
@@ -23,4 +24,5 @@ returns-clause-ok g c =
       c.in-Ok-plan_orders.ensures.kept ∙ rw (c.deref.ensures.value, c.plan-2.ensures, dirs) refl,
       rw (problem, dirs, ← c.self.view_is) refl,
       subst (λ (q : ProblemData). IsCertified q c.in-Ok-solved.plan) asked c.in-Ok-solved.ensures.certified,
+      subst (λ (q : ProblemData). KeepsBest q c.in-Ok-solved.plan) asked c.in-Ok-solved.ensures.keeps,
     )

@@ -20,4 +20,4 @@ returns-clause-ok g c =
     let same = balance_recorded c.self.inside.state c.balance.new.self c.self.inside.history.entries c.keep_both.new.self.entries done.problem done.plan done.orders b kept in
     let told = ap (λ (os : Vec Order Global). answer.Orders os.items) c.keep_both.ensures.orders
     ∙ (ap (λ (os : List Order). answer.Orders os) (c.in_ok-done.ensures.twice ∙ b.4) ∙ sym (balance_reply c.self.inside.state.state done.plan)) in
-    (done.plan, rw (← c.self.view_is) b.3, rw (← c.self.view_is) b.6, rw (← c.self.view_is) b.0, rw (← c.self.view_is) told, rw (← c.self.view_is) same)
+    (done.plan, rw (← c.self.view_is) b.3, rw (← c.self.view_is) b.6, rw (← c.self.view_is) b.7, rw (← c.self.view_is) b.0, rw (← c.self.view_is) told, rw (← c.self.view_is) same)

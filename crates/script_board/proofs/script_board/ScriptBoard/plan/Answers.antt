@@ -21,6 +21,7 @@ returns-clause-done g c =
       record {
         best = done.1;
         certified = done.2;
-        adopted = rw (done.5, same_orders kept (plan_orders c.self.inside.board.state (dirs_of c.self.inside.board.state) done.0) (done.4 ∙ balance_reply c.self.inside.board.state done.0)) refl;
+        keeps = done.3;
+        adopted = rw (done.6, same_orders kept (plan_orders c.self.inside.board.state (dirs_of c.self.inside.board.state) done.0) (done.5 ∙ balance_reply c.self.inside.board.state done.0)) refl;
       },
     )
