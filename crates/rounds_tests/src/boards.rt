@@ -22,6 +22,8 @@ use std::sync::Wait;
 pub(crate) enum Trial {
     /// A phase of many exports.
     Many,
+    /// Many phases of an export that is aborted.
+    Failed,
     /// Moves of this name, and what is found after them.
     Moves(&'static str, &'static [Act]),
     /// Phases while a growth is refused.
@@ -57,6 +59,7 @@ fn on_parts<J: Naming, M: Publisher<J>>(
     let mut board = board_of(rt, alloc, parts);
     match trial {
         Trial::Many => many::move_all(rt, alloc, &mut board),
+        Trial::Failed => many::fail_often(rt, alloc, &mut board),
         Trial::Moves(name, acts) => moves::try_acts(rt, alloc, &mut board, name, acts),
         Trial::RefusedGrowth => refused::phases(rt, alloc, &mut board),
     }

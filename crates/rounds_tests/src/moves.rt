@@ -1,12 +1,12 @@
 //! Moves that are done, aborted, refused and taken up again, on a board with /a and /b.
 
 use crate::boards::{Trial, on_board};
-use crate::same::{Sure, same_in};
+use crate::same::{Sure, holds_in, same_in};
 use crate::steps::{Do, make, moved, play, rank, stand};
 use authority_map::Publisher;
 use board_state::BoardError;
 use export_machine::{ExporterState, ImporterState, StepError};
-use export_rounds::Outcome;
+use export_rounds::{Outcome, Unsettled};
 use mds_board::Board;
 use naming::Naming;
 use std::alloc::Global;
@@ -23,6 +23,8 @@ pub(crate) enum Act {
     States(u32, ExporterState, ImporterState),
     /// The history has this many entries.
     Entries(usize),
+    /// The next phase looks at these exports, and at so many messages.
+    Unsettled(&'static [u32], usize),
     /// Each of these directories has this authority, which the map names, too.
     Stand(&'static [(u32, u8)]),
 }
@@ -62,13 +64,14 @@ fn try_act<J: Naming, M: Publisher<J>>(
     rt: &impl Abort,
     alloc: Global,
     board: &mut Board<J, M>,
+    unsettled: &mut Unsettled,
     name: &str,
     next: Act,
 ) {
     match next {
         Act::Play(steps) => play(rt, alloc, board, name, steps),
         Act::Move(rows, told) => {
-            let outcomes = moved(alloc, board, rows).sure(rt);
+            let outcomes = moved(alloc, board, unsettled, rows).sure(rt);
             same_outcomes(rt, &outcomes, told, name);
         }
         Act::States(export, exporter, importer) => {
@@ -76,6 +79,11 @@ fn try_act<J: Naming, M: Publisher<J>>(
             same_in(rt, &states, &Some((exporter, importer)), &name);
         }
         Act::Entries(entries) => same_in(rt, &board.history().len(), &entries, &name),
+        Act::Unsettled(exports, messages) => {
+            unsettled.update(board.cluster()).sure(rt);
+            holds_in(rt, unsettled.exports() == exports, &name);
+            same_in(rt, &unsettled.messages().len(), &messages, &name);
+        }
         Act::Stand(rows) => stand(rt, board, name, rows),
     }
 }
@@ -89,8 +97,9 @@ pub(crate) fn try_acts<J: Naming, M: Publisher<J>>(
     acts: &[Act],
 ) {
     make(rt, alloc, board, &["a", "b"]);
+    let mut unsettled = Unsettled::new(alloc);
     for next in acts {
-        try_act(rt, alloc, board, name, *next);
+        try_act(rt, alloc, board, &mut unsettled, name, *next);
     }
 }
 
@@ -100,6 +109,7 @@ const MOVES: &[(&str, &[Act])] = &[
         &[
             Act::Move(&[(0, 1, 1), (0, 2, 2)], &[Told::Done(0), Told::Done(1)]),
             Act::Stand(&[(0, 0), (1, 1), (2, 2)]),
+            Act::Unsettled(&[], 0),
         ],
     ),
     (
@@ -120,6 +130,7 @@ const MOVES: &[(&str, &[Act])] = &[
             Act::Move(&[(0, 1, 1)], &[Told::Aborted(1)]),
             Act::Move(&[(0, 1, 1)], &[Told::Aborted(2)]),
             Act::Entries(9),
+            Act::Unsettled(&[], 0),
             Act::Play(&[Do::Restart(1)]),
             Act::Move(&[(0, 1, 1)], &[Told::Done(3)]),
             Act::Stand(&[(1, 1)]),
@@ -159,7 +170,9 @@ const MOVES: &[(&str, &[Act])] = &[
                 Do::Restart(0),
             ]),
             Act::States(0, ExporterState::Aborted, ImporterState::Started),
+            Act::Unsettled(&[0], 6),
             Act::Move(&[], &[]),
+            Act::Unsettled(&[], 0),
             Act::States(0, ExporterState::Aborted, ImporterState::Dropped),
             Act::Stand(&[(1, 0)]),
         ],
@@ -194,8 +207,10 @@ const MOVES: &[(&str, &[Act])] = &[
             Act::Play(&[Do::Start(0, 1, 1), Do::Stop(1)]),
             Act::Move(&[(0, 1, 2), (0, 2, 1)], &[Told::Aborted(1), Told::Busy(0)]),
             Act::States(0, ExporterState::Discovering, ImporterState::Unknown),
+            Act::Unsettled(&[0], 1),
             Act::Play(&[Do::Restart(1)]),
             Act::Move(&[], &[]),
+            Act::Unsettled(&[], 0),
             Act::States(0, ExporterState::Done, ImporterState::Imported),
             Act::Stand(&[(1, 1), (2, 0)]),
         ],

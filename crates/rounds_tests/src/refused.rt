@@ -8,7 +8,7 @@ use crate::steps::{rank, stand};
 use authority_map::Publisher;
 use board_state::BoardError;
 use export_machine::{ExporterState, ImporterState};
-use export_rounds::{Outcome, carry_out_orders};
+use export_rounds::{Outcome, Unsettled, carry_out_orders_from};
 use mds_board::Board;
 use mds_types::{Dir, Dirs, Order, Rank};
 use naming::Naming;
@@ -100,10 +100,11 @@ fn first_phase<J: Naming, M: Publisher<J>>(
     rt: &impl Abort,
     alloc: Global,
     board: &mut Board<J, M>,
+    unsettled: &mut Unsettled,
     orders: &[Order],
 ) {
     let before = read(board);
-    match carry_out_orders(board, alloc, orders) {
+    match carry_out_orders_from(board, alloc, orders, unsettled) {
         Err(AllocError) => assert!(rt; read(board) == before),
         Ok(outcomes) => {
             same(rt, &outcomes.len(), &2);
@@ -123,9 +124,10 @@ pub(crate) fn phases<J: Naming, M: Publisher<J>>(
     made_at_last(rt, alloc, board, "a");
     made_at_last(rt, alloc, board, "b");
     let orders = orders_at_last(alloc).sure(rt);
-    first_phase(rt, alloc, board, &orders);
+    let mut unsettled = Unsettled::new(alloc);
+    first_phase(rt, alloc, board, &mut unsettled, &orders);
     for _ in 0..2 {
-        let _outcomes = carry_out_orders(board, alloc, &orders).ok();
+        let _outcomes = carry_out_orders_from(board, alloc, &orders, &mut unsettled).ok();
     }
     stand(rt, board, "in the end", &[(0, 0), (1, 1), (2, 1)]);
 }

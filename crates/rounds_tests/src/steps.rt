@@ -3,7 +3,7 @@
 use crate::same::{Sure, holds_in, same_in};
 use authority_map::Publisher;
 use export_machine::Event;
-use export_rounds::{Outcome, carry_out_orders};
+use export_rounds::{Outcome, Unsettled, carry_out_orders_from};
 use mds_board::Board;
 use mds_types::{Dir, Dirs, Order, Rank};
 use naming::Naming;
@@ -66,6 +66,7 @@ pub(crate) fn play<J: Naming, M: Publisher<J>>(
 pub(crate) fn moved<J: Naming, M: Publisher<J>>(
     alloc: Global,
     board: &mut Board<J, M>,
+    unsettled: &mut Unsettled,
     rows: &[(u8, u8, u32)],
 ) -> Result<Vec<Outcome>, AllocError> {
     let mut orders = Vec::with_capacity(alloc, rows.len())?;
@@ -76,7 +77,7 @@ pub(crate) fn moved<J: Naming, M: Publisher<J>>(
             dirs: dirs(alloc, *dir)?,
         })?;
     }
-    carry_out_orders(board, alloc, &orders)
+    carry_out_orders_from(board, alloc, &orders, unsettled)
 }
 
 /// Makes directories /a, /b and so on, numbered from 1.

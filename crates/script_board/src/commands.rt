@@ -23,7 +23,7 @@ impl<J: Naming, M: Publisher<J>> ScriptBoard<J, M> {
         ensures below { IfOk result (λ dir. dir < self.now.world.state.directories.limit) }
         ensures there { IfOk result (λ dir. is_there self.now.world.state.directories.entries dir ≡ true) }
     {
-        match self.guesses.find(self.board.tree(), path) {
+        match self.shortcuts.guesses.find(self.board.tree(), path) {
             Ok(dir) => Ok(dir),
             Err(e) => Err(Fault::from(e)),
         }
@@ -67,7 +67,7 @@ impl<J: Naming, M: Publisher<J>> ScriptBoard<J, M> {
         let dir = self.board.make(alloc, parent, name, inodes)?;
         self.kept.clear();
         if parent != Dir::ROOT {
-            self.guesses.tell(path, dir);
+            self.shortcuts.guesses.tell(path, dir);
         }
         Ok(())
     }

@@ -4,7 +4,7 @@ ghost use Rattle.script_board.specs.Move.{IsMoved, move_orders};
 
 use crate::script_board::ScriptBoard;
 use authority_map::Publisher;
-use export_threads::{OpenGate, OrderOutcome, export_phase};
+use export_threads::{OpenGate, OrderOutcome, export_phase_from};
 use mds_types::Order;
 use naming::Naming;
 use std::alloc::{AllocError, Global};
@@ -37,9 +37,10 @@ impl<J: Naming + Send + Sync, M: Publisher<J> + Send> ScriptBoard<J, M> {
             reader,
             loads,
             mut kept,
-            guesses,
+            mut shortcuts,
         } = self;
-        let (board, told) = export_phase(rt, alloc, board, &OpenGate, &orders);
+        let left = &mut shortcuts.unsettled;
+        let (board, told) = export_phase_from(rt, alloc, board, &OpenGate, &orders, left);
         if told.is_ok() {
             kept.clear();
         }
@@ -49,7 +50,7 @@ impl<J: Naming + Send + Sync, M: Publisher<J> + Send> ScriptBoard<J, M> {
             reader,
             loads,
             kept,
-            guesses,
+            shortcuts,
         };
         match told {
             Ok(outcomes) => (after, Ok((orders, outcomes))),

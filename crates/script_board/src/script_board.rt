@@ -6,6 +6,7 @@ use crate::load::Load;
 use crate::parts::Parts;
 use authority_map::{MapReader, Publisher};
 use dirtree::PathGuesses;
+use export_threads::Unsettled;
 use heat_ledger::Share;
 use mds_board::Board;
 use mds_types::Order;
@@ -13,17 +14,35 @@ use naming::Naming;
 use std::alloc::Global;
 use std::marker::Model;
 
+/// What saves a board work. No clause speaks of it.
+#[derive(Drop)]
+pub(crate) struct Shortcuts {
+    /// Where the paths of made directories led.
+    pub(crate) guesses: PathGuesses,
+    /// The exports and messages that a `move` has to look at.
+    pub(crate) unsettled: Unsettled,
+}
+
+impl Shortcuts {
+    fn new(alloc: Global) -> Shortcuts {
+        Shortcuts {
+            guesses: PathGuesses::new(alloc),
+            unsettled: Unsettled::new(alloc),
+        }
+    }
+}
+
 /// What a script has made once `ranks` was accepted. `J` names the board.
 ///
 /// Share k of the ledger counts the hits of the requests that rank k serves. It can't be dropped, only ended, as the
-/// board has the map's writer. The guesses hold where the paths of made directories led, which no clause speaks of.
+/// board has the map's writer.
 pub struct ScriptBoard<J: Naming, M: Publisher<J>> {
     pub(crate) board: Board<J, M>,
     pub(crate) shares: Vec<Share<J>>,
     pub(crate) reader: MapReader<J>,
     pub(crate) loads: Vec<Load>,
     pub(crate) kept: Vec<Order>,
-    pub(crate) guesses: PathGuesses,
+    pub(crate) shortcuts: Shortcuts,
 }
 
 impl<J: Naming, M: Publisher<J>> Model for ScriptBoard<J, M> {
@@ -71,7 +90,7 @@ impl<J: Naming, M: Publisher<J>> ScriptBoard<J, M> {
                 reader,
                 loads: Vec::new(alloc),
                 kept: Vec::new(alloc),
-                guesses: PathGuesses::new(alloc),
+                shortcuts: Shortcuts::new(alloc),
             }),
         }
     }
@@ -91,7 +110,7 @@ impl<J: Naming, M: Publisher<J>> ScriptBoard<J, M> {
             reader: _reader,
             loads: _loads,
             kept: _kept,
-            guesses: _guesses,
+            shortcuts: _shortcuts,
         } = self;
         board.end();
     }

@@ -39,7 +39,7 @@ impl<J: Naming + Send + Sync, M: Publisher<J> + Send> ScriptBoard<J, M> {
             reader,
             mut loads,
             kept,
-            guesses,
+            shortcuts,
         } = before;
         let _limit = board.limit();
         let (board, done) = serve_with_totals(rt, alloc, board, &OpenGate, &dealt.scripts, shares);
@@ -52,7 +52,7 @@ impl<J: Naming + Send + Sync, M: Publisher<J> + Send> ScriptBoard<J, M> {
                     reader,
                     loads,
                     kept,
-                    guesses,
+                    shortcuts,
                 };
                 return (after, Err(AllocError));
             }
@@ -65,7 +65,7 @@ impl<J: Naming + Send + Sync, M: Publisher<J> + Send> ScriptBoard<J, M> {
             reader,
             loads,
             kept,
-            guesses,
+            shortcuts,
         };
         (after, Ok(refused))
     }
