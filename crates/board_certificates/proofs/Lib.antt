@@ -1,2 +1,3 @@
 pub mod BestLemmas
+pub mod ReplayLemmas
 pub mod WriteLemmas

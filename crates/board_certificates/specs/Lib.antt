@@ -1,1 +1,3 @@
 pub mod Certificates
+pub mod Posed
+pub mod Replayed

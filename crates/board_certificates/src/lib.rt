@@ -6,6 +6,7 @@
 
 pub mod laws;
 mod opened;
+mod replay;
 pub mod unwritten;
 pub mod write;
 

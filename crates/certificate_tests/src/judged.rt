@@ -144,7 +144,13 @@ const ROW: &str = "row PARENT HEAT INODES RANK";
 
 // (line, what stands there in its place, the line that is named, what was expected there)
 const BROKEN: &[(usize, &str, usize, &str)] = &[
-    (1, "certificate 2", 1, "certificate 1"),
+    (1, "certificate 3", 1, "certificate 1 or certificate 2"),
+    (
+        1,
+        "certificate 2",
+        8,
+        "name NAME, one for each row: a directory's name, or /",
+    ),
     (
         2,
         "mask 0X3",
@@ -178,6 +184,59 @@ fn reports_which_line_is_broken(rt: HostRuntime) {
     }
 }
 
+/// The certificate with these lines behind its rows, as one of version 2.
+fn named(alloc: Global, names: &str) -> Result<String, AllocError> {
+    let mut text = String::from_str(alloc, "certificate 2\n")?;
+    for line in LINES.iter().take(7).skip(1) {
+        text.push_str(line)?;
+        text.push_str("\n")?;
+    }
+    text.push_str(names)?;
+    for line in LINES.iter().skip(7) {
+        text.push_str(line)?;
+        text.push_str("\n")?;
+    }
+    Ok(text)
+}
+
+// (lines of names, the line that is broken, or 0)
+const NAMED: &[(&str, u32)] = &[
+    ("name /\nname a\nname b\nname c\n", 0),
+    ("name ~!\nname ...\nname 0\nname /\n", 0),
+    ("name /\nname a\nname b\n", 11),
+    ("name /\nname a\nname b\nname c\nname d\n", 12),
+    ("name /\nname\nname b\nname c\n", 10),
+    ("name /\nname ..\nname b\nname c\n", 9),
+    ("name /\nname a/b\nname b\nname c\n", 9),
+    ("name /\nname a b\nname b\nname c\n", 9),
+    ("name /\nname \u{e4}\nname b\nname c\n", 9),
+    ("name /\nname a\nname b\nname c \n", 11),
+    ("names 4\nname /\nname a\nname b\nname c\n", 8),
+];
+
+/// A certificate with names holds, or its line is named.
+fn is_named(rt: &impl Abort, alloc: Global, row: &(&str, u32)) {
+    let text = named(alloc, row.0).sure(rt);
+    let (mut writer, mut errors) = (Vec::new(alloc), Vec::new(alloc));
+    let status = report(alloc, "plan", text.as_bytes(), &mut writer, &mut errors);
+    let at = row.1;
+    if at == 0 {
+        same_in(rt, &status, &0, row);
+        holds_in(rt, writer.as_slice() == YES.as_bytes(), row);
+    } else {
+        let said = format!(in alloc; "plan:{at}: expected ").sure(rt);
+        same_in(rt, &status, &2, row);
+        holds_in(rt, errors.as_slice().starts_with(said.as_bytes()), row);
+    }
+}
+
+#[test]
+fn reads_names(rt: HostRuntime) {
+    for row in NAMED {
+        is_named(&rt, rt.alloc(), row);
+    }
+}
+
 /// A file of two texts has this status, and is told of on standard error where that is 2, else on standard output.
 fn has_status(rt: &impl Abort, alloc: Global, first: &str, second: &str, wanted: u8) {
     let file = format!(in alloc; "{first}{second}").sure(rt);
@@ -195,6 +254,8 @@ fn checks_each_certificate_of_a_file(rt: HostRuntime) {
     has_status(&rt, rt.alloc(), &good, &good, 0);
     has_status(&rt, rt.alloc(), &good, &bad, 1);
     has_status(&rt, rt.alloc(), &bad, &good, 1);
+    let second = named(rt.alloc(), NAMED[0].0).sure(&rt);
+    has_status(&rt, rt.alloc(), &good, &second, 0);
     has_status(&rt, rt.alloc(), &good, "", 0);
     has_status(&rt, rt.alloc(), &good, "\n", 2);
     has_status(&rt, rt.alloc(), &good, good.trim_end(), 2);

@@ -1,6 +1,6 @@
 -- Certificates whose texts are the same are the same.
 use Rattle.std.proofs.Common.{◌≡◌, ◌∙◌, ℕ, ◌<◌, ◌^◌, Bool, true, false, cond, List, [], ◌∷◌, ◌++◌, All, codes, length, get_or, drop, refl, ap, sym, arith, append_assoc}
-use Rattle.std.specs.Prelude.{decimal, ℤ}
+use Rattle.std.specs.Prelude.{decimal, ℤ, IfSome, Option, Some, None}
 use Rattle.std.specs.Fmt.{digits, signed_decimal}
 use Rattle.std.specs.List.{flat_map}
 use Rattle.std.specs.Str.Parse.{digits_value}
@@ -14,9 +14,11 @@ use Rattle.mds_types.specs.declared.problem.ProblemRow.{ProblemRow}
 use Rattle.mds_types.specs.Plan.{PlanData}
 use Rattle.mds_types.specs.Problem.{ProblemData}
 use Rattle.plan_text.specs.declared.certificate.Certificate.{Certificate}
-use Rattle.plan_text.specs.Text.{cell_line, cut_lines, dual_lines, line, mask_line, number_line, label_line, place_lines, whole_plan_lines, price_line, problem_lines, rank_line, row_line, sum_lines, table, text, texts}
+use Rattle.plan_text.specs.Names.{IsRowName}
+use Rattle.plan_text.specs.Text.{cell_line, cut_lines, dual_lines, head_lines, line, mask_line, name_line, number_line, label_line, place_lines, whole_plan_lines, price_line, problem_lines, rank_line, row_line, sum_lines, table, text, texts}
 use Rattle.plan_text.specs.Writable.{FitsCell, FitsCut, FitsList, FitsPart, FitsPlan, FitsPrice, FitsProblem, FitsRank, FitsRow, IsWritable}
 use Rattle.plan_text.proofs.LineSame.{IsField, decimal_field, differ, hex_field, line_same, signed_field}
+use Rattle.plan_text.proofs.NameLemmas.{row_name_field}
 
 -- what is written can be read in one way only, whatever stands behind it
 abbrev pub Reads : {A : Type 0} → (A → Type 0) → (A → List ℕ) → Type 0
@@ -216,32 +218,66 @@ plan_same a b r s p q h =
     a.dual.part_price b.dual.part_price a.dual.rank_price b.dual.rank_price r s p.part_price q.part_price p.rank_price q.rank_price cut.1 in
     (plan_eq a b places.0 places.1 sums.0 sums.1 cut.0 dual.0 dual.1, dual.2)
 
-abbrev the_certificate : ProblemData → PlanData → Certificate
-the_certificate problem plan = record { problem = problem; plan = plan }
+name_same : Reads IsRowName name_line
+name_same m n r s p q h =
+    let same = line_same (codes "name") (codes "name") (m ∷ []) (n ∷ []) r s refl refl (row_name_field m p, tt) (row_name_field n q, tt) h in
+    (nth _ _ 0 same.1, same.2)
 
-certificate_eq : (a b : Certificate) → a.problem ≡ b.problem → a.plan ≡ b.plan → a ≡ b
-certificate_eq a b problem plan = ap (λ (x : ProblemData). the_certificate x a.plan) problem ∙ ap (λ (x : PlanData). the_certificate b.problem x) plan
+abbrev Fits : ProblemData → Option (List (List ℕ)) → Type 0
+Fits problem names = FitsProblem problem × IfSome names (λ ns. length ns ≡ length problem.rows) × IfSome names (λ ns. All IsRowName ns)
+
+-- the lines down to those of the plan
+head_same : (a b : ProblemData) (m n : Option (List (List ℕ))) (r s : List ℕ) → Fits a m → Fits b n → head_lines a m ++ r ≡ head_lines b n ++ s → (a ≡ b) × (m ≡ n) × (r ≡ s)
+head_same a b None None r s p q h =
+    let first : List ℕ = line (codes "certificate") (codes "1" ∷ []) in
+    let all : first ++ (problem_lines a ++ r) ≡ first ++ (problem_lines b ++ s) = seam first (problem_lines a) first (problem_lines b) r s h in
+    let problem = problem_same a b r s p.0 q.0 (append_cancel_left first (problem_lines a ++ r) (problem_lines b ++ s) all) in
+    (problem.0, refl, problem.1)
+head_same a b (Some m) (Some n) r s p q h =
+    let first : List ℕ = line (codes "certificate") (codes "2" ∷ []) in
+    let ma : List ℕ = flat_map name_line m in
+    let nb : List ℕ = flat_map name_line n in
+    let all : first ++ ((problem_lines a ++ ma) ++ r) ≡ first ++ ((problem_lines b ++ nb) ++ s) = seam first (problem_lines a ++ ma) first (problem_lines b ++ nb) r s h in
+    let rest : (problem_lines a ++ ma) ++ r ≡ (problem_lines b ++ nb) ++ s = append_cancel_left first ((problem_lines a ++ ma) ++ r) ((problem_lines b ++ nb) ++ s) all in
+    let problem = problem_same a b (ma ++ r) (nb ++ s) p.0 q.0 (seam (problem_lines a) ma (problem_lines b) nb r s rest) in
+    let size : length m ≡ length n = p.1 ∙ (ap (λ (x : ProblemData). length x.rows) problem.0 ∙ sym q.1) in
+    let names = items_same IsRowName name_line name_same m n r s size p.2 q.2 problem.1 in
+    (problem.0, ap Some names.0, names.1)
+head_same a b None (Some n) r s p q h = absurd (differ 49 50 (omega arith) (ap (λ (t : List ℕ). get_or t 12 0) h))
+head_same a b (Some m) None r s p q h = absurd (differ 49 50 (omega arith) (sym (ap (λ (t : List ℕ). get_or t 12 0) h)))
+
+abbrev the_certificate : ProblemData → Option (List (List ℕ)) → PlanData → Certificate
+the_certificate problem names plan = record { problem = problem; names = names; plan = plan }
+
+certificate_eq : (a b : Certificate) → a.problem ≡ b.problem → a.names ≡ b.names → a.plan ≡ b.plan → a ≡ b
+certificate_eq a b problem names plan =
+    ap (λ (x : ProblemData). the_certificate x a.names a.plan) problem
+    ∙ (ap (λ (x : Option (List (List ℕ))). the_certificate b.problem x a.plan) names
+    ∙ ap (λ (x : PlanData). the_certificate b.problem b.names x) plan)
 
 abbrev own_text : Certificate → List ℕ
-own_text c = text c.problem c.plan
+own_text c = text c.problem c.names c.plan
 
 -- a certificate's text, whatever stands behind it
 certificate_same : Reads IsWritable own_text
 certificate_same a b r s p q h =
-    let first : List ℕ = line (codes "certificate") (codes "1" ∷ []) in
     let last : List ℕ = line (codes "end") [] in
-    let pa : List ℕ = problem_lines a.problem in
-    let pb : List ℕ = problem_lines b.problem in
+    let ha : List ℕ = head_lines a.problem a.names in
+    let hb : List ℕ = head_lines b.problem b.names in
     let la : List ℕ = whole_plan_lines a.plan in
     let lb : List ℕ = whole_plan_lines b.plan in
-    let all : first ++ (pa ++ (la ++ (last ++ r))) ≡ first ++ (pb ++ (lb ++ (last ++ s))) =
-    seam first pa first pb (la ++ (last ++ r)) (lb ++ (last ++ s)) (seam (first ++ pa) la (first ++ pb) lb (last ++ r) (last ++ s) (seam (first ++ pa ++ la) last (first ++ pb ++ lb) last r s h)) in
-    let problem = problem_same a.problem b.problem (la ++ (last ++ r)) (lb ++ (last ++ s)) p.problem q.problem (append_cancel_left first (pa ++ (la ++ (last ++ r))) (pb ++ (lb ++ (last ++ s))) all) in
-    let plan = plan_same a.plan b.plan (last ++ r) (last ++ s) p.plan q.plan problem.1 in
-    (certificate_eq a b problem.0 plan.0, append_cancel_left last r s plan.1)
+    let all : ha ++ (la ++ (last ++ r)) ≡ hb ++ (lb ++ (last ++ s)) =
+    seam ha la hb lb (last ++ r) (last ++ s) (seam (ha ++ la) last (hb ++ lb) last r s h) in
+    let head = head_same a.problem b.problem a.names b.names (la ++ (last ++ r)) (lb ++ (last ++ s)) (p.problem, p.named, p.names) (q.problem, q.named, q.names) all in
+    let plan = plan_same a.plan b.plan (last ++ r) (last ++ s) p.plan q.plan head.2 in
+    (certificate_eq a b head.0 head.1 plan.0, append_cancel_left last r s plan.1)
+
+begins_so : (problem : ProblemData) (names : Option (List (List ℕ))) (plan : PlanData) (more : List ℕ) → get_or (text problem names plan ++ more) 0 0 ≡ 99
+begins_so problem None plan more = refl
+begins_so problem (Some names) plan more = refl
 
 begins : (c : Certificate) (more : List ℕ) → get_or (own_text c ++ more) 0 0 ≡ 99
-begins c more = refl
+begins c more = begins_so c.problem c.names c.plan more
 
 -- certificates one after another
 pub texts_same : (cs ds : List Certificate) → All IsWritable cs → All IsWritable ds → texts cs ≡ texts ds → cs ≡ ds

@@ -3,6 +3,7 @@ pub mod BitsLemmas
 pub mod CertificateSame
 pub mod FieldLemmas
 pub mod LineSame
+pub mod NameLemmas
 pub mod NumberLemmas
 pub mod ReaderLemmas
 pub mod ReadingLemmas

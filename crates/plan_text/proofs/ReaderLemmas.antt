@@ -1,9 +1,11 @@
 -- How many of the certificates of a text are read.
-use Rattle.std.proofs.Common.{◌≡◌, ◌==◌, Bool, true, false, ◌∙◌, ℕ, zero, suc, ◌+◌, ◌<◌, ◌≤◌, List, [], ◌∷◌, ◌++◌, All, length, take, drop, get_or, inl, inr, refl, sym, ap, arith, add-one, length-append}
+use Rattle.std.proofs.Common.{◌≡◌, ◌==◌, Bool, true, false, ◌∙◌, ℕ, zero, suc, ◌+◌, ◌<◌, ◌≤◌, List, [], ◌∷◌, ◌++◌, All, length, take, drop, inl, inr, refl, sym, ap, arith, add-one, length-append, Option, Some, None}
 use Rattle.std.proofs.lemmas.Bool.{cases_lt, eqb-true, false≢true}
 use Rattle.std.proofs.lemmas.List.{drop_all, take_all}
 use Rattle.std.proofs.lemmas.List.Elements.{All-head, All-tail}
 use Rattle.plan_text.specs.Reading.{IsMemory}
+use Rattle.mds_types.specs.Plan.{PlanData}
+use Rattle.mds_types.specs.Problem.{ProblemData}
 use Rattle.plan_text.specs.Text.{text, texts}
 use Rattle.plan_text.specs.Writable.{IsWritable}
 use Rattle.plan_text.specs.declared.certificate.Certificate.{Certificate}
@@ -15,8 +17,12 @@ pub record IsRead (cs : List Certificate) (n : ℕ) (found : List Certificate) (
   pub others : rest ≡ texts (drop n cs)
   pub within : n ≤ length cs
 
-not_nil : (c : Certificate) (more : List ℕ) → text c.problem c.plan ++ more ≡ [] → ⊥
-not_nil c more h = let e : 99 ≡ 0 = ap (λ (t : List ℕ). get_or t 0 0) h in omega (arith, e)
+some_text : (problem : ProblemData) (names : Option (List (List ℕ))) (plan : PlanData) → 0 < length (text problem names plan)
+some_text problem None plan = omega arith
+some_text problem (Some names) plan = omega arith
+
+not_nil : (c : Certificate) (more : List ℕ) → text c.problem c.names c.plan ++ more ≡ [] → ⊥
+not_nil c more h = omega (arith, some_text c.problem c.names c.plan, length-append (text c.problem c.names c.plan) more, ap length h)
 
 nothing_left : (cs : List Certificate) (n : ℕ) → texts (drop n cs) ≡ [] → length cs ≤ n
 nothing_left [] n h = omega arith
@@ -28,12 +34,12 @@ pub texts_long : (cs : List Certificate) → length cs ≤ length (texts cs)
 texts_long [] = omega arith
 texts_long (c ∷ cs) =
     let more = texts_long cs in
-    let all = length-append (text c.problem c.plan) (texts cs) in
-    let some : 0 < length (text c.problem c.plan) = omega arith in
+    let all = length-append (text c.problem c.names c.plan) (texts cs) in
+    let some = some_text c.problem c.names c.plan in
     omega (arith, more, all, some)
 
 -- the next certificate, and what stands behind it
-next_is : (cs : List Certificate) (n : ℕ) → n < length cs → All IsWritable cs → (c : Certificate) × IsWritable c × (texts (drop n cs) ≡ text c.problem c.plan ++ texts (drop (suc n) cs)) × (take (suc n) cs ≡ take n cs ++ c ∷ [])
+next_is : (cs : List Certificate) (n : ℕ) → n < length cs → All IsWritable cs → (c : Certificate) × IsWritable c × (texts (drop n cs) ≡ text c.problem c.names c.plan ++ texts (drop (suc n) cs)) × (take (suc n) cs ≡ take n cs ++ c ∷ [])
 next_is [] n h f = absurd (omega arith)
 next_is (c ∷ cs) zero h f = (c, All-head IsWritable c cs f, refl, refl)
 next_is (c ∷ cs) (suc n) h f =
@@ -65,7 +71,7 @@ module _ (cs : List Certificate) (n : ℕ) (found : List Certificate) (bytes : L
   pub all_found : bytes ≡ [] → found ≡ cs
   all_found none = is.these ∙ take_all n cs (nothing_left cs n (sym is.others ∙ none))
 
-  pub one_more : (x : Certificate) (rest : List ℕ) → ((c : Certificate) (more : List ℕ) → IsWritable c → bytes ≡ text c.problem c.plan ++ more → (x ≡ c) × (rest ≡ more)) → n < length cs → IsRead cs (n + 1) (found ++ x ∷ []) rest
+  pub one_more : (x : Certificate) (rest : List ℕ) → ((c : Certificate) (more : List ℕ) → IsWritable c → bytes ≡ text c.problem c.names c.plan ++ more → (x ≡ c) × (rest ≡ more)) → n < length cs → IsRead cs (n + 1) (found ++ x ∷ []) rest
   one_more x rest given h =
       let next = next_is cs n h f in
       let read = given next.0 (texts (drop (suc n) cs)) next.1 (is.others ∙ next.2) in
@@ -75,7 +81,7 @@ module _ (cs : List Certificate) (n : ℕ) (found : List Certificate) (bytes : L
         within = omega (arith, h);
       })
 
-  pub only_memory : (fault : Fault) → ((c : Certificate) (more : List ℕ) → IsWritable c → bytes ≡ text c.problem c.plan ++ more → IsMemory fault) → n < length cs → IsMemory fault
+  pub only_memory : (fault : Fault) → ((c : Certificate) (more : List ℕ) → IsWritable c → bytes ≡ text c.problem c.names c.plan ++ more → IsMemory fault) → n < length cs → IsMemory fault
   only_memory fault given h =
       let next = next_is cs n h f in
       given next.0 (texts (drop (suc n) cs)) next.1 (is.others ∙ next.2)

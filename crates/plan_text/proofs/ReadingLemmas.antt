@@ -1,6 +1,6 @@
 -- What is written is read again, whatever stands behind it.
 use Rattle.std.proofs.Common.{◌≡◌, ◌∙◌, ℕ, suc, ◌-◌, ◌<◌, ◌≤◌, ◌^◌, ◌==◌, Bool, true, false, cond, List, [], ◌∷◌, ◌++◌, All, codes, length, refl, sym, ap, subst, arith, append_assoc, Option, Some, None}
-use Rattle.std.specs.Prelude.{decimal, ℤ, nat_le, nat_lt}
+use Rattle.std.specs.Prelude.{decimal, ℤ, nat_le, nat_lt, IfSome, is_some}
 use Rattle.std.specs.Fmt.{digits, signed_decimal}
 use Rattle.std.specs.Option.{option_and_then}
 use Rattle.std.specs.List.{flat_map, after_first, before_first}
@@ -19,12 +19,14 @@ use Rattle.mds_types.specs.Problem.{IsFirstFault, IsProblem, ProblemData, parent
 use Rattle.plan_text.specs.declared.certificate.Certificate.{Certificate}
 use Rattle.plan_text.specs.declared.parser.Fault.{Fault}
 use Rattle.plan_text.specs.declared.parser.Fault.TheVariants.{Memory, Expected}
-use Rattle.plan_text.specs.Fields.{Read, ends_field, mask_in, signed_in, read_value, behind_word}
-use Rattle.plan_text.specs.Reading.{Fails, IsMemory, read_cell, read_cells, read_counted, read_cut, cut_of, read_dual, read_end, read_first, read_heavy, read_label, read_lines, read_mask, read_number, read_plan, read_price, read_rank, read_ranks, read_row, read_table, with_front}
-use Rattle.plan_text.specs.Text.{cell_line, cut_lines, line, mask_line, number_line, label_line, whole_plan_lines, price_line, problem_lines, rank_line, row_line, table, text}
-use Rattle.plan_text.specs.Writable.{FitsCell, FitsCut, FitsList, FitsPart, FitsPlan, FitsPrice, FitsProblem, FitsRank, FitsRow}
-use Rattle.plan_text.proofs.FieldLemmas.{field_left, left, line_left, mask_again, number_left, signed_again, then_reads, value_left, word_left}
+use Rattle.plan_text.specs.Fields.{Read, ends_field, mask_in, name_in, signed_in, read_value, behind_word}
+use Rattle.plan_text.specs.Names.{IsRowName}
+use Rattle.plan_text.specs.Reading.{Fails, IsMemory, read_cell, read_cells, read_counted, read_cut, cut_of, read_dual, read_end, read_first, read_heavy, read_label, read_lines, read_mask, read_name, read_names, read_number, read_plan, read_price, read_rank, read_ranks, read_row, read_table, version_of, with_front}
+use Rattle.plan_text.specs.Text.{cell_line, cut_lines, head_lines, line, mask_line, name_line, number_line, label_line, whole_plan_lines, price_line, problem_lines, rank_line, row_line, table, text}
+use Rattle.plan_text.specs.Writable.{FitsCell, FitsCut, FitsList, FitsPart, FitsPlan, FitsPrice, FitsProblem, FitsRank, FitsRow, IsWritable}
+use Rattle.plan_text.proofs.FieldLemmas.{field_left, left, line_left, mask_again, number_left, signed_again, then_reads, value_left}
 use Rattle.plan_text.proofs.LineSame.{IsField, hex_field, signed_field}
+use Rattle.plan_text.proofs.NameLemmas.{row_name_again, row_name_field}
 
 abbrev pub Again : {A : Type 0} → (A → Type 0) → (A → List ℕ) → (List ℕ → Read A) → Type 0
 Again {A} fits written at = (x : A) (more : List ℕ) → fits x → at (written x ++ more) ≡ Some (x, more)
@@ -126,7 +128,7 @@ unfolding read_table
 table_from name at bytes rest more n xs c e = rw c e
 
 module _ {A : Type 0} (fits : A → Type 0) (written : A → List ℕ) (at : List ℕ → Read A) (one : Again fits written at) where
-  lines_again : (xs : List A) (more : List ℕ) → All fits xs → read_lines at (length xs) (flat_map written xs ++ more) ≡ Some (xs, more)
+  pub lines_again : (xs : List A) (more : List ℕ) → All fits xs → read_lines at (length xs) (flat_map written xs ++ more) ≡ Some (xs, more)
   lines_again [] more f = refl
   lines_again (x ∷ xs) more f =
       let behind : List ℕ = flat_map written xs ++ more in
@@ -245,12 +247,56 @@ plan_again plan more f =
     (cut_again plan.cut (u ++ (v ++ more)) f.cut)
     (dual_from _ _ _ _ _ (part_prices_again plan.dual.part_price (v ++ more) f.part_price) (rank_prices_again plan.dual.rank_price more f.rank_price))
 
-first_from : (text rest more : List ℕ) → behind_word (codes "certificate") text ≡ Some rest → behind_word (codes "1") rest ≡ Some more → read_first text ≡ Some more
+first_from : (text rest version more : List ℕ) (first : Option (Bool × List ℕ)) → behind_word (codes "certificate") text ≡ Some rest → before_first ends_field rest ≡ version → after_first ends_field rest ≡ more → version_of version more ≡ first → read_first text ≡ first
 unfolding read_first
-first_from bytes rest more w v = rw (w, v) refl
+first_from bytes rest version more first w v m f = rw (w, v, m) f
 
-pub first_again : (more : List ℕ) → read_first (line (codes "certificate") (codes "1" ∷ []) ++ more) ≡ Some more
-first_again more = first_from _ _ _ (line_left (codes "certificate") (codes "1" ∷ []) more refl) (word_left (codes "1") [] more refl)
+version_1 : (rest : List ℕ) → version_of (codes "1") rest ≡ Some (false, rest)
+unfolding version_of
+version_1 rest = refl
+
+version_2 : (rest : List ℕ) → version_of (codes "2") rest ≡ Some (true, rest)
+unfolding version_of
+version_2 rest = refl
+
+first_again : (version : List ℕ) (is_named : Bool) (more : List ℕ) → IsField version → version_of version more ≡ Some (is_named, more) → read_first (line (codes "certificate") (version ∷ []) ++ more) ≡ Some (is_named, more)
+first_again version is_named more field is =
+    let own = field_left version [] more field in
+    first_from _ _ _ _ _ (line_left (codes "certificate") (version ∷ []) more refl) own.0 own.1 is
+
+-- the lines of the names
+abbrev pub name_lines : Option (List (List ℕ)) → List ℕ
+name_lines None = []
+name_lines (Some names) = flat_map name_line names
+
+head_first : (problem : ProblemData) (names : Option (List (List ℕ))) (more : List ℕ) → read_first (head_lines problem names ++ more) ≡ Some (is_some names, problem_lines problem ++ (name_lines names ++ more))
+head_first problem None more =
+    let first : List ℕ = line (codes "certificate") (codes "1" ∷ []) in
+    ap read_first (append_assoc first (problem_lines problem) more)
+    ∙ first_again (codes "1") false (problem_lines problem ++ more) refl (version_1 (problem_lines problem ++ more))
+head_first problem (Some names) more =
+    let first : List ℕ = line (codes "certificate") (codes "2" ∷ []) in
+    let rest : List ℕ = problem_lines problem ++ flat_map name_line names in
+    ap read_first (append_assoc first rest more)
+    ∙ (first_again (codes "2") true (rest ++ more) refl (version_2 (rest ++ more))
+    ∙ ap (λ (t : List ℕ). Some (true, t)) (append_assoc (problem_lines problem) (flat_map name_line names) more))
+
+name_from : (text rest more name : List ℕ) → behind_word (codes "name") text ≡ Some rest → read_value name_in rest ≡ Some (name, more) → read_name text ≡ Some (name, more)
+unfolding read_name
+name_from bytes rest more name w n = rw w n
+
+name_again : Again IsRowName name_line read_name
+name_again name more f =
+    name_from _ _ _ _ (line_left (codes "name") (name ∷ []) more refl) (value_left name_in name name [] more (row_name_field name f) (row_name_again name f))
+
+-- the names of as many rows
+pub names_again : (names : Option (List (List ℕ))) (rows : ℕ) (more : List ℕ) → IfSome names (λ ns. length ns ≡ rows) → IfSome names (λ ns. All IsRowName ns) → read_names (is_some names) rows (name_lines names ++ more) ≡ Some (names, more)
+unfolding read_names
+names_again None rows more size f = refl
+names_again (Some names) rows more size f =
+    let again : read_lines read_name rows (flat_map name_line names ++ more) ≡ Some (names, more) =
+    subst (λ (n : ℕ). read_lines read_name n (flat_map name_line names ++ more) ≡ Some (names, more)) size (lines_again IsRowName name_line read_name name_again names more f) in
+    rw again refl
 
 end_from : (text more : List ℕ) → nat_lt 3 (length text) ≡ true → behind_word (codes "end") text ≡ Some more → read_end text ≡ Some more
 unfolding read_end
@@ -294,22 +340,33 @@ module _ (x : ProblemData) (rows : List ProblemRow) (ranks : ℕ) where
   pub no_fault : (fault : ProblemError) → IsProblem x → rows ≡ x.rows → ranks ≡ x.ranks → IsFirstFault rows ranks fault → ⊥
   no_fault fault is r s h = faultless x fault is (subst (λ (ys : List ProblemRow). IsFirstFault ys x.ranks fault) r (subst (λ (n : ℕ). IsFirstFault rows n fault) s h))
 
-four : (a b c d more : List ℕ) → (a ++ b ++ c ++ d) ++ more ≡ a ++ (b ++ (c ++ (d ++ more)))
-four a b c d more = simp append_assoc
+three : (a b c more : List ℕ) → (a ++ b ++ c) ++ more ≡ a ++ (b ++ (c ++ more))
+three a b c more = simp append_assoc
 
 abbrev pub behind_plan : List ℕ → List ℕ
 behind_plan more = line (codes "end") [] ++ more
 
+abbrev pub behind_names : Certificate → List ℕ → List ℕ
+behind_names c more = whole_plan_lines c.plan ++ behind_plan more
+
 abbrev pub behind_problem : Certificate → List ℕ → List ℕ
-behind_problem c more = whole_plan_lines c.plan ++ behind_plan more
+behind_problem c more = name_lines c.names ++ behind_names c more
 
-pub certificate_first : (bytes : List ℕ) (c : Certificate) (more : List ℕ) → bytes ≡ text c.problem c.plan ++ more → read_first bytes ≡ Some (problem_lines c.problem ++ behind_problem c more)
+pub certificate_first : (bytes : List ℕ) (c : Certificate) (more : List ℕ) → bytes ≡ text c.problem c.names c.plan ++ more → read_first bytes ≡ Some (is_some c.names, problem_lines c.problem ++ behind_problem c more)
 certificate_first bytes c more e =
-    ap read_first (e ∙ four (line (codes "certificate") (codes "1" ∷ [])) (problem_lines c.problem) (whole_plan_lines c.plan) (line (codes "end") []) more)
-    ∙ first_again (problem_lines c.problem ++ behind_problem c more)
+    ap read_first (e ∙ three (head_lines c.problem c.names) (whole_plan_lines c.plan) (line (codes "end") []) more)
+    ∙ head_first c.problem c.names (behind_names c more)
 
-abbrev certificate_of : ProblemData → PlanData → Certificate
-certificate_of problem plan = record { problem = problem; plan = plan }
+-- the names behind a problem that is the certificate's
+pub certificate_names : (c : Certificate) (rows : List ProblemRow) (is_named : Bool) (rest more : List ℕ) → IsWritable c → is_named ≡ is_some c.names → rows ≡ c.problem.rows → rest ≡ behind_problem c more
+    → read_names is_named (length rows) rest ≡ Some (c.names, behind_names c more)
+certificate_names c rows is_named rest more f named same e =
+    rw (named, same, e) (names_again c.names (length c.problem.rows) (behind_names c more) f.named f.names)
 
-pub certificate_is : (c : Certificate) (problem : ProblemData) (plan : PlanData) → problem ≡ c.problem → plan ≡ c.plan → record { problem = problem; plan = plan } ≡ c
-certificate_is c problem plan p q = ap (λ (x : ProblemData). certificate_of x plan) p ∙ ap (certificate_of c.problem) q
+abbrev certificate_of : ProblemData → Option (List (List ℕ)) → PlanData → Certificate
+certificate_of problem names plan = record { problem = problem; names = names; plan = plan }
+
+pub certificate_is : (c : Certificate) (problem : ProblemData) (names : Option (List (List ℕ))) (plan : PlanData) → problem ≡ c.problem → names ≡ c.names → plan ≡ c.plan → record { problem = problem; names = names; plan = plan } ≡ c
+certificate_is c problem names plan p n q =
+    ap (λ (x : ProblemData). certificate_of x names plan) p
+    ∙ (ap (λ (x : Option (List (List ℕ))). certificate_of c.problem x plan) n ∙ ap (certificate_of c.problem c.names) q)

@@ -1,6 +1,6 @@
 -- What a text is read as: the parser on lists of bytes. `read` promises more than that it does these steps:
 -- see its clauses.
-use Rattle.std.specs.Prelude.{◌≡◌, ⊤, ℕ, zero, suc, ◌-◌, ◌^◌, ◌==◌, nat_lt, nat_le, if◌then◌else◌}
+use Rattle.std.specs.Prelude.{◌≡◌, ⊤, ℕ, zero, suc, ◌-◌, ◌^◌, ◌==◌, nat_lt, nat_le, Bool, true, false, if◌then◌else◌}
 use Rattle.std.specs.Prelude.{List, [], ◌∷◌, ◌++◌, length, codes, Option, Some, None, Result, Ok, Err, ℤ}
 use Rattle.std.specs.Prelude.{option_and_then}
 use Rattle.std.specs.Borrow.{Bor}
@@ -14,7 +14,7 @@ use Rattle.mds_types.specs.DualProof.{DualData}
 use Rattle.mds_types.specs.Plan.{PlanData}
 use Rattle.plan_text.specs.declared.parser.Fault.{Fault}
 use Rattle.plan_text.specs.declared.parser.Fault.TheVariants.{Memory, Expected}
-use Rattle.plan_text.specs.Fields.{Read, ends_field, mask_in, number_in, signed_in, read_value, behind_word}
+use Rattle.plan_text.specs.Fields.{Read, ends_field, mask_in, name_in, number_in, signed_in, read_value, behind_word}
 
 infixl 10 ◌>>=◌
 abbrev ◌>>=◌ : {A B : Type 0} → Option A → (A → Option B) → Option B
@@ -136,11 +136,30 @@ read_plan text = do
     dual.1,
   )
 
--- the first line of a certificate
-unfoldable pub read_first : List ℕ → Option (List ℕ)
+-- whether a certificate of a version has names
+unfoldable pub version_of : List ℕ → List ℕ → Read Bool
+version_of version rest =
+    if bytes_eq version (codes "1") then Some (false, rest)
+    else if bytes_eq version (codes "2") then Some (true, rest)
+    else None
+
+-- the first line of a certificate: whether it has names
+unfoldable pub read_first : List ℕ → Read Bool
 read_first text = do
   rest ← behind_word (codes "certificate") text
-  behind_word (codes "1") rest
+  version_of (before_first ends_field rest) (after_first ends_field rest)
+
+unfoldable pub read_name : List ℕ → Read (List ℕ)
+read_name text = do
+  rest ← behind_word (codes "name") text
+  read_value name_in rest
+
+-- the names of this many rows, where a certificate has them
+unfoldable pub read_names : Bool → ℕ → List ℕ → Read (Option (List (List ℕ)))
+read_names false rows text = Some (None, text)
+read_names true rows text = do
+  names ← read_lines read_name rows text
+  Some (Some names.0, names.1)
 
 -- the last line, with the byte that ends it
 unfoldable pub read_end : List ℕ → Option (List ℕ)

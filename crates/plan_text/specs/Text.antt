@@ -1,5 +1,6 @@
--- The text of a certificate: a problem, a plan for it and the plan's proofs, as lines of fields.
-use Rattle.std.specs.Prelude.{ℕ, ℤ, List, [], ◌∷◌, ◌++◌, false, length, codes, decimal, if◌then◌else◌}
+-- The text of a certificate: a problem, the names of its directories, a plan for it and the plan's proofs, as lines of
+-- fields.
+use Rattle.std.specs.Prelude.{ℕ, ℤ, List, [], ◌∷◌, ◌++◌, false, length, codes, decimal, if◌then◌else◌, Option, Some, None}
 use Rattle.std.specs.Fmt.{digits, signed_decimal}
 use Rattle.std.specs.List.{flat_map}
 use Rattle.plan_text.specs.declared.certificate.Certificate.{Certificate}
@@ -61,6 +62,16 @@ cut_lines (Table rows) = line (codes "cut") (codes "table" ∷ []) ++ table (cod
 abbrev pub problem_lines : ProblemData → List ℕ
 problem_lines problem = mask_line problem.ranks ++ table (codes "rows") row_line problem.rows
 
+-- the name of a row's directory
+abbrev pub name_line : List ℕ → List ℕ
+name_line name = line (codes "name") (name ∷ [])
+
+-- the lines down to those of the plan: version 1 has no names, and version 2 one for each row
+abbrev pub head_lines : ProblemData → Option (List (List ℕ)) → List ℕ
+head_lines problem None = line (codes "certificate") (codes "1" ∷ []) ++ problem_lines problem
+head_lines problem (Some names) =
+    line (codes "certificate") (codes "2" ∷ []) ++ (problem_lines problem ++ flat_map name_line names)
+
 -- the part of each row, and the rank of each part
 abbrev pub place_lines : List ℕ → List ℕ → List ℕ
 place_lines part rank = table (codes "parts") label_line part ++ table (codes "ranks") rank_line rank
@@ -84,13 +95,9 @@ whole_plan_lines plan =
     ++ dual_lines plan.dual
 
 -- a certificate
-abbrev pub text : ProblemData → PlanData → List ℕ
-text problem plan =
-    line (codes "certificate") (codes "1" ∷ [])
-    ++ problem_lines problem
-    ++ whole_plan_lines plan
-    ++ line (codes "end") []
+abbrev pub text : ProblemData → Option (List (List ℕ)) → PlanData → List ℕ
+text problem names plan = head_lines problem names ++ whole_plan_lines plan ++ line (codes "end") []
 
 -- certificates, one after another
 abbrev pub texts : List Certificate → List ℕ
-texts = flat_map (λ c. text c.problem c.plan)
+texts = flat_map (λ c. text c.problem c.names c.plan)

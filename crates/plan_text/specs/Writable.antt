@@ -1,5 +1,5 @@
 -- What the types of the values allow, which is what can be written.
-use Rattle.std.specs.Prelude.{◌<◌, ◌≤◌, ◌^◌, ⊤, ℕ, ℤ, List, All, length}
+use Rattle.std.specs.Prelude.{◌≡◌, ◌<◌, ◌≤◌, ◌^◌, ⊤, ℕ, ℤ, List, All, IfSome, length}
 use Rattle.std.specs.Int.Signed.{mag}
 use Rattle.mds_types.specs.declared.cut_proof.CutProof.{CutProof}
 use Rattle.mds_types.specs.declared.cut_proof.CutProof.TheVariants.{Zero, Heavy, Table}
@@ -7,6 +7,7 @@ use Rattle.mds_types.specs.declared.cut_proof.Row.{Row}
 use Rattle.mds_types.specs.declared.problem.ProblemRow.{ProblemRow}
 use Rattle.mds_types.specs.Plan.{PlanData}
 use Rattle.mds_types.specs.Problem.{IsProblem, ProblemData}
+use Rattle.plan_text.specs.Names.{IsRowName}
 use Rattle.plan_text.specs.declared.certificate.Certificate.{Certificate}
 
 pub record FitsRow (row : ProblemRow) : Type 0 where
@@ -57,7 +58,14 @@ pub record FitsPlan (plan : PlanData) : Type 0 where
   pub part_price : FitsList FitsPrice plan.dual.part_price
   pub rank_price : FitsList FitsPrice plan.dual.rank_price
 
--- a certificate that its types allow: a problem, and a plan whose numbers are within their types
+-- each row has a name, if a certificate has names
+abbrev pub IsNamed : Certificate → Type 0
+IsNamed c = IfSome c.names (λ names. length names ≡ length c.problem.rows)
+
+-- a certificate that its types allow: a problem, names for its rows or none, and a plan whose numbers are within their
+-- types
 pub record IsWritable (c : Certificate) : Type 0 where
   pub problem : FitsProblem c.problem
+  pub named : IsNamed c
+  pub names : IfSome c.names (λ names. All IsRowName names)
   pub plan : FitsPlan c.plan

@@ -3,7 +3,10 @@ ghost use Rattle.std.specs.Prelude.{◌≡◌, ◌≤◌, ◌^◌, length, neg_�
 ghost use Rattle.std.specs.List.{after_first, before_first, position_or_len};
 ghost use Rattle.std.specs.Str.Parse.{starts_with_minus};
 ghost use Rattle.plan_text.specs.Fields.{ends_field, number_in, number_within, read_view, signed_in, read_value};
-ghost use Rattle.plan_text.specs.Fields.{behind_word};
+ghost use Rattle.plan_text.specs.Fields.{behind_word, name_in, row_name};
+ghost use Rattle.plan_text.specs.Names.{IsRowName};
+
+use crate::names::is_row_name;
 
 /// Whether a byte ends a field.
 fn ends_field(byte: u8) -> bool
@@ -113,4 +116,33 @@ pub(crate) fn signed(text: &[u8]) -> Option<(i64, &[u8])>
     let (first, rest) = field(text);
     let number = signed_in(first)?;
     Some((number, rest))
+}
+
+/// The text, where it may name the directory of a row.
+fn row_name(text: &str) -> Option<&str>
+    ensures value { option_map (λ name. name.now) result ≡ row_name text.now }
+    ensures name { IfSome result (λ name. IsRowName name.now) }
+{
+    if is_row_name(text) { Some(text) } else { None }
+}
+
+/// The name of a row's directory that a field writes.
+fn name_in(field: &[u8]) -> Option<&str>
+    ensures value { option_map (λ name. name.now) result ≡ name_in field.now }
+    ensures name { IfSome result (λ name. IsRowName name.now) }
+{
+    match str::from_utf8(field) {
+        Ok(text) => row_name(text),
+        Err(_) => None,
+    }
+}
+
+/// The name of a row's directory that the first field writes.
+pub(crate) fn name(text: &[u8]) -> Option<(&str, &[u8])>
+    ensures value { read_view (λ name. name.now) result ≡ read_value name_in text.now }
+    ensures name { IfSome result (λ found. IsRowName found.0.now) }
+{
+    let (first, rest) = field(text);
+    let name = name_in(first)?;
+    Some((name, rest))
 }

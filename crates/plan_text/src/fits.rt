@@ -1,9 +1,11 @@
 //! What the types of a certificate's values say of its numbers.
-ghost use Rattle.std.specs.Prelude.{◌<◌, ◌^◌, All};
-ghost use Rattle.plan_text.specs.Writable.{FitsCut, FitsList, FitsPlan, FitsProblem, IsWritable};
+ghost use Rattle.std.specs.Prelude.{◌<◌, ◌^◌, All, IfSome, option_map};
+ghost use Rattle.plan_text.specs.Names.{IsRowName};
+ghost use Rattle.plan_text.specs.Writable.{FitsCut, FitsList, FitsPlan, FitsProblem, IsNamed, IsWritable};
 
 use crate::certificate::Certificate;
 use crate::line::Line;
+use crate::names::Names;
 use mds_types::{CutProof, Plan, Problem};
 
 /// Each value of a list is within its type.
@@ -55,16 +57,28 @@ pub(crate) fn plan_fits(plan: &Plan)
     number_fits(plan.moved);
 }
 
-/// The numbers of a certificate are within their types.
+/// The names are those of directories.
+pub(crate) fn names_fit(names: Option<&Names>)
+    ensures { IfSome (option_map (λ names. names.now) names.entry) (λ names. All IsRowName names) }
+{
+    if let Some(names) = names {
+        let _names = names.as_slice();
+    }
+}
+
+/// The names and numbers of a certificate are within their types.
 fn fits(certificate: &Certificate)
+    requires { IsNamed certificate.now }
     ensures { IsWritable certificate.now }
 {
     problem_fits(&certificate.problem);
+    names_fit(certificate.names.as_ref());
     plan_fits(&certificate.plan);
 }
 
-/// The numbers of certificates are within their types.
+/// The names and numbers of certificates are within their types.
 pub(crate) fn all_writable(certificates: &[Certificate])
+    requires { All IsNamed certificates.now }
     ensures { All IsWritable certificates.now }
 {
     for certificate in certificates {

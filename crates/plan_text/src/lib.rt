@@ -6,11 +6,13 @@
 //! file.
 //!
 //! ```text
-//! certificate 1
+//! certificate 2            1 where it has no names
 //! mask 0x3                 the ranks that may have a part
 //! rows 2
 //! row 0 4 1 0              the row of the parent, heat, inodes, the rank that has it now
 //! row 0 5 20 0
+//! name /                   the name of each row's directory
+//! name home
 //! parts 2
 //! part 0                   the part of each row
 //! part 1
@@ -29,7 +31,7 @@
 //! end
 //! ```
 //!
-//! (What stands behind the fields here is not part of it.) `write` writes just this text. `read` accepts a
+//! (What stands behind the fields here is not part of it.) `certificate_text` gives just this text. `read` accepts a
 //! text, as far as there is memory, if it is that of certificates, at least one, and gives just these; it
 //! refuses each other text.
 #![tactic(auto)]
@@ -39,12 +41,14 @@ mod fields;
 mod fits;
 pub mod laws;
 mod line;
+pub mod names;
 mod parser;
 pub mod read_error;
 pub mod reader;
 pub mod writer;
 
 pub use certificate::Certificate;
+pub use names::Names;
 pub use read_error::{Expected, ReadError};
 pub use reader::read;
-pub use writer::{certificate_text, write};
+pub use writer::certificate_text;

@@ -1,22 +1,24 @@
 //! Values from a text, one after another from the front.
-ghost use Rattle.std.specs.Prelude.{◌≡◌, ◌++◌, ℕ, List, option_map};
+ghost use Rattle.std.specs.Prelude.{◌≡◌, ◌++◌, ℕ, IfOk, IfSome, List, length, option_map};
 ghost use Rattle.mds_types.specs.Problem.{ProblemData};
 ghost use Rattle.plan_text.specs.Fields.{mask_in, read_view};
 ghost use Rattle.plan_text.specs.Reading.{Returns, Reads, read_cells, read_counted, read_cut, cut_of, read_dual};
-ghost use Rattle.plan_text.specs.Reading.{read_end};
+ghost use Rattle.plan_text.specs.Names.{IsRowName};
+ghost use Rattle.plan_text.specs.Reading.{read_end, read_name, read_names, version_of};
 ghost use Rattle.plan_text.specs.Reading.{read_first, read_heavy, read_lines, read_mask, read_plan, read_ranks};
 ghost use Rattle.plan_text.specs.Reading.{read_table};
 ghost use Rattle.plan_text.specs.Text.{problem_lines, text as text_of};
-ghost use Rattle.plan_text.specs.Writable.{FitsProblem, IsWritable};
+ghost use Rattle.plan_text.specs.Writable.{FitsProblem, IsNamed, IsWritable};
 ghost use Rattle.plan_text.specs.declared.certificate.Certificate.{Certificate};
 
 use crate::certificate::Certificate;
-use crate::fields::{field, number, word};
+use crate::fields::{field, name, number, word};
 use crate::line::Line;
+use crate::names::Names;
 use crate::read_error::Expected;
 use arrayvec::ArrayVec;
 use mds_types::{CutProof, CutTable, DualProof, Plan, Problem, Rank, RankSet};
-use std::alloc::{AllocFailed, Global};
+use std::alloc::{AllocError, AllocFailed, Global};
 
 /// Why a text isn't that of a certificate.
 #[derive(Clone, Copy)]
@@ -34,6 +36,17 @@ impl<T: Drop> From<AllocFailed<T>> for Fault {
     ghost from_gives = { λ _ fault. fault ≡ Memory };
 
     fn from(_: AllocFailed<T>) -> Fault {
+        Fault::Memory
+    }
+}
+
+impl From<AllocError> for Fault {
+    ghost use Rattle.std.specs.Prelude.{◌≡◌};
+    ghost use Rattle.plan_text.specs.declared.parser.Fault.TheVariants.{Memory};
+
+    ghost from_gives = { λ _ fault. fault ≡ Memory };
+
+    fn from(_: AllocError) -> Fault {
         Fault::Memory
     }
 }
@@ -233,13 +246,75 @@ fn plan(alloc: Global, text: &[u8]) -> Result<(Plan, &[u8]), Fault>
     ))
 }
 
-/// What stands behind the first line of a certificate.
+/// Whether a certificate of a version has names.
+#[tactic(auto, unfolding(crate::specs::Reading::version_of))]
+fn version_of<'a>(version: &[u8], text: &'a [u8]) -> Option<(bool, &'a [u8])>
+    ensures { read_view (λ is_named. is_named) result ≡ version_of version.now text.now }
+{
+    if version == b"1".as_slice() {
+        Some((false, text))
+    } else if version == b"2".as_slice() {
+        Some((true, text))
+    } else {
+        None
+    }
+}
+
+/// The first line of a certificate: whether it has names.
 #[tactic(auto, unfolding(crate::specs::Reading::read_first))]
-fn first_line(text: &[u8]) -> Option<&[u8]>
-    ensures { option_map (λ rest. rest.now) result ≡ read_first text.now }
+fn first_line(text: &[u8]) -> Option<(bool, &[u8])>
+    ensures { read_view (λ is_named. is_named) result ≡ read_first text.now }
 {
     let rest = word(text, b"certificate")?;
-    word(rest, b"1")
+    let (version, rest) = field(rest);
+    version_of(version, rest)
+}
+
+/// The name of a row's directory.
+#[tactic(auto, unfolding(crate::specs::Reading::read_name))]
+fn name_line(text: &[u8]) -> Option<(&str, &[u8])>
+    ensures value { read_view (λ name. name.now) result ≡ read_name text.now }
+    ensures name { IfSome result (λ found. IsRowName found.0.now) }
+{
+    let rest = word(text, b"name")?;
+    name(rest)
+}
+
+/// The names of this many rows.
+fn name_lines(alloc: Global, text: &[u8], rows: usize) -> Result<(Names, &[u8]), Fault>
+    ensures names { Reads (λ names. names) result (read_lines read_name rows text.now) }
+    ensures size { IfOk result (λ found. length found.0 ≡ rows) }
+{
+    let mut names = Names::new(alloc);
+    let mut rest = text;
+    for _ in 0..rows {
+        match name_line(rest) {
+            Some(found) => {
+                names.push(alloc, found.0)?;
+                rest = found.1;
+            }
+            None => return Err(Fault::Expected(rest.len(), Expected::Name)),
+        }
+    }
+    Ok((names, rest))
+}
+
+/// The names of this many rows, where a certificate has them.
+#[tactic(auto, unfolding(crate::specs::Reading::read_names))]
+fn names(
+    alloc: Global,
+    text: &[u8],
+    is_named: bool,
+    rows: usize,
+) -> Result<(Option<Names>, &[u8]), Fault>
+    ensures names { Reads (λ names. names) result (read_names is_named rows text.now) }
+    ensures size { IfOk result (λ found. IfSome found.0 (λ names. length names ≡ rows)) }
+{
+    if !is_named {
+        return Ok((None, text));
+    }
+    let (names, rest) = name_lines(alloc, text, rows)?;
+    Ok((Some(names), rest))
 }
 
 /// What stands behind the last line, which a byte has to end.
@@ -256,16 +331,25 @@ fn end_line(text: &[u8]) -> Option<&[u8]>
 
 /// The first certificate.
 pub(crate) fn certificate(alloc: Global, text: &[u8]) -> Result<(Certificate, &[u8]), Fault>
-    ensures { (c : Certificate) (more : List ℕ) → IsWritable c → text.now ≡ text_of c.problem c.plan ++ more →
-        Returns result c more }
+    ensures again { (c : Certificate) (more : List ℕ) → IsWritable c
+        → text.now ≡ text_of c.problem c.names c.plan ++ more → Returns result c more }
+    ensures named { IfOk result (λ found. IsNamed found.0) }
 {
-    let Some(rest) = first_line(text) else {
+    let Some((is_named, rest)) = first_line(text) else {
         return Err(Fault::Expected(text.len(), Expected::First));
     };
     let (problem, rest) = problem(alloc, rest)?;
+    let (names, rest) = names(alloc, rest, is_named, problem.rows().len())?;
     let (plan, rest) = plan(alloc, rest)?;
     match end_line(rest) {
-        Some(rest) => Ok((Certificate { problem, plan }, rest)),
+        Some(rest) => {
+            let certificate = Certificate {
+                problem,
+                names,
+                plan,
+            };
+            Ok((certificate, rest))
+        }
         None => Err(Fault::Expected(rest.len(), Expected::End)),
     }
 }

@@ -9,7 +9,7 @@ use thiserror::Error;
 #[derive(Clone, Copy, Debug, PartialEq, Eq, Error)]
 pub enum Expected {
     /// The first line of a certificate.
-    #[error("certificate 1")]
+    #[error("certificate 1 or certificate 2")]
     First,
     /// The ranks that may have a part.
     #[error("mask 0xDIGITS, the ranks that may have a part")]
@@ -23,6 +23,9 @@ pub enum Expected {
     /// Rows that make a problem.
     #[error("parents before children, heats up to 1099511627776, up to 65536 rows and a rank")]
     Problem,
+    /// The name of a row's directory.
+    #[error("name NAME, one for each row: a directory's name, or /")]
+    Name,
     /// How many rows the plan has parts for.
     #[error("parts NUMBER")]
     Parts,

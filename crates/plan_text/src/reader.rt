@@ -2,7 +2,7 @@
 ghost use Rattle.std.specs.Prelude.{◌≡◌, ◌<◌, All, IfErr, IfOk, List, MatchResult, length, string_bytes};
 ghost use Rattle.plan_text.specs.Reading.{IsMemory};
 ghost use Rattle.plan_text.specs.Text.{texts};
-ghost use Rattle.plan_text.specs.Writable.{IsWritable};
+ghost use Rattle.plan_text.specs.Writable.{IsNamed, IsWritable};
 ghost use Rattle.plan_text.specs.declared.certificate.Certificate.{Certificate};
 ghost use Rattle.plan_text.specs.declared.read_error.ReadError.TheVariants.{Memory};
 
@@ -11,7 +11,7 @@ use crate::fits::all_writable;
 use crate::laws::texts_differ;
 use crate::parser::{Fault, certificate};
 use crate::read_error::{Expected, ReadError};
-use crate::writer::write;
+use crate::writer::certificate_text;
 use std::alloc::{AllocError, Global};
 
 /// The line, counted from 1, in which the last `left` bytes begin.
@@ -43,6 +43,7 @@ fn first_other_line(text: &[u8], other: &[u8]) -> u64 {
 /// The certificates of a text, as far as a parser goes that doesn't mind what parts the fields.
 fn parsed(alloc: Global, text: &[u8]) -> Result<Vec<Certificate>, Fault>
     ensures some { IfOk result (λ found. 0 < length found.items) }
+    ensures named { IfOk result (λ found. All IsNamed found.items) }
     ensures again { (cs : List Certificate) → All IsWritable cs → 0 < length cs → text.now ≡ texts cs →
         MatchResult result (λ found. found.items ≡ cs) IsMemory }
 {
@@ -62,11 +63,18 @@ fn parsed(alloc: Global, text: &[u8]) -> Result<Vec<Certificate>, Fault>
 
 /// The texts of certificates, one after another.
 fn texts(alloc: Global, certificates: &[Certificate]) -> Result<String, AllocError>
+    requires { All IsNamed certificates.now }
     ensures { IfOk result (λ made. string_bytes made ≡ texts certificates.now) }
 {
     let mut out = String::new(alloc);
     for certificate in certificates {
-        write(alloc, &mut out, &certificate.problem, &certificate.plan)?;
+        let made = certificate_text(
+            alloc,
+            &certificate.problem,
+            certificate.names.as_ref(),
+            &certificate.plan,
+        )?;
+        out.push_str(&made)?;
     }
     Ok(out)
 }

@@ -1,11 +1,15 @@
 //! Writing a certificate.
-ghost use Rattle.std.specs.Prelude.{◌≡◌, ◌++◌, IfOk, OnErr, OnOk, string_bytes};
-ghost use Rattle.plan_text.specs.Text.{cut_lines, dual_lines, mask_line, number_line, place_lines, price_lines};
-ghost use Rattle.plan_text.specs.Text.{problem_lines, sum_lines, table, text, whole_plan_lines};
-ghost use Rattle.plan_text.specs.Writable.{IsWritable};
+ghost use Rattle.std.specs.List.{flat_map};
+ghost use Rattle.std.specs.Prelude.{◌≡◌, ◌++◌, IfOk, OnOk, option_map, string_bytes};
+ghost use Rattle.plan_text.specs.Text.{cut_lines, dual_lines, head_lines, mask_line, name_line, number_line};
+ghost use Rattle.plan_text.specs.Text.{place_lines, price_lines, problem_lines, sum_lines, table, text};
+ghost use Rattle.plan_text.specs.Text.{whole_plan_lines};
+ghost use Rattle.plan_text.specs.Writable.{IsNamed, IsWritable};
 
-use crate::fits::{plan_fits, problem_fits};
+use crate::fits::{names_fit, plan_fits, problem_fits};
 use crate::line::Line;
+use crate::names::Names;
+use dirtree::Name;
 use mds_types::limits::RANK_LIMIT;
 use mds_types::{CutProof, DualProof, Plan, Problem, Rank, RankSet};
 use std::alloc::{AllocError, Global};
@@ -141,31 +145,70 @@ fn push_plan(alloc: Global, out: &mut String, plan: &Plan) -> Result<(), AllocEr
     push_dual(alloc, out, &plan.dual)
 }
 
-/// The text of a problem, a plan for it and the plan's proofs. It is all ASCII.
-pub fn certificate_text(alloc: Global, problem: &Problem, plan: &Plan) -> Result<String, AllocError>
-    ensures text { IfOk result (λ made. string_bytes made ≡ text problem.now plan.now) }
-    ensures writable { IsWritable (record { problem = problem.now; plan = plan.now }) }
+/// Writes the names of rows' directories.
+fn push_names(alloc: Global, out: &mut String, names: &[Name]) -> Result<(), AllocError>
+    ensures { OnOk result (string_bytes out.new ≡ string_bytes out.old ++ flat_map name_line names.now) }
+{
+    for name in names {
+        let line = name_line(alloc, name.as_str())?;
+        out.push_str(&line)?;
+    }
+    Ok(())
+}
+
+/// The line of a name.
+fn name_line(alloc: Global, name: &str) -> Result<String, AllocError>
+    ensures { IfOk result (λ made. string_bytes made ≡ name_line name.now) }
+{
+    format!(in alloc; "name {name}\n")
+}
+
+/// The lines down to those of the plan.
+fn head_lines(alloc: Global, problem: &Problem, names: Option<&Names>) -> Result<String, AllocError>
+    ensures { IfOk result (λ made. string_bytes made ≡ head_lines problem.now (option_map
+        (λ names. names.now) names.entry)) }
+{
+    match names {
+        None => {
+            let mut out = String::from_str(alloc, "certificate 1\n")?;
+            push_problem(alloc, &mut out, problem)?;
+            Ok(out)
+        }
+        Some(names) => {
+            let mut out = String::from_str(alloc, "certificate 2\n")?;
+            push_problem(alloc, &mut out, problem)?;
+            push_names(alloc, &mut out, names.as_slice())?;
+            Ok(out)
+        }
+    }
+}
+
+/// The text of a problem, a plan for it and the plan's proofs: of version 2, where the names of the rows' directories
+/// are given, and else of version 1. It is all ASCII.
+pub fn certificate_text(
+    alloc: Global,
+    problem: &Problem,
+    names: Option<&Names>,
+    plan: &Plan,
+) -> Result<String, AllocError>
+    requires { IsNamed (record {
+      problem = problem.now;
+      names = option_map (λ names. names.now) names;
+      plan = plan.now;
+    }) }
+    ensures text { IfOk result (λ made. string_bytes made ≡ text problem.now (option_map
+        (λ names. names.now) names.entry) plan.now) }
+    ensures writable { IsWritable (record {
+      problem = problem.now;
+      names = option_map (λ names. names.now) names.entry;
+      plan = plan.now;
+    }) }
 {
     problem_fits(problem);
+    names_fit(names);
     plan_fits(plan);
-    let mut out = String::from_str(alloc, "certificate 1\n")?;
-    push_problem(alloc, &mut out, problem)?;
+    let mut out = head_lines(alloc, problem, names)?;
     push_plan(alloc, &mut out, plan)?;
     out.push_str("end\n")?;
     Ok(out)
-}
-
-/// Writes the text of a certificate behind what `out` holds.
-pub fn write(
-    alloc: Global,
-    out: &mut String,
-    problem: &Problem,
-    plan: &Plan,
-) -> Result<(), AllocError>
-    ensures written { OnOk result (string_bytes out.new ≡ string_bytes out.old ++ text problem.now plan.now) }
-    ensures unchanged { OnErr result (string_bytes out.new ≡ string_bytes out.old) }
-    ensures writable { IsWritable (record { problem = problem.now; plan = plan.now }) }
-{
-    let made = certificate_text(alloc, problem, plan)?;
-    out.push_str(&made)
 }

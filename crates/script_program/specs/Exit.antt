@@ -1,10 +1,11 @@
 -- What the program has done when it ends with an exit status.
-use Rattle.std.specs.Prelude.{◌≡◌, ℕ, Bool, true, false, not, ◌&&◌, List, [], ◌∷◌, ◌++◌, ◌⊎◌, All, codes, Option}
+use Rattle.std.specs.Prelude.{◌≡◌, ℕ, Bool, true, false, not, ◌&&◌, List, [], ◌∷◌, ◌++◌, ◌⊎◌, All, IfSome, codes, Option}
 use Rattle.clap.specs.Words.{IsAmong, Text, fault_of}
 use Rattle.clap.specs.declared.error.kind.ErrorKind.TheVariants.{DisplayHelp, DisplayVersion}
 use Rattle.command_line.specs.CommandLine.{is_strict, limit_of, mdbal}
-use Rattle.mds_types.specs.Certificate.{IsBest}
+use Rattle.mds_types.specs.Certificate.{IsBest, IsCertified}
 use Rattle.plan_text.specs.Text.{texts}
+use Rattle.plan_text.specs.Writable.{IsWritable}
 use Rattle.plan_text.specs.declared.certificate.Certificate.{Certificate}
 use Rattle.std.specs.Io.KnownBytes.{Appends}
 use Rattle.script_engine.specs.Devices.{Reading}
@@ -50,10 +51,11 @@ module _ {R : Type 0} (remaining : R → Option (List ℕ)) (limit : ℕ) (stric
       ((status ≡ 0) × IsCarriedOut true) ⊎ ((status ≡ 1) × IsCarriedOut false) ⊎ ((status ≡ 3) × IsFailed)
       ⊎ (((status ≡ 2) ⊎ (status ≡ 3)) × (new ≡ old) × (after ≡ before))
 
--- Certificates were written, of which each plan is best for its problem.
+-- Certificates were written that can be read again. The plan of each is best for its problem, and its proofs hold.
 abbrev pub AreProved : Option (List ℕ) → Option (List ℕ) → Type 0
 AreProved before after =
-    (cs : List Certificate) × All (λ c. IsBest c.problem c.plan) cs × Appends before after (texts cs)
+    (cs : List Certificate) × All (λ c. IsBest c.problem c.plan) cs × All (λ c. IsCertified c.problem c.plan) cs
+    × IfSome before (λ bytes. All IsWritable cs) × Appends before after (texts cs)
 
 -- The words of the command line are accepted, and the script is carried out with the limit and the flag that they
 -- name; or nothing is read, as they ask for the help or the version, or are refused. The status is 3 where the help or

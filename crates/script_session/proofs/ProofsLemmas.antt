@@ -1,10 +1,12 @@
 -- The certificates of a session's board, or of none.
-use Rattle.std.proofs.Common.{◌≡◌, ℕ, All, Bool, List, Option, None, Some, Ok, Err, IfOk, IsErrOf}
+use Rattle.std.proofs.Common.{◌≡◌, ℕ, All, Bool, List, [], Option, None, Some, Ok, Err, IfOk, IsErrOf}
+use Rattle.std.specs.Prelude.{IfSome}
 use Rattle.std.proofs.KnownBytes.{Appends-nil}
 use Rattle.std.proofs.lemmas.List.Elements.{All-nil}
-use Rattle.board_certificates.specs.Certificates.{certificates}
+use Rattle.board_certificates.specs.Certificates.{certificates_of}
 use Rattle.mds_board.specs.History.{World}
 use Rattle.mds_board.specs.Promises.{IsKept}
+use Rattle.plan_text.specs.Writable.{IsWritable}
 use Rattle.plan_text.specs.declared.certificate.Certificate.{Certificate}
 use Rattle.script_board.specs.Board.{BoardData}
 use Rattle.script_engine.specs.Devices.{Reading}
@@ -16,10 +18,18 @@ use Rattle.script_session.specs.Script.{IsKeptAt}
 use Rattle.script_session.specs.Session.{SessionData, beginning}
 use Rattle.script_session.specs.declared.script.Ended.{Ended}
 
+pub if_known : {A : Type 0} (before : Option (List ℕ)) → A → IfSome before (λ bytes. A)
+if_known None a = tt
+if_known (Some bytes) a = a
+
+-- no certificate is one that can be read again
+pub readable : (before : Option (List ℕ)) → IfSome before (λ bytes. All IsWritable [])
+readable before = if_known before (All-nil IsWritable)
+
 -- there are none where a run found no memory to begin with
 pub none_proved : (ended : Ended) (before : Option (List ℕ)) (Leads : SessionData → Bool → Type 0) → ended ≡ record { answered = Err Memory; proved = Ok tt }
     → (last : SessionData) × IsKeptAt last.board × IsProved ended.proved before before last.board × IfOk ended.answered (Leads last)
-none_proved ended before Leads is = rw is (beginning 1, tt, (Appends-nil before, tt), tt)
+none_proved ended before Leads is = rw is (beginning 1, tt, ((Appends-nil before, readable before), tt), tt)
 
 -- and nothing was read or written
 pub nothing_run : {R : Type 0} (remaining : R → Option (List ℕ)) (limit : ℕ) (strict : Bool) (input : Reading R) (before proofs : Option (List ℕ)) (ended : Ended)
@@ -32,7 +42,7 @@ nothing_run remaining limit strict input before proofs ended is = rw is
       read = λ same. absurd (not_read same);
       cause = λ same. absurd (not_read same);
       write = λ same. absurd (not_write same);
-      proofs = (beginning 1, tt, (Appends-nil proofs, tt), tt);
+      proofs = (beginning 1, tt, ((Appends-nil proofs, readable proofs), tt), tt);
     })
   where
     not_read : IsErrOf {T = Bool} {E = RunError} (Err Memory) Read → ⊥
@@ -42,6 +52,6 @@ nothing_run remaining limit strict input before proofs ended is = rw is
     not_write same = cc
 
 -- what holds of the certificates of every board
-pub at_board : (P : Certificate → Type 0) → ((w : World) → IsKept w → All P (certificates None w.history)) → (board : Option BoardData) → IsKeptAt board → All P (certificates_at board)
+pub at_board : (P : Certificate → Type 0) → ((w : World) → IsKept w → All P (certificates_of w)) → (board : Option BoardData) → IsKeptAt board → All P (certificates_at board)
 at_board P all None kept = All-nil P
 at_board P all (Some b) kept = all b.world kept

@@ -1,7 +1,7 @@
 //! Laws of sessions, each the contract of a function that does nothing.
 ghost use Rattle.std.specs.Prelude.{◌≡◌, ℕ, All, Bool, List, Option, true};
 ghost use Rattle.std.specs.List.{list_all};
-ghost use Rattle.mds_types.specs.Certificate.{IsBest};
+ghost use Rattle.mds_types.specs.Certificate.{IsBest, IsCertified};
 ghost use Rattle.script_board.specs.Board.{BoardData};
 ghost use Rattle.script_engine.specs.Answers.{Answer, IsDetermined, Run, all_ample, played, text_of};
 ghost use Rattle.script_engine.specs.Lines.{lines_of};
@@ -12,7 +12,7 @@ ghost use Rattle.script_session.specs.Script.{IsKeptAt};
 ghost use Rattle.script_session.specs.Session.{SessionData, answers, beginning};
 ghost use Rattle.script_session.specs.Visible.{IsSeenAs, NoneSaysMemory, TellsNoMemory, is_visible};
 
-use board_certificates::laws::all_best;
+use board_certificates::laws::{all_best, all_certified};
 
 /// Where memory suffices for a line other than `go`, `plan` and `move`, its answer and what it leads to are a
 /// function of the session, the line's number and the line.
@@ -55,9 +55,13 @@ pub fn histories_grow()
         → GoesOn old.board new.board }
 {}
 
-/// The plan of each certificate of a session's board is best for the certificate's problem.
+/// The plan of each certificate of a session's board is best for the certificate's problem, and its proofs hold.
 pub fn certificates_are_best()
-    ensures { (board : Option BoardData) → IsKeptAt board → All (λ c. IsBest c.problem c.plan) (certificates_at board) }
+    ensures best { (board : Option BoardData) → IsKeptAt board
+        → All (λ c. IsBest c.problem c.plan) (certificates_at board) }
+    ensures certified { (board : Option BoardData) → IsKeptAt board
+        → All (λ c. IsCertified c.problem c.plan) (certificates_at board) }
 {
     all_best();
+    all_certified();
 }

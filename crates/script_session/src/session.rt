@@ -127,7 +127,7 @@ impl<'r, J: Naming, M: Publisher<J>, R: Threads> Session<'r, J, M, R> {
         let Some(writer) = proofs else {
             return Ok(());
         };
-        write_certificates(alloc, board.board().history(), writer)
+        write_certificates(alloc, board.board(), writer)
     }
 
     // Makes the board. Where memory is refused, its parts are kept.

@@ -78,6 +78,37 @@ fn certificates_hold(rt: HostRuntime) {
     all_hold_so(&rt, rt.alloc(), &bytes, &[4, 4, 94]);
 }
 
+/// Before the plan `/c` is pinned and `/gone` removed. After it `/a/b` is removed, and its name given again.
+const NAMED: &str =
+    "ranks 2\nmask 0x3\ndir /a 1\ndir /a/b 2\ndir /c 3\ndir /c/e 1\ndir /gone 1\nrmdir /gone\n\
+    dir /d-of-17-bytes-xyz 4\npin /c 1\nload /a 5\ngo\nplan\nrmdir /a/b\ndir /b 1\n";
+
+const NAMES: &[&str] = &["/", "a", "b", "d-of-17-bytes-xyz"];
+
+/// The names of a certificate are these.
+fn has_names(rt: &impl Abort, certificate: &Certificate, wanted: &[&str]) {
+    let Some(names) = &certificate.names else {
+        panic!(rt; "it has no names")
+    };
+    same(rt, &names.as_slice().len(), &wanted.len());
+    for (name, wanted) in names.as_slice().iter().zip(wanted) {
+        same(rt, &name.as_str(), wanted);
+    }
+}
+
+#[test]
+fn rows_have_the_names_of_their_directories(rt: HostRuntime) {
+    let (told, bytes) = written(&rt, rt.alloc(), NAMED, 4096, ENOUGH);
+    holds_in(&rt, told == Ok(()), &"one plan");
+    let Ok(certificates) = read(rt.alloc(), &bytes) else {
+        panic!(&rt; "it is a certificate")
+    };
+    same(&rt, &certificates.len(), &1);
+    for certificate in certificates.iter() {
+        has_names(&rt, certificate, NAMES);
+    }
+}
+
 /// Scripts that adopt no plan.
 const NO_PLAN: &[&str] = &["", "ranks 1\ndir /a 1\nplan\n"];
 
