@@ -33,7 +33,7 @@ use Rattle.mds_board.specs.declared.entry.Entry as history
 use Rattle.mds_board.specs.declared.history.Shown.{Shown}
 use Rattle.mds_board.specs.declared.history.Shown.TheVariants as shown
 use Rattle.mds_board.specs.Stored.{shown_entry}
-use Rattle.plan_text.specs.Names.{IsRowName, is_row_name}
+use Rattle.plan_text.specs.RowNames.{IsRowName, is_row_name}
 use Rattle.std.proofs.Common.{to_z, of_z, w32}
 use Rattle.std.proofs.Math.Seq.{take-suc}
 use Rattle.std.proofs.lemmas.Bool.{ltb-true}

@@ -11,14 +11,14 @@ use crate::replay::Replay;
 use board_state::Answer;
 use mds_board::Shown;
 use mds_types::Problem;
-use plan_text::Names;
+use plan_text::RowNames;
 use std::alloc::{AllocError, Global};
 
 /// A problem that was opened, and the names of its rows at that time.
 #[derive(Drop)]
 pub struct Posed<'h> {
     pub problem: &'h Problem,
-    pub names: Names,
+    pub names: RowNames,
 }
 
 // The problem that was opened last, once this reply was given.

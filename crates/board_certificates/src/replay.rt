@@ -4,14 +4,14 @@ ghost use Rattle.board_certificates.specs.Certificates.{row_name, row_names};
 ghost use Rattle.board_certificates.specs.Replayed.{IsNext, IsReplayed, made_names};
 ghost use Rattle.board_state.specs.State.{State, next, refusal, start};
 ghost use Rattle.dir_pins.specs.Pins.{pin_refusal, with_pin};
-ghost use Rattle.plan_text.specs.Names.{IsRowName};
+ghost use Rattle.plan_text.specs.RowNames.{IsRowName};
 ghost use Rattle.dirtree.specs.Tree.{is_there, remove_refusal, with_child, without};
 
 use board_state::Change;
 use dir_pins::Pins;
 use dirtree::Tree;
 use mds_types::Dir;
-use plan_text::Names;
+use plan_text::RowNames;
 use std::alloc::{AllocError, Global};
 
 /// The tree and the pins after some entries of a history.
@@ -102,11 +102,11 @@ impl<'h> Replay<'h> {
     }
 
     /// The names of the rows of the problem that is opened now.
-    pub fn row_names(&self, alloc: Global) -> Result<Names, AllocError>
+    pub fn row_names(&self, alloc: Global) -> Result<RowNames, AllocError>
         requires { (s : State) × IsReplayed s self.now }
         ensures { IfOk result (λ names. (s : State) → IsReplayed s self.now → names ≡ row_names s) }
     {
-        let mut names = Names::new(alloc);
+        let mut names = RowNames::new(alloc);
         let dirs = self.pins.unpinned(alloc, &self.tree)?;
         for dir in dirs.as_slice() {
             names.push(alloc, self.name(*dir))?;

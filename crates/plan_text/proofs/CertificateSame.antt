@@ -14,7 +14,7 @@ use Rattle.mds_types.specs.declared.problem.ProblemRow.{ProblemRow}
 use Rattle.mds_types.specs.Plan.{PlanData}
 use Rattle.mds_types.specs.Problem.{ProblemData}
 use Rattle.plan_text.specs.declared.certificate.Certificate.{Certificate}
-use Rattle.plan_text.specs.Names.{IsRowName}
+use Rattle.plan_text.specs.RowNames.{IsRowName}
 use Rattle.plan_text.specs.Text.{cell_line, cut_lines, dual_lines, head_lines, line, mask_line, name_line, number_line, label_line, place_lines, whole_plan_lines, price_line, problem_lines, rank_line, row_line, sum_lines, table, text, texts}
 use Rattle.plan_text.specs.Writable.{FitsCell, FitsCut, FitsList, FitsPart, FitsPlan, FitsPrice, FitsProblem, FitsRank, FitsRow, IsWritable}
 use Rattle.plan_text.proofs.LineSame.{IsField, decimal_field, differ, hex_field, line_same, signed_field}

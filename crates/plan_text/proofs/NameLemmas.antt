@@ -8,8 +8,8 @@ use Rattle.std.proofs.lemmas.Bool.Decides.{nat_tests}
 use Rattle.std.proofs.lemmas.Slice.Eq.{bytes_eq-Decides}
 use Rattle.std.proofs.lemmas.Str.{IsUtf8-from_ascii, is_utf8-from_IsUtf8}
 use Rattle.dirtree.specs.Name.{has_name_length, is_dots, is_name, is_name_byte}
-use Rattle.plan_text.specs.Fields.{name_in, row_name}
-use Rattle.plan_text.specs.Names.{IsRowName, is_row_name}
+use Rattle.plan_text.specs.Fields.{checked_name, name_in}
+use Rattle.plan_text.specs.RowNames.{IsRowName, is_row_name}
 use Rattle.plan_text.proofs.LineSame.{IsField, is_inside}
 
 -- the slash, or bytes that are seen in print
@@ -54,4 +54,4 @@ pub row_name_again : (name : List ℕ) → IsRowName name → name_in name ≡ S
 unfolding name_in
 row_name_again name h =
     let text = is_utf8-from_IsUtf8 name (IsUtf8-from_ascii name (name_ascii name h)) in
-    ap (λ (b : Bool). cond b (row_name name) None) text ∙ ap (λ (b : Bool). cond b (Some name) None) h
+    ap (λ (b : Bool). cond b (checked_name name) None) text ∙ ap (λ (b : Bool). cond b (Some name) None) h

@@ -20,7 +20,7 @@ use Rattle.plan_text.specs.declared.certificate.Certificate.{Certificate}
 use Rattle.plan_text.specs.declared.parser.Fault.{Fault}
 use Rattle.plan_text.specs.declared.parser.Fault.TheVariants.{Memory, Expected}
 use Rattle.plan_text.specs.Fields.{Read, ends_field, mask_in, name_in, signed_in, read_value, behind_word}
-use Rattle.plan_text.specs.Names.{IsRowName}
+use Rattle.plan_text.specs.RowNames.{IsRowName}
 use Rattle.plan_text.specs.Reading.{Fails, IsMemory, read_cell, read_cells, read_counted, read_cut, cut_of, read_dual, read_end, read_first, read_heavy, read_label, read_lines, read_mask, read_name, read_names, read_number, read_plan, read_price, read_rank, read_ranks, read_row, read_table, version_of, with_front}
 use Rattle.plan_text.specs.Text.{cell_line, cut_lines, head_lines, line, mask_line, name_line, number_line, label_line, whole_plan_lines, price_line, problem_lines, rank_line, row_line, table, text}
 use Rattle.plan_text.specs.Writable.{FitsCell, FitsCut, FitsList, FitsPart, FitsPlan, FitsPrice, FitsProblem, FitsRank, FitsRow, IsWritable}

@@ -7,7 +7,7 @@ use Rattle.std.specs.List.{after_first, before_first, list_all}
 use Rattle.std.specs.Str.{bytes_eq, is_utf8}
 use Rattle.std.specs.Str.Parse.{digits_value, starts_with_minus, without_leading_plus}
 use Rattle.mds_types.specs.Mask.{mask_bits}
-use Rattle.plan_text.specs.Names.{is_row_name}
+use Rattle.plan_text.specs.RowNames.{is_row_name}
 
 -- a value and the text behind it
 abbrev pub Read : Type 0 → Type 0
@@ -61,9 +61,9 @@ unfoldable pub mask_in : List ℕ → Option ℕ
 mask_in field = if is_utf8 field then mask_bits field else None
 
 -- a name of a row's directory
-abbrev pub row_name : List ℕ → Option (List ℕ)
-row_name text = if is_row_name text then Some text else None
+abbrev pub checked_name : List ℕ → Option (List ℕ)
+checked_name text = if is_row_name text then Some text else None
 
 -- the name that a field writes
 unfoldable pub name_in : List ℕ → Option (List ℕ)
-name_in field = if is_utf8 field then row_name field else None
+name_in field = if is_utf8 field then checked_name field else None

@@ -1,5 +1,5 @@
 pub mod Fields
-pub mod Names
+pub mod RowNames
 pub mod Reading
 pub mod Text
 pub mod Writable

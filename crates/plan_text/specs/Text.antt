@@ -1,6 +1,7 @@
 -- The text of a certificate: a problem, the names of its directories, a plan for it and the plan's proofs, as lines of
 -- fields.
-use Rattle.std.specs.Prelude.{ℕ, ℤ, List, [], ◌∷◌, ◌++◌, false, length, codes, decimal, if◌then◌else◌, Option, Some, None}
+use Rattle.std.specs.Prelude.{ℕ, ℤ, List, [], ◌∷◌, ◌++◌, false, length, codes, decimal}
+use Rattle.std.specs.Prelude.{if◌then◌else◌, Option, Some, None}
 use Rattle.std.specs.Fmt.{digits, signed_decimal}
 use Rattle.std.specs.List.{flat_map}
 use Rattle.plan_text.specs.declared.certificate.Certificate.{Certificate}

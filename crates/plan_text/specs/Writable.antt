@@ -7,7 +7,7 @@ use Rattle.mds_types.specs.declared.cut_proof.Row.{Row}
 use Rattle.mds_types.specs.declared.problem.ProblemRow.{ProblemRow}
 use Rattle.mds_types.specs.Plan.{PlanData}
 use Rattle.mds_types.specs.Problem.{IsProblem, ProblemData}
-use Rattle.plan_text.specs.Names.{IsRowName}
+use Rattle.plan_text.specs.RowNames.{IsRowName}
 use Rattle.plan_text.specs.declared.certificate.Certificate.{Certificate}
 
 pub record FitsRow (row : ProblemRow) : Type 0 where

@@ -3,10 +3,10 @@ ghost use Rattle.std.specs.Prelude.{◌≡◌, ◌≤◌, ◌^◌, length, neg_�
 ghost use Rattle.std.specs.List.{after_first, before_first, position_or_len};
 ghost use Rattle.std.specs.Str.Parse.{starts_with_minus};
 ghost use Rattle.plan_text.specs.Fields.{ends_field, number_in, number_within, read_view, signed_in, read_value};
-ghost use Rattle.plan_text.specs.Fields.{behind_word, name_in, row_name};
-ghost use Rattle.plan_text.specs.Names.{IsRowName};
+ghost use Rattle.plan_text.specs.Fields.{behind_word, checked_name, name_in};
+ghost use Rattle.plan_text.specs.RowNames.{IsRowName};
 
-use crate::names::is_row_name;
+use crate::row_names::is_row_name;
 
 /// Whether a byte ends a field.
 fn ends_field(byte: u8) -> bool
@@ -119,8 +119,8 @@ pub(crate) fn signed(text: &[u8]) -> Option<(i64, &[u8])>
 }
 
 /// The text, where it may name the directory of a row.
-fn row_name(text: &str) -> Option<&str>
-    ensures value { option_map (λ name. name.now) result ≡ row_name text.now }
+fn checked_name(text: &str) -> Option<&str>
+    ensures value { option_map (λ name. name.now) result ≡ checked_name text.now }
     ensures name { IfSome result (λ name. IsRowName name.now) }
 {
     if is_row_name(text) { Some(text) } else { None }
@@ -132,7 +132,7 @@ fn name_in(field: &[u8]) -> Option<&str>
     ensures name { IfSome result (λ name. IsRowName name.now) }
 {
     match str::from_utf8(field) {
-        Ok(text) => row_name(text),
+        Ok(text) => checked_name(text),
         Err(_) => None,
     }
 }

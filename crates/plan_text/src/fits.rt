@@ -1,11 +1,11 @@
 //! What the types of a certificate's values say of its numbers.
 ghost use Rattle.std.specs.Prelude.{◌<◌, ◌^◌, All, IfSome, option_map};
-ghost use Rattle.plan_text.specs.Names.{IsRowName};
+ghost use Rattle.plan_text.specs.RowNames.{IsRowName};
 ghost use Rattle.plan_text.specs.Writable.{FitsCut, FitsList, FitsPlan, FitsProblem, IsNamed, IsWritable};
 
 use crate::certificate::Certificate;
 use crate::line::Line;
-use crate::names::Names;
+use crate::row_names::RowNames;
 use mds_types::{CutProof, Plan, Problem};
 
 /// Each value of a list is within its type.
@@ -58,7 +58,7 @@ pub(crate) fn plan_fits(plan: &Plan)
 }
 
 /// The names are those of directories.
-pub(crate) fn names_fit(names: Option<&Names>)
+pub(crate) fn names_fit(names: Option<&RowNames>)
     ensures { IfSome (option_map (λ names. names.now) names.entry) (λ names. All IsRowName names) }
 {
     if let Some(names) = names {

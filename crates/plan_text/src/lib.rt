@@ -41,14 +41,14 @@ mod fields;
 mod fits;
 pub mod laws;
 mod line;
-pub mod names;
 mod parser;
 pub mod read_error;
 pub mod reader;
+pub mod row_names;
 pub mod writer;
 
 pub use certificate::Certificate;
-pub use names::Names;
 pub use read_error::{Expected, ReadError};
 pub use reader::read;
+pub use row_names::RowNames;
 pub use writer::certificate_text;

@@ -3,7 +3,7 @@ ghost use Rattle.std.specs.Prelude.{◌≡◌, ◌++◌, ℕ, IfOk, IfSome, List
 ghost use Rattle.mds_types.specs.Problem.{ProblemData};
 ghost use Rattle.plan_text.specs.Fields.{mask_in, read_view};
 ghost use Rattle.plan_text.specs.Reading.{Returns, Reads, read_cells, read_counted, read_cut, cut_of, read_dual};
-ghost use Rattle.plan_text.specs.Names.{IsRowName};
+ghost use Rattle.plan_text.specs.RowNames.{IsRowName};
 ghost use Rattle.plan_text.specs.Reading.{read_end, read_name, read_names, version_of};
 ghost use Rattle.plan_text.specs.Reading.{read_first, read_heavy, read_lines, read_mask, read_plan, read_ranks};
 ghost use Rattle.plan_text.specs.Reading.{read_table};
@@ -14,8 +14,8 @@ ghost use Rattle.plan_text.specs.declared.certificate.Certificate.{Certificate};
 use crate::certificate::Certificate;
 use crate::fields::{field, name, number, word};
 use crate::line::Line;
-use crate::names::Names;
 use crate::read_error::Expected;
+use crate::row_names::RowNames;
 use arrayvec::ArrayVec;
 use mds_types::{CutProof, CutTable, DualProof, Plan, Problem, Rank, RankSet};
 use std::alloc::{AllocError, AllocFailed, Global};
@@ -281,11 +281,11 @@ fn name_line(text: &[u8]) -> Option<(&str, &[u8])>
 }
 
 /// The names of this many rows.
-fn name_lines(alloc: Global, text: &[u8], rows: usize) -> Result<(Names, &[u8]), Fault>
+fn name_lines(alloc: Global, text: &[u8], rows: usize) -> Result<(RowNames, &[u8]), Fault>
     ensures names { Reads (λ names. names) result (read_lines read_name rows text.now) }
     ensures size { IfOk result (λ found. length found.0 ≡ rows) }
 {
-    let mut names = Names::new(alloc);
+    let mut names = RowNames::new(alloc);
     let mut rest = text;
     for _ in 0..rows {
         match name_line(rest) {
@@ -306,7 +306,7 @@ fn names(
     text: &[u8],
     is_named: bool,
     rows: usize,
-) -> Result<(Option<Names>, &[u8]), Fault>
+) -> Result<(Option<RowNames>, &[u8]), Fault>
     ensures names { Reads (λ names. names) result (read_names is_named rows text.now) }
     ensures size { IfOk result (λ found. IfSome found.0 (λ names. length names ≡ rows)) }
 {

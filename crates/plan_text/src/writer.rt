@@ -8,7 +8,7 @@ ghost use Rattle.plan_text.specs.Writable.{IsNamed, IsWritable};
 
 use crate::fits::{names_fit, plan_fits, problem_fits};
 use crate::line::Line;
-use crate::names::Names;
+use crate::row_names::RowNames;
 use dirtree::Name;
 use mds_types::limits::RANK_LIMIT;
 use mds_types::{CutProof, DualProof, Plan, Problem, Rank, RankSet};
@@ -164,7 +164,11 @@ fn name_line(alloc: Global, name: &str) -> Result<String, AllocError>
 }
 
 /// The lines down to those of the plan.
-fn head_lines(alloc: Global, problem: &Problem, names: Option<&Names>) -> Result<String, AllocError>
+fn head_lines(
+    alloc: Global,
+    problem: &Problem,
+    names: Option<&RowNames>,
+) -> Result<String, AllocError>
     ensures { IfOk result (λ made. string_bytes made ≡ head_lines problem.now (option_map
         (λ names. names.now) names.entry)) }
 {
@@ -188,7 +192,7 @@ fn head_lines(alloc: Global, problem: &Problem, names: Option<&Names>) -> Result
 pub fn certificate_text(
     alloc: Global,
     problem: &Problem,
-    names: Option<&Names>,
+    names: Option<&RowNames>,
     plan: &Plan,
 ) -> Result<String, AllocError>
     requires { IsNamed (record {

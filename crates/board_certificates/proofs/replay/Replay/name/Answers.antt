@@ -1,5 +1,5 @@
 use Rattle.std.proofs.Common.{◌∙◌, ℕ, ap, get_or, subst, sym}
-use Rattle.plan_text.specs.Names.{IsRowName}
+use Rattle.plan_text.specs.RowNames.{IsRowName}
 use Rattle.board_certificates.proofs.ReplayLemmas.{name_is, row_is_named}
 use Rattle.board_certificates.proofs.replay.Replay.name.Goals as goal
 

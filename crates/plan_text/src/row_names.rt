@@ -1,13 +1,13 @@
 //! The names of the directories of a problem's rows.
 ghost use Rattle.std.specs.Prelude.{◌≡◌};
-ghost use Rattle.plan_text.specs.Names.{is_row_name};
+ghost use Rattle.plan_text.specs.RowNames.{is_row_name};
 
 use dirtree::{Name, is_name};
 use std::alloc::{AllocError, Global};
 use std::marker::Model;
 
 /// Whether a text may name the directory of a row: a directory's name, or `/` for the root.
-#[tactic(auto, unfolding(crate::specs::Names::is_row_name))]
+#[tactic(auto, unfolding(crate::specs::RowNames::is_row_name))]
 pub fn is_row_name(text: &str) -> bool
     ensures { result ≡ is_row_name text.now }
 {
@@ -16,13 +16,13 @@ pub fn is_row_name(text: &str) -> bool
 
 /// The names of the directories of rows, in the order of the rows. To a contract it is the list of them.
 #[derive(Drop)]
-pub struct Names {
+pub struct RowNames {
     names: Vec<Name>,
 }
 
-impl Model for Names {
+impl Model for RowNames {
     ghost use Rattle.std.specs.Prelude.{All, List, ℕ};
-    ghost use Rattle.plan_text.specs.Names.{IsRowName};
+    ghost use Rattle.plan_text.specs.RowNames.{IsRowName};
 
     ghost Value = { List (List ℕ) };
 
@@ -31,15 +31,15 @@ impl Model for Names {
     ghost invariant = { λ names. All IsRowName names.names.items };
 }
 
-impl Names {
+impl RowNames {
     ghost use Rattle.std.specs.Prelude.{◌≡◌, ◌++◌, ◌∷◌, [], All, OnErr, OnOk};
-    ghost use Rattle.plan_text.specs.Names.{IsRowName};
+    ghost use Rattle.plan_text.specs.RowNames.{IsRowName};
 
     /// No name.
-    pub fn new(alloc: Global) -> Names
+    pub fn new(alloc: Global) -> RowNames
         ensures { result ≡ [] }
     {
-        Names {
+        RowNames {
             names: Vec::new(alloc),
         }
     }
