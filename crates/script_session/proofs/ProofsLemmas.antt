@@ -1,19 +1,15 @@
 -- The certificates of a session's board, or of none.
 use Rattle.std.proofs.Common.{◌≡◌, ℕ, All, Bool, List, [], Option, None, Some, Ok, Err, IfOk, IsErrOf}
-use Rattle.std.specs.Prelude.{IfSome, OnErr, OnOk, Result}
-use Rattle.std.specs.Io.KnownBytes.{Appends}
+use Rattle.std.specs.Prelude.{IfSome}
 use Rattle.std.proofs.KnownBytes.{Appends-nil}
 use Rattle.std.proofs.lemmas.List.Elements.{All-nil}
 use Rattle.board_certificates.specs.Certificates.{certificates_of}
-use Rattle.board_certificates.specs.declared.unwritten.Unwritten.{Unwritten}
 use Rattle.mds_board.specs.History.{World}
 use Rattle.mds_board.specs.Promises.{IsKept}
-use Rattle.plan_text.specs.Text.{texts}
 use Rattle.plan_text.specs.Writable.{IsWritable}
 use Rattle.plan_text.specs.declared.certificate.Certificate.{Certificate}
 use Rattle.script_board.specs.Board.{BoardData}
 use Rattle.script_engine.specs.Devices.{Reading}
-use Rattle.script_engine.specs.Known.{AppendsFront}
 use Rattle.script_engine.specs.declared.driver.RunError.{RunError}
 use Rattle.script_engine.specs.declared.driver.RunError.TheVariants.{Memory, Read, Write}
 use Rattle.script_session.specs.Ending.{IsRunOf}
@@ -29,14 +25,6 @@ if_known (Some bytes) a = a
 -- no certificate is one that can be read again
 pub readable : (before : Option (List ℕ)) → IfSome before (λ bytes. All IsWritable [])
 readable before = if_known before (All-nil IsWritable)
-
--- what a writer says of the certificates of a board
-pub proved : {A : Type 0} (told : Result A Unwritten) (before after : Option (List ℕ)) (board : Option BoardData)
-    → OnOk told (Appends before after (texts (certificates_at board))) → OnOk told (All IsWritable (certificates_at board))
-    → OnErr told (AppendsFront before after (texts (certificates_at board)))
-    → IsProved told before after board
-proved (Ok a) before after board written writable begun = ((written, if_known before writable), begun)
-proved (Err e) before after board written writable begun = (tt, begun)
 
 -- there are none where a run found no memory to begin with
 pub none_proved : (ended : Ended) (before : Option (List ℕ)) (Leads : SessionData → Bool → Type 0) → ended ≡ record { answered = Err Memory; proved = Ok tt }
