@@ -1,5 +1,5 @@
 -- How a run ended before its script did, and what its certificates prove.
-use Rattle.std.proofs.Common.{◌≡◌, ◌⊎◌, ℕ, All, Bool, List, [], ◌∷◌, Option, Some, Result, Err, inl, inr, subst, arith}
+use Rattle.std.proofs.Common.{◌≡◌, ℕ, Bool, List, [], Option, Result, Err, inl, inr, subst}
 use Rattle.clap.specs.Words.{Text, fault_of}
 use Rattle.command_line.specs.CommandLine.{is_strict, limit_of, mdbal}
 use Rattle.script_engine.specs.Devices.{Reading}
@@ -7,12 +7,7 @@ use Rattle.script_engine.specs.Runs.{Gives}
 use Rattle.script_engine.specs.declared.driver.RunError.{RunError}
 use Rattle.script_engine.specs.declared.driver.RunError.TheVariants.{Memory, Read, Write}
 use Rattle.script_session.specs.Script.{SomeAnswered, WholeAnswered}
-use Rattle.certificate_judge.specs.Judged.{AllHold}
-use Rattle.mds_types.specs.Certificate.{IsCertified}
-use Rattle.plan_text.specs.Text.{texts}
-use Rattle.plan_text.specs.Writable.{IsWritable}
-use Rattle.plan_text.specs.declared.certificate.Certificate.{Certificate}
-use Rattle.script_program.specs.Exit.{AreProved, IsExit, IsRun, run_status}
+use Rattle.script_program.specs.Exit.{IsExit, IsRun, run_status}
 
 pub broken_off : {R : Type 0} (remaining : R → Option (List ℕ)) (limit : ℕ) (strict : Bool) (old new : Reading R) (before after : Option (List ℕ)) (f : RunError) (r : Result Bool RunError) (status : ℕ)
     → r ≡ Err f → status ≡ run_status f
@@ -34,11 +29,3 @@ exits remaining words old new before after limit strict status accepted is_limit
       subst (λ (n : ℕ). IsRun remaining n (is_strict words) old new before after status) is_limit
           (subst (λ (b : Bool). IsRun remaining limit b old new before after status) is_strictness ran),
     )
-
-judged : (cs : List Certificate) (after : List ℕ) → All (λ c. IsCertified c.problem c.plan) cs → All IsWritable cs → after ≡ texts cs → (after ≡ []) ⊎ AllHold after
-judged [] after certified fits is = inl is
-judged (c ∷ cs) after certified fits is = inr (c ∷ cs, record { writable = fits; same = is; some = omega arith }, certified)
-
--- what is written to an empty file, if it is anything, are certificates that all hold
-pub judged_yes : (after : List ℕ) → AreProved (Some []) (Some after) → (after ≡ []) ⊎ AllHold after
-judged_yes after proved = judged proved.0 after proved.2 proved.3 proved.4

@@ -2,7 +2,6 @@
 #![tactic(auto)]
 
 mod hints;
-pub mod laws;
 pub mod program;
 
 pub use program::start;
