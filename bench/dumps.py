@@ -59,8 +59,10 @@ def main():
     paths, ranks = tree(n, rng)
     heats = [1000 / place for place in range(1, n + 1)]
     rng.shuffle(heats)
-    members = {"max_mds": RANKS, "in": list(range(RANKS)), "bal_rank_mask": "-1"}
+    daemons = {f"gid_{100 + rank}": {"rank": rank, "state": "up:active"} for rank in range(RANKS)}
+    members = {"max_mds": RANKS, "in": list(range(RANKS)), "info": daemons, "bal_rank_mask": "-1"}
     write(f"{folder}/fs.json", json.dumps({"mdsmap": members, "id": 1}))
+    write(f"{folder}/complete", "lab 0d2c6f0e-1a53-4c3c-9d83-5f6a1d1f2a77\n")
     for rank in range(RANKS):
         mine = [number for number in range(n) if ranks[number] == rank]
         fragments = [fragment(paths[number], number, heats[number], rng) for number in mine]
