@@ -1,7 +1,8 @@
 #!/usr/bin/env python3
 """Writes a script of n directories, n loads and a `go`, and then what is asked: scripts.py SHAPE WHAT N [SEED].
 
-WHAT: cost (of 1,000 tops), stat (a tick and a report), plan, hits (60,000,000 of them in the loads).
+WHAT: cost (of 1,000 tops), stat (a tick and a report), plan, replan (a plan, its moves, n // 10 more loads, and a plan again),
+hits (60,000,000 of them in the loads).
 
 Shapes: fs (broad and shallow, as a file system's top), usr (deeper, names of several letters), star (all below the root).
 """
@@ -39,6 +40,9 @@ def main():
         lines += ["tick", "stat"]
     elif what == "plan":
         lines.append("plan")
+    elif what == "replan":
+        loads = [f"load {rng.choice(paths) or '/'} {1 + rng.randrange(1000)}" for _ in range(n // 10)]
+        lines += ["plan", "move", *loads, "go", "plan"]
     else:
         lines.append("cost " + " ".join(rng.sample(paths[1:], min(1000, n - 1))))
     print("\n".join(lines))

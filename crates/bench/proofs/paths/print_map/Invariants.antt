@@ -1,5 +1,0 @@
-use Rattle.naming.specs.Names.{no_table}
-use Rattle.bench.proofs.paths.print_map.Given as goal
-
-abbrev pub ghosts-time_map : goal.ghosts-time_map
-ghosts-time_map g a = record { ledger = no_table; limit = a.limit; map = a.opened }

@@ -1,0 +1,67 @@
+//! Times phases of the ranks' threads and the same work on one thread.
+//!
+//! `serve RANKS HITS` serves 10,000 requests of so many hits, which the ranks share evenly, rank k on its directory k;
+//! with no hits there is no request. `export RANKS` moves directories from each rank to the next, 65,536 in all. Each
+//! prints a line for a thread a rank and a line for one thread: nanoseconds of wall time, the least of several runs.
+
+mod opened;
+mod timing;
+mod work;
+
+ghost use Rattle.std.specs.Prelude.{◌≤◌};
+
+use crate::phases::opened::time_named;
+use crate::phases::timing::Phase;
+use crate::phases::work::Work;
+use crate::times::RUNS;
+use crate::words::{number_at, print, word_at};
+use std::alloc::Global;
+use std::io::{self, Write};
+use std::marker::Sync;
+use std::sync::Wait;
+use std::thread::Threads;
+use std::time::Clock;
+
+// The least time of a phase.
+fn least<R: Threads + Wait + Clock + Sync>(rt: &R, alloc: Global, ranks: u8, phase: Phase) -> u64
+    requires ranks { (1 ≤ ranks) × (ranks ≤ 64) }
+{
+    let mut least = u64::MAX;
+    for _ in 0..RUNS {
+        least = time_named(rt, alloc, ranks, phase).min(least);
+    }
+    least
+}
+
+// What a word asks for.
+fn work_of(word: &str, hits: u32) -> Option<Work> {
+    match word {
+        "serve" => Some(Work::Serve(hits)),
+        "export" => Some(Work::Export),
+        _ => None,
+    }
+}
+
+/// Carries out what the words ask for.
+pub fn run<R: Threads + Wait + Clock + Sync, W: Write>(
+    rt: &R,
+    alloc: Global,
+    out: &mut W,
+    words: &[String],
+) -> io::Result<()> {
+    let ranks = u8::try_from(number_at(words, 2)).unwrap_or(0);
+    let Some(work) = work_of(word_at(words, 1), number_at(words, 3)) else {
+        return Ok(());
+    };
+    if ranks < 1 || ranks > 64 {
+        return Ok(());
+    }
+    for (name, by_threads) in [("threads", true), ("one_thread", false)] {
+        print(
+            out,
+            name,
+            least(rt, alloc, ranks, Phase { work, by_threads }),
+        )?;
+    }
+    Ok(())
+}

@@ -1,0 +1,215 @@
+//! Phases on a new board.
+ghost use Rattle.std.specs.Prelude.{◌≡◌, ◌≤◌};
+
+use crate::phases::work::{Work, asked, deal, parent_of, pass_on, rank, scripts};
+use crate::times::nanos;
+use authority_map::Publisher;
+use export_machine::{Event, Reply};
+use export_rounds::carry_out_orders;
+use heat_ledger::Share;
+use mds_board::Board;
+use mds_types::limits::DIR_LIMIT;
+use mds_types::{Dir, Order};
+use naming::Naming;
+use rank_threads::{OpenGate, export_phase, serve_phase};
+use std::alloc::Global;
+use std::marker::{Send, Sync};
+use std::sync::Wait;
+use std::thread::Threads;
+use std::time::{Clock, Duration};
+
+/// A phase, in threads or on one thread.
+#[derive(Clone, Copy)]
+pub struct Phase {
+    pub work: Work,
+    pub by_threads: bool,
+}
+
+// The wall time, or nothing where the system doesn't tell it.
+fn wall<C: Clock>(rt: &C) -> Duration {
+    rt.monotonic().unwrap_or(Duration::ZERO)
+}
+
+// Nanoseconds of wall time since an earlier reading of the clock.
+fn wall_since<C: Clock>(rt: &C, start: Duration) -> u64 {
+    nanos(wall(rt).saturating_sub(start))
+}
+
+// Makes a directory, and says whether that was done.
+fn make_one<J: Naming, M: Publisher<J>>(
+    alloc: Global,
+    board: &mut Board<J, M>,
+    parent: Dir,
+    number: u32,
+) -> bool {
+    match format!(in alloc; "d{number}") {
+        Ok(name) => board.make(alloc, parent, name.as_str(), 1).is_ok(),
+        Err(_) => false,
+    }
+}
+
+// Makes so many directories, the root with them, and gives each rank those of its own. It says whether that was done.
+fn make<J: Naming, M: Publisher<J>>(
+    alloc: Global,
+    board: &mut Board<J, M>,
+    ranks: u8,
+    dirs: u32,
+) -> bool {
+    let mut done = true;
+    for number in 1..dirs {
+        done &= make_one(alloc, board, parent_of(ranks, dirs, number), number);
+    }
+    match deal(alloc, ranks, dirs) {
+        Ok(orders) => done && carry_out_orders(board, alloc, &orders).is_ok(),
+        Err(_) => false,
+    }
+}
+
+fn serve_alone<J: Naming, M: Publisher<J>>(
+    alloc: Global,
+    board: &mut Board<J, M>,
+    number: u8,
+    script: &[rank_threads::Work],
+    share: &mut Share<J>,
+) {
+    for work in script {
+        if let Ok(Reply::Ticket(ticket)) = board.begin(share, rank(number), work.dir) {
+            for _ in 0..work.hits {
+                let _ = share.hit(work.dir);
+            }
+            let _ = board.step(alloc, Event::End(ticket));
+        }
+    }
+    let _ = board.deposit(alloc, share);
+}
+
+fn serve<J: Naming + Send + Sync, M: Publisher<J> + Send, R: Threads + Wait + Sync>(
+    rt: &R,
+    alloc: Global,
+    mut board: Board<J, M>,
+    scripts: &[Vec<rank_threads::Work>],
+    mut shares: Vec<Share<J>>,
+    by_threads: bool,
+) -> Board<J, M> {
+    if by_threads && scripts.len() <= 64 && shares.len() == scripts.len() {
+        let (after, _ranks) = serve_phase(rt, alloc, board, &OpenGate, scripts, shares);
+        return after;
+    }
+    let mut number: u8 = 0;
+    for (script, share) in scripts.iter().zip(shares.iter_mut()) {
+        serve_alone(alloc, &mut board, number, script, share);
+        number = number.wrapping_add(1);
+    }
+    board
+}
+
+// How many hits the board counts on the directories of the ranks.
+fn counted<J: Naming, M: Publisher<J>>(board: &Board<J, M>, ranks: u8) -> u64 {
+    let mut counted: u64 = 0;
+    for number in 0..ranks {
+        counted = counted.saturating_add(board.counted(Dir::new(u32::from(number) + 1)));
+    }
+    counted
+}
+
+// The time of a phase of requests, each of which has to be served.
+fn time_serve<J: Naming + Send + Sync, M: Publisher<J> + Send, R: Threads + Wait + Clock + Sync>(
+    rt: &R,
+    alloc: Global,
+    board: Board<J, M>,
+    shares: Vec<Share<J>>,
+    scripts: &[Vec<rank_threads::Work>],
+    wanted: u64,
+    by_threads: bool,
+) -> u64 {
+    let start = wall(rt);
+    let board = serve(rt, alloc, board, scripts, shares, by_threads);
+    let time = wall_since(rt, start);
+    let is_served = counted(&board, scripts.len().min(64) as u8) == wanted;
+    board.end();
+    if is_served { time } else { u64::MAX }
+}
+
+fn export<J: Naming + Send + Sync, M: Publisher<J> + Send, R: Threads + Wait + Sync>(
+    rt: &R,
+    alloc: Global,
+    mut board: Board<J, M>,
+    orders: &[Order],
+    by_threads: bool,
+) -> Board<J, M> {
+    if by_threads {
+        let (after, _outcomes) = export_phase(rt, alloc, board, &OpenGate, orders);
+        return after;
+    }
+    let _outcomes = carry_out_orders(&mut board, alloc, orders);
+    board
+}
+
+// Whether each order's first directory is where the order takes it.
+fn are_there<J: Naming, M: Publisher<J>>(board: &Board<J, M>, orders: &[Order]) -> bool {
+    let mut all = true;
+    for order in orders {
+        if let Some(dir) = order.dirs.as_slice().first() {
+            all &= board.cluster().authority(*dir) == Some(order.to);
+        }
+    }
+    all
+}
+
+// The time of a phase of exports, each of which has to be done.
+fn time_export<J: Naming + Send + Sync, M: Publisher<J> + Send, R: Threads + Wait + Clock + Sync>(
+    rt: &R,
+    alloc: Global,
+    board: Board<J, M>,
+    orders: &[Order],
+    by_threads: bool,
+) -> u64 {
+    let start = wall(rt);
+    let board = export(rt, alloc, board, orders, by_threads);
+    let time = wall_since(rt, start);
+    let is_done = are_there(&board, orders);
+    board.end();
+    if is_done { time } else { u64::MAX }
+}
+
+/// The nanoseconds of wall time of a phase on a new board, and the board's end. In a phase of exports each rank gives
+/// its directories to the next.
+pub fn time_phase<
+    J: Naming + Send + Sync,
+    M: Publisher<J> + Send,
+    R: Threads + Wait + Clock + Sync,
+>(
+    rt: &R,
+    alloc: Global,
+    mut board: Board<J, M>,
+    shares: Vec<Share<J>>,
+    ranks: u8,
+    phase: Phase,
+) -> u64 {
+    match phase.work {
+        Work::Serve(hits) => {
+            if let Ok(scripts) = scripts(alloc, ranks, hits)
+                && make(alloc, &mut board, ranks, u32::from(ranks) + 1)
+            {
+                return time_serve(
+                    rt,
+                    alloc,
+                    board,
+                    shares,
+                    &scripts,
+                    asked(ranks, hits),
+                    phase.by_threads,
+                );
+            }
+        }
+        Work::Export => {
+            if let Ok(orders) = pass_on(alloc, ranks, DIR_LIMIT)
+                && make(alloc, &mut board, ranks, DIR_LIMIT)
+            {
+                return time_export(rt, alloc, board, &orders, phase.by_threads);
+            }
+        }
+    }
+    board.end();
+    u64::MAX
+}
