@@ -1,5 +1,6 @@
 -- What the checker's answers say of the bytes that it was given.
-use Rattle.std.specs.Prelude.{◌≡◌, ◌<◌, ◌≤◌, ⊤, ℕ, suc, List, [], ◌∷◌, ◌++◌, ◌⊎◌, All, codes, decimal, length}
+use Rattle.std.specs.Prelude.{◌≡◌, ◌<◌, ◌≤◌, ◌↔◌, ⊤, ℕ, suc, List, [], ◌∷◌, ◌++◌, ◌⊎◌, All, IsTrue, codes}
+use Rattle.std.specs.Prelude.{decimal, length, string_bytes}
 use Rattle.std.specs.List.{sum_by}
 use Rattle.std.specs.Io.KnownBytes.{Appends}
 use Rattle.std.specs.Prelude.{Option}
@@ -10,8 +11,10 @@ use Rattle.mds_types.specs.declared.problem.ProblemRow.{ProblemRow}
 use Rattle.plan_text.specs.Text.{texts}
 use Rattle.plan_text.specs.Writable.{IsWritable}
 use Rattle.plan_text.specs.declared.certificate.Certificate.{Certificate}
-use Rattle.plan_text.specs.declared.read_error.ReadError.{ReadError}
 use Rattle.plan_text.specs.declared.read_error.ReadError.TheVariants.{Line, Memory}
+use Rattle.certificate_judge.specs.declared.answers.Answers.{Answers}
+use Rattle.certificate_judge.specs.declared.judge_error.JudgeError.{JudgeError}
+use Rattle.certificate_judge.specs.declared.judge_error.JudgeError.TheVariants.{Read, Text}
 
 -- the proofs of a certificate's plan hold
 abbrev pub ProofsHold : Certificate → Type 0
@@ -45,10 +48,11 @@ AllHold bytes = (cs : List Certificate) × AreTexts bytes cs × All ProofsHold c
 abbrev pub AllBest : List ℕ → Type 0
 AllBest bytes = (cs : List Certificate) × AreTexts bytes cs × All HasBest cs
 
--- an error says that the bytes are no certificates, unless memory was refused
-abbrev pub Refuses : List ℕ → ReadError → Type 0
-Refuses bytes Memory = ⊤
-Refuses bytes (Line line expected) = ¬ (AreCertificates bytes)
+-- an error says that the bytes are no certificates, unless memory was refused or a read failed
+abbrev pub Refuses : List ℕ → JudgeError → Type 0
+Refuses bytes (Read error) = ⊤
+Refuses bytes (Text Memory) = ⊤
+Refuses bytes (Text (Line line expected)) = ¬ (AreCertificates bytes)
 
 -- the heat of all rows, in accesses
 abbrev pub heat_of_rows : List ProblemRow → ℕ
@@ -98,6 +102,24 @@ AreVerdicts number (c ∷ cs) lines =
 -- these lines are the answers for the certificates that the bytes are
 abbrev pub HaveVerdicts : List ℕ → List ℕ → Type 0
 HaveVerdicts bytes lines = (cs : List Certificate) × AreTexts bytes cs × AreVerdicts 1 cs lines
+
+-- the answers for these certificates
+pub record AreAnswersFor (cs : List Certificate) (answers : Answers) : Type 0 where
+  pub lines : AreVerdicts 1 cs (string_bytes answers.lines)
+  pub exact : IsTrue answers.hold ↔ All ProofsHold cs
+  pub best : IsTrue answers.hold → All HasBest cs
+
+-- the bytes are certificates, and these are the answers for them
+pub record HaveAnswers (bytes : List ℕ) (answers : Answers) : Type 0 where
+  pub certificates : AreCertificates bytes
+  pub lines : HaveVerdicts bytes (string_bytes answers.lines)
+  pub exact : IsTrue answers.hold ↔ AllHold bytes
+  pub best : IsTrue answers.hold → AllBest bytes
+
+-- the status where nothing was judged
+abbrev pub error_status : JudgeError → ℕ
+error_status (Read error) = 3
+error_status (Text error) = 2
 
 -- what is printed where memory is refused
 abbrev pub memory_line : List ℕ

@@ -1,3 +1,4 @@
 pub mod CommandLine
 pub mod Exit
 pub mod Judged
+pub mod Unjudged

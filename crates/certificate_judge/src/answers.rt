@@ -1,6 +1,7 @@
 //! What is answered for certificates.
-ghost use Rattle.std.specs.Prelude.{◌≡◌, ◌↔◌, ◌&&◌, All, IfOk, IsTrue, string_bytes};
-ghost use Rattle.certificate_judge.specs.Judged.{AreVerdicts, CutHolds, HasBest, IsVerdict, ProofsHold};
+ghost use Rattle.std.specs.Prelude.{◌≡◌, ◌↔◌, ◌&&◌, ◌+◌, ◌++◌, ◌∷◌, [], IfOk, IsTrue, List, OnOk, length, string_bytes};
+ghost use Rattle.certificate_judge.specs.Judged.{AreAnswersFor, CutHolds, HasBest, IsVerdict, ProofsHold};
+ghost use Rattle.plan_text.specs.declared.certificate.Certificate.{Certificate};
 
 use crate::lines::{no_line, yes_line};
 use plan_checker::{check, check_cut};
@@ -61,21 +62,30 @@ fn both(first: bool, second: bool) -> bool
     first && second
 }
 
-/// The answers for certificates, of which the first has number 1.
-pub(crate) fn answers_for(
-    alloc: Global,
-    certificates: &[Certificate],
-) -> Result<Answers, AllocError>
-    ensures lines { IfOk result (λ answers. AreVerdicts 1 certificates.now (string_bytes answers.lines)) }
-    ensures exact { IfOk result (λ answers. IsTrue answers.hold ↔ All ProofsHold certificates.now) }
-    ensures best { IfOk result (λ answers. IsTrue answers.hold → All HasBest certificates.now) }
-{
-    let mut lines = String::new(alloc);
-    let mut hold = true;
-    for (i, certificate) in certificates.iter().enumerate() {
-        let (line, holds) = answer(alloc, i as u64 + 1, certificate)?;
-        lines.push_str(&line)?;
-        hold = both(hold, holds);
+impl Answers {
+    /// The answers for no certificates.
+    pub(crate) fn new(alloc: Global) -> Answers
+        ensures { AreAnswersFor [] result }
+    {
+        Answers {
+            lines: String::new(alloc),
+            hold: true,
+        }
     }
-    Ok(Answers { lines, hold })
+
+    /// Adds the answer for the certificate with this number.
+    pub(crate) fn add(
+        &mut self,
+        alloc: Global,
+        number: u64,
+        certificate: &Certificate,
+    ) -> Result<(), AllocError>
+        ensures { OnOk result ((cs : List Certificate) → number ≡ 1 + length cs → AreAnswersFor cs self.old
+            → AreAnswersFor (cs ++ certificate.now ∷ []) self.new) }
+    {
+        let (line, holds) = answer(alloc, number, certificate)?;
+        self.lines.push_str(&line)?;
+        self.hold = both(self.hold, holds);
+        Ok(())
+    }
 }

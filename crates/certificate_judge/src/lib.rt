@@ -4,13 +4,17 @@
 
 pub mod answers;
 pub mod files;
+pub mod judge_error;
 pub mod judging;
 mod lines;
 pub mod program;
+mod reading;
 pub mod reporting;
 pub mod settings;
+mod unjudged;
 
 pub use files::{CertificateFiles, SystemFiles};
+pub use judge_error::JudgeError;
 pub use judging::judge;
 pub use program::start;
 pub use reporting::report;

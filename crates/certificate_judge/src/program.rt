@@ -1,17 +1,16 @@
 //! The program over any files and devices: from the words of its command line to its exit status.
-ghost use Rattle.std.specs.Prelude.{◌≡◌, ◌⊎◌, IfOk, IfSome, None, map, option_map};
-ghost use Rattle.certificate_judge.specs.Exit.{IsExit, IsRun, given_bytes};
+ghost use Rattle.std.specs.Prelude.{◌≡◌, map, option_map};
+ghost use Rattle.certificate_judge.specs.Exit.{IsExit, IsRun};
 ghost use Rattle.certificate_judge.specs.Judged.{GrowsByFront, memory_line};
 ghost use Rattle.command_line.specs.Outcome.{EndsWith};
 ghost use Rattle.command_line.specs.declared.options_error.OptionsError.TheVariants.{Memory};
 
 use crate::files::CertificateFiles;
-use crate::reporting::{report, say_memory};
+use crate::reporting::{report, say_memory, say_unread};
 use crate::settings::file_of;
 use command_line::OptionsError;
 use std::alloc::Global;
 use std::convert::AsStr;
-use std::io;
 use std::io::{Read, Write};
 
 /// Checks the certificates of the file that the words of a command line name, or those of `reader` where they name
@@ -48,37 +47,13 @@ fn check_file<F: CertificateFiles, R: Read, W: Write, E: Write>(
     ensures { IsRun F.holds R.remaining W.contents E.contents files.now reader.old writer.old writer.new
         errors.old errors.new (option_map (λ name. name.now) file.entry) result }
 {
-    let name = file.unwrap_or("-");
-    match read_bytes(files, alloc, file, reader) {
-        Ok(bytes) => report(alloc, name, bytes.as_slice(), writer, errors),
-        Err(error) => {
-            let _ = writeln!(errors, "mdbal_check: {name}: {error}");
-            3
-        }
+    let Some(name) = file else {
+        return report(alloc, "-", reader, writer, errors);
+    };
+    match files.open(name) {
+        Ok(mut opened) => report(alloc, name, &mut opened, writer, errors),
+        Err(error) => say_unread(&error, name, errors),
     }
-}
-
-/// The bytes of the file of this name, or those that the reader has left where there is no name.
-fn read_bytes<F: CertificateFiles, R: Read>(
-    files: &F,
-    alloc: Global,
-    file: Option<&str>,
-    reader: &mut R,
-) -> io::Result<Vec<u8>>
-    ensures { IfOk result (λ made. IfSome (given_bytes F.holds R.remaining files.now reader.old
-        (option_map (λ name. name.now) file.entry)) (λ bytes. made.items ≡ bytes)) }
-{
-    let mut bytes = Vec::new(alloc);
-    match file {
-        Some(name) => {
-            let mut opened = files.open(name)?;
-            opened.read_to_end(&mut bytes)?;
-        }
-        None => {
-            reader.read_to_end(&mut bytes)?;
-        }
-    }
-    Ok(bytes)
 }
 
 /// Prints why the words name no file: the help and the version to `writer`, all else to `errors`. Gives the status.

@@ -1,34 +1,39 @@
-//! Printing the answers for bytes.
-ghost use Rattle.std.specs.Prelude.{◌≡◌, ◌≤◌, ◌⊎◌, IfErr, IfOk, IsTrue, OnErr, OnOk, string_bytes};
+//! Printing the answers for the certificates of a reader.
+ghost use Rattle.std.specs.Prelude.{◌≡◌, ◌≤◌, ◌⊎◌, IfErr, IfOk, IfSome, IsTrue, OnOk, string_bytes};
 ghost use Rattle.std.specs.Io.KnownBytes.{Appends};
-ghost use Rattle.certificate_judge.specs.Judged.{GrowsByFront, IsJudged, memory_line};
+ghost use Rattle.certificate_judge.specs.Judged.{GrowsByFront, IsJudged, error_status, memory_line};
+ghost use Rattle.certificate_judge.specs.declared.judge_error.JudgeError.TheVariants.{Text};
 ghost use Rattle.plan_text.specs.declared.read_error.ReadError.TheVariants.{Memory};
 
 use crate::answers::Answers;
+use crate::judge_error::JudgeError;
 use crate::judging::judge;
 use plan_text::ReadError;
 use std::alloc::Global;
-use std::io::{ErrorKind, Write};
+use std::io;
+use std::io::{ErrorKind, Read, Write};
 
-/// Prints a line for each certificate that these bytes are: whether its proofs hold.
+/// Prints a line for each certificate that the reader has: whether its proofs hold. The name is that of the file.
 ///
 /// Gives the status: 0 where all hold, 1 where some don't, 2 where the bytes aren't certificates or memory is refused,
-/// and 3 where the lines could not all be written. Where it is 2, `errors` gets the reason, and `writer` nothing.
-pub fn report<W: Write, E: Write>(
+/// and 3 where the bytes could not all be read or the lines not all be written. Where nothing was judged, `errors` gets
+/// the reason, and `writer` nothing.
+pub fn report<R: Read, W: Write, E: Write>(
     alloc: Global,
     name: &str,
-    bytes: &[u8],
+    reader: &mut R,
     writer: &mut W,
     errors: &mut E,
 ) -> u8
-    ensures { IsJudged W.contents E.contents bytes.now writer.old writer.new errors.old errors.new result }
+    ensures { IfSome (R.remaining reader.old) (λ bytes. IsJudged W.contents E.contents bytes writer.old writer.new
+        errors.old errors.new result) ⊎ ((result ≡ 3) × (writer.new ≡ writer.old)) }
 {
-    print_judged(judge(alloc, bytes), name, writer, errors)
+    print_judged(judge(alloc, reader), name, writer, errors)
 }
 
 /// Prints the answers, or why there are none, and gives the status.
 fn print_judged<W: Write, E: Write>(
-    judged: Result<Answers, ReadError>,
+    judged: Result<Answers, JudgeError>,
     name: &str,
     writer: &mut W,
     errors: &mut E,
@@ -40,14 +45,23 @@ fn print_judged<W: Write, E: Write>(
     ensures front { IfOk judged (λ answers. GrowsByFront
         (W.contents writer.old) (W.contents writer.new) (string_bytes answers.lines)) }
     ensures few { OnOk judged ((result ≤ 1) ⊎ (result ≡ 3)) }
-    ensures refused { OnErr judged ((result ≡ 2) × (writer.new ≡ writer.old)) }
-    ensures memory { IfErr judged (λ error. error ≡ Memory →
+    ensures refused { IfErr judged (λ error. (result ≡ error_status error) × (writer.new ≡ writer.old)) }
+    ensures memory { IfErr judged (λ error. error ≡ Text Memory →
         GrowsByFront (E.contents errors.old) (E.contents errors.new) memory_line) }
 {
     match judged {
         Ok(answers) => print_answers(&answers, writer, errors),
-        Err(error) => refuse(error, name, errors),
+        Err(JudgeError::Read(error)) => say_unread(&error, name, errors),
+        Err(JudgeError::Text(error)) => refuse(error, name, errors),
     }
+}
+
+/// Says that a file was not read, and gives the status for that.
+pub(crate) fn say_unread<E: Write>(error: &io::Error, name: &str, errors: &mut E) -> u8
+    ensures { result ≡ 3 }
+{
+    let _ = writeln!(errors, "mdbal_check: {name}: {error}");
+    3
 }
 
 /// Says why nothing was judged, and gives the status for that.

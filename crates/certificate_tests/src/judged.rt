@@ -93,7 +93,13 @@ fn changed(alloc: Global, number: usize, line: &str) -> Result<String, AllocErro
 fn reports_so(rt: &impl Abort, alloc: Global, change: (usize, &str), wanted: (u8, &str, &str)) {
     let text = changed(alloc, change.0, change.1).sure(rt);
     let (mut writer, mut errors) = (Vec::new(alloc), Vec::new(alloc));
-    let status = report(alloc, "plan", text.as_bytes(), &mut writer, &mut errors);
+    let status = report(
+        alloc,
+        "plan",
+        &mut text.as_bytes(),
+        &mut writer,
+        &mut errors,
+    );
     same_in(rt, &status, &wanted.0, &change);
     holds_in(rt, writer.as_slice() == wanted.1.as_bytes(), &change);
     holds_in(rt, errors.as_slice() == wanted.2.as_bytes(), &change);
@@ -218,7 +224,13 @@ const NAMED: &[(&str, u32)] = &[
 fn is_named(rt: &impl Abort, alloc: Global, row: &(&str, u32)) {
     let text = named(alloc, row.0).sure(rt);
     let (mut writer, mut errors) = (Vec::new(alloc), Vec::new(alloc));
-    let status = report(alloc, "plan", text.as_bytes(), &mut writer, &mut errors);
+    let status = report(
+        alloc,
+        "plan",
+        &mut text.as_bytes(),
+        &mut writer,
+        &mut errors,
+    );
     let at = row.1;
     if at == 0 {
         same_in(rt, &status, &0, row);
@@ -241,7 +253,13 @@ fn reads_names(rt: HostRuntime) {
 fn has_status(rt: &impl Abort, alloc: Global, first: &str, second: &str, wanted: u8) {
     let file = format!(in alloc; "{first}{second}").sure(rt);
     let (mut writer, mut errors) = (Vec::new(alloc), Vec::new(alloc));
-    let status = report(alloc, "plan", file.as_bytes(), &mut writer, &mut errors);
+    let status = report(
+        alloc,
+        "plan",
+        &mut file.as_bytes(),
+        &mut writer,
+        &mut errors,
+    );
     same_in(rt, &status, &wanted, &file);
     same_in(rt, &errors.is_empty(), &(wanted < 2), &file);
     same_in(rt, &writer.is_empty(), &(wanted == 2), &file);

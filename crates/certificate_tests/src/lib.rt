@@ -7,3 +7,5 @@ mod judged;
 mod program;
 #[cfg(test)]
 mod same;
+#[cfg(test)]
+mod streams;

@@ -30,7 +30,7 @@ impl CertificateFiles for OneFile {
 }
 
 /// A certificate of no rows.
-const EMPTY: &str =
+pub(crate) const EMPTY: &str =
     "certificate 1\nmask 0x1\nrows 0\nparts 0\nranks 0\ngreatest 0\nmoved 0\ncut zero\n\
     part_prices 0\nrank_prices 1\nprice 0\nend\n";
 
@@ -41,7 +41,7 @@ const TWO: &str =
     certificate 1\nmask 0x1\nrows 0\nparts 0\nranks 0\ngreatest 0\nmoved 0\ncut zero\n\
     part_prices 0\nrank_prices 1\nprice 0\nend\n";
 
-const YES: &str = "yes rows 0 ranks 1 heat 0 inodes 0 greatest 0 moved 0\n";
+pub(crate) const YES: &str = "yes rows 0 ranks 1 heat 0 inodes 0 greatest 0 moved 0\n";
 
 const BOTH: &str = "no certificate 1: the dual proof does not hold\n\
     yes rows 0 ranks 1 heat 0 inodes 0 greatest 0 moved 0\n";
@@ -91,7 +91,7 @@ fn judges_the_file_that_is_named(rt: HostRuntime) {
 
 /// Fails at each read and each write.
 #[derive(Drop)]
-struct Broken;
+pub(crate) struct Broken;
 
 impl Read for Broken {
     fn read(&mut self, _buf: &mut [u8]) -> io::Result<usize> {

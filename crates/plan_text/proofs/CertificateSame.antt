@@ -1,4 +1,4 @@
--- Certificates whose texts are the same are the same.
+-- Bytes begin with the text of one certificate only.
 use Rattle.std.proofs.Common.{◌≡◌, ◌∙◌, ℕ, ◌<◌, ◌^◌, Bool, true, false, cond, List, [], ◌∷◌, ◌++◌, All, codes, length, get_or, drop, refl, ap, sym, arith, append_assoc}
 use Rattle.std.specs.Prelude.{decimal, ℤ, IfSome, Option, Some, None}
 use Rattle.std.specs.Fmt.{digits, signed_decimal}
@@ -15,7 +15,7 @@ use Rattle.mds_types.specs.Plan.{PlanData}
 use Rattle.mds_types.specs.Problem.{ProblemData}
 use Rattle.plan_text.specs.declared.certificate.Certificate.{Certificate}
 use Rattle.plan_text.specs.RowNames.{IsRowName}
-use Rattle.plan_text.specs.Text.{cell_line, cut_lines, dual_lines, head_lines, line, mask_line, name_line, number_line, label_line, place_lines, whole_plan_lines, price_line, problem_lines, rank_line, row_line, sum_lines, table, text, texts}
+use Rattle.plan_text.specs.Text.{cell_line, cut_lines, dual_lines, head_lines, line, mask_line, name_line, number_line, label_line, place_lines, whole_plan_lines, price_line, problem_lines, rank_line, row_line, sum_lines, table, text}
 use Rattle.plan_text.specs.Writable.{FitsCell, FitsCut, FitsList, FitsPart, FitsPlan, FitsPrice, FitsProblem, FitsRank, FitsRow, IsWritable}
 use Rattle.plan_text.proofs.LineSame.{IsField, decimal_field, differ, hex_field, line_same, signed_field}
 use Rattle.plan_text.proofs.NameLemmas.{row_name_field}
@@ -259,7 +259,7 @@ abbrev own_text : Certificate → List ℕ
 own_text c = text c.problem c.names c.plan
 
 -- a certificate's text, whatever stands behind it
-certificate_same : Reads IsWritable own_text
+pub certificate_same : Reads IsWritable own_text
 certificate_same a b r s p q h =
     let last : List ℕ = line (codes "end") [] in
     let ha : List ℕ = head_lines a.problem a.names in
@@ -271,20 +271,3 @@ certificate_same a b r s p q h =
     let head = head_same a.problem b.problem a.names b.names (la ++ (last ++ r)) (lb ++ (last ++ s)) (p.problem, p.named, p.names) (q.problem, q.named, q.names) all in
     let plan = plan_same a.plan b.plan (last ++ r) (last ++ s) p.plan q.plan head.2 in
     (certificate_eq a b head.0 head.1 plan.0, append_cancel_left last r s plan.1)
-
-begins_so : (problem : ProblemData) (names : Option (List (List ℕ))) (plan : PlanData) (more : List ℕ) → get_or (text problem names plan ++ more) 0 0 ≡ 99
-begins_so problem None plan more = refl
-begins_so problem (Some names) plan more = refl
-
-begins : (c : Certificate) (more : List ℕ) → get_or (own_text c ++ more) 0 0 ≡ 99
-begins c more = begins_so c.problem c.names c.plan more
-
--- certificates one after another
-pub texts_same : (cs ds : List Certificate) → All IsWritable cs → All IsWritable ds → texts cs ≡ texts ds → cs ≡ ds
-texts_same [] [] p q h = refl
-texts_same [] (d ∷ ds) p q h = absurd (differ 0 99 (omega arith) (ap (λ (t : List ℕ). get_or t 0 0) h ∙ begins d (texts ds)))
-texts_same (c ∷ cs) [] p q h = absurd (differ 0 99 (omega arith) (sym (sym (begins c (texts cs)) ∙ ap (λ (t : List ℕ). get_or t 0 0) h)))
-texts_same (c ∷ cs) (d ∷ ds) p q h =
-    let first = certificate_same c d (texts cs) (texts ds) (All-head IsWritable c cs p) (All-head IsWritable d ds q) h in
-    let more = texts_same cs ds (All-tail IsWritable c cs p) (All-tail IsWritable d ds q) first.1 in
-    cc (first.0, more)

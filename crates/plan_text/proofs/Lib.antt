@@ -5,6 +5,5 @@ pub mod FieldLemmas
 pub mod LineSame
 pub mod NameLemmas
 pub mod NumberLemmas
-pub mod ReaderLemmas
 pub mod ReadingLemmas
 pub mod TableLemmas

@@ -1,9 +1,8 @@
 //! What the types of a certificate's values say of its numbers.
 ghost use Rattle.std.specs.Prelude.{◌<◌, ◌^◌, All, IfSome, option_map};
 ghost use Rattle.plan_text.specs.RowNames.{IsRowName};
-ghost use Rattle.plan_text.specs.Writable.{FitsCut, FitsList, FitsPlan, FitsProblem, IsNamed, IsWritable};
+ghost use Rattle.plan_text.specs.Writable.{FitsCut, FitsList, FitsPlan, FitsProblem};
 
-use crate::certificate::Certificate;
 use crate::line::Line;
 use crate::row_names::RowNames;
 use mds_types::{CutProof, Plan, Problem};
@@ -63,25 +62,5 @@ pub(crate) fn names_fit(names: Option<&RowNames>)
 {
     if let Some(names) = names {
         let _names = names.as_slice();
-    }
-}
-
-/// The names and numbers of a certificate are within their types.
-fn fits(certificate: &Certificate)
-    requires { IsNamed certificate.now }
-    ensures { IsWritable certificate.now }
-{
-    problem_fits(&certificate.problem);
-    names_fit(certificate.names.as_ref());
-    plan_fits(&certificate.plan);
-}
-
-/// The names and numbers of certificates are within their types.
-pub(crate) fn all_writable(certificates: &[Certificate])
-    requires { All IsNamed certificates.now }
-    ensures { All IsWritable certificates.now }
-{
-    for certificate in certificates {
-        fits(certificate);
     }
 }

@@ -1,10 +1,11 @@
 //! What the definitions of `specs/Text` promise.
-ghost use Rattle.std.specs.Prelude.{◌≡◌, All, List};
-ghost use Rattle.plan_text.specs.Text.{texts};
+ghost use Rattle.std.specs.Prelude.{◌≡◌, ◌++◌, ℕ, List};
+ghost use Rattle.plan_text.specs.Text.{text};
 ghost use Rattle.plan_text.specs.Writable.{IsWritable};
 ghost use Rattle.plan_text.specs.declared.certificate.Certificate.{Certificate};
 
-/// Bytes are the text of one list of certificates only.
-pub fn texts_differ()
-    ensures { (cs ds : List Certificate) → All IsWritable cs → All IsWritable ds → texts cs ≡ texts ds → cs ≡ ds }
+/// Bytes begin with the text of one certificate only, so that texts one after another are those of one list only.
+pub fn prefix_free()
+    ensures { (c d : Certificate) (r s : List ℕ) → IsWritable c → IsWritable d
+        → text c.problem c.names c.plan ++ r ≡ text d.problem d.names d.plan ++ s → (c ≡ d) × (r ≡ s) }
 {}

@@ -31,9 +31,9 @@
 //! end
 //! ```
 //!
-//! (What stands behind the fields here is not part of it.) `certificate_text` gives just this text. `read` accepts a
-//! text, as far as there is memory, if it is that of certificates, at least one, and gives just these; it
-//! refuses each other text.
+//! (What stands behind the fields here is not part of it.) `certificate_text` gives just this text. `read_first` gives
+//! the certificate that a text begins with, as far as there is memory, and what follows it; it refuses a text that
+//! begins with none.
 #![tactic(auto)]
 
 pub mod certificate;
@@ -49,6 +49,6 @@ pub mod writer;
 
 pub use certificate::Certificate;
 pub use read_error::{Expected, ReadError};
-pub use reader::read;
+pub use reader::read_first;
 pub use row_names::RowNames;
 pub use writer::certificate_text;

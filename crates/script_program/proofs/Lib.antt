@@ -1,1 +1,2 @@
 pub mod ExitLemmas
+pub mod JudgedLemmas

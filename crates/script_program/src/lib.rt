@@ -2,6 +2,7 @@
 #![tactic(auto)]
 
 mod hints;
+pub mod laws;
 pub mod program;
 
 pub use program::start;
