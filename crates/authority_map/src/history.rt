@@ -1,8 +1,7 @@
 //! All operations of a map, in order, and how far somebody knows them.
 //!
-//! The list stands in proofs alone, in a book of `logbook` that only grows. In memory there is its length: the
-//! writer's word `Count`, and a number in each `LogPrefix`, which is a beginning of the list. Any two beginnings of
-//! one list are parts of one another, so the shorter one is known by its number.
+//! The list is in proofs only, in a book of `logbook` that only grows. In memory there is its length: the writer's word
+//! `Count`, and a number in each `LogPrefix`, a beginning of the list, which is known by its number.
 ghost use Rattle.std.specs.Prelude.{◌≡◌, ◌<◌, ◌^◌, ◌++◌, ◌∷◌, [], ◌⊎◌, length, IfSome, IsTrue, MatchBool};
 ghost use mathlib.Core.List.{IsPrefix};
 ghost use Rattle.authority_map.specs.Log.{counter_of};

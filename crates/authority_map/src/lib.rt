@@ -1,11 +1,8 @@
 //! The published map from directories to ranks: one writer, and readers that take no lock.
 //!
-//! A writer appends operations and publishes them. A reader's answer is that of a beginning of the writer's operations,
-//! in order from the first. It never goes back, and it holds all that the reader has learned, which was published when
-//! it was told. Of what two readers hold, or a reader and a token, one is a beginning of the other. Two copies of the
-//! map are kept by `left_right`: readers enter the one that is shown, while the writer changes the other.
-//!
-//! Which beginning a copy holds is known by a length: the list itself, in a book of `logbook`, stands in proofs alone.
+//! A reader's answer is that of a beginning of the writer's operations. It never goes back, and it holds all that the
+//! reader has learned. Of what two readers hold, or a reader and a token, one is a beginning of the other. Two copies
+//! are kept by `left_right`: readers enter the one that is shown, while the writer changes the other.
 #![tactic(auto)]
 
 mod found;

@@ -1,11 +1,8 @@
 //! Runs of neighbouring directories that have the same cell.
 //!
-//! `starts[run]` is the first directory of a run and `cells[run]` the cell of all that are in it. A run goes on until
-//! the next one starts, the last one until the limit. A directory's run is found by halving, among those between the
-//! first runs of its block and of the next one, which an index tells. To write a directory's cell, its run is split
-//! so that it stands alone, and then it is joined with neighbours that have the same cell. Where the directory is the
-//! first of several and the run before has the wanted cell, or the last of several and the run after has it, the
-//! border of the two runs moves by one instead, and no run comes or goes. There are never more runs than directories.
+//! `starts[run]` is the first directory of a run, and `cells[run]` the cell of all in it. A directory's run is found by
+//! halving between the first runs of its block and of the next one, by an index. To write a cell, the run is split and
+//! joined with neighbours that have the same cell; at a border of two runs, the border moves by one instead.
 ghost use Rattle.std.specs.Prelude.{◌≡◌, ◌≢◌, ◌↔◌, [], IfOk, ℕ, ◌+◌, ◌-◌, ◌^◌, ◌==◌, ◌<◌, ◌≤◌, All, List, length};
 ghost use Rattle.std.specs.Prelude.{slice_index, if◌then◌else◌, vec_capacity};
 ghost use Rattle.authority_map.specs.Runs.{IsIn, IsAmong, IsIndex, IsOneMore, AreStarts, AreRuns, StartsAt, HasCells};

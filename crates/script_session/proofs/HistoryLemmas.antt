@@ -19,7 +19,7 @@ use Rattle.script_board.specs.Commands.{◌>>=◌, changed, find, last_slash, ma
 use Rattle.script_board.specs.Fault.{unless}
 use Rattle.script_board.specs.Plan.{planned}
 use Rattle.script_board.specs.Serve.{IsGone}
-use Rattle.script_session.specs.Does.{Does}
+use Rattle.script_session.specs.Does.{Does, meaning}
 use Rattle.script_session.specs.History.{GoesOn, IsBeginning}
 use Rattle.script_session.specs.Printed.{Printed}
 use Rattle.script_session.specs.Session.{DoesAt, IsDone, IsTold, SessionData, answers, published}
@@ -81,8 +81,8 @@ planned_longer b plan new is =
 same_longer : (b new : BoardData) → new ≡ b → Longer b new
 same_longer b new is = subst (λ (x : BoardData). Longer b x) (sym is) (itself b.world.history)
 
-does_longer : (b : BoardData) (c : Command) (p : Printed) (ample : Bool) (new : BoardData) → Does b c p ample new → Longer b new
-does_longer b (line.Ranks n) p ample new h = absurd h
+does_longer : (b : BoardData) (c : Command) (p : Printed) (ample : Bool) (new : BoardData) → Does b (meaning c) p ample new → Longer b new
+does_longer b (line.Ranks n) p ample new h = let no = h.0 in cc
 does_longer b (line.Mask text) p ample new h = from_masked b new (mask_bits text) h.0
 does_longer b (line.MakeDir path inodes) p ample new h = from_made b new (last_slash path) inodes h.0
 does_longer b (line.RemoveDir path) p ample new h = bound b new (find b path) _ (λ d. from_replanned b new (change.Remove d)) h.0

@@ -20,11 +20,11 @@ use Rattle.script_board.specs.Commands.{◌>>=◌, changed, find, last_slash, ma
 use Rattle.script_board.specs.Cost.{cost, top, tops}
 use Rattle.script_board.specs.Fault.{unless}
 use Rattle.script_replies.specs.Printed.{joined}
-use Rattle.script_session.specs.Does.{Does}
-use Rattle.script_session.specs.Outcome.{LineOutcome, Outcome, answer_to, costed, held, is_determined, line_outcome, outcome, outcome_at, silent, told}
+use Rattle.script_session.specs.Does.{Changes, Meaning, Moves, Plans, Prints, Reports, Serves, costed, is_function, meaning}
+use Rattle.script_session.specs.Outcome.{LineOutcome, Outcome, answer_to, held, is_determined, line_outcome, outcome, outcome_at, printed, silent, told}
 use Rattle.script_session.specs.Printed.{Printed}
-use Rattle.script_session.specs.Session.{DoesAt, IsDone, IsTold, SessionData, answers, beginning, done_answer, fault_answer, published, settled}
-use Rattle.script_session.specs.Visible.{NoneSaysMemory, SaysMemory, is_visible, tells_all}
+use Rattle.script_session.specs.Session.{IsTold, SessionData, answers, beginning, at_beginning, done_answer, fault_answer, published, settled}
+use Rattle.script_session.specs.Visible.{NoneSaysMemory, SaysMemory, ignores_map, is_visible, tells_all}
 use Rattle.script_session.proofs.OutcomeLemmas.{done_line, fault_line}
 
 -- the board with other operations published
@@ -80,15 +80,15 @@ module _ (b : BoardData) (ops : List Operation) where
   same_tops [] = refl
   same_tops (path ∷ paths) = ap (λ (r : Result (List ℕ) Fault). top b path >>= λ d. r >>= λ found. Ok (d ∷ found)) (same_tops paths)
 
-  like_costed : (r : Result (List Part) Fault) → LikeOutcome (costed b r) (costed (shifted b ops) r)
+  like_costed : (r : Result (List Part) Fault) → LikeOutcome (printed b (costed b r)) (printed (shifted b ops) (costed (shifted b ops) r))
   like_costed (Ok found) = (refl, (ops, refl))
   like_costed (Err e) = refl
 
-  like_cost : (paths : List (List ℕ)) → LikeOutcome (costed b (cost b paths)) (costed (shifted b ops) (cost (shifted b ops) paths))
+  like_cost : (paths : List (List ℕ)) → LikeOutcome (printed b (costed b (cost b paths))) (printed (shifted b ops) (costed (shifted b ops) (cost (shifted b ops) paths)))
   like_cost paths =
-      subst (λ (r : Result (List ℕ) Fault). LikeOutcome (costed b (cost b paths)) (costed (shifted b ops) (r >>= λ ts. Ok (parts b.world.state.directories.entries b.world.state.pins.own b.world.state.heats.heats ts)))) (sym (same_tops paths)) (like_costed (cost b paths))
+      subst (λ (r : Result (List ℕ) Fault). LikeOutcome (printed b (costed b (cost b paths))) (printed (shifted b ops) (costed (shifted b ops) (r >>= λ ts. Ok (parts b.world.state.directories.entries b.world.state.pins.own b.world.state.heats.heats ts))))) (sym (same_tops paths)) (like_costed (cost b paths))
 
-  like_on_board : (c : Command) → tells_all (line.Asks c) ≡ true → LikeOutcome (outcome b c) (outcome (shifted b ops) c)
+  like_on_board : (c : Command) → ignores_map (meaning c) ≡ true → LikeOutcome (outcome b (meaning c)) (outcome (shifted b ops) (meaning c))
   like_on_board (line.Ranks n) sure = refl
   like_on_board (line.Mask text) sure = like_silent _ _ (like_masked (mask_bits text))
   like_on_board (line.MakeDir path inodes) sure = like_silent _ _ (like_made inodes (last_slash path))
@@ -130,25 +130,13 @@ like_held s t (Err e) (Ok y) same l = absurd l
 itself : (b : BoardData) → LikeBoards b b
 itself b = (b.world.published, refl)
 
-like_begun : (m : ℕ) (c : Command) → LikeOutcome (outcome_at m None c) (outcome_at m None c)
-like_begun m (line.Ranks n) = (refl, itself _)
-like_begun m (line.Mask text) = refl
-like_begun m (line.MakeDir path inodes) = refl
-like_begun m (line.RemoveDir path) = refl
-like_begun m (line.Pin path value) = refl
-like_begun m (line.Load path hits) = refl
-like_begun m line.Go = refl
-like_begun m line.Tick = refl
-like_begun m (line.Cost paths) = refl
-like_begun m line.Plan = refl
-like_begun m line.Move = refl
-like_begun m (line.Stop rank) = refl
-like_begun m (line.Restart rank) = refl
-like_begun m line.Stat = refl
+like_begun : (r : Result BoardData Fault) → LikeOutcome (silent r) (silent r)
+like_begun (Ok b) = (refl, itself b)
+like_begun (Err e) = refl
 
 like_outcome : (m n : ℕ) (o u : Option BoardData) (c : Command) → n ≡ m → LikeBoard o u → tells_all (line.Asks c) ≡ true → LikeOutcome (outcome_at m o c) (outcome_at n u c)
-like_outcome m n None None c same l sure = subst (λ (k : ℕ). LikeOutcome (outcome_at m None c) (outcome_at k None c)) (sym same) (like_begun m c)
-like_outcome m n (Some b) (Some d) c same l sure = subst (λ (x : BoardData). LikeOutcome (outcome b c) (outcome x c)) (sym l.1) (like_on_board b l.0 c sure)
+like_outcome m n None None c same l sure = subst (λ (k : ℕ). LikeOutcome (outcome_at m None c) (outcome_at k None c)) (sym same) (like_begun (at_beginning m c))
+like_outcome m n (Some b) (Some d) c same l sure = subst (λ (x : BoardData). LikeOutcome (outcome b (meaning c)) (outcome x (meaning c))) (sym l.1) (like_on_board b l.0 c sure)
 like_outcome m n None (Some d) c same l sure = absurd l
 like_outcome m n (Some b) None c same l sure = absurd l
 
@@ -210,67 +198,23 @@ alike_fault s t new n fault a (Err f) l like is same = (
   subst (λ (x : SessionData). LikeSessions x t) (sym same) like,
 )
 
+apart_is_function : (m : Meaning) → ignores_map m ≡ true → is_function m ≡ true
+apart_is_function (Changes change) sure = refl
+apart_is_function (Prints print) sure = refl
+apart_is_function (Reports report) sure = refl
+apart_is_function Serves sure = sure
+apart_is_function Plans sure = sure
+apart_is_function Moves sure = sure
+
 determined_when_told : (what : Asked) → tells_all what ≡ true → is_determined what ≡ true
 determined_when_told line.Nothing sure = refl
 determined_when_told line.Syntax sure = refl
-determined_when_told (line.Asks (line.Ranks n)) sure = refl
-determined_when_told (line.Asks (line.Mask text)) sure = refl
-determined_when_told (line.Asks (line.MakeDir path inodes)) sure = refl
-determined_when_told (line.Asks (line.RemoveDir path)) sure = refl
-determined_when_told (line.Asks (line.Pin path value)) sure = refl
-determined_when_told (line.Asks (line.Load path hits)) sure = refl
-determined_when_told (line.Asks line.Go) sure = cc
-determined_when_told (line.Asks line.Tick) sure = refl
-determined_when_told (line.Asks (line.Cost paths)) sure = refl
-determined_when_told (line.Asks line.Plan) sure = cc
-determined_when_told (line.Asks line.Move) sure = cc
-determined_when_told (line.Asks (line.Stop rank)) sure = refl
-determined_when_told (line.Asks (line.Restart rank)) sure = refl
-determined_when_told (line.Asks line.Stat) sure = cc
-
--- memory suffices for all that such a command does
-ample_does : (b : BoardData) (c : Command) (p : Printed) (ample : Bool) (new : BoardData) → tells_all (line.Asks c) ≡ true → Does b c p ample new → ample ≡ true
-ample_does b (line.Ranks n) p ample new sure h = absurd h
-ample_does b (line.Mask text) p ample new sure h = h.2
-ample_does b (line.MakeDir path inodes) p ample new sure h = h.2
-ample_does b (line.RemoveDir path) p ample new sure h = h.2
-ample_does b (line.Pin path value) p ample new sure h = h.2
-ample_does b (line.Load path hits) p ample new sure h = h.2
-ample_does b line.Go p ample new sure h = cc
-ample_does b line.Tick p ample new sure h = h.2
-ample_does b (line.Cost paths) p ample new sure h = h.3
-ample_does b line.Plan p ample new sure h = cc
-ample_does b line.Move p ample new sure h = cc
-ample_does b (line.Stop rank) p ample new sure h = h.2
-ample_does b (line.Restart rank) p ample new sure h = h.2
-ample_does b line.Stat p ample new sure h = cc
-
-ample_at : (limit : ℕ) (o : Option BoardData) (c : Command) (p : Printed) (ample : Bool) (new : BoardData) → tells_all (line.Asks c) ≡ true → DoesAt limit o c p ample new → ample ≡ true
-ample_at limit (Some b) c p ample new sure h = ample_does b c p ample new sure h
-ample_at limit None (line.Ranks n) p ample new sure h = h.2
-ample_at limit None (line.Mask text) p ample new sure h = absurd h
-ample_at limit None (line.MakeDir path inodes) p ample new sure h = absurd h
-ample_at limit None (line.RemoveDir path) p ample new sure h = absurd h
-ample_at limit None (line.Pin path value) p ample new sure h = absurd h
-ample_at limit None (line.Load path hits) p ample new sure h = absurd h
-ample_at limit None line.Go p ample new sure h = absurd h
-ample_at limit None line.Tick p ample new sure h = absurd h
-ample_at limit None (line.Cost paths) p ample new sure h = absurd h
-ample_at limit None line.Plan p ample new sure h = absurd h
-ample_at limit None line.Move p ample new sure h = absurd h
-ample_at limit None (line.Stop rank) p ample new sure h = absurd h
-ample_at limit None (line.Restart rank) p ample new sure h = absurd h
-ample_at limit None line.Stat p ample new sure h = absurd h
-
-ample_done : (s : SessionData) (what : Asked) (p : Printed) (ample : Bool) (mid : SessionData) → tells_all what ≡ true → IsDone s what p ample mid → ample ≡ true
-ample_done s line.Nothing p ample mid sure h = h.1
-ample_done s line.Syntax p ample mid sure h = absurd h
-ample_done s (line.Asks c) p ample mid sure h = ample_at s.limit s.board c p ample h.0 sure h.1
+determined_when_told (line.Asks c) sure = apart_is_function (meaning c) sure
 
 alike : (s t new : SessionData) (n : ℕ) (bytes : List ℕ) (a : Answer) → is_visible bytes ≡ true → LikeSessions s t → Takes answers s n bytes a new → (SaysMemory n a → ⊥) → AnswersAlike a new (answer_to t n bytes)
 alike s t new n bytes a sure like (inl (inl (p, ample, mid, done, is))) quiet =
     let what : Asked = asked bytes in
-    let outcome_is : line_outcome s what ≡ Ok (p, mid) = done_line s what p ample mid (determined_when_told what sure) done (ample_done s what p ample mid sure done) in
+    let outcome_is : line_outcome s what ≡ Ok (p, mid) = done_line s what p ample mid (determined_when_told what sure) done in
     alike_done t new n p ample mid a (line_outcome t what) (subst (λ (o : LineOutcome). LikeLine o (line_outcome t what)) outcome_is (like_asked s t what like sure)) is quiet
 alike s t new n bytes a sure like (inl (inr (inl (fault, stands, is, same)))) quiet =
     let what : Asked = asked bytes in

@@ -1,5 +1,5 @@
--- What a command does to a board, and why a board refuses it.
-use Rattle.std.specs.Prelude.{◌≡◌, Bool, true, false, List, [], ◌⊎◌, Option, Some, None, Result, Ok, Err}
+-- What commands mean: what they do to a board, and why a board refuses them.
+use Rattle.std.specs.Prelude.{◌≡◌, ℕ, Bool, true, false, List, [], ◌⊎◌, Option, Some, None, Result, Ok, Err}
 use Rattle.division_cost.specs.declared.division.Part.{Part}
 use Rattle.mds_types.specs.declared.order.Order.{Order}
 use Rattle.mds_types.specs.declared.plan.Plan.{Plan}
@@ -24,27 +24,59 @@ abbrev pub failure : {A : Type 0} → Result A Fault → Option Fault
 failure (Ok x) = None
 failure (Err fault) = Some fault
 
--- why a board refuses a command
-abbrev pub cause : BoardData → Command → Option Fault
-cause b (line.Ranks n) = Some RanksAgain
-cause b (line.Mask text) = failure (set_mask b text)
-cause b (line.MakeDir path inodes) = failure (make_dir b path inodes)
-cause b (line.RemoveDir path) = failure (remove_dir b path)
-cause b (line.Pin path value) = failure (set_pin b path value)
-cause b (line.Load path hits) = failure (load b path hits)
-cause b line.Go = None
-cause b line.Tick = failure (tick b)
-cause b (line.Cost paths) = failure (cost b paths)
-cause b line.Plan = failure (plan_due b)
-cause b line.Move = None
-cause b (line.Stop rank) = failure (stop b rank)
-cause b (line.Restart rank) = failure (restart b rank)
-cause b line.Stat = None
+-- A command changes the board and prints nothing, or prints lines about it and leaves it as it is: then a function says
+-- what it does. Or the waiting requests are served, a plan is made, or directories are moved: several things may come
+-- of that.
+pub data Meaning : Type 0 where
+  Changes : (BoardData → Result BoardData Fault) → Meaning
+  Prints : (BoardData → Result (List (List ℕ)) Fault) → Meaning
+  Reports : (BoardData → List (List ℕ)) → Meaning
+  Serves : Meaning
+  Plans : Meaning
+  Moves : Meaning
 
--- the commands that are carried out by threads of the ranks
-abbrev pub is_by_threads : Command → Bool
-is_by_threads line.Go = true
-is_by_threads line.Move = true
+-- the lines about these parts
+abbrev pub costed : BoardData → Result (List Part) Fault → Result (List (List ℕ)) Fault
+costed b (Ok parts) = Ok (cost_lines b parts)
+costed b (Err fault) = Err fault
+
+-- what a command means on a board
+abbrev pub meaning : Command → Meaning
+meaning (line.Ranks n) = Changes (λ b. Err RanksAgain)
+meaning (line.Mask text) = Changes (λ b. set_mask b text)
+meaning (line.MakeDir path inodes) = Changes (λ b. make_dir b path inodes)
+meaning (line.RemoveDir path) = Changes (λ b. remove_dir b path)
+meaning (line.Pin path value) = Changes (λ b. set_pin b path value)
+meaning (line.Load path hits) = Changes (λ b. load b path hits)
+meaning line.Go = Serves
+meaning line.Tick = Changes tick
+meaning (line.Cost paths) = Prints (λ b. costed b (cost b paths))
+meaning line.Plan = Plans
+meaning line.Move = Moves
+meaning (line.Stop rank) = Changes (λ b. stop b rank)
+meaning (line.Restart rank) = Changes (λ b. restart b rank)
+meaning line.Stat = Reports stat_lines
+
+-- why a board refuses what is meant
+abbrev pub cause : BoardData → Meaning → Option Fault
+cause b (Changes change) = failure (change b)
+cause b (Prints print) = failure (print b)
+cause b (Reports report) = None
+cause b Serves = None
+cause b Plans = failure (plan_due b)
+cause b Moves = None
+
+-- whether the board determines what is printed and done
+abbrev pub is_function : Meaning → Bool
+is_function (Changes change) = true
+is_function (Prints print) = true
+is_function (Reports report) = true
+is_function _ = false
+
+-- whether threads of the ranks do it
+abbrev pub is_by_threads : Meaning → Bool
+is_by_threads Serves = true
+is_by_threads Moves = true
 is_by_threads _ = false
 
 -- the fault is the one that stands, or want of memory where none does
@@ -55,24 +87,16 @@ IsCaused stands fault = (stands ≡ Some fault) ⊎ ((fault ≡ Memory) × (stan
 abbrev pub IsQuiet : Result BoardData Fault → Printed → Bool → BoardData → Type 0
 IsQuiet changed p ample new = (changed ≡ Ok new) × (p ≡ only_lines []) × (ample ≡ true)
 
--- The board accepts the command: this is printed, and this is the board after it. Ample says whether memory sufficed
--- for all that it does; only `go` can go on without, and then tells it.
-abbrev pub Does : BoardData → Command → Printed → Bool → BoardData → Type 0
-Does b (line.Ranks n) p ample new = ⊥
-Does b (line.Mask text) p ample new = IsQuiet (set_mask b text) p ample new
-Does b (line.MakeDir path inodes) p ample new = IsQuiet (make_dir b path inodes) p ample new
-Does b (line.RemoveDir path) p ample new = IsQuiet (remove_dir b path) p ample new
-Does b (line.Pin path value) p ample new = IsQuiet (set_pin b path value) p ample new
-Does b (line.Load path hits) p ample new = IsQuiet (load b path hits) p ample new
-Does b line.Go p ample new = IsGone b p.refused new × (p.lines ≡ []) × (ample ≡ is_ample p.refused)
-Does b line.Tick p ample new = IsQuiet (tick b) p ample new
-Does b (line.Cost paths) p ample new =
-    (parts : List Part) × (cost b paths ≡ Ok parts) × (p ≡ only_lines (cost_lines b parts)) × (ample ≡ true) × (new ≡ b)
-Does b line.Plan p ample new =
+-- The board does what is meant: this is printed, and this is the board after it. Ample says whether memory sufficed
+-- for all that it does; only `go` can go on without, and then reports it.
+abbrev pub Does : BoardData → Meaning → Printed → Bool → BoardData → Type 0
+Does b (Changes change) p ample new = IsQuiet (change b) p ample new
+Does b (Prints print) p ample new =
+    (lines : List (List ℕ)) × (print b ≡ Ok lines) × (p ≡ only_lines lines) × (ample ≡ true) × (new ≡ b)
+Does b (Reports report) p ample new = (p ≡ only_lines (report b)) × (ample ≡ true) × (new ≡ b)
+Does b Serves p ample new = IsGone b p.refused new × (p.lines ≡ []) × (ample ≡ is_ample p.refused)
+Does b Plans p ample new =
     (plan : Plan) × IsPlanned b plan new × (p ≡ only_lines (plan_lines new (parts_in_force new))) × (ample ≡ true)
-Does b line.Move p ample new =
+Does b Moves p ample new =
     (orders : List Order) × (outcomes : List OrderOutcome) × IsMoved b orders outcomes new × (p
     ≡ only_lines (move_lines new orders outcomes)) × (ample ≡ true)
-Does b (line.Stop rank) p ample new = IsQuiet (stop b rank) p ample new
-Does b (line.Restart rank) p ample new = IsQuiet (restart b rank) p ample new
-Does b line.Stat p ample new = (p ≡ only_lines (stat_lines b)) × (ample ≡ true) × (new ≡ b)

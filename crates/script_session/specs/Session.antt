@@ -1,6 +1,6 @@
 -- What a line of a script does, and what is written for it.
 use Rattle.std.specs.Prelude.{◌≡◌, ◌<◌, ℕ, ◌==◌, Bool, true, false, not, if◌then◌else◌}
-use Rattle.std.specs.Prelude.{List, [], ◌++◌, length, take, ◌⊎◌, Option, Some, None}
+use Rattle.std.specs.Prelude.{List, [], ◌++◌, length, take, ◌⊎◌, Option, Some, None, Result, Ok, Err}
 use Rattle.std.specs.List.{flat_map}
 use Rattle.std.specs.Option.{option_map}
 use Rattle.script_engine.specs.Answers.{Answer, fault_text}
@@ -11,7 +11,7 @@ use Rattle.script_board.specs.declared.fault.Fault.TheVariants.{Syntax, NoRanks,
 use Rattle.script_board.specs.Board.{BoardData, empty_board, publish}
 use Rattle.script_board.specs.Fault.{is_memory}
 use Rattle.script_replies.specs.Printed.{joined}
-use Rattle.script_session.specs.Does.{Does, cause}
+use Rattle.script_session.specs.Does.{Does, IsQuiet, cause, failure, meaning}
 use Rattle.script_session.specs.Fault.{words}
 use Rattle.script_session.specs.Printed.{Printed, only_lines}
 
@@ -21,21 +21,23 @@ pub record SessionData : Type 0 where
   pub board : Option BoardData
 
 -- Before `ranks` was accepted no other command is.
-abbrev pub cause_at : Option BoardData → Command → Option Fault
-cause_at None (line.Ranks n) = None
-cause_at None command = Some NoRanks
-cause_at (Some b) command = cause b command
+abbrev pub at_beginning : ℕ → Command → Result BoardData Fault
+at_beginning limit (line.Ranks n) = Ok (empty_board limit n)
+at_beginning limit command = Err NoRanks
+
+abbrev pub cause_at : ℕ → Option BoardData → Command → Option Fault
+cause_at limit None command = failure (at_beginning limit command)
+cause_at limit (Some b) command = cause b (meaning command)
 
 abbrev pub DoesAt : ℕ → Option BoardData → Command → Printed → Bool → BoardData → Type 0
-DoesAt limit None (line.Ranks n) p ample new = (new ≡ empty_board limit n) × (p ≡ only_lines []) × (ample ≡ true)
-DoesAt limit None command p ample new = ⊥
-DoesAt limit (Some b) command p ample new = Does b command p ample new
+DoesAt limit None command p ample new = IsQuiet (at_beginning limit command) p ample new
+DoesAt limit (Some b) command p ample new = Does b (meaning command) p ample new
 
 -- why a line is refused
 abbrev pub asked_cause : SessionData → Asked → Option Fault
 asked_cause s line.Nothing = None
 asked_cause s line.Syntax = Some Syntax
-asked_cause s (line.Asks command) = cause_at s.board command
+asked_cause s (line.Asks command) = cause_at s.limit s.board command
 
 -- a line that says nothing
 abbrev pub IsStill : SessionData → Printed → Bool → SessionData → Type 0

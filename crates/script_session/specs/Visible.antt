@@ -5,6 +5,7 @@ use Rattle.script_commands.specs.Commands as line
 use Rattle.script_commands.specs.Commands.{Asked, asked}
 use Rattle.script_board.specs.declared.fault.Fault.TheVariants.{Memory}
 use Rattle.script_session.specs.Fault.{words}
+use Rattle.script_session.specs.Does.{Changes, Meaning, Prints, meaning}
 use Rattle.script_session.specs.Session.{SessionData, published}
 
 -- the answer ends with the line that says want of memory
@@ -19,11 +20,13 @@ NoneSaysMemory number (a ∷ more) = (SaysMemory number a → ⊥) × NoneSaysMe
 -- Whether a line's answer is the same however much of the map is published: not so `go`, whose requests are asked of
 -- the ranks that the published map names, nor the report, which shows them. (A map that isn't published for want of
 -- memory isn't told.)
+abbrev pub ignores_map : Meaning → Bool
+ignores_map (Changes change) = true
+ignores_map (Prints print) = true
+ignores_map _ = false
+
 abbrev pub tells_all : Asked → Bool
-tells_all (line.Asks line.Go) = false
-tells_all (line.Asks line.Plan) = false
-tells_all (line.Asks line.Move) = false
-tells_all (line.Asks line.Stat) = false
+tells_all (line.Asks command) = ignores_map (meaning command)
 tells_all _ = true
 
 -- a line whose answer is known once it is known that it doesn't say want of memory

@@ -1,7 +1,7 @@
 //! What each command does to a board.
 ghost use Rattle.std.specs.Prelude.{◌≡◌, Bool, [], IfErr, IfOk, IfSome, None, OnErr, OnOk, false, true};
 ghost use Rattle.script_commands.specs.View.{view};
-ghost use Rattle.script_session.specs.Does.{Does, IsCaused, cause, is_by_threads};
+ghost use Rattle.script_session.specs.Does.{Does, IsCaused, cause, is_by_threads, meaning};
 ghost use Rattle.script_session.specs.Done.{IsShowable, shown};
 ghost use Rattle.script_session.specs.Printed.{only_lines};
 
@@ -18,7 +18,7 @@ use std::thread::Threads;
 
 /// Whether the threads of the ranks carry a command out.
 pub fn is_by_threads(command: &Command<'_>) -> bool
-    ensures { result ≡ is_by_threads (view command.now) }
+    ensures { result ≡ is_by_threads (meaning (view command.now)) }
 {
     match command {
         Command::Go | Command::Move => true,
@@ -37,11 +37,11 @@ pub fn carry_out_by_threads<
     alloc: Global,
     command: Command<'_>,
 ) -> (ScriptBoard<J, M>, Result<Done, Fault>)
-    requires { is_by_threads (view command) ≡ true }
+    requires { is_by_threads (meaning (view command)) ≡ true }
     ensures done { IfOk result.1 (λ done. (ample : Bool)
-        × Does board (view command.entry) (shown result.0 done) ample result.0) }
+        × Does board (meaning (view command.entry)) (shown result.0 done) ample result.0) }
     ensures showable { IfOk result.1 (IsShowable result.0) }
-    ensures fault { IfErr result.1 (IsCaused (cause board (view command.entry))) }
+    ensures fault { IfErr result.1 (IsCaused (cause board (meaning (view command.entry)))) }
     ensures unchanged { OnErr result.1 (result.0 ≡ board) }
 {
     match command {
@@ -73,11 +73,11 @@ pub fn change<J: Naming, M: Publisher<J>, R: Threads>(
     alloc: Global,
     command: Command<'_>,
 ) -> Result<Done, Fault>
-    requires { is_by_threads (view command) ≡ false }
+    requires { is_by_threads (meaning (view command)) ≡ false }
     ensures done { IfOk result (λ done. (ample : Bool)
-        × Does board.old (view command.entry) (shown board.new done) ample board.new) }
+        × Does board.old (meaning (view command.entry)) (shown board.new done) ample board.new) }
     ensures showable { IfOk result (IsShowable board.new) }
-    ensures fault { IfErr result (IsCaused (cause board.old (view command.entry))) }
+    ensures fault { IfErr result (IsCaused (cause board.old (meaning (view command.entry)))) }
     ensures unchanged { OnErr result (board.new ≡ board.old) }
 {
     match command {
@@ -111,8 +111,8 @@ pub fn change_quietly<J: Naming, M: Publisher<J>>(
     command: &Command<'_>,
 ) -> Option<Result<(), Fault>>
     ensures done { IfSome result (λ changed. OnOk changed
-        (Does board.old (view command.now) (only_lines []) true board.new)) }
-    ensures fault { IfSome result (λ changed. IfErr changed (IsCaused (cause board.old (view command.now)))) }
+        (Does board.old (meaning (view command.now)) (only_lines []) true board.new)) }
+    ensures fault { IfSome result (λ changed. IfErr changed (IsCaused (cause board.old (meaning (view command.now))))) }
     ensures unchanged { IfSome result (λ changed. OnErr changed (board.new ≡ board.old)) }
     ensures left { result ≡ None → board.new ≡ board.old }
 {

@@ -4,7 +4,7 @@ ghost use Rattle.std.specs.Prelude.{OnErr, OnOk, Some, None, [], length, take, f
 ghost use Rattle.script_commands.specs.Commands.{Ranks, asked};
 ghost use Rattle.script_commands.specs.Commands as words;
 ghost use Rattle.script_commands.specs.View.{asked_view, view};
-ghost use Rattle.script_session.specs.Does.{IsCaused, is_by_threads};
+ghost use Rattle.script_session.specs.Does.{IsCaused, is_by_threads, meaning};
 ghost use Rattle.script_session.specs.Done.{IsShowable, IsShowableAt, shown, shown_at};
 ghost use Rattle.script_replies.specs.Printed.{joined};
 ghost use Rattle.script_engine.specs.Answers.{fault_text};
@@ -233,7 +233,7 @@ impl<'r, J: Naming + Send + Sync, M: Publisher<J> + Send, R: Threads + Wait + Sy
         ensures done { IfOk result (λ done. (ample : Bool)
             × IsDone self.old (words.Asks (view command.entry)) (shown_at self.new.board done) ample self.new) }
         ensures showable { IfOk result (IsShowableAt self.new.board) }
-        ensures fault { IfErr result (IsCaused (cause_at self.old.board (view command.entry))) }
+        ensures fault { IfErr result (IsCaused (cause_at self.old.limit self.old.board (view command.entry))) }
         ensures unchanged { OnErr result (self.new ≡ self.old) }
     {
         if is_by_threads(&command) {
@@ -250,11 +250,11 @@ impl<'r, J: Naming + Send + Sync, M: Publisher<J> + Send, R: Threads + Wait + Sy
 
     // Carries out a command for which the threads of the ranks take the board.
     fn carry_out_by_threads(&mut self, alloc: Global, command: Command<'_>) -> Result<Done, Fault>
-        requires { is_by_threads (view command) ≡ true }
+        requires { is_by_threads (meaning (view command)) ≡ true }
         ensures done { IfOk result (λ done. (ample : Bool)
             × IsDone self.old (words.Asks (view command.entry)) (shown_at self.new.board done) ample self.new) }
         ensures showable { IfOk result (IsShowableAt self.new.board) }
-        ensures fault { IfErr result (IsCaused (cause_at self.old.board (view command.entry))) }
+        ensures fault { IfErr result (IsCaused (cause_at self.old.limit self.old.board (view command.entry))) }
         ensures unchanged { OnErr result (self.new ≡ self.old) }
     {
         let Some(board) = self.board.take() else {

@@ -4,7 +4,7 @@ use crate::same::{holds_in, same};
 use board_certificates::Unwritten;
 use dirtree::NameKey;
 use plan_checker::check;
-use plan_text::{Certificate, read};
+use plan_text::{Certificate, read_first};
 use script_engine::Input;
 use script_session::{RunOptions, Silence, run};
 use std::alloc::Global;
@@ -60,11 +60,28 @@ fn holds_so(rt: &impl Abort, alloc: Global, certificate: &Certificate, greatest:
     same(rt, &plan.greatest, &greatest);
 }
 
+/// The certificates that the bytes are.
+fn read_all(rt: &impl Abort, alloc: Global, bytes: &[u8]) -> Vec<Certificate> {
+    let mut certificates = Vec::new(alloc);
+    let mut rest = bytes;
+    for _ in 0..bytes.len() {
+        if rest.is_empty() {
+            break;
+        }
+        let Ok((certificate, more)) = read_first(alloc, rest) else {
+            panic!(rt; "they are certificates")
+        };
+        let Ok(()) = certificates.push(certificate) else {
+            panic!(rt; "there is memory for them")
+        };
+        rest = more;
+    }
+    certificates
+}
+
 /// The bytes are certificates that hold, of plans with these greatest heats.
 fn all_hold_so(rt: &impl Abort, alloc: Global, bytes: &[u8], heats: &[u64]) {
-    let Ok(certificates) = read(alloc, bytes) else {
-        panic!(rt; "they are certificates")
-    };
+    let certificates = read_all(rt, alloc, bytes);
     same(rt, &certificates.len(), &heats.len());
     for (certificate, greatest) in certificates.iter().zip(heats) {
         holds_so(rt, alloc, certificate, *greatest);
@@ -100,9 +117,7 @@ fn has_names(rt: &impl Abort, certificate: &Certificate, wanted: &[&str]) {
 fn rows_have_the_names_of_their_directories(rt: HostRuntime) {
     let (told, bytes) = written(&rt, rt.alloc(), NAMED, 4096, ENOUGH);
     holds_in(&rt, told == Ok(()), &"one plan");
-    let Ok(certificates) = read(rt.alloc(), &bytes) else {
-        panic!(&rt; "it is a certificate")
-    };
+    let certificates = read_all(&rt, rt.alloc(), &bytes);
     same(&rt, &certificates.len(), &1);
     for certificate in certificates.iter() {
         has_names(&rt, certificate, NAMES);
