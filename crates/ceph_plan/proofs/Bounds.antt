@@ -4,12 +4,10 @@ use Rattle.std.proofs.lemmas.Bool.{cases_Bool, cases_eq, cases_lt, and_parts, bo
 use Rattle.std.proofs.lemmas.Grind.{div_ceil_times}
 use Rattle.std.proofs.lemmas.List.{get_or-set_other, get_or-set_same}
 use Rattle.std.proofs.Math.Nat.{le_trans, mul-le-mul_left, mul_comm}
-use Rattle.mds_types.specs.declared.problem.ProblemRow.{ProblemRow}
-use Rattle.mds_types.specs.Problem.{heat_at}
 use Rattle.mds_types.specs.RankSet.{has_rank, rank_count}
 use Rattle.mds_types.specs.Sums.{count_below, max_below, sum_below}
 use Rattle.mds_types.proofs.SumsLemmas.{max_below-le, max_below-term, sum_below-add, sum_below-pick, sum_below-same, sum_below-swap, sum_below-term, sum_below-zero}
-use Rattle.ceph_plan.specs.Packing.{IsAsGreatAsThree, IsAssignment, IsLowerBound, greatest_load, greatest_of, heat_to, load, total_of}
+use Rattle.ceph_plan.specs.Packing.{IsAsGreat, IsBoundOf, greatest_of, total_of}
 
 -- all numbers below 64 are seen
 pub greatest_all : (ranks n m : ℕ) (f : ℕ → ℕ) → n ≡ 64 → m ≡ max_below n (λ r. cond (has_rank ranks r) (f r) 0) → m ≡ greatest_of ranks f
@@ -84,11 +82,15 @@ totals m n has pinned to h usable small =
     ∙ (sum_below-add m (λ r. cond (has r) (pinned r) 0) (λ r. cond (has r) (sum_below n (λ i. cond (eqb (to i) r) (h i) 0)) 0)
     ∙ ap (λ (x : ℕ). sum_below m (λ r. cond (has r) (pinned r) 0) + x) (spread m n has to h usable small))
 
+-- the loads of n directories that go to these ranks
+abbrev pub loads_to : List ℕ → ℕ → (ℕ → ℕ) → (ℕ → ℕ) → ℕ → ℕ
+loads_to pinned n heat to r = slice_index pinned r + sum_below n (λ i. cond (eqb (to i) r) (heat i) 0)
+
 -- what is pinned and all heat are the sum of the loads
-pub total-load : (ranks : ℕ) (pinned : List ℕ) (rows : List ProblemRow) (to : ℕ → ℕ) → IsAssignment ranks rows to → total_of ranks (load pinned rows to) ≡ total_of ranks (slice_index pinned) + sum_below (length rows) (heat_at rows)
+pub total-load : (ranks : ℕ) (pinned : List ℕ) (n : ℕ) (heat to : ℕ → ℕ) → ((i : ℕ) → i < n → has_rank ranks (to i) ≡ true)
+    → total_of ranks (loads_to pinned n heat to) ≡ total_of ranks (slice_index pinned) + sum_below n heat
 unfolding total_of
-total-load ranks pinned rows to is =
-    totals 64 (length rows) (has_rank ranks) (slice_index pinned) to (heat_at rows) is.usable (λ i l. rank-small ranks (to i) (is.usable i l))
+total-load ranks pinned n heat to usable = totals 64 n (has_rank ranks) (slice_index pinned) to heat usable (λ i l. rank-small ranks (to i) (usable i l))
 
 ceil-le : (t r g : ℕ) → 0 < r → t ≤ g * r → t / r + min 1 (t % r) ≤ g
 ceil-le t r g some le =
@@ -122,25 +124,26 @@ heat-there n i r to h l same =
     same_eqb a b e = eq-eqb a b e
 
 -- the three bounds
-pub lower : (ranks : ℕ) (pinned : List ℕ) (rows : List ProblemRow) (mean hottest least : ℕ) → has_rank ranks 0 ≡ true
-    → mean ≡ (sum_below (length rows) (heat_at rows) + total_of ranks (slice_index pinned)) / rank_count ranks + min 1 ((sum_below (length rows) (heat_at rows) + total_of ranks (slice_index pinned)) % rank_count ranks)
-    → hottest ≡ max_below (length rows) (heat_at rows)
+pub lower : (ranks : ℕ) (pinned : List ℕ) (n : ℕ) (heat : ℕ → ℕ) (all hottest mean least : ℕ) → has_rank ranks 0 ≡ true
+    → all ≤ sum_below n heat → hottest ≤ max_below n heat
+    → mean ≡ (all + total_of ranks (slice_index pinned)) / rank_count ranks + min 1 ((all + total_of ranks (slice_index pinned)) % rank_count ranks)
     → ((r : ℕ) → has_rank ranks r ≡ true → least ≤ slice_index pinned r)
-    → IsLowerBound ranks pinned rows (max (max mean (hottest + least)) (greatest_of ranks (slice_index pinned)))
-lower ranks pinned rows mean hottest least zero_in mean_is hottest_is least_is to is =
-    let g : ℕ = greatest_load ranks pinned rows to in
-    let each : (r : ℕ) → has_rank ranks r ≡ true → load pinned rows to r ≤ g = λ r has. greatest-term ranks r (load pinned rows to) has in
-    let all : total_of ranks (load pinned rows to) ≤ g * rank_count ranks = total-le ranks g (load pinned rows to) each in
-    let sum : sum_below (length rows) (heat_at rows) + total_of ranks (slice_index pinned) ≤ g * rank_count ranks = omega (arith, all, total-load ranks pinned rows to is) in
-    let first : mean ≤ g = rw mean_is (ceil-le (sum_below (length rows) (heat_at rows) + total_of ranks (slice_index pinned)) (rank_count ranks) g (count-positive ranks zero_in) sum) in
-    let second : hottest + least ≤ g = elim (max_reached (length rows) (heat_at rows)) [
+    → IsBoundOf ranks pinned n heat (max (max mean (hottest + least)) (greatest_of ranks (slice_index pinned)))
+lower ranks pinned n heat all hottest mean least zero_in all_is hottest_is mean_is least_is to usable =
+    let load : ℕ → ℕ = loads_to pinned n heat to in
+    let g : ℕ = greatest_of ranks load in
+    let each : (r : ℕ) → has_rank ranks r ≡ true → load r ≤ g = λ r has. greatest-term ranks r load has in
+    let sums : total_of ranks load ≤ g * rank_count ranks = total-le ranks g load each in
+    let sum : all + total_of ranks (slice_index pinned) ≤ g * rank_count ranks = omega (arith, sums, all_is, total-load ranks pinned n heat to usable) in
+    let first : mean ≤ g = rw mean_is (ceil-le (all + total_of ranks (slice_index pinned)) (rank_count ranks) g (count-positive ranks zero_in) sum) in
+    let second : hottest + least ≤ g = elim (max_reached n heat) [
       | inl none ↦ omega (arith, none, hottest_is, least_is 0 zero_in, each 0 zero_in)
       | inr some ↦
-          let usable : has_rank ranks (to some.0) ≡ true = is.usable some.0 some.1 in
-          let there : heat_at rows some.0 ≤ heat_to rows (length rows) to (to some.0) = heat-there (length rows) some.0 (to some.0) to (heat_at rows) some.1 refl in
-          omega (arith, some.2, hottest_is, least_is (to some.0) usable, each (to some.0) usable, there)
+          let has : has_rank ranks (to some.0) ≡ true = usable some.0 some.1 in
+          let there : heat some.0 ≤ sum_below n (λ i. cond (eqb (to i) (to some.0)) (heat i) 0) = heat-there n some.0 (to some.0) to heat some.1 refl in
+          omega (arith, some.2, hottest_is, least_is (to some.0) has, each (to some.0) has, there)
     ] in
-    let third : greatest_of ranks (slice_index pinned) ≤ g = greatest-le ranks g (slice_index pinned) (λ r has. let e : load pinned rows to r ≤ g = each r has in omega (arith, e)) in
+    let third : greatest_of ranks (slice_index pinned) ≤ g = greatest-le ranks g (slice_index pinned) (λ r has. let e : load r ≤ g = each r has in omega (arith, e)) in
     omega (arith, first, second, third)
 
 -- the greatest is that of what is alike at the ranks of the set
@@ -160,21 +163,26 @@ set_usable ranks n k v xs size before here p l =
     (cases_eq p k)
 
 -- the three are no more than the bound
-pub as_great : (ranks : ℕ) (pinned : List ℕ) (rows : List ProblemRow) (mean hottest least bound : ℕ) → has_rank ranks 0 ≡ true
-    → mean ≡ (sum_below (length rows) (heat_at rows) + total_of ranks (slice_index pinned)) / rank_count ranks + min 1 ((sum_below (length rows) (heat_at rows) + total_of ranks (slice_index pinned)) % rank_count ranks)
-    → hottest ≡ max_below (length rows) (heat_at rows)
+pub as_great : (ranks : ℕ) (pinned : List ℕ) (n : ℕ) (heat : ℕ → ℕ) (all hottest mean least bound : ℕ) → has_rank ranks 0 ≡ true
+    → all ≡ sum_below n heat → hottest ≡ max_below n heat
+    → mean ≡ (all + total_of ranks (slice_index pinned)) / rank_count ranks + min 1 ((all + total_of ranks (slice_index pinned)) % rank_count ranks)
     → (r : ℕ) × (has_rank ranks r ≡ true) × (slice_index pinned r ≡ least)
     → bound ≡ max (max mean (hottest + least)) (greatest_of ranks (slice_index pinned))
-    → IsAsGreatAsThree ranks pinned rows bound
-as_great ranks pinned rows mean hottest least bound zero_in mean_is hottest_is one is =
-    let all : ℕ = sum_below (length rows) (heat_at rows) + total_of ranks (slice_index pinned) in
-    let ceil : all ≤ mean * rank_count ranks = rw mean_is (div_ceil_times all (rank_count ranks) (count-positive ranks zero_in)).0 in
-    let times : mean * rank_count ranks ≤ bound * rank_count ranks = rw (mul_comm mean (rank_count ranks), mul_comm bound (rank_count ranks)) (mul-le-mul_left (rank_count ranks) (let le : mean ≤ bound = omega (arith, is) in le)) in
+    → IsAsGreat ranks pinned n heat bound
+as_great ranks pinned n heat all hottest mean least bound zero_in all_is hottest_is mean_is one is =
+    let sum : ℕ = all + total_of ranks (slice_index pinned) in
+    let ceil : sum ≤ mean * rank_count ranks = rw mean_is (div_ceil_times sum (rank_count ranks) (count-positive ranks zero_in)).0 in
+    let le : mean ≤ bound = omega (arith, is) in
+    let times : mean * rank_count ranks ≤ bound * rank_count ranks = rw (mul_comm mean (rank_count ranks), mul_comm bound (rank_count ranks)) (mul-le-mul_left (rank_count ranks) le) in
     record {
-      mean = omega (arith, ceil, times);
-      least = (one.0, one.1, λ i l. omega (arith, is, one.2, hottest_is, max_below-term (length rows) i (heat_at rows) l));
+      mean = omega (arith, ceil, times, all_is);
+      least = (one.0, one.1, λ i l. omega (arith, is, one.2, hottest_is, max_below-term n i heat l));
       most = λ r has. omega (arith, is, greatest-term ranks r (slice_index pinned) has);
     }
+
+-- the hottest is no hotter than all
+pub max-sum : (n : ℕ) (heat : ℕ → ℕ) → max_below n heat ≤ sum_below n heat
+max-sum n heat = max_below-le n (sum_below n heat) heat (λ i l. sum_below-term n i heat l)
 
 -- the least so far, and where it is
 pub record IsLeastBelow (ranks : ℕ) (numbers : List ℕ) (n so_far : ℕ) : Type 0 where

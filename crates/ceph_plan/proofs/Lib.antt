@@ -8,6 +8,7 @@ pub mod Held
 pub mod Least
 pub mod Means
 pub mod Moves
+pub mod Orders
 pub mod Packed
 pub mod PartSums
 pub mod PinList

@@ -1,13 +1,13 @@
 -- The packing with one more part.
-use Rattle.std.proofs.Common.{All, ◌^◌, ◌/◌, ◌≡◌, ◌≢◌, ◌∙◌, ◌+◌, ◌*◌, ◌<◌, ◌≤◌, ◌&&◌, ◌||◌, ◌==◌, ℕ, zero, suc, Bool, true, false, List, length, length-set, get_or, set, slice_index, cond, eqb, nat_lt, inl, inr, ⊎_elim, ap, arith, refl, replicate, subst, sym}
-use Rattle.std.proofs.Math.Nat.{le-add_right, le_of_eq, le_of_lt}
-use Rattle.std.proofs.lemmas.Bool.{and_parts, both_ways, cases_Bool, cases_eq, eq-eqb, eqb-true, le-ltb, ltb-true, ne_eqb, or_cases, or_from, or_left, or_right}
+use Rattle.std.proofs.Common.{All, ◌^◌, ◌/◌, ◌≡◌, ◌≢◌, ◌∙◌, ◌+◌, ◌*◌, ◌<◌, ◌≤◌, ◌&&◌, ◌||◌, ◌==◌, ℕ, Bool, true, false, List, length, length-set, get_or, set, slice_index, cond, eqb, nat_lt, inl, inr, ⊎_elim, ap, arith, refl, replicate, subst, sym}
+use Rattle.std.proofs.Math.Nat.{le-add_right, le_of_eq, le_of_lt, mul-le-mul_left, mul_comm}
+use Rattle.std.proofs.lemmas.Bool.{and_parts, both_ways, cases_Bool, cases_eq, cases_lt, eq-eqb, eqb-true, le-ltb, ltb-true, ne_eqb, or_cases, or_from, or_left, or_right}
 use Rattle.std.proofs.lemmas.List.{get_or-replicate, get_or-set_other, get_or-set_same, get_or_default, length-replicate}
 use Rattle.std.proofs.lemmas.List.Elements.{All-get_or}
 use Rattle.mds_types.specs.RankSet.{has_rank}
-use Rattle.mds_types.specs.Sums.{count_below, sum_below}
-use Rattle.mds_types.proofs.SumsLemmas.{count_below-le, sum_below-add, sum_below-pick, sum_below-same, sum_below-zero}
-use Rattle.ceph_plan.specs.Balance.{HaveRanks, IsChosenPacking, IsKeptWithin, IsLargestFirst, IsNearMean, IsSent, allowed, goes_before, greatest_by, is_hotter, load_before, load_by, load_of_parts}
+use Rattle.mds_types.specs.Sums.{sum_below}
+use Rattle.mds_types.proofs.SumsLemmas.{sum_below-add, sum_below-pick, sum_below-same, sum_below-zero}
+use Rattle.ceph_plan.specs.Balance.{HaveRanks, IsChosenPacking, IsEvened, IsKeptWithin, IsLargestFirst, IsNearMean, IsByHeat, IsSent, allowed, goes_before, greatest_by, is_hotter, load_before, load_by, load_of_parts}
 use Rattle.ceph_plan.proofs.Bounds.{rank-small, set_usable}
 use Rattle.ceph_plan.proofs.Means.{IsFairLoad, fair-least, load-small, near-mean}
 
@@ -15,18 +15,20 @@ abbrev pub is_done : List Bool → ℕ → Bool
 is_done done q = get_or done q false
 
 -- the parts that are done are packed, and no other is hotter than one of them
-pub record ArePacked (ranks : ℕ) (pinned heats inodes : List ℕ) (root limit : ℕ) (rank : List ℕ) (done : List Bool) (loads : List ℕ)
+pub record ArePacked (ranks : ℕ) (pinned heats inodes order : List ℕ) (root limit : ℕ) (rank : List ℕ) (done : List Bool) (loads : List ℕ)
     (left : ℕ) : Type 0 where
   pub ranks_are : HaveRanks ranks heats root rank
   pub size : length done ≡ length heats
   pub root_done : is_done done root ≡ true
   pub loads_size : length loads ≡ 64
   pub loads_are : (r : ℕ) → r < 64 → slice_index loads r ≡ load_by pinned heats rank (is_done done) r
-  pub order : (q p : ℕ) → q < length heats → p < length heats → q ≢ root → is_done done q ≡ true → is_done done p ≡ false → is_hotter heats q p ≡ true
+  pub ahead : (q p : ℕ) → q < length heats → p < length heats → q ≢ root → is_done done q ≡ true → is_done done p ≡ false → is_hotter heats q p ≡ true
   pub sent : (p : ℕ) → p < length heats → p ≢ root → is_done done p ≡ true
       → IsSent ranks (load_before pinned heats root rank p) inodes p (slice_index heats p) limit (slice_index rank p)
   pub fair : (r : ℕ) → has_rank ranks r ≡ true → IsFairLoad ranks pinned heats root limit r (slice_index loads r)
-  pub enough : length heats ≤ count_below (length heats) (is_done done) + left
+  pub ordered : IsByHeat heats order
+  pub within : left ≤ length heats
+  pub rest : (i : ℕ) → left ≤ i → i < length heats → is_done done (slice_index order i) ≡ true
 
 and-no : (x y : Bool) → y ≡ false → (x && y) ≡ false
 and-no true y is = is
@@ -110,37 +112,6 @@ load-set pinned heats rank done k to r inside ranks size new =
     let sums : sum_below (length heats) f ≡ sum_below (length heats) g + x = sum-set (length heats) k x f g inside here others in
     omega (arith, sums)
 
-count-set : (n k : ℕ) (done : List Bool) → k < n → length done ≡ n → is_done done k ≡ false
-    → count_below n (is_done (set done k true)) ≡ count_below n (is_done done) + 1
-count-set n k done inside size new =
-    sum-set n k 1 (λ q. cond (get_or (set done k true) q false) 1 0) (λ q. cond (get_or done q false) 1 0) inside
-    (rw (get_or-set_same done k true false (omega (arith, inside, size)), new) refl)
-    (λ q l other. rw (get_or-set_other done k q true false other) refl)
-
-pub count-all : (n : ℕ) (p : ℕ → Bool) → ((q : ℕ) → q < n → p q ≡ true) → count_below n p ≡ n
-count-all zero p all = refl
-count-all (suc n) p all = rw (all n (omega arith)) (omega (arith, count-all n p (λ q l. all q (omega (arith, l)))))
-
-pub all-counted : (n : ℕ) (p : ℕ → Bool) → n ≤ count_below n p → (q : ℕ) → q < n → p q ≡ true
-all-counted zero p enough q l = let none : ⊥ = omega (arith, l) in absurd none
-all-counted (suc n) p enough q l =
-    ⊎_elim (λ (is : p n ≡ true).
-    let before : n ≤ count_below n p = less n (count_below n p) (p n) enough in
-    ⊎_elim (λ (same : q ≡ n). ap p same ∙ is)
-    (λ (other : q ≢ n). all-counted n p before q (omega (arith, l, other)))
-    (cases_eq q n))
-    (λ (not : p n ≡ false).
-    let none : ⊥ = short n (count_below n p) (p n) not enough (count_below-le n p) in absurd none)
-    (cases_Bool (p n))
-  where
-    less : (n m : ℕ) (b : Bool) → suc n ≤ m + cond b 1 0 → n ≤ m
-    less n m true h = omega (arith, h)
-    less n m false h = omega (arith, h)
-
-    short : (n m : ℕ) (b : Bool) → b ≡ false → suc n ≤ m + cond b 1 0 → m ≤ n → ⊥
-    short n m true is h le = both_ways true is refl
-    short n m false is h le = omega (arith, h, le)
-
 -- of the part that is next: those before it are done
 before-next : (heats : List ℕ) (root k q : ℕ) (done : List Bool) → is_done done root ≡ true → q < length heats → k < length heats → q ≢ k → is_done done k ≡ false
     → ((q p : ℕ) → q < length heats → p < length heats → q ≢ root → is_done done q ≡ true → is_done done p ≡ false → is_hotter heats q p ≡ true)
@@ -160,14 +131,39 @@ before-next heats root k q done root_done inside here other new order first =
 not-before : (heats : List ℕ) (root k p : ℕ) → k ≢ root → is_hotter heats k p ≡ false → goes_before heats root k p ≡ false
 not-before heats root k p later not = or_from (k == root) (is_hotter heats k p) (ne_eqb k root later) not
 
-pub packed-more : (ranks : ℕ) (pinned heats inodes : List ℕ) (root limit : ℕ) (rank : List ℕ) (done : List Bool) (loads : List ℕ) (left next k to : ℕ) (more : List ℕ)
-    → ArePacked ranks pinned heats inodes root limit rank done loads left → k < length heats → is_done done k ≡ false
-    → ((q : ℕ) → q < length heats → q ≢ k → is_done done q ≡ false → is_hotter heats k q ≡ true)
+-- and it is the hottest of those that are left
+next-hottest : (heats order : List ℕ) (left next k : ℕ) (done : List Bool) → IsByHeat heats order
+    → ((i : ℕ) → left ≤ i → i < length heats → is_done done (slice_index order i) ≡ true)
+    → next < length heats → k ≡ slice_index order next → left ≡ next + 1
+    → (q : ℕ) → q < length heats → q ≢ k → is_done done q ≡ false → is_hotter heats k q ≡ true
+next-hottest heats order left next k done ordered rest there is less q l other new =
+    let place = ordered.each q l in
+    let low : place.0 < left =
+    ⊎_elim (λ (low : place.0 < left). low)
+    (λ (high : left ≤ place.0). absurd (both_ways (is_done done q) new (ap (is_done done) (sym place.2) ∙ rest place.0 high place.1)))
+    (cases_lt place.0 left) in
+    let apart : place.0 ≢ next = λ at. other (sym place.2 ∙ (ap (slice_index order) at ∙ sym is)) in
+    let far : slice_index order place.0 ≢ slice_index order next = λ same. other (sym place.2 ∙ (same ∙ sym is)) in
+    subst (λ (j : ℕ). is_hotter heats j q ≡ true) (sym is)
+    (subst (λ (j : ℕ). is_hotter heats (slice_index order next) j ≡ true) place.2
+    (ordered.hotter place.0 next (omega (arith, low, less, apart)) there far))
+
+all-done : (heats order : List ℕ) (done : List Bool) → IsByHeat heats order
+    → ((i : ℕ) → 0 ≤ i → i < length heats → is_done done (slice_index order i) ≡ true) → (q : ℕ) → q < length heats → is_done done q ≡ true
+all-done heats order done ordered rest q l =
+    let place = ordered.each q l in
+    ap (is_done done) (sym place.2) ∙ rest place.0 (omega arith) place.1
+
+pub packed-more : (ranks : ℕ) (pinned heats inodes order : List ℕ) (root limit : ℕ) (rank : List ℕ) (done : List Bool) (loads : List ℕ) (left next k to : ℕ) (more : List ℕ)
+    → ArePacked ranks pinned heats inodes order root limit rank done loads left → next < length heats → k ≡ slice_index order next → is_done done k ≡ false
     → has_rank ranks to ≡ true → IsSent ranks (slice_index loads) inodes k (slice_index heats k) limit to
     → length more ≡ 64 → ((r : ℕ) → r < 64 → slice_index more r ≡ slice_index loads r + cond (eqb to r) (slice_index heats k) 0) → left ≡ next + 1
-    → ArePacked ranks pinned heats inodes root limit (set rank k to) (set done k true) more next
-packed-more ranks pinned heats inodes root limit rank done loads left next k to more before inside new first has sent size added less =
+    → ArePacked ranks pinned heats inodes order root limit (set rank k to) (set done k true) more next
+packed-more ranks pinned heats inodes order root limit rank done loads left next k to more before there is new has sent size added less =
     let n : ℕ = length heats in
+    let inside : k < n = omega (arith, is, before.ordered.inside next there) in
+    let first : (q : ℕ) → q < n → q ≢ k → is_done done q ≡ false → is_hotter heats k q ≡ true =
+    next-hottest heats order left next k done before.ordered before.rest there is less in
     let ranks_size : length rank ≡ n = before.ranks_are.size in
     let later : k ≢ root = λ same. both_ways (is_done done k) new (ap (is_done done) same ∙ before.root_done) in
     let now : get_or (set rank k to) k 0 ≡ to = get_or-set_same rank k to 0 (omega (arith, inside, ranks_size)) in
@@ -176,13 +172,13 @@ packed-more ranks pinned heats inodes root limit rank done loads left next k to 
     before.loads_are r small ∙ load-same pinned heats rank (set rank k to) (is_done done) (λ q. goes_before heats root q k) r (λ q l.
     ⊎_elim (λ (same : q ≡ k). subst (λ (j : ℕ). (is_done done j && (get_or rank j 0 == r)) ≡ (goes_before heats root j k && (get_or (set rank k to) j 0 == r))) (sym same)
     (rw (new, not-before heats root k k later (hotter-self heats k)) refl))
-    (λ (other : q ≢ k). rw (get_or-set_other rank k q to 0 other, before-next heats root k q done before.root_done l inside other new before.order first) refl)
+    (λ (other : q ≢ k). rw (get_or-set_other rank k q to 0 other, before-next heats root k q done before.root_done l inside other new before.ahead first) refl)
     (cases_eq q k)) in
     let same_before : (p : ℕ) → p < n → p ≢ root → is_done done p ≡ true → (r : ℕ) → r < 64
     → load_before pinned heats root rank p r ≡ load_before pinned heats root (set rank k to) p r = λ p lp below was r small.
     load-same pinned heats rank (set rank k to) (λ q. goes_before heats root q p) (λ q. goes_before heats root q p) r (λ q l.
     ⊎_elim (λ (same : q ≡ k). subst (λ (j : ℕ). (goes_before heats root j p && (get_or rank j 0 == r)) ≡ (goes_before heats root j p && (get_or (set rank k to) j 0 == r))) (sym same)
-    (rw (not-before heats root k p later (hotter-not heats p k (before.order p k lp inside below was new))) refl))
+    (rw (not-before heats root k p later (hotter-not heats p k (before.ahead p k lp inside below was new))) refl))
     (λ (other : q ≢ k). rw (get_or-set_other rank k q to 0 other) refl)
     (cases_eq q k)) in
     record {
@@ -195,11 +191,11 @@ packed-more ranks pinned heats inodes root limit rank done loads left next k to 
       root_done = get_or-set_other done k root true false (λ same. later (sym same)) ∙ before.root_done;
       loads_size = size;
       loads_are = λ r small. omega (arith, added r small, before.loads_are r small, load-set pinned heats rank done k to r inside ranks_size before.size new);
-      order = λ q p lq lp below is not.
+      ahead = λ q p lq lp below is not.
           let other : p ≢ k = λ same. both_ways (is_done (set done k true) p) not (ap (is_done (set done k true)) same ∙ now_done) in
           let not_before : is_done done p ≡ false = sym (get_or-set_other done k p true false other) ∙ not in
           ⊎_elim (λ (same : q ≡ k). ap (λ (j : ℕ). is_hotter heats j p) same ∙ first p lp other not_before)
-          (λ (old : q ≢ k). before.order q p lq lp below (sym (get_or-set_other done k q true false old) ∙ is) not_before)
+          (λ (old : q ≢ k). before.ahead q p lq lp below (sym (get_or-set_other done k q true false old) ∙ is) not_before)
           (cases_eq q k);
       sent = λ p l below is.
           ⊎_elim (λ (same : p ≡ k).
@@ -225,31 +221,43 @@ packed-more ranks pinned heats inodes root limit rank done loads left next k to 
           added r small ∙ (ap (λ (b : Bool). slice_index loads r + cond b (slice_index heats k) 0) (ne_eqb to r (λ same. other (sym same))) ∙ add-zero (slice_index loads r)) in
           subst (λ (x : ℕ). IsFairLoad ranks pinned heats root limit r x) (sym sum) (before.fair r is))
           (cases_eq r to);
-      enough = omega (arith, before.enough, less, count-set n k done inside before.size new);
+      ordered = before.ordered;
+      within = omega (arith, before.within, less);
+      rest = λ i high l.
+          ⊎_elim (λ (same : slice_index order i ≡ k). ap (is_done (set done k true)) same ∙ now_done)
+          (λ (other : slice_index order i ≢ k).
+          get_or-set_other done k (slice_index order i) true false other
+          ∙ before.rest i (let past : i ≢ next = λ at. other (ap (slice_index order) at ∙ sym is) in omega (arith, high, less, past)) l)
+          (cases_eq (slice_index order i) k);
     }
 
--- all are done already
-pub packed-none : (ranks : ℕ) (pinned heats inodes : List ℕ) (root limit : ℕ) (rank : List ℕ) (done : List Bool) (loads : List ℕ) (left next : ℕ)
-    → ArePacked ranks pinned heats inodes root limit rank done loads left → ((q : ℕ) → q < length heats → is_done done q ≡ true)
-    → ArePacked ranks pinned heats inodes root limit rank done loads next
-packed-none ranks pinned heats inodes root limit rank done loads left next before all = record {
+-- the part that is next is done already
+pub packed-none : (ranks : ℕ) (pinned heats inodes order : List ℕ) (root limit : ℕ) (rank : List ℕ) (done : List Bool) (loads : List ℕ) (left next : ℕ)
+    → ArePacked ranks pinned heats inodes order root limit rank done loads left → is_done done (slice_index order next) ≡ true → left ≡ next + 1
+    → ArePacked ranks pinned heats inodes order root limit rank done loads next
+packed-none ranks pinned heats inodes order root limit rank done loads left next before is less = record {
   ranks_are = before.ranks_are;
   size = before.size;
   root_done = before.root_done;
   loads_size = before.loads_size;
   loads_are = before.loads_are;
-  order = before.order;
+  ahead = before.ahead;
   sent = before.sent;
   fair = before.fair;
-  enough = omega (arith, count-all (length heats) (is_done done) all);
+  ordered = before.ordered;
+  within = omega (arith, before.within, less);
+  rest = λ i high l.
+      ⊎_elim (λ (same : i ≡ next). ap (λ (j : ℕ). is_done done (slice_index order j)) same ∙ is)
+      (λ (other : i ≢ next). before.rest i (omega (arith, high, less, other)) l)
+      (cases_eq i next);
 }
 
 -- the root's part is done
-pub packed-first : (ranks : ℕ) (pinned heats inodes : List ℕ) (root limit : ℕ) (rank : List ℕ) (done : List Bool) (loads : List ℕ) (n : ℕ)
-    → n ≡ length heats → root < n → has_rank ranks 0 ≡ true → rank ≡ replicate n 0 → done ≡ replicate n false → length loads ≡ 64
+pub packed-first : (ranks : ℕ) (pinned heats inodes order : List ℕ) (root limit : ℕ) (rank : List ℕ) (done : List Bool) (loads : List ℕ) (n : ℕ)
+    → IsByHeat heats order → n ≡ length heats → root < n → has_rank ranks 0 ≡ true → rank ≡ replicate n 0 → done ≡ replicate n false → length loads ≡ 64
     → ((r : ℕ) → r < 64 → slice_index loads r ≡ slice_index pinned r + cond (eqb 0 r) (slice_index heats root) 0)
-    → ArePacked ranks pinned heats inodes root limit rank (set done root true) loads n
-packed-first ranks pinned heats inodes root limit rank done loads n size_is inside has rank_is done_is size added =
+    → ArePacked ranks pinned heats inodes order root limit rank (set done root true) loads n
+packed-first ranks pinned heats inodes order root limit rank done loads n ordered size_is inside has rank_is done_is size added =
     let marks : length done ≡ n = ap length done_is ∙ length-replicate n false in
     let zeros : (p : ℕ) → p < n → get_or rank p 0 ≡ 0 = λ p l. ap (λ (xs : List ℕ). get_or xs p 0) rank_is ∙ get_or-replicate n p 0 0 l in
     let falses : (p : ℕ) → p < n → get_or done p false ≡ false = λ p l. ap (λ (xs : List Bool). get_or xs p false) done_is ∙ get_or-replicate n p false false l in
@@ -272,7 +280,7 @@ packed-first ranks pinned heats inodes root limit rank done loads n size_is insi
           sum-set (length heats) root (cond (eqb 0 r) (slice_index heats root) 0) f (λ q. 0) (omega (arith, inside, size_is)) (omega (arith, here))
           (λ q l other. rw (only q l other) refl) in
           omega (arith, added r small, sums, sum_below-zero (length heats) (λ q. 0) (λ q l. refl));
-      order = λ q p lq lp later is not. absurd (both_ways (is_done (set done root true) q) (only q lq later) is);
+      ahead = λ q p lq lp later is not. absurd (both_ways (is_done (set done root true) q) (only q lq later) is);
       sent = λ p l later is. absurd (both_ways (is_done (set done root true) p) (only p l later) is);
       fair = λ r is.
           ⊎_elim (λ (same : r ≡ 0). inr (inl (subst (λ (t : ℕ). slice_index loads t ≤ slice_index pinned 0 + slice_index heats root) (sym same)
@@ -283,22 +291,24 @@ packed-first ranks pinned heats inodes root limit rank done loads n size_is insi
             ap (λ (b : Bool). cond b (slice_index heats root) 0) (ne_eqb 0 r (λ same. other (sym same))),
           )))
           (cases_eq r 0);
-      enough = omega (arith, size_is);
+      ordered = ordered;
+      within = omega (arith, size_is);
+      rest = λ i high l. let none : ⊥ = omega (arith, high, l, size_is) in absurd none;
     }
 
 -- all parts are packed
-pub packed-all : (ranks : ℕ) (pinned heats inodes : List ℕ) (root limit : ℕ) (rank : List ℕ) (done : List Bool) (loads : List ℕ)
-    → ArePacked ranks pinned heats inodes root limit rank done loads 0 → IsKeptWithin ranks pinned heats inodes root limit rank
-packed-all ranks pinned heats inodes root limit rank done loads packed = record {
+pub packed-all : (ranks : ℕ) (pinned heats inodes order : List ℕ) (root limit : ℕ) (rank : List ℕ) (done : List Bool) (loads : List ℕ)
+    → ArePacked ranks pinned heats inodes order root limit rank done loads 0 → IsKeptWithin ranks pinned heats inodes root limit rank
+packed-all ranks pinned heats inodes order root limit rank done loads packed = record {
   ranks_are = packed.ranks_are;
-  sent = λ p l later. packed.sent p l later (all-counted (length heats) (is_done done) (omega (arith, packed.enough)) p l);
+  sent = λ p l later. packed.sent p l later (all-done heats order done packed.ordered packed.rest p l);
 }
 
-pub loads-all : (ranks : ℕ) (pinned heats inodes : List ℕ) (root limit : ℕ) (rank : List ℕ) (done : List Bool) (loads : List ℕ)
-    → ArePacked ranks pinned heats inodes root limit rank done loads 0 → (r : ℕ) → r < 64 → slice_index loads r ≡ load_of_parts pinned heats rank r
-loads-all ranks pinned heats inodes root limit rank done loads packed r small =
+pub loads-all : (ranks : ℕ) (pinned heats inodes order : List ℕ) (root limit : ℕ) (rank : List ℕ) (done : List Bool) (loads : List ℕ)
+    → ArePacked ranks pinned heats inodes order root limit rank done loads 0 → (r : ℕ) → r < 64 → slice_index loads r ≡ load_of_parts pinned heats rank r
+loads-all ranks pinned heats inodes order root limit rank done loads packed r small =
     packed.loads_are r small ∙ load-same pinned heats rank rank (is_done done) (λ q. true) r (λ q l.
-    ap (λ (b : Bool). b && (get_or rank q 0 == r)) (all-counted (length heats) (is_done done) (omega (arith, packed.enough)) q l))
+    ap (λ (b : Bool). b && (get_or rank q 0 == r)) (all-done heats order done packed.ordered packed.rest q l))
 
 -- where no load is within the limit, no rank was loaded less
 pub largest-first : (ranks : ℕ) (pinned heats inodes : List ℕ) (root : ℕ) (rank : List ℕ) → IsKeptWithin ranks pinned heats inodes root 0 rank
@@ -314,11 +324,11 @@ largest-first ranks pinned heats inodes root rank kept = record {
 }
 
 -- the greatest load where all parts are packed and none is kept at home
-pub fair-all : (ranks : ℕ) (pinned heats inodes : List ℕ) (root : ℕ) (rank : List ℕ) (done : List Bool) (loads : List ℕ)
-    → ArePacked ranks pinned heats inodes root 0 rank done loads 0 → IsNearMean ranks pinned heats root (greatest_by ranks pinned heats rank)
-fair-all ranks pinned heats inodes root rank done loads packed =
+pub fair-all : (ranks : ℕ) (pinned heats inodes order : List ℕ) (root : ℕ) (rank : List ℕ) (done : List Bool) (loads : List ℕ)
+    → ArePacked ranks pinned heats inodes order root 0 rank done loads 0 → IsNearMean ranks pinned heats root (greatest_by ranks pinned heats rank)
+fair-all ranks pinned heats inodes order root rank done loads packed =
     near-mean ranks pinned heats rank root (λ r has.
-    subst (λ (x : ℕ). IsFairLoad ranks pinned heats root 0 r x) (loads-all ranks pinned heats inodes root 0 rank done loads packed r (rank-small ranks r has)) (packed.fair r has))
+    subst (λ (x : ℕ). IsFairLoad ranks pinned heats root 0 r x) (loads-all ranks pinned heats inodes order root 0 rank done loads packed r (rank-small ranks r has)) (packed.fair r has))
 
 -- what is read of a list, whatever stands past its end
 pub read-value : (xs ys : List ℕ) (i x : ℕ) → xs ≡ ys → i < length ys → x ≡ get_or xs i x → x ≡ get_or ys i 0
@@ -332,10 +342,10 @@ added-set loads to h v r inside is =
     (λ (other : r ≢ to). rw (get_or-set_other loads to r v 0 other, ne_eqb to r (λ same. other (sym same))) (omega arith))
     (cases_eq r to)
 
-pub load-bound : (ranks : ℕ) (pinned heats inodes : List ℕ) (root limit : ℕ) (rank : List ℕ) (done : List Bool) (loads : List ℕ) (left r : ℕ)
-    → ArePacked ranks pinned heats inodes root limit rank done loads left → All (λ (n : ℕ). n ≤ 2 ^ 57) pinned → length pinned ≡ 64
+pub load-bound : (ranks : ℕ) (pinned heats inodes order : List ℕ) (root limit : ℕ) (rank : List ℕ) (done : List Bool) (loads : List ℕ) (left r : ℕ)
+    → ArePacked ranks pinned heats inodes order root limit rank done loads left → All (λ (n : ℕ). n ≤ 2 ^ 57) pinned → length pinned ≡ 64
     → sum_below (length heats) (slice_index heats) ≤ 2 ^ 56 → r < 64 → slice_index loads r ≤ 2 ^ 57 + 2 ^ 56
-load-bound ranks pinned heats inodes root limit rank done loads left r packed small size total inside =
+load-bound ranks pinned heats inodes order root limit rank done loads left r packed small size total inside =
     let most : slice_index pinned r ≤ 2 ^ 57 = All-get_or (λ (n : ℕ). n ≤ 2 ^ 57) pinned r 0 (omega (arith, size, inside)) small in
     omega (arith, packed.loads_are r inside, load-small ranks pinned heats rank (is_done done) r, most, total)
 
@@ -343,18 +353,32 @@ load-bound ranks pinned heats inodes root limit rank done loads left r packed sm
 pub ranks-chosen : (ranks : ℕ) (pinned heats inodes : List ℕ) (root keep : ℕ) (rank : List ℕ) → IsChosenPacking ranks pinned heats inodes root keep rank
     → HaveRanks ranks heats root rank
 ranks-chosen ranks pinned heats inodes root keep rank chosen = elim chosen.taken [
-  | inl near ↦ subst (HaveRanks ranks heats root) (sym near.1) chosen.kept.ranks_are
-  | inr plain ↦ subst (HaveRanks ranks heats root) (sym plain.1) chosen.largest_first.ranks_are
+  | inl near ↦ subst (HaveRanks ranks heats root) (sym near.1) chosen.mended.ranks_are
+  | inr even ↦ subst (HaveRanks ranks heats root) (sym even.1) chosen.evened.ranks_are
 ]
 
 -- and the greatest load is allowed
 pub within-chosen : (ranks : ℕ) (pinned heats inodes : List ℕ) (root keep : ℕ) (rank : List ℕ) → (chosen : IsChosenPacking ranks pinned heats inodes root keep rank)
-    → greatest_by ranks pinned heats rank ≤ allowed keep (greatest_by ranks pinned heats chosen.plain)
+    → greatest_by ranks pinned heats rank ≤ allowed keep (greatest_by ranks pinned heats chosen.even)
 within-chosen ranks pinned heats inodes root keep rank chosen = elim chosen.taken [
-  | inl near ↦ subst (λ (xs : List ℕ). greatest_by ranks pinned heats xs ≤ allowed keep (greatest_by ranks pinned heats chosen.plain)) (sym near.1) near.0
-  | inr plain ↦ subst (λ (xs : List ℕ). greatest_by ranks pinned heats xs ≤ allowed keep (greatest_by ranks pinned heats chosen.plain)) (sym plain.1)
-      (le-add_right (greatest_by ranks pinned heats chosen.plain) (greatest_by ranks pinned heats chosen.plain / 100 * keep))
+  | inl near ↦ subst (λ (xs : List ℕ). greatest_by ranks pinned heats xs ≤ allowed keep (greatest_by ranks pinned heats chosen.even)) (sym near.1) near.0
+  | inr even ↦ subst (λ (xs : List ℕ). greatest_by ranks pinned heats xs ≤ allowed keep (greatest_by ranks pinned heats chosen.even)) (sym even.1)
+      (le-add_right (greatest_by ranks pinned heats chosen.even) (greatest_by ranks pinned heats chosen.even / 100 * keep))
 ]
+
+-- what is evened is no hotter
+pub cooler-evened : (ranks : ℕ) (pinned heats : List ℕ) (root enough : ℕ) (packed rank : List ℕ) → IsEvened ranks pinned heats root enough packed rank
+    → greatest_by ranks pinned heats rank ≤ greatest_by ranks pinned heats packed
+cooler-evened ranks pinned heats root enough packed rank evened = elim evened.cooler [
+  | inl same ↦ le_of_eq (ap (greatest_by ranks pinned heats) same)
+  | inr less ↦ le_of_lt less
+]
+
+pub allowed-more : (keep load more : ℕ) → load ≤ more → allowed keep load ≤ allowed keep more
+allowed-more keep load more le =
+    let hundredths : load / 100 ≤ more / 100 = omega (arith, le) in
+    let times : load / 100 * keep ≤ more / 100 * keep = rw (mul_comm (load / 100) keep, mul_comm (more / 100) keep) (mul-le-mul_left keep hundredths) in
+    omega (arith, le, times)
 
 -- the same is chosen of the same lists
 pub chosen-same : (ranks : ℕ) (pinned heats inodes those others : List ℕ) (root keep : ℕ) (rank : List ℕ) → those ≡ heats → others ≡ inodes

@@ -1,18 +1,20 @@
 -- The contract of the changes, and one more row.
-use Rattle.std.proofs.Common.{◌≡◌, ◌≢◌, ℕ, zero, suc, ◌+◌, ◌-◌, ◌<◌, ◌≤◌, List, [], ◌∷◌, ◌++◌, length, take, true, false, cond, not, ◌&&◌, Option, Some, None, refl, ap, sym, ◌∙◌, arith, ⊎_elim, ◌⊎◌, inl, inr, subst}
+use Rattle.std.proofs.Common.{◌≡◌, ◌≢◌, ℕ, zero, suc, ◌+◌, ◌-◌, ◌<◌, ◌≤◌, List, [], ◌∷◌, ◌++◌, length, take, true, false, cond, eqb, not, ◌&&◌, Option, Some, None, refl, ap, sym, ◌∙◌, arith, ⊎_elim, ◌⊎◌, inl, inr, subst}
 use Rattle.std.specs.Prelude.{is_some, is_none}
 use Rattle.std.proofs.lemmas.Bool.{and_from, and_parts, both_ways, cases_Bool, cases_lt, eq-eqb, eqb-true, not-true, not_from_false, lt-ltb, le-ltb}
 use Rattle.std.proofs.lemmas.List.{append_assoc, get_or_past}
 use Rattle.std.proofs.lemmas.List.Elements.{All-append, All-cons, All-nil}
 use Rattle.ceph_plan.specs.declared.row.PinRow.{PinRow}
+use Rattle.ceph_plan.specs.declared.row.Pin.{Pin}
 use Rattle.ceph_plan.specs.declared.row.PinChange.{PinChange}
 use Rattle.ceph_plan.specs.declared.hold.Hold.{Hold}
 use Rattle.ceph_plan.specs.declared.hold.Hold.TheVariants.{Foreign, Free, Own}
-use Rattle.ceph_plan.specs.Rule.{AreRows, IsNearest, IsRealized, first_of, foreign_at, no_row, own_pin, parent_at, row_at, target_at}
+use Rattle.ceph_plan.specs.Rule.{AreRows, IsNearest, IsRealized, first_of, foreign_at, no_row, own_pin, parent_at, row_at, target_at, without}
 use Rattle.ceph_plan.specs.Holds.{AreHolds, hold_at, hold_of, is_own, pins_below, rests_at}
-use Rattle.ceph_plan.specs.Changes.{AreNeeded, AreUntouched, StillHolds, applied, before_pin, drops_from, is_dropped, is_set, sets_below, stands, while_set, while_unset}
+use Rattle.ceph_plan.specs.Changes.{AreForced, AreNeeded, AreUntouched, StillHolds, applied, before_pin, drops_from, is_dropped, is_set, sets_below, stands, while_set, while_unset}
 use Rattle.ceph_plan.proofs.Held.{IsHeld, IsOwnBy, own_below, own_by, own_held, own_inside}
 use Rattle.ceph_plan.proofs.Held as held
+use Rattle.ceph_plan.proofs.Found as found
 use Rattle.ceph_plan.proofs.Script.{AreSame, AreStates, ends, once, same_at, same_near}
 
 abbrev pub new_pin : List PinRow → List Hold → ℕ → Option ℕ
@@ -260,3 +262,13 @@ pub kept : (rows : List PinRow) (holds : List Hold) (changes : List PinChange) �
 kept rows holds changes f i r near =
     same_near rows (new_pin rows holds) (applied (before_pin rows) changes) i r (back (applied (before_pin rows) changes) (new_pin rows holds) (in_the_end rows holds changes f))
     (held.kept rows holds (new_pin rows holds) f.are f.holds_are f.size (own_by rows holds f.size) i r near)
+
+-- a pin of ours that is there in the end is needed
+pub forced : (rows : List PinRow) (holds : List Hold) (changes : List PinChange) → AreChanges rows holds changes → AreForced rows (applied (before_pin rows) changes)
+forced rows holds changes f i free some there =
+    let pins : List Pin = pins_below rows holds (length rows) in
+    let last = in_the_end rows holds changes f in
+    found.needed rows holds pins (record { are = f.are; holds_are = f.holds_are; size = f.size; pins_are = refl }) i
+    (λ none. some (last.same i ∙ rw (free, none) refl))
+    (same_at rows (without i (applied (before_pin rows) changes)) (without i (new_pin rows holds)) i (target_at rows i)
+    (record { same = λ j. ap (λ (x : Option ℕ). cond (eqb j i) None x) (last.same j) }) there)

@@ -15,6 +15,14 @@ is_hotter heats q p =
     nat_lt (slice_index heats p) (slice_index heats q)
     || ((slice_index heats p == slice_index heats q) && nat_lt q p)
 
+-- the parts in an order, of two the hotter one later
+pub record IsByHeat (heats order : List ℕ) : Type 0 where
+  pub size : length order ≡ length heats
+  pub inside : (i : ℕ) → i < length heats → slice_index order i < length heats
+  pub hotter : (i j : ℕ) → i < j → j < length heats → slice_index order i ≢ slice_index order j
+      → is_hotter heats (slice_index order j) (slice_index order i) ≡ true
+  pub each : (p : ℕ) → p < length heats → (i : ℕ) × (i < length heats) × (slice_index order i ≡ p)
+
 -- the root's part goes first, and of two others the hotter one
 abbrev pub goes_before : List ℕ → ℕ → ℕ → ℕ → Bool
 goes_before heats root q p = (q == root) || is_hotter heats q p
@@ -92,17 +100,27 @@ IsNearMean ranks pinned heats root greatest =
     ⊎ ((greatest ≤ slice_index pinned 0 + slice_index heats root)
     ⊎ (greatest * rank_count ranks ≤ all_of_parts ranks pinned heats + hottest_of heats * rank_count ranks))
 
+-- a packing after exchanges: cooler, or left as it was. One that was cool enough is left as it was
+pub record IsEvened (ranks : ℕ) (pinned heats : List ℕ) (root enough : ℕ) (packed rank : List ℕ) : Type 0 where
+  pub ranks_are : HaveRanks ranks heats root rank
+  pub cooler : (rank ≡ packed) ⊎ (greatest_by ranks pinned heats rank < greatest_by ranks pinned heats packed)
+  pub left : greatest_by ranks pinned heats packed ≤ enough → rank ≡ packed
+
 -- which packing is taken: the one that keeps parts at home, if its greatest load is at most `keep` percent above that
--- of the largest first, and else that one
+-- of the largest first, and else that one, both evened
 pub record IsChosenPacking (ranks : ℕ) (pinned heats inodes : List ℕ) (root keep : ℕ) (rank : List ℕ) : Type 0 where
   pub plain : List ℕ
   pub largest_first : IsLargestFirst ranks pinned heats root plain
   pub near_mean : IsNearMean ranks pinned heats root (greatest_by ranks pinned heats plain)
+  pub even : List ℕ
+  pub evened : IsEvened ranks pinned heats root 0 plain even
+  pub kept : List ℕ
+  pub within : IsKeptWithin ranks pinned heats inodes root (allowed keep (greatest_by ranks pinned heats even)) kept
   pub near : List ℕ
-  pub kept : IsKeptWithin ranks pinned heats inodes root (allowed keep (greatest_by ranks pinned heats plain)) near
-  pub taken : ((greatest_by ranks pinned heats near ≤ allowed keep (greatest_by ranks pinned heats plain))
+  pub mended : IsEvened ranks pinned heats root (allowed keep (greatest_by ranks pinned heats even)) kept near
+  pub taken : ((greatest_by ranks pinned heats near ≤ allowed keep (greatest_by ranks pinned heats even))
       × (rank ≡ near))
-      ⊎ ((allowed keep (greatest_by ranks pinned heats plain) < greatest_by ranks pinned heats near) × (rank ≡ plain))
+      ⊎ ((allowed keep (greatest_by ranks pinned heats even) < greatest_by ranks pinned heats near) × (rank ≡ even))
 
 -- the inodes of part p at rank r
 abbrev pub part_inodes_at : List ProblemRow → List ℕ → ℕ → ℕ → ℕ
@@ -110,8 +128,8 @@ part_inodes_at rows part p r =
     sum_below (length rows)
     (λ i. if (slice_index part i == p) && (now_at rows i == r) then inodes_at rows i else 0)
 
--- the greatest load of a packing is at most `keep` percent above that of its parts packed by heat only, largest first,
--- and parts stay at home where that leaves it within this limit
+-- the greatest load of a packing is at most `keep` percent above that of its parts packed by heat only, largest first
+-- and evened, which is no more than that of the largest first. Parts stay at home where that leaves it within the limit
 pub record IsPackedEvenly (ranks : ℕ) (pinned : List ℕ) (rows : List ProblemRow) (part : List ℕ) (count keep : ℕ)
     (packing : Packing) : Type 0 where
   pub heats : List ℕ
@@ -121,4 +139,6 @@ pub record IsPackedEvenly (ranks : ℕ) (pinned : List ℕ) (rows : List Problem
   pub there : (p r : ℕ) → p < count → r < 64 → inodes_there inodes p r ≡ part_inodes_at rows part p r
   pub chosen : IsChosenPacking ranks pinned heats inodes (slice_index part 0) keep packing.rank.items
   pub greatest : packing.greatest ≡ greatest_by ranks pinned heats packing.rank.items
-  pub within : packing.greatest ≤ allowed keep (greatest_by ranks pinned heats chosen.plain)
+  pub within : packing.greatest ≤ allowed keep (greatest_by ranks pinned heats chosen.even)
+  pub cooler : greatest_by ranks pinned heats chosen.even ≤ greatest_by ranks pinned heats chosen.plain
+  pub bounded : packing.greatest ≤ allowed keep (greatest_by ranks pinned heats chosen.plain)

@@ -4,7 +4,7 @@ use Rattle.std.specs.Prelude.{List, [], ◌∷◌, Option, Some, None, nat_lt, i
 use Rattle.ceph_plan.specs.declared.hold.Hold.{Hold}
 use Rattle.ceph_plan.specs.declared.row.PinChange.{PinChange}
 use Rattle.ceph_plan.specs.declared.row.PinRow.{PinRow}
-use Rattle.ceph_plan.specs.Rule.{IsNearest, first_of, foreign_at, row_at, target_at}
+use Rattle.ceph_plan.specs.Rule.{IsAt, IsNearest, first_of, foreign_at, row_at, target_at, without}
 use Rattle.ceph_plan.specs.Holds.{hold_at, is_own, rests_at}
 
 -- the rows' own pins before: foreign ones, and those of an earlier plan
@@ -26,6 +26,11 @@ AreNeeded rows changes = All (λ change. before_pin rows change.row ≢ change.p
 -- no change is of a row whose pin is to stay
 abbrev pub AreUntouched : List PinRow → List PinChange → Type 0
 AreUntouched rows changes = All (λ change. foreign_at rows change.row ≡ None) changes
+
+-- without any one of these pins, but those that are to stay, its row is elsewhere
+abbrev pub AreForced : List PinRow → (ℕ → Option ℕ) → Type 0
+AreForced rows own =
+    (i : ℕ) → foreign_at rows i ≡ None → own i ≢ None → ¬ (IsAt rows (without i own) i (target_at rows i))
 
 -- what a pin holds that is to stay, it holds with these pins
 abbrev pub StillHolds : List PinRow → (ℕ → Option ℕ) → Type 0

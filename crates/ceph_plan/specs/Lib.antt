@@ -9,3 +9,4 @@ pub mod Proposals
 pub mod Refusals
 pub mod Rule
 pub mod Words
+pub mod Worth

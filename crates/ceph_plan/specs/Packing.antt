@@ -33,13 +33,21 @@ abbrev pub IsLowerBound : ℕ → List ℕ → List ProblemRow → ℕ → Type 
 IsLowerBound ranks pinned rows bound =
     (to : ℕ → ℕ) → IsAssignment ranks rows to → bound ≤ greatest_load ranks pinned rows to
 
--- the bound is no less than the mean load, than each row beside the least that is pinned to a rank of the set, and than
--- what is pinned to each
-pub record IsAsGreatAsThree (ranks : ℕ) (pinned : List ℕ) (rows : List ProblemRow) (bound : ℕ) : Type 0 where
-  pub mean : sum_below (length rows) (heat_at rows) + total_of ranks (slice_index pinned) ≤ bound * rank_count ranks
-  pub least : (r : ℕ) × (has_rank ranks r ≡ true)
-      × ((i : ℕ) → i < length rows → heat_at rows i + slice_index pinned r ≤ bound)
+-- the same of n directories of these heats: whichever ranks of the set they go to, one is loaded at least so much
+abbrev pub IsBoundOf : ℕ → List ℕ → ℕ → (ℕ → ℕ) → ℕ → Type 0
+IsBoundOf ranks pinned n heat bound =
+    (to : ℕ → ℕ) → ((i : ℕ) → i < n → has_rank ranks (to i) ≡ true)
+    → bound ≤ greatest_of ranks (λ r. slice_index pinned r + sum_below n (λ i. if to i == r then heat i else 0))
+
+-- the bound is no less than the mean load, than each heat beside the least that is pinned to a rank of the set, and
+-- than what is pinned to each
+pub record IsAsGreat (ranks : ℕ) (pinned : List ℕ) (n : ℕ) (heat : ℕ → ℕ) (bound : ℕ) : Type 0 where
+  pub mean : sum_below n heat + total_of ranks (slice_index pinned) ≤ bound * rank_count ranks
+  pub least : (r : ℕ) × (has_rank ranks r ≡ true) × ((i : ℕ) → i < n → heat i + slice_index pinned r ≤ bound)
   pub most : (r : ℕ) → has_rank ranks r ≡ true → slice_index pinned r ≤ bound
+
+abbrev pub IsAsGreatAsThree : ℕ → List ℕ → List ProblemRow → ℕ → Type 0
+IsAsGreatAsThree ranks pinned rows bound = IsAsGreat ranks pinned (length rows) (heat_at rows) bound
 
 -- the rank that row i goes to with its part
 abbrev pub packed_rank : List ℕ → List ℕ → ℕ → ℕ

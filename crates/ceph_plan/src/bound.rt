@@ -1,9 +1,10 @@
 //! What no assignment of whole directories to ranks can get below.
-ghost use Rattle.std.specs.Prelude.{◌≡◌, ◌<◌, ◌≤◌, ◌+◌, ◌*◌, ◌^◌, ℕ, All, length, slice_index, true, if◌then◌else◌};
+ghost use Rattle.std.specs.Prelude.{◌≡◌, ◌<◌, ◌≤◌, ◌+◌, ◌*◌, ◌^◌, ℕ, All, true};
+ghost use Rattle.std.specs.Prelude.{length, min, slice_index, if◌then◌else◌};
 ghost use Rattle.mds_types.specs.Problem.{IsForest, heat_at};
 ghost use Rattle.mds_types.specs.RankSet.{has_rank};
 ghost use Rattle.mds_types.specs.Sums.{max_below, sum_below};
-ghost use Rattle.ceph_plan.specs.Packing.{IsAsGreatAsThree, IsLowerBound, greatest_of, total_of};
+ghost use Rattle.ceph_plan.specs.Packing.{IsAsGreat, IsAsGreatAsThree, IsBoundOf, IsLowerBound, greatest_of, total_of};
 
 use mds_types::{ProblemRow, Rank, RankSet};
 
@@ -90,8 +91,26 @@ fn hottest(rows: &[ProblemRow]) -> u64
     hottest
 }
 
-/// The greatest of three: the mean load, rounded up; the hottest row where least is pinned; the most that is
-/// pinned. Each assignment of rows to ranks, connected or not, has a rank that is loaded at least so much.
+/// The greatest of three: the mean load, rounded up; the hottest directory where least is pinned; the most that is
+/// pinned. `all` is the heat of all directories, and `hottest` that of the hottest.
+fn bound_of(all: u64, hottest: u64, pinned: &[u64], ranks: RankSet) -> u64
+    requires all { all ≤ 2 ^ 62 }
+    requires hottest { hottest ≤ 2 ^ 62 }
+    requires size { length pinned.now ≡ 64 }
+    requires small { All (λ n. n ≤ 2 ^ 57) pinned.now }
+    requires zero { has_rank ranks 0 ≡ true }
+    ensures lower { (n : ℕ) (heat : ℕ → ℕ) → all ≤ sum_below n heat → hottest ≤ max_below n heat
+        → IsBoundOf ranks pinned.now n heat result }
+    ensures three { (n : ℕ) (heat : ℕ → ℕ) → all ≡ sum_below n heat → hottest ≡ max_below n heat
+        → IsAsGreat ranks pinned.now n heat result }
+{
+    let count = u64::from(ranks.len());
+    let mean = (all + total(pinned, ranks)).div_ceil(count);
+    let single = hottest + least(pinned, ranks);
+    mean.max(single).max(most(pinned, ranks))
+}
+
+/// What each assignment of rows to ranks, connected or not, loads at least on some rank.
 pub fn lower_bound(rows: &[ProblemRow], pinned: &[u64], ranks: RankSet) -> u64
     requires forest { IsForest rows.now }
     requires size { length pinned.now ≡ 64 }
@@ -100,8 +119,43 @@ pub fn lower_bound(rows: &[ProblemRow], pinned: &[u64], ranks: RankSet) -> u64
     ensures lower { IsLowerBound ranks pinned.now rows.now result }
     ensures three { IsAsGreatAsThree ranks pinned.now rows.now result }
 {
-    let count = u64::from(ranks.len());
-    let mean = (total_heat(rows) + total(pinned, ranks)).div_ceil(count);
-    let single = hottest(rows) + least(pinned, ranks);
-    mean.max(single).max(most(pinned, ranks))
+    bound_of(total_heat(rows), hottest(rows), pinned, ranks)
+}
+
+/// No more heat than this is counted.
+const MOST_HEAT: u64 = 1 << 62;
+
+/// The sum of the heats, as far as it is counted.
+fn sum_of(heats: &[u64]) -> u64
+    ensures { result ≡ min (sum_below (length heats.now) (slice_index heats.now)) (2 ^ 62) }
+{
+    let mut sum = 0;
+    for heat in heats {
+        sum = (sum + MOST_HEAT.min(*heat)).min(MOST_HEAT);
+    }
+    sum
+}
+
+/// The greatest of the heats, as far as it is counted.
+fn hottest_of(heats: &[u64]) -> u64
+    ensures { result ≡ min (max_below (length heats.now) (slice_index heats.now)) (2 ^ 62) }
+{
+    let mut hottest = 0;
+    for heat in heats {
+        hottest = MOST_HEAT.min(*heat).max(hottest);
+    }
+    hottest
+}
+
+/// What each assignment of directories of these heats to ranks, connected or not, loads at least on some rank. More
+/// than 2^62 of heat is not counted.
+pub fn heats_bound(heats: &[u64], pinned: &[u64], ranks: RankSet) -> u64
+    requires size { length pinned.now ≡ 64 }
+    requires small { All (λ n. n ≤ 2 ^ 57) pinned.now }
+    requires zero { has_rank ranks 0 ≡ true }
+    ensures lower { IsBoundOf ranks pinned.now (length heats.now) (slice_index heats.now) result }
+    ensures three { sum_below (length heats.now) (slice_index heats.now) ≤ 2 ^ 62
+        → IsAsGreat ranks pinned.now (length heats.now) (slice_index heats.now) result }
+{
+    bound_of(sum_of(heats), hottest_of(heats), pinned, ranks)
 }

@@ -1,7 +1,8 @@
 //! The changes from the pins of an earlier plan to those of a new one.
 ghost use Rattle.std.specs.Prelude.{◌≡◌, ◌<◌, ◌≤◌, ◌⊎◌, ◌++◌, ◌^◌, ℕ, length, take, IfOk, OnOk};
 ghost use Rattle.ceph_plan.specs.Rule.{AreRows, IsNearest, IsRealized};
-ghost use Rattle.ceph_plan.specs.Changes.{AreNeeded, AreUntouched, StillHolds, applied, before_pin, drops_from};
+ghost use Rattle.ceph_plan.specs.Changes.{AreForced, AreNeeded, AreUntouched, StillHolds};
+ghost use Rattle.ceph_plan.specs.Changes.{applied, before_pin, drops_from};
 ghost use Rattle.ceph_plan.specs.Changes.{is_dropped, is_set, sets_below, stands};
 
 use crate::hold::{Hold, holds_of};
@@ -88,6 +89,8 @@ pub fn changes_for(alloc: Global, rows: &[PinRow]) -> Result<Vec<PinChange>, All
         ⊎ IsNearest rows.now (applied (before_pin rows.now) changes.items) i r) }
     // each changes its row's pin
     ensures needed { IfOk result (λ changes. AreNeeded rows.now changes.items) }
+    // without any pin of ours that is there in the end its row is elsewhere
+    ensures forced { IfOk result (λ changes. AreForced rows.now (applied (before_pin rows.now) changes.items)) }
     // none is of a row whose pin is to stay, and what such a pin holds it still holds
     ensures untouched { IfOk result (λ changes. AreUntouched rows.now changes.items) }
     ensures kept { IfOk result (λ changes. StillHolds rows.now (applied (before_pin rows.now) changes.items)) }

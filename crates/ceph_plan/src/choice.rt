@@ -33,6 +33,9 @@ pub struct Wanted {
     /// The percent by which a load may pass the greatest of the packing that looks at heat only, so that a part stays
     /// where it is.
     pub keep: u8,
+    /// Whether a directory without a pin at or above it stays where it is, as it does while Ceph's balancer is off.
+    /// Then only those get a pin that move, or that would move with the one above.
+    pub rests: bool,
 }
 
 /// The place of the coolest.

@@ -10,10 +10,12 @@
 pub mod bound;
 pub mod changes;
 pub mod choice;
+mod exchange;
 mod gathered;
 mod hold;
 pub mod laws;
 mod loads;
+mod order;
 pub mod packing;
 pub mod pins;
 pub mod plan;
@@ -22,8 +24,9 @@ pub mod proposal;
 pub mod quote;
 mod rank_choice;
 pub mod row;
+pub mod worth;
 
-pub use bound::{lower_bound, total_heat};
+pub use bound::{heats_bound, lower_bound, total_heat};
 pub use changes::changes_for;
 pub use choice::{PartCount, Wanted, choose_plan};
 pub use packing::{Packing, are_parts, are_pinned, pack};
@@ -33,3 +36,4 @@ pub use plan_error::PlanError;
 pub use proposal::{OwnPins, Proposal, propose};
 pub use quote::quoted;
 pub use row::{Pin, PinChange, PinRow};
+pub use worth::{Gain, LeastGain, is_worth_it};

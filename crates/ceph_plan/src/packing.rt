@@ -7,6 +7,7 @@ ghost use Rattle.ceph_plan.specs.Packing.{IsAsGreatAsThree, IsLowerBound, IsPack
 
 use crate::bound::{lower_bound, most};
 use crate::loads::loads;
+use crate::order::by_heat;
 use crate::rank_choice::{PartAmounts, choose, part_heats, part_inodes};
 use mds_types::{ProblemRow, Rank, RankSet};
 use std::alloc::{AllocError, Global};
@@ -70,14 +71,16 @@ pub fn pack(
 {
     let heats = part_heats(alloc, rows, part, count)?;
     let inodes = part_inodes(alloc, rows, part, count)?;
+    let order = by_heat(alloc, &heats)?;
     let parts = PartAmounts {
         heats: &heats,
+        order: &order,
         inodes: &inodes,
         root: part[0],
         pinned,
     };
     let rank = choose(alloc, parts, ranks, keep)?;
-    let load = loads(alloc, rows, part, &rank, pinned)?;
+    let load = loads(alloc, &heats, &rank, pinned)?;
     let greatest = most(&load, ranks);
     let bound = lower_bound(rows, pinned, ranks);
     Ok(Packing {

@@ -1,5 +1,5 @@
 //! The changes of export pins that bring each directory to the rank that a plan gives it.
-ghost use Rattle.std.specs.Prelude.{◌≡◌, ◌<◌, ℕ, length, slice_index, IfErr, IfOk};
+ghost use Rattle.std.specs.Prelude.{◌≡◌, ◌==◌, ◌<◌, ℕ, length, slice_index, IfErr, IfOk, None, Some, if◌then◌else◌};
 ghost use Rattle.ceph_plan.specs.Asked.{ArePinRows};
 ghost use Rattle.ceph_plan.specs.Proposals.{IsProposal};
 ghost use Rattle.ceph_plan.specs.Refusals.{IsProposalRefusal};
@@ -33,36 +33,50 @@ pub struct Proposal {
     pub changes: Vec<PinChange>,
 }
 
-/// What is asked of each row: to be at the rank of its part, wherever it is now.
-/// Only the root is known to stay where it is.
+/// Where a row is while no pin holds it, as far as that is known.
+fn rest_of(now: Rank, row: usize, rests: bool) -> Option<Rank>
+    ensures { result ≡ (if row == 0 then Some 0 else if rests then Some now else None) }
+{
+    if row == 0 {
+        Some(Rank::default())
+    } else if rests {
+        Some(now)
+    } else {
+        None
+    }
+}
+
+/// What is asked of each row: to be at the rank of its part, wherever it is now. The root is known to stay where it
+/// is, and the others too if `rests`.
 fn pin_rows(
     alloc: Global,
     rows: &[ProblemRow],
     part: &[u32],
     rank: &[Rank],
     own: &[OwnPins],
+    rests: bool,
 ) -> Result<Vec<PinRow>, AllocError>
     requires parts { length part.now ≡ length rows.now }
     requires own { length own.now ≡ length rows.now }
     requires below { (i : ℕ) → i < length rows.now → slice_index part.now i < length rank.now }
-    ensures { IfOk result (λ found. ArePinRows rows.now part.now rank.now own.now (length rows.now) found.items) }
+    ensures { IfOk result (λ found. ArePinRows rows.now part.now rank.now own.now (length rows.now) rests
+        found.items) }
 {
     let mut found = Vec::with_capacity(alloc, rows.len())?;
     for (i, row) in rows.iter().enumerate() {
-        let rest = if i == 0 { Some(Rank::default()) } else { None };
         found.push(PinRow {
             parent: row.parent,
             target: rank[part[i] as usize],
             foreign: own[i].foreign,
             earlier: own[i].earlier,
-            rest,
+            rest: rest_of(row.now, i, rests),
         })?;
     }
     Ok(found)
 }
 
-/// Plans which rank each row is to be at, as `choose_plan` does, and gives the changes of pins that bring it there,
-/// wherever it is now. `own[i]` are row i's own pins.
+/// Plans which rank each row is to be at, as `choose_plan` does, and gives the changes of pins that bring it there:
+/// wherever it is now, or with what has no pin staying where it is. `own[i]` are row i's own pins.
 pub fn propose(
     alloc: Global,
     rows: &[ProblemRow],
@@ -76,7 +90,14 @@ pub fn propose(
     ensures refused { IfErr result (IsProposalRefusal ranks pinned.now rows.now wanted own.now) }
 {
     let plan = choose_plan(alloc, rows, wanted, pinned, ranks)?;
-    let asked = pin_rows(alloc, rows, &plan.part, &plan.packing.rank, own)?;
+    let asked = pin_rows(
+        alloc,
+        rows,
+        &plan.part,
+        &plan.packing.rank,
+        own,
+        wanted.rests,
+    )?;
     if !are_rows(&asked) {
         return Err(PlanError::PinnedRoot);
     }

@@ -1,14 +1,16 @@
 //! Which rank each part goes to: the hottest part first, where most of it is or on the least loaded rank.
 ghost use Rattle.std.specs.Prelude.{◌≡◌, ◌≢◌, ◌<◌, ◌≤◌, ◌+◌, ◌*◌, ◌^◌, ◌&&◌, ◌||◌, ◌==◌, ◌⊎◌};
-ghost use Rattle.std.specs.Prelude.{ℕ, All, length, nat_lt, slice_index, slice_index_or, true, false, IfOk};
+ghost use Rattle.std.specs.Prelude.{ℕ, All, length, slice_index, true, IfOk};
 ghost use Rattle.mds_types.specs.Division.{part_heat};
 ghost use Rattle.mds_types.specs.Problem.{IsForest};
 ghost use Rattle.mds_types.specs.RankSet.{has_rank};
 ghost use Rattle.mds_types.specs.Sums.{sum_below};
-ghost use Rattle.ceph_plan.specs.Balance.{IsChosenPacking, IsHomeRank, IsKeptWithin, IsSent, allowed, greatest_by};
-ghost use Rattle.ceph_plan.specs.Balance.{IsNearMean, inodes_there, is_hotter, part_inodes_at};
+ghost use Rattle.ceph_plan.specs.Balance.{HaveRanks, IsByHeat, IsChosenPacking, IsEvened, IsHomeRank, IsKeptWithin};
+ghost use Rattle.ceph_plan.specs.Balance.{IsNearMean, IsSent, allowed, greatest_by, inodes_there, part_inodes_at};
 
 use crate::bound::{has_number, most};
+use crate::exchange::exchanged;
+use crate::loads::loads;
 use mds_types::{ProblemRow, Rank, RankSet};
 use std::alloc::{AllocError, Global};
 
@@ -69,30 +71,14 @@ pub fn part_inodes(
 pub struct PartAmounts<'a> {
     /// The heat of each part.
     pub heats: &'a [u64],
+    /// The parts, the hottest last.
+    pub order: &'a [u32],
     /// The inodes of each part at each rank, 64 numbers a part.
     pub inodes: &'a [u64],
     /// The part of the root, which goes to rank 0.
     pub root: u32,
     /// The heat that is pinned to each rank.
     pub pinned: &'a [u64],
-}
-
-/// The hottest part that is left, of those that are as hot the first; past the last part if none is left.
-fn hottest_left(heats: &[u64], done: &[bool]) -> usize
-    requires { length done.now ≡ length heats.now }
-    ensures none { length heats.now ≤ result
-        → (q : ℕ) → q < length heats.now → slice_index_or done.now q false ≡ true }
-    ensures some { result < length heats.now → slice_index_or done.now result false ≡ false }
-    ensures first { result < length heats.now → (q : ℕ) → q < length heats.now → q ≢ result
-        → slice_index_or done.now q false ≡ false → is_hotter heats.now result q ≡ true }
-{
-    let mut hottest = heats.len();
-    for part in 0..heats.len() {
-        if !done[part] && (hottest == heats.len() || heats[part] > heats[hottest]) {
-            hottest = part;
-        }
-    }
-    hottest
 }
 
 /// The least loaded rank of the set; among equals the one that has most of the part's inodes.
@@ -180,6 +166,7 @@ fn packed_within(
 ) -> Result<Choice, AllocError>
     requires few { length parts.heats.now ≤ 65536 }
     requires inodes { length parts.inodes.now ≡ length parts.heats.now * 64 }
+    requires order { IsByHeat parts.heats.now parts.order.now }
     requires root { parts.root < length parts.heats.now }
     requires pinned { length parts.pinned.now ≡ 64 }
     requires small { All (λ n. n ≤ 2 ^ 57) parts.pinned.now }
@@ -202,8 +189,8 @@ fn packed_within(
     let mut left = count;
     while left > 0 {
         left -= 1;
-        let part = hottest_left(heats, &done);
-        if part < count {
+        let part = parts.order[left] as usize;
+        if !done[part] {
             let to = rank_for(&loads, inodes, part, heats[part], limit, ranks);
             loads[usize::from(to.number())] += heats[part];
             rank[part] = to;
@@ -222,6 +209,39 @@ fn with_percent(load: u64, keep: u8) -> u64
     load + load / 100 * u64::from(keep)
 }
 
+/// A packing with parts exchanged, if that is cooler. It stays as it is if its greatest load is at most this.
+fn evened(
+    alloc: Global,
+    parts: PartAmounts<'_>,
+    ranks: RankSet,
+    enough: u64,
+    packed: Choice,
+) -> Result<Choice, AllocError>
+    requires order { IsByHeat parts.heats.now parts.order.now }
+    requires pinned { length parts.pinned.now ≡ 64 }
+    requires small { All (λ n. n ≤ 2 ^ 57) parts.pinned.now }
+    requires total { sum_below (length parts.heats.now) (slice_index parts.heats.now) ≤ 2 ^ 56 }
+    requires ranks { HaveRanks ranks parts.heats.now parts.root packed.rank.items }
+    requires greatest { packed.greatest
+        ≡ greatest_by ranks parts.pinned.now parts.heats.now packed.rank.items }
+    ensures evened { IfOk result (λ choice. IsEvened ranks parts.entry.pinned.now parts.entry.heats.now
+        parts.entry.root enough packed.rank.items choice.rank.items) }
+    ensures greatest { IfOk result (λ choice. choice.greatest
+        ≡ greatest_by ranks parts.entry.pinned.now parts.entry.heats.now choice.rank.items) }
+{
+    if packed.greatest <= enough {
+        return Ok(packed);
+    }
+    let rank = exchanged(alloc, parts, ranks, &packed.rank)?;
+    let loads = loads(alloc, parts.heats, &rank, parts.pinned)?;
+    let greatest = most(&loads, ranks);
+    if greatest < packed.greatest {
+        Ok(Choice { rank, greatest })
+    } else {
+        Ok(packed)
+    }
+}
+
 /// A rank of the set for each part: rank 0 for the root's part.
 ///
 /// Another part stays at the rank that has most of its inodes, unless the load there would pass by `keep` percent the
@@ -234,6 +254,7 @@ pub fn choose(
 ) -> Result<Vec<Rank>, AllocError>
     requires few { length parts.heats.now ≤ 65536 }
     requires inodes { length parts.inodes.now ≡ length parts.heats.now * 64 }
+    requires order { IsByHeat parts.heats.now parts.order.now }
     requires root { parts.root < length parts.heats.now }
     requires pinned { length parts.pinned.now ≡ 64 }
     requires small { All (λ n. n ≤ 2 ^ 57) parts.pinned.now }
@@ -243,8 +264,10 @@ pub fn choose(
         parts.entry.inodes.now parts.entry.root keep rank.items) }
 {
     let plain = packed_within(alloc, parts, ranks, 0)?;
-    let limit = with_percent(plain.greatest, keep);
-    let near = packed_within(alloc, parts, ranks, limit)?;
-    let choice = if near.greatest <= limit { near } else { plain };
+    let even = evened(alloc, parts, ranks, 0, plain)?;
+    let limit = with_percent(even.greatest, keep);
+    let kept = packed_within(alloc, parts, ranks, limit)?;
+    let near = evened(alloc, parts, ranks, limit, kept)?;
+    let choice = if near.greatest <= limit { near } else { even };
     Ok(choice.rank)
 }

@@ -1,5 +1,5 @@
 -- Texts that grow line by line.
-use Rattle.std.proofs.Common.{◌≡◌, ◌∙◌, ◌+◌, ◌≤◌, ℕ, suc, Bool, true, false, cond, List, ◌++◌, ap, sym, refl, arith, append_assoc, append-nil}
+use Rattle.std.proofs.Common.{◌≡◌, ◌∙◌, ◌+◌, ◌≤◌, ℕ, suc, Bool, true, false, cond, List, ◌++◌, ap, sym, arith, append_assoc, append-nil}
 use Rattle.mds_types.specs.Sums.{count_below}
 use Rattle.ceph_report.specs.Text.{lines_below}
 

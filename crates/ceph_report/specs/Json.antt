@@ -1,13 +1,15 @@
 -- The plan as JSON, byte by byte.
-use Rattle.std.specs.Prelude.{◌++◌, ℕ, Bool, List, [], codes, decimal, length, slice_get, slice_index}
+use Rattle.std.specs.Prelude.{◌++◌, ℕ, Bool, List, [], codes, length, slice_get, slice_index}
 use Rattle.std.specs.Prelude.{Option, Some, None, if◌then◌else◌}
 use Rattle.mds_types.specs.Sums.{count_below}
 use Rattle.ceph_pins.specs.PinsScript.{path_at, pin_text}
 use Rattle.ceph_plan.specs.declared.row.PinChange.{PinChange}
 use Rattle.ceph_snapshot.specs.declared.directory.Directory.{Directory}
 use Rattle.ceph_report.specs.Text.{comma, field, json_string, lines_below}
-use Rattle.ceph_report.specs.Told.{hottest_bound, hottest_planned, into_of, is_told, now_of, out_of}
-use Rattle.ceph_report.specs.Told.{pinned_of, planned_of}
+use Rattle.ceph_report.specs.Told.{bound_term, hottest_bound, hottest_place, hottest_planned, into_of, is_told}
+use Rattle.ceph_report.specs.Told.{now_of, out_of, pinned_of, planned_of}
+use Rattle.ceph_report.specs.declared.facts.BoundTerm.{BoundTerm}
+use Rattle.ceph_report.specs.declared.facts.BoundTerm.TheVariants.{Hottest, Mean, Pinned}
 use Rattle.ceph_report.specs.declared.facts.Facts.{Facts}
 
 abbrev pub truth : Bool → List ℕ
@@ -19,10 +21,24 @@ plan_head facts is_proposed =
     ++ field (codes ",\n\"directories\":") (length facts.directories.now) ++ field (codes ",\"folded\":") facts.folded
     ++ field (codes ",\"samples\":") facts.samples
 
+-- the term that makes the bound, and the hottest directory
+abbrev pub term_name : BoundTerm → List ℕ
+term_name Mean = codes "mean"
+term_name Hottest = codes "directory"
+term_name Pinned = codes "pinned"
+
 unfoldable pub plan_totals : Facts → List ℕ
 plan_totals facts =
     field (codes ",\n\"greatest\":") (hottest_planned facts) ++ field (codes ",\"bound\":") (hottest_bound facts)
     ++ field (codes ",\"inodes_moved\":") facts.plan.now.moved ++ field (codes ",\"pins_standing\":") facts.standing
+
+unfoldable pub bound_members : Facts → List ℕ
+bound_members facts =
+    codes ",\n\"bound_by\":\"" ++ term_name (bound_term facts) ++ codes "\",\"hottest_directory\":"
+    ++ json_string (path_at facts.directories.now (hottest_place facts))
+
+unfoldable pub plan_numbers : Facts → List ℕ
+plan_numbers facts = plan_totals facts ++ bound_members facts
 
 unfoldable pub rank_numbers : Facts → ℕ → List ℕ
 rank_numbers facts r =
@@ -71,5 +87,5 @@ pin_list directories changes =
 
 unfoldable pub json : Facts → List PinChange → Bool → List ℕ
 json facts changes is_proposed =
-    plan_head facts is_proposed ++ plan_totals facts ++ rank_list facts
+    plan_head facts is_proposed ++ plan_numbers facts ++ rank_list facts
     ++ part_list facts.plan.now.packing.rank.items ++ pin_list facts.directories.now changes

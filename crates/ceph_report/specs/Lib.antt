@@ -1,5 +1,6 @@
 pub mod Amounts
 pub mod Json
+pub mod Moves
 pub mod Picture
 pub mod Report
 pub mod Text

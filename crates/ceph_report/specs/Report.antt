@@ -1,5 +1,5 @@
 -- The report, byte by byte.
-use Rattle.std.specs.Prelude.{◌==◌, ◌&&◌, ◌-◌, ◌++◌, ℕ, Bool, List, [], codes, decimal, length, min, nat_lt, not}
+use Rattle.std.specs.Prelude.{◌==◌, ◌&&◌, ◌-◌, ◌++◌, ℕ, Bool, List, [], codes, length, min, nat_lt, not}
 use Rattle.std.specs.Prelude.{is_some, slice_get, Option, Some, None, if◌then◌else◌}
 use Rattle.mds_types.specs.RankSet.{has_rank}
 use Rattle.mds_types.specs.Sums.{count_below}
@@ -7,10 +7,13 @@ use Rattle.mds_types.specs.declared.limits.TheConstants.{HEAT_LIMIT}
 use Rattle.ceph_pins.specs.PinsScript.{path_at}
 use Rattle.ceph_snapshot.specs.declared.directory.Directory.{Directory}
 use Rattle.ceph_snapshot.specs.Holding.{heat_at, is_spread_at}
-use Rattle.ceph_report.specs.Text.{columns, field, heat_text, lines_below, per_mille, percent_text, shown_path}
-use Rattle.ceph_report.specs.Told.{free_heat, hottest_place}
+use Rattle.ceph_snapshot.specs.Shown.{shown_path}
+use Rattle.ceph_report.specs.Text.{columns, field, heat_text, lines_below, per_mille, percent_text}
+use Rattle.ceph_report.specs.Told.{bound_term, free_heat, hottest_place}
 use Rattle.ceph_report.specs.Told.{hottest_bound, hottest_now, hottest_planned, into_of, is_told, now_of, out_of}
 use Rattle.ceph_report.specs.Told.{pinned_of, planned_of}
+use Rattle.ceph_report.specs.declared.facts.BoundTerm.{BoundTerm}
+use Rattle.ceph_report.specs.declared.facts.BoundTerm.TheVariants.{Hottest, Mean, Pinned}
 use Rattle.ceph_report.specs.declared.facts.Facts.{Facts}
 use Rattle.ceph_report.specs.declared.moves.Move.{Move}
 use Rattle.ceph_report.specs.declared.report.TheConstants.{CAVEAT, LINES_EACH, NOTHING}
@@ -43,6 +46,11 @@ unfoldable pub rank_table : Facts → List ℕ
 rank_table facts =
     codes "rank         now     planned      pinned   inodes in  inodes out\n" ++ lines_below (told_line facts) 64
 
+abbrev pub term_text : BoundTerm → List ℕ
+term_text Mean = codes "the mean load"
+term_text Hottest = codes "the hottest directory, where least is pinned"
+term_text Pinned = codes "what is pinned to one rank"
+
 -- the hottest of all ranks now and as planned, and what it can't get below
 unfoldable pub heat_lines : Facts → List ℕ
 heat_lines facts =
@@ -54,6 +62,10 @@ heat_lines facts =
     ++ percent_text (codes ", the plan is within ")
     (per_mille (hottest_planned facts - hottest_bound facts) (hottest_bound facts))
     ++ codes " of it"
+
+-- and the term that makes the bound
+unfoldable pub bound_lines : Facts → List ℕ
+bound_lines facts = heat_lines facts ++ codes ": " ++ term_text (bound_term facts)
 
 -- a directory's path, and the end of the line
 unfoldable pub place_text : List Directory → ℕ → List ℕ
@@ -165,7 +177,7 @@ capped_lines directories = lines_below (capped_line directories) (length directo
 -- what the plan comes to, and what it moves
 unfoldable pub plan_text : Facts → List ℕ
 plan_text facts =
-    head_line facts ++ rank_table facts ++ heat_lines facts ++ hottest_line facts ++ count_line facts
+    head_line facts ++ rank_table facts ++ bound_lines facts ++ hottest_line facts ++ count_line facts
     ++ moves_text facts.directories.now facts.moves.now
 
 -- what was left out, or has no single rank

@@ -1,8 +1,9 @@
 -- How numbers and paths are written.
-use Rattle.std.specs.Prelude.{◌==◌, ◌&&◌, ◌||◌, ◌+◌, ◌-◌, ◌*◌, ◌/◌, ◌%◌, ◌++◌, ℕ, zero, suc, Bool, List, [], ◌∷◌}
-use Rattle.std.specs.Prelude.{codes, decimal, length, min, not, nat_le, nat_lt, take, if◌then◌else◌}
+use Rattle.std.specs.Prelude.{◌==◌, ◌||◌, ◌+◌, ◌-◌, ◌*◌, ◌/◌, ◌%◌, ◌++◌, ℕ, zero, suc, List, [], ◌∷◌}
+use Rattle.std.specs.Prelude.{codes, decimal, length, min, nat_lt, take, if◌then◌else◌}
 use Rattle.std.specs.List.{flat_map}
 use Rattle.ceph_snapshot.specs.Holding.{most_heat}
+use Rattle.ceph_snapshot.specs.Shown.{is_printed}
 
 -- the texts of the numbers below n, in their order
 unfoldable pub lines_below : (ℕ → List ℕ) → ℕ → List ℕ
@@ -28,20 +29,6 @@ percent_text label tenths = field label (tenths / 10) ++ field (codes ".") (tent
 -- a part of a whole in tenths of a percent, rounded down, as far as 64 bits count
 unfoldable pub per_mille : ℕ → ℕ → ℕ
 per_mille part whole = if whole == 0 then 0 else min most_heat (part * 1000) / whole
-
--- a byte that ASCII prints
-abbrev pub is_printed : ℕ → Bool
-is_printed c = nat_le 32 c && nat_lt c 127
-
--- a byte as a backslash and three octal digits, unless it is printed and no backslash
-unfoldable pub shown_byte : ℕ → List ℕ
-shown_byte c =
-    if is_printed c && not (c == 92) then c ∷ [] else 92 ∷ (48 + c / 64) ∷ (48 + c / 8 % 8) ∷ (48 + c % 8) ∷ []
-
--- a path; the root's is empty
-unfoldable pub shown_path : List ℕ → List ℕ
-shown_path [] = codes "/"
-shown_path (c ∷ path) = flat_map shown_byte (c ∷ path)
 
 unfoldable pub hex_digit : ℕ → ℕ
 hex_digit d = if nat_lt d 10 then 48 + d else 87 + d

@@ -1,9 +1,13 @@
 -- What is told of a plan.
-use Rattle.std.specs.Prelude.{◌||◌, ℕ, zero, suc, Bool, List, length, max, nat_lt, slice_index, if◌then◌else◌}
+use Rattle.std.specs.Prelude.{◌||◌, ◌+◌, ℕ, zero, suc, Bool, List, length, max, min, nat_le, nat_lt, slice_index}
+use Rattle.std.specs.Prelude.{if◌then◌else◌}
 use Rattle.mds_types.specs.RankSet.{has_rank}
 use Rattle.mds_types.specs.Sums.{max_below}
-use Rattle.ceph_snapshot.specs.Holding.{heat_at, held_at}
+use Rattle.mds_types.specs.declared.limits.TheConstants.{HEAT_LIMIT}
+use Rattle.ceph_snapshot.specs.Holding.{heat_at, held_at, most_heat}
 use Rattle.ceph_snapshot.specs.Rows.{is_free}
+use Rattle.ceph_report.specs.declared.facts.BoundTerm.{BoundTerm}
+use Rattle.ceph_report.specs.declared.facts.BoundTerm.TheVariants.{Hottest, Mean, Pinned}
 use Rattle.ceph_report.specs.declared.facts.Facts.{Facts}
 
 -- the heat at rank r, and the inodes that come to it and go from it
@@ -52,3 +56,20 @@ top_below f (suc n) = if nat_lt (f (top_below f n)) (f n) then n else top_below 
 -- the hottest directory that is planned
 abbrev pub hottest_place : Facts → ℕ
 hottest_place facts = top_below (free_heat facts) (length facts.directories.now)
+
+-- of the ranks below n that may have a part, the least that is pinned to one
+abbrev pub least_pinned : Facts → ℕ → ℕ
+least_pinned facts zero = most_heat
+least_pinned facts (suc n) =
+    if has_rank facts.ranks n then min (pinned_of facts n) (least_pinned facts n) else least_pinned facts n
+
+-- the heat of the hottest directory, as far as a plan counts it, beside the least that is pinned
+unfoldable pub single_load : Facts → ℕ
+single_load facts = min most_heat (min (free_heat facts (hottest_place facts)) HEAT_LIMIT + least_pinned facts 64)
+
+-- the term that makes the bound: what is pinned to one rank or the hottest directory, where that comes to the bound,
+-- and else the mean load
+unfoldable pub bound_term : Facts → BoundTerm
+bound_term facts =
+    if nat_le (hottest_bound facts) (hottest facts.pinned.now) then Pinned
+    else if nat_le (hottest_bound facts) (single_load facts) then Hottest else Mean

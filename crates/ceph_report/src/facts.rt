@@ -1,12 +1,13 @@
 //! What is told of a plan, in the report and as JSON.
 ghost use Rattle.std.specs.Prelude.{◌≡◌, ◌<◌, slice_index};
 ghost use Rattle.mds_types.specs.RankSet.{has_rank};
-ghost use Rattle.ceph_report.specs.Told.{free_heat, hottest_place};
-ghost use Rattle.ceph_report.specs.Told.{hottest, hottest_bound, hottest_now, hottest_planned, is_told};
+ghost use Rattle.ceph_report.specs.Told.{bound_term, free_heat, hottest, hottest_bound, hottest_now};
+ghost use Rattle.ceph_report.specs.Told.{hottest_place, hottest_planned, is_told, least_pinned, single_load};
 
 use crate::moves::{Move, Sums};
 use ceph_plan::Planned;
 use ceph_snapshot::{Directory, Held};
+use mds_types::limits::{HEAT_LIMIT, RANK_LIMIT};
 use mds_types::{Rank, RankSet};
 
 /// What is told of a plan.
@@ -40,6 +41,17 @@ pub struct Facts<'a> {
     pub changes: usize,
     /// How many pins of an earlier plan stand as they are.
     pub standing: usize,
+}
+
+/// Which of its terms makes the bound.
+#[derive(Clone, Copy)]
+pub(crate) enum BoundTerm {
+    /// The mean load of the ranks.
+    Mean,
+    /// The hottest directory, at the rank to which least is pinned.
+    Hottest,
+    /// What is pinned to one rank.
+    Pinned,
 }
 
 /// The heat of the hottest rank, in thousandths, where `heats[r]` is the heat of rank r.
@@ -104,6 +116,43 @@ impl Facts<'_> {
             }
         }
         hottest
+    }
+
+    /// The least heat that is pinned to a rank that may have a part, in thousandths.
+    fn least_pinned(&self) -> u64
+        ensures { result ≡ least_pinned self.now 64 }
+    {
+        let mut least = u64::MAX;
+        for number in 0..RANK_LIMIT {
+            if has_number(self.ranks, number) {
+                least = number_at(self.pinned, number).min(least);
+            }
+        }
+        least
+    }
+
+    /// The heat of the hottest directory, as far as a plan counts it, beside the least that is pinned to a rank.
+    #[tactic(auto, unfolding(crate::specs::Told::single_load))]
+    fn single_load(&self) -> u64
+        ensures { result ≡ single_load self.now }
+    {
+        let hottest = self.free_heat(self.hottest_place()).min(HEAT_LIMIT);
+        hottest.saturating_add(self.least_pinned())
+    }
+
+    /// Which of its terms makes the bound.
+    #[tactic(auto, unfolding(crate::specs::Told::bound_term))]
+    pub(crate) fn bound_term(&self) -> BoundTerm
+        ensures { result ≡ bound_term self.now }
+    {
+        let bound = self.hottest_bound();
+        if bound <= hottest(self.pinned) {
+            BoundTerm::Pinned
+        } else if bound <= self.single_load() {
+            BoundTerm::Hottest
+        } else {
+            BoundTerm::Mean
+        }
     }
 
     /// Whether a rank is told of: it may have a part, or something is there now.

@@ -3,13 +3,13 @@
 //! A path needn't be UTF-8: each of its bytes is one character there, U+0000 to U+00FF. Heat is in thousandths.
 ghost use Rattle.std.specs.Prelude.{◌≡◌, ◌<◌, ◌≤◌, ◌+◌, ◌++◌, OnOk, IfOk, length, slice_get, if◌then◌else◌};
 ghost use Rattle.ceph_pins.specs.PinsScript.{path_at, pin_text};
-ghost use Rattle.ceph_report.specs.Json.{inode_numbers, json, part_list, part_member, pin_list, pin_member};
-ghost use Rattle.ceph_report.specs.Json.{pin_object, plan_head, plan_totals, rank_entry, rank_list, rank_numbers};
-ghost use Rattle.ceph_report.specs.Json.{rank_object, truth};
+ghost use Rattle.ceph_report.specs.Json.{bound_members, inode_numbers, json, part_list, part_member, pin_list};
+ghost use Rattle.ceph_report.specs.Json.{pin_member, pin_object, plan_head, plan_numbers, plan_totals, rank_entry};
+ghost use Rattle.ceph_report.specs.Json.{rank_list, rank_numbers, rank_object, term_name, truth};
 ghost use Rattle.ceph_report.specs.Text.{json_string};
 ghost use Rattle.ceph_report.specs.Told.{is_told};
 
-use crate::facts::{Facts, number_at};
+use crate::facts::{BoundTerm, Facts, number_at};
 use crate::text::{comma, push_number, push_string, push_text};
 use ceph_plan::PinChange;
 use ceph_snapshot::Directory;
@@ -45,6 +45,37 @@ fn push_totals(text: &mut Vec<u8>, facts: &Facts) -> Result<(), AllocError>
     push_number(text, ",\"bound\":", facts.hottest_bound())?;
     push_number(text, ",\"inodes_moved\":", facts.plan.moved)?;
     push_number(text, ",\"pins_standing\":", facts.standing as u64)
+}
+
+/// What a term of the bound is called.
+fn term_name(term: BoundTerm) -> &'static str
+    ensures { result.now ≡ term_name term }
+{
+    match term {
+        BoundTerm::Mean => "mean",
+        BoundTerm::Hottest => "directory",
+        BoundTerm::Pinned => "pinned",
+    }
+}
+
+/// Adds which term makes the bound, and the hottest directory that is planned.
+#[tactic(auto, unfolding(crate::specs::Json::bound_members))]
+fn push_bound(text: &mut Vec<u8>, facts: &Facts) -> Result<(), AllocError>
+    ensures { OnOk result (text.new.items ≡ text.old.items ++ bound_members facts.now) }
+{
+    push_text(text, ",\n\"bound_by\":\"")?;
+    push_text(text, term_name(facts.bound_term()))?;
+    push_text(text, "\",\"hottest_directory\":")?;
+    push_place(text, facts.directories, facts.hottest_place())
+}
+
+/// Adds what the plan comes to, and what makes the bound.
+#[tactic(auto, unfolding(crate::specs::Json::plan_numbers))]
+fn push_numbers(text: &mut Vec<u8>, facts: &Facts) -> Result<(), AllocError>
+    ensures { OnOk result (text.new.items ≡ text.old.items ++ plan_numbers facts.now) }
+{
+    push_totals(text, facts)?;
+    push_bound(text, facts)
 }
 
 /// Adds a rank and its heat.
@@ -145,10 +176,10 @@ fn push_pin_rank(text: &mut Vec<u8>, pin: Option<Rank>) -> Result<(), AllocError
 }
 
 /// Adds the path of a directory.
-fn push_place(text: &mut Vec<u8>, directories: &[Directory], at: u32) -> Result<(), AllocError>
+fn push_place(text: &mut Vec<u8>, directories: &[Directory], at: usize) -> Result<(), AllocError>
     ensures { OnOk result (text.new.items ≡ text.old.items ++ json_string (path_at directories.now at)) }
 {
-    match directories.get(at as usize) {
+    match directories.get(at) {
         Some(directory) => push_string(text, &directory.path),
         None => push_string(text, b""),
     }
@@ -164,7 +195,7 @@ fn push_change(
     ensures { OnOk result (text.new.items ≡ text.old.items ++ pin_object directories.now change) }
 {
     push_text(text, "\n  {\"path\":")?;
-    push_place(text, directories, change.row)?;
+    push_place(text, directories, change.row as usize)?;
     push_text(text, ",\"rank\":")?;
     push_pin_rank(text, change.pin)?;
     push_text(text, "}")
@@ -218,7 +249,7 @@ pub fn make_json(
 {
     let mut text = Vec::new(alloc);
     push_head(&mut text, facts, is_proposed)?;
-    push_totals(&mut text, facts)?;
+    push_numbers(&mut text, facts)?;
     push_ranks(&mut text, facts)?;
     push_parts(&mut text, &facts.plan.packing.rank)?;
     push_pins(&mut text, facts.directories, changes)?;

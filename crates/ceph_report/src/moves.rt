@@ -1,8 +1,10 @@
 //! What goes where: heat and inodes by rank, and by pin.
 
-ghost use Rattle.std.specs.Prelude.{◌≡◌, ◌==◌, ◌&&◌, ◌<◌, ◌+◌, not, length, slice_index, IfOk, ℕ};
+ghost use Rattle.std.specs.Prelude.{◌≡◌, ◌==◌, ◌&&◌, ◌<◌, ◌≤◌, ◌+◌, not, length, slice_index, slice_index_or, IfOk, ℕ};
 ghost use Rattle.ceph_snapshot.specs.Rows.{is_free};
 ghost use Rattle.ceph_report.specs.Amounts.{AreAmounts, goal_at, goal_of, going_of, heat_now, inodes_from, inodes_to};
+ghost use Rattle.ceph_report.specs.Moves.{AreLeaders, AreMoves, brought_at, leader_of, leaving_at, moves_below};
+ghost use Rattle.ceph_report.specs.Moves.{pin_move};
 
 use ceph_pins::pins_after;
 use ceph_plan::{PinChange, PinRow};
@@ -167,89 +169,102 @@ pub struct Move {
     pub to: Rank,
 }
 
-/// The place of the directory whose pin holds each directory; its own place where none does.
-fn holders(
-    alloc: Global,
-    rows: &[PinRow],
-    pins: &[Option<Rank>],
-) -> Result<Vec<usize>, AllocError> {
-    let mut holders = Vec::with_capacity(alloc, rows.len())?;
-    for (at, row) in rows.iter().enumerate() {
-        let is_pinned = matches!(pins.get(at), Some(Some(_)));
-        let above = holders.get(row.parent as usize).copied();
-        let holder = match above {
-            Some(above) if !is_pinned => above,
-            _ => at,
-        };
-        holders.push(holder)?;
+/// The place of the directory whose pin leads the next directory, where `leaders` has those before it, `pin` is its own
+/// pin and `parent` its parent's place; its own place where nothing at or above it has a pin.
+fn leader(leaders: &[usize], pin: Option<Rank>, parent: usize) -> usize
+    requires { (i : ℕ) → i < length leaders.now → slice_index leaders.now i ≤ i }
+    ensures is { result ≡ leader_of pin parent (length leaders.now) leaders.now }
+    ensures above { result ≤ length leaders.now }
+{
+    if pin.is_some() || parent >= leaders.len() {
+        leaders.len()
+    } else {
+        leaders[parent]
     }
-    Ok(holders)
 }
 
-/// Heat, in thousandths, and inodes.
+/// The place of the directory whose pin leads each directory.
+fn leaders(alloc: Global, rows: &[PinRow], pins: &[Option<Rank>]) -> Result<Vec<usize>, AllocError>
+    requires { length pins.now ≡ length rows.now }
+    ensures led { IfOk result (λ leaders. AreLeaders rows.now (λ i. slice_index_or pins.now i None) (length rows.now)
+        leaders.items) }
+    ensures above { IfOk result (λ leaders. (i : ℕ) → i < length rows.now → slice_index leaders.items i ≤ i) }
+{
+    let mut leaders = Vec::with_capacity(alloc, rows.len())?;
+    for at in 0..rows.len() {
+        let one = leader(&leaders, pins[at], rows[at].parent as usize);
+        leaders.push(one)?;
+    }
+    Ok(leaders)
+}
+
+/// What a pin brings.
 #[derive(Clone, Copy)]
-struct Amount {
-    inodes: u64,
-    heat: u64,
+enum Brought {
+    /// Inodes.
+    Inodes,
+    /// Their heat.
+    Heat,
 }
 
-impl Amount {
-    /// Adds as much.
-    fn add(&mut self, more: Amount) {
-        self.inodes = self.inodes.saturating_add(more.inodes);
-        self.heat = self.heat.saturating_add(more.heat);
-    }
-}
-
-/// What the directory at a place has, if it goes to another rank.
+/// How much the directory at a place has that goes to another rank.
 fn leaving_at(
+    what: Brought,
     directories: &[Directory],
     holds: &[Held],
     rows: &[PinRow],
     at: usize,
-) -> Option<Amount> {
-    let directory = directories.get(at)?;
-    let (hold, row) = (holds.get(at)?, rows.get(at)?);
-    if is_leaving(directory.now, *hold, row.target) {
-        let (inodes, heat) = (directory.inodes, directory.heat);
-        Some(Amount { inodes, heat })
-    } else {
-        None
-    }
+) -> u64
+    requires { at < length rows.now }
+    ensures { result ≡ leaving_at what directories.now holds.now rows.now at }
+{
+    let hold = holds.get(at).copied().unwrap_or(Held::Free);
+    let Some(directory) = directories.get(at) else {
+        return 0;
+    };
+    let amount = match what {
+        Brought::Inodes => directory.inodes,
+        Brought::Heat => directory.heat,
+    };
+    going(directory.now, hold, rows[at].target, amount)
 }
 
 /// What each directory's pin brings, at the place of the directory.
-fn brought(
+fn brought_sums(
     alloc: Global,
+    what: Brought,
     directories: &[Directory],
     holds: &[Held],
     rows: &[PinRow],
-    pins: &[Option<Rank>],
-) -> Result<Vec<Amount>, AllocError> {
-    let holders = holders(alloc, rows, pins)?;
-    let nothing = Amount { inodes: 0, heat: 0 };
-    let mut brought = vec![in alloc; nothing; rows.len()]?;
-    for (at, holder) in holders.iter().enumerate() {
-        if let Some(leaving) = leaving_at(directories, holds, rows, at) {
-            if let Some(sum) = brought.get_mut(*holder) {
-                sum.add(leaving);
-            }
-        }
+    leaders: &[usize],
+) -> Result<Vec<u64>, AllocError>
+    requires size { length leaders.now ≡ length rows.now }
+    requires inside { (i : ℕ) → i < length rows.now → slice_index leaders.now i < length rows.now }
+    ensures size { IfOk result (λ sums. length sums.items ≡ length rows.now) }
+    ensures sums { IfOk result (λ sums. (i : ℕ) → i < length rows.now → slice_index sums.items i
+        ≡ brought_at what directories.now holds.now rows.now leaders.now i) }
+{
+    let mut sums = vec![in alloc; 0u64; rows.len()]?;
+    for at in 0..leaders.len() {
+        let leader = leaders[at];
+        let more = leaving_at(what, directories, holds, rows, at);
+        sums[leader] = sums[leader].saturating_add(more);
     }
-    Ok(brought)
+    Ok(sums)
 }
 
 /// What the pin of the directory at a place brings, if it has one that brings inodes.
-fn move_at(pins: &[Option<Rank>], brought: &[Amount], at: usize) -> Option<Move> {
-    let to = (*pins.get(at)?)?;
-    let sum = brought.get(at)?;
-    if sum.inodes == 0 {
+fn pin_move(pin: Option<Rank>, inodes: u64, heat: u64, directory: usize) -> Option<Move>
+    ensures { result ≡ pin_move pin inodes heat directory }
+{
+    let to = pin?;
+    if inodes == 0 {
         return None;
     }
     Some(Move {
-        inodes: sum.inodes,
-        heat: sum.heat,
-        directory: at,
+        inodes,
+        heat,
+        directory,
         to,
     })
 }
@@ -258,11 +273,19 @@ fn move_at(pins: &[Option<Rank>], brought: &[Amount], at: usize) -> Option<Move>
 fn gathered(
     alloc: Global,
     pins: &[Option<Rank>],
-    brought: &[Amount],
-) -> Result<Vec<Move>, AllocError> {
+    inodes: &[u64],
+    heats: &[u64],
+) -> Result<Vec<Move>, AllocError>
+    requires inodes { length inodes.now ≡ length pins.now }
+    requires heats { length heats.now ≡ length pins.now }
+    ensures { IfOk result (λ moves. moves.items
+        ≡ moves_below
+        (λ i. pin_move (slice_index_or pins.now i None) (slice_index inodes.now i) (slice_index heats.now i) i)
+        (length pins.now)) }
+{
     let mut moves = Vec::new(alloc);
     for at in 0..pins.len() {
-        if let Some(one) = move_at(pins, brought, at) {
+        if let Some(one) = pin_move(pins[at], inodes[at], heats[at], at) {
             moves.push(one)?;
         }
     }
@@ -277,10 +300,14 @@ pub fn moves_of(
     holds: &[Held],
     rows: &[PinRow],
     changes: &[PinChange],
-) -> Result<Vec<Move>, AllocError> {
+) -> Result<Vec<Move>, AllocError>
+    ensures { IfOk result (λ moves. AreMoves directories.now holds.now rows.now changes.now moves.items) }
+{
     let pins = pins_after(alloc, rows, changes)?;
-    let brought = brought(alloc, directories, holds, rows, pins.as_slice())?;
-    let mut moves = gathered(alloc, pins.as_slice(), brought.as_slice())?;
+    let leaders = leaders(alloc, rows, &pins)?;
+    let inodes = brought_sums(alloc, Brought::Inodes, directories, holds, rows, &leaders)?;
+    let heats = brought_sums(alloc, Brought::Heat, directories, holds, rows, &leaders)?;
+    let mut moves = gathered(alloc, &pins, &inodes, &heats)?;
     moves.sort_by_key(|one| u64::MAX - one.inodes)?;
     Ok(moves)
 }

@@ -2,14 +2,14 @@
 ghost use Rattle.std.specs.Prelude.{◌≡◌, ◌<◌, ◌≤◌, ◌+◌, ◌++◌, OnOk, IfOk, length, nat_lt, slice_get, if◌then◌else◌};
 ghost use Rattle.mds_types.specs.declared.limits.TheConstants.{HEAT_LIMIT};
 ghost use Rattle.ceph_snapshot.specs.Holding.{heat_at, is_spread_at};
-ghost use Rattle.ceph_report.specs.Report.{absence, absent_line, absent_lines, brought_line, brought_lines};
-ghost use Rattle.ceph_report.specs.Report.{brought_text, capped_line, capped_lines, capped_text, count_line};
-ghost use Rattle.ceph_report.specs.Report.{folded_line, head_line, heat_lines, hot_count, hottest_line, is_left};
-ghost use Rattle.ceph_report.specs.Report.{left_lines, left_out, left_text, more_line, moves_table, moves_text};
-ghost use Rattle.ceph_report.specs.Report.{place_text, plan_text, rank_heats, rank_inodes, rank_row, rank_table};
-ghost use Rattle.ceph_report.specs.Report.{reason, reason_at, report, standing_text, told_line};
+ghost use Rattle.ceph_report.specs.Report.{absence, absent_line, absent_lines, bound_lines, brought_line};
+ghost use Rattle.ceph_report.specs.Report.{brought_lines, brought_text, capped_line, capped_lines, capped_text};
+ghost use Rattle.ceph_report.specs.Report.{count_line, folded_line, head_line, heat_lines, hot_count, hottest_line};
+ghost use Rattle.ceph_report.specs.Report.{is_left, left_lines, left_out, left_text, more_line, moves_table};
+ghost use Rattle.ceph_report.specs.Report.{moves_text, place_text, plan_text, rank_heats, rank_inodes, rank_row};
+ghost use Rattle.ceph_report.specs.Report.{rank_table, reason, reason_at, report, standing_text, term_text, told_line};
 
-use crate::facts::{Facts, has_number, number_at};
+use crate::facts::{BoundTerm, Facts, has_number, number_at};
 use crate::moves::Move;
 use crate::text::{
     per_mille, push_columns, push_heat, push_number, push_path, push_percent, push_text,
@@ -111,6 +111,17 @@ const CAVEAT: &str =
 
 ";
 
+/// What a term of the bound is called.
+fn term_text(term: BoundTerm) -> &'static str
+    ensures { result.now ≡ term_text term }
+{
+    match term {
+        BoundTerm::Mean => "the mean load",
+        BoundTerm::Hottest => "the hottest directory, where least is pinned",
+        BoundTerm::Pinned => "what is pinned to one rank",
+    }
+}
+
 /// Adds the heat of the hottest rank, and the bound.
 #[tactic(auto, unfolding(crate::specs::Report::heat_lines))]
 fn push_heats(text: &mut Vec<u8>, facts: &Facts) -> Result<(), AllocError>
@@ -126,6 +137,16 @@ fn push_heats(text: &mut Vec<u8>, facts: &Facts) -> Result<(), AllocError>
     let within = per_mille(planned.saturating_sub(bound), bound);
     push_percent(text, ", the plan is within ", within)?;
     push_text(text, " of it")
+}
+
+/// Adds the heat of the hottest rank, the bound, and which term makes it.
+#[tactic(auto, unfolding(crate::specs::Report::bound_lines))]
+fn push_bound(text: &mut Vec<u8>, facts: &Facts) -> Result<(), AllocError>
+    ensures { OnOk result (text.new.items ≡ text.old.items ++ bound_lines facts.now) }
+{
+    push_heats(text, facts)?;
+    push_text(text, ": ")?;
+    push_text(text, term_text(facts.bound_term()))
 }
 
 /// Adds the hottest directory that is planned.
@@ -440,8 +461,7 @@ fn push_all_capped(text: &mut Vec<u8>, directories: &[Directory]) -> Result<(), 
 }
 
 /// The last line of the report where nothing is proposed.
-const NOTHING: &str =
-    "\nnothing is proposed: the hottest rank gets cooler by less than --least-gain asks\n";
+const NOTHING: &str = "\nnothing is proposed: the plan gains less than is asked for\n";
 
 /// Adds what the plan comes to.
 #[tactic(auto, unfolding(crate::specs::Report::plan_text))]
@@ -450,7 +470,7 @@ fn push_plan(text: &mut Vec<u8>, facts: &Facts) -> Result<(), AllocError>
 {
     push_head(text, facts)?;
     push_ranks(text, facts)?;
-    push_heats(text, facts)?;
+    push_bound(text, facts)?;
     push_hottest(text, facts)?;
     push_counts(text, facts)?;
     push_moves(text, facts.directories, facts.moves)

@@ -1,8 +1,9 @@
 //! Numbers and paths as they are written.
 ghost use Rattle.std.specs.Prelude.{◌≡◌, ◌≤◌, ◌++◌, OnOk};
 ghost use Rattle.std.specs.List.{flat_map};
+ghost use Rattle.ceph_snapshot.specs.Shown.{shown_byte, shown_path};
 ghost use Rattle.ceph_report.specs.Text.{columns, comma, field, heat_text, hex_digit, hexadecimal, json_byte};
-ghost use Rattle.ceph_report.specs.Text.{json_string, per_mille, percent_text, shown_byte, shown_path};
+ghost use Rattle.ceph_report.specs.Text.{json_string, per_mille, percent_text};
 
 use itoa::Buffer;
 use std::alloc::AllocError;
@@ -71,7 +72,7 @@ pub(crate) fn push_percent(text: &mut Vec<u8>, label: &str, tenths: u64) -> Resu
 }
 
 /// Adds a byte of a path.
-#[tactic(auto, unfolding(crate::specs::Text::shown_byte))]
+#[tactic(auto, unfolding(ceph_snapshot::specs::Shown::shown_byte))]
 fn push_shown(text: &mut Vec<u8>, byte: u8) -> Result<(), AllocError>
     ensures { OnOk result (text.new.items ≡ text.old.items ++ shown_byte byte) }
 {
@@ -90,7 +91,7 @@ fn push_shown(text: &mut Vec<u8>, byte: u8) -> Result<(), AllocError>
 }
 
 /// Adds a path in ASCII: other bytes, and backslashes, as a backslash and three octal digits. The root is `/`.
-#[tactic(auto, unfolding(crate::specs::Text::shown_path))]
+#[tactic(auto, unfolding(ceph_snapshot::specs::Shown::shown_path))]
 pub(crate) fn push_path(text: &mut Vec<u8>, path: &[u8]) -> Result<(), AllocError>
     ensures { OnOk result (text.new.items ≡ text.old.items ++ shown_path path.now) }
 {

@@ -3,4 +3,7 @@ pub mod Beaten
 pub mod Folds
 pub mod Holders
 pub mod Keys
+pub mod Lookups
+pub mod Ours
+pub mod Placing
 pub mod StillKept

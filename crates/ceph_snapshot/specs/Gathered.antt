@@ -1,6 +1,13 @@
 -- What is made of what the dumps say of a directory.
-use Rattle.std.specs.Prelude.{◌==◌, ◌&&◌, ◌+◌, ℕ, Bool, false, Option, Some, None, min, not, nat_lt, if◌then◌else◌}
+use Rattle.std.specs.Prelude.{◌==◌, ◌&&◌, ◌+◌, ℕ, Bool, false, List, Option, Some, None, min, not, nat_lt, slice_get}
+use Rattle.std.specs.Prelude.{if◌then◌else◌}
+use Rattle.std.specs.List.{fold}
+use Rattle.std.specs.Option.{option_map_or}
 use Rattle.mds_types.specs.RankSet.{has_rank}
+use Rattle.ceph_dumps.specs.declared.own_list.OwnPin.{OwnPin}
+use Rattle.ceph_snapshot.specs.declared.gathering.Node.{Node}
+use Rattle.ceph_snapshot.specs.declared.names.Names.{Names}
+use Rattle.ceph_snapshot.specs.Names.{path_number}
 use Rattle.ceph_snapshot.specs.Holding.{most_heat}
 
 -- a pin is this program's own where the program set it to the same rank before
@@ -26,3 +33,28 @@ idle_pin (Some rank) own ranks = if not (is_ours rank own) && not (has_rank rank
 -- the heat with what a rank has seen: only the rank with authority counts, and for what is spread each rank
 abbrev pub seen_heat : ℕ → ℕ → Bool → ℕ
 seen_heat heat more counts = if counts then min most_heat (heat + more) else heat
+
+-- the pin of directory i, whoever set it, and the rank that this program pinned it to before
+abbrev pub pinned_at : List Node → ℕ → Option ℕ
+pinned_at nodes i = option_map_or (λ (n : Node). n.pinned) (slice_get nodes i) None
+
+abbrev pub noted_at : List Node → ℕ → Option ℕ
+noted_at nodes i = option_map_or (λ (n : Node). n.own) (slice_get nodes i) None
+
+abbrev pub ours_at : List Node → ℕ → Option ℕ
+ours_at nodes i = our_pin (pinned_at nodes i) (noted_at nodes i)
+
+-- the rank that a line of a list of this program's pins names for directory i, or else the one before
+abbrev pub is_number : Option ℕ → ℕ → Bool
+is_number None i = false
+is_number (Some number) i = number == i
+
+abbrev pub own_with : Names → ℕ → Option ℕ → OwnPin → Option ℕ
+own_with names i before pin = if is_number (path_number names pin.path.items) i then Some pin.rank else before
+
+-- and the last line of the list that names it
+abbrev pub own_listed : Names → List OwnPin → List Node → ℕ → Option ℕ
+own_listed names pins nodes i = fold (own_with names i) (noted_at nodes i) pins
+
+abbrev pub ours_with : Names → List OwnPin → List Node → ℕ → Option ℕ
+ours_with names pins nodes i = our_pin (pinned_at nodes i) (own_listed names pins nodes i)

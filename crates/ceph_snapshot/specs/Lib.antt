@@ -1,7 +1,10 @@
 pub mod Amounts
+pub mod Authority
 pub mod Folding
 pub mod Gathered
 pub mod Holding
 pub mod Keys
+pub mod Names
 pub mod Policies
 pub mod Rows
+pub mod Shown

@@ -3,8 +3,14 @@
 //! A directory has its heat from the rank that has authority: the nearest subtree root at or above it decides. Where
 //! that root is in fragments at several ranks, there is no such rank: the directory, and what is below it with no
 //! root of its own, is spread.
-ghost use Rattle.std.specs.Prelude.{◌≡◌, ◌||◌, ◌≤◌, ℕ, Some, None, true, false, max};
+ghost use Rattle.std.specs.Prelude.{◌≡◌, ◌||◌, ◌<◌, ◌≤◌, ℕ, List, Some, None, true, false, max};
+ghost use Rattle.std.specs.Prelude.{IfOk, IsErrOf, IsSome, OnOk, length};
+ghost use Rattle.std.specs.List.{IsAmong};
 ghost use Rattle.ceph_dumps.specs.declared.listing.ListedValue.TheVariants as listed;
+ghost use Rattle.ceph_snapshot.specs.Authority.{AreClaimed, IsClaim, IsClaimedTwice, StillClaimed};
+ghost use Rattle.ceph_snapshot.specs.Authority.{PathText, fragment_of, is_user_path};
+ghost use Rattle.ceph_snapshot.specs.Gathered.{noted_at, own_with, ours_at, ours_with, pinned_at};
+ghost use Rattle.ceph_snapshot.specs.Names.{path_number};
 
 use crate::directory::Directory;
 use crate::names::Names;
@@ -77,7 +83,11 @@ impl Gathering {
     }
 
     /// Gives a path below a directory with this number one of its own.
-    fn add(&mut self, path: &[u8], parent: u32) -> Result<u32, SnapshotError> {
+    fn add(&mut self, path: &[u8], parent: u32) -> Result<u32, SnapshotError>
+        ensures claims { self.new.fragments ≡ self.old.fragments }
+        ensures twice { (path : PathText) (first : ℕ) (second : ℕ)
+            → IsErrOf result (SnapshotError.TwoClaims path first second) → ⊥ }
+    {
         let Ok(number) = u32::try_from(self.nodes.len()) else {
             return Err(SnapshotError::TooMany);
         };
@@ -101,11 +111,16 @@ impl Gathering {
     }
 
     /// The number of a path, and none for one that is in no tree of users, as a rank's own directory.
-    fn number(&mut self, path: &[u8]) -> Result<Option<u32>, SnapshotError> {
+    fn number(&mut self, path: &[u8]) -> Result<Option<u32>, SnapshotError>
+        ensures claims { self.new.fragments ≡ self.old.fragments }
+        ensures some { is_user_path path.now ≡ true → IfOk result (λ number. IsSome number) }
+        ensures twice { (path : PathText) (first : ℕ) (second : ℕ)
+            → IsErrOf result (SnapshotError.TwoClaims path first second) → ⊥ }
+    {
         if let Some(number) = self.names.number(path) {
             return Ok(Some(number));
         }
-        if !path.starts_with(b"/") || path.contains(&0) {
+        if !is_user_path(path) {
             return Ok(None);
         }
         let (above, mut number) = self.nearest(path);
@@ -142,7 +157,15 @@ impl Gathering {
     }
 
     /// Notes that a rank has a fragment of a directory, which no other rank has.
-    fn claim(&mut self, rank: Rank, root: &SubtreeRoot) -> Result<(), SnapshotError> {
+    fn claim(&mut self, rank: Rank, root: &SubtreeRoot) -> Result<(), SnapshotError>
+        requires { root.now.is_here ≡ true }
+        ensures twice { (path : PathText) (first : ℕ) (second : ℕ)
+            → IsErrOf result (SnapshotError.TwoClaims path first second)
+            → IsClaimedTwice self.new.fragments root.now rank path first second }
+        ensures claimed { OnOk result ((fragment : List ℕ) → fragment_of root.now ≡ Some fragment
+            → path_number self.new.fragments fragment ≡ Some rank) }
+        ensures kept { OnOk result (StillClaimed self.old.fragments self.new.fragments) }
+    {
         let Some(fragment) = root.fragment.as_deref() else {
             return Ok(());
         };
@@ -162,7 +185,11 @@ impl Gathering {
     }
 
     /// Notes which directory just below the root Ceph's own pins are at or below.
-    fn hold_top(&mut self, path: &[u8]) -> Result<(), SnapshotError> {
+    fn hold_top(&mut self, path: &[u8]) -> Result<(), SnapshotError>
+        ensures claims { self.new.fragments ≡ self.old.fragments }
+        ensures twice { (path : PathText) (first : ℕ) (second : ℕ)
+            → IsErrOf result (SnapshotError.TwoClaims path first second) → ⊥ }
+    {
         let slash = path.iter().skip(1).position(|byte| *byte == b'/');
         let end = slash.map_or(path.len(), |at| at + 1);
         if let Some(number) = self.number(path.get(..end).unwrap_or(path))? {
@@ -172,7 +199,14 @@ impl Gathering {
     }
 
     /// Adds a root that a rank knows.
-    fn add_subtree(&mut self, rank: Rank, root: &SubtreeRoot) -> Result<(), SnapshotError> {
+    fn add_subtree(&mut self, rank: Rank, root: &SubtreeRoot) -> Result<(), SnapshotError>
+        ensures twice { (path : PathText) (first : ℕ) (second : ℕ)
+            → IsErrOf result (SnapshotError.TwoClaims path first second)
+            → IsClaimedTwice self.new.fragments root.now rank path first second }
+        ensures claimed { OnOk result ((fragment : List ℕ) → IsClaim root.now fragment
+            → path_number self.new.fragments fragment ≡ Some rank) }
+        ensures kept { OnOk result (StillClaimed self.old.fragments self.new.fragments) }
+    {
         let Some(directory) = self.number(root.path.as_slice())? else {
             return Ok(());
         };
@@ -195,7 +229,14 @@ impl Gathering {
     }
 
     /// Adds the subtrees that a rank knows, and the pins of their roots. A fragment that two ranks claim is refused.
-    pub fn add_subtrees(&mut self, rank: Rank, roots: &[SubtreeRoot]) -> Result<(), SnapshotError> {
+    pub fn add_subtrees(&mut self, rank: Rank, roots: &[SubtreeRoot]) -> Result<(), SnapshotError>
+        ensures twice { (path : PathText) (first : ℕ) (second : ℕ)
+            → IsErrOf result (SnapshotError.TwoClaims path first second)
+            → (root : SubtreeRoot) × IsAmong roots.now root
+            × IsClaimedTwice self.new.fragments root rank path first second }
+        ensures claimed { OnOk result (AreClaimed self.new.fragments roots.now rank) }
+        ensures kept { OnOk result (StillClaimed self.old.fragments self.new.fragments) }
+    {
         for root in roots {
             self.add_subtree(rank, root)?;
         }
@@ -214,13 +255,37 @@ impl Gathering {
     }
 
     /// Says that this program pinned a directory before. One that nothing else names is passed over.
-    pub fn add_own(&mut self, pin: &OwnPin) {
+    pub fn add_own(&mut self, pin: &OwnPin)
+        ensures names { self.new.names ≡ self.old.names }
+        ensures size { length self.new.nodes.items ≡ length self.old.nodes.items }
+        ensures pinned { (i : ℕ) → pinned_at self.new.nodes.items i ≡ pinned_at self.old.nodes.items i }
+        ensures own { (i : ℕ) → i < length self.old.nodes.items → noted_at self.new.nodes.items i
+            ≡ own_with self.old.names i (noted_at self.old.nodes.items i) pin.now }
+    {
         if let Some(number) = self.names.number(pin.path.as_slice()) {
             if let Some(node) = self.nodes.get_mut(number as usize) {
                 node.own = Some(pin.rank);
             }
         }
     }
+
+    /// The same for each pin of a list.
+    pub fn add_own_list(&mut self, pins: &[OwnPin])
+        ensures size { length self.new.nodes.items ≡ length self.old.nodes.items }
+        ensures ours { (i : ℕ) → i < length self.old.nodes.items → ours_at self.new.nodes.items i
+            ≡ ours_with self.old.names pins.now self.old.nodes.items i }
+    {
+        for pin in pins {
+            self.add_own(pin);
+        }
+    }
+}
+
+/// Whether a path is in the tree of users: the root's, or one behind a slash, with no NUL.
+fn is_user_path(path: &[u8]) -> bool
+    ensures { result ≡ is_user_path path.now }
+{
+    path.is_empty() || (path.starts_with(b"/") && !path.contains(&0))
 }
 
 /// A directory of which nothing is known but its path and its parent.

@@ -1,4 +1,7 @@
 //! Numbers for paths: a path gets its number when it is first named, after the paths above it.
+ghost use Rattle.std.specs.Prelude.{◌≡◌, ℕ, List, OnOk, Some, if◌then◌else◌};
+ghost use Rattle.std.specs.Str.{bytes_eq};
+ghost use Rattle.ceph_snapshot.specs.Names.{path_number};
 
 use std::alloc::{AllocError, Global};
 use std::collections::HashMap;
@@ -18,12 +21,17 @@ impl Names {
     }
 
     /// The number of a path, where it has one.
-    pub fn number(&self, path: &[u8]) -> Option<u32> {
+    pub fn number(&self, path: &[u8]) -> Option<u32>
+        ensures { result ≡ path_number self.now path.now }
+    {
         self.numbers.get(path).copied()
     }
 
     /// Gives a path this number.
-    pub fn insert(&mut self, path: Vec<u8>, number: u32) -> Result<(), AllocError> {
+    pub fn insert(&mut self, path: Vec<u8>, number: u32) -> Result<(), AllocError>
+        ensures { OnOk result ((other : List ℕ) → path_number self.new other
+            ≡ (if bytes_eq path.items other then Some number else path_number self.old other)) }
+    {
         self.numbers.insert(path, number)?;
         Ok(())
     }

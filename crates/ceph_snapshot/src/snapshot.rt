@@ -1,12 +1,16 @@
 //! The directories, from what was gathered of them.
 
-ghost use Rattle.std.specs.Prelude.{◌≡◌, ◌==◌, ◌||◌, ◌<◌, ◌/◌, ℕ, None, Some, false, length, min, nat_lt};
-ghost use Rattle.std.specs.Prelude.{IfOk, if◌then◌else◌};
+ghost use Rattle.std.specs.Prelude.{◌≡◌, ◌==◌, ◌||◌, ◌<◌, ◌/◌, ℕ, All, List, true, false};
+ghost use Rattle.std.specs.Prelude.{IfErr, IfOk, IsErrOf, OnOk, length, map, min, nat_lt, string_bytes, if◌then◌else◌};
 ghost use Rattle.mds_types.specs.RankSet.{has_rank};
 ghost use Rattle.mds_types.specs.declared.limits.TheConstants.{HEAT_LIMIT};
-ghost use Rattle.ceph_snapshot.specs.Gathered.{foreign_pin, idle_pin, our_pin, seen_heat};
-ghost use Rattle.ceph_snapshot.specs.Holding.{AreParentsFirst};
+ghost use Rattle.ceph_snapshot.specs.declared.gathering.Node.{Node};
+ghost use Rattle.ceph_snapshot.specs.Authority.{IsUnclaimed, LieAsClaimed, PathText, is_torn_at, is_true_of};
+ghost use Rattle.ceph_snapshot.specs.Authority.{node_path_at, placed_node, lies_at};
+ghost use Rattle.ceph_snapshot.specs.Gathered.{foreign_pin, idle_pin, our_pin, ours_at, seen_heat};
+ghost use Rattle.ceph_snapshot.specs.Holding.{AreParentsFirst, earlier_at};
 ghost use Rattle.ceph_snapshot.specs.Policies.{KeepUnpinnable};
+ghost use Rattle.ceph_snapshot.specs.Shown.{shown_path};
 
 use crate::directory::Directory;
 use crate::gathering::{Gathering, Hearsay, Node, Sighting};
@@ -15,7 +19,7 @@ use crate::snapshot_error::{SnapshotError, told_path};
 use ceph_dumps::EphemeralPin;
 use mds_types::limits::{HEAT_LIMIT, RANK_LIMIT};
 use mds_types::{Rank, RankSet};
-use std::alloc::Global;
+use std::alloc::{AllocError, Global};
 
 /// The directories of a file system, parents before children.
 #[derive(Drop)]
@@ -28,10 +32,7 @@ pub struct Snapshot {
 
 /// Where a directory is: at its own rank if it is the root of a subtree, and else where its parent is.
 fn place(node: &mut Node, now: Rank, is_spread: bool)
-    ensures root { (rank : ℕ) → node.old.root ≡ Some rank → node.new.directory.now ≡ rank }
-    ensures inside { node.old.root ≡ None → node.new.directory.now ≡ now }
-    ensures spread { node.old.root ≡ None
-        → node.new.directory.is_spread ≡ (node.old.directory.is_spread || is_spread) }
+    ensures { node.new ≡ placed_node now is_spread node.old }
 {
     match node.root {
         Some(rank) => node.directory.now = rank,
@@ -42,15 +43,33 @@ fn place(node: &mut Node, now: Rank, is_spread: bool)
     }
 }
 
-/// Where each directory is: at the rank of the nearest root of a subtree.
-fn place_all(nodes: &mut [Node]) {
+/// Where the parent of a directory lies, and whether it is spread. Above the root of the tree is none.
+fn above(nodes: &[Node], at: usize, parent: usize) -> (Rank, bool)
+    requires { 0 < at → parent < length nodes.now }
+    ensures rank { result.0 ≡ (if at == 0 then 0 else lies_at nodes.now parent) }
+    ensures torn { result.1 ≡ (if at == 0 then false else is_torn_at nodes.now parent) }
+{
+    if at == 0 {
+        return (Rank::default(), false);
+    }
+    let directory = &nodes[parent].directory;
+    (directory.now, directory.is_spread)
+}
+
+/// Where each directory is: at the rank of the nearest root of a subtree. One that stands before its parent is refused.
+fn place_all(nodes: &mut Vec<Node>) -> Result<(), SnapshotError>
+    ensures placed { OnOk result (LieAsClaimed nodes.old.items nodes.new.items) }
+    ensures refused { IfErr result (λ error. error ≡ SnapshotError.TooMany) }
+{
     for at in 0..nodes.len() {
         let parent = nodes[at].directory.parent as usize;
-        if let Some(above) = nodes.get(parent) {
-            let (now, is_spread) = (above.directory.now, above.directory.is_spread);
-            place(&mut nodes[at], now, is_spread);
+        if parent >= at.max(1) {
+            return Err(SnapshotError::TooMany);
         }
+        let (now, is_spread) = above(nodes, at, parent);
+        place(&mut nodes[at], now, is_spread);
     }
+    Ok(())
 }
 
 /// Adds the heat that a rank has seen at a directory, if the rank has authority or the directory is spread. Gives
@@ -60,6 +79,8 @@ fn sight(node: &mut Node, seen: Sighting) -> u64
     ensures heat { node.new.directory.heat ≡ seen_heat node.old.directory.heat seen.heat
         (node.old.directory.is_spread || (node.old.directory.now == seen.rank)) }
     ensures place { node.old.directory.is_spread ≡ false → node.new.directory.now ≡ node.old.directory.now }
+    ensures pinned { node.new.pinned ≡ node.old.pinned }
+    ensures own { node.new.own ≡ node.old.own }
 {
     let directory = &mut node.directory;
     if directory.is_spread {
@@ -142,7 +163,9 @@ fn finished(node: Node, samples: u64, ranks: RankSet) -> Directory
 }
 
 /// Whether what a rank says of a directory's authority is where the directory is.
-fn is_confirmed(nodes: &[Node], said: Hearsay) -> bool {
+fn is_confirmed(nodes: &[Node], said: Hearsay) -> bool
+    ensures { result ≡ is_true_of nodes.now said }
+{
     match nodes.get(said.directory as usize) {
         Some(node) => {
             let directory = &node.directory;
@@ -152,16 +175,27 @@ fn is_confirmed(nodes: &[Node], said: Hearsay) -> bool {
     }
 }
 
+/// The path of a directory as a text.
+fn path_of(alloc: Global, nodes: &[Node], at: usize) -> Result<String, AllocError>
+    ensures { IfOk result (λ path. string_bytes path ≡ shown_path (node_path_at nodes.now at)) }
+{
+    match nodes.get(at) {
+        Some(node) => told_path(alloc, node.directory.path.as_slice()),
+        None => told_path(alloc, b""),
+    }
+}
+
 /// Refuses what ranks say of the authority of others, where no rank claims it so.
-fn confirm(alloc: Global, nodes: &[Node], hearsay: &[Hearsay]) -> Result<(), SnapshotError> {
+fn confirm(alloc: Global, nodes: &[Node], hearsay: &[Hearsay]) -> Result<(), SnapshotError>
+    ensures all { OnOk result (All (λ said. is_true_of nodes.now said ≡ true) hearsay.now) }
+    ensures unclaimed { (path : PathText) (by : ℕ) (authority : ℕ)
+        → IsErrOf result (SnapshotError.Unclaimed path by authority)
+        → IsUnclaimed nodes.now hearsay.now path by authority }
+{
     for said in hearsay {
         if !is_confirmed(nodes, *said) {
-            let path = match nodes.get(said.directory as usize) {
-                Some(node) => told_path(alloc, node.directory.path.as_slice())?,
-                None => String::new(alloc),
-            };
             return Err(SnapshotError::Unclaimed {
-                path,
+                path: path_of(alloc, nodes, said.directory as usize)?,
                 by: said.by.number(),
                 authority: said.authority,
             });
@@ -170,8 +204,13 @@ fn confirm(alloc: Global, nodes: &[Node], hearsay: &[Hearsay]) -> Result<(), Sna
     Ok(())
 }
 
-/// Gives each of these directories a policy that isn't known, if none is known of it.
-fn hold_tops(nodes: &mut [Node], tops: &[u32]) {
+/// Gives each of these directories a policy that isn't known, if none is known of it, unless all were listed.
+fn hold_tops(nodes: &mut Vec<Node>, tops: &[u32], is_listed: bool)
+    ensures { (i : ℕ) → ours_at nodes.new.items i ≡ ours_at nodes.old.items i }
+{
+    if is_listed {
+        return;
+    }
     for top in tops {
         if let Some(node) = nodes.get_mut(*top as usize) {
             let policy = node.directory.policy;
@@ -186,8 +225,10 @@ fn all_finished(
     nodes: Vec<Node>,
     samples: u64,
     ranks: RankSet,
-) -> Result<Vec<Directory>, SnapshotError>
+) -> Result<Vec<Directory>, AllocError>
     requires { 0 < samples }
+    ensures { IfOk result (λ directories. map (λ d. d.earlier) directories.items
+        ≡ map (λ n. our_pin n.pinned n.own) nodes.items) }
 {
     let mut directories = Vec::with_capacity(alloc, nodes.len())?;
     for node in nodes {
@@ -203,6 +244,14 @@ impl Gathering {
     /// pins are at or below it.
     pub fn snapshot(self, samples: u64, ranks: RankSet) -> Result<Snapshot, SnapshotError>
         requires { 0 < samples }
+        ensures authority { IfOk result (λ _. (placed : List Node) × LieAsClaimed self.nodes.items placed
+            × All (λ said. is_true_of placed said ≡ true) self.hearsay.items) }
+        ensures unclaimed { (path : PathText) (by : ℕ) (authority : ℕ)
+            → IsErrOf result (SnapshotError.Unclaimed path by authority)
+            → (placed : List Node) × LieAsClaimed self.nodes.items placed
+            × IsUnclaimed placed self.hearsay.items path by authority }
+        ensures ours { IfOk result (λ snapshot. (i : ℕ) → earlier_at snapshot.directories.items i
+            ≡ ours_at self.nodes.items i) }
         ensures spread { IfOk result (λ snapshot. length snapshot.spread.items ≡ 64) }
         ensures kept { IfOk result (λ snapshot. AreParentsFirst snapshot.directories.items
             → KeepUnpinnable snapshot.directories.items) }
@@ -218,12 +267,10 @@ impl Gathering {
             is_listed,
         } = self;
         drop(names);
-        place_all(nodes.as_mut_slice());
+        place_all(&mut nodes)?;
         confirm(alloc, nodes.as_slice(), hearsay.as_slice())?;
-        if !is_listed {
-            hold_tops(nodes.as_mut_slice(), tops.as_slice());
-        }
-        let spread = see_all(alloc, nodes.as_mut_slice(), sightings.as_slice(), samples)?;
+        hold_tops(&mut nodes, tops.as_slice(), is_listed);
+        let spread = see_all(alloc, &mut nodes, sightings.as_slice(), samples)?;
         let mut directories = all_finished(alloc, nodes, samples, ranks)?;
         keep(alloc, &mut directories)?;
         Ok(Snapshot {
@@ -233,23 +280,32 @@ impl Gathering {
     }
 }
 
+/// Adds the heat of a sighting. Gives what of it counts as spread.
+fn see(nodes: &mut Vec<Node>, seen: Sighting) -> u64
+    ensures { (i : ℕ) → ours_at nodes.new.items i ≡ ours_at nodes.old.items i }
+{
+    match nodes.get_mut(seen.directory as usize) {
+        Some(node) => sight(node, seen),
+        None => 0,
+    }
+}
+
 /// Adds the heat of all sightings. Gives the heat by rank, a mean of so many samples, of what is spread.
 fn see_all(
     alloc: Global,
-    nodes: &mut [Node],
+    nodes: &mut Vec<Node>,
     sightings: &[Sighting],
     samples: u64,
-) -> Result<Vec<u64>, SnapshotError>
+) -> Result<Vec<u64>, AllocError>
     requires { 0 < samples }
-    ensures { IfOk result (λ spread. length spread.items ≡ 64) }
+    ensures spread { IfOk result (λ spread. length spread.items ≡ 64) }
+    ensures ours { (i : ℕ) → ours_at nodes.new.items i ≡ ours_at nodes.old.items i }
 {
     let mut spread = vec![in alloc; 0u64; usize::from(RANK_LIMIT)]?;
     for seen in sightings {
-        if let Some(node) = nodes.get_mut(seen.directory as usize) {
-            let heat = sight(node, *seen) / samples;
-            let at = usize::from(seen.rank.number());
-            spread[at] = spread[at].saturating_add(heat);
-        }
+        let heat = see(nodes, *seen) / samples;
+        let at = usize::from(seen.rank.number());
+        spread[at] = spread[at].saturating_add(heat);
     }
     Ok(spread)
 }

@@ -1,4 +1,6 @@
 //! Why what was gathered makes no snapshot.
+ghost use Rattle.std.specs.Prelude.{◌≡◌, ◌++◌, IfOk, OnOk, string_bytes};
+ghost use Rattle.ceph_snapshot.specs.Shown.{shown_byte, shown_path};
 
 use std::alloc::{AllocError, AllocFailed, Global};
 use thiserror::Error;
@@ -36,31 +38,52 @@ pub enum SnapshotError {
 }
 
 impl From<AllocError> for SnapshotError {
+    ghost use Rattle.ceph_snapshot.specs.declared.snapshot_error.SnapshotError.TheVariants as cause;
+
+    ghost from_gives = { λ _ error. error ≡ cause.Memory };
+
     fn from(_: AllocError) -> SnapshotError {
         SnapshotError::Memory
     }
 }
 
 impl<T: Drop> From<AllocFailed<T>> for SnapshotError {
+    ghost use Rattle.ceph_snapshot.specs.declared.snapshot_error.SnapshotError.TheVariants as cause;
+
+    ghost from_gives = { λ _ error. error ≡ cause.Memory };
+
     fn from(_: AllocFailed<T>) -> SnapshotError {
         SnapshotError::Memory
     }
 }
 
+/// Adds a byte of a path.
+#[tactic(auto, unfolding(crate::specs::Shown::shown_byte))]
+fn push_shown(text: &mut String, byte: u8) -> Result<(), AllocError>
+    ensures { OnOk result (string_bytes text.new ≡ string_bytes text.old ++ shown_byte byte) }
+{
+    match byte {
+        b' '..=b'[' | b']'..=b'~' => text.push(char::from(byte)),
+        other => {
+            text.push('\\')?;
+            text.push(char::from(b'0' + other / 64))?;
+            text.push(char::from(b'0' + other / 8 % 8))?;
+            text.push(char::from(b'0' + other % 8))
+        }
+    }
+}
+
 /// A path as a text: a slash for the root, and bytes that ASCII doesn't print as three octal digits.
-pub(crate) fn told_path(alloc: Global, path: &[u8]) -> Result<String, AllocError> {
+#[tactic(auto, unfolding(crate::specs::Shown::shown_path))]
+pub(crate) fn told_path(alloc: Global, path: &[u8]) -> Result<String, AllocError>
+    ensures { IfOk result (λ text. string_bytes text ≡ shown_path path.now) }
+{
     let mut text = String::new(alloc);
     if path.is_empty() {
         text.push('/')?;
     }
     for byte in path {
-        match *byte {
-            b' '..=b'[' | b']'..=b'~' => text.push(char::from(*byte))?,
-            other => {
-                let octal = format!(in alloc; "\\{other:03o}")?;
-                text.push_str(octal.as_str())?;
-            }
-        }
+        push_shown(&mut text, *byte)?;
     }
     Ok(text)
 }

@@ -103,6 +103,7 @@ fn left(alloc: Global, directories: Vec<Directory>) -> Result<Vec<Directory>, Re
 pub(crate) const WANTED: Wanted = Wanted {
     parts: PartCount::Auto(1000),
     keep: 0,
+    rests: false,
 };
 
 /// A plan of these rows for three ranks, where nothing is pinned yet.

@@ -1,6 +1,5 @@
 -- What holds a directory is left as it is.
-use Rattle.std.proofs.Common.{◌≡◌, ◌≢◌, ◌∙◌, ◌<◌, ◌==◌, ◌||◌, All, ℕ, Bool, true, false, List, length, Option, Some, None, ap, arith, cond, get_or, is_some, refl, sym, subst}
-use Rattle.std.specs.Option.{option_map_or}
+use Rattle.std.proofs.Common.{◌≡◌, ◌≢◌, ◌∙◌, ◌<◌, ◌||◌, All, ℕ, Bool, true, false, List, length, Option, Some, None, ap, arith, cond, is_some, refl, sym}
 use Rattle.std.proofs.lemmas.Bool.{both_ways, ne_eqb}
 use Rattle.std.proofs.lemmas.Option.{none-some}
 use Rattle.mds_types.specs.declared.problem.ProblemRow.{ProblemRow}
@@ -25,10 +24,10 @@ holding-foreign : (directories : List Directory) (i : ℕ) → 0 < i → is_hold
 holding-foreign directories i later is =
     rw (ne_eqb i 0 (λ same. let none : ⊥ = omega (arith, later, same) in none)) (some_of (pin_at directories i) (is_fixed_at directories i) (now_at directories i) is)
 
-pub untouched : (directories : List Directory) (rows : List ProblemRow) (part rank : List ℕ) (own : List OwnPins) (n : ℕ) (found : List PinRow) (changes : List PinChange)
-    → n ≡ length directories → AreOwnPins directories (length directories) own → ArePinRows rows part rank own n found → AreUntouched found changes
+pub untouched : (directories : List Directory) (rows : List ProblemRow) (part rank : List ℕ) (own : List OwnPins) (n : ℕ) (rests : Bool) (found : List PinRow) (changes : List PinChange)
+    → n ≡ length directories → AreOwnPins directories (length directories) own → ArePinRows rows part rank own n rests found → AreUntouched found changes
     → (i : ℕ) → 0 < i → i < length directories → is_holding directories i ≡ true → All (λ (change : PinChange). change.row ≢ i) changes
-untouched directories rows part rank own n found changes size own_is asked free i later inside holds = λ k d l same.
+untouched directories rows part rank own n rests found changes size own_is asked free i later inside holds = λ k d l same.
     let row : rule.foreign_at found i ≡ (own_at own i).foreign = ap (λ (one : PinRow). one.foreign) (asked.asked i (omega (arith, inside, size))) in
     let pins : (own_at own i).foreign ≡ foreign_at directories i = ap (λ (one : OwnPins). one.foreign) (own_is.pins i inside) in
     let none : rule.foreign_at found i ≡ None = ap (rule.foreign_at found) (sym same) ∙ free k d l in

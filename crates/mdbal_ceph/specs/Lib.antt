@@ -1,3 +1,5 @@
+pub mod Collections
+pub mod Options
 pub mod Outcomes
 pub mod Usable
 pub mod Writing

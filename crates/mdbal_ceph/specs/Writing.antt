@@ -1,8 +1,10 @@
 -- What is written of a plan.
-use Rattle.std.specs.Prelude.{◌≡◌, ◌<◌, ◌≤◌, ◌-◌, ◌*◌, ◌↔◌, ℕ, Bool, List, [], length, string_bytes}
+use Rattle.std.specs.Prelude.{◌≡◌, ◌↔◌, ℕ, Bool, List, [], length, string_bytes}
 use Rattle.std.specs.Prelude.{IfSome, IsTrue, is_some, if◌then◌else◌}
 use Rattle.mds_types.specs.Sums.{count_below}
 use Rattle.ceph_plan.specs.declared.row.PinChange.{PinChange}
+use Rattle.ceph_plan.specs.Worth.{IsWorthMoving}
+use Rattle.ceph_plan.specs.declared.worth.Gain.{Gain}
 use Rattle.ceph_pins.specs.Back.{inverted}
 use Rattle.ceph_pins.specs.OwnList.{own_list}
 use Rattle.ceph_pins.specs.PinsScript.{pins_script}
@@ -16,9 +18,15 @@ use Rattle.mdbal_ceph.specs.declared.settings.PlanSettings.{PlanSettings}
 use Rattle.mdbal_ceph.specs.declared.writing.PinFiles.{PinFiles}
 use Rattle.mdbal_ceph.specs.declared.writing.PlanOutput.{PlanOutput}
 
--- the hottest rank gets cooler, and by at least so many percent
-abbrev pub IsWorthIt : ℕ → ℕ → ℕ → Type 0
-IsWorthIt now planned percent = (planned < now) × (now * percent ≤ (now - planned) * 100)
+-- what the plan comes to: the heat of the hottest rank, now and as planned, and the inodes that move
+abbrev pub gain_of : Outcome → Gain
+gain_of outcome =
+    record {
+      heat = hottest outcome.decision.sums.now.items;
+      now = hottest outcome.decision.sums.now.items;
+      planned = hottest outcome.decision.proposal.plan.packing.load.items;
+      moved = outcome.decision.proposal.plan.moved;
+    }
 
 -- the status of the program
 abbrev pub plan_status : Bool → ℕ
@@ -69,13 +77,10 @@ pub record IsTold (outcome : Outcome) (is_json is_proposed : Bool) (text : List 
   pub told : text
       ≡ (if is_json then json facts (proposed_changes outcome is_proposed) is_proposed else report facts is_proposed)
 
--- the plan is proposed where the hottest of all ranks gets cooler by the percentage that is asked for; the report, or
--- JSON, is that of the outcome; and the files of the pins are there where they are asked for, with the changes that are
--- proposed
+-- the plan is proposed exactly where it comes to what is asked for; the report, or JSON, is that of the outcome; and
+-- the files of the pins are there where they are asked for, with the changes that are proposed
 pub record IsWritten (settings : PlanSettings) (outcome : Outcome) (output : PlanOutput) : Type 0 where
-  pub proposed : IsTrue output.is_proposed
-      ↔ IsWorthIt (hottest outcome.decision.sums.now.items) (hottest outcome.decision.proposal.plan.packing.load.items)
-      settings.least_gain
+  pub proposed : IsTrue output.is_proposed ↔ IsWorthMoving (gain_of outcome) settings.least
   pub text : IsTold outcome settings.is_json output.is_proposed output.text.items
   pub asked : is_some output.pins ≡ is_some settings.pins
   pub pins : IfSome output.pins (ArePinFiles settings.mount.now outcome (proposed_changes outcome output.is_proposed))

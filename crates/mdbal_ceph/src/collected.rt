@@ -1,13 +1,17 @@
 //! Reads the files that `ceph/collect` wrote.
-ghost use Rattle.std.specs.Prelude.{◌≡◌, ◌<◌, length, IfOk};
+ghost use Rattle.std.specs.Prelude.{◌≡◌, ◌<◌, ℕ, [], length, IfOk, is_some};
+ghost use Rattle.std.specs.Option.{option_map_or};
+ghost use Rattle.ceph_snapshot.specs.Gathered.{ours_with};
+ghost use Rattle.ceph_snapshot.specs.Holding.{earlier_at};
+ghost use Rattle.mdbal_ceph.specs.Collections.{HasOurPins};
 
 use crate::progress::Progress;
 use anyhow::{Context, Error, bail};
 use ceph_dumps::{
-    DumpError, FileSystem, FileSystemRanks, read_cluster, read_complete, read_listing, read_loads,
-    read_own_list, read_subtrees,
+    DumpError, FileSystem, FileSystemRanks, OwnPin, read_cluster, read_complete, read_listing,
+    read_loads, read_own_list, read_subtrees,
 };
-use ceph_snapshot::{Gathering, Snapshot};
+use ceph_snapshot::{Gathering, Snapshot, SnapshotError};
 use mds_types::limits::RANK_LIMIT;
 use mds_types::{Rank, RankSet};
 use std::alloc::Global;
@@ -27,6 +31,8 @@ pub struct Collected {
     pub cluster: FileSystemRanks,
     /// How many samples of heat each rank gave.
     pub samples: u64,
+    /// The pins of an earlier plan, where their list is asked for.
+    pub own: Option<Vec<OwnPin>>,
     /// The directories.
     pub snapshot: Snapshot,
 }
@@ -123,17 +129,17 @@ fn add_listing<R: Files + AllocGlobal>(
     }
 }
 
-/// Adds the pins of an earlier plan.
-fn add_own<R: Files + AllocGlobal>(
+/// The pins of an earlier plan, where their list is asked for.
+fn own_pins<R: Files + AllocGlobal>(
     rt: &R,
-    gathering: &mut Gathering,
-    path: &str,
-) -> Result<(), Error> {
-    let pins = read_file(rt, path, read_own_list)?;
-    for pin in pins.as_slice() {
-        gathering.add_own(pin);
+    path: Option<&str>,
+) -> Result<Option<Vec<OwnPin>>, Error>
+    ensures { IfOk result (λ own. is_some own ≡ is_some path.entry) }
+{
+    match path {
+        Some(path) => Ok(Some(read_file(rt, path, read_own_list)?)),
+        None => Ok(None),
     }
-    Ok(())
 }
 
 /// Which file system a folder is of. A folder that the collector didn't finish is refused.
@@ -184,22 +190,44 @@ fn sample_count<R: Files + AllocGlobal>(rt: &R, folder: &str) -> Result<u64, Err
     Ok(SAMPLE_LIMIT)
 }
 
-/// Adds the dumps of these ranks, what was listed over a mount, and which pins are those of an earlier plan.
+/// Adds the dumps of these ranks, and what was listed over a mount.
 fn add_all<R: Files + AllocGlobal + Clock + Eprint>(
     rt: &R,
     progress: &mut Progress,
     gathering: &mut Gathering,
     folder: &str,
-    own: Option<&str>,
     ranks: RankSet,
     samples: u64,
 ) -> Result<(), Error> {
     add_ranks(rt, progress, gathering, folder, ranks, samples)?;
-    add_listing(rt, gathering, folder)?;
+    add_listing(rt, gathering, folder)
+}
+
+/// The pins of a list, and none where there is no list.
+fn listed(own: &Option<Vec<OwnPin>>) -> &[OwnPin]
+    ensures { result.now ≡ option_map_or (λ pins. pins.items) own.now [] }
+{
     match own {
-        Some(path) => add_own(rt, gathering, path),
-        None => Ok(()),
+        Some(pins) => pins.as_slice(),
+        None => &[],
     }
+}
+
+/// The snapshot of what was gathered, with the pins of an earlier plan.
+fn snapshot_of(
+    gathering: Gathering,
+    pins: &[OwnPin],
+    samples: u64,
+    ranks: RankSet,
+) -> Result<Snapshot, SnapshotError>
+    requires { 0 < samples }
+    ensures spread { IfOk result (λ snapshot. length snapshot.spread.items ≡ 64) }
+    ensures ours { IfOk result (λ snapshot. (i : ℕ) → earlier_at snapshot.directories.items i
+        ≡ ours_with gathering.names pins.now gathering.nodes.items i) }
+{
+    let mut gathering = gathering;
+    gathering.add_own_list(pins);
+    gathering.snapshot(samples, ranks)
 }
 
 /// Reads a folder, and the list of pins of an earlier plan if there is one.
@@ -209,19 +237,23 @@ pub fn read_collected<R: Files + AllocGlobal + Clock + Eprint>(
     folder: &str,
     own: Option<&str>,
 ) -> Result<Collected, Error>
-    ensures { IfOk result (λ collected. length collected.snapshot.spread.items ≡ 64) }
+    ensures spread { IfOk result (λ collected. length collected.snapshot.spread.items ≡ 64) }
+    ensures own { IfOk result (λ collected. is_some collected.own ≡ is_some own.entry) }
+    ensures ours { IfOk result (λ collected. HasOurPins collected) }
 {
     let file_system = file_system_of(rt, folder)?;
     let cluster = cluster_of(rt, folder)?;
     let samples = sample_count(rt, folder)?;
     let mut gathering = Gathering::new(rt.alloc())?;
     let ranks = cluster.ranks;
-    add_all(rt, progress, &mut gathering, folder, own, ranks, samples)?;
-    let snapshot = gathering.snapshot(samples, ranks)?;
+    add_all(rt, progress, &mut gathering, folder, ranks, samples)?;
+    let own = own_pins(rt, own)?;
+    let snapshot = snapshot_of(gathering, listed(&own), samples, ranks)?;
     Ok(Collected {
         file_system,
         cluster,
         samples,
+        own,
         snapshot,
     })
 }

@@ -1,4 +1,6 @@
 //! Reads what was collected, and writes the files of a plan.
+ghost use Rattle.std.specs.Prelude.{IfOk};
+ghost use Rattle.mdbal_ceph.specs.Options.{IsPlanWritten};
 
 use crate::collected::read_collected;
 use crate::outcome::planned;
@@ -6,12 +8,14 @@ use crate::progress::Progress;
 use crate::settings::PlanSettings;
 use crate::writing::{PinFiles, PlanOutput, written};
 use anyhow::{Context, Error};
-use std::fs;
+use command_line::create_file;
+use std::io::Write;
 use std::rt::{Clock, Files};
 
 /// Writes a file.
 fn write_file<R: Files>(rt: &R, file: &str, content: &[u8]) -> Result<(), Error> {
-    fs::write(rt, file, content).context(format_args!("{file}"))
+    let mut made = create_file(rt, file).context(format_args!("{file}"))?;
+    made.write_all(content).context(format_args!("{file}"))
 }
 
 /// Writes the files of `--pins`. The script comes last, so that the others are there once it is.
@@ -49,7 +53,9 @@ fn write_files<R: Files + AllocGlobal>(
 pub fn carry_out<R: Files + AllocGlobal + Clock + Eprint>(
     rt: &R,
     settings: &PlanSettings,
-) -> Result<PlanOutput, Error> {
+) -> Result<PlanOutput, Error>
+    ensures { IfOk result (IsPlanWritten settings.now) }
+{
     let mut progress = Progress::begin(rt);
     let collected = read_collected(rt, &mut progress, settings.folder, settings.own)?;
     progress.tell(rt, "planning");

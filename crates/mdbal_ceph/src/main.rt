@@ -2,7 +2,6 @@
 #![tactic(auto)]
 
 mod collected;
-mod devices;
 mod files;
 mod input;
 mod outcome;
@@ -11,7 +10,6 @@ mod settings;
 mod writing;
 
 use anyhow::{Context, Error};
-use devices::hold_devices;
 use files::carry_out;
 use settings::{PlanSettings, settings_of};
 use std::env::Env;
@@ -64,11 +62,5 @@ fn status<R: Env + Files + AllocGlobal + Clock + Print + Eprint>(rt: &R) -> u8 {
 }
 
 fn main(rt: HostRuntime) -> ExitCode {
-    match hold_devices(&rt) {
-        Ok(_held) => ExitCode::from(status(&rt)),
-        Err(error) => {
-            let _ = eprintln!(rt; "mdbal_ceph: /dev/null: {error}");
-            ExitCode::from(1)
-        }
-    }
+    ExitCode::from(status(&rt))
 }

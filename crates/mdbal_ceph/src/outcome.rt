@@ -136,6 +136,7 @@ pub fn planned(
         file_system,
         cluster,
         samples,
+        own: _,
         snapshot,
     } = collected;
     let ranks = usable(settings, &cluster)?;

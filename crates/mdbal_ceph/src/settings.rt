@@ -1,6 +1,10 @@
 //! What the words of the command line ask for.
+ghost use Rattle.std.specs.Prelude.{◌≡◌, ◌*◌, IfOk, map};
+ghost use Rattle.std.specs.Option.{option_map};
+ghost use Rattle.mdbal_ceph.specs.Options.{AreRead, AreSettings, least_named, mask_named, option_number};
+ghost use Rattle.mdbal_ceph.specs.Options.{parts_named, value_or};
 
-use ceph_plan::{PartCount, Wanted};
+use ceph_plan::{LeastGain, PartCount, Wanted};
 use clap::error::ErrorKind;
 use clap::{Arg, ArgAction, ArgMatches, Command, Error, value_parser};
 use mds_types::RankSet;
@@ -22,8 +26,8 @@ pub struct PlanSettings<'a> {
     pub mask: Option<RankSet>,
     /// The list of pins that this program set before.
     pub own: Option<&'a str>,
-    /// The least gain that is worth a proposal, in percent.
-    pub least_gain: u8,
+    /// What a plan has to come to for a proposal. Heat is in thousandths.
+    pub least: LeastGain,
     /// Where the file system is mounted on the machine that sets the pins.
     pub mount: &'a str,
     /// Where the script that sets the pins goes.
@@ -134,6 +138,18 @@ const OPTIONS: &[PlanOption] = &[
         help: "Propose nothing if the hottest rank gets cooler by less",
     },
     PlanOption {
+        name: "least-heat",
+        takes: Takes::TextOr("0"),
+        value: "HEAT",
+        help: "Propose nothing if the hottest rank has less heat",
+    },
+    PlanOption {
+        name: "least-by-inodes",
+        takes: Takes::TextOr("0"),
+        value: "HEAT",
+        help: "Propose nothing if the hottest rank gets cooler by less for each thousand inodes that move",
+    },
+    PlanOption {
         name: "keep",
         takes: Takes::Percent,
         value: "PERCENT",
@@ -214,7 +230,9 @@ fn command<'a>(alloc: Global) -> Result<Command<'a>, AllocError> {
 }
 
 /// The number of parts that a text names.
-fn count_of(text: &str, refused: &'static str) -> Result<u16, Refused> {
+fn count_of(text: &str, refused: &'static str) -> Result<u16, Refused>
+    ensures { IfOk result (λ count. count ≡ option_number text.now) }
+{
     match text.parse::<u16>() {
         Ok(count) if 0 < count => Ok(count),
         _ => Err(Refused::Value(refused)),
@@ -222,7 +240,9 @@ fn count_of(text: &str, refused: &'static str) -> Result<u16, Refused> {
 }
 
 /// Into how many parts the directories are divided, where `most` is the most that `auto` tries.
-fn parts_of(text: &str, most: &str) -> Result<PartCount, Refused> {
+fn parts_of(text: &str, most: &str) -> Result<PartCount, Refused>
+    ensures { IfOk result (λ parts. parts ≡ parts_named text.now most.now) }
+{
     let most = count_of(most, "--most-pins takes a number from 1 to 65535")?;
     if text == "auto" {
         return Ok(PartCount::Auto(most));
@@ -231,8 +251,47 @@ fn parts_of(text: &str, most: &str) -> Result<PartCount, Refused> {
     Ok(PartCount::AtMost(count))
 }
 
+/// The percentage that a text names.
+fn percent_of(text: &str) -> Result<u8, Refused>
+    ensures { IfOk result (λ percent. percent ≡ option_number text.now) }
+{
+    match text.parse::<u8>() {
+        Ok(percent) => Ok(percent),
+        Err(_) => Err(Refused::Value("a percentage is a number from 0 to 255")),
+    }
+}
+
+/// The heat that a text names, in thousandths.
+fn heat_of(text: &str, refused: &'static str) -> Result<u64, Refused>
+    ensures { IfOk result (λ heat. heat ≡ option_number text.now * 1000) }
+{
+    match text.parse::<u32>() {
+        Ok(heat) => Ok(u64::from(heat) * 1000),
+        Err(_) => Err(Refused::Value(refused)),
+    }
+}
+
+/// What a plan has to come to.
+fn least_of(matches: &ArgMatches<'_>) -> Result<LeastGain, Refused>
+    ensures { IfOk result (λ least. least ≡ least_named matches.now) }
+{
+    Ok(LeastGain {
+        heat: heat_of(
+            value_or(matches, "least-heat", "0"),
+            "--least-heat takes a whole number",
+        )?,
+        percent: percent_of(value_or(matches, "least-gain", "5"))?,
+        each_thousand: heat_of(
+            value_or(matches, "least-by-inodes", "0"),
+            "--least-by-inodes takes a whole number",
+        )?,
+    })
+}
+
 /// The ranks that a mask names, where one is given.
-fn mask_of(text: Option<&str>) -> Result<Option<RankSet>, Refused> {
+fn mask_of(text: Option<&str>) -> Result<Option<RankSet>, Refused>
+    ensures { IfOk result (λ mask. mask ≡ mask_named (option_map (λ text. text.now) text.entry)) }
+{
     let Some(text) = text else {
         return Ok(None);
     };
@@ -243,27 +302,44 @@ fn mask_of(text: Option<&str>) -> Result<Option<RankSet>, Refused> {
 }
 
 /// Where the file system is mounted: an absolute path.
-fn mount_of(text: &str) -> Result<&str, Refused> {
+fn mount_of(text: &str) -> Result<&str, Refused>
+    ensures { IfOk result (λ mount. mount.now ≡ text.now) }
+{
     match text.as_bytes() {
         [b'/', ..] => Ok(text),
         _ => Err(Refused::Value("--mount takes an absolute path")),
     }
 }
 
+/// The value of an option, or this text where the option isn't there.
+fn value_or<'a>(matches: &ArgMatches<'a>, option: &str, other: &'static str) -> &'a str
+    ensures { result.now ≡ value_or matches.now option.now other.now }
+{
+    match matches.get_str(option) {
+        Some(value) => value,
+        None => other,
+    }
+}
+
 /// The settings that were found.
-fn found<'a>(matches: &ArgMatches<'a>) -> Result<PlanSettings<'a>, Refused> {
+fn found<'a>(matches: &ArgMatches<'a>) -> Result<PlanSettings<'a>, Refused>
+    ensures { IfOk result (AreRead matches.now) }
+{
     let mask = mask_of(matches.get_str("mask"))?;
-    let most = matches.get_str("most-pins").unwrap_or("1000");
-    let parts = parts_of(matches.get_str("parts").unwrap_or("auto"), most)?;
-    let keep = matches.get_one::<u8>("keep").unwrap_or(5);
-    let mount = mount_of(matches.get_str("mount").unwrap_or("/mnt/cephfs"))?;
+    let most = value_or(matches, "most-pins", "1000");
+    let parts = parts_of(value_or(matches, "parts", "auto"), most)?;
+    let keep = percent_of(value_or(matches, "keep", "5"))?;
     Ok(PlanSettings {
-        folder: matches.get_str("folder").unwrap_or("."),
-        wanted: Wanted { parts, keep },
+        folder: value_or(matches, "folder", "."),
+        wanted: Wanted {
+            parts,
+            keep,
+            rests: false,
+        },
         mask,
         own: matches.get_str("own"),
-        least_gain: matches.get_one::<u8>("least-gain").unwrap_or(5),
-        mount,
+        least: least_of(matches)?,
+        mount: mount_of(value_or(matches, "mount", "/mnt/cephfs"))?,
         pins: matches.get_str("pins"),
         svg: matches.get_str("svg"),
         script: matches.get_str("script"),
@@ -272,10 +348,9 @@ fn found<'a>(matches: &ArgMatches<'a>) -> Result<PlanSettings<'a>, Refused> {
 }
 
 /// What the words of a command line ask for, of which the first is the program's name.
-pub fn settings_of<'a, S: AsStr>(
-    alloc: Global,
-    words: &'a [S],
-) -> Result<PlanSettings<'a>, Refused> {
+pub fn settings_of<'a, S: AsStr>(alloc: Global, words: &'a [S]) -> Result<PlanSettings<'a>, Refused>
+    ensures { IfOk result (AreSettings (map S.text words.entry.now)) }
+{
     let matches = command(alloc)?.try_get_matches_from(words)?;
     found(&matches)
 }

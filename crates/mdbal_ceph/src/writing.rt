@@ -1,9 +1,8 @@
 //! What is written of a plan: the text for standard output, and the files.
-ghost use Rattle.std.specs.Prelude.{◌≡◌, ◌↔◌, IfOk, IsTrue};
+ghost use Rattle.std.specs.Prelude.{◌≡◌, IfOk};
 ghost use Rattle.ceph_pins.specs.PinsScript.{pins_script};
-ghost use Rattle.ceph_report.specs.Told.{hottest as hottest_of};
-ghost use Rattle.mdbal_ceph.specs.Writing.{AreFacts, ArePinFiles, IsTold, IsWorthIt, IsWritten};
-ghost use Rattle.mdbal_ceph.specs.Writing.{plan_status, proposed_changes};
+ghost use Rattle.mdbal_ceph.specs.Writing.{AreFacts, ArePinFiles, IsTold, IsWritten};
+ghost use Rattle.mdbal_ceph.specs.Writing.{gain_of, plan_status, proposed_changes};
 
 use crate::outcome::Outcome;
 use crate::settings::PlanSettings;
@@ -11,7 +10,7 @@ use anyhow::{Error, bail};
 use ceph_pins::{
     MountedFileSystem, ScriptError, changes_back, make_own_list, make_pins_script, standing_pins,
 };
-use ceph_plan::PinChange;
+use ceph_plan::{Gain, PinChange, is_worth_it};
 use ceph_report::{
     Facts, Move, hottest, make_json, make_picture, make_report, make_script, moves_of,
 };
@@ -53,21 +52,18 @@ impl PlanOutput {
     }
 }
 
-/// Whether the hottest rank gets cooler by at least so many percent.
-fn is_worth_it(now: u64, planned: u64, percent: u8) -> bool
-    ensures { IsTrue result ↔ IsWorthIt now planned percent }
+/// What the plan of an outcome comes to. Its heat is that of the hottest rank now.
+fn gain_of(outcome: &Outcome) -> Gain
+    ensures { result ≡ gain_of outcome.now }
 {
-    let gain = now.saturating_sub(planned);
-    gain > 0 && u128::from(gain) * 100 >= u128::from(now) * u128::from(percent)
-}
-
-/// Whether the plan is worth a proposal: the hottest of all ranks gets cooler by at least so many percent.
-fn is_proposed(outcome: &Outcome, percent: u8) -> bool
-    ensures { IsTrue result ↔ IsWorthIt (hottest_of outcome.now.decision.sums.now.items)
-        (hottest_of outcome.now.decision.proposal.plan.packing.load.items) percent }
-{
-    let planned = hottest(&outcome.decision.proposal.plan.packing.load);
-    is_worth_it(hottest(&outcome.decision.sums.now), planned, percent)
+    let now = hottest(&outcome.decision.sums.now);
+    let plan = &outcome.decision.proposal.plan;
+    Gain {
+        heat: now,
+        now,
+        planned: hottest(&plan.packing.load),
+        moved: plan.moved,
+    }
 }
 
 /// What the report tells of an outcome.
@@ -178,7 +174,7 @@ pub fn written(
 ) -> Result<PlanOutput, Error>
     ensures { IfOk result (IsWritten settings.now outcome.now) }
 {
-    let is_proposed = is_proposed(outcome, settings.least_gain);
+    let is_proposed = is_worth_it(gain_of(outcome), settings.least);
     let text = told(alloc, outcome, settings.is_json, is_proposed)?;
     let pins = match settings.pins {
         Some(_) => Some(pin_files(alloc, settings.mount, outcome, is_proposed)?),

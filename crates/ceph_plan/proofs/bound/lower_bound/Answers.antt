@@ -1,32 +1,12 @@
-use Rattle.std.proofs.Common.{◌≡◌, ◌+◌, ◌/◌, ◌%◌, ◌∙◌, min, ℕ, length, slice_index, arith, refl}
+use Rattle.std.proofs.Common.{length}
+use Rattle.std.proofs.Math.Nat.{le_of_eq}
 use Rattle.mds_types.specs.Problem.{heat_at}
-use Rattle.mds_types.specs.RankSet.{rank_count}
-use Rattle.mds_types.specs.Sums.{sum_below}
-use Rattle.ceph_plan.specs.Packing.{total_of}
-use Rattle.ceph_plan.proofs.Bounds.{as_great, count-positive, lower}
 use Rattle.ceph_plan.proofs.bound.lower_bound.Goals as goal
-
-pub div_ceil-mean-requires : goal.div_ceil-mean-requires
-div_ceil-mean-requires c = omega (arith, count-positive c.args.ranks c.requires.zero)
-
-pub overflow_add-single : goal.overflow_add-single
-overflow_add-single c =
-    let least = c.least.ensures.least 0 c.requires.zero in
-    let pinned = c.requires.small 0 0 (omega (arith, c.requires.size)) in
-    omega (arith, least, pinned, c.hottest.ensures.small)
 
 pub returns-clause-lower : goal.returns-clause-lower
 returns-clause-lower c = λ to is.
-    let all : ℕ = sum_below (length c.args.rows.now) (heat_at c.args.rows.now) + total_of c.args.ranks (slice_index c.args.pinned.now) in
-    let mean : c.div_ceil-mean.result ≡ all / rank_count c.args.ranks + min 1 (all % rank_count c.args.ranks) =
-    c.div_ceil-mean.ensures ∙ (rw (c.total_heat.ensures.total, c.total.ensures.total, c.from-count.ensures, c.len.ensures.count) refl) in
-    let low = lower c.args.ranks c.args.pinned.now c.args.rows.now c.div_ceil-mean.result c.hottest.result c.least.result c.requires.zero mean c.hottest.ensures.hottest c.least.ensures.least to is in
-    omega (arith, low, c.max.ensures, c.max-2.ensures, c.most.ensures)
+    c.bound_of.ensures.lower (length c.args.rows.now) (heat_at c.args.rows.now) (le_of_eq c.total_heat.ensures.total) (le_of_eq c.hottest.ensures.hottest) to is.usable
 
 pub returns-clause-three : goal.returns-clause-three
 returns-clause-three c =
-    let all : ℕ = sum_below (length c.args.rows.now) (heat_at c.args.rows.now) + total_of c.args.ranks (slice_index c.args.pinned.now) in
-    let mean : c.div_ceil-mean.result ≡ all / rank_count c.args.ranks + min 1 (all % rank_count c.args.ranks) =
-    c.div_ceil-mean.ensures ∙ (rw (c.total_heat.ensures.total, c.total.ensures.total, c.from-count.ensures, c.len.ensures.count) refl) in
-    as_great c.args.ranks c.args.pinned.now c.args.rows.now c.div_ceil-mean.result c.hottest.result c.least.result c.max-2.result c.requires.zero mean c.hottest.ensures.hottest c.least.ensures.one
-    (omega (arith, c.max.ensures, c.max-2.ensures, c.most.ensures))
+    c.bound_of.ensures.three (length c.args.rows.now) (heat_at c.args.rows.now) c.total_heat.ensures.total c.hottest.ensures.hottest

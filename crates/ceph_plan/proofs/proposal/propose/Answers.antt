@@ -6,7 +6,7 @@ use Rattle.ceph_plan.specs.declared.proposal.OwnPins.{OwnPins}
 use Rattle.ceph_plan.specs.declared.row.PinChange.{PinChange}
 use Rattle.ceph_plan.specs.declared.row.PinRow.{PinRow}
 use Rattle.ceph_plan.specs.Rule.{AreRows, IsRealized}
-use Rattle.ceph_plan.specs.Changes.{AreNeeded, AreUntouched, StillHolds, applied, before_pin}
+use Rattle.ceph_plan.specs.Changes.{AreForced, AreNeeded, AreUntouched, StillHolds, applied, before_pin}
 use Rattle.ceph_plan.specs.Asked.{ArePinRows, MovesOnce, own_at}
 use Rattle.ceph_plan.proofs.AskedRows.{asked-rows, same-asked}
 use Rattle.ceph_plan.proofs.proposal.propose.Goals as goal
@@ -25,13 +25,13 @@ returns-then-not-are_rows-clause-refused c =
     let plan : Planned = c.in_ok-plan.plan in
     let own : List OwnPins = c.args.own.now in
     let asked : List PinRow = c.in_ok-asked.asked.items in
-    let are : ArePinRows rows plan.part.items plan.packing.rank.items own (length rows) asked =
-    same-asked rows plan.part.items _ plan.packing.rank.items _ own (length rows) asked c.deref.ensures.value c.deref-2.ensures.value c.in_ok-asked.ensures in
+    let are : ArePinRows rows plan.part.items plan.packing.rank.items own (length rows) c.args.wanted.rests asked =
+    same-asked rows plan.part.items _ plan.packing.rank.items _ own (length rows) c.args.wanted.rests asked c.deref.ensures.value c.deref-2.ensures.value c.in_ok-asked.ensures in
     inl (
       refl,
       λ (free : (own_at own 0).foreign ≡ None).
           let fit : AreRows asked =
-          asked-rows rows plan.part.items plan.packing.rank.items own asked c.in_ok-plan.ensures.chosen.plan.forest c.in_ok-plan.ensures.chosen.plan.packing.root are free in
+          asked-rows rows plan.part.items plan.packing.rank.items own c.args.wanted.rests asked c.in_ok-plan.ensures.chosen.plan.forest c.in_ok-plan.ensures.chosen.plan.packing.root are free in
           both_ways c.are_rows.result c.if-not-are_rows.true (c.are_rows.ensures.only (subst AreRows (sym c.deref-3.ensures.value) fit)),
     )
 
@@ -42,11 +42,12 @@ returns-clause-proposal c =
     let changes : List PinChange = c.in_ok-changes.changes.items in
     record {
       chosen = c.in_ok-plan.ensures.chosen;
-      targets = same-asked rows plan.part.items _ plan.packing.rank.items _ c.args.own.now (length rows) c.in_ok-asked.asked.items
+      targets = same-asked rows plan.part.items _ plan.packing.rank.items _ c.args.own.now (length rows) c.args.wanted.rests c.in_ok-asked.asked.items
           c.deref.ensures.value c.deref-2.ensures.value c.in_ok-asked.ensures;
       realized = subst (λ (asked : List PinRow). IsRealized asked (applied (before_pin asked) changes)) c.deref-4.ensures.value c.in_ok-changes.ensures.realized;
       once = subst (λ (asked : List PinRow). MovesOnce asked changes) c.deref-4.ensures.value c.in_ok-changes.ensures.once;
       needed = subst (λ (asked : List PinRow). AreNeeded asked changes) c.deref-4.ensures.value c.in_ok-changes.ensures.needed;
       untouched = subst (λ (asked : List PinRow). AreUntouched asked changes) c.deref-4.ensures.value c.in_ok-changes.ensures.untouched;
+      fewest = subst (λ (asked : List PinRow). AreForced asked (applied (before_pin asked) changes)) c.deref-4.ensures.value c.in_ok-changes.ensures.forced;
       kept = subst (λ (asked : List PinRow). StillHolds asked (applied (before_pin asked) changes)) c.deref-4.ensures.value c.in_ok-changes.ensures.kept;
     }

@@ -1,4 +1,4 @@
-use Rattle.std.proofs.Common.{◌≡◌, ℕ, arith}
+use Rattle.std.proofs.Common.{◌≡◌, arith}
 use Rattle.ceph_report.proofs.Lines.{below_none, below_more, below_same}
 use Rattle.std.proofs.Common.{length}
 use Rattle.ceph_report.specs.Report.{capped_line, capped_lines}

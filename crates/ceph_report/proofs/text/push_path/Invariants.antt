@@ -1,6 +1,6 @@
 use Rattle.std.proofs.Common.{◌≡◌, ◌++◌, take}
 use Rattle.std.specs.List.{flat_map}
-use Rattle.ceph_report.specs.Text.{shown_byte}
+use Rattle.ceph_snapshot.specs.Shown.{shown_byte}
 use Rattle.ceph_report.proofs.text.push_path.Given as goal
 
 abbrev pub invariant-loop-byte : goal.invariant-loop-byte

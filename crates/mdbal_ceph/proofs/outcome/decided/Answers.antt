@@ -45,7 +45,7 @@ returns c =
         own_pins = c.in_ok-own.ensures;
         proposed = proposed;
       };
-      untouched = untouched directories rows proposal.plan.part.items proposal.plan.packing.rank.items own (length rows) proposal.rows.items proposal.changes.items
+      untouched = untouched directories rows proposal.plan.part.items proposal.plan.packing.rank.items own (length rows) wanted.rests proposal.rows.items proposal.changes.items
           rows_of.size c.in_ok-own.ensures proposed.targets proposed.untouched;
       goals = λ i l. rw (held_is, c.deref-4.ensures.value) at (c.in_ok-goals.ensures.goals i (let inside : i < length c.deref-4.result.now = omega (arith, l, ap length c.deref-4.ensures.value, proposed.targets.size, rows_of.size) in inside));
       now = c.in_ok-sums.ensures.now;

@@ -1,4 +1,4 @@
-use Rattle.std.proofs.Common.{◌≡◌, ℕ, List, subst}
+use Rattle.std.proofs.Common.{ℕ, List, subst}
 use Rattle.ceph_snapshot.specs.declared.directory.Directory.{Directory}
 use Rattle.mdbal_ceph.specs.Outcomes.{IsDecision}
 use Rattle.mdbal_ceph.specs.declared.outcome.Decision.{Decision}

@@ -1,0 +1,149 @@
+//! Parts moved, or exchanged for colder ones, while the greatest load falls.
+ghost use Rattle.std.specs.Prelude.{◌≡◌, ◌<◌, ◌≤◌, ◌^◌, ℕ, List, All, length, slice_index, IfOk, OnOk};
+ghost use Rattle.mds_types.specs.Sums.{sum_below};
+ghost use Rattle.ceph_plan.specs.Balance.{HaveRanks, IsByHeat};
+
+use crate::bound::has_number;
+use crate::loads::loads;
+use crate::order::PartHeat;
+use crate::rank_choice::PartAmounts;
+use mds_types::{Rank, RankSet};
+use std::alloc::{AllocError, Global};
+use std::cmp::Reverse;
+
+/// After so many exchanges no more are tried.
+const MOST_EXCHANGES: u32 = 64;
+
+/// The number of the most loaded rank of the set, and that of the least loaded one.
+fn ends(loads: &[u64], ranks: RankSet) -> (usize, usize)
+    requires { length loads.now ≡ 64 }
+    ensures most { result.0 < 64 }
+    ensures least { result.1 < 64 }
+{
+    let (mut most, mut least) = (0, 0);
+    for number in 1..64u8 {
+        if has_number(ranks, number) {
+            let at = usize::from(number);
+            most = if loads[at] > loads[most] { at } else { most };
+            least = if loads[at] < loads[least] { at } else { least };
+        }
+    }
+    (most, least)
+}
+
+/// The parts at a rank but the root's, the hottest last. The first is none: it has the root's part and no heat.
+fn parts_at(
+    alloc: Global,
+    parts: PartAmounts<'_>,
+    rank: &[Rank],
+    at: usize,
+) -> Result<Vec<PartHeat>, AllocError>
+    requires ranks { length rank.now ≡ length parts.heats.now }
+    requires order { IsByHeat parts.heats.now parts.order.now }
+{
+    let none = PartHeat {
+        heat: 0,
+        part: Reverse(parts.root),
+    };
+    let mut found = vec![in alloc; none; 1]?;
+    for part in parts.order {
+        let place = *part as usize;
+        if usize::from(rank[place].number()) == at && *part != parts.root {
+            found.push(PartHeat {
+                heat: parts.heats[place],
+                part: Reverse(*part),
+            })?;
+        }
+    }
+    Ok(found)
+}
+
+/// Of the first parts one, and of the others one, so that the first is hotter by as nearly as possible so much.
+fn closest(hot: &[PartHeat], cold: &[PartHeat], wanted: u64) -> Option<(PartHeat, PartHeat)> {
+    let (mut i, mut j) = (0, 0);
+    let mut least = u64::MAX;
+    let mut best = None;
+    while i < hot.len() && j < cold.len() {
+        let (one, other) = (hot[i], cold[j]);
+        let near = other.heat.saturating_add(wanted);
+        if one.heat.abs_diff(near) < least {
+            least = one.heat.abs_diff(near);
+            best = Some((one, other));
+        }
+        if one.heat < near {
+            i += 1;
+        } else {
+            j += 1;
+        }
+    }
+    best
+}
+
+/// Sends a part to the rank of this number, if it is one of the set and the part isn't the root's.
+fn send(rank: &mut [Rank], root: u32, ranks: RankSet, part: u32, number: usize)
+    ensures { (heats : List ℕ) → HaveRanks ranks heats root rank.old → HaveRanks ranks heats root rank.new }
+{
+    let place = part as usize;
+    if part == root || place >= rank.len() || number >= 64 {
+        return;
+    }
+    if let Some(to) = Rank::new(number as u8) {
+        if ranks.has(to) {
+            rank[place] = to;
+        }
+    }
+}
+
+/// Sends a part of the most loaded rank to the least loaded one, where a colder one may come back for it, so that both
+/// are loaded less than the first was. Whether there is one.
+fn exchange(
+    alloc: Global,
+    parts: PartAmounts<'_>,
+    ranks: RankSet,
+    rank: &mut [Rank],
+) -> Result<bool, AllocError>
+    requires order { IsByHeat parts.heats.now parts.order.now }
+    requires pinned { length parts.pinned.now ≡ 64 }
+    requires small { All (λ n. n ≤ 2 ^ 57) parts.pinned.now }
+    requires total { sum_below (length parts.heats.now) (slice_index parts.heats.now) ≤ 2 ^ 56 }
+    requires ranks { HaveRanks ranks parts.heats.now parts.root rank.old }
+    ensures { HaveRanks ranks parts.entry.heats.now parts.entry.root rank.new }
+{
+    let loads = loads(alloc, parts.heats, rank, parts.pinned)?;
+    let (most, least) = ends(&loads, ranks);
+    let gap = loads[most].saturating_sub(loads[least]);
+    let hot = parts_at(alloc, parts, rank, most)?;
+    let cold = parts_at(alloc, parts, rank, least)?;
+    if let Some((one, other)) = closest(&hot, &cold, gap / 2) {
+        let change = one.heat.saturating_sub(other.heat);
+        if change > 0 && change < gap {
+            send(rank, parts.root, ranks, one.part.0, least);
+            send(rank, parts.root, ranks, other.part.0, most);
+            return Ok(true);
+        }
+    }
+    Ok(false)
+}
+
+/// The ranks of the parts after exchanges, as long as there are any.
+pub fn exchanged(
+    alloc: Global,
+    parts: PartAmounts<'_>,
+    ranks: RankSet,
+    rank: &[Rank],
+) -> Result<Vec<Rank>, AllocError>
+    requires order { IsByHeat parts.heats.now parts.order.now }
+    requires pinned { length parts.pinned.now ≡ 64 }
+    requires small { All (λ n. n ≤ 2 ^ 57) parts.pinned.now }
+    requires total { sum_below (length parts.heats.now) (slice_index parts.heats.now) ≤ 2 ^ 56 }
+    requires ranks { HaveRanks ranks parts.heats.now parts.root rank.now }
+    ensures { IfOk result (λ found. HaveRanks ranks parts.entry.heats.now parts.entry.root found.items) }
+{
+    let mut found = rank.to_vec(alloc)?;
+    for _ in 0..MOST_EXCHANGES {
+        if !exchange(alloc, parts, ranks, &mut found)? {
+            return Ok(found);
+        }
+    }
+    Ok(found)
+}

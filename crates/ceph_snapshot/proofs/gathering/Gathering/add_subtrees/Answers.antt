@@ -1,0 +1,33 @@
+use Rattle.std.proofs.Common.{◌≡◌, ◌≢◌, ◌∙◌, ◌<◌, ℕ, List, IsErrOf, ap, arith, get_or, length, rules, subst, sym, ⊎_elim}
+use Rattle.std.proofs.lemmas.Bool.{cases_eq}
+use Rattle.std.proofs.lemmas.List.{get_or_read}
+use Rattle.ceph_dumps.specs.declared.subtrees.SubtreeRoot.{SubtreeRoot}
+use Rattle.ceph_snapshot.specs.Authority.{IsClaim}
+use Rattle.ceph_snapshot.specs.declared.snapshot_error.SnapshotError.TheVariants.{TwoClaims}
+use Rattle.ceph_snapshot.proofs.gathering.Gathering.add_subtrees.Goals as goal
+
+pub returns-in_err-add_subtree-clause-twice : goal.returns-in_err-add_subtree-clause-twice
+returns-in_err-add_subtree-clause-twice c = λ path first second is.
+    let twice : IsErrOf c.add_subtree.result (TwoClaims path first second) = search rules in
+    let inside : c.loop-root.root-index < length c.args.roots.now = omega (arith, c.loop-root-test.true) in
+    (c.root-item.result, (c.loop-root.root-index, (inside, c.root-item.is)), c.add_subtree.ensures.twice path first second twice)
+
+pub loop-root-preserved : goal.loop-root-preserved
+loop-root-preserved c =
+    let roots : List SubtreeRoot = c.args.roots.now in
+    let at : ℕ = c.loop-root.root-index in
+    let inside : at < length roots = omega (arith, c.loop-root-test.true) in
+    record {
+      claimed = λ k d l fragment claim.
+          ⊎_elim
+          (λ (same : k ≡ at).
+          let is : get_or roots k d ≡ c.root-item.result = ap (λ (j : ℕ). get_or roots j d) same ∙ sym (get_or_read roots at c.root-item.result inside c.root-item.is d) in
+          c.in_ok-add_subtree.ensures.claimed fragment (subst (λ (root : SubtreeRoot). IsClaim root fragment) is claim))
+          (λ (other : k ≢ at). c.in_ok-add_subtree.ensures.kept fragment c.args.rank (c.loop-root.invariant.claimed k d (omega (arith, other, l)) fragment claim))
+          (cases_eq k at);
+      kept = λ fragment other before. c.in_ok-add_subtree.ensures.kept fragment other (c.loop-root.invariant.kept fragment other before);
+    }
+
+pub returns-clause-claimed : goal.returns-clause-claimed
+returns-clause-claimed c = λ k d l fragment claim.
+    c.loop-root.invariant.claimed k d (omega (arith, l, c.loop-root-test.false, c.loop-root.auto.root-index-end)) fragment claim

@@ -1,0 +1,13 @@
+use Rattle.mdbal_ceph.proofs.files.carry_out.Goals as goal
+
+pub returns : goal.returns
+returns g c = record {
+  collected = c.in_ok-collected.collected;
+  outcome = c.in_ok-outcome.outcome;
+  own = c.in_ok-collected.ensures.own;
+  ours = c.in_ok-collected.ensures.ours;
+  ranks = c.in_ok-outcome.ensures.ranks;
+  of = c.in_ok-outcome.ensures.outcome;
+  file_system = c.in_ok-outcome.ensures.file_system;
+  written = c.in_ok-output.ensures;
+}
