@@ -13,10 +13,10 @@ _mdbal_ceph() {
         --parts) COMPREPLY=($(compgen -W 'auto' -- "$cur")); return ;;
         --own|--pins|--svg|--script) COMPREPLY=($(compgen -f -- "$cur")); return ;;
         --mount) COMPREPLY=($(compgen -d -- "$cur")); return ;;
-        --most-pins|--mask|--least-gain|--keep) return ;;
+        --most-pins|--mask|--least-gain|--least-heat|--least-by-inodes|--keep) return ;;
     esac
     case $cur in
-        -*) COMPREPLY=($(compgen -W '--parts --most-pins --mask --own --least-gain --keep --mount --pins --svg --script --json --help --version' -- "$cur")) ;;
+        -*) COMPREPLY=($(compgen -W '--parts --most-pins --mask --own --least-gain --least-heat --least-by-inodes --keep --mount --pins --svg --script --json --help --version' -- "$cur")) ;;
         *) COMPREPLY=($(compgen -d -- "$cur")) ;;
     esac
 }
