@@ -12,6 +12,7 @@ use authority_map::Publisher;
 use mds_types::{Order, Plan, Problem};
 use naming::Naming;
 use std::alloc::{AllocError, Global};
+use std::thread::Threads;
 
 /// What a balance did: the problem that was opened, the plan that was adopted,
 /// and the plan's orders, to give and to keep.
@@ -44,7 +45,12 @@ impl<J: Naming, M: Publisher<J>> BoardState<J, M> {
     /// Opens the problem, solves it and adopts the plan: two events. It answers the problem, the plan and its orders,
     /// these twice: to give, and to keep.
     #[tactic(auto, unfolding(crate::specs::State::happens))]
-    pub fn balance<S: Solver>(&mut self, alloc: Global, solver: &S) -> Result<Balanced, BoardError>
+    pub fn balance<S: Solver, R: Threads + Sync>(
+        &mut self,
+        rt: &R,
+        alloc: Global,
+        solver: &S,
+    ) -> Result<Balanced, BoardError>
         ensures ok { IfOk result (λ r. IsBalance self.old r.problem r.plan r.orders self.new) }
         ensures twice { IfOk result (λ r. r.given.items ≡ r.orders) }
         ensures err { IfErr result (λ e. (balance_refusal self.old.state ≡ Some e)
@@ -57,7 +63,7 @@ impl<J: Naming, M: Publisher<J>> BoardState<J, M> {
         let Ok((kept, opening)) = self.problems(alloc) else {
             return Err(BoardError::Memory);
         };
-        let Ok(plan) = solved(alloc, solver, kept.problem()) else {
+        let Ok(plan) = solved(rt, alloc, solver, kept.problem()) else {
             return Err(BoardError::Memory);
         };
         let Ok((given, orders)) = self.plan_orders(alloc, &opening.dirs, plan.plan()) else {
@@ -86,12 +92,17 @@ impl<J: Naming, M: Publisher<J>> BoardState<J, M> {
 }
 
 // A best plan for a problem, on memory of its own.
-fn solved<S: Solver>(alloc: Global, solver: &S, problem: &Problem) -> Result<KeptPlan, AllocError>
+fn solved<S: Solver, R: Threads + Sync>(
+    rt: &R,
+    alloc: Global,
+    solver: &S,
+    problem: &Problem,
+) -> Result<KeptPlan, AllocError>
     ensures best { IfOk result (λ plan. IsBest problem.now plan) }
     ensures certified { IfOk result (λ plan. IsCertified problem.now plan) }
     ensures keeps { IfOk result (λ plan. KeepsBest problem.now plan) }
 {
-    let plan = solver.solve(alloc, problem)?;
+    let plan = solver.solve(rt, alloc, problem)?;
     KeptPlan::new(alloc, plan)
 }
 

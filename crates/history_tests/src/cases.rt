@@ -15,7 +15,7 @@ use heat_ledger::{NewBook, Share};
 use mds_board::Board;
 use naming::Naming;
 use std::alloc::{AllocError, Global};
-use std::marker::Brand;
+use std::marker::{Brand, Sync};
 use std::process::Abort;
 use std::sync::Wait;
 use std::thread::Threads;
@@ -39,7 +39,7 @@ pub(crate) enum Case {
     RefusedGrowth,
 }
 
-fn on_board<J: Naming, M: Publisher<J>, R: Abort + Threads>(
+fn on_board<J: Naming, M: Publisher<J>, R: Abort + Threads + Sync>(
     rt: &R,
     alloc: Global,
     board: Board<J, M>,
@@ -61,7 +61,7 @@ fn on_board<J: Naming, M: Publisher<J>, R: Abort + Threads>(
     None
 }
 
-fn on_parts<J: Naming, M: Publisher<J>, R: Abort + Threads>(
+fn on_parts<J: Naming, M: Publisher<J>, R: Abort + Threads + Sync>(
     rt: &R,
     alloc: Global,
     parts: BoardParts<J, M>,
@@ -74,7 +74,7 @@ fn on_parts<J: Naming, M: Publisher<J>, R: Abort + Threads>(
     on_board(rt, alloc, board, shares, readers, case)
 }
 
-fn on_names<J: Naming, R: Abort + Threads + Wait>(
+fn on_names<J: Naming, R: Abort + Threads + Wait + Sync>(
     rt: &R,
     alloc: Global,
     book: NewBook,
@@ -105,7 +105,7 @@ fn book_at_last(alloc: Global) -> Result<NewBook, AllocError> {
 }
 
 /// Tries it on a new board, and gives the answers to commands.
-pub(crate) fn answers_in<R: Abort + AllocGlobal + Threads + Wait>(
+pub(crate) fn answers_in<R: Abort + AllocGlobal + Threads + Wait + Sync>(
     rt: &R,
     case: Case,
 ) -> Option<(Vec<Given>, Reading)> {
@@ -114,6 +114,6 @@ pub(crate) fn answers_in<R: Abort + AllocGlobal + Threads + Wait>(
 }
 
 /// Tries it on a new board.
-pub(crate) fn try_case<R: Abort + AllocGlobal + Threads + Wait>(rt: &R, case: Case) {
+pub(crate) fn try_case<R: Abort + AllocGlobal + Threads + Wait + Sync>(rt: &R, case: Case) {
     let _none = answers_in(rt, case);
 }

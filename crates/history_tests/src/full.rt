@@ -14,17 +14,23 @@ use mds_board::Board;
 use mds_types::{Dir, Rank, RankSet};
 use naming::Naming;
 use std::alloc::Global;
+use std::marker::Sync;
 use std::process::Abort;
+use std::thread::Threads;
 
 const FULL: BoardError = BoardError::HistoryFull;
 
 // All places but one are taken. A balance needs two, so it is refused, and a tick takes the last one.
-fn fill<J: Naming, M: Publisher<J>>(rt: &impl Abort, alloc: Global, board: &mut Board<J, M>) {
+fn fill<J: Naming, M: Publisher<J>, R: Abort + Threads + Sync>(
+    rt: &R,
+    alloc: Global,
+    board: &mut Board<J, M>,
+) {
     same(rt, &board.set_mask(RankSet::from_bits(3)), &Ok(()));
     for _ in 0..1_048_574 {
         same(rt, &board.tick(), &Ok(()));
     }
-    same(rt, &board.balance(alloc, &Idle).err(), &Some(FULL));
+    same(rt, &board.balance(rt, alloc, &Idle).err(), &Some(FULL));
     same(rt, &board.tick(), &Ok(()));
 }
 
@@ -57,8 +63,8 @@ fn refuse_events<J: Naming, M: Publisher<J>>(
     same(rt, &board.step(alloc, Event::Deliver(7)), &Err(FULL));
 }
 
-fn refuse_plans<J: Naming, M: Publisher<J>>(
-    rt: &impl Abort,
+fn refuse_plans<J: Naming, M: Publisher<J>, R: Abort + Threads + Sync>(
+    rt: &R,
     alloc: Global,
     board: &mut Board<J, M>,
 ) {
@@ -68,13 +74,13 @@ fn refuse_plans<J: Naming, M: Publisher<J>>(
         &board.adopt(alloc, plan(alloc, 5).sure(rt)).err(),
         &Some(FULL),
     );
-    same(rt, &board.balance(alloc, &Idle).err(), &Some(FULL));
+    same(rt, &board.balance(rt, alloc, &Idle).err(), &Some(FULL));
 }
 
 // Readers find the root of a new board. Once it is full, every change is refused for the same cause, before its own,
 // and what the board says stays.
-fn refuse<J: Naming, M: Publisher<J>>(
-    rt: &impl Abort,
+fn refuse<J: Naming, M: Publisher<J>, R: Abort + Threads + Sync>(
+    rt: &R,
     alloc: Global,
     board: &mut Board<J, M>,
     share: &mut Share<J>,
@@ -93,8 +99,8 @@ fn refuse<J: Naming, M: Publisher<J>>(
     assert!(rt; said(board, share, reader) == before);
 }
 
-pub(crate) fn on_board<J: Naming, M: Publisher<J>>(
-    rt: &impl Abort,
+pub(crate) fn on_board<J: Naming, M: Publisher<J>, R: Abort + Threads + Sync>(
+    rt: &R,
     alloc: Global,
     board: Board<J, M>,
     shares: Vec<Share<J>>,

@@ -16,13 +16,20 @@ use mds_board::{Board, BoardCommand};
 use mds_types::{Dir, Plan, Problem, Rank, RankSet};
 use naming::Naming;
 use std::alloc::{AllocError, Global};
+use std::marker::Sync;
 use std::process::Abort;
+use std::thread::Threads;
 
 /// Who never has memory for a plan.
 pub(crate) struct Idle;
 
 impl Solver for Idle {
-    fn solve(&self, _alloc: Global, _problem: &Problem) -> Result<Plan, AllocError> {
+    fn solve<R: Threads + Sync>(
+        &self,
+        _rt: &R,
+        _alloc: Global,
+        _problem: &Problem,
+    ) -> Result<Plan, AllocError> {
         Err(AllocError)
     }
 }
@@ -83,7 +90,8 @@ fn done(answer: Result<(), BoardError>) -> Given {
 }
 
 /// The same asked for by a call of its own.
-fn asked<J: Naming, M: Publisher<J>>(
+fn asked<J: Naming, M: Publisher<J>, R: Threads + Sync>(
+    rt: &R,
     alloc: Global,
     board: &mut Board<J, M>,
     command: &BoardCommand,
@@ -99,7 +107,7 @@ fn asked<J: Naming, M: Publisher<J>>(
         BoardCommand::Mask(mask) => done(board.set_mask(*mask)),
         BoardCommand::Tick => done(board.tick()),
         BoardCommand::Step(event) => step(alloc, board, event),
-        BoardCommand::Balance => match board.balance(alloc, &Idle) {
+        BoardCommand::Balance => match board.balance(rt, alloc, &Idle) {
             Ok(_orders) => Ok(Answer::Done),
             Err(error) => Err(error),
         },
@@ -126,8 +134,8 @@ fn is_same(one: &Given, other: &Given) -> bool {
 }
 
 /// The answers to the list, and what the board says then.
-fn run<J: Naming, M: Publisher<J>>(
-    rt: &impl Abort,
+fn run<J: Naming, M: Publisher<J>, R: Abort + Threads + Sync>(
+    rt: &R,
     alloc: Global,
     board: &mut Board<J, M>,
     share: &Share<J>,
@@ -142,13 +150,13 @@ fn run<J: Naming, M: Publisher<J>>(
         &BoardCommand::Step(Event::Made(Dir::ROOT)).is_fit(),
         &false,
     );
-    let answers = board.run(alloc, &Idle, &list).sure(rt);
+    let answers = board.run(rt, alloc, &Idle, &list).sure(rt);
     (answers, said(board, share, reader))
 }
 
 /// The same by single calls.
-fn ask_each<J: Naming, M: Publisher<J>>(
-    rt: &impl Abort,
+fn ask_each<J: Naming, M: Publisher<J>, R: Abort + Threads + Sync>(
+    rt: &R,
     alloc: Global,
     board: &mut Board<J, M>,
     share: &Share<J>,
@@ -157,14 +165,14 @@ fn ask_each<J: Naming, M: Publisher<J>>(
     let list = commands(alloc).expect(rt, "it failed");
     let mut answers = Vec::new(alloc);
     for command in &list {
-        answers.push(asked(alloc, board, command)).sure(rt);
+        answers.push(asked(rt, alloc, board, command)).sure(rt);
     }
     (answers, said(board, share, reader))
 }
 
 /// What the commands are answered, as a list or one by one, and what the board says then.
-pub(crate) fn answers<J: Naming, M: Publisher<J>>(
-    rt: &impl Abort,
+pub(crate) fn answers<J: Naming, M: Publisher<J>, R: Abort + Threads + Sync>(
+    rt: &R,
     alloc: Global,
     board: Board<J, M>,
     shares: Vec<Share<J>>,

@@ -24,6 +24,7 @@ use mds_types::{Dir, Order, Plan, Problem, Rank, RankSet};
 use naming::Naming;
 use std::alloc::{AllocError, Global};
 use std::marker::Model;
+use std::thread::Threads;
 
 /// One state, with the history of its changes. `J` names it.
 ///
@@ -246,8 +247,9 @@ impl<J: Naming, M: Publisher<J>> Board<J, M> {
     /// them. Where the present placement is itself best, the plan moves nothing. It fails only for a full history, a
     /// balancer that is off, or memory.
     #[tactic(auto, unfolding(board_state::specs::State::happens))]
-    pub fn balance<S: Solver>(
+    pub fn balance<S: Solver, R: Threads + Sync>(
         &mut self,
+        rt: &R,
         alloc: Global,
         solver: &S,
     ) -> Result<Vec<Order>, BoardError>
@@ -263,7 +265,7 @@ impl<J: Naming, M: Publisher<J>> Board<J, M> {
         if self.history.reserve(2).is_err() {
             return Err(or_memory(self.state.balance_refusal()));
         }
-        let done = self.state.balance(alloc, solver)?;
+        let done = self.state.balance(rt, alloc, solver)?;
         Ok(self.history.keep_both(done))
     }
 

@@ -11,12 +11,14 @@ use board_state::{Answer, BoardError, Change, Orders, Solver, or_memory};
 use export_machine::{Event, Reply};
 use naming::Naming;
 use std::alloc::{AllocError, Global};
+use std::thread::Threads;
 
 impl<J: Naming, M: Publisher<J>> Board<J, M> {
     /// Carries out commands one after the other, whatever the ones before were answered. It gives the answer to each.
     /// Memory for the answers is asked for before the first command.
-    pub fn run<S: Solver>(
+    pub fn run<S: Solver, R: Threads + Sync>(
         &mut self,
+        rt: &R,
         alloc: Global,
         solver: &S,
         commands: &[BoardCommand],
@@ -27,14 +29,15 @@ impl<J: Naming, M: Publisher<J>> Board<J, M> {
     {
         let mut answers = Vec::with_capacity(alloc, commands.len())?;
         for command in commands {
-            answers.push_reserved(self.carry_out(alloc, solver, command));
+            answers.push_reserved(self.carry_out(rt, alloc, solver, command));
         }
         Ok(answers)
     }
 
     /// Carries out one command.
-    fn carry_out<S: Solver>(
+    fn carry_out<S: Solver, R: Threads + Sync>(
         &mut self,
+        rt: &R,
         alloc: Global,
         solver: &S,
         command: &BoardCommand,
@@ -64,18 +67,23 @@ impl<J: Naming, M: Publisher<J>> Board<J, M> {
                 Ok(Answer::Done)
             }
             BoardCommand::Step(event) => Ok(Answer::Reply(self.step_copy(alloc, event)?)),
-            BoardCommand::Balance => Ok(Answer::Orders(self.balance_at(alloc, solver)?)),
+            BoardCommand::Balance => Ok(Answer::Orders(self.balance_at(rt, alloc, solver)?)),
         }
     }
 
     /// Balances, and answers the orders at a place of their own, for which memory is asked first.
-    fn balance_at<S: Solver>(&mut self, alloc: Global, solver: &S) -> Result<Orders, BoardError>
+    fn balance_at<S: Solver, R: Threads + Sync>(
+        &mut self,
+        rt: &R,
+        alloc: Global,
+        solver: &S,
+    ) -> Result<Orders, BoardError>
         ensures { IsCarriedOut self.old BoardCommand.Balance (spelled Answer.Orders result) self.new }
     {
         let Ok(mut place) = Orders::new(alloc, Vec::new(alloc)) else {
             return Err(or_memory(self.state.balance_refusal()));
         };
-        place.set(self.balance(alloc, solver)?);
+        place.set(self.balance(rt, alloc, solver)?);
         Ok(place)
     }
 

@@ -147,7 +147,7 @@ fn still(alloc: Global, problem: &Problem, now: Present, found: BestCut) -> Resu
 }
 
 /// The plan with these parts that moves the fewest inodes.
-fn placed<R: Threads>(
+fn placed<R: Threads + Sync>(
     rt: &R,
     alloc: Global,
     problem: &Problem,
@@ -192,7 +192,7 @@ fn judged(
 }
 
 /// The plan, or one with this division where that moves fewer inodes.
-fn cheaper<R: Threads>(
+fn cheaper<R: Threads + Sync>(
     rt: &R,
     alloc: Global,
     problem: &Problem,
@@ -224,7 +224,7 @@ fn cheaper<R: Threads>(
 }
 
 /// The plan, or one that moves fewer inodes, if such a one is found.
-fn improved<R: Threads>(
+fn improved<R: Threads + Sync>(
     rt: &R,
     alloc: Global,
     problem: &Problem,
@@ -248,7 +248,7 @@ fn improved<R: Threads>(
 }
 
 /// The plan with the parts that were found, or one that moves fewer inodes, if such a one is found.
-fn from_cut<R: Threads>(
+fn from_cut<R: Threads + Sync>(
     rt: &R,
     alloc: Global,
     problem: &Problem,
@@ -283,7 +283,11 @@ fn from_cut<R: Threads>(
 ///
 /// It fails only when it is out of memory. The checker, `plan_checker::check`, says yes exactly where a plan
 /// is certified, so it accepts this one.
-pub fn solve<R: Threads>(rt: &R, alloc: Global, problem: &Problem) -> Result<Plan, AllocError>
+pub fn solve<R: Threads + Sync>(
+    rt: &R,
+    alloc: Global,
+    problem: &Problem,
+) -> Result<Plan, AllocError>
     ensures certified { IfOk result (IsCertified problem.now) }
     ensures best { IfOk result (IsBest problem.now) }
     ensures keeps { IfOk result (KeepsBest problem.now) }

@@ -10,6 +10,9 @@ use mds_types::Problem;
 use std::alloc::{AllocError, Global};
 use std::thread::Threads;
 
+/// How many rows a thread reads. A problem has no more, so none is started: up to there, that takes longer than the rows.
+const CHUNK: usize = 65_536;
+
 /// The inodes of each part by the rank that has them now, in the rows from `from` on to before `to`, 64
 /// cells a part: those that rank `r` has of part `p` stand in cell `p * 64 + r`. `part[i]` is the part of row i.
 pub fn sums(
@@ -64,11 +67,8 @@ pub fn costs_by<R: Threads + Sync>(
 }
 
 /// What each part of a problem moves at each of its ranks. `part[i]` is the part of row i.
-///
-/// The rows are read once, in the calling thread. A problem has at most 65,536 rows, and up to there
-/// starting threads takes longer than that, so `costs_by` is slower at every size.
-pub fn costs<R: Threads>(
-    _rt: &R,
+pub fn costs<R: Threads + Sync>(
+    rt: &R,
     alloc: Global,
     problem: &Problem,
     part: &[u32],
@@ -82,7 +82,5 @@ pub fn costs<R: Threads>(
     ensures cells { IfOk result (λ costs.
         AreCosts problem.now.rows (slice_index part.now) count problem.now.ranks costs.cells) }
 {
-    let ranks = problem.ranks();
-    let cells = cost_table::costs(alloc, problem.rows(), part, count, ranks)?;
-    Ok(Costs::from_cells(count, ranks, cells))
+    costs_by(rt, alloc, problem, part, count, CHUNK)
 }

@@ -15,26 +15,28 @@ use planner::solve;
 use std::alloc::{AllocError, Global};
 use std::thread::Threads;
 
-/// The planner, on a program's threads.
-#[derive(Drop)]
-pub struct Planner<'r, R: Threads> {
-    rt: &'r R,
-}
+/// The planner.
+pub struct Planner;
 
-impl<'r, R: Threads> Solver for Planner<'r, R> {
-    fn solve(&self, alloc: Global, problem: &Problem) -> Result<Plan, AllocError> {
-        solve(self.rt, alloc, problem)
+impl Solver for Planner {
+    fn solve<R: Threads + Sync>(
+        &self,
+        rt: &R,
+        alloc: Global,
+        problem: &Problem,
+    ) -> Result<Plan, AllocError> {
+        solve(rt, alloc, problem)
     }
 }
 
 impl<J: Naming, M: Publisher<J>> ScriptBoard<J, M> {
     /// Makes a best plan and adopts it. Its orders are kept, in place of earlier ones, for the next `move`.
-    pub fn plan<R: Threads>(&mut self, rt: &R, alloc: Global) -> Result<(), Fault>
+    pub fn plan<R: Threads + Sync>(&mut self, rt: &R, alloc: Global) -> Result<(), Fault>
         ensures done { OnOk result ((plan : ThePlan) × IsPlanned self.old plan self.new) }
         ensures fault { IfErr result (IsDue (plan_due self.old)) }
         ensures unchanged { OnErr result (self.new ≡ self.old) }
     {
-        self.kept = self.board.balance(alloc, &Planner { rt })?;
+        self.kept = self.board.balance(rt, alloc, &Planner)?;
         Ok(())
     }
 }

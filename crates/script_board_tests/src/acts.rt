@@ -75,8 +75,8 @@ fn fault(told: Told) -> Fault {
 }
 
 /// Carries out a command.
-pub(crate) fn command<J: Naming, M: Publisher<J>>(
-    threads: &impl Threads,
+pub(crate) fn command<J: Naming, M: Publisher<J>, R: Threads + Sync>(
+    threads: &R,
     alloc: Global,
     board: &mut ScriptBoard<J, M>,
     command: Do,
@@ -101,7 +101,7 @@ pub(crate) fn command<J: Naming, M: Publisher<J>>(
     }
 }
 
-fn accepted<J: Naming, M: Publisher<J>, R: Abort + Threads>(
+fn accepted<J: Naming, M: Publisher<J>, R: Abort + Threads + Sync>(
     rt: &R,
     alloc: Global,
     board: &mut ScriptBoard<J, M>,

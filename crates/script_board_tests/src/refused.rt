@@ -53,7 +53,7 @@ fn read<J: Naming, M: Publisher<J>>(board: &mut ScriptBoard<J, M>) -> Reading {
 }
 
 /// Carries out commands. Where a growth is refused nothing has changed, and the next call is accepted.
-fn commands<J: Naming, M: Publisher<J>, R: Abort + Threads>(
+fn commands<J: Naming, M: Publisher<J>, R: Abort + Threads + Sync>(
     rt: &R,
     alloc: Global,
     board: &mut ScriptBoard<J, M>,

@@ -67,7 +67,7 @@ pub fn carry_out_by_threads<
 }
 
 /// Carries out a command that takes no threads of the ranks.
-pub fn change<J: Naming, M: Publisher<J>, R: Threads>(
+pub fn change<J: Naming, M: Publisher<J>, R: Threads + Sync>(
     board: &mut ScriptBoard<J, M>,
     rt: &R,
     alloc: Global,
