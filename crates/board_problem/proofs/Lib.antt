@@ -1,4 +1,3 @@
-pub mod CostOfPlan
 pub mod DirDivisions
 pub mod PartsSoFar
 pub mod Places

@@ -7,7 +7,6 @@ use Rattle.mds_types.specs.Division.{joins_parent, part_heat}
 use Rattle.mds_types.specs.Problem.{heat_at, inodes_at}
 use Rattle.mds_types.specs.Sums.{sum_below}
 use Rattle.dir_pins.specs.Pins.{below}
-use Rattle.division_cost.specs.declared.division.Part.{Part}
 use Rattle.board_problem.specs.declared.plan_parts.PlanPart.{PlanPart}
 use Rattle.board_problem.specs.declared.plan_parts.Total.{Total}
 
@@ -42,10 +41,6 @@ plan_parts rows dirs plan =
 -- the tops of some parts
 abbrev pub part_tops : List PlanPart → List ℕ
 part_tops parts = map (λ part. part.top) parts
-
--- a part of a plan as the part of a division
-abbrev pub without_rank : PlanPart → Part
-without_rank part = record { top = part.top; heat = part.heat; inodes = part.inodes }
 
 -- what the first n rows add to a part
 abbrev pub total_of : List ProblemRow → (ℕ → ℕ) → ℕ → ℕ → Total

@@ -1,17 +1,16 @@
 //! Laws of a board's problem and of a plan's parts, each the contract of a function that does nothing.
-ghost use Rattle.std.specs.Prelude.{◌≡◌, ◌↔◌, ◌<◌, ◌≤◌, ◌^◌, ℕ, All, List, Option, length, map, slice_index, sum_by};
+ghost use Rattle.std.specs.Prelude.{◌≡◌, ◌↔◌, ◌<◌, ◌≤◌, ◌^◌, ℕ, All, List, Option, length, slice_index, sum_by};
 ghost use Rattle.mds_types.specs.declared.plan.Plan.{Plan};
 ghost use Rattle.mds_types.specs.declared.problem.ProblemRow.{ProblemRow};
 ghost use Rattle.mds_types.specs.Certificate.{IsPartition, plan_label};
-ghost use Rattle.mds_types.specs.Division.{IsDivision, IsLowerBound, greatest_heat, part_heat};
+ghost use Rattle.mds_types.specs.Division.{IsDivision, IsLowerBound, part_heat};
 ghost use Rattle.mds_types.specs.Problem.{IsForest, IsProblem, heat_at, inodes_at, parent_at};
 ghost use Rattle.mds_types.specs.RankSet.{rank_count};
 ghost use Rattle.mds_types.specs.Sums.{sum_below};
 ghost use Rattle.dirtree.specs.Tree.{Entry, IsTree, parent_of};
 ghost use Rattle.dir_pins.specs.Pins.{unpinned};
 ghost use Rattle.board_problem.specs.DirDivision.{IsDirDivision, dir_part_heat, greatest_dir_heat, row_label};
-ghost use Rattle.division_cost.specs.Parts.{greatest, parts};
-ghost use Rattle.board_problem.specs.PlanParts.{IsTopOf, part_tops, plan_parts, without_rank};
+ghost use Rattle.board_problem.specs.PlanParts.{IsTopOf, plan_parts};
 ghost use Rattle.board_problem.specs.ProblemRows.{problem_rows};
 
 /// The rows of a tree's unpinned directories, over ranks that are there, are a problem.
@@ -59,20 +58,4 @@ pub fn parts_add_up()
     ensures inodes { (rows : List ProblemRow) (dirs : List ℕ) (plan : Plan) → IsForest rows
         → IsPartition rows (length plan.rank) (plan_label plan)
         → sum_by (λ part. part.inodes) (plan_parts rows dirs plan) ≡ sum_below (length rows) (inodes_at rows) }
-{}
-
-/// The division below the tops of a plan's parts has the plan's parts: the same tops, heats and inodes, and no other.
-/// Its greatest heat is that of the plan's division.
-pub fn tops_give_the_parts()
-    ensures parts { (entries : List (Option Entry)) (own : List (Option ℕ)) (heats now : List ℕ) (plan : Plan)
-        → IsTree entries → IsForest (problem_rows entries own heats now)
-        → IsPartition (problem_rows entries own heats now) (length plan.rank) (plan_label plan)
-        → let planned = plan_parts (problem_rows entries own heats now) (unpinned entries own) plan in
-        parts entries own heats (part_tops planned) ≡ map without_rank planned }
-    ensures greatest { (entries : List (Option Entry)) (own : List (Option ℕ)) (heats now : List ℕ) (plan : Plan)
-        → IsTree entries → IsForest (problem_rows entries own heats now)
-        → IsPartition (problem_rows entries own heats now) (length plan.rank) (plan_label plan)
-        → let planned = plan_parts (problem_rows entries own heats now) (unpinned entries own) plan in
-        greatest (parts entries own heats (part_tops planned))
-        ≡ greatest_heat (problem_rows entries own heats now) (length plan.rank) (plan_label plan) }
 {}

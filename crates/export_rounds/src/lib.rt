@@ -7,6 +7,7 @@
 
 pub mod closing;
 pub mod desk;
+pub mod gate;
 pub mod laws;
 pub mod looks;
 pub mod outcome;
@@ -18,6 +19,7 @@ mod turn;
 pub mod unsettled;
 
 pub use desk::Desk;
+pub use gate::{Gate, OpenGate};
 pub use outcome::Outcome;
 pub use phase::{carry_out_orders, carry_out_orders_from};
 pub use standing::Standing;

@@ -1,6 +1,5 @@
 -- How orders are carried out by the threads of a phase.
-use Rattle.std.specs.Prelude.{◌≡◌, ◌+◌, Bool, false, List, [], length, count_by}
-use Rattle.board_state.specs.State.{start}
+use Rattle.std.specs.Prelude.{◌≡◌, ◌+◌, Bool, List, length, count_by}
 use Rattle.export_rounds.specs.Adding.{GoesOnBy}
 use Rattle.export_rounds.specs.Asked.{AreAsked, is_begun}
 use Rattle.export_rounds.specs.Further.{IsFurther}
@@ -42,7 +41,3 @@ has_started NoThread = false
 abbrev pub AreAll : World → World → List OrderOutcome → Type 0
 AreAll old new outcomes =
     length new.state.cluster.orders ≡ length old.state.cluster.orders + count_by has_started outcomes
-
--- the board of no phase
-abbrev pub no_board : World
-no_board = record { state = start 0 0; is_open = false; shares = 0; published = []; history = [] }

@@ -31,7 +31,7 @@ pub(crate) trait ExportPhase {
 
 impl ExportPhase for Brand {
     ghost use Rattle.std.specs.Prelude.{[]};
-    ghost use Rattle.export_threads.specs.Carrying.{no_board};
+    ghost use Rattle.mds_board.specs.History.{no_board};
 
     ghost before = { no_board };
 

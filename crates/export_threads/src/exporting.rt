@@ -6,7 +6,6 @@ ghost use Rattle.export_rounds.specs.Further.{IsFurther};
 ghost use Rattle.export_threads.specs.Carrying.{AreAll, AreTold};
 
 use crate::cell::{ExportCell, ExportPhase};
-use crate::gate::Gate;
 use crate::order_outcome::OrderOutcome;
 use crate::place::Place;
 use crate::telling::tell;
@@ -17,7 +16,7 @@ use export_machine::Event;
 use export_rounds::desk::set_up;
 use export_rounds::looks::is_before_log;
 use export_rounds::starting::waiting;
-use export_rounds::{Desk, Standing, Unsettled};
+use export_rounds::{Desk, Gate, Standing, Unsettled};
 use mds_board::Board;
 use mds_types::Order;
 use naming::Naming;

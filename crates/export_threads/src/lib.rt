@@ -6,7 +6,6 @@
 
 mod cell;
 pub mod exporting;
-pub mod gate;
 pub mod order_outcome;
 mod place;
 mod telling;
@@ -14,7 +13,6 @@ mod turn;
 mod turns;
 mod under_way;
 
-pub use export_rounds::{Outcome, Unsettled};
+pub use export_rounds::{Gate, OpenGate, Outcome, Unsettled};
 pub use exporting::{export_phase, export_phase_from};
-pub use gate::{Gate, OpenGate};
 pub use order_outcome::OrderOutcome;

@@ -1,11 +1,10 @@
 //! The turn of a rank in a round of exports. The lock is held for one event at a time.
 
 use crate::cell::{ExportCell, ExportPhase};
-use crate::gate::Gate;
 use authority_map::Publisher;
 use export_machine::Event;
-use export_rounds::Desk;
 use export_rounds::looks::{is_at_work, is_freezing, is_logged, is_wanted};
+use export_rounds::{Desk, Gate};
 use naming::Naming;
 use std::alloc::Global;
 use std::sync::Wait;

@@ -1,13 +1,12 @@
 //! The rounds of a phase of exports, with a thread for each rank that has something to look after.
 
 use crate::cell::{ExportCell, ExportPhase};
-use crate::gate::Gate;
 use crate::place::{Call, Place};
 use crate::turn::take_turn;
 use crate::under_way::UnderWay;
 use authority_map::Publisher;
-use export_rounds::Desk;
 use export_rounds::desk::sort_out;
+use export_rounds::{Desk, Gate};
 use mds_types::RankSet;
 use naming::Naming;
 use std::alloc::Global;

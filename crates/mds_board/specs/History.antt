@@ -1,5 +1,5 @@
 -- The stored history of a board, and what its replay gives.
-use Rattle.std.specs.Prelude.{◌≡◌, ◌≤◌, ℕ, Bool, List, [], ◌∷◌, ◌++◌, length, Result, Ok, Err, None}
+use Rattle.std.specs.Prelude.{◌≡◌, ◌≤◌, ℕ, Bool, false, List, [], ◌∷◌, ◌++◌, length, Result, Ok, Err, None}
 use Rattle.authority_map.specs.Operations.{Operation}
 use Rattle.board_state.specs.declared.board_error.BoardError.{BoardError}
 use Rattle.board_state.specs.declared.change.Answer.{Answer}
@@ -20,6 +20,10 @@ pub record World : Type 0 where
 abbrev pub world_of : Present → List Entry → World
 world_of p history =
     record { state = p.state; is_open = p.is_open; shares = p.shares; published = p.published; history = history }
+
+-- the board of no phase
+abbrev pub no_board : World
+no_board = record { state = start 0 0; is_open = false; shares = 0; published = []; history = [] }
 
 -- From old the entries' changes were accepted in turn, with these replies, and left new.
 abbrev pub IsReplay : State → List Entry → State → Type 0

@@ -8,6 +8,7 @@ pub mod board;
 pub mod command;
 pub mod entry;
 pub mod history;
+pub mod laws;
 mod lookups;
 mod reads;
 mod running;

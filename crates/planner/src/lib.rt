@@ -153,7 +153,7 @@ fn placed<R: Threads + Sync>(
     problem: &Problem,
     best: BestDivision,
 ) -> Result<Plan, AllocError>
-    requires { IsCutCertified problem.now.rows (rank_count problem.now.ranks)
+    requires cut { IsCutCertified problem.now.rows (rank_count problem.now.ranks)
         best.part.items best.count best.greatest best.proof }
     ensures certified { IfOk result (IsCertified problem.now) }
     ensures part { IfOk result (λ plan. plan.part ≡ best.part.items) }

@@ -10,7 +10,7 @@ use mds_types::Problem;
 use std::alloc::{AllocError, Global};
 use std::thread::Threads;
 
-/// How many rows a thread reads. A problem has no more, so none is started: up to there, that takes longer than the rows.
+/// How many rows a thread reads. A problem has no more, so none is started: up to there, that takes longer.
 const CHUNK: usize = 65_536;
 
 /// The inodes of each part by the rank that has them now, in the rows from `from` on to before `to`, 64

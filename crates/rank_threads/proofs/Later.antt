@@ -7,6 +7,7 @@ use Rattle.board_state.specs.declared.board_error.BoardError.{BoardError}
 use Rattle.board_state.specs.declared.change.Answer.{Answer}
 use Rattle.board_state.specs.declared.change.Change.{Change}
 use Rattle.board_state.specs.Steps.{spelled}
+use Rattle.heat_ledger.specs.Ledger.{ShareData}
 use Rattle.mds_board.specs.declared.entry.Entry.{Entry}
 use Rattle.mds_board.specs.History.{World, IsAnswer, entry_of}
 use Rattle.mds_board.specs.Stored.{began}
@@ -15,6 +16,7 @@ use Rattle.rank_threads.specs.declared.work.WorkAnswer.{WorkAnswer}
 use Rattle.rank_threads.specs.declared.work.WorkError.{WorkError}
 use Rattle.rank_threads.specs.declared.work.WorkError.TheVariants as error
 use Rattle.rank_threads.specs.Answered.{AreAnswered, IsAnswered, IsBegun, IsDepositTold, IsEndMet, IsMet, IsRankAnswered, IsReply}
+use Rattle.rank_threads.specs.Asking.{AreServed}
 use Rattle.rank_threads.specs.Going.{WentOn}
 
 pub whole : (xs : List Entry) → IsPrefix xs xs
@@ -62,6 +64,17 @@ all_later before log longer rank (w ∷ scripts) (a ∷ answers) more h =
 pub deposit_later : (before : World) (log longer : List Entry) (deposited : Result Unit BoardError) → IsPrefix log longer → IsDepositTold before log deposited → IsDepositTold before longer deposited
 deposit_later before log longer (Ok done) more h = tt
 deposit_later before log longer (Err e) more h = (h.0, met_later before log longer _ e more h.1)
+
+pub served_later : (limit : ℕ) (before : World) (log longer : List Entry) (shares : List ShareData) (scripts : List (List Work)) (answers : List (List WorkAnswer)) (after : List ShareData)
+    (deposited : Result Unit BoardError) → IsPrefix log longer → AreServed limit before log shares scripts answers after deposited
+    → AreServed limit before longer shares scripts answers after deposited
+served_later limit before log longer shares scripts answers after deposited more h = record {
+  returned = h.returned;
+  answered = all_later before log longer 0 scripts answers more h.answered;
+  apart = h.apart;
+  clean = h.clean;
+  told = deposit_later before log longer deposited more h.told;
+}
 
 pub end_later : (before : World) (log longer : List Entry) (ended : Result Unit BoardError) → IsPrefix log longer → IsEndMet before log ended → IsEndMet before longer ended
 end_later before log longer (Ok done) more h = tt

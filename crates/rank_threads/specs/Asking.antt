@@ -38,8 +38,9 @@ pub record AreLaid (scripts : List (Vec Work Global)) (shares : Vec ShareData Gl
   pub none : asked.items ≡ []
   pub place : length scripts ≤ vec_capacity asked
 
--- All ranks have answered, and their shares deposited their hits, or a deposit was refused so.
-pub record AreJoined (limit : ℕ) (before : World) (log : List Entry) (shares : List ShareData)
+-- All ranks have answered, in a phase that began with this board and has come to this log. Their shares have deposited
+-- their hits, or a deposit was refused so.
+pub record AreServed (limit : ℕ) (before : World) (log : List Entry) (shares : List ShareData)
     (scripts : List (List Work)) (answers : List (List WorkAnswer)) (after : List ShareData)
     (deposited : Result Unit BoardError) : Type 0 where
   pub returned : AreReturned limit shares scripts answers after

@@ -31,7 +31,7 @@ pub trait Phase: LogName {
 }
 
 impl Phase for Brand {
-    ghost use Rattle.export_threads.specs.Carrying.{no_board};
+    ghost use Rattle.mds_board.specs.History.{no_board};
 
     ghost before = { no_board };
 }

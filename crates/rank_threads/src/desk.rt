@@ -6,7 +6,7 @@ use crate::board_cell::{BoardCell, Phase};
 use crate::serving::serve_script;
 use crate::work::{Work, WorkAnswer};
 use authority_map::Publisher;
-use export_threads::Gate;
+use export_rounds::Gate;
 use heat_ledger::Share;
 use mds_board::Entry;
 use mds_types::Rank;

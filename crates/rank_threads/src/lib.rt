@@ -1,5 +1,4 @@
-//! Requests of the ranks, each rank's by a thread of its own, over one board under a lock. Exports by threads are
-//! those of
+//! Requests of the ranks, each rank's by a thread of its own, over one board under a lock. Phases of exports are in
 //! `export_threads`.
 //!
 //! What a thread finds under the lock is the board with which the phase began, with requests that begin or end and
@@ -16,7 +15,7 @@ pub mod totals;
 pub mod work;
 
 pub use board_cell::{BoardCell, Phase, Phased};
-pub use export_threads::{Gate, OpenGate, OrderOutcome, Outcome, export_phase};
+pub use export_rounds::{Gate, OpenGate};
 pub use phase::{Ranks, serve_phase};
 pub use totals::serve_with_totals;
 pub use work::{Work, WorkAnswer, WorkError};

@@ -4,11 +4,10 @@ ghost use Rattle.std.specs.Prelude.{OnErr, length, map, vec_capacity, vec_len};
 ghost use Rattle.std.specs.List.{All, AllZip};
 ghost use Rattle.heat_ledger.specs.Ledger.{IsClean, ShareData};
 ghost use Rattle.rank_threads.specs.declared.work.Work.{Work as TheWork};
-ghost use Rattle.rank_threads.specs.Answered.{AreAnswered, IsDepositTold, IsEndTold};
-ghost use Rattle.rank_threads.specs.Asking.{AreJoined, AreLaid, IsRoomFor, askings};
+ghost use Rattle.rank_threads.specs.Answered.{IsDepositTold, IsEndTold};
+ghost use Rattle.rank_threads.specs.Asking.{AreServed, AreLaid, IsRoomFor, askings};
 ghost use Rattle.rank_threads.specs.Going.{WentOn};
-ghost use Rattle.rank_threads.specs.Serving.{AreReturned, IsDeposited};
-ghost use Rattle.rank_threads.specs.Tickets.{AreApart, all_tickets};
+ghost use Rattle.rank_threads.specs.Serving.{IsDeposited};
 ghost use mathlib.Core.List.{IsPrefix};
 
 use crate::board_cell::{BoardCell, Phase};
@@ -17,7 +16,7 @@ use crate::ending::first_refusal;
 use crate::work::{Work, WorkAnswer};
 use authority_map::Publisher;
 use board_state::BoardError;
-use export_threads::Gate;
+use export_rounds::Gate;
 use heat_ledger::Share;
 use mds_board::{Board, Entry};
 use mds_types::Rank;
@@ -183,7 +182,7 @@ impl<
         requires deposited { IsOk ranks.deposited }
         requires room { (vec_len asked ≤ vec_capacity ranks.shares) × (vec_len asked ≤ vec_capacity ranks.answers) }
         ensures joined { (shares : List ShareData) (scripts : List (List TheWork)) → length shares ≡ length scripts
-            → asked.items ≡ askings 0 shares scripts → AreJoined J.limit K.before result.seen shares scripts
+            → asked.items ≡ askings 0 shares scripts → AreServed J.limit K.before result.seen shares scripts
             (map (λ a. a.items) result.answers.items) result.shares.items result.deposited }
     {
         let mut asked = asked;
@@ -204,7 +203,7 @@ impl<
     ) -> Joined<J, K>
         requires few { length scripts.now ≤ 64 }
         requires laid { AreLaid scripts.now laid.shares laid.rooms laid.asked }
-        ensures { AreJoined J.limit K.before result.seen laid.shares.items (map (λ s. s.items) scripts.now)
+        ensures { AreServed J.limit K.before result.seen laid.shares.items (map (λ s. s.items) scripts.now)
             (map (λ a. a.items) result.answers.items) result.shares.items result.deposited }
     {
         let Laid {
@@ -240,7 +239,7 @@ fn serve_ranks<
 ) -> Joined<J, K>
     requires few { length scripts.now ≤ 64 }
     requires laid { AreLaid scripts.now laid.shares laid.rooms laid.asked }
-    ensures { AreJoined J.limit K.before result.seen laid.shares.items (map (λ s. s.items) scripts.now)
+    ensures { AreServed J.limit K.before result.seen laid.shares.items (map (λ s. s.items) scripts.now)
         (map (λ a. a.items) result.answers.items) result.shares.items result.deposited }
 {
     let serving = Serving::new(rt, alloc, cell, gate);
@@ -249,7 +248,7 @@ fn serve_ranks<
         rt,
         |scope| -> Joined<J, K>
             requires { (length scripts.now ≤ 64) × AreLaid scripts.now laid.shares laid.rooms laid.asked }
-            ensures { AreJoined J.limit K.before result.seen laid.shares.items (map (λ s. s.items) scripts.entry.now)
+            ensures { AreServed J.limit K.before result.seen laid.shares.items (map (λ s. s.items) scripts.entry.now)
                 (map (λ a. a.items) result.answers.items) result.shares.items result.deposited }
         { serving.serve_all(scope, scripts, laid) },
     )
@@ -311,13 +310,9 @@ fn serve_named<
     requires few { length scripts.now ≤ 64 }
     requires equal { vec_len shares ≡ length scripts.now }
     ensures board { WentOn K.before result.0 }
-    ensures returned { IfOk result.1 (λ ranks. AreReturned J.limit shares.items (map (λ s. s.items) scripts.now)
-        (map (λ a. a.items) ranks.answers.items) ranks.shares.items) }
-    ensures clean { IfOk result.1 (λ ranks. IsOk ranks.deposited → All (λ s. IsClean s) ranks.shares.items) }
-    ensures answered { IfOk result.1 (λ ranks. AreAnswered K.before result.0.history 0
-        (map (λ s. s.items) scripts.now) (map (λ a. a.items) ranks.answers.items)) }
-    ensures apart { IfOk result.1 (λ ranks. AreApart (all_tickets (map (λ a. a.items) ranks.answers.items))) }
-    ensures told { IfOk result.1 (λ ranks. IsDepositTold K.before result.0.history ranks.deposited) }
+    ensures served { IfOk result.1 (λ ranks. AreServed J.limit K.before result.0.history shares.items
+        (map (λ s. s.items) scripts.now) (map (λ a. a.items) ranks.answers.items) ranks.shares.items
+        ranks.deposited) }
     ensures ended { IfOk result.1 (λ ranks. IsEndTold K.before result.0 ranks.ended) }
     ensures memory { IfErr result.1 (λ e. e.value.items ≡ shares.items) }
     ensures unchanged { OnErr result.1 (result.0 ≡ board) }
@@ -368,13 +363,9 @@ pub fn serve_phase<
     requires few { length scripts.now ≤ 64 }
     requires equal { vec_len shares ≡ length scripts.now }
     ensures board { WentOn board result.0 }
-    ensures returned { IfOk result.1 (λ ranks. AreReturned J.limit shares.items (map (λ s. s.items) scripts.now)
-        (map (λ a. a.items) ranks.answers.items) ranks.shares.items) }
-    ensures clean { IfOk result.1 (λ ranks. IsOk ranks.deposited → All (λ s. IsClean s) ranks.shares.items) }
-    ensures answered { IfOk result.1 (λ ranks. AreAnswered board result.0.history 0 (map (λ s. s.items) scripts.now)
-        (map (λ a. a.items) ranks.answers.items)) }
-    ensures apart { IfOk result.1 (λ ranks. AreApart (all_tickets (map (λ a. a.items) ranks.answers.items))) }
-    ensures told { IfOk result.1 (λ ranks. IsDepositTold board result.0.history ranks.deposited) }
+    ensures served { IfOk result.1 (λ ranks. AreServed J.limit board result.0.history shares.items
+        (map (λ s. s.items) scripts.now) (map (λ a. a.items) ranks.answers.items) ranks.shares.items
+        ranks.deposited) }
     ensures ended { IfOk result.1 (λ ranks. IsEndTold board result.0 ranks.ended) }
     ensures memory { IfErr result.1 (λ e. e.value.items ≡ shares.items) }
     ensures unchanged { OnErr result.1 (result.0 ≡ board) }

@@ -10,7 +10,7 @@ ghost use Rattle.rank_threads.specs.Serving.{Counted, Fits, IsServed, IsShort, a
 use crate::board_cell::{BoardCell, Phase};
 use crate::work::{Work, WorkAnswer, WorkError};
 use authority_map::Publisher;
-use export_threads::Gate;
+use export_rounds::Gate;
 use heat_ledger::{HitError, Share};
 use mds_board::Entry;
 use mds_types::{Dir, Rank};

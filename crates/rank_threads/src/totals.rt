@@ -1,18 +1,17 @@
 //! The requests of all ranks, for whoever has all shares of the ledger.
-ghost use Rattle.std.specs.Prelude.{◌≡◌, ◌≤◌, ◌<◌, ◌+◌, ℕ, IfErr, IfOk, IsOk, OnErr, length, map, vec_len};
-ghost use Rattle.std.specs.List.{All};
-ghost use Rattle.heat_ledger.specs.Ledger.{IsClean, begun_of, hits_of, pending_of, weight_of};
+ghost use Rattle.std.specs.Prelude.{◌≡◌, ◌≤◌, ◌<◌, ◌+◌, ℕ, IfErr, IfOk, OnErr, length, map, vec_len};
+ghost use Rattle.heat_ledger.specs.Ledger.{begun_of, hits_of, pending_of, weight_of};
 ghost use Rattle.heat_ledger.specs.Rows.{at};
-ghost use Rattle.rank_threads.specs.Answered.{AreAnswered, IsDepositTold, IsEndTold};
+ghost use Rattle.rank_threads.specs.Answered.{IsEndTold};
+ghost use Rattle.rank_threads.specs.Asking.{AreServed};
 ghost use Rattle.rank_threads.specs.Going.{WentOn};
-ghost use Rattle.rank_threads.specs.Serving.{AreReturned, begun_on, hits_on};
-ghost use Rattle.rank_threads.specs.Tickets.{AreApart, all_tickets};
+ghost use Rattle.rank_threads.specs.Serving.{begun_on, hits_on};
 ghost use Rattle.rank_threads.specs.Totals.{over_ranks};
 
 use crate::phase::{Ranks, serve_phase};
 use crate::work::Work;
 use authority_map::Publisher;
-use export_threads::Gate;
+use export_rounds::Gate;
 use heat_ledger::Share;
 use mds_board::Board;
 use naming::Naming;
@@ -42,9 +41,9 @@ pub fn serve_with_totals<
     requires equal { vec_len shares ≡ length scripts.now }
     requires whole { weight_of shares.items ≡ board.shares }
     ensures board { WentOn board result.0 }
-    ensures returned { IfOk result.1 (λ ranks. AreReturned J.limit shares.items (map (λ s. s.items) scripts.now)
-        (map (λ a. a.items) ranks.answers.items) ranks.shares.items) }
-    ensures clean { IfOk result.1 (λ ranks. IsOk ranks.deposited → All (λ s. IsClean s) ranks.shares.items) }
+    ensures served { IfOk result.1 (λ ranks. AreServed J.limit board result.0.history shares.items
+        (map (λ s. s.items) scripts.now) (map (λ a. a.items) ranks.answers.items) ranks.shares.items
+        ranks.deposited) }
     ensures whole { IfOk result.1 (λ ranks. weight_of ranks.shares.items ≡ result.0.shares) }
     ensures begun { IfOk result.1 (λ ranks. (d : ℕ) → d < J.limit → at result.0.state.begun d
         ≡ at board.state.begun d
@@ -53,10 +52,6 @@ pub fn serve_with_totals<
         → at result.0.state.counted d + pending_of ranks.shares.items d
         ≡ (at board.state.counted d + pending_of shares.items d)
         + over_ranks (hits_on d) (map (λ s. s.items) scripts.now) (map (λ a. a.items) ranks.answers.items)) }
-    ensures answered { IfOk result.1 (λ ranks. AreAnswered board result.0.history 0 (map (λ s. s.items) scripts.now)
-        (map (λ a. a.items) ranks.answers.items)) }
-    ensures apart { IfOk result.1 (λ ranks. AreApart (all_tickets (map (λ a. a.items) ranks.answers.items))) }
-    ensures told { IfOk result.1 (λ ranks. IsDepositTold board result.0.history ranks.deposited) }
     ensures ended { IfOk result.1 (λ ranks. IsEndTold board result.0 ranks.ended) }
     ensures memory { IfErr result.1 (λ e. e.value.items ≡ shares.items) }
     ensures unchanged { OnErr result.1 (result.0 ≡ board) }

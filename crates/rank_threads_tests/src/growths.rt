@@ -8,13 +8,12 @@ use crate::trials::{Trial, try_once};
 use authority_map::Publisher;
 use board_state::BoardError;
 use export_machine::StepError;
+use export_threads::{OrderOutcome, Outcome, export_phase};
 use heat_ledger::Share;
 use mds_board::Board;
 use mds_types::{Dir, Order, Rank};
 use naming::Naming;
-use rank_threads::{
-    OpenGate, OrderOutcome, Outcome, Ranks, Work, WorkAnswer, WorkError, export_phase, serve_phase,
-};
+use rank_threads::{OpenGate, Ranks, Work, WorkAnswer, WorkError, serve_phase};
 use std::alloc::{AllocError, Global};
 use std::marker::{Send, Sync};
 use std::process::Abort;

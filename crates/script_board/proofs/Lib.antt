@@ -1,4 +1,5 @@
 pub mod BoardLemmas
 pub mod CostLemmas
+pub mod CostOfPlan
 pub mod DealingLemmas
 pub mod SlashLemmas

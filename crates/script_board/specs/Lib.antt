@@ -4,5 +4,6 @@ pub mod Cost
 pub mod Fault
 pub mod Move
 pub mod Plan
+pub mod PlanCost
 pub mod Serve
 pub mod Stat

@@ -3,19 +3,18 @@ use Rattle.std.specs.List.{list_any}
 use Rattle.std.specs.Option.{option_map}
 use Rattle.std.specs.Prelude.{◌≡◌, ℕ, ◌<◌, ◌+◌, ◌==◌, nat_lt, if◌then◌else◌, Bool, not, List, [], ◌∷◌, ◌++◌, All}
 use Rattle.std.specs.Prelude.{filter, length, map, slice_get, slice_index_or, Option, Some, None, Result, Ok, Err}
-use Rattle.std.specs.Prelude.{IsOk}
 use Rattle.authority_map.specs.Operations.{rank_after}
 use Rattle.dirtree.specs.Tree as tree
-use Rattle.heat_ledger.specs.Ledger.{IsClean, ShareData, pending_of}
+use Rattle.heat_ledger.specs.Ledger.{pending_of}
 use Rattle.heat_ledger.specs.Rows.{at}
 use Rattle.board_state.specs.declared.board_error.BoardError.{BoardError}
 use Rattle.mds_board.specs.History.{World}
 use Rattle.rank_threads.specs.declared.work.Work.{Work}
 use Rattle.rank_threads.specs.declared.work.WorkAnswer.{WorkAnswer}
-use Rattle.rank_threads.specs.Answered.{AreAnswered, IsDepositTold, IsEndTold}
+use Rattle.rank_threads.specs.Answered.{IsEndTold}
+use Rattle.rank_threads.specs.Asking.{AreServed}
 use Rattle.rank_threads.specs.Going.{WentOn}
-use Rattle.rank_threads.specs.Serving.{AreReturned, begun_on, hits_on}
-use Rattle.rank_threads.specs.Tickets.{AreApart, all_tickets}
+use Rattle.rank_threads.specs.Serving.{begun_on, hits_on}
 use Rattle.rank_threads.specs.Totals.{over_ranks}
 use Rattle.script_board.specs.declared.dealing.Seat.{Seat}
 use Rattle.script_board.specs.declared.fault.Fault.{Fault}
@@ -100,13 +99,10 @@ pub record IsServed (old : BoardData) (refused : List Fault) (new : BoardData) :
   pub ended : Result Unit BoardError
   pub deposited : Result Unit BoardError
   pub dealt : IsDealt old.world (length old.shares) (waiting old) scripts seats
-  pub answered : AreAnswered old.world new.world.history 0 scripts answers
-  pub apart : AreApart (all_tickets answers)
+  pub served : AreServed old.world.state.directories.limit old.world new.world.history old.shares scripts answers
+      new.shares deposited
   pub end_told : IsEndTold old.world new.world ended
-  pub deposit_told : IsDepositTold old.world new.world.history deposited
   pub went : WentOn old.world new.world
-  pub returned : AreReturned old.world.state.directories.limit old.shares scripts answers new.shares
-  pub clean : IsOk deposited → All (λ s. IsClean s) new.shares
   pub begun : (d : ℕ) → d < old.world.state.directories.limit → at new.world.state.begun d
       ≡ at old.world.state.begun d + over_ranks (begun_on d) scripts answers
   pub counted : (d : ℕ) → d < old.world.state.directories.limit → at new.world.state.counted d + pending_of new.shares d

@@ -6,6 +6,7 @@ mod commands;
 mod cost;
 mod dealing;
 pub mod fault;
+pub mod laws;
 pub mod load;
 mod moving;
 pub mod parts;

@@ -1,5 +1,8 @@
 pub mod HistoryLemmas
+pub mod LineLemmas
+pub mod MoveLemmas
 pub mod OutcomeLemmas
+pub mod PlanLemmas
 pub mod ProofsLemmas
 pub mod ReportLemmas
 pub mod ScriptLemmas

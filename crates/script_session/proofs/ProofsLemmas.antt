@@ -26,12 +26,7 @@ if_known (Some bytes) a = a
 pub readable : (before : Option (List ℕ)) → IfSome before (λ bytes. All IsWritable [])
 readable before = if_known before (All-nil IsWritable)
 
--- there are none where a run found no memory to begin with
-pub none_proved : (ended : Ended) (before : Option (List ℕ)) (Leads : SessionData → Bool → Type 0) → ended ≡ record { answered = Err Memory; proved = Ok tt }
-    → (last : SessionData) × IsKeptAt last.board × IsProved ended.proved before before last.board × IfOk ended.answered (Leads last)
-none_proved ended before Leads is = rw is (beginning 1, tt, ((Appends-nil before, readable before), tt), tt)
-
--- and nothing was read or written
+-- a run that found no memory to begin with reads and writes nothing, and has no certificates
 pub nothing_run : {R : Type 0} (remaining : R → Option (List ℕ)) (limit : ℕ) (strict : Bool) (input : Reading R) (before proofs : Option (List ℕ)) (ended : Ended)
     → ended ≡ record { answered = Err Memory; proved = Ok tt } → IsRunOf remaining limit strict input input before before proofs proofs ended
 nothing_run remaining limit strict input before proofs ended is = rw is

@@ -3,10 +3,9 @@ use Rattle.std.proofs.Common.{◌≡◌, ◌==◌, ℕ, Bool, true, false, cond,
 use Rattle.script_engine.specs.Answers.{Answer, fault_text}
 use Rattle.script_commands.specs.Commands.{asked}
 use Rattle.script_board.specs.declared.fault.Fault.TheVariants.{Memory}
-use Rattle.script_replies.specs.Printed.{joined}
+use Rattle.script_session.specs.Printed.{Printed, joined}
 use Rattle.script_session.specs.Fault.{words}
 use Rattle.script_session.specs.Outcome.{LineOutcome, answer_to, is_sure, told}
-use Rattle.script_session.specs.Printed.{Printed}
 use Rattle.script_session.specs.Session.{IsTold, SessionData, answers, published}
 use Rattle.script_session.specs.Visible.{IsSeenAs, TellsNoMemory}
 use Rattle.script_session.proofs.OutcomeLemmas.{done_line, fault_line}

@@ -19,10 +19,9 @@ use Rattle.script_board.specs.Board.{BoardData, publish}
 use Rattle.script_board.specs.Commands.{◌>>=◌, changed, find, last_slash, make_below, masked, parent_path, replanned}
 use Rattle.script_board.specs.Cost.{cost, top, tops}
 use Rattle.script_board.specs.Fault.{unless}
-use Rattle.script_replies.specs.Printed.{joined}
+use Rattle.script_session.specs.Printed.{Printed, joined}
 use Rattle.script_session.specs.Does.{Changes, Meaning, Moves, Plans, Prints, Reports, Serves, costed, is_function, meaning}
 use Rattle.script_session.specs.Outcome.{LineOutcome, Outcome, answer_to, held, is_determined, line_outcome, outcome, outcome_at, printed, silent, told}
-use Rattle.script_session.specs.Printed.{Printed}
 use Rattle.script_session.specs.Session.{IsTold, SessionData, answers, beginning, at_beginning, done_answer, fault_answer, published, settled}
 use Rattle.script_session.specs.Visible.{NoneSaysMemory, SaysMemory, ignores_map, is_visible, tells_all}
 use Rattle.script_session.proofs.OutcomeLemmas.{done_line, fault_line}

@@ -14,10 +14,10 @@ use Rattle.script_board.specs.Cost.{cost}
 use Rattle.script_board.specs.Move.{IsMoved}
 use Rattle.script_board.specs.Plan.{IsPlanned, plan_due}
 use Rattle.script_board.specs.Serve.{IsGone, is_ample}
-use Rattle.script_replies.specs.Cost.{cost_lines}
-use Rattle.script_replies.specs.Move.{move_lines}
-use Rattle.script_replies.specs.Plan.{parts_in_force, plan_lines}
-use Rattle.script_replies.specs.Stat.{stat_lines}
+use Rattle.script_session.specs.Cost.{cost_lines}
+use Rattle.script_session.specs.Move.{move_lines}
+use Rattle.script_session.specs.Plan.{parts_in_force, plan_lines}
+use Rattle.script_session.specs.Stat.{stat_lines}
 use Rattle.script_session.specs.Printed.{Printed, only_lines}
 
 abbrev pub failure : {A : Type 0} → Result A Fault → Option Fault

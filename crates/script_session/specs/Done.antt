@@ -4,8 +4,8 @@ use Rattle.mds_types.specs.declared.plan.Plan.{Plan}
 use Rattle.script_board.specs.declared.fault.Fault.{Fault}
 use Rattle.script_board.specs.Board.{BoardData}
 use Rattle.script_board.specs.Plan.{IsPlanned}
-use Rattle.script_replies.specs.Plan.{parts_in_force, plan_lines}
-use Rattle.script_replies.specs.Reply.{IsPrintable, reply_lines}
+use Rattle.script_session.specs.Plan.{parts_in_force, plan_lines}
+use Rattle.script_session.specs.Reply.{IsPrintable, reply_lines}
 use Rattle.script_session.specs.declared.done.Done.{Done}
 use Rattle.script_session.specs.declared.done.Done.TheVariants.{Served, Planned, Lines}
 use Rattle.script_session.specs.Printed.{Printed, only_lines}

@@ -9,7 +9,12 @@ use Rattle.script_session.specs.Proofs.{IsProved, LeadsTo}
 use Rattle.script_session.specs.Script.{AcceptedUpTo, AllAnswered, IsKeptAt, SomeAnswered, WholeAnswered}
 use Rattle.script_session.specs.Session.{SessionData}
 
--- what a run has read, what it has written as answers, and as certificates, before and after
+-- How a run has ended, by what it has read, and what it has written as answers and as certificates, before and after:
+-- `done`: all lines that a reader of known bytes has are answered. `given`: the same of the bytes that came, of any
+-- reader. `stops`: a strict run reads nothing after the read in which its last line ends. `read`: where a read failed,
+-- the lines that were whole are answered; `cause`: that is reported only where a read failed, or after 2^40 reads.
+-- `write`: where a write failed, a beginning of what is due for the lines so far was written. `proofs`: however it
+-- ended, the certificates of the plans that the board had adopted were written.
 pub record IsRunOf {R : Type 0} (remaining : R → Option (List ℕ)) (limit : ℕ) (strict : Bool) (old new : Reading R)
     (before after proofs_before proofs_after : Option (List ℕ)) (ended : Ended) : Type 0 where
   pub done : IfOk ended.answered (λ accepted. IfSome (remaining old.reader) (λ all.

@@ -1,11 +1,16 @@
+pub mod Cost
 pub mod Does
 pub mod Done
 pub mod Ending
 pub mod Fault
 pub mod History
+pub mod Move
 pub mod Outcome
+pub mod Plan
 pub mod Printed
 pub mod Proofs
+pub mod Reply
 pub mod Script
 pub mod Session
+pub mod Stat
 pub mod Visible

@@ -10,10 +10,9 @@ use Rattle.script_board.specs.declared.fault.Fault.{Fault}
 use Rattle.script_board.specs.declared.fault.Fault.TheVariants.{Syntax, NoRanks, Memory}
 use Rattle.script_board.specs.Board.{BoardData, empty_board, publish}
 use Rattle.script_board.specs.Fault.{is_memory}
-use Rattle.script_replies.specs.Printed.{joined}
+use Rattle.script_session.specs.Printed.{Printed, joined, only_lines}
 use Rattle.script_session.specs.Does.{Does, IsQuiet, cause, failure, meaning}
 use Rattle.script_session.specs.Fault.{words}
-use Rattle.script_session.specs.Printed.{Printed, only_lines}
 
 -- what a script has made so far, in a tree that gives numbers below the limit: nothing until `ranks` was accepted
 pub record SessionData : Type 0 where

@@ -6,11 +6,11 @@ ghost use Rattle.script_session.specs.Done.{IsShowable, shown};
 ghost use Rattle.script_session.specs.Printed.{only_lines};
 
 use crate::done::Done;
+use crate::reply::CommandReply;
 use authority_map::Publisher;
 use naming::Naming;
 use script_board::{Fault, ScriptBoard};
 use script_commands::Command;
-use script_replies::CommandReply;
 use std::alloc::Global;
 use std::marker::{Send, Sync};
 use std::sync::Wait;

@@ -2,8 +2,8 @@
 ghost use Rattle.std.specs.Prelude.{◌≡◌};
 ghost use Rattle.script_session.specs.Done.{refused_by};
 
+use crate::reply::CommandReply;
 use script_board::Fault;
-use script_replies::CommandReply;
 
 /// What a command that was carried out prints.
 #[derive(Drop)]

@@ -1,13 +1,20 @@
-//! What the lines of a script do, and what is written for them.
+//! What the lines of a script do, and what is printed for them.
 #![tactic(auto)]
 
 mod carry_out;
+mod cost;
 pub mod done;
 pub mod hints;
 pub mod laws;
+mod moved;
+mod page;
+pub mod plan;
+pub mod print;
+pub mod reply;
 pub mod report;
 pub mod script;
 pub mod session;
+mod stat;
 
 pub use done::Done;
 pub use hints::{Hints, Silence};

@@ -1,15 +1,9 @@
 //! A whole script from a reader, with its answers to a writer.
 ghost use Rattle.std.specs.Option.{option_and_then};
-ghost use Rattle.std.specs.Prelude.{◌≡◌, ◌⊎◌, ℕ, ◌≤◌, ◌^◌, ◌++◌, [], List};
-ghost use Rattle.std.specs.Prelude.{Err, Ok, IfOk, IfSome, IsErrOf, true, false, not};
-ghost use Rattle.std.specs.Prelude.{◌&&◌, vec_len};
-ghost use Rattle.script_engine.specs.Lines.{lines_of};
-ghost use Rattle.script_engine.specs.Runs.{Gives, IsEnded};
+ghost use Rattle.std.specs.Prelude.{◌≡◌, ◌≤◌, [], Err, Ok, IsErrOf, vec_len};
 ghost use Rattle.script_engine.specs.Telling.{Tells};
 ghost use Rattle.script_session.specs.Ending.{IsRunOf};
-ghost use Rattle.script_session.specs.Session.{SessionData, answers};
-ghost use Rattle.script_session.specs.Proofs.{IsProved, LeadsTo};
-ghost use Rattle.script_session.specs.Script.{AcceptedUpTo, AllAnswered, IsKeptAt, SomeAnswered, WholeAnswered};
+ghost use Rattle.script_session.specs.Session.{answers};
 
 use crate::hints::{Hinted, Hints};
 use crate::session::Session;
@@ -77,38 +71,12 @@ pub fn run<T: Threads + Wait + Sync, R: Read, W: Write, P: Write, H: Hints>(
     requires some { 1 ≤ options.limit }
     requires few { options.limit ≤ 65536 }
     requires unread { input.old.reads ≡ 0 }
-    ensures done { IfOk result.answered (λ accepted. IfSome (R.remaining input.old.reader) (λ all.
-        AllAnswered options.limit options.strict (lines_of all) accepted
-        (W.contents writer.old) (W.contents writer.new))) }
-    // The same for the bytes that came, of any reader.
-    ensures given { IfOk result.answered (λ accepted. (bytes : List ℕ) × Gives R.remaining input.old input.new bytes
-        × ((options.strict && not accepted) ≡ false → IsEnded R.remaining input.new)
-        × AllAnswered options.limit options.strict (lines_of bytes) accepted
-        (W.contents writer.old) (W.contents writer.new)) }
-    // A strict run reads nothing behind the read in which its last line ends.
-    ensures stops { IfOk result.answered (λ accepted. (options.strict && not accepted) ≡ true → (front : List ℕ)
-        × (last : List ℕ)
-        × Gives R.remaining input.old input.new (front ++ last)
-        × AcceptedUpTo options.limit options.strict front last) }
-    // Where a read fails, the lines that were whole were answered.
-    ensures read { IsErrOf result.answered RunError.Read → (bytes : List ℕ)
-        × Gives R.remaining input.old input.new bytes
-        × WholeAnswered options.limit options.strict bytes (W.contents writer.old) (W.contents writer.new) }
-    // It is answered so only where a read failed, or after 2^40 reads.
-    ensures cause { IsErrOf result.answered RunError.Read → (input.new.failed ≡ true) ⊎ (input.new.reads ≡ 2 ^ 40) }
-    // Where a write fails, a beginning of what is due for the lines so far was written.
-    ensures write { IsErrOf result.answered RunError.Write → (bytes : List ℕ)
-        × Gives R.remaining input.old input.new bytes
-        × SomeAnswered options.limit options.strict bytes (W.contents writer.old) (W.contents writer.new) }
+    ensures run { IsRunOf R.remaining options.limit options.strict input.old input.new
+        (W.contents writer.old) (W.contents writer.new)
+        (option_and_then P.contents proofs.old) (option_and_then P.contents proofs.new) result }
     // Where there is no memory to begin with, no device was touched.
     ensures memory { IsErrOf result.answered RunError.Memory → (input.new ≡ input.old) × (writer.new ≡ writer.old)
         × (proofs.new ≡ proofs.old) }
-    // However it ends, the certificates of the plans that the board has adopted by then were written.
-    ensures proofs { (last : SessionData) × IsKeptAt last.board
-        × IsProved result.proved
-        (option_and_then P.contents proofs.old) (option_and_then P.contents proofs.new) last.board
-        × IfOk result.answered (LeadsTo R.remaining options.limit options.strict input.old input.new
-        (W.contents writer.old) (W.contents writer.new) last) }
 {
     let Ok(book) = heat_ledger::NewBook::new(alloc) else {
         return Ended::without_memory();

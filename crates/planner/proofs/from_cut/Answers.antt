@@ -3,8 +3,8 @@ use Rattle.mds_types.proofs.CertificateLemmas.{best}
 use Rattle.planner.proofs.SolveLemmas.{found_certified, no_worse}
 use Rattle.planner.proofs.from_cut.Goals as goal
 
-pub placed-requires : goal.placed-requires
-placed-requires g c = found_certified c.args.problem.now.rows (rank_count c.args.problem.now.ranks) c.args.found c.requires
+pub placed-requires-clause-cut : goal.placed-requires-clause-cut
+placed-requires-clause-cut g c κs within = found_certified c.args.problem.now.rows (rank_count c.args.problem.now.ranks) c.args.found c.requires
 
 pub returns-clause-best : goal.returns-clause-best
 returns-clause-best g c = best c.args.problem.now _ c.sound.ensures c.in_ok-better.ensures.certified

@@ -7,32 +7,33 @@ use Rattle.rank_threads.proofs.totals.serve_with_totals.Goals as goal
 pub audited-board-requires : goal.audited-board-requires
 audited-board-requires g c =
     let same = c.audit.ensures.same in
-    let returned = rw c.in-Ok.is at c.serve_phase-board.ensures.returned in
+    let returned = (rw c.in-Ok.is at c.serve_phase-board.ensures.served).returned in
     record { whole = whole_after g.J.Naming.limit c.audit.new.self c.serve_phase-board.result.0 c.audit.new.shares.items _ _ c.in-Ok.ranks.shares.items c.serve_phase-board.ensures.board returned (ap weight_of same.1 ∙ (c.requires.whole ∙ sym (ap (λ (w : World). w.shares) same.0))) }
 
-pub returns-in-Ok-clause-clean : goal.returns-in-Ok-clause-clean
-returns-in-Ok-clause-clean g c =
-    let clean = rw c.in-Ok.is at c.serve_phase-board.ensures.clean in
-    rw (c.audited-board.ensures.deposited, c.audited-board.ensures.shares) clean
+pub returns-in-Ok-clause-served : goal.returns-in-Ok-clause-served
+returns-in-Ok-clause-served g c =
+    let same = c.audit.ensures.same in
+    let served = rw c.in-Ok.is at c.serve_phase-board.ensures.served in
+    rw (c.audited-board.ensures.answers, c.audited-board.ensures.shares, c.audited-board.ensures.deposited, c.audited-board.ensures.board, ← same.0, ← same.1) served
 
 pub returns-in-Ok-clause-whole : goal.returns-in-Ok-clause-whole
 returns-in-Ok-clause-whole g c =
     let same = c.audit.ensures.same in
-    let returned = rw c.in-Ok.is at c.serve_phase-board.ensures.returned in
+    let returned = (rw c.in-Ok.is at c.serve_phase-board.ensures.served).returned in
     rw (c.audited-board.ensures.board, c.audited-board.ensures.shares)
     (whole_after g.J.Naming.limit c.audit.new.self c.serve_phase-board.result.0 c.audit.new.shares.items _ _ c.in-Ok.ranks.shares.items c.serve_phase-board.ensures.board returned (ap weight_of same.1 ∙ (c.requires.whole ∙ sym (ap (λ (w : World). w.shares) same.0))))
 
 pub returns-in-Ok-clause-begun : goal.returns-in-Ok-clause-begun
 returns-in-Ok-clause-begun g c =
     let same = c.audit.ensures.same in
-    let returned = rw c.in-Ok.is at c.serve_phase-board.ensures.returned in
+    let returned = (rw c.in-Ok.is at c.serve_phase-board.ensures.served).returned in
     rw (c.audited-board.ensures.answers, ← same.0)
     (begun_after g.J.Naming.limit c.audit.new.self c.audited-board.result.0 c.audit.new.shares.items _ _ c.in-Ok.ranks.shares.items returned c.audit.ensures.begun c.audited-board.ensures.begun)
 
 pub returns-in-Ok-clause-hits : goal.returns-in-Ok-clause-hits
 returns-in-Ok-clause-hits g c =
     let same = c.audit.ensures.same in
-    let returned = rw c.in-Ok.is at c.serve_phase-board.ensures.returned in
+    let returned = (rw c.in-Ok.is at c.serve_phase-board.ensures.served).returned in
     rw (c.audited-board.ensures.answers, c.audited-board.ensures.shares, ← same.0, ← same.1)
     (hits_after g.J.Naming.limit c.audit.new.self c.audited-board.result.0 c.audit.new.shares.items _ _ c.in-Ok.ranks.shares.items returned c.audit.ensures.hits c.audited-board.ensures.hits)
 

@@ -3,7 +3,7 @@ use Rattle.heat_ledger.specs.Ledger.{ShareData, weight_of}
 use Rattle.mds_board.specs.History.{World}
 use Rattle.rank_threads.specs.declared.work.Work.{Work}
 use Rattle.rank_threads.specs.declared.work.WorkAnswer.{WorkAnswer}
-use Rattle.rank_threads.specs.Serving.{AreReturned}
+use Rattle.rank_threads.specs.Asking.{AreServed}
 use Rattle.script_board.specs.declared.dealing.Seat.{Seat}
 use Rattle.script_board.specs.Board.{BoardData}
 use Rattle.script_board.specs.Serve.{IsDealt, IsGone, waiting}
@@ -22,7 +22,7 @@ invariant_of-after-2 g c =
     let inv = c.before-2.invariant in
     let some = inv.some_shares in
     let few = inv.few_shares in
-    let size = returned_length g.J.Naming.limit _ _ _ _ (rw c.in-Ok-done.is at c.serve_with_totals-board.ensures.returned) in
+    let size = returned_length g.J.Naming.limit _ _ _ _ (rw c.in-Ok-done.is at c.serve_with_totals-board.ensures.served).returned in
     rw c.told-shares.ensures.shares record {
       some_shares = omega (arith, size, some);
       few_shares = omega (arith, size, few);
@@ -47,13 +47,10 @@ returns-clause-done g c =
         deposited = c.in-Ok-done.ranks.deposited;
         dealt = subst (λ (l : List (Vec Work Global)). IsDealt old.world (length old.shares) (waiting old) (map (λ (s : Vec Work Global). s.items) l) seats) (sym c.deref.ensures.value)
             (subst (λ (b : BoardData). IsDealt b.world (length b.shares) (waiting b) (map (λ (s : Vec Work Global). s.items) c.in-Ok.prepared.0.scripts.items) seats) (sym as_before) c.in-Ok.ensures.dealt);
-        answered = rw c.in-Ok-done.is at c.serve_with_totals-board.ensures.answered;
-        apart = rw c.in-Ok-done.is at c.serve_with_totals-board.ensures.apart;
+        served = subst (λ (n : ℕ). AreServed n old.world c.serve_with_totals-board.result.0.history old.shares (map (λ (s : Vec Work Global). s.items) c.deref.result.now) answers c.in-Ok-done.ranks.shares.items c.in-Ok-done.ranks.deposited) limit
+            (rw c.in-Ok-done.is at c.serve_with_totals-board.ensures.served);
         end_told = rw c.in-Ok-done.is at c.serve_with_totals-board.ensures.ended;
-        deposit_told = rw c.in-Ok-done.is at c.serve_with_totals-board.ensures.told;
         went = c.serve_with_totals-board.ensures.board;
-        returned = subst (λ (n : ℕ). AreReturned n old.shares (map (λ (s : Vec Work Global). s.items) c.deref.result.now) answers c.in-Ok-done.ranks.shares.items) limit (rw c.in-Ok-done.is at c.serve_with_totals-board.ensures.returned);
-        clean = rw c.in-Ok-done.is at c.serve_with_totals-board.ensures.clean;
         begun = λ d inside. (let all = rw c.in-Ok-done.is at c.serve_with_totals-board.ensures.begun in all d (subst (λ (n : ℕ). d < n) (sym limit) inside));
         counted = λ d inside. (let all = rw c.in-Ok-done.is at c.serve_with_totals-board.ensures.hits in all d (subst (λ (n : ℕ). d < n) (sym limit) inside));
         told = c.told-shares.ensures.told;

@@ -7,10 +7,9 @@ use Rattle.script_engine.specs.Known.{AppendsFront}
 use Rattle.script_engine.proofs.KnownLemmas.{front_after, front_wider}
 use Rattle.script_board.specs.declared.fault.Fault.{Fault}
 use Rattle.script_board.specs.declared.fault.Fault.TheVariants.{Memory}
-use Rattle.script_replies.specs.Printed.{joined}
+use Rattle.script_session.specs.Printed.{Printed, joined}
 use Rattle.script_session.specs.Done.{shown_at}
 use Rattle.script_session.specs.Fault.{words}
-use Rattle.script_session.specs.Printed.{Printed}
 use Rattle.script_session.specs.Session.{SessionData, cut_answer, done_answer, published, refusal_lines}
 use Rattle.script_session.proofs.SessionLemmas.{shown_refused, told_accepted, told_cut, told_refused, told_unpublished}
 use Rattle.script_session.proofs.session.Session.settle.Goals as goal

@@ -1,8 +1,0 @@
-use Rattle.board_problem.proofs.CostOfPlan.{cost_greatest, cost_is_plan}
-use Rattle.board_problem.proofs.laws.tops_give_the_parts.Goals as goal
-
-pub returns : goal.returns
-returns c = record {
-  parts = λ entries own heats now plan tree forest divided. cost_is_plan entries own heats now plan tree forest divided;
-  greatest = λ entries own heats now plan tree forest divided. cost_greatest entries own heats now plan tree forest divided;
-}

@@ -1,3 +1,0 @@
-pub mod LineLemmas
-pub mod MoveLemmas
-pub mod PlanLemmas

@@ -1,6 +1,0 @@
-use Rattle.std.proofs.Common.{◌∙◌, append_assoc}
-use Rattle.std.proofs.lemmas.Result.{on_ok_weaker}
-use Rattle.script_replies.proofs.cost.cost_line.Goals as goal
-
-pub returns : goal.returns
-returns c = on_ok_weaker c.write.result (λ e. e ∙ simp (append_assoc, c.clear.ensures.bytes, c.greatest_heat-greatest.ensures)) c.write.ensures.bytes

@@ -1,4 +1,0 @@
-use Rattle.script_replies.proofs.plan.plan_line.Goals as goal
-
-pub returns : goal.returns
-returns c = rw (← c.plan.view_is) (rw c.proof_word.ensures at c.first_line.ensures)

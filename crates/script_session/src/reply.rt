@@ -1,0 +1,39 @@
+//! What a command prints.
+ghost use Rattle.std.specs.Prelude.{◌≡◌, length};
+ghost use Rattle.script_board.specs.Board.{BoardData};
+ghost use Rattle.script_session.specs.Reply.{IsPrintable, reply_lines};
+
+use board_problem::PlanPart;
+use division_cost::Part;
+use export_threads::OrderOutcome;
+use mds_types::{Dir, Order};
+
+/// What a command prints, from which its lines are made one by one as they are written.
+#[derive(Drop)]
+pub enum CommandReply {
+    /// No line.
+    Nothing,
+    /// The parts of a division.
+    Cost(Vec<Part>),
+    /// The plan in force, by its parts.
+    Plan(Vec<PlanPart>),
+    /// Orders, each with what became of it.
+    Move(Vec<Order>, Vec<OrderOutcome>),
+    /// A report on these directories.
+    Stat(Vec<Dir>),
+}
+
+impl CommandReply {
+    /// How many lines a board prints for it.
+    pub fn line_count(&self) -> usize
+        ensures { (board : BoardData) → IsPrintable board self.now → result ≡ length (reply_lines board self.now) }
+    {
+        match self {
+            CommandReply::Nothing => 0,
+            CommandReply::Cost(parts) => parts.len() + 1,
+            CommandReply::Plan(parts) => parts.len() + 1,
+            CommandReply::Move(orders, _) => orders.len() + 1,
+            CommandReply::Stat(dirs) => dirs.len() + 1,
+        }
+    }
+}
