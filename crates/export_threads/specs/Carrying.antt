@@ -1,5 +1,5 @@
 -- How orders are carried out by the threads of a phase.
-use Rattle.std.specs.Prelude.{◌≡◌, ◌+◌, Bool, List, length, count_by}
+use Rattle.std.specs.Prelude.{◌≡◌, ◌+◌, Bool, false, List, length, count_by}
 use Rattle.export_rounds.specs.Adding.{GoesOnBy}
 use Rattle.export_rounds.specs.Asked.{AreAsked, is_begun}
 use Rattle.export_rounds.specs.Further.{IsFurther}

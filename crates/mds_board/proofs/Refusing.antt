@@ -32,7 +32,7 @@ believed s (change.Step e) allowed belied = belied
 believed s change.Open allowed belied = belied
 
 due : (s : State) (c : Change) (error : BoardError) → refusal s c ≡ None → IsAllowed s c → IsDue s c error → error ≡ Memory
-due s c error none allowed (inl some) = absurd (sym none ∙ some)
+due s c error none allowed (inl some) = let never : None ≡ Some error = sym none ∙ some in absurd (cc)
 due s c error none allowed (inr (is, inl memory)) = memory
 due s c error none allowed (inr (is, inr belied)) = absurd (believed s c allowed belied.1)
 
