@@ -1,5 +1,6 @@
 //! Who solves a board's problems.
 ghost use Rattle.std.specs.Prelude.{IfOk};
+ghost use Rattle.std.specs.Thread.{IsSync};
 ghost use Rattle.mds_types.specs.Certificate.{IsBest, IsCertified};
 ghost use Rattle.plan_checker.specs.Present.{KeepsBest};
 
@@ -17,6 +18,7 @@ pub trait Solver {
         alloc: Global,
         problem: &Problem,
     ) -> Result<Plan, AllocError>
+        requires { IsSync R.row }
         ensures best { IfOk result (IsBest problem.now) }
         ensures certified { IfOk result (IsCertified problem.now) }
         ensures keeps { IfOk result (KeepsBest problem.now) };
