@@ -232,20 +232,36 @@ fn events(rt: &impl Abort, alloc: Global) -> Vec<Event> {
     events
 }
 
-/// The answers to them are those of their rows.
-fn answered(rt: &impl Abort, alloc: Global, answers: &[Result<Reply, StepError>]) {
-    for ((_, told), answer) in TO_THE_LOG.iter().zip(answers.iter()) {
+/// The list is run, from its first event after `done` on, as far as there is memory: so many events are done then. Where
+/// there is none for the answers, nothing is.
+fn run_on(
+    rt: &impl Abort,
+    alloc: Global,
+    cluster: &mut Cluster,
+    events: &[Event],
+    done: usize,
+) -> usize {
+    let Ok(answers) = cluster.run(alloc, events.get(done..).unwrap_or(&[])) else {
+        return done;
+    };
+    let mut at = done;
+    for ((_, told), answer) in TO_THE_LOG.iter().skip(done).zip(answers.iter()) {
+        if matches!(answer, Err(StepError::Memory)) {
+            return at;
+        }
         same_as_told(rt, alloc, answer, *told, &"in a list");
+        at = at.saturating_add(1);
     }
-    same(rt, &answers.len(), &9);
+    at
 }
 
 #[test]
 fn runs_a_list_of_events(rt: HostRuntime) {
     let mut cluster = cluster_of(rt.alloc(), 16).sure(&rt);
     let events = events(&rt, rt.alloc());
-    let answers = cluster.run(rt.alloc(), &events).sure(&rt);
-    answered(&rt, rt.alloc(), &answers);
+    let done = run_on(&rt, rt.alloc(), &mut cluster, &events, 0);
+    let done = run_on(&rt, rt.alloc(), &mut cluster, &events, done);
+    same(&rt, &done, &9);
 }
 
 /// A step logs the export where it is the ninth, and no step logs it again.
