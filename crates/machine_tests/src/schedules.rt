@@ -232,8 +232,8 @@ fn events(rt: &impl Abort, alloc: Global) -> Vec<Event> {
     events
 }
 
-/// The list is run, from its first event after `done` on, as far as there is memory: so many events are done then. Where
-/// there is none for the answers, nothing is.
+/// Runs the list after the events that are done, as far as there is memory. Returns how many events are done then. Where
+/// no memory is left for the answers, no more are.
 fn run_on(
     rt: &impl Abort,
     alloc: Global,

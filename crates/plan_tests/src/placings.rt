@@ -30,7 +30,7 @@ fn fits(problem: &Problem, part: &[u32], count: u32) -> bool
 }
 
 /// The costs of a division, in one pass.
-fn table<R: Abort + Threads>(
+fn table<R: Abort + Threads + Sync>(
     rt: &R,
     alloc: Global,
     problem: &Problem,
