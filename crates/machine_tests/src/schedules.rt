@@ -232,7 +232,7 @@ fn events(rt: &impl Abort, alloc: Global) -> Vec<Event> {
     events
 }
 
-/// Runs the list after the events that are done, as far as there is memory. Returns how many events are done then. Where
+/// Runs the list after the events that are done, as far as there is memory. Returns how many events are done. Where
 /// no memory is left for the answers, no more are.
 fn run_on(
     rt: &impl Abort,
