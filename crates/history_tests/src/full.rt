@@ -3,7 +3,7 @@ ghost use Rattle.std.specs.Prelude.{◌≤◌};
 
 use crate::adopting::plan;
 use crate::cases::{Case, try_case};
-use crate::lists::Idle;
+use crate::lists::Planner;
 use crate::said::said;
 use crate::same::{Sure, same};
 use authority_map::{MapReader, Publisher};
@@ -30,7 +30,7 @@ fn fill<J: Naming, M: Publisher<J>, R: Abort + Threads + Sync>(
     for _ in 0..1_048_574 {
         same(rt, &board.tick(), &Ok(()));
     }
-    same(rt, &board.balance(rt, alloc, &Idle).err(), &Some(FULL));
+    same(rt, &board.balance(rt, alloc, &Planner).err(), &Some(FULL));
     same(rt, &board.tick(), &Ok(()));
 }
 
@@ -74,7 +74,7 @@ fn refuse_plans<J: Naming, M: Publisher<J>, R: Abort + Threads + Sync>(
         &board.adopt(alloc, plan(alloc, 5).sure(rt)).err(),
         &Some(FULL),
     );
-    same(rt, &board.balance(rt, alloc, &Idle).err(), &Some(FULL));
+    same(rt, &board.balance(rt, alloc, &Planner).err(), &Some(FULL));
 }
 
 // Readers find the root of a new board. Once it is full, every change is refused for the same cause, before its own,

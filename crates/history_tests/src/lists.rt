@@ -8,29 +8,30 @@ use crate::cases::{Case, answers_in, try_case};
 use crate::said::{Reading, said};
 use crate::same::{Sure, holds_in, same};
 use authority_map::{MapReader, Publisher};
-use board_state::{Answer, BoardError, Solver};
+use board_state::{Answer, BoardError, Orders, Solver};
 use dirtree::Name;
 use export_machine::Event;
 use heat_ledger::{Missing, Share};
 use mds_board::{Board, BoardCommand};
 use mds_types::{Dir, Plan, Problem, Rank, RankSet};
 use naming::Naming;
+use planner::solve;
 use std::alloc::{AllocError, Global};
 use std::marker::Sync;
 use std::process::Abort;
 use std::thread::Threads;
 
-/// Who never has memory for a plan.
-pub(crate) struct Idle;
+/// The planner.
+pub(crate) struct Planner;
 
-impl Solver for Idle {
+impl Solver for Planner {
     fn solve<R: Threads + Sync>(
         &self,
-        _rt: &R,
-        _alloc: Global,
-        _problem: &Problem,
+        rt: &R,
+        alloc: Global,
+        problem: &Problem,
     ) -> Result<Plan, AllocError> {
-        Err(AllocError)
+        solve(rt, alloc, problem)
     }
 }
 
@@ -71,7 +72,7 @@ fn settings(alloc: Global) -> Result<Vec<BoardCommand>, AllocError>
     with(list, BoardCommand::Tick)
 }
 
-/// These, and then events of the cluster, a plan without memory, and two removals.
+/// These, and then events of the cluster, a plan, and two removals.
 fn commands(alloc: Global) -> Result<Vec<BoardCommand>, AllocError>
     ensures { IfOk result (λ commands. All (λ c. is_fit c ≡ true) commands.items) }
 {
@@ -107,8 +108,11 @@ fn asked<J: Naming, M: Publisher<J>, R: Threads + Sync>(
         BoardCommand::Mask(mask) => done(board.set_mask(*mask)),
         BoardCommand::Tick => done(board.tick()),
         BoardCommand::Step(event) => step(alloc, board, event),
-        BoardCommand::Balance => match board.balance(rt, alloc, &Idle) {
-            Ok(_orders) => Ok(Answer::Done),
+        BoardCommand::Balance => match board.balance(rt, alloc, &Planner) {
+            Ok(orders) => match Orders::new(alloc, orders) {
+                Ok(orders) => Ok(Answer::Orders(orders)),
+                Err(AllocError) => Err(BoardError::Memory),
+            },
             Err(error) => Err(error),
         },
     }
@@ -128,6 +132,7 @@ fn is_same(one: &Given, other: &Given) -> bool {
         (Err(one), Err(other)) => one == other,
         (Ok(Answer::Dir(one)), Ok(Answer::Dir(other))) => one == other,
         (Ok(Answer::Reply(one)), Ok(Answer::Reply(other))) => one == other,
+        (Ok(Answer::Orders(one)), Ok(Answer::Orders(other))) => one.as_slice() == other.as_slice(),
         (Ok(Answer::Done), Ok(Answer::Done)) => true,
         _ => false,
     }
@@ -150,7 +155,7 @@ fn run<J: Naming, M: Publisher<J>, R: Abort + Threads + Sync>(
         &BoardCommand::Step(Event::Made(Dir::ROOT)).is_fit(),
         &false,
     );
-    let answers = board.run(rt, alloc, &Idle, &list).sure(rt);
+    let answers = board.run(rt, alloc, &Planner, &list).sure(rt);
     (answers, said(board, share, reader))
 }
 
@@ -208,9 +213,9 @@ fn a_list_of_commands_answers_as_single_calls(rt: HostRuntime) {
         holds_in(&rt, is_same(one, other), &at);
     }
     let refused = listed.iter().filter(|answer| answer.is_err()).count();
-    same(&rt, &refused, &6);
+    same(&rt, &refused, &5);
     assert!(rt; after_list == after_calls);
-    same(&rt, &after_list.history, &8);
+    same(&rt, &after_list.history, &10);
 }
 
 fn with_share<J: Naming>(
