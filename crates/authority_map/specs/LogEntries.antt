@@ -1,4 +1,4 @@
--- What an operation in memory stands for.
+-- What an operation in memory means.
 use Rattle.std.specs.Prelude.{List, ◌∷◌, [], map, Option, Some, None}
 use Rattle.authority_map.specs.declared.operation.OperationKind.{OperationKind}
 use Rattle.authority_map.specs.declared.operation.OperationKind.TheVariants.{Set, SetOne, Clear}

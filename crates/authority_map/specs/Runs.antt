@@ -7,7 +7,7 @@ pub record IsIn (starts : List ℕ) (run dir : ℕ) : Type 0 where
   pub from : slice_index starts run ≤ dir
   pub until : run + 1 < length starts → dir < slice_index starts (run + 1)
 
--- the directory is in one of so many runs from this one on
+-- the directory is in one of `count` runs from this one on
 pub record IsAmong (starts : List ℕ) (run count dir : ℕ) : Type 0 where
   pub some : 1 ≤ count
   pub within : run + count ≤ length starts
@@ -54,12 +54,12 @@ pub record IsOneMore (first : ℕ) (old new : List ℕ) : Type 0 where
 abbrev pub AreBefore : ℕ → List ℕ → Type 0
 AreBefore dir starts = (run : ℕ) → run < length starts → slice_index starts run < dir
 
--- The first directories, so many of them, have the cells of their runs, and no two neighbouring runs are alike.
+-- The first `count` directories have the cells of their runs, and no two neighbouring runs are alike.
 pub record HasFirst (count : ℕ) (starts cells : List ℕ) (cell : ℕ → ℕ) : Type 0 where
   pub each : (run dir : ℕ) → dir < count → IsIn starts run dir → slice_index cells run ≡ cell dir
   pub apart : (run : ℕ) → run + 1 < length starts → slice_index cells run ≢ slice_index cells (run + 1)
 
--- the first of these directories, so many of them, come before this one, and no other does
+-- the first `count` of these directories come before this one, and no other does
 pub record ComeBefore (dirs : List ℕ) (count dir : ℕ) : Type 0 where
   pub within : count ≤ length dirs
   pub before : (k : ℕ) → k < count → slice_index dirs k < dir

@@ -10,6 +10,6 @@ pub enum Found {
     /// The directory has no rank.
     NoDir,
     /// The writer has ended, or the copy that is shown lacks some of what the reader has learned.
-    /// The second doesn't happen beside a writer that lives.
+    /// The second doesn't happen while the writer lives.
     Closed,
 }

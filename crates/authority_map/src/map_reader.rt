@@ -52,7 +52,7 @@ impl<J: Naming> Published<J> {
         Published { prefix }
     }
 
-    /// Of what two tokens tell, one is a beginning of the other.
+    /// Of what two tokens hold, one is a beginning of the other.
     pub fn beside(&self, other: &Published<J>)
         ensures { IsPrefix self.now other.now ⊎ IsPrefix other.now self.now }
     {
@@ -108,8 +108,8 @@ impl<J: Naming> MapReader<J> {
         self.prefix.is_same(&published.prefix)
     }
 
-    /// The rank of a directory in all that is published, for a reader beside the writer. It is what the reader finds.
-    /// Where the reader is closed or holds more, which a writer that lives rules out, the writer's own copy answers.
+    /// The rank of a directory in all that is published, for a caller that has the writer. It is what the reader finds.
+    /// Where the reader is closed or holds more, which can't happen while the writer lives, the writer's copy answers.
     pub fn find_latest<P: Publisher<J>>(&mut self, publisher: &P, dir: Dir) -> Option<Rank>
         ensures rank { result ≡ rank_after (P.published publisher.now) dir }
         ensures prefix { IsPrefix self.old self.new }

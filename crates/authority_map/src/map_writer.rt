@@ -58,7 +58,7 @@ fn open_copies<J: Naming, R: Wait + Drop>(
 
 impl<J: Naming, R: Wait + Drop> WriterOf<J, Table<J>, Logged<J>, R> {
     /// A map of the directories below the limit, none of which has a rank yet, with this many
-    /// readers. Where it is refused, what was opened is handed back.
+    /// readers. Where it is refused, it returns what was opened.
     pub fn open(
         rt: R,
         alloc: Global,

@@ -1,4 +1,4 @@
-//! One operation, as it stands in memory.
+//! One operation, as it is kept in memory.
 ghost use Rattle.std.specs.Prelude.{◌≡◌, ◌≤◌, ℕ, List, ◌++◌, ◌∷◌, [], if◌then◌else◌};
 ghost use Rattle.authority_map.specs.Operations.{Operation, names, rank_after};
 ghost use Rattle.authority_map.specs.Cells.{cell_of};

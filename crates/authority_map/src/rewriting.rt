@@ -1,6 +1,6 @@
 //! Writing a long list of directories at once.
 //!
-//! A directory that is written alone may move all runs after its own. For a long list that rises the runs are made
+//! To write one directory may move all runs after its own. For a long list that rises the runs are made
 //! anew: those between two listed directories are copied, and each listed one joins the run before or begins one.
 ghost use Rattle.std.specs.Prelude.{◌≡◌, ℕ, ◌+◌, ◌-◌, ◌/◌, ◌<◌, ◌≤◌, All, IsTrue, length};
 ghost use Rattle.std.specs.Prelude.{if◌then◌else◌, slice_index, vec_capacity};
@@ -76,8 +76,8 @@ fn keep(made: &mut Runs, runs: &Runs, index: &[u32], limit: u32, first: u32, end
     };
 }
 
-// The runs begin with directory 0, which has the first of these cells if it is listed, and else the second. It tells
-// how many listed directories are in them.
+// The runs begin with directory 0, which has the first of these cells if it is listed, otherwise the second. It
+// returns how many listed directories are in them.
 fn begin(made: &mut Runs, limit: u32, dirs: &[Dir], listed: u8, unlisted: u8) -> usize
     requires limit { 1 ≤ limit }
     requires room { (limit ≤ vec_capacity made.old.starts) × (limit ≤ vec_capacity made.old.cells) }
@@ -144,7 +144,7 @@ fn index_again(starts: &[u32], index: &mut Vec<u32>, limit: u32)
     }
 }
 
-/// Writes the cell of each of these directories: in the spare room, which becomes the runs, or else one by one.
+/// Writes the cell of each of these directories: in the spare room, which becomes the runs, or one by one.
 pub(crate) fn write_all(
     runs: &mut Runs,
     spare: &mut Runs,
@@ -168,7 +168,7 @@ pub(crate) fn write_all(
         (λ d. if names dirs.now d then cell else old d) 0 0 }
 {
     let count = runs.starts.len();
-    // a directory that is written alone moves about half of the runs, many at a time
+    // to write one directory moves about half of the runs, many at a time
     let moved = dirs.len().saturating_mul(count) / MOVED_IN_A_STEP;
     if moved >= dirs.len().saturating_add(count) && is_rising(dirs) {
         make_anew(spare, runs, index, limit, dirs, cell);

@@ -34,7 +34,7 @@ impl Runs {
 /// How many directories a block has.
 pub(crate) const BLOCK: usize = 256;
 
-// 1 where this start isn't past the directory, and else 0. It takes no branch, which would be guessed
+// 1 where this start isn't past the directory, otherwise 0. It takes no branch, which would be guessed
 // wrong every other time.
 #[inline(always)]
 fn is_reached(start: u32, dir: u32) -> usize
@@ -44,7 +44,7 @@ fn is_reached(start: u32, dir: u32) -> usize
     ((0x1_0000_0000 + dir as u64 - start as u64) / 0x1_0000_0000) as usize
 }
 
-// The run that a directory is in, by halving so many runs from one on.
+// The run that a directory is in, by halving `runs` runs from `first` on.
 #[inline(always)]
 fn halve(starts: &[u32], first: usize, runs: usize, dir: u32) -> usize
     requires order { AreStarts starts.now }
@@ -239,7 +239,7 @@ fn shift_back(starts: &mut Vec<u32>, index: &mut Vec<u32>, limit: u32, run: usiz
     }
 }
 
-// Writes a directory's cell by way of a run that has it alone.
+// Writes a directory's cell by way of a run that has only this directory.
 fn write_alone(runs: &mut Runs, index: &mut Vec<u32>, limit: u32, dir: u32, cell: u8)
     requires runs { AreRuns limit runs.old.starts.items runs.old.cells.items }
     requires index { IsIndex limit runs.old.starts.items index.old.items }

@@ -18,7 +18,7 @@ use std::alloc::{AllocError, Global};
 pub struct Table<J: Naming> {
     limit: u32,
     runs: Runs,
-    // Room in which runs are made anew. What stands there doesn't matter.
+    // Room in which runs are made anew. What it holds doesn't matter.
     spare: Runs,
     // The run of each block's first directory.
     index: Vec<u32>,

@@ -1,6 +1,6 @@
 //! Times phases of the ranks' threads and the same work on one thread.
 //!
-//! `serve RANKS HITS` serves 10,000 requests of so many hits, which the ranks share evenly, rank k on its directory k;
+//! `serve RANKS HITS` serves 10,000 requests of HITS hits, which the ranks share evenly, rank k on its directory k;
 //! with no hits there is no request. `export RANKS` moves directories from each rank to the next, 65,536 in all. Each
 //! prints a line for a thread a rank and a line for one thread: nanoseconds of wall time, the least of several runs.
 

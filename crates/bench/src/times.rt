@@ -19,7 +19,7 @@ pub fn nanos(time: Duration) -> u64 {
     u64::try_from(time.as_nanos()).unwrap_or(u64::MAX)
 }
 
-/// Picoseconds for each of so many steps, since an earlier reading of the clock.
+/// Picoseconds for each of `steps` steps, since an earlier reading of the clock.
 pub fn per_step<C: CpuClock>(rt: &C, start: Duration, steps: usize) -> u64 {
     nanos(now(rt).saturating_sub(start)).saturating_mul(1000) / (steps as u64).max(1)
 }

@@ -66,7 +66,7 @@ abbrev pub first_operations : Bool → List Operation
 first_operations false = []
 first_operations true = SetTo (0 ∷ []) 0 ∷ []
 
--- The root alone, at rank 0.
+-- Only the root, at rank 0.
 abbrev pub start : ℕ → ℕ → State
 start limit active = record {
   directories = record { limit = limit; entries = Some tree.root ∷ [] };

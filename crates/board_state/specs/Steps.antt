@@ -49,7 +49,7 @@ abbrev pub IsBelied : State → Change → Type 0
 IsBelied s (Adopt plan) = IsNotCertified s.opened plan
 IsBelied s _ = ⊥
 
--- A change is refused so: for the first cause; or no cause stands, and there was
+-- A change is refused so: for the first cause; or no cause applies, and there was
 -- no memory or the plan's proofs don't hold.
 abbrev pub IsDue : State → Change → BoardError → Type 0
 IsDue s c e = (refusal s c ≡ Some e) ⊎ ((refusal s c ≡ None) × ((e ≡ Memory) ⊎ ((e ≡ NotBest) × IsBelied s c)))
@@ -78,7 +78,7 @@ IsBalance old problem plan orders new =
     × (new ≡ stepped (stepped old Open) (Adopt plan)) × IsCertified (problem_of old.state) plan
     × KeepsBest (problem_of old.state) plan
 
--- what is answered where there was no memory: the cause that stands, if one does
+-- the error where there was no memory: the cause that applies, if one does
 abbrev pub refused_for : Option BoardError → BoardError
 refused_for None = Memory
 refused_for (Some e) = e
@@ -95,7 +95,7 @@ abbrev pub set_by : Option Order → List Operation
 set_by None = []
 set_by (Some order) = SetTo order.dirs order.to ∷ []
 
--- what the fields of a state stand for
+-- what contracts see of a board's fields
 abbrev pub present_of : Directories → PinTable → Heats → ℕ → BookData → World → List Operation → List Operation
     → Option Opened → Option Force → ℕ → Present
 present_of directories pins heats mask book cluster published pending opened in_force events = record {

@@ -195,7 +195,7 @@ impl KeptProblem {
 /// A change of a board.
 #[derive(Drop)]
 pub enum Change {
-    /// A directory is made below this parent, with this name and so many inodes.
+    /// A directory is made below this parent, with this name and this number of inodes.
     Make(Dir, Name, u32),
     /// A directory is removed.
     Remove(Dir),

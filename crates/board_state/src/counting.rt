@@ -32,7 +32,7 @@ impl<J: Naming, M: Publisher<J>> BoardState<J, M> {
     }
 
     /// Counts the hits that a share has pending, which give heat to the directories that are there. It answers them. It
-    /// takes time for these directories alone.
+    /// takes time only for these directories.
     #[tactic(auto, unfolding(crate::specs::State::happens))]
     pub fn deposit(&mut self, alloc: Global, share: &mut Share<J>) -> Result<Hits, BoardError>
         ensures step { IsStep self.old (Change.Deposit (counted_rows share.old.pending))

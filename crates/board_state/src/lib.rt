@@ -1,5 +1,5 @@
 //! What a board holds, and its changes: tree, pins, heats, mask, ledger, exports, map, the problem that is open and
-//! the plan in force. Each change is refused for the first cause that stands, or happens whole.
+//! the plan in force. Each change is refused for the first cause that applies, or happens whole.
 #![tactic(auto)]
 
 pub mod balancing;

@@ -77,9 +77,9 @@ impl<J: Naming, M: Publisher<J>> BoardParts<J, M> {
 }
 
 impl<J: Naming, M: Publisher<J>> BoardState<J, M> {
-    /// The root alone, at rank 0 of so many active ranks, with room for the directory numbers below `limit`, and a
+    /// Only the root, at rank 0 of `active` active ranks, with room for the directory numbers below `limit`, and a
     /// share of the ledger for each rank. The map has one operation, which gives the root to rank 0, and it is
-    /// published. Where memory is refused, the parts are handed back, and the map may have this operation then.
+    /// published. Where memory is refused, it returns the parts, and the map may have this operation then.
     pub fn new(
         alloc: Global,
         parts: BoardParts<J, M>,
@@ -159,7 +159,7 @@ fn publish_root<J: Naming, M: Publisher<J>>(map: &mut M, has_root: bool) -> Resu
     }
 }
 
-// The tables of a board that has the root alone.
+// The tables of a board that has only the root.
 #[derive(Drop)]
 struct Tables {
     tree: Tree,

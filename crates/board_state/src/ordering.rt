@@ -58,7 +58,7 @@ fn rank_of_row(plan: &Plan, row: usize) -> Option<Rank>
     plan.rank.get(part as usize).copied()
 }
 
-// The rank that a plan gives each directory: a row that stands before another has the last word.
+// The rank that a plan gives each directory. Of two rows of one directory the earlier one decides.
 fn targets(
     alloc: Global,
     numbers: u32,

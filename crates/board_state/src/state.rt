@@ -68,7 +68,7 @@ fn note(opened: &mut OpenProblem, event: u32)
     }
 }
 
-/// What is answered where there was no memory: the cause that stands, if one does.
+/// The error where there was no memory: the cause that applies, if one does.
 pub fn or_memory(cause: Option<BoardError>) -> BoardError
     ensures { result ≡ refused_for cause }
 {

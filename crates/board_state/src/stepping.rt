@@ -63,7 +63,7 @@ impl<J: Naming, M: Publisher<J>> BoardState<J, M> {
     }
 }
 
-// Refuses an event, or takes all memory that it needs, and tells the order whose importer the map is to name then.
+// Refuses an event, or takes all memory that it needs. It returns the order whose importer the map is to name then.
 fn prepare<J: Naming, M: Publisher<J>>(
     alloc: Global,
     cluster: &mut Cluster,

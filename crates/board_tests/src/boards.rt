@@ -23,11 +23,11 @@ pub(crate) struct Board {
     pub(crate) heat: Heat,
 }
 
-/// What is done to a board. Directories are told by their numbers.
+/// What is done to a board. Directories are given by their numbers.
 pub(crate) enum Step {
     /// Makes a directory below another, with a name and inodes.
     Make(u32, &'static str, u32),
-    /// Adds so many accesses to a directory.
+    /// Adds this many accesses to a directory.
     Heat(u32, u64),
     /// Pins a directory on a rank.
     Pin(u32, i32),
@@ -35,7 +35,7 @@ pub(crate) enum Step {
     Remove(u32),
 }
 
-/// A board with the root alone, and pins on four ranks.
+/// A board with only the root, and pins on four ranks.
 pub(crate) fn empty(alloc: Global) -> Result<Board, AllocError> {
     let tree = Tree::new(alloc, ROOM)?;
     let pins = Pins::new(alloc, ROOM, 4)?;
@@ -104,7 +104,7 @@ fn same_boards(rt: &impl Abort, board: &Board, other: &Board) {
     }
 }
 
-/// The board is as these steps alone make it.
+/// The board is as only these steps make it.
 pub(crate) fn is_untouched(rt: &impl Abort, alloc: Global, board: &Board, steps: &[Step]) {
     same_boards(rt, board, &board_of(rt, alloc, steps));
 }

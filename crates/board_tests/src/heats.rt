@@ -1,4 +1,4 @@
-//! Heats: deposits, ticks and what is kept between them, beside a plain list that is halved at each tick.
+//! Heats: deposits, ticks and what is kept between them, compared with a plain list that is halved at each tick.
 //!
 //! Each call that takes memory is made again where a growth was refused, so the tests hold with any one
 //! growth refused.
@@ -14,12 +14,12 @@ use std::process::Abort;
 /// How many directories there are.
 const DIRS: u32 = 4;
 
-/// A change of the heats of directories, which are told by their numbers.
+/// A change of the heats of directories, which are given by their numbers.
 #[derive(Drop)]
 enum Change {
     Add(u32, u64),
     Clear(u32),
-    /// So many ticks.
+    /// This many ticks.
     Tick(u32),
 }
 
@@ -149,7 +149,7 @@ const BEGINNINGS: &[Schedule] = &[
     ),
 ];
 
-/// The heats of four directories after so many ticks.
+/// The heats of four directories after `ticks` ticks.
 fn begun(alloc: Global, ticks: u64) -> Result<Heat, AllocError> {
     if ticks == 0 {
         Heat::new(alloc, DIRS)

@@ -1,4 +1,4 @@
-//! Where paths lead: walks up from a directory, and guesses that were told, true or not.
+//! Where paths lead: walks up from a directory, and guesses that were given, true or not.
 
 use crate::same::{Sure, same, same_in};
 use crate::trees::{make, tree_of};
@@ -69,17 +69,17 @@ fn finds_as_the_tree(rt: &impl Abort, tree: &Tree, guesses: &PathGuesses) {
     }
 }
 
-/// The numbers that paths are told to lead to.
+/// The numbers to which the guesses say that paths lead.
 const TOLD: &[u32] = &[3, 70000, 0, 1, 2, 3, 4, 5, 9];
 
-/// Tells that each path leads to a number.
+/// Gives the guess that each path leads to a number.
 fn tell_each(guesses: &mut PathGuesses, number: u32) {
     for path in PATHS {
         guesses.tell(path, Dir::new(number));
     }
 }
 
-/// Tells that each path leads to each number, so true guesses are among false ones, or were driven out by them.
+/// Gives the guess that each path leads to each number, so true guesses are among false ones, or driven out by them.
 fn tell_all(rt: &impl Abort, tree: &Tree, guesses: &mut PathGuesses) {
     for number in TOLD {
         tell_each(guesses, *number);

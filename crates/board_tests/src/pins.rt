@@ -134,7 +134,7 @@ fn are_unchanged(rt: &impl Abort, alloc: Global, board: &Board, row: usize) {
     same_rows(rt, &unpinned(rt, alloc, board), &[0, 4], "refused");
 }
 
-/// Setting a pin is refused so, as `can_set` tells.
+/// Setting a pin is refused so, as `can_set` reports.
 fn is_refused(rt: &impl Abort, board: &mut Board, dir: u32, pin: i32, text: &str) {
     let told = board.pins.can_set(&board.tree, Dir::new(dir), pin);
     let answer = set_pin(rt, board, dir, pin);

@@ -42,8 +42,8 @@ const CHAIN: &[Step] = &[
     Step::Remove(3),
 ];
 
-/// What is opened; the board; the first directory that is at rank 1 as all behind it are; the mask of usable ranks;
-/// the problem's rows and the directories that they stand for.
+/// What is opened; the board; the first directory at rank 1, where all later ones are too; the mask of usable ranks;
+/// the problem's rows and their directories.
 pub(crate) type Case = (
     &'static str,
     &'static [Step],

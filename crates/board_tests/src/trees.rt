@@ -6,7 +6,7 @@ use mds_types::Dir;
 use std::alloc::Global;
 use std::process::Abort;
 
-/// A call that is made of a tree. Directories are told by their numbers.
+/// A call that is made of a tree. Directories are given by their numbers.
 enum Call {
     /// Makes a directory below another.
     Make(u32, &'static str),
@@ -121,7 +121,7 @@ fn find(tree: &Tree, path: &str) -> Result<u32, TreeError> {
     }
 }
 
-/// Why a call will be refused, as is told before.
+/// Why a call will be refused, as the tree reports before it.
 fn told_refusal(tree: &Tree, call: &Call) -> Option<TreeError> {
     match call {
         Call::Make(parent, name) => tree.can_make(Dir::new(*parent), name).err(),
@@ -131,7 +131,7 @@ fn told_refusal(tree: &Tree, call: &Call) -> Option<TreeError> {
     }
 }
 
-/// Each call answers as its line says, and what is refused was told before.
+/// Each call answers as its line says, and each refusal was reported before.
 fn goes_so(rt: &impl Abort, alloc: Global, tree: &mut Tree, name: &str, lines: &[Line]) {
     for (at, (call, wanted)) in lines.iter().enumerate() {
         same_in(rt, &told_refusal(tree, call), &wanted.err(), &(name, at));
@@ -303,7 +303,7 @@ const NAMED: &[(&str, bool)] = &[
     (".a", true),
 ];
 
-/// Whether so many letters are a name.
+/// Whether `length` letters are a name.
 fn is_name_of(length: usize) -> bool {
     let letters = [b'n'; 256];
     let some = letters.get(..length).unwrap_or(&[]);

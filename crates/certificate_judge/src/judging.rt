@@ -11,7 +11,7 @@ use std::alloc::Global;
 use std::io::Read;
 
 /// Reads certificates to the reader's end, at least one, and answers for each whether its proofs hold. One is in memory
-/// at a time, and what was read of those behind it. An error that names a line says that the bytes aren't certificates.
+/// at a time, and what was read of those after it. An error that names a line says that the bytes aren't certificates.
 /// The others say that memory was refused or a read failed.
 pub fn judge<R: Read>(alloc: Global, reader: &mut R) -> Result<Answers, JudgeError>
     ensures answered { IfOk result (λ answers. IfSome (R.remaining reader.old) (λ bytes. HaveAnswers bytes answers)) }

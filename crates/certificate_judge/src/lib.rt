@@ -1,4 +1,4 @@
-//! Whether plans are best, by the proofs in their certificates alone: the program `mdbal_check`, over any files and
+//! Whether plans are best, only by the proofs in their certificates: the program `mdbal_check`, over any files and
 //! devices.
 #![tactic(auto)]
 

@@ -148,7 +148,7 @@ const TREES: &str =
 
 const ROW: &str = "row PARENT HEAT INODES RANK";
 
-// (line, what stands there in its place, the line that is named, what was expected there)
+// (line, what replaces it, the line that is named, what was expected there)
 const BROKEN: &[(usize, &str, usize, &str)] = &[
     (1, "certificate 3", 1, "certificate 1 or certificate 2"),
     (
@@ -190,7 +190,7 @@ fn reports_which_line_is_broken(rt: HostRuntime) {
     }
 }
 
-/// The certificate with these lines behind its rows, as one of version 2.
+/// The certificate with these lines after its rows, as one of version 2.
 fn named(alloc: Global, names: &str) -> Result<String, AllocError> {
     let mut text = String::from_str(alloc, "certificate 2\n")?;
     for line in LINES.iter().take(7).skip(1) {
@@ -249,7 +249,7 @@ fn reads_names(rt: HostRuntime) {
     }
 }
 
-/// A file of two texts has this status, and is told of on standard error where that is 2, else on standard output.
+/// A file of two texts has this status, and is reported on standard error where that is 2, else on standard output.
 fn has_status(rt: &impl Abort, alloc: Global, first: &str, second: &str, wanted: u8) {
     let file = format!(in alloc; "{first}{second}").sure(rt);
     let (mut writer, mut errors) = (Vec::new(alloc), Vec::new(alloc));

@@ -31,7 +31,7 @@ impl Read for Slow<'_> {
     }
 }
 
-/// A text so many times.
+/// A text `count` times.
 fn times(alloc: Global, text: &str, count: usize) -> Result<String, AllocError> {
     let mut all = String::new(alloc);
     for _ in 0..count {
@@ -40,7 +40,7 @@ fn times(alloc: Global, text: &str, count: usize) -> Result<String, AllocError> 
     Ok(all)
 }
 
-/// A certificate of so many rows, which are one part.
+/// A certificate of `rows` rows, which are one part.
 fn certificate_of(alloc: Global, rows: usize) -> Result<String, AllocError> {
     let mut text = format!(in alloc; "certificate 1\nmask 0x1\nrows {rows}\n")?;
     text.push_str(&times(alloc, "row 0 0 1 0\n", rows)?)?;
@@ -88,7 +88,7 @@ fn many_certificates_are_judged(rt: HostRuntime) {
     reports_so(&rt, rt.alloc(), &mut text.as_bytes(), (0, &answers, ""));
 }
 
-// (what is behind 700 certificates of 12 lines each, the line that is named)
+// (what comes after 700 certificates of 12 lines each, the line that is named)
 const BEHIND: &[(&str, &str)] = &[
     ("certificate 3\n", "plan:8401: expected"),
     ("certificate 1\nmask 0x01\n", "plan:8403: expected"),

@@ -1,4 +1,4 @@
--- What stands for a line that gives no settings.
+-- The answer to a line that gives no settings.
 use Rattle.std.specs.Prelude.{◌≡◌, ◌≢◌, ◌⊎◌, ⊤, ℕ}
 use Rattle.clap.specs.Words.{IsAmong, Kinds, kind_of}
 use Rattle.clap.specs.declared.error.Error.{Error}
@@ -15,7 +15,7 @@ StandsFor error (Refused given) =
     (given ≡ error) × (kind_of error ≢ kind.OutOfMemory) × (kind_of error ≢ kind.DisplayHelp)
     × (kind_of error ≢ kind.DisplayVersion)
 
--- the program ends with this status: 0 where the help or the version was written, 3 where it wasn't, and else 2
+-- the program ends with this status: 0 where the help or the version was written, 3 where it wasn't, otherwise 2
 abbrev pub EndsWith : OptionsError → ℕ → Type 0
 EndsWith (Help error) status = (status ≡ 0) ⊎ (status ≡ 3)
 EndsWith (Version error) status = (status ≡ 0) ⊎ (status ≡ 3)

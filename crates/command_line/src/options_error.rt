@@ -27,7 +27,7 @@ pub enum OptionsError {
 
 impl OptionsError {
     /// Prints the help and the version to `writer`, and all else to `errors`. Gives the status that the program ends
-    /// with: 0 where the help or the version was written, 3 where it could not be, and else 2.
+    /// with: 0 where the help or the version was written, 3 where it could not be, otherwise 2.
     pub fn print<W: Write, E: Write>(&self, writer: &mut W, errors: &mut E) -> u8
         ensures status { EndsWith self.now result }
         ensures unprinted { result ≡ 2 → writer.new ≡ writer.old }

@@ -54,7 +54,7 @@ pub struct Settings<'a> {
 /// Reads the words of a command line, of which the first is the program's name.
 ///
 /// `--limit N` takes 1 to 65536, which is also the limit where the words name none. `--strict` and
-/// `--limit` may each stand once, and so may `--proofs FILE` and `--quiet`.
+/// `--limit` may each be given once, and so may `--proofs FILE` and `--quiet`.
 pub fn options<'a, S: AsStr>(alloc: Global, words: &'a [S]) -> Result<Settings<'a>, OptionsError>
     ensures accepted { IfOk result (λ _. fault_of mdbal (map S.text words.now) ≡ []) }
     ensures limit { IfOk result (λ s. s.limit ≡ limit_of (map S.text words.now)) }

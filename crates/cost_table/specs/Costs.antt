@@ -1,4 +1,4 @@
--- What a part has at each rank, and where its cost stands in a table.
+-- What a part has at each rank, and where its cost is in a table.
 use Rattle.std.specs.Prelude.{◌≡◌, ◌==◌, ◌&&◌, ◌<◌, ◌≤◌, ◌+◌, ◌*◌, ◌-◌, ◌^◌, ℕ, nat_le}
 use Rattle.std.specs.Prelude.{true, List, All, length, slice_index, if◌then◌else◌}
 use Rattle.mds_types.specs.declared.problem.ProblemRow.{ProblemRow}
@@ -17,7 +17,7 @@ abbrev pub own_between : List ProblemRow → (ℕ → ℕ) → ℕ → ℕ → �
 own_between rows label from to part r =
     sum_below to (λ i. if nat_le from i && (label i == part && now_at rows i == r) then inodes_at rows i else 0)
 
--- the inodes of so many parts by the rank that has them now, in the rows from one on to before another: 64 cells a part
+-- the inodes of `count` parts by the rank that has them now, in the rows from one on to before another: 64 cells a part
 pub record AreSums (rows : List ProblemRow) (label : ℕ → ℕ) (count from to : ℕ) (sums : List ℕ) : Type 0 where
   pub size : length sums ≡ count * 64
   pub cells : (part r : ℕ) → part < count → r < 64
@@ -33,11 +33,11 @@ pub record AreRows (rows : List ProblemRow) (from to : ℕ) : Type 0 where
 unfoldable pub part_total : List ℕ → ℕ → ℕ
 part_total sums part = sum_below 64 (λ r. slice_index sums (part * 64 + r))
 
--- where a rank stands among the ranks of the set, in rising order
+-- the place of a rank among the ranks of the set, in rising order
 abbrev pub rank_place : ℕ → ℕ → ℕ
 rank_place ranks r = count_below r (has_rank ranks)
 
--- the cost of a part at the rank that has this place, in a table of so many cells a part
+-- the cost of a part at the rank that has this place, in a table of `width` cells a part
 unfoldable pub cell_at_place : List ℕ → ℕ → ℕ → ℕ → ℕ
 cell_at_place cells width part place = slice_index cells (part * width + place)
 

@@ -6,7 +6,7 @@ use mds_types::ProblemRow;
 use std::alloc::{AllocError, Global};
 
 /// The inodes of each part's rows by the rank that has them now, in the rows from `from` on to before
-/// `to`, 64 cells a part: those that rank `r` has of part `p` stand in cell `p * 64 + r`.
+/// `to`, 64 cells a part: those that rank `r` has of part `p` are in cell `p * 64 + r`.
 ///
 /// `part[i]` is the part of row i. The sums of neighbouring rows add up to those of all of them.
 pub fn sums(

@@ -24,7 +24,7 @@ own_pin own d = slice_index_or own d None
 abbrev pub AreActive : ℕ → List (Option ℕ) → Type 0
 AreActive active own = (d rank : ℕ) → own_pin own d ≡ Some rank → rank < active
 
--- what stands first counts
+-- the first one counts
 abbrev pub nearer : Option ℕ → Option ℕ → Option ℕ
 nearer None far = far
 nearer (Some rank) far = Some rank
@@ -34,7 +34,7 @@ abbrev pub first_pin : List (Option ℕ) → List ℕ → Option ℕ
 first_pin own [] = None
 first_pin own (d ∷ above) = nearer (own_pin own d) (first_pin own above)
 
--- the pin of d: its own, or else that of the nearest directory above it that has one
+-- the pin of d: its own, otherwise that of the nearest directory above it that has one
 abbrev pub nearest_pin : List (Option Entry) → List (Option ℕ) → ℕ → Option ℕ
 nearest_pin entries own d = first_pin own (walk_up entries d)
 
@@ -72,7 +72,7 @@ pin_refusal active entries d pin =
 abbrev pub with_pin : PinTable → ℕ → ℤ → PinTable
 with_pin pins d pin = record pins { own = slice_set pins.own d (pin_value pin) }
 
--- d is c, or stands above it
+-- d is c, or is above it
 abbrev pub IsAbove : List (Option Entry) → ℕ → ℕ → Type 0
 IsAbove entries d c = Contains (walk_up entries c) d
 

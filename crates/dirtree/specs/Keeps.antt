@@ -32,7 +32,7 @@ key_at entries d = option_map key_of (entry_at entries d)
 unfoldable pub chain_of : FoldHasher → ℕ → List ℕ → ℕ
 chain_of hasher p name = folding.finish (folding.write (fold folding.write hasher (fed.u32 p)) name) / 2 ^ 47
 
--- the chain in which a directory stands, if it is there
+-- the chain in which a directory is, if it is there
 abbrev pub place_at : FoldHasher → List (Option Entry) → ℕ → Option ℕ
 place_at hasher entries d = option_map (λ k. chain_of hasher k.parent k.name) (key_at entries d)
 

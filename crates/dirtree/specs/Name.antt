@@ -13,7 +13,7 @@ is_name_byte b = nat_lt 32 b && (nat_lt b 127 && not (b == 47))
 abbrev pub has_name_length : List ℕ → Bool
 has_name_length text = nat_lt 0 (length text) && nat_le (length text) 255
 
--- what stands for the directory itself or its parent elsewhere
+-- what elsewhere means the directory itself or its parent
 abbrev pub is_dots : List ℕ → Bool
 is_dots text = bytes_eq text (codes ".") || bytes_eq text (codes "..")
 

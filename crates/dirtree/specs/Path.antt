@@ -19,7 +19,7 @@ walk entries at [] = Ok at
 walk entries at (name ∷ names) =
     if is_name name then onward (child_of entries at name) (λ child. walk entries child names) else Err BadName
 
--- a path is a slash alone, or names that each stand behind a slash
+-- a path is only a slash, or names that each follow a slash
 abbrev pub find : List (Option Entry) → List ℕ → Result ℕ TreeError
 find entries [] = Err BadName
 find entries (b ∷ path) =
@@ -34,7 +34,7 @@ is_root (suc d) = false
 abbrev pub names_up : List (Option Entry) → ℕ → List (List ℕ)
 names_up entries d = map (name_of entries) (filter (λ a. not (is_root a)) (walk_up entries d))
 
--- the path of d: the names from the root down to it, each behind a slash, and for the root a slash
+-- the path of d: the names from the root down to it, each after a slash, and for the root a slash
 abbrev pub path_of : List (Option Entry) → ℕ → List ℕ
 path_of entries zero = codes "/"
 path_of entries (suc d) = flat_map (λ name. 47 ∷ name) (reverse (names_up entries (suc d)))

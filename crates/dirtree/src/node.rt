@@ -1,7 +1,7 @@
 //! The places of a tree's directories.
 //!
-//! A directory stands in the chain of its parent and name, by falling numbers: the heads tell with which directory a
-//! chain begins, and each directory which one follows. The root stands in no chain, so 0 ends one.
+//! A directory is in the chain of its parent and name, by falling numbers: the heads hold with which directory a
+//! chain begins, and each directory which one follows. The root is in no chain, so 0 ends one.
 //!
 //! A look-up, a new directory and a removal each go through one chain at most. It mostly has one directory or none,
 //! unless names were picked that share a hash: a tree with a secret key (`NameKey`) leaves nobody the means for that.
@@ -79,7 +79,7 @@ pub fn child_in_chain(
     None
 }
 
-/// The chain in which a directory stands, and the directory before it there, or 0 if the chain begins with it.
+/// The chain in which a directory is, and the directory before it there, or 0 if the chain begins with it.
 pub fn place_in_chain(
     nodes: &[Option<Node>],
     heads: &[u16],
@@ -107,7 +107,7 @@ pub fn place_in_chain(
     (chain, before)
 }
 
-/// Tells a directory which one follows it in its chain.
+/// Sets which directory follows this one in its chain.
 pub fn set_next(nodes: &mut Vec<Option<Node>>, dir: u32, next: u16)
     requires there { is_there (entries_of nodes.old.items) dir ≡ true }
     ensures entries { entries_of nodes.new.items ≡ entries_of nodes.old.items }

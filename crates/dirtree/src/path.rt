@@ -15,7 +15,7 @@ use std::alloc::{AllocError, Global};
 const USUAL_DEPTH: usize = 16;
 
 impl Tree {
-    /// The directory that a path names: `/` alone, or names that each stand behind a `/`.
+    /// The directory that a path names: only `/`, or names that each follow a `/`.
     ///
     /// The names are read from left to right, and the first that is no name, or isn't there, decides.
     pub fn find(&self, path: &str) -> Result<Dir, TreeError>
@@ -33,7 +33,7 @@ impl Tree {
         self.walk(names)
     }
 
-    /// The directory that a path names behind whose first byte no slash stands, as `find` answers.
+    /// The directory that a path names, as `find` answers. No byte after the path's first one is a slash.
     pub(crate) fn find_below_root(&self, path: &str) -> Result<Dir, TreeError>
         requires { All (λ byte. (byte == 47) ≡ false) (drop 1 path.now) }
         ensures dir { result ≡ find self.now.entries path.now }
@@ -94,7 +94,7 @@ impl Tree {
         self.is_way_down(path.as_bytes(), dir)
     }
 
-    // Whether these are the names down to a directory, each behind a slash.
+    // Whether these are the names down to a directory, each after a slash.
     fn is_way_down(&self, path: &[u8], dir: Dir) -> bool
         requires { is_there self.now.entries dir ≡ true }
         ensures { IsTrue result ↔ (path.now ≡ flat_map (λ name. 47 ∷ name) (reverse (names_up self.now.entries dir))) }
@@ -125,7 +125,7 @@ impl Tree {
         Ok(path)
     }
 
-    /// Writes the path of a directory to a text, in place of what stood there. A text that is used again grows no more
+    /// Writes the path of a directory to a text, in place of what it held. A text that is used again grows no more
     /// once it had room for the longest path; the list of the names on the way takes memory in each call.
     pub fn write_path(&self, alloc: Global, dir: Dir, path: &mut String) -> Result<(), TreeError>
         ensures path { OnOk result (string_bytes path.new ≡ path_of self.now.entries dir) }
@@ -181,7 +181,7 @@ impl Tree {
     }
 }
 
-// What stands before a slash and this name at the end of a path.
+// What is before a slash and this name at the end of a path.
 fn before_name<'a>(path: &'a [u8], name: &[u8]) -> Option<&'a [u8]>
     ensures { MatchOption result ((front : List ℕ) → path.now ≢ front ++ 47 ∷ name.now)
         (λ front. path.now ≡ front.now ++ 47 ∷ name.now) }

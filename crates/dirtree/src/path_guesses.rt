@@ -1,6 +1,6 @@
 //! Guesses of where paths lead, for whoever looks up the same paths time and again.
 //!
-//! A guess is an answer only where the names up to the root are those of the path. So what is told here changes how
+//! A guess is an answer only where the names up to the root are those of the path. So a guess changes how
 //! long a look-up takes, and never its answer: `find` answers as `Tree::find` does. No guess is asked for a path that
 //! has one name, as the tree itself finds that in one look-up.
 ghost use Rattle.std.specs.Prelude.{◌≡◌, ◌<◌, ◌==◌, ◌^◌, All, IfOk, IfSome, IsTrue, Ok, drop, false, true};
@@ -12,20 +12,20 @@ use crate::tree_error::TreeError;
 use mds_types::Dir;
 use std::alloc::Global;
 
-// How many guesses are kept, and how many of them stand at the places of one path.
+// How many guesses are kept, and how many of them are at the places of one path.
 const PLACES: usize = 1 << 17;
 
 const PLACES_OF_A_PATH: usize = 4;
 
 // The directory to which some path led, by its number, and a few bits of that path's mix. The root needs no guess, so 0
-// stands for a free place.
+// marks a free place.
 #[derive(Clone, Copy, Drop)]
 struct Guess {
     mark: u16,
     dir: u16,
 }
 
-/// Where paths led when it was told.
+/// Where paths led when `tell` was called.
 #[derive(Drop)]
 pub struct PathGuesses {
     guesses: Vec<Guess>,
@@ -110,7 +110,7 @@ impl PathGuesses {
     }
 }
 
-// Whether no slash stands behind a path's first byte.
+// Whether no slash comes after a path's first byte.
 fn has_one_name(path: &str) -> bool
     ensures { IsTrue result → All (λ byte. (byte == 47) ≡ false) (drop 1 path.now) }
 {

@@ -49,7 +49,7 @@ impl Tree {
     ghost use Rattle.dirtree.specs.Tree.{child_of, entry_at, has_child, is_there, IsTree, make_refusal};
     ghost use Rattle.dirtree.specs.Tree.{remove_refusal, root, row_at, rows_from, with_child, without};
 
-    /// The tree that has the root alone, and gives at most `limit` numbers.
+    /// The tree that has only the root, and gives at most `limit` numbers.
     pub fn new(alloc: Global, limit: u32) -> Result<Tree, AllocError>
         requires low { 1 ≤ limit }
         requires high { limit ≤ 65536 }
@@ -151,7 +151,7 @@ impl Tree {
         }
     }
 
-    /// What `make` would refuse, beside want of memory.
+    /// What `make` would refuse, apart from a lack of memory.
     pub fn can_make(&self, parent: Dir, name: &str) -> Result<(), TreeError>
         ensures refused { IfErr result (λ e. make_refusal self.now parent name.now ≡ Some e) }
         ensures allowed { OnOk result (make_refusal self.now parent name.now ≡ None) }

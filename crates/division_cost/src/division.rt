@@ -65,7 +65,7 @@ fn inodes(tree: &Tree, dir: Dir) -> u64
     }
 }
 
-// The nearest top at each directory or above it, which its parent's nearest top tells.
+// The nearest top at each directory or above it, found from its parent's nearest top.
 fn nearest_tops(alloc: Global, tree: &Tree, is_top: &[bool]) -> Result<Vec<Dir>, AllocError>
     requires { length is_top.now ≡ length tree.now.entries }
     ensures size { IfOk result (λ found. length found.items ≡ length tree.now.entries) }

@@ -6,7 +6,7 @@ use mds_types::ProblemRow;
 /// The most rows that are tried.
 pub const ROWS: usize = 8;
 
-/// The part of each row. What stands past the last row means nothing.
+/// The part of each row. What is past the last row means nothing.
 pub type Labels = [usize; 8];
 
 /// The labels that a number writes in base `parts`.
@@ -22,7 +22,7 @@ fn labels_of(code: usize, parts: usize) -> Labels
     labels
 }
 
-/// How many labellings of so many rows there are.
+/// How many labellings of `rows` rows there are.
 fn labelling_count(rows: usize, parts: usize) -> usize {
     let mut count: usize = 1;
     for _ in 0..rows {
@@ -128,7 +128,7 @@ pub fn fewest_parts(rows: &[ProblemRow], bound: u64) -> Option<usize>
     fewest
 }
 
-/// The least greatest heat of a division into at most so many parts.
+/// The least greatest heat of a division into at most `parts` parts.
 pub fn least_greatest_heat(rows: &[ProblemRow], parts: usize) -> u64
     requires small { length rows.now ≤ 8 }
     requires some { 0 < parts }

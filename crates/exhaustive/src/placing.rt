@@ -3,7 +3,7 @@ ghost use Rattle.std.specs.Prelude.{◌≡◌, ◌≤◌, ◌<◌, length};
 
 use mds_types::{ProblemRow, Rank, RankSet};
 
-/// The rank that a digit in base 64 stands for.
+/// The rank that a digit in base 64 means.
 fn rank_at(code: u64, part: u32) -> Option<Rank> {
     let mut rest = code;
     for _ in 0..part {

@@ -33,7 +33,7 @@ impl Random {
         self.next() % limit
     }
 
-    /// So many rows of a tree, each cooler than `heat_limit`.
+    /// `count` rows of a tree, each cooler than `heat_limit`.
     pub fn rows(
         &mut self,
         alloc: Global,

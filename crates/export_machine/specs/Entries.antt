@@ -80,9 +80,9 @@ parents_after w _ = w.parents
 pub record IsRecorded (w : World) (e : Event) : Type 0 where
   -- journals only grow, by the event's entry
   pub journals : (r : ℕ) → journal_of (step w e).1 r ≡ entered r (entry w e) (journal_of w r)
-  -- the map changes by the entry alone
+  -- the map changes only by the entry
   pub map : (d : ℕ) → named_of (step w e).1 d ≡ named_by w d (entry w e)
-  -- the tree changes by directories that are made and removed alone
+  -- the tree changes only by directories that are made and removed
   pub parents : refusal w e ≡ None → (step w e).1.parents ≡ parents_after w e
   -- these never change
   pub limit : (step w e).1.limit ≡ w.limit
@@ -112,7 +112,7 @@ AreInJournals w = (d : ℕ) → (is_present w d ≡ true) ↔ IsThere w d
 abbrev pub AreMade : World → Type 0
 AreMade w = (x d : ℕ) → is_inside w x d ≡ true → d < length w.parents
 
--- a stopped rank's states are those that its journal tells
+-- a stopped rank's states are those that its journal holds
 pub record IsRecovered (w : World) (r : ℕ) : Type 0 where
   pub exports : (x : ℕ) → from_of w x ≡ r → exporter_of w x ≡ exporter_by_journal w r x
   pub imports : (x : ℕ) → to_of w x ≡ r → importer_of w x ≡ importer_by_journal w r x

@@ -1,4 +1,4 @@
--- What the tables of a cluster stand for, and what always holds of them.
+-- What the tables of a cluster mean, and what always holds of them.
 use Rattle.std.specs.Prelude.{◌≡◌, ◌≤◌, ◌<◌, ℕ, ◌+◌, suc, Bool, true, ◌&&◌, nat_lt, List, [], ◌∷◌, map, length}
 use Rattle.std.specs.Prelude.{Option, None, Some, Result, Ok, Err, slice_get, slice_index_or}
 use Rattle.std.specs.Prelude.{Vec, if◌then◌else◌, replicate, false, not, ◌==◌, ◌||◌, is_some}
@@ -47,7 +47,7 @@ pub record Indexes : Type 0 where
   pub children : List ℕ  -- how many children it has
   pub marks : List Bool  -- none, between the tests of lists
   pub tickets_at : List (List ℕ)  -- by rank: tickets that were given there
-  pub open_at : List (List ℕ)  -- by rank: exports whose state there its journal didn't tell
+  pub open_at : List (List ℕ)  -- by rank: exports whose state there its journal didn't hold
   pub dropped : List Bool  -- by export: whether its importer's journal has it as dropped
 
 abbrev pub indexes_of : Records → Indexes
@@ -220,7 +220,7 @@ pub record IsReceived (old : Records) (message : Message) (reply : Reply) (new :
   pub effect : comes (world_of old) message ≡ record { reply = reply; world = world_of new }
   pub indexed : IsIndexed (world_of new) (indexes_of new)
 
--- What a stop leaves, read off the states: what the journal tells of them.
+-- What a stop leaves, read off the states: what the journal holds of them.
 
 -- of an exporter's state
 abbrev pub exporter_at_stop : ExporterState → ExporterState

@@ -1,5 +1,5 @@
 -- What a rank decides by: its own journal, the states of its own exports, the requests that run at it, and whether it
--- runs. Beside that an event needs what no rank owns: the tree, the numbers of ranks and exports, the count of events.
+-- runs. An event also needs what no rank owns: the tree, the numbers of ranks and exports, the count of events.
 use Rattle.std.specs.Prelude.{◌≡◌, ◌≢◌, ◌<◌, ◌↔◌, ℕ, Bool, true, false, ◌&&◌}
 use Rattle.std.specs.Prelude.{not, ◌==◌, List, [], ◌∷◌, length, Some, None}
 use Rattle.std.specs.List.{list_all}

@@ -21,7 +21,7 @@ OneAuthority w = (d : ℕ) → is_present w d ≡ true → (r : ℕ) × IsTheAut
 abbrev pub ServedByAuthority : World → Type 0
 ServedByAuthority w = (r d : ℕ) → serves w r d ≡ true → IsTheAuthority w r d
 
--- each running request stands at its directory's authority
+-- each running request is at its directory's authority
 abbrev pub RequestsAtAuthority : World → Type 0
 RequestsAtAuthority w = (t : ℕ) (q : Request) → request_of w t ≡ Some q → IsTheAuthority w q.rank q.dir
 

@@ -24,6 +24,6 @@ pub record IsAsRoomy (old new : Records) : Type 0 where
   pub open_at : (rank : ℕ) → has_place old.open_at.items rank ≡ true → has_place new.open_at.items rank ≡ true
   pub journals : (rank : ℕ) → has_place old.journals.items rank ≡ true → has_place new.journals.items rank ≡ true
 
--- the event is refused for its first cause or, where it has none, for want of memory
+-- the event is refused for its first cause or, where it has none, as out of memory
 abbrev pub IsRefusal : World → Event → StepError → Type 0
 IsRefusal w e error = (refusal w e ≡ Some error) ⊎ ((refusal w e ≡ None) × (error ≡ Memory))

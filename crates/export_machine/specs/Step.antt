@@ -127,7 +127,7 @@ is_started _ = false
 abbrev pub is_running : Option Request → Bool
 is_running request = is_some request
 
--- no directory stands twice in the list
+-- a directory is in the list twice
 abbrev pub repeats : List ℕ → Bool
 repeats [] = false
 repeats (d ∷ ds) = is_among ds d || repeats ds
@@ -319,7 +319,7 @@ importer_by_journal w rank x =
     else (if has w rank (JournalEntry.Dropped x) then Dropped
     else (if has w rank (JournalEntry.Started x) then Started else Unknown))
 
--- the rank's states of its exports and imports are those that its journal tells
+-- the rank's states of its exports and imports are those that its journal holds
 abbrev pub recovered : World → ℕ → World
 recovered w rank = record w {
   exporters = map_at (λ x state. if from_of w x == rank then exporter_by_journal w rank x else state) w.exporters;

@@ -7,7 +7,7 @@ use Rattle.export_machine.specs.Cluster.{World}
 use Rattle.export_machine.specs.Step.{step, refusal, run, start}
 use Rattle.export_machine.specs.declared.event.Event.{Event}
 
--- the answer to an event is that of the definition; want of memory is answered only where no cause stands, and nothing
+-- the answer to an event is that of the definition; `Memory` is answered only where no cause applies, and nothing
 -- has changed then
 abbrev pub IsAnswer : World → Event → Result Reply StepError → World → Type 0
 IsAnswer old e (Ok reply) new = step old e ≡ (Ok reply, new)

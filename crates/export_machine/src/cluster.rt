@@ -56,7 +56,7 @@ impl Cluster {
     }
 
     /// Applies one event: a refusal changes nothing, and is the first cause in the order of the table of events. Where
-    /// no cause stands and memory is missing that is the answer.
+    /// no cause applies and memory is missing that is the answer.
     pub fn apply(&mut self, event: Event) -> Result<Reply, StepError>
         ensures answer { IsAnswer self.old.world (event) result self.new.world }
         ensures ready { refusal self.old.world (event) ≡ None → is_ready self.old (event) ≡ true → IsOk result }
@@ -70,7 +70,7 @@ impl Cluster {
     }
 
     /// Refuses an event, or takes the memory that it needs as the next change: then it can `happen`. A list of
-    /// directories takes time that grows with its length alone.
+    /// directories takes time that grows only with its length.
     pub fn prepare(&mut self, event: &Event) -> Result<(), StepError>
         ensures accepted { OnOk result (refusal self.old.world (event.now) ≡ None) }
         ensures room { OnOk result (is_ready self.new (event.now) ≡ true) }
@@ -101,7 +101,7 @@ impl Cluster {
         events: &[Event],
     ) -> Result<Vec<Result<Reply, StepError>>, AllocError>
         ensures answers { IfOk result (λ answers. AreAnswers self.old.world (events.now) answers.items self.new.world) }
-        // Where no answer was want of memory they are the answers of the definition, and so is the state after them.
+        // Where no answer was out of memory they are the answers of the definition, and so is the state after them.
         ensures exact { IfOk result (λ answers. NoneIsMemory answers.items
             → answers.items ≡ answers_to self.old.world (events.now)) }
         ensures state { IfOk result (λ answers. NoneIsMemory answers.items
@@ -138,7 +138,7 @@ impl Cluster {
     }
 
     /// What holds of every cluster: each directory that is there has exactly one authority, and no other has one; who
-    /// serves a directory is its authority, each running request stands at its directory's authority, at a rank that
+    /// serves a directory is its authority, each running request is at its directory's authority, at a rank that
     /// runs, and no event changes that; the map names the authority or, between log and notify, the exporter. It does
     /// nothing.
     pub fn promised(&self)
@@ -158,7 +158,7 @@ impl Cluster {
         let _ = &self.records;
     }
 
-    /// Why `apply` would refuse this event, want of memory apart. It takes no memory.
+    /// Why `apply` would refuse this event, apart from a lack of memory. It takes no memory.
     pub fn can_apply(&self, event: &Event) -> Result<(), StepError>
         ensures { cause_of result ≡ refusal self.now.world (event.now) }
     {
@@ -172,7 +172,7 @@ impl Cluster {
         self.records.logs_export(event)
     }
 
-    /// Takes the memory that an event needs as the next change, of which no cause stands to refuse it: then it can
+    /// Takes the memory that an event needs as the next change, which no cause refuses: then it can
     /// `happen`.
     pub fn reserve(&mut self, event: &Event) -> Result<(), AllocError>
         requires { refusal self.old.world (event.now) ≡ None }

@@ -1,6 +1,6 @@
 //! What a message changes at the rank that it is for.
 //!
-//! A message may come late, twice or not at all. It acts in one state alone, and is ignored in every other.
+//! A message may come late, twice or not at all. It acts in only one state, and is ignored in every other.
 
 ghost use Rattle.std.specs.Prelude.{◌≡◌, ◌<◌, ℕ, length, map, Some, None, true, slice_get, vec_len, vec_capacity};
 ghost use Rattle.export_machine.specs.Authority.{order_in, is_inside, exporter_of, importer_of};
@@ -121,7 +121,7 @@ impl Records {
         }
     }
 
-    /// `Started` and `Exported` tell the state of an export that is listed at the rank.
+    /// `Started` and `Exported` give the state of an export that is listed at the rank.
     fn tell(&mut self, rank: Rank, entry: &Option<JournalEntry>)
         requires near { rank < length self.old.open_at.items }
         requires indexed { IsIndexed (world_of self.old) (indexes_of self.old) }
@@ -136,7 +136,7 @@ impl Records {
         }
     }
 
-    /// Carries out a move of the rank that the message comes to. Here alone a message changes something.
+    /// Carries out a move of the rank that the message comes to. Only here does a message change something.
     fn carry_out(&mut self, rank: Rank, message: Message, next: Move) -> Reply
         requires can { CanReceive self.old message }
         requires here { rank ≡ receiver (world_of self.old) message }

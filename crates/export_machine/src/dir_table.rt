@@ -41,7 +41,7 @@ impl Model for DirTable {
 }
 
 impl DirTable {
-    /// Directory 0 alone, its own parent, of this rank.
+    /// Only directory 0, its own parent, of this rank.
     pub(crate) fn new(alloc: Global, rank: Rank) -> Result<Self, AllocError>
         ensures { IfOk result (λ table. table ≡ record {
           parents = Some 0 ∷ [];

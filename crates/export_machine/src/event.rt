@@ -26,7 +26,7 @@ pub enum Event {
     Abort(u32),
     /// A rank stops: its requests end, and what it keeps is its journal.
     Stop(Rank),
-    /// A rank runs again, with what its journal tells.
+    /// A rank runs again, with what its journal holds.
     Restart(Rank),
     /// The importer asks what became of the export.
     Ask(u32),
@@ -61,7 +61,7 @@ pub struct Request {
 impl Event {
     ghost use Rattle.std.specs.Prelude.{◌≡◌, IfOk};
 
-    /// An equal event. It asks for memory for the list of `Start` alone.
+    /// An equal event. It asks for memory only for the list of `Start`.
     pub fn copied(&self, alloc: Global) -> Result<Event, AllocError>
         ensures { IfOk result (λ copy. copy ≡ self.now) }
     {

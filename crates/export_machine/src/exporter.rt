@@ -12,7 +12,7 @@
 use mds_types::ExportStage;
 use std::fmt;
 
-/// Where an export stands at its exporter.
+/// The state of an export at its exporter.
 #[derive(Clone, Copy, Debug, PartialEq, Eq)]
 pub enum ExporterState {
     /// The importer was asked whether it knows the directories.
@@ -35,7 +35,7 @@ impl ExporterState {
     ghost use Rattle.std.specs.Prelude.{◌≡◌};
     ghost use Rattle.export_machine.specs.Refused.{stage_of};
 
-    /// The same, as a refusal tells it.
+    /// The same, as a refusal prints it.
     pub fn stage(self) -> ExportStage
         ensures { result ≡ stage_of self }
     {

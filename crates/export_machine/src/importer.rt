@@ -8,7 +8,7 @@
 //!
 //! A started import is journaled. From then on only the exporter's `Finish` or `Cancel` settles it.
 
-/// Where an export stands at its importer.
+/// The state of an export at its importer.
 #[derive(Clone, Copy, Debug, PartialEq, Eq)]
 pub enum ImporterState {
     /// Nothing came yet.

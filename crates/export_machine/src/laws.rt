@@ -33,7 +33,7 @@ pub fn one_authority()
     ensures served { (limit ranks : ℕ) (events : List StepEvent) → 1 ≤ ranks →
         ServedByAuthority (run (start limit ranks) events) }
 
-    // Each running request stands at its directory's authority.
+    // Each running request is at its directory's authority.
     ensures requests { (limit ranks : ℕ) (events : List StepEvent) → 1 ≤ ranks →
         RequestsAtAuthority (run (start limit ranks) events) }
 
@@ -70,18 +70,18 @@ pub fn local()
 pub fn recorded()
     // Each journal is the one before, with at most the event's entry, and by that the map changes.
     ensures recorded { (w : World) (e : StepEvent) → IsReached w → IsRecorded w e }
-    // The definition never refuses for want of memory.
+    // The definition never refuses for a lack of memory.
     ensures never_memory { (w : World) (e : StepEvent) → refusal w e ≢ Some Memory }
     ensures there { (w : World) → IsReached w → AreInJournals w }
     ensures made { (w : World) → IsReached w → AreMade w }
 {}
 
-/// Between a stop and a restart nothing changes what a rank knows: it is what its journal tells.
+/// Between a stop and a restart nothing changes what a rank knows: it is what its journal holds.
 pub fn recovered()
     ensures { (w : World) (r : ℕ) → IsReached w → is_stopped w r ≡ true → IsRecovered w r }
 {}
 
-/// Where owners are kept at the roots of subtrees alone, the walk up finds the authority, after every list of events.
+/// Where owners are kept only at the roots of subtrees, the walk up finds the authority, after every list of events.
 pub fn nearest_owner()
     ensures { (limit ranks : ℕ) (events : List StepEvent) → 1 ≤ ranks → NearestOwns (run (start limit ranks) events) }
 {}

@@ -1,4 +1,4 @@
-//! What the two ranks of an export tell each other.
+//! What the two ranks of an export send each other.
 
 /// A message about the export of this number.
 #[derive(Clone, Copy, Debug, PartialEq, Eq)]

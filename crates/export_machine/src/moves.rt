@@ -59,7 +59,7 @@ fn telling(message: Message) -> Option<Move>
     })
 }
 
-/// The move of a message, by the states of its export at exporter and importer. In every state that stands in no row a
+/// The move of a message, by the states of its export at exporter and importer. In every state that is in no row a
 /// message does nothing.
 pub(crate) fn move_of(
     message: Message,

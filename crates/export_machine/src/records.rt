@@ -1,6 +1,6 @@
 //! What a cluster keeps, and the reads of it.
 //!
-//! A directory's row has its parent and the rank that the map names for it and, beside them, what the journals, states
+//! A directory's row has its parent and the rank that the map names for it and, in addition, what the journals, states
 //! and requests determine: its authority, the open export that it is in, how many requests run on it and how many
 //! children it has. So no read folds a journal and no event searches the exports. An export's row has what it moves,
 //! its states at both ranks and whether its importer's journal has it as dropped. A table of marks is for the test of a
@@ -32,7 +32,7 @@ use std::alloc::{AllocError, Global};
 pub struct Records {
     pub(crate) limit: u32,
     pub(crate) ranks: u8,
-    /// A row for each directory: its parent, the rank that the map names, and what is kept beside.
+    /// A row for each directory: its parent, the rank that the map names, and what is kept with these.
     pub(crate) dirs: DirTable,
     pub(crate) journals: Vec<Vec<JournalEntry>>,
     /// A row for each export: what it moves and its states.
@@ -47,9 +47,9 @@ pub struct Records {
     pub(crate) tickets_at: Vec<Vec<u32>>,
     /// By rank: how many of those requests ended.
     pub(crate) ended_at: Vec<u32>,
-    /// By rank: the exports whose state there its journal doesn't tell, and some of those that it tells.
+    /// By rank: the exports whose state there its journal doesn't hold, and some whose state it holds.
     pub(crate) open_at: Vec<Vec<u32>>,
-    /// By rank: how many of those its journal tells.
+    /// By rank: how many of those its journal holds.
     pub(crate) told_at: Vec<u32>,
 }
 

@@ -196,7 +196,7 @@ impl Records {
         self.check_causes(event)
     }
 
-    /// Why an event is refused, by the marks: a list of directories takes time that grows with its length alone.
+    /// Why an event is refused, by the marks: a list of directories takes time that grows only with its length.
     #[tactic(auto, unfolding(crate::specs::Step::refusal))]
     pub(crate) fn check_by_marks(&mut self, event: &Event) -> Result<(), StepError>
         requires kept { IsKept self.old }

@@ -36,7 +36,7 @@ pub enum StepError {
     Frozen(u32),
     /// An export needs two ranks.
     SameRank,
-    /// So many requests are running there.
+    /// This many requests are running there.
     NotYet(u32),
     /// The export is in this state at its exporter. That state doesn't allow the event or, where the importer asks, the
     /// importer's doesn't.

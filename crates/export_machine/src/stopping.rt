@@ -1,4 +1,4 @@
-//! What a stop leaves of a rank's requests and states, and what its journal tells at a restart.
+//! What a stop leaves of a rank's requests and states, and what its journal holds at a restart.
 
 ghost use Rattle.std.specs.Prelude.{◌≡◌, ◌<◌, ℕ, filter, is_some, length, Some, None, true, false};
 ghost use Rattle.std.specs.Prelude.{not, ◌&&◌, slice_set, slice_index_or, if◌then◌else◌, ◌==◌};
@@ -183,7 +183,7 @@ impl Records {
         }
     }
 
-    /// Drops those of the rank's exports from its list whose states there its journal tells.
+    /// Drops those of the rank's exports from its list whose states there its journal holds.
     fn keep_open(&mut self, rank: Rank)
         requires near { rank < length self.old.open_at.items }
         requires indexed { IsIndexed (world_of self.old) (indexes_of self.old) }
@@ -200,8 +200,8 @@ impl Records {
         put(&mut self.told_at, rank.number() as usize, 0);
     }
 
-    /// The journal tells the state of one more of the rank's exports. Once half of those that are listed are told, they
-    /// go: so a stop of the rank takes time that grows with its open exports alone.
+    /// The journal holds the state of one more of the rank's exports. Once it holds those of half the listed ones, they
+    /// go: so a stop of the rank takes time that grows only with its open exports.
     pub(crate) fn note_told(&mut self, rank: Rank)
         requires near { rank < length self.old.open_at.items }
         requires indexed { IsIndexed (world_of self.old) (indexes_of self.old) }
@@ -220,7 +220,7 @@ impl Records {
     }
 
     /// A request ended at this rank. Once half of the tickets that are kept for the rank are of such requests, they
-    /// go: so a stop of the rank takes time that grows with its running requests alone.
+    /// go: so a stop of the rank takes time that grows only with its running requests.
     pub(crate) fn note_end(&mut self, rank: Rank)
         requires near { rank < length self.old.tickets_at.items }
         requires indexed { IsIndexed (world_of self.old) (indexes_of self.old) }
@@ -316,7 +316,7 @@ impl Records {
         Reply::Changed
     }
 
-    /// A rank runs again. Its states are those that its journal tells, as the stop left them.
+    /// A rank runs again. Its states are those that its journal holds, as the stop left them.
     pub(crate) fn restart(&mut self, rank: Rank) -> Reply
         requires kept { IsKept self.old }
         requires accepted { refusal (world_of self.old) (StepEvent.Restart rank) ≡ None }

@@ -1,4 +1,4 @@
--- How orders stand in a phase.
+-- The states of orders in a phase.
 use Rattle.std.specs.Prelude.{◌≡◌, ◌<◌, ℕ, Bool, true, false, List, length, slice_index_or, if◌then◌else◌}
 use Rattle.mds_types.specs.declared.order.Order.{Order}
 use Rattle.mds_board.specs.History.{World}
@@ -11,7 +11,7 @@ use Rattle.export_rounds.specs.Further.{IsFurther}
 use Rattle.export_rounds.specs.Outcomes.{IsStarted, IsRefused}
 use Rattle.export_rounds.specs.Pairs.{AreEach}
 
--- how an order stands in a phase that began at first
+-- the state of an order in a phase that began at first
 abbrev pub IsAsked : World → World → Order → Standing → Type 0
 IsAsked first now order (Waiting waiting) = waiting ≡ order
 IsAsked first now order (Started x) = IsStarted first now order x

@@ -1,4 +1,4 @@
--- How a board goes on by exports alone.
+-- How a board goes on only by exports.
 use Rattle.std.specs.Prelude.{◌≡◌, ◌⊎◌, true, List, ◌++◌, All}
 use Rattle.authority_map.specs.Operations.{Operation}
 use Rattle.board_state.specs.declared.change.Change.{Change}

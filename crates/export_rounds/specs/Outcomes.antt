@@ -39,7 +39,7 @@ IsTold old new order told =
     (x : ℕ) × IsStarted old new order x × (told
     ≡ word x (exporter_of new.state.cluster x) (importer_of new.state.cluster x))
 
--- What became of an order is why it was refused, or how its export stands.
+-- What became of an order is why it was refused, or the state of its export.
 abbrev pub IsOutcome : World → World → Order → Outcome → Type 0
 IsOutcome old new order (Refused error) = IsRefused old new order error
 IsOutcome old new order told = IsTold old new order told

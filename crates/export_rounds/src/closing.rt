@@ -38,7 +38,7 @@ pub(crate) fn abort_rest<J: Naming, M: Publisher<J>>(
     }
 }
 
-/// Tells what became of orders, where there is room for it.
+/// Adds what became of orders, where there is room for it.
 pub(crate) fn tell(cluster: &Cluster, standings: &[Standing], outcomes: &mut Vec<Outcome>)
     requires settled { AreSettled standings.now }
     requires room { length standings.now ≤ vec_capacity outcomes.old }
@@ -66,7 +66,7 @@ pub fn outcome(cluster: &Cluster, standing: &Standing) -> Outcome
     }
 }
 
-// How an export stands.
+// The outcome of an export.
 fn outcome_of(cluster: &Cluster, export: u32) -> Outcome
     ensures told { export < length cluster.now.world.orders
         → result ≡ word export (exporter_of cluster.now.world export) (importer_of cluster.now.world export) }

@@ -1,8 +1,8 @@
-//! What goes on by exports alone keeps the rest.
+//! What goes on only by exports keeps the rest.
 ghost use Rattle.mds_board.specs.History.{World};
 ghost use Rattle.export_rounds.specs.Further.{IsFurther, KeepsRest};
 
-/// What goes on by exports alone keeps the tree, the pins, the heats, the mask, the counts and the plan in force.
+/// What goes on only by exports keeps the tree, the pins, the heats, the mask, the counts and the plan in force.
 pub fn further_keeps()
     ensures { (old new : World) → IsFurther old new → KeepsRest old.state new.state }
 {}

@@ -23,7 +23,7 @@ use std::alloc::{AllocError, Global};
 /// Rounds of a phase after its first.
 const LATER_ROUNDS: u32 = 7;
 
-/// Carries out orders in eight rounds, and tells what became of each. It looks at all exports and messages that ever
+/// Carries out orders in eight rounds, and returns what became of each. It looks at all exports and messages that ever
 /// were.
 ///
 /// For a board that has many phases, `carry_out_orders_from` keeps what isn't settled.
@@ -41,7 +41,7 @@ pub fn carry_out_orders<J: Naming, M: Publisher<J>>(
     carry_out_orders_from(board, alloc, orders, &mut Unsettled::new(alloc))
 }
 
-/// Carries out orders in eight rounds, and tells what became of each.
+/// Carries out orders in eight rounds, and returns what became of each.
 ///
 /// In a round each rank, from 0 on, takes the messages that had come when the round began, in rising order, freezes its
 /// exports in state freezing, notifies of its logged ones and publishes the map if it did. In the first round it
@@ -96,7 +96,7 @@ fn first_round<J: Naming, M: Publisher<J>>(
     }
 }
 
-// Each rank takes its turn in each round. So many messages had been sent when the first round began.
+// Each rank takes its turn in each round. When the first round began, `first` messages had been sent.
 fn later_rounds<J: Naming, M: Publisher<J>>(
     board: &mut Board<J, M>,
     alloc: Global,

@@ -1,11 +1,11 @@
-//! How an order stands.
+//! The state of an order.
 ghost use Rattle.std.specs.Prelude.{◌≡◌};
 ghost use Rattle.export_rounds.specs.Asked as asked;
 
 use board_state::BoardError;
 use mds_types::Order;
 
-/// How an order stands in a phase.
+/// The state of an order in a phase.
 #[derive(Drop)]
 pub enum Standing {
     /// Its exporter hasn't taken it up.

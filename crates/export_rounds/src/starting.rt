@@ -57,7 +57,7 @@ fn lay(exports: &mut Vec<u32>, started: Option<u32>) {
     }
 }
 
-/// Starts the order of this number if it waits, and tells its export.
+/// Starts the order of this number if it waits, and returns its export.
 #[tactic(auto, using(crate::proofs::Going::stays, crate::proofs::Adding::nothing_added))]
 pub fn settle_at<J: Naming, M: Publisher<J>>(
     board: &mut Board<J, M>,
@@ -95,7 +95,7 @@ pub(crate) fn settle_rest<J: Naming, M: Publisher<J>>(
     }
 }
 
-// Starts an order if it waits, and tells its export.
+// Starts an order if it waits, and returns its export.
 #[tactic(auto, using(crate::proofs::Adding::nothing_added))]
 fn settle<J: Naming, M: Publisher<J>>(
     board: &mut Board<J, M>,

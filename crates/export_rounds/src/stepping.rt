@@ -48,7 +48,7 @@ pub(crate) fn try_publish<J: Naming, M: Publisher<J>>(board: &mut Board<J, M>)
     let _ = board.publish();
 }
 
-/// Starts an export, and tells its number.
+/// Starts an export, and returns its number.
 pub(crate) fn start<J: Naming, M: Publisher<J>>(
     board: &mut Board<J, M>,
     alloc: Global,

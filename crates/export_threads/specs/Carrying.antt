@@ -11,12 +11,12 @@ use Rattle.mds_types.specs.declared.order.Order.{Order}
 use Rattle.export_threads.specs.declared.order_outcome.OrderOutcome.{OrderOutcome}
 use Rattle.export_threads.specs.declared.order_outcome.OrderOutcome.TheVariants.{NoThread, TakenUp}
 
--- What lies under the lock: a board, and how the orders of the phase stand.
+-- What the lock guards: a board, and the states of the phase's orders.
 pub record Carried : Type 0 where
   pub board : World
   pub standings : List Standing
 
--- The board has gone on by exports alone, each order stands as is kept, and no other exports were started.
+-- The board has gone on only by exports, each order is in the state that is kept, and no other exports were started.
 pub record IsUnderWay (first : World) (orders : List Order) (c : Carried) : Type 0 where
   pub further : IsFurther first c.board
   pub events : GoesOnBy (length first.state.cluster.orders) first c.board

@@ -1,4 +1,4 @@
--- What is told of an order that a thread took up, or that none did.
+-- What a phase reports of an order that a thread took up, or that none did.
 use Rattle.std.specs.Prelude.{Option, Some, None}
 use Rattle.export_rounds.specs.declared.outcome.Outcome.{Outcome}
 use Rattle.export_threads.specs.declared.order_outcome.OrderOutcome.{OrderOutcome}

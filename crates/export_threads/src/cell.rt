@@ -17,7 +17,7 @@ use std::alloc::Global;
 use std::marker::{Brand, Model, PhantomData};
 use std::sync::{Mutex, MutexGuard, Wait};
 
-/// Names the board with which a phase of exports begins, and its orders. It exists in proofs alone, and a phase picks
+/// Names the board with which a phase of exports begins, and its orders. It exists only in proofs, and a phase picks
 /// it.
 pub(crate) trait ExportPhase {
     ghost use Rattle.std.specs.Prelude.{List};
@@ -38,8 +38,8 @@ impl ExportPhase for Brand {
     ghost orders = { [] };
 }
 
-/// What lies under the lock: a board that has gone on by exports alone from the one with which the phase `K` began,
-/// and how the phase's orders stand on it. Its methods are all that a thread can do to it.
+/// What the lock guards: a board that has gone on only by exports from the one with which the phase `K` began,
+/// and the state of each of the phase's orders on it. Its methods are all that a thread can do to it.
 pub(crate) struct Exporting<J: Naming, M: Publisher<J>, K: ExportPhase> {
     board: Board<J, M>,
     standings: Vec<Standing>,
@@ -58,7 +58,7 @@ impl<J: Naming, M: Publisher<J>, K: ExportPhase> Model for Exporting<J, M, K> {
 
 impl<J: Naming, M: Publisher<J>, K: ExportPhase> Exporting<J, M, K> {
     /// What holds of the board each time that it is found under the lock: what holds of every board, and that it has
-    /// gone on by exports alone from the one with which the phase began. It does nothing.
+    /// gone on only by exports from the one with which the phase began. It does nothing.
     pub(crate) fn promises(&self)
         ensures kept { IsKept self.now.board }
         ensures under_way { IsUnderWay K.before K.orders self.now }
@@ -73,7 +73,7 @@ impl<J: Naming, M: Publisher<J>, K: ExportPhase> Exporting<J, M, K> {
         self.board.cluster()
     }
 
-    /// Starts the order of this number if it waits, and tells its export.
+    /// Starts the order of this number if it waits, and returns its export.
     pub(crate) fn start(&mut self, alloc: Global, number: usize) -> Option<u32> {
         settle_at(&mut self.board, alloc, &mut self.standings, number)
     }
@@ -129,7 +129,7 @@ impl<J: Naming, M: Publisher<J>, K: ExportPhase> ExportCell<J, M, K> {
         self.inside.lock(rt)
     }
 
-    /// Takes the board from under the lock, and how the orders stand.
+    /// Takes the board from under the lock, and the state of each order.
     pub(crate) fn into_parts(self) -> (Board<J, M>, Vec<Standing>)
         ensures { IsUnderWay K.before K.orders (record { board = result.0; standings = result.1.items }) }
     {

@@ -170,7 +170,7 @@ fn carry_out_named<
     (board, outcomes)
 }
 
-/// Carries out orders in eight rounds, by a thread for each rank that has something to do, and tells what became of
+/// Carries out orders in eight rounds, by a thread for each rank that has something to do, and returns what became of
 /// each. It looks at all exports and messages that ever were.
 ///
 /// For a board that has many phases, `export_phase_from` keeps what isn't settled.
@@ -196,7 +196,7 @@ pub fn export_phase<
     export_phase_from(rt, alloc, board, gate, orders, &mut unsettled)
 }
 
-/// Carries out orders in eight rounds, by a thread for each rank that has something to do, and tells what became of
+/// Carries out orders in eight rounds, by a thread for each rank that has something to do, and returns what became of
 /// each.
 ///
 /// In a round each rank takes the messages that had come when the round began, in rising order, freezes its exports

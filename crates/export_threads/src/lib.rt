@@ -1,7 +1,7 @@
 //! Exports between the ranks, each rank's turns by a thread of its own, over one board under a lock.
 //!
-//! What a thread finds under the lock is the board with which the phase began, with exports alone on top of its
-//! history, and how each order stands on it: the lock's type says so.
+//! What a thread finds under the lock is the board with which the phase began, with only exports on top of its
+//! history, and the state of each order on it: the lock's type says so.
 #![tactic(auto)]
 
 mod cell;

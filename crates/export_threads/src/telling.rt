@@ -1,4 +1,4 @@
-//! What became of orders is told.
+//! What became of orders.
 ghost use Rattle.std.specs.Prelude.{◌≡◌, ◌≤◌, List, [], count_by, length, vec_capacity};
 ghost use Rattle.export_rounds.specs.Asked.{AreAsked, IsAsked, is_begun};
 ghost use Rattle.mds_board.specs.History.{World};
@@ -11,7 +11,7 @@ use export_machine::Cluster;
 use export_rounds::closing::outcome;
 use export_rounds::{Outcome, Standing};
 
-/// Tells what became of orders, where there is room for it.
+/// Adds what became of orders, where there is room for it.
 pub(crate) fn tell(cluster: &Cluster, standings: &[Standing], outcomes: &mut Vec<OrderOutcome>)
     requires room { length standings.now ≤ vec_capacity outcomes.old }
     requires none { outcomes.old.items ≡ [] }

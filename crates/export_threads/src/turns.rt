@@ -124,7 +124,7 @@ impl<
         }
     }
 
-    // Tells the threads that the phase is over.
+    // Lets the threads know that the phase is over.
     fn end(&self, places: &[Place]) {
         for place in places {
             place.end(self.rt);

@@ -2,7 +2,7 @@
 use Rattle.std.specs.Prelude.{◌≡◌, ◌≤◌, ℕ, ◌+◌, ◌-◌, ◌/◌, ◌^◌, min, List, All, length, map, replicate, slice_set}
 use Rattle.heat_decay.specs.declared.touch.Touch.{Touch}
 
--- a heat for each number below the limit, after so many ticks, and how each was left by the last call that touched it
+-- a heat for each number below the limit, after `ticks` ticks, and how each was left by the last call that touched it
 pub record Heats : Type 0 where
   pub limit : ℕ
   pub ticks : ℕ
@@ -17,7 +17,7 @@ after_deposit heat hits = min (2 ^ 40) (heat + hits)
 abbrev pub after_tick : ℕ → ℕ
 after_tick heat = heat / 2
 
--- no directory has heat, and so many ticks were made
+-- no directory has heat, and this many ticks were made
 abbrev pub all_cold : ℕ → ℕ → Heats
 all_cold limit ticks = record {
   limit = limit;

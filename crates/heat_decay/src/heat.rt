@@ -52,7 +52,7 @@ impl Heat {
         Heat::resumed(alloc, limit, 0)
     }
 
-    /// No directory has heat after so many ticks. It takes all memory that the heats will need.
+    /// No directory has heat after `ticks` ticks. It takes all memory that the heats will need.
     pub fn resumed(alloc: Global, limit: u32, ticks: u64) -> Result<Heat, AllocError>
         requires limit { (1 ≤ limit) × (limit ≤ DIR_LIMIT) }
         requires ticks { ticks ≤ 2 ^ 40 }

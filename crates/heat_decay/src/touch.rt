@@ -10,7 +10,7 @@ pub struct Touch {
 }
 
 impl Touch {
-    /// What is left of it after so many ticks in all. After 41 ticks more nothing is.
+    /// What is left of it after `ticks` ticks in all. After 41 ticks more nothing is.
     pub fn cooled(self, ticks: u64) -> u64
         requires past { self.tick ≤ ticks }
         requires cool { self.heat ≤ 2 ^ 40 }

@@ -57,7 +57,7 @@ spread (x ∷ xs) = x ∷ 0 ∷ spread xs
 abbrev pub laid_out : List ℕ → List ℕ → List ℕ → List ℕ
 laid_out hits pending begun = sums (spread (differences hits pending)) (0 ∷ spread begun)
 
--- 1 at this entry alone
+-- 1 only at this entry
 abbrev pub unit : ℕ → List ℕ
 unit zero = 1 ∷ []
 unit (suc k) = 0 ∷ unit k

@@ -22,7 +22,7 @@ differences (x ∷ xs) (y ∷ ys) = (x - y) ∷ differences xs ys
 abbrev pub raised : List ℕ → ℕ → List ℕ
 raised counts dir = slice_set counts dir (at counts dir + 1)
 
--- the row with so many more at this directory
+-- the row with this many more at this directory
 abbrev pub raised_by : List ℕ → ℕ → ℕ → List ℕ
 raised_by counts dir more = slice_set counts dir (at counts dir + more)
 

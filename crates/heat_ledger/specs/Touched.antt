@@ -2,16 +2,16 @@
 use Rattle.std.specs.Prelude.{◌≡◌, ℕ, zero, suc, ◌+◌, ◌==◌, List, [], ◌∷◌, if◌then◌else◌}
 use Rattle.heat_ledger.specs.Rows.{at}
 
--- how often a directory stands in a list
+-- how often a directory is in a list
 abbrev pub times : List ℕ → ℕ → ℕ
 times [] dir = 0
 times (d ∷ ds) dir = if d == dir then 1 + times ds dir else times ds dir
 
--- 1 where there is a count, and else 0
+-- 1 where there is a count, otherwise 0
 abbrev pub mark : ℕ → ℕ
 mark zero = 0
 mark (suc count) = 1
 
--- each directory stands in the list once where it has a count, and else not at all
+-- each directory is in the list once where it has a count, and otherwise not at all
 pub record IsTracked (counts touched : List ℕ) : Type 0 where
   pub once : (dir : ℕ) → times touched dir ≡ mark (at counts dir)

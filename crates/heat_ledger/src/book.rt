@@ -61,7 +61,7 @@ impl<J: Naming> Book<J> {
     ghost use Rattle.heat_ledger.specs.Ledger.{IsClean, weight_of, hits_of, pending_of, begun_of};
 
     /// A book for the directories below the limit, with this many shares. Where memory is refused,
-    /// what was opened is handed back.
+    /// it returns what was opened.
     pub fn open(
         alloc: Global,
         opened: NewBook,

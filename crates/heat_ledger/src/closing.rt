@@ -10,7 +10,7 @@ use naming::Naming;
 use std::marker::Brand;
 use std::mem;
 
-/// How much weight of so many shares these leave.
+/// How much of the weight of `shares` shares these lack.
 pub(crate) fn missing<J: Naming>(shares: u8, back: &[Share<J>]) -> u8
     ensures { result ≡ shares - weight_of back.now }
 {

@@ -98,7 +98,7 @@ impl Counts {
         count_at(&self.places, &self.columns.begun, dir.number())
     }
 
-    /// So many more hits of a directory.
+    /// Adds `more` hits of a directory.
     pub(crate) fn raise_hits(&mut self, dir: Dir, more: u64)
         requires inside { dir < length self.old.hits }
         requires fits { at self.old.hits dir + more < 2 ^ 64 }
@@ -113,7 +113,7 @@ impl Counts {
         self.columns.hits[place] += more;
     }
 
-    /// So many more pending hits of a directory, which may be none.
+    /// Adds `more` pending hits of a directory, which may be none.
     pub(crate) fn raise_pending(&mut self, dir: Dir, more: u64)
         requires inside { dir < length self.old.pending }
         requires fits { at self.old.pending dir + more < 2 ^ 64 }
@@ -133,7 +133,7 @@ impl Counts {
         self.columns.pending[place] = count + more;
     }
 
-    /// So many more begun requests of a directory.
+    /// Adds `more` begun requests of a directory.
     pub(crate) fn raise_begun(&mut self, dir: Dir, more: u64)
         requires inside { dir < length self.old.begun }
         requires fits { at self.old.begun dir + more < 2 ^ 64 }

@@ -22,7 +22,7 @@ impl Columns {
     ghost use Rattle.std.specs.Prelude.{◌≡◌, ◌∷◌, [], IfOk};
     ghost use Rattle.heat_ledger.specs.Placed.{AreColumns, HasRoom};
 
-    /// No directory has a place, and there is room for so many.
+    /// No directory has a place, and there is room for `limit` of them.
     pub(crate) fn new(alloc: Global, limit: u32) -> Result<Columns, AllocError>
         ensures placed { IfOk result (λ columns. AreColumns columns []) }
         ensures room { IfOk result (HasRoom limit) }
@@ -71,7 +71,7 @@ pub(crate) fn take_count(places: &Vec<u32>, kept: &mut Vec<u64>, limit: u32, dir
     count
 }
 
-// Lets so many directories at least have a place or the mark for none.
+// Lets at least `count` directories have a place or the mark for none.
 fn reach(places: &mut Vec<u32>, count: usize)
     requires { count ≤ vec_capacity places.old }
     ensures same { (dir : ℕ) → at places.new.items dir ≡ at places.old.items dir }
@@ -107,7 +107,7 @@ fn give_place(places: &mut Vec<u32>, columns: &mut Columns, limit: u32, dir: u32
     }
 }
 
-/// Lets a directory have a place, and tells it.
+/// A directory's place, which it gets if it has none.
 pub(crate) fn place_of(places: &mut Vec<u32>, columns: &mut Columns, limit: u32, dir: u32) -> usize
     requires placed { AreColumns columns.old places.old.items }
     requires inside { dir < limit }

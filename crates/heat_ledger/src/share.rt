@@ -18,7 +18,7 @@ pub const HIT_LIMIT: u64 = 1 << 56;
 ///
 /// `J` names the board whose book it is. All memory was asked for when the book was opened: 36 bytes
 /// a directory. Of them a share writes 4 for each directory up to the last one that it counted, and
-/// at most 32 for each that it counted, so one that counts nothing takes up address space alone.
+/// at most 32 for each that it counted, so one that counts nothing takes up only address space.
 #[derive(Drop)]
 pub struct Share<J: Naming> {
     pub(crate) tokens: Arc<TokenTable, Global>,
@@ -69,7 +69,7 @@ impl<J: Naming> Share<J> {
 
     /// The directories with hits that aren't deposited, rising, each with their number. Counts to
     /// which the rows are added one by one have then what a deposit makes of them. It takes time for
-    /// these directories alone, and asks for memory first.
+    /// only these directories, and asks for memory first.
     pub fn pending_rows(&self, alloc: Global) -> Result<Vec<(Dir, u64)>, AllocError>
         ensures rows { IfOk result (λ rows. rows.items ≡ counted_rows self.now.pending) }
         ensures sums { (counted : List ℕ) → length counted ≡ J.limit
@@ -128,7 +128,7 @@ impl<J: Naming> Share<J> {
         Ok(())
     }
 
-    /// Counts so many hits of a directory as `hit` would, which refuses those that find no room
+    /// Counts `hits` hits of a directory as `hit` would, which refuses those that find no room
     /// below 2^56, and says how many were counted. However many they are, it is one addition.
     pub fn count(&mut self, dir: Dir, hits: u32) -> u32
         requires inside { dir < J.limit }

@@ -1,4 +1,4 @@
-//! Lists of totals that are split among holders, which exist in proofs alone.
+//! Lists of totals that are split among holders, which exist only in proofs.
 //!
 //! Each holder has a token. What a token knows is a `TokenState`: how many of 65 parts it has,
 //! and an amount for each entry. One token is the authority: it knows the total of each entry, which is the sum
@@ -137,7 +137,7 @@ pub(crate) fn learn(tokens: &SharedTable, token: &mut Token)
     tokens.load::<Learned>(token, 0);
 }
 
-/// Takes a holder's token back and gives it anew, with what `K` says, which a caller picks by what is told.
+/// Takes a holder's token back and gives it anew, with what `K` says. The caller picks `K` by the last argument.
 pub(crate) fn reissue<K: Amount, T>(
     tokens: &SharedTable,
     authority: &mut Token,
@@ -171,7 +171,7 @@ pub(crate) fn reissue<K: Amount, T>(
     learn(tokens, authority);
 }
 
-/// Gives a token what `K` says, which a caller picks by what is told.
+/// Gives a token what `K` says. The caller picks `K` by the last argument.
 pub(crate) fn grant<K: Amount, T>(tokens: &SharedTable, authority: &mut Token, _told: &T) -> Token
     requires table { (tokens.now.table_id.words ≡ 1) × (authority.old.table_id ≡ tokens.now.table_id) }
     requires authority { authority.old.me.0.has_totals ≡ true }

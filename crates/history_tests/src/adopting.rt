@@ -32,7 +32,7 @@ pub(crate) fn plan(alloc: Global, greatest: u64) -> Result<Plan, AllocError> {
     })
 }
 
-// Makes /a, which gets 5 hits, and lets the balancer use rank 1 alone.
+// Makes /a, which gets 5 hits, and lets the balancer use only rank 1.
 fn set_up<J: Naming, M: Publisher<J>>(
     rt: &impl Abort,
     alloc: Global,

@@ -10,7 +10,7 @@ use naming::Naming;
 use std::alloc::Global;
 use std::process::Abort;
 
-/// A board of so many ranks with the root alone and with room for the directories below a limit, and a share for each
+/// A board of `ranks` ranks with only the root and with room for the directories below a limit, and a share for each
 /// rank; asked for again where memory was refused.
 pub(crate) fn board_of<J: Naming, M: Publisher<J>>(
     rt: &impl Abort,

@@ -1,4 +1,4 @@
-//! Lists of commands beside single calls, and boards whose ledger is closed.
+//! Lists of commands compared with single calls, and boards whose ledger is closed.
 ghost use Rattle.std.specs.Prelude.{◌≡◌, ◌≤◌, All, IfOk, true};
 ghost use Rattle.board_state.specs.Steps.{is_inner};
 ghost use Rattle.heat_ledger.specs.Ledger.{IsClean};

@@ -18,7 +18,7 @@ pub(crate) enum Found {
     Serves(u8, u32),
     /// A rank doesn't serve a directory.
     Withholds(u8, u32),
-    /// So many messages were sent.
+    /// This many messages were sent.
     Sent(u32),
     /// An export's states.
     States(u32, ExporterState, ImporterState),
@@ -28,7 +28,7 @@ pub(crate) enum Found {
     To(u32, u32, u8),
     /// A message that wasn't sent.
     Unsent(u32),
-    /// So many roots of subtrees.
+    /// The number of roots of subtrees.
     Roots(usize),
     /// A rank's journal: a directory below the root was made, and an export gave it away.
     Exported(u8, u32, u32),

@@ -1,4 +1,4 @@
-//! Events of schedules, each beside the answer that it must have.
+//! Events of schedules, each with the answer that it must have.
 //!
 //! What asks for memory is asked again where a growth was refused, and must have changed nothing by then. So the tests
 //! hold with any one growth refused.
@@ -143,7 +143,7 @@ pub(crate) fn run_rows(
     }
 }
 
-/// A cluster of two ranks with room for so many directories.
+/// A cluster of two ranks with room for `limit` directories.
 pub(crate) fn cluster_of(alloc: Global, limit: u32) -> Result<Cluster, AllocError>
     requires low { 1 ≤ limit }
     requires high { limit ≤ 65536 }
@@ -154,7 +154,7 @@ pub(crate) fn cluster_of(alloc: Global, limit: u32) -> Result<Cluster, AllocErro
     }
 }
 
-/// A cluster of two ranks with room for 16 directories, after the first so many steps to the log entry.
+/// A cluster of two ranks with room for 16 directories, after the first `steps` steps to the log entry.
 pub(crate) fn after(rt: &impl Abort, alloc: Global, steps: usize) -> Cluster {
     let mut cluster = cluster_of(alloc, 16).sure(rt);
     let rows = &TO_THE_LOG[..steps.min(9)];

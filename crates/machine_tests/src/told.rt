@@ -1,4 +1,4 @@
-//! What the steps of schedules are answered.
+//! The answers to the steps of schedules.
 
 use crate::same::{Sure, same_in};
 use export_machine::{Reply, StepError};
@@ -39,7 +39,7 @@ pub(crate) fn printed(alloc: Global, error: StepError) -> Result<String, AllocEr
     }
 }
 
-/// An answer is the one that is told in this row.
+/// An answer is the one of this row.
 pub(crate) fn same_as_told<R: Debug>(
     rt: &impl Abort,
     alloc: Global,
@@ -56,7 +56,7 @@ pub(crate) fn same_as_told<R: Debug>(
     }
 }
 
-/// What is refused in this row prints what is told, and where nothing is told nothing is refused.
+/// A refusal prints the text of this row, and a row without a text has no refusal.
 pub(crate) fn same_refusal<R: Debug>(
     rt: &impl Abort,
     alloc: Global,

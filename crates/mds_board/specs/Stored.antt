@@ -29,7 +29,7 @@ began rank dir ticket = record { change = Step (Begin rank dir); reply = Reply (
 abbrev pub ended : ℕ → Entry
 ended ticket = record { change = Step (End ticket); reply = Reply Changed }
 
--- the entry in a slot, where these lie beside the slots
+-- the entry in a slot, where these are kept apart from the slots
 abbrev pub entry_in : List Entry → Slot → Entry
 entry_in others (slot.Began rank dir ticket) = began rank dir ticket
 entry_in others (slot.Ended ticket) = ended ticket

@@ -46,9 +46,9 @@ impl<J: Naming, M: Publisher<J>> Model for Board<J, M> {
 }
 
 impl<J: Naming, M: Publisher<J>> Board<J, M> {
-    /// The root alone, at rank 0 of so many active ranks, with room for the directory numbers below `limit`, and a
+    /// Only the root, at rank 0 of `active` active ranks, with room for the directory numbers below `limit`, and a
     /// share of the ledger for each rank. The map has one operation, which gives the root to rank 0, and it is
-    /// published. Where memory is refused, the parts are handed back, and the map may have this operation then.
+    /// published. Where memory is refused, it returns the parts, and the map may have this operation then.
     pub fn new(
         alloc: Global,
         parts: BoardParts<J, M>,
@@ -90,7 +90,7 @@ impl<J: Naming, M: Publisher<J>> Board<J, M> {
         Ok(())
     }
 
-    /// Makes a directory below a parent, with a name that is no child's of it, and so many inodes. Its authority is the
+    /// Makes a directory below a parent, with `inodes` inodes and a name that no child of it has. Its authority is the
     /// parent's.
     pub fn make(
         &mut self,

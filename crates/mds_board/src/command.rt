@@ -8,7 +8,7 @@ use mds_types::{Dir, RankSet};
 /// What a board is asked for.
 #[derive(Drop)]
 pub enum BoardCommand {
-    /// Makes a directory below this parent, with this name and so many inodes.
+    /// Makes a directory below this parent, with this name and this number of inodes.
     Make(Dir, Name, u32),
     /// Removes a directory.
     Remove(Dir),

@@ -92,7 +92,7 @@ impl History {
         }
     }
 
-    /// Room for so many more.
+    /// Room for `more` more.
     pub(crate) fn reserve(&mut self, more: usize) -> Result<(), AllocError>
         ensures same { self.new.entries ≡ self.old.entries }
         ensures room { OnOk result (HasRoom more self.new) }

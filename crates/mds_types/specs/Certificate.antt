@@ -23,7 +23,7 @@ IsCutProof rows k greatest (Table table) =
 abbrev pub part_price_at : DualProof → ℕ → ℤ
 part_price_at dual part = slice_index_or dual.part_price part (pos 0)
 
--- the price of a rank, which stands at its place among the ranks of the set
+-- the price of a rank, which is at its place among the ranks of the set
 abbrev pub rank_price_at : DualProof → ℕ → ℕ → ℤ
 rank_price_at dual ranks r = slice_index_or dual.rank_price (count_below r (has_rank ranks)) (pos 0)
 

@@ -6,7 +6,7 @@ use Rattle.mds_types.specs.declared.cut_proof.Row.{Row}
 use Rattle.mds_types.specs.Problem.{parent_at, heat_at}
 use Rattle.mds_types.specs.Sums.{sum_below}
 
--- what stands past the table's last row
+-- what is past the table's last row
 abbrev pub no_cut : Row
 no_cut = record { cuts = 0; rest = 0; price = 0; cut = false }
 

@@ -11,7 +11,7 @@ abbrev pub is_hex : List ℕ → Bool
 is_hex digits =
     nat_lt 0 (length digits) && (nat_le (length digits) 16 && list_all (λ c. nat_lt (digit_value c) 16) digits)
 
--- the bits that stand behind 0x
+-- the bits after 0x
 abbrev pub hex_bits : List ℕ → Option ℕ
 hex_bits text =
     if bytes_eq (take 2 text) (codes "0x") && is_hex (drop 2 text) then Some (digits_value 16 (drop 2 text)) else None

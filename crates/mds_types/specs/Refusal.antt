@@ -57,7 +57,7 @@ name refusal.NoReader = codes "34 NoReader"
 name refusal.Pinned = codes "35 Pinned"
 name refusal.NoThread = codes "36 NoThread"
 
--- the value behind it, where there is one
+-- the value after it, where there is one
 abbrev pub value_of : Refusal → RefusalValue
 value_of (refusal.BadParent row) = Number row
 value_of (refusal.TooHot row) = Number row

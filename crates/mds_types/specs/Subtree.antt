@@ -6,7 +6,7 @@ use Rattle.mds_types.specs.Problem.{parent_at, heat_at}
 use Rattle.mds_types.specs.Sums.{sum_below, count_below, some_below}
 use Rattle.mds_types.specs.Division.{joins_parent}
 
--- the row so many steps above row j; the root is its own parent
+-- the row this many steps above row j; the root is its own parent
 abbrev pub climb : List ProblemRow → ℕ → ℕ → ℕ
 climb rows zero j = j
 climb rows (suc steps) j = parent_at rows (climb rows steps j)

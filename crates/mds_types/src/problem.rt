@@ -116,7 +116,7 @@ impl Problem {
     ghost use Rattle.mds_types.specs.Problem.{IsFirstFault, IsForest};
     ghost use Rattle.mds_types.specs.RankSet.{rank_count};
 
-    /// The problem with these rows and ranks. Where something is wrong, the rows are handed back.
+    /// The problem with these rows and ranks. Where something is wrong, it returns the rows.
     /// It takes no memory.
     pub fn new(
         rows: Vec<ProblemRow>,

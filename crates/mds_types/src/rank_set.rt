@@ -56,7 +56,7 @@ impl fmt::Display for BadMask {
 
 impl Error for BadMask {}
 
-// One digit stands for four ranks.
+// One digit holds four ranks.
 const DIGIT_LIMIT: usize = 16;
 
 /// The number that 1 to 16 hexadecimal digits write.

@@ -86,7 +86,7 @@ pub enum Refusal {
     Frozen(u32),
     /// An export needs two ranks.
     SameRank,
-    /// So many requests are running there.
+    /// This many requests are running there.
     NotYet(u32),
     /// The export has come so far at its exporter, which doesn't allow the event.
     Late(ExportStage),
@@ -118,7 +118,7 @@ pub enum Refusal {
     NoThread,
 }
 
-/// What is printed behind a refusal's name.
+/// What is printed after a refusal's name.
 #[derive(Clone, Copy, Debug, PartialEq, Eq)]
 pub enum RefusalValue {
     /// The name says all.
@@ -196,7 +196,7 @@ impl Refusal {
         }
     }
 
-    /// Writes the value, behind a space.
+    /// Writes the value, after a space.
     fn write_value<W: fmt::Write>(self, f: &mut fmt::Formatter<W>) -> fmt::Result
         ensures { DisplaysOnOk W.write_str_gives f.old result (Some (value self)) f.new }
     {

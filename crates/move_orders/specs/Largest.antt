@@ -27,10 +27,10 @@ pub record IsOrder (entries : List (Option Entry)) (now target : List (Option �
   pub rising : IsStrictlyIncreasing o.dirs
   pub moves : (d : ℕ) → Contains o.dirs d → Moves entries now target o.from o.to d
   pub connected : IsConnected (IsEdge entries) (Contains o.dirs)
-  -- no directory beside it could be added
+  -- no neighbouring directory could be added
   pub largest : (c d : ℕ) → Contains o.dirs c → IsEdge entries c d → Moves entries now target o.from o.to d
       → Contains o.dirs d
-  -- the top has the least number and stands above all others: each of them has its parent in the set
+  -- the top has the least number and is above all others: each of them has its parent in the set
   pub below_top : (d : ℕ) → Contains o.dirs d → d ≢ top o → Contains o.dirs (parent_of entries d)
 
 -- each is a largest connected set, each directory that moves is in one of them and in no other, and their tops rise

@@ -15,7 +15,7 @@ use std::alloc::{AllocError, Global};
 /// directory moves where these are two ranks. What lies beyond the end of either list stays.
 ///
 /// There is one order for each largest set of directories that is connected in the tree and goes
-/// from one rank to another. They stand by the rising numbers of their tops, and the directories of
+/// from one rank to another. They are in the rising order of their tops, and the directories of
 /// each by their own. One pass finds them, since a parent's number is smaller than its child's.
 pub fn orders(
     alloc: Global,

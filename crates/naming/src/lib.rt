@@ -1,8 +1,8 @@
 //! The name of one board, as a type parameter.
 //!
-//! What comes out of a lock or another thread is known by its type alone. So whatever belongs to
+//! What comes out of a lock or another thread is known only by its type. So whatever belongs to
 //! one board carries the board's name in its type: a share or a token of another board is a type
-//! error. The name exists in proofs alone. A program picks it once, where it opens its board, as
+//! error. The name exists only in proofs. A program picks it once, where it opens its board, as
 //! the names of the parts that it has just opened.
 #![tactic(auto)]
 

@@ -1,4 +1,4 @@
-//! Orders of random trees beside the sets that grow from one directory.
+//! Orders of random trees compared with the sets that grow from one directory.
 ghost use Rattle.std.specs.Prelude.{◌<◌};
 
 use crate::same::{Sure, holds_in};

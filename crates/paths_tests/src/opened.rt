@@ -1,5 +1,5 @@
 //! The one place that opens a map. A function that knows the type of the map's writer takes ten seconds to prove for
-//! that alone, so all that is tried is generic in it.
+//! that reason, so all that is tried is generic in it.
 ghost use Rattle.std.specs.Prelude.{◌≡◌};
 
 use crate::long_lists::are_changed_alone;

@@ -9,7 +9,7 @@ use mds_types::{Dir, Rank};
 use naming::Naming;
 use std::alloc::Global;
 
-// Rank 0 is published, rank 1 at first not; the reader is told; the directory loses its rank.
+// Rank 0 is published, rank 1 at first not; the reader learns of it; the directory loses its rank.
 fn follow<J: Naming, M: Publisher<J>>(
     alloc: Global,
     writer: &mut M,
@@ -32,7 +32,7 @@ fn follow<J: Naming, M: Publisher<J>>(
     Ok([first, before, after, other, look(reader, dir)])
 }
 
-// What a reader beside the writer finds.
+// What a reader finds with the writer's help.
 fn latest<J: Naming, M: Publisher<J>>(
     writer: &M,
     reader: &mut MapReader<J>,
@@ -41,7 +41,7 @@ fn latest<J: Naming, M: Publisher<J>>(
     reader.find_latest(writer, dir)
 }
 
-// Rank 0 is published, rank 1 at first not: what a reader beside the writer finds each time.
+// Rank 0 is published, rank 1 at first not: what a reader finds each time with the writer's help.
 fn find_latest<J: Naming, M: Publisher<J>>(
     alloc: Global,
     writer: &mut M,

@@ -21,7 +21,7 @@ fn worked<J: Naming>(mut share: Share<J>, dir: Dir, times: u32) -> Share<J> {
     share
 }
 
-// A share that was moved to another thread, hit there and handed back.
+// A share that was moved to another thread, hit there and given back.
 fn hit_there<J: Naming + Send + Sync + 'static, R: Threads + Sync>(
     rt: &R,
     share: Share<J>,

@@ -9,7 +9,7 @@ use naming::Naming;
 use std::alloc::Global;
 use std::thread::{Threads, join};
 
-// Where an answer on directory 0 stands in the order in which the writer gives them.
+// The place of an answer on directory 0 in the order in which the writer gives them.
 fn place(found: Found) -> Option<u8> {
     match found {
         Found::NoDir => Some(0),

@@ -69,7 +69,7 @@ pub fn check_cut(
     )
 }
 
-/// Whether the placing moves so many inodes, and the prices show that none of the same parts moves
+/// Whether the placing moves `moved` inodes, and the prices show that none of the same parts moves
 /// fewer. `cells` are what each part moves at each rank of the set.
 fn placing_holds(cells: &[u64], ranks: RankSet, rank: &[Rank], moved: u64, dual: &DualProof) -> bool
     requires parts { length rank.now ≤ 64 }

@@ -24,7 +24,7 @@ fn found(rt: &impl Abort, alloc: Global, problem: &Problem) -> BestCut {
 /// Two directories without heat.
 const COLD: [Given; 2] = [(0, 0, 1, 0), (0, 0, 1, 0)];
 
-// (rows, ranks, least greatest heat, the part of each row, the proof): the least row that is as hot is told
+// (rows, ranks, least greatest heat, the part of each row, the proof): the proof names the least row that is as hot
 const SMALL_TREES: [(&[Given], u64, u64, &[u32], &Shown); 5] = [
     (&STAR, 3, 9, &[0, 1, 0, 0], &Shown::Table(&STAR_TABLE)),
     (&STAR, 7, 5, &[0, 1, 2, 0], &Shown::Heavy(1)),

@@ -185,7 +185,7 @@ fn told_of(rt: &impl Abort, answer: Result<Cut, CutError>) -> (Option<usize>, Op
     }
 }
 
-/// Whether a cut has as few parts as any division, or tells the least row that is too hot.
+/// Whether a cut has as few parts as any division, or reports the least row that is too hot.
 fn is_fewest(rt: &impl Abort, alloc: Global, rows: Vec<ProblemRow>, bound: u64) -> bool {
     assert!(rt; rows.len() <= 8);
     let wanted = (fewest_parts(&rows, bound), first_hot(&rows, bound));

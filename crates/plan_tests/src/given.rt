@@ -16,7 +16,7 @@ pub type Given = (u32, u64, u32, u8);
 /// Cuts, rest, price of a table's row, and whether it is cut.
 pub type InTable = (u32, u64, u64, bool);
 
-/// An empty list with room for so many entries.
+/// An empty list with room for `count` entries.
 pub fn room<T>(rt: &impl Abort, alloc: Global, count: usize) -> Vec<T> {
     match Vec::with_capacity(alloc, count) {
         Ok(list) => list,
@@ -95,7 +95,7 @@ fn small_row(parent: u32, heat: u64) -> ProblemRow {
     }
 }
 
-/// So many rows below a cold root. The first one's heat, and what each has more or less than the one before.
+/// `count` rows below a cold root. The first one's heat, and what each has more or less than the one before.
 pub fn star(
     rt: &impl Abort,
     alloc: Global,
@@ -114,7 +114,7 @@ pub fn star(
     rows
 }
 
-/// A chain of so many rows of heat 1.
+/// A chain of `count` rows of heat 1.
 pub fn chain(rt: &impl Abort, alloc: Global, count: u32) -> Vec<ProblemRow> {
     let mut rows = room(rt, alloc, count as usize);
     for row in 0..count {
@@ -150,7 +150,7 @@ pub fn problem(rt: &impl Abort, alloc: Global, given: &[Given], ranks: u64) -> P
     over(rt, rows_of(rt, alloc, given), ranks)
 }
 
-/// The first so many ranks.
+/// The first `count` ranks.
 pub fn first_ranks(count: u8) -> u64 {
     if count >= 64 {
         return u64::MAX;

@@ -484,7 +484,7 @@ const CUTS: [(u8, u64, &[u32], u32, u64, &Shown, bool); 16] = [
     (16, 3, &[0, 1, 2, 0], 3, 5, &Shown::Heavy(1), false),
 ];
 
-/// What the checker says of parts of the star, of so many ranks.
+/// What the checker says of parts of the star, with these ranks.
 fn says_of_parts(
     rt: &impl Abort,
     alloc: Global,

@@ -46,7 +46,7 @@ fn table<R: Abort + Threads + Sync>(
     }
 }
 
-/// The costs of a division, from chunks of so many rows.
+/// The costs of a division, from chunks of `chunk` rows.
 fn table_by<R: Abort + Threads + Sync>(
     rt: &R,
     alloc: Global,
@@ -221,7 +221,7 @@ fn counts_the_smaller_ranks(rt: HostRuntime) {
     }
 }
 
-/// The costs that stand in these cells, if they fit.
+/// The costs that are in these cells, if they fit.
 fn given_costs(
     rt: &impl Abort,
     alloc: Global,
@@ -242,7 +242,7 @@ const HANDED_ON: [(u64, &[u64], u64, &[u8]); 6] = [
     (0xf0, &[0, 1, 9, 9, 0, 9, 2, 9, 0, 9, 9, 9], 3, &[5, 6, 4]),
 ];
 
-/// The costs that stand in these cells, which fit.
+/// The costs that are in these cells, which fit.
 fn costs_of(rt: &impl Abort, alloc: Global, count: u32, ranks: u64, cells: &[u64]) -> Costs {
     given_costs(rt, alloc, count, ranks, cells)
         .ok_or("no costs")
@@ -313,7 +313,7 @@ fn no_choice_costs_less(rt: HostRuntime) {
     }
 }
 
-/// A random star of so many rows, at ranks below 6, and random parts below a count.
+/// A random star of `size` rows, at ranks below 6, and random parts below `count`.
 fn random_star(
     rt: &impl Abort,
     random: &mut Random,

@@ -7,7 +7,7 @@ use mds_types::{Problem, ProblemRow, RankSet};
 use std::alloc::Global;
 use std::process::Abort;
 
-/// These rows are refused with this text, and all of them handed back.
+/// These rows are refused with this text, and all of them are returned.
 fn are_refused(rt: &impl Abort, alloc: Global, rows: Vec<ProblemRow>, ranks: u64, text: &str) {
     let count = rows.len();
     let Err((error, back)) = Problem::new(rows, RankSet::from_bits(ranks)) else {

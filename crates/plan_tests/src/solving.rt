@@ -122,7 +122,7 @@ fn solves_small_trees(rt: HostRuntime) {
     }
 }
 
-/// The least greatest heat of so many parts, and the fewest inodes that move with a plan's parts, by trial.
+/// The least greatest heat of `ranks` parts, and the fewest inodes that move with a plan's parts, by trial.
 fn best_by_trial(
     rt: &impl Abort,
     problem: &Problem,
@@ -154,7 +154,7 @@ fn is_best(rt: &impl Abort, problem: &Problem, plan: &Plan, ranks: usize) {
     same_in(rt, &told, &best_by_trial(rt, problem, plan, ranks), plan);
 }
 
-/// The plan of a problem with so many ranks is accepted, and best.
+/// The plan of a problem with `ranks` ranks is accepted, and best.
 fn solves_best<R: Abort + AllocGlobal + Threads + Sync>(rt: &R, problem: &Problem, ranks: usize) {
     let plan = solved(rt, rt.alloc(), problem);
     is_best(rt, problem, &plan, ranks);

@@ -9,7 +9,7 @@ use Rattle.std.specs.Str.Parse.{digits_value, starts_with_minus, without_leading
 use Rattle.mds_types.specs.Mask.{mask_bits}
 use Rattle.plan_text.specs.RowNames.{is_row_name}
 
--- a value and the text behind it
+-- a value and the text after it
 abbrev pub Read : Type 0 → Type 0
 Read A = Option (A × List ℕ)
 
@@ -31,7 +31,7 @@ read_value value text = do
   x ← value (before_first ends_field text)
   Some (x, after_first ends_field text)
 
--- what stands behind a word
+-- what comes after a word
 abbrev pub behind_word : List ℕ → List ℕ → Option (List ℕ)
 behind_word word text =
     if bytes_eq (before_first ends_field text) word then Some (after_first ends_field text) else None
@@ -39,7 +39,7 @@ behind_word word text =
 abbrev pub is_numeral : List ℕ → Bool
 is_numeral digits = nat_lt 0 (length digits) && list_all (λ c. nat_lt (digit_value c) 10) digits
 
--- the number that a text writes, where it is at most the limit; a plus may stand in front
+-- the number that a text writes, where it is at most the limit; a plus may come first
 unfoldable pub number_within : ℕ → List ℕ → Option ℕ
 number_within limit text =
     let digits = without_leading_plus text in

@@ -20,7 +20,7 @@ infixl 10 ◌>>=◌
 abbrev ◌>>=◌ : {A B : Type 0} → Option A → (A → Option B) → Option B
 o >>= f = option_and_then f o
 
--- a number of so many bits
+-- a number of at most `bits` bits
 abbrev pub read_number : ℕ → List ℕ → Read ℕ
 read_number bits text = read_value (number_in (2 ^ bits - 1)) text
 
@@ -57,7 +57,7 @@ read_price text = do
   rest ← behind_word (codes "price") text
   read_value signed_in rest
 
--- so many lines
+-- this many lines
 abbrev pub read_lines : {A : Type 0} → (List ℕ → Read A) → ℕ → List ℕ → Read (List A)
 read_lines one zero text = Some ([], text)
 read_lines one (suc n) text = do
@@ -71,7 +71,7 @@ with_front front read = do
   more ← read
   Some (front ++ more.0, more.1)
 
--- the number behind a word
+-- the number after a word
 unfoldable pub read_counted : List ℕ → List ℕ → Read ℕ
 read_counted name text = do
   rest ← behind_word name text
@@ -174,7 +174,7 @@ abbrev pub Reads : {A B : Type 0} → (A → B) → Result (A × Bor (List ℕ))
 Reads view (Ok found) read = read ≡ Some (view found.0, found.1.now)
 Reads view (Err fault) read = Fails fault read
 
--- a function returned this value and this text behind it, unless memory was refused
+-- the fault is that memory was refused
 abbrev pub IsMemory : Fault → Type 0
 IsMemory Memory = ⊤
 IsMemory (Expected left expected) = ⊥

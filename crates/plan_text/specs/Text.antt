@@ -13,7 +13,7 @@ use Rattle.mds_types.specs.DualProof.{DualData}
 use Rattle.mds_types.specs.Plan.{PlanData}
 use Rattle.mds_types.specs.Problem.{ProblemData}
 
--- what stands behind a line's first field: a blank before each field, and a newline in the end
+-- what comes after a line's first field: a blank before each field, and a newline in the end
 abbrev pub behind : List (List ℕ) → List ℕ
 behind [] = 10 ∷ []
 behind (field ∷ fields) = 32 ∷ field ++ behind fields

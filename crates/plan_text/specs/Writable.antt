@@ -41,7 +41,7 @@ FitsCut Zero = ⊤
 FitsCut (Heavy row) = row < 2 ^ 32
 FitsCut (Table rows) = FitsList FitsCell rows
 
--- parents stand before their children, rows and heats are within the limits, and there is a rank
+-- parents are before their children, rows and heats are within the limits, and there is a rank
 pub record FitsProblem (problem : ProblemData) : Type 0 where
   pub sound : IsProblem problem
   pub rows : FitsList FitsRow problem.rows

@@ -28,7 +28,7 @@ fn field_length(text: &[u8]) -> usize
     text.len()
 }
 
-/// The first field, and what stands behind the byte that ends it.
+/// The first field, and what comes after the byte that ends it.
 pub(crate) fn field(text: &[u8]) -> (&[u8], &[u8])
     ensures first { result.0.now ≡ before_first ends_field text.now }
     ensures rest { result.1.now ≡ after_first ends_field text.now }
@@ -41,7 +41,7 @@ pub(crate) fn field(text: &[u8]) -> (&[u8], &[u8])
     }
 }
 
-/// What stands behind a word.
+/// What comes after a word.
 pub(crate) fn word<'a>(text: &'a [u8], name: &[u8]) -> Option<&'a [u8]>
     ensures { option_map (λ rest. rest.now) result ≡ behind_word name.now text.now }
 {

@@ -2,7 +2,7 @@
 //! elsewhere or later.
 //!
 //! A certificate is lines of fields, with one blank between fields. Numbers are decimal, without leading
-//! zeros; the mask is hexadecimal. A list has its length in front. Certificates stand one after another in a
+//! zeros; the mask is hexadecimal. A list has its length in front. Certificates are one after another in a
 //! file.
 //!
 //! ```text
@@ -31,7 +31,7 @@
 //! end
 //! ```
 //!
-//! (What stands behind the fields here is not part of it.) `certificate_text` gives just this text. `read_first` gives
+//! (What comes after the fields here is not part of it.) `certificate_text` gives just this text. `read_first` gives
 //! the certificate that a text begins with, as far as there is memory, and what follows it; it refuses a text that
 //! begins with none.
 #![tactic(auto)]

@@ -26,7 +26,7 @@ pub(crate) trait Line: Copy {
     fn to_line(self, alloc: Global) -> Result<String, AllocError>
         ensures { IfOk result (λ made. string_bytes made ≡ line self) };
 
-    /// Reads it from its line, and hands back the text behind it.
+    /// Reads it from its line, and returns the text after it, too.
     fn from_line(text: &[u8]) -> Option<(Self, &[u8])>
         ensures { read_view (λ x. x) result ≡ at text.now };
 

@@ -25,7 +25,7 @@ use std::alloc::{AllocError, AllocFailed, Global};
 pub(crate) enum Fault {
     /// The allocator refused a growth.
     Memory,
-    /// Where so many bytes are left, something else was expected.
+    /// Where this many bytes are left, something else was expected.
     Expected(usize, Expected),
 }
 
@@ -51,7 +51,7 @@ impl From<AllocError> for Fault {
     }
 }
 
-/// The number behind a word.
+/// The number after a word.
 #[tactic(auto, unfolding(crate::specs::Reading::read_counted))]
 fn counted<'a>(text: &'a [u8], name: &[u8]) -> Option<(u64, &'a [u8])>
     ensures { read_view (λ n. n) result ≡ read_counted name.now text.now }
@@ -60,7 +60,7 @@ fn counted<'a>(text: &'a [u8], name: &[u8]) -> Option<(u64, &'a [u8])>
     number(rest, u64::MAX)
 }
 
-/// The number behind a word, or the fault that there is none.
+/// The number after a word, or the fault that there is none.
 fn sum<'a>(text: &'a [u8], name: &[u8], expected: Expected) -> Result<(u64, &'a [u8]), Fault>
     ensures { Reads (λ n. n) result (read_counted name.now text.now) }
 {
@@ -70,7 +70,7 @@ fn sum<'a>(text: &'a [u8], name: &[u8], expected: Expected) -> Result<(u64, &'a 
     }
 }
 
-/// So many lines.
+/// `count` lines.
 fn lines<T: Line>(alloc: Global, text: &[u8], count: u64) -> Result<(Vec<T>, &[u8]), Fault>
     ensures { Reads (λ items. items.items) result (read_lines T.at count text.now) }
 {
@@ -317,7 +317,7 @@ fn names(
     Ok((Some(names), rest))
 }
 
-/// What stands behind the last line, which a byte has to end.
+/// What comes after the last line, which a byte has to end.
 #[tactic(auto, unfolding(crate::specs::Reading::read_end))]
 fn end_line(text: &[u8]) -> Option<&[u8]>
     ensures { option_map (λ rest. rest.now) result ≡ read_end text.now }

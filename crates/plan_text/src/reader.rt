@@ -37,7 +37,7 @@ fn first_other_line(text: &[u8], other: &[u8]) -> u64 {
     line
 }
 
-/// The certificate that a text begins with, and what is behind it.
+/// The certificate that a text begins with, and what comes after it.
 pub fn read_first(alloc: Global, text: &[u8]) -> Result<(Certificate, &[u8]), ReadError>
     ensures same { IfOk result
         (λ found. text.now ≡ text_of found.0.problem found.0.names found.0.plan ++ found.1.now) }

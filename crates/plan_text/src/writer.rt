@@ -188,7 +188,7 @@ fn head_lines(
 }
 
 /// The text of a problem, a plan for it and the plan's proofs: of version 2, where the names of the rows' directories
-/// are given, and else of version 1. It is all ASCII.
+/// are given, otherwise of version 1. It is all ASCII.
 pub fn certificate_text(
     alloc: Global,
     problem: &Problem,

@@ -59,8 +59,8 @@ fn kept(
 }
 
 impl<'a> Search<'a> {
-    /// Whether more inodes stay if one top is dropped and one is added, which is then done. The first piece stands
-    /// for none.
+    /// Whether more inodes stay if one top is dropped and one is added, which is then done. The first piece means
+    /// none.
     fn change(&mut self, alloc: Global, dropped: usize, added: usize) -> Result<bool, AllocError> {
         set_top(&mut self.tops, dropped, false);
         set_top(&mut self.tops, added, true);

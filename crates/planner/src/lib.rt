@@ -90,7 +90,7 @@ fn kept(alloc: Global, problem: &Problem, greatest: u64) -> Result<Option<Presen
     }
 }
 
-/// Prices of 0 for so many parts and ranks.
+/// Prices of 0 for `parts` parts and `ranks` ranks.
 fn no_prices(alloc: Global, parts: usize, ranks: usize) -> Result<DualProof, AllocError>
     requires parts { parts ≤ 64 }
     requires ranks { ranks ≤ 64 }

@@ -7,7 +7,7 @@ ghost use Rattle.planner.specs.Present.{AreRanksNow, IsNumber, IsPartOf};
 use mds_types::{ProblemRow, Rank, RankSet};
 use std::alloc::{AllocError, Global};
 
-/// What stands for the number of a rank that has no row.
+/// In place of a part's number, for a rank that has no row.
 const NONE: u32 = u32::MAX;
 
 /// A part for each rank that has rows.

@@ -2,7 +2,7 @@
 use Rattle.std.specs.Prelude.{◌≡◌, ◌≤◌, ◌*◌, ◌^◌, ℕ, List, All, length}
 use Rattle.mds_types.specs.RankSet.{rank_count}
 
--- so many parts, the ranks as a bit map, and a cell for each part and rank
+-- `count` parts, the ranks as a bit map, and a cell for each part and rank
 pub record CostData : Type 0 where
   pub count : ℕ
   pub ranks : ℕ

@@ -3,14 +3,14 @@ use Rattle.std.specs.Prelude.{◌≡◌, ◌<◌, ◌≤◌, ◌+◌, ◌*◌, �
 use Rattle.mds_types.specs.declared.problem.ProblemRow.{ProblemRow}
 use Rattle.cost_table.specs.Costs.{AreRows, AreSums}
 
--- so many parts, one for each row
+-- each row has one of `count` parts
 pub record AreLabelled (rows : List ProblemRow) (part : List ℕ) (count : ℕ) : Type 0 where
   pub few : length rows ≤ 65536
   pub parts : count ≤ 64
   pub size : length part ≡ length rows
   pub below : (i : ℕ) → i < length rows → slice_index part i < count
 
--- where chunk k begins, of so many rows and past the first ones
+-- where chunk k begins, of `chunk` rows each and past the first ones
 abbrev pub edge : ℕ → ℕ → ℕ → ℕ → ℕ
 edge rows first chunk k = min rows (first + k * chunk)
 

@@ -19,7 +19,7 @@ pub struct Labelled<'a> {
     pub count: u32,
 }
 
-/// Chunks that are added up together: so many, of `chunk` rows each, from row `first` on. The last chunk may be
+/// Chunks that are added up together: `chunks` of `chunk` rows each, from row `first` on. The last one may be
 /// shorter.
 #[derive(Clone, Copy)]
 struct Batch {
@@ -131,7 +131,7 @@ fn add_rows<R: Threads + Sync>(
     Ok(())
 }
 
-/// The sums of all rows, added up from those of chunks of so many rows.
+/// The sums of all rows, added up from those of chunks of `chunk` rows.
 pub fn sums_by<R: Threads + Sync>(
     rt: &R,
     alloc: Global,

@@ -14,7 +14,7 @@ use std::thread::Threads;
 const CHUNK: usize = 65_536;
 
 /// The inodes of each part by the rank that has them now, in the rows from `from` on to before `to`, 64
-/// cells a part: those that rank `r` has of part `p` stand in cell `p * 64 + r`. `part[i]` is the part of row i.
+/// cells a part: those that rank `r` has of part `p` are in cell `p * 64 + r`. `part[i]` is the part of row i.
 pub fn sums(
     alloc: Global,
     problem: &Problem,
@@ -40,7 +40,7 @@ pub fn sums(
     )
 }
 
-/// What each part of a problem moves at each of its ranks, from the sums of chunks of so many rows, which
+/// What each part of a problem moves at each of its ranks, from the sums of chunks of `chunk` rows, which
 /// threads share. `part[i]` is the part of row i.
 pub fn costs_by<R: Threads + Sync>(
     rt: &R,

@@ -38,7 +38,7 @@ impl Costs {
     ghost use Rattle.std.specs.Prelude.{◌≡◌, ◌↔◌, length, IsSome, IfSome};
     ghost use Rattle.rank_assign.specs.Assigned.{IsCostData};
 
-    /// The costs of so many parts at these ranks, where there are no more parts than ranks, there is a
+    /// The costs of `count` parts at these ranks, where there are no more parts than ranks, there is a
     /// cell for each part and rank, part by part with the ranks rising, and no cell is above 2^48.
     pub fn new(count: u32, ranks: RankSet, cells: Vec<u64>) -> Option<Costs>
         ensures some { IsSome result ↔ IsCostData (record { count = count; ranks = ranks; cells = cells.items }) }
@@ -57,7 +57,7 @@ impl Costs {
         }
     }
 
-    /// The costs that stand in these cells.
+    /// The costs that are in these cells.
     pub(crate) fn from_cells(count: u32, ranks: RankSet, cells: Vec<u64>) -> Costs
         requires { IsCostData (record { count = count; ranks = ranks; cells = cells.items }) }
         ensures { result ≡ record { count = count; ranks = ranks; cells = cells.items } }

@@ -2,7 +2,7 @@
 //!
 //! A step from a part to a rank costs what the prices leave of its cost there, which is never below
 //! 0. A step from a rank to the part that has it costs nothing. This is Dijkstra's algorithm; it ends
-//! at the nearest rank that is free. A rank stands here for its place among the ranks of the set.
+//! at the nearest rank that is free. A rank here means its place among the ranks of the set.
 ghost use Rattle.std.specs.Prelude.{◌≡◌, ◌≢◌, ◌<◌, ◌≤◌, ◌+◌, ◌-◌, ◌*◌, ◌^◌, ℕ, true};
 ghost use Rattle.std.specs.Prelude.{false, length, slice_index, slice_index_or};
 ghost use Rattle.cost_table.specs.Costs.{cell_at_place};

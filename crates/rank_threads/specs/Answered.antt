@@ -36,7 +36,7 @@ pub record IsBegun (before : World) (log : List Entry) (rank dir ticket : ℕ) :
   pub kept : IsPrefix (board.history ++ began rank dir ticket ∷ []) log
 
 -- The log begins with the history of a board that had gone on from the phase's first and refuses a change so: for its
--- first cause, or for want of memory where none stands.
+-- first cause, or as out of memory where none applies.
 pub record IsMet (before : World) (log : List Entry) (change : Change) (error : BoardError) : Type 0 where
   pub board : World
   pub went : WentOn before board
@@ -55,7 +55,7 @@ IsReply before log rank dir None None = ⊥
 abbrev pub IsAnswered : World → List Entry → ℕ → Work → WorkAnswer → Type 0
 IsAnswered before log rank work answer = IsReply before log rank work.dir answer.ticket answer.refused
 
--- The board answered each request of a rank, or there was no thread for it, which is told to each.
+-- The board answered each request of a rank, or there was no thread for it, which is the answer to each.
 abbrev pub IsRankAnswered : World → List Entry → ℕ → List Work → List WorkAnswer → Type 0
 IsRankAnswered before log rank works answers =
     AllZip (IsAnswered before log rank) works answers ⊎ All (λ a. a ≡ no_thread) answers

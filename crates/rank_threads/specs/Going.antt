@@ -17,7 +17,7 @@ is_of_requests _ = false
 abbrev pub added : World → World → List Entry
 added old new = drop (length old.history) new.history
 
--- The new board is the old one with requests that begin or end and deposits alone on top of its history, and their
+-- The new board is the old one with only requests that begin or end and deposits on top of its history, and their
 -- replay. No map was published.
 pub record WentOn (old new : World) : Type 0 where
   pub kept : take (length old.history) new.history ≡ old.history

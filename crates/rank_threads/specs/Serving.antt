@@ -34,7 +34,7 @@ abbrev pub one_if : Option ℕ → ℕ
 one_if None = 0
 one_if (Some ticket) = 1
 
--- a number that counts for one directory alone
+-- a number that counts only for one directory
 abbrev pub if_on : ℕ → Work → ℕ → ℕ
 if_on d work n = if work.dir == d then n else 0
 
@@ -50,7 +50,7 @@ begun_on d [] answers = 0
 begun_on d (w ∷ works) [] = 0
 begun_on d (w ∷ works) (a ∷ answers) = if_on d w (one_if a.ticket) + begun_on d works answers
 
--- the share, with so many hits more on a directory
+-- the share, with n hits more on a directory
 abbrev pub after_hits : ShareData → ℕ → ℕ → ShareData
 after_hits share d n = record share { hits = with_row share.hits (d, n); pending = with_row share.pending (d, n) }
 

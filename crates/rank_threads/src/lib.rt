@@ -1,8 +1,8 @@
 //! Requests of the ranks, each rank's by a thread of its own, over one board under a lock. Phases of exports are in
 //! `export_threads`.
 //!
-//! What a thread finds under the lock is the board with which the phase began, with requests that begin or end and
-//! deposits alone on top of its history: the lock's type says so.
+//! What a thread finds under the lock is the board with which the phase began. On top of its history there are only
+//! requests that begin or end and deposits: the lock's type says so.
 #![tactic(auto)]
 
 pub mod board_cell;

@@ -75,7 +75,7 @@ fn deposit<J: Naming, M: Publisher<J>, K: Phase, R: Wait>(
     cell.lock(rt).deposit(alloc, seen, of_rank, share)
 }
 
-// Deposits the hits of a rank's share, and puts it behind those of the ranks before.
+// Deposits the hits of a rank's share, and puts it after those of the ranks before.
 fn with_desk<J: Naming, M: Publisher<J>, K: Phase, R: Wait>(
     rt: &R,
     alloc: Global,
@@ -344,7 +344,7 @@ fn serve_named<
 /// Serves the requests of each rank in order, by a thread a rank, and deposits the hits of their shares. `scripts[k]`
 /// and `shares[k]` are rank k's.
 ///
-/// The board afterwards is the board before with requests that begin or end and deposits alone on top of its history.
+/// The board afterwards is the board before, with only requests that begin or end and deposits on top of its history.
 /// All memory for the answers is asked for before the first request; where it is refused, board and shares come back
 /// as they were.
 pub fn serve_phase<

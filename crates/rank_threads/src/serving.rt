@@ -40,7 +40,7 @@ fn count<J: Naming>(share: &mut Share<J>, dir: Dir, hits: u32) -> (u32, Option<H
     }
 }
 
-// Serves a request. The lock is held for each event alone.
+// Serves a request. The lock is held only for each event.
 fn serve_one<J: Naming, M: Publisher<J>, K: Phase, R: Wait, G: Gate>(
     rt: &R,
     alloc: Global,

@@ -1,4 +1,4 @@
-//! Requests and their answers, and who is told of them.
+//! Requests, their answers, and why one isn't served.
 
 use board_state::BoardError;
 use heat_ledger::HitError;
@@ -6,7 +6,7 @@ use mds_types::{Dir, Rank, Refusal};
 use std::error::Error;
 use std::fmt;
 
-/// A request on a directory, of so many hits.
+/// A request on a directory, with its hits.
 #[derive(Clone, Copy, Debug, PartialEq, Eq)]
 pub struct Work {
     /// The directory.

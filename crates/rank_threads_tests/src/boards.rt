@@ -46,7 +46,7 @@ fn keep(told: &mut Vec<WorkAnswer>, answers: &[Vec<WorkAnswer>]) {
     }
 }
 
-/// Serves the requests of all ranks. Where there is no memory for the answers, or no share for a rank, it tells
+/// Serves the requests of all ranks. Where there is no memory for the answers, or no share for a rank, it gives
 /// nothing.
 pub(crate) fn serve_all<
     J: Naming + Send + Sync,

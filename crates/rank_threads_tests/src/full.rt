@@ -60,7 +60,7 @@ fn an_end_without_room_is_told(rt: HostRuntime) {
     try_often(&rt, Trial::FullHistory, 1)
 }
 
-/// With no request the shares come back, and the history has their deposits alone.
+/// With no request the shares come back, and the history has only their deposits.
 pub(crate) fn serve_nothing<
     J: Naming + Send + Sync,
     M: Publisher<J> + Send,

@@ -5,7 +5,7 @@ use rank_threads::Gate;
 use std::sync::atomic::{AtomicU64, Ordering};
 use std::thread;
 
-/// How often a thread gives way at most, until it goes on alone.
+/// How often a thread gives way at most, until it goes on without the others.
 const TURNS: u64 = 100_000_000;
 
 /// Threads give way now and then.

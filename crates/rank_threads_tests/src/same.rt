@@ -1,4 +1,4 @@
-//! Comparisons, each behind one call: what a failed one prints costs the proof of its caller nothing.
+//! Comparisons, each in a function of its own: what a failed one prints adds nothing to its caller's proof.
 
 use std::fmt::Debug;
 use std::process::Abort;

@@ -185,7 +185,7 @@ pub(crate) fn try_once<R: Abort + AllocGlobal + Threads + Wait + Sync>(
     on_board::<Brand, R>(rt, rt.alloc(), book, NewMap::new(), trial.room(), trial)
 }
 
-/// Tries it so many times, each time on a new board.
+/// Tries it `times` times, each time on a new board.
 pub(crate) fn try_often<R: Abort + AllocGlobal + Threads + Wait + Sync>(
     rt: &R,
     trial: Trial,

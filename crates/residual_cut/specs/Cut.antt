@@ -7,7 +7,7 @@ use Rattle.mds_types.specs.Division.{IsDivision, IsWithin, part_count}
 use Rattle.mds_types.specs.Problem.{heat_at}
 use Rattle.residual_cut.specs.declared.cut.Cut.{Cut}
 
--- before each row stands a row of each part with a smaller number: parts are numbered by rising top row
+-- before each row is a row of each part with a smaller number: parts are numbered by rising top row
 abbrev pub IsRising : List ProblemRow → (ℕ → ℕ) → Type 0
 IsRising rows label = (i p : ℕ) → i < length rows → p < label i → (j : ℕ) × (j < i) × (label j ≡ p)
 

@@ -7,7 +7,7 @@ use Rattle.residual_cut.specs.declared.child.Child.{Child}
 use Rattle.residual_cut.specs.declared.hottest.Hottest.{Hottest}
 use Rattle.residual_cut.specs.Heap.{row_count}
 
--- children of row i that pass the test, each at most once, with their rests; they stand after it. None of them has less
+-- children of row i that pass the test, each at most once, with their rests; they are after it. None of them has less
 -- than the floor, and where one that passes the test isn't among them, it has no more, and there are as many as wanted.
 pub record AreHottest (rows : List ProblemRow) (rest : ℕ → ℕ) (test : ℕ → Bool) (i most floor : ℕ)
     (children : List Child) : Type 0 where

@@ -10,7 +10,7 @@ use Rattle.residual_cut.specs.declared.subtrees.Subtrees.{Subtrees}
 abbrev pub AreSums : List ProblemRow → (ℕ → ℕ) → Type 0
 AreSums rows heat = (v : ℕ) → v < length rows → heat v ≡ heat_at rows v + sum_of_children rows v heat
 
--- the row before which the k-th of these rows stands: the one before it in the list, or the end
+-- the row before which the k-th of these rows is: the one before it in the list, or the end
 abbrev pub limit_of : ℕ → List ℕ → ℕ → ℕ
 limit_of n hot k = if k == 0 then n else slice_index hot (k - 1)
 

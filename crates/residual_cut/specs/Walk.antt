@@ -12,7 +12,7 @@ abbrev pub is_handled : List ProblemRow → ℕ → ℕ → ℕ → Bool
 is_handled rows m v j = nat_le m j && is_child rows v j
 
 -- what a walk from the last row up knows once the rows from m on have given what is left of them to their parents.
--- Rows whose parent stands before row s are not cut yet.
+-- Rows whose parent is before row s are not cut yet.
 pub record IsWalk (rows : List ProblemRow) (cuts rest price : ℕ → ℕ) (cut : ℕ → Bool) (bound m s : ℕ) : Type 0 where
   pub rest_is : (v : ℕ) → v < length rows
       → rest v ≡ heat_at rows v

@@ -192,7 +192,7 @@ pub fn cut_cool(
 }
 
 /// Divides the rows into the fewest connected parts whose heat is at most the bound. Parts are
-/// numbered by rising top row. A row that is too hot is told before any memory is asked for.
+/// numbered by rising top row. A row that is too hot is reported before any memory is asked for.
 pub fn cut_at(
     problem: &Problem,
     alloc: Global,

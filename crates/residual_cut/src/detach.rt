@@ -114,7 +114,7 @@ fn cut_child(table: &mut [Row], i: usize, child: Child)
 }
 
 /// Cuts children from row `i`, the largest rest first, until what is left there is within the bound or
-/// `most` are cut, and tells how many are.
+/// `most` are cut, and returns how many are.
 fn cut_some(
     alloc: Global,
     of: Walk<'_>,

@@ -1,4 +1,4 @@
-//! The hottest children of a row, so many that no more of them can be cut, without putting the others in
+//! The hottest children of a row, as many as can be cut at most, without putting the others in
 //! order.
 
 ghost use Rattle.std.specs.Prelude.{◌≡◌, ◌<◌, ◌≤◌, ◌^◌, ℕ, true, false, All, IsPermutation};
@@ -22,7 +22,7 @@ pub struct Hottest {
     pub floor: u64,
 }
 
-/// Puts the `most` hottest children first, and tells the least rest among them. There are at most twice `most`: few
+/// Puts the `most` hottest children first, and returns the least rest among them. There are at most twice `most`: few
 /// enough to sort them.
 fn put_hottest_first(children: &mut [Child], most: usize) -> u64
     requires some { 0 < most }

@@ -1,4 +1,4 @@
-//! A walk that only tells whether the bound has room, and which bound is worth trying next.
+//! A walk that only finds whether the bound has room, and which bound is worth trying next.
 //!
 //! It makes no table: before it each row has the heat of its whole subtree, and what is cut off below a
 //! row is taken from its parent too. Only rows whose subtree is hotter than the lower end of the bounds are
@@ -100,7 +100,7 @@ struct Left {
 }
 
 /// Cuts the hottest children from a row until the rest, which is `here`, is within the bound, or as many rows are
-/// cut as there are ranks, and tells what is left. Most rows are within the bound as they are.
+/// cut as there are ranks, and returns what is left. Most rows are within the bound as they are.
 #[inline(always)]
 fn cut_row(
     alloc: Global,
@@ -231,7 +231,7 @@ fn probe_rows(
 /// Whether the rows, none of which is hotter than the bound, can be divided into at most as many parts
 /// within the bound as there are ranks. It ends as soon as too many rows are cut, and is counted in `passes`.
 ///
-/// The room of `rest` is used for the walk. Before it and after it, for want of memory too, each row
+/// The room of `rest` is used for the walk. Before it and after it, even where memory is refused, each row
 /// whose subtree is within the lower end has the heat of its whole subtree there.
 pub fn try_bound(
     alloc: Global,

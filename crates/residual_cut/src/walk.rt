@@ -1,7 +1,7 @@
 //! The walk over the rows from the last one up, with the table as its state.
 //!
 //! Before a row is handled, its entry holds its own heat and what its handled children have given
-//! it; the row is cut down to the bound, and gives the rest to its parent. Parents stand before
+//! it; the row is cut down to the bound, and gives the rest to its parent. Parents are before
 //! their children, so no row is met before all of its children.
 
 ghost use Rattle.std.specs.Prelude.{◌≡◌, ◌<◌, ◌≤◌, ◌+◌, ◌^◌, ℕ, length, map, IfOk, OnOk};

@@ -46,7 +46,7 @@ pub(crate) fn move_all<J: Naming, M: Publisher<J>>(
     all_stand(rt, board);
 }
 
-/// So many phases with one order, which each start an export that they abort. The next one looks at none of them.
+/// Phases with one order, which each start an export that they abort. The next one looks at none of them.
 pub(crate) fn fail_often<J: Naming, M: Publisher<J>>(
     rt: &impl Abort,
     alloc: Global,

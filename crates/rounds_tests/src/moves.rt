@@ -23,7 +23,7 @@ pub(crate) enum Act {
     States(u32, ExporterState, ImporterState),
     /// The history has this many entries.
     Entries(usize),
-    /// The next phase looks at these exports, and at so many messages.
+    /// The next phase looks at these exports, and at this many messages.
     Unsettled(&'static [u32], usize),
     /// Each of these directories has this authority, which the map names, too.
     Stand(&'static [(u32, u8)]),
@@ -144,7 +144,7 @@ const MOVES: &[(&str, &[Act])] = &[
         ],
     ),
     (
-        // Orders that are refused stand between one that is done and one that comes too late.
+        // Orders that are refused are between one that is done and one that comes too late.
         "outcomes are in the order of the orders",
         &[
             Act::Move(
@@ -178,7 +178,7 @@ const MOVES: &[(&str, &[Act])] = &[
         ],
     ),
     (
-        // The importer stopped before it was told: it asks, and hears that the directory is its own.
+        // The importer stopped before `Finish` came: it asks, and hears that the directory is its own.
         "a started import hears that it is its own",
         &[
             Act::Play(&[

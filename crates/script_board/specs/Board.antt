@@ -14,7 +14,7 @@ pub record BoardData : Type 0 where
   pub loads : List Load
   pub kept : List Order
 
--- the root alone at rank 0, without pin, heat, hit, mask or request; the map's first operation is published
+-- only the root at rank 0, without pin, heat, hit, mask or request; the map's first operation is published
 abbrev pub empty_board : ℕ → ℕ → BoardData
 empty_board limit active = record {
   world = record {

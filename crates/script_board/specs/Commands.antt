@@ -29,17 +29,17 @@ found (Err e) = Err (tree_fault e)
 abbrev pub find : BoardData → List ℕ → Result ℕ Fault
 find b text = found (path.find b.world.state.directories.entries text)
 
--- one more byte in front of what stands before the last slash, or the last slash itself
+-- one more byte in front of what is before the last slash, or the last slash itself
 abbrev pub before_byte : ℕ → List ℕ → Option (List ℕ × List ℕ) → Option (List ℕ × List ℕ)
 before_byte b bytes (Some parts) = Some (b ∷ parts.0, parts.1)
 before_byte b bytes None = if b == 47 then Some ([], bytes) else None
 
--- what stands before the last slash and what stands behind it
+-- what is before the last slash and what is after it
 abbrev pub last_slash : List ℕ → Option (List ℕ × List ℕ)
 last_slash [] = None
 last_slash (b ∷ bytes) = before_byte b bytes (last_slash bytes)
 
--- the path of the directory that is to have a child: what stands before the last slash, or the root's if nothing does
+-- the path of the directory that is to have a child: what is before the last slash, or the root's if nothing is
 abbrev pub parent_path : List ℕ → List ℕ
 parent_path [] = codes "/"
 parent_path (b ∷ bytes) = b ∷ bytes

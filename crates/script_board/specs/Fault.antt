@@ -12,7 +12,7 @@ use Rattle.script_board.specs.declared.fault.Fault.{Fault}
 use Rattle.script_board.specs.declared.fault.Fault.TheVariants.{Memory, Refused}
 use Rattle.script_board.specs.declared.fault.Fault.TheVariants as fault
 
--- want of memory is one fault, wherever it comes from
+-- out of memory is one fault, wherever it comes from
 abbrev pub board_fault : BoardError → Fault
 board_fault board.Memory = Memory
 board_fault (board.Tree e) = Refused (board.Tree e)
@@ -34,12 +34,12 @@ work_fault (work.Share hit.NoDir) = tree_fault tree.NoDir
 work_fault (work.Share hit.ShareFull) = fault.ShareFull
 work_fault work.NoThread = fault.NoThread
 
--- what is done, unless a cause stands
+-- what is done, unless a cause applies
 abbrev pub unless : {A : Type 0} → Option BoardError → A → Result A Fault
 unless None x = Ok x
 unless (Some e) x = Err (board_fault e)
 
--- the fault is the one that is due, or want of memory where none is
+-- the fault is the one that is due, or `Memory` where none is
 abbrev pub IsDue : {A : Type 0} → Result A Fault → Fault → Type 0
 IsDue due fault = (due ≡ Err fault) ⊎ ((fault ≡ Memory) × IsOk due)
 

@@ -30,7 +30,7 @@ abbrev pub or_0 : Option ℕ → ℕ
 or_0 None = 0
 or_0 (Some rank) = rank
 
--- the rank that is asked: the one that the map names, or rank 0 where it names none of so many
+-- the rank that is asked: the one that the map names, or rank 0 where it names none below `ranks`
 abbrev pub asked_rank : World → ℕ → ℕ → ℕ
 asked_rank w ranks d = if nat_lt (or_0 (rank_after w.published d)) ranks then or_0 (rank_after w.published d) else 0
 
@@ -44,7 +44,7 @@ works_at w ranks rank loads = map work_of (filter (λ l. asked_rank w ranks l.di
 abbrev pub script_at : List (List Work) → ℕ → List Work
 script_at scripts rank = slice_index_or scripts rank []
 
--- where the answer to a request is found, behind these requests: at its rank, after the earlier ones that are asked
+-- where the answer to a request is found that comes after these: at its rank, after the earlier ones that are asked
 -- of it
 abbrev pub place : World → ℕ → List Load → Load → Seat
 place w ranks earlier l = record {

@@ -51,7 +51,7 @@ impl<J: Naming, M: Publisher<J>> ScriptBoard<J, M> {
         self.find(above)
     }
 
-    // Makes the child of this name, and tells the guesses its path, unless that is one name.
+    // Makes the child of this name, and gives the guesses its path, unless that is one name.
     fn make_child(
         &mut self,
         alloc: Global,
@@ -141,7 +141,7 @@ impl<J: Naming, M: Publisher<J>> ScriptBoard<J, M> {
         Ok(())
     }
 
-    /// A rank runs again, with the state of its journal alone.
+    /// A rank runs again, with only the state of its journal.
     pub fn restart(&mut self, alloc: Global, rank: Rank) -> Result<(), Fault>
         ensures done { OnOk result (restart self.old rank ≡ Ok self.new) }
         ensures fault { IfErr result (IsDue (restart self.old rank)) }

@@ -31,7 +31,7 @@ pub(crate) struct Dealt {
     pub(crate) seats: Vec<Seat>,
 }
 
-// The rank that is asked: the one that the map names, or rank 0 where it names none of so many.
+// The rank that is asked: the one that the map names, or rank 0 where it names none below `ranks`.
 fn asked_rank<J: Naming, M: Publisher<J>>(board: &Board<J, M>, ranks: usize, dir: Dir) -> usize
     requires some { 0 < ranks }
     ensures rank { result ≡ asked_rank board.now ranks dir }
@@ -42,7 +42,7 @@ fn asked_rank<J: Naming, M: Publisher<J>>(board: &Board<J, M>, ranks: usize, dir
     if rank < ranks { rank } else { 0 }
 }
 
-// No requests, for so many ranks.
+// No requests, for `ranks` ranks.
 fn no_requests(alloc: Global, ranks: usize) -> Result<Dealt, AllocError>
     ensures { (w : World) → IfOk result
         (λ dealt. IsDealt w ranks [] (map (λ s. s.items) dealt.scripts.items) dealt.seats.items) }
@@ -91,7 +91,7 @@ fn fault_at(answers: &[Vec<WorkAnswer>], seat: Seat) -> Option<Fault>
 }
 
 impl<J: Naming, M: Publisher<J>> ScriptBoard<J, M> {
-    /// Tells the refusals that requests met, in the order of their loads.
+    /// Adds the refusals that requests met, in the order of their loads.
     pub(crate) fn tell(seats: &[Seat], answers: &[Vec<WorkAnswer>], refused: &mut Vec<Fault>)
         requires room { vec_len refused.old + length seats.now ≤ vec_capacity refused.old }
         ensures told { refused.new.items ≡ refused.old.items ++ refusals (map (λ a. a.items) answers.now) seats.now }

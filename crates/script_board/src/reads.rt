@@ -38,7 +38,7 @@ impl<J: Naming, M: Publisher<J>> ScriptBoard<J, M> {
         self.board.tree().contains(dir)
     }
 
-    /// Writes the path of a directory that is there to a text, in place of what stood there; the text is empty where
+    /// Writes the path of a directory that is there to a text, in place of what it held; the text is empty where
     /// memory is refused.
     pub fn write_path(&self, alloc: Global, dir: Dir, path: &mut String) -> Result<(), AllocError>
         requires { is_there self.now.world.state.directories.entries dir ≡ true }

@@ -66,8 +66,8 @@ impl<J: Naming, M: Publisher<J>> Model for ScriptBoard<J, M> {
 }
 
 impl<J: Naming, M: Publisher<J>> ScriptBoard<J, M> {
-    /// The root alone at rank 0 of so many active ranks, and room for the directory numbers below `limit`. Where
-    /// memory is refused, the parts are handed back.
+    /// Only the root at rank 0 of `active` active ranks, and room for the directory numbers below `limit`. Where
+    /// memory is refused, it returns the parts.
     pub fn new(
         alloc: Global,
         parts: Parts<J, M>,

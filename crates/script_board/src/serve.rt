@@ -106,7 +106,7 @@ impl<J: Naming, M: Publisher<J>> ScriptBoard<J, M> {
         (shares, refused)
     }
 
-    // Tells the refusal, if there is one.
+    // Adds the refusal, if there is one.
     fn tell_rest(done: Result<(), BoardError>, refused: &mut Vec<Fault>)
         requires room { vec_len refused.old < vec_capacity refused.old }
         ensures told { refused.new.items ≡ refused.old.items ++ unless_done done }

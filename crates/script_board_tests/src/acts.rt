@@ -48,11 +48,11 @@ pub(crate) enum Act {
     Accepted(&'static [Do]),
     /// A command that is refused.
     Refused(Do, Told),
-    /// So many ticks.
+    /// This many ticks.
     Ticks(u32),
     /// What waits is served, and these refusals are met.
     Go(&'static [Told]),
-    /// Orders are carried out: so many, and each is done.
+    /// This many orders are carried out, and each is done.
     Move(usize),
     /// The hits on a directory.
     Hits(u32, u64),

@@ -104,7 +104,7 @@ fn gone<J: Naming + Send + Sync, M: Publisher<J> + Send, R: Abort + Threads + Wa
     board.go(rt, alloc)
 }
 
-/// A request is refused for want of memory at most, and then counts no hit. Hits
+/// A request is refused at most as out of memory, and then counts no hit. Hits
 /// that found no memory stay for the next call.
 fn served<J: Naming + Send + Sync, M: Publisher<J> + Send, R: Abort + Threads + Wait + Sync>(
     rt: &R,

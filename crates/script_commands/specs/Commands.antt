@@ -28,7 +28,7 @@ is_skipped [] = true
 is_skipped ([] ∷ more) = false
 is_skipped ((b ∷ bytes) ∷ more) = b == 35
 
--- the number that digits spell behind the ones that spell n
+-- the number that digits spell after the ones that spell n
 abbrev pub value_from : ℕ → List ℕ → ℕ
 value_from n [] = n
 value_from n (b ∷ digits) = value_from (10 * n + (b - 48)) digits
@@ -62,7 +62,7 @@ pub data Command : Type 0 where
   Restart : ℕ → Command
   Stat : Command
 
--- what a word and the fields behind it spell
+-- what a word and the fields after it spell
 abbrev pub ranks : List (List ℕ) → Option Command
 ranks (n ∷ []) = option_map Ranks (number 1 64 n)
 ranks fields = None
@@ -99,7 +99,7 @@ abbrev pub restart : List (List ℕ) → Option Command
 restart (n ∷ []) = option_map Restart (rank_of n)
 restart fields = None
 
--- a command that has no fields behind its word
+-- a command that has no fields after its word
 abbrev pub alone : Command → List (List ℕ) → Option Command
 alone c [] = Some c
 alone c fields = None

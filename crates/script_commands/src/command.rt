@@ -1,4 +1,4 @@
-//! The commands, each with what its word asks of the fields behind it.
+//! The commands, each with what its word asks of the fields after it.
 ghost use Rattle.std.specs.Prelude.{◌≡◌, ◌∷◌, bytes_eq, codes, map, IfOk, false, true};
 ghost use Rattle.std.specs.List.{list_all};
 ghost use Rattle.std.specs.Option.{option_map};
@@ -12,7 +12,7 @@ use crate::rank_count::RankCount;
 use mds_types::Rank;
 use std::alloc::{AllocError, Global};
 
-/// A command, with its texts as they stand in the line.
+/// A command, with its texts as they are in the line.
 #[derive(Debug, Drop)]
 pub enum Command<'a> {
     Ranks(RankCount),
@@ -120,7 +120,7 @@ fn load(rest: &[u8]) -> Option<Command<'_>>
     Some(Command::Load(text(path), hits))
 }
 
-/// A command that has no fields behind its word.
+/// A command that has no fields after its word.
 fn alone<'a>(command: Command<'a>, rest: &[u8]) -> Option<Command<'a>>
     ensures { option_map view result ≡ alone (view command.entry) (fields rest.now) }
 {
@@ -142,7 +142,7 @@ fn texts<'a>(alloc: Global, rest: &[&'a [u8]]) -> Result<Vec<&'a str>, AllocErro
     Ok(paths)
 }
 
-/// Whether a line's first word asks for the cost of a division, whose tops are all fields behind the word.
+/// Whether a line's first word asks for the cost of a division, whose tops are all fields after the word.
 pub(crate) fn is_cost(word: &[u8]) -> bool
     ensures { result ≡ bytes_eq word.now (codes "cost") }
 {
@@ -152,7 +152,7 @@ pub(crate) fn is_cost(word: &[u8]) -> bool
     }
 }
 
-/// The fields behind a line's first word, as texts.
+/// The fields after a line's first word, as texts.
 pub(crate) fn tops(alloc: Global, rest: &[u8]) -> Result<Vec<&str>, AllocError>
     requires { list_all (list_all is_plain) (fields rest.now) ≡ true }
     ensures { IfOk result (λ paths. map (λ path. path.now) paths.items ≡ fields rest.now) }
@@ -160,7 +160,7 @@ pub(crate) fn tops(alloc: Global, rest: &[u8]) -> Result<Vec<&str>, AllocError>
     texts(alloc, &fields(alloc, rest)?)
 }
 
-/// The command that a word other than `cost` and the fields behind it spell, if they spell one.
+/// The command that a word other than `cost` and the fields after it spell, if they spell one.
 pub(crate) fn find_command<'a>(word: &[u8], rest: &'a [u8]) -> Option<Command<'a>>
     requires other { bytes_eq word.now (codes "cost") ≡ false }
     requires plain { list_all (list_all is_plain) (fields rest.now) ≡ true }

@@ -11,9 +11,9 @@ use std::fmt::Write as _;
 /// What a line of a command has.
 #[derive(Clone, Copy, Debug, PartialEq, Eq)]
 pub struct Form {
-    /// The command's word, and a name for each field behind it.
+    /// The command's word, and a name for each field after it.
     usage: &'static str,
-    /// What the last field may be, where that is a number, and else nothing.
+    /// What the last field may be, where that is a number, otherwise nothing.
     number: &'static str,
 }
 

@@ -20,7 +20,7 @@ fn is_plain(byte: u8) -> bool
     (byte >= b' ' && byte < 0x7f) || byte == b'\t' || byte == b'\r'
 }
 
-/// Whether a line holds no byte beside those that are seen in print and those that part fields.
+/// Whether a line holds only bytes that are seen in print and bytes that part fields.
 ///
 /// The loop doesn't end at the first other byte, so that many bytes can be looked at in one step, and it leaves tabs
 /// and carriage returns, which few lines have, to a second look.
@@ -66,7 +66,7 @@ fn blank_count(line: &[u8]) -> usize
     line.len()
 }
 
-// How many bytes stand before a line's first blank. Not inlined: its callers take more instructions with it.
+// How many bytes come before a line's first blank. Not inlined: its callers take more instructions with it.
 #[inline(never)]
 fn field_length(line: &[u8]) -> usize
     ensures value { result ≡ position_or_len is_blank line.now }
@@ -78,7 +78,7 @@ fn field_length(line: &[u8]) -> usize
     }
 }
 
-/// The first field of a line, and what stands behind it.
+/// The first field of a line, and what comes after it.
 pub fn split_field(line: &[u8]) -> Option<(&[u8], &[u8])>
     ensures { MatchOption result (fields line.now ≡ [])
         (λ split. fields line.now ≡ split.0.now ∷ fields split.1.now) }

@@ -10,7 +10,7 @@ pub record Answer : Type 0 where
   pub accepted : Bool
   pub ample : Bool
 
--- what stands before the reason that a line is faulty
+-- what comes before the reason that a line is faulty
 abbrev pub line_start : ℕ → List ℕ
 line_start number = codes "line " ++ decimal number ++ codes ": "
 

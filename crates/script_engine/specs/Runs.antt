@@ -1,4 +1,4 @@
--- What a run over some lines has written, and where it stands.
+-- What a run over some lines has written, and how far it is.
 use Rattle.std.specs.Prelude.{◌≡◌, ◌≤◌, ℕ, Bool, true, List, ◌++◌, length, Option}
 use Rattle.std.specs.Io.KnownBytes.{Appends, Consumes, IsAtEnd}
 use Rattle.script_engine.specs.Answers.{Answer, Run, text_of, all_accepted}

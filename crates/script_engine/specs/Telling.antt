@@ -1,4 +1,4 @@
--- What calls tell that answer lines.
+-- What calls that answer lines return.
 use denote.Ref.{Bor, MutBor}
 use Rattle.std.specs.Prelude.{◌≡◌, ℕ, Bool, List, Option, Result, IfOk, OnErr}
 use Rattle.std.specs.Io.KnownBytes.{Appends}

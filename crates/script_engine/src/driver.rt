@@ -31,7 +31,7 @@ pub enum RunError {
 /// `answer` is called with the state, the line's number, the line and the writer, and says whether the line was
 /// accepted. It may also find no room for the line's fields, and answers as for one that has no room.
 /// At most 2^40 reads are made. Where they came to no end, the next counts as one that failed, and all bytes that came
-/// were carried out. A strict run ends after the first line that isn't accepted. What was read behind that line is
+/// were carried out. A strict run ends after the first line that isn't accepted. What was read after that line is
 /// lost. An answer that is an `Err` of the reader or the writer ends the run, an interrupted call too. A line that
 /// finds no room in memory is answered `line L: refused 0 Memory`, and the run goes on.
 pub fn run_script<
@@ -58,7 +58,7 @@ pub fn run_script<
         × ((strict && not accepted) ≡ false → IsEnded R.remaining input.new)
         × AnswersAll I.answers strict interpreter.old (lines_of bytes) interpreter.new accepted
         (W.contents writer.old) (W.contents writer.new)) }
-    // A strict run reads nothing behind the read in which its last line ends.
+    // A strict run reads nothing after the read in which its last line ends.
     ensures stops { IfOk result (λ accepted. (strict && not accepted) ≡ true → (front : List ℕ) × (last : List ℕ)
         × Gives R.remaining input.old input.new (front ++ last)
         × AcceptsUpTo I.answers strict interpreter.old front last) }

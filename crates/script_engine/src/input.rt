@@ -17,7 +17,7 @@ pub const READ_LIMIT: u64 = 1 << 40;
 #[error("read failed")]
 pub struct ReadFailed;
 
-/// A reader, with the bytes that it gave so far. They are known in proofs alone, of any reader; at run time a count of
+/// A reader, with the bytes that it gave so far. They are known only in proofs, of any reader; at run time a count of
 /// reads is kept, of which there are 2^40 at most.
 #[derive(Drop)]
 pub struct Input<R> {
@@ -60,7 +60,7 @@ impl<R: Read> Input<R> {
         }
     }
 
-    /// Reads once. The count is that of the bytes at the buffer's front that came, 0 at the end of the input alone.
+    /// Reads once. The count is that of the bytes at the buffer's front that came, 0 only at the end of the input.
     pub fn read(&mut self, buffer: &mut [u8; 16384]) -> Result<usize, ReadFailed>
         requires { self.old.reads < 2 ^ 40 }
         ensures bound { ReadsAtMost result buffer.new }

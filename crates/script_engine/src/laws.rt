@@ -5,7 +5,7 @@ ghost use Rattle.script_engine.specs.Answers.{Answer, Run, IsDetermined, all_acc
 
 use crate::interpreter::Interpreter;
 
-/// Where a run goes on behind some lines, these lines are a run to some state, and the others one from it.
+/// Where a run goes on after some lines, these lines are a run to some state, and the others one from it.
 pub fn cut_between<I: Interpreter>()
     ensures { (strict : Bool) (old new : I) (number : ℕ) (lines more : List (List ℕ)) (replies others : List Answer)
         → length lines ≡ length replies → (strict && not (all_accepted replies)) ≡ false

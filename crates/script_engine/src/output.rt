@@ -6,7 +6,7 @@ use std::io;
 use std::io::Write;
 use std::marker::Model;
 
-/// A writer, with the bytes that it took so far. They are known in proofs alone, of any writer.
+/// A writer, with the bytes that it took so far. They are known only in proofs, of any writer.
 #[derive(Drop)]
 pub struct Output<W> {
     writer: W,

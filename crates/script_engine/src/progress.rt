@@ -14,7 +14,7 @@ use mds_types::Refusal;
 use memchr::memchr;
 use std::io::Write;
 
-/// What stands between two bytes: the line that has begun, its number, and whether all lines before it were accepted.
+/// What a run keeps between two bytes: the line that has begun, its number, and whether all earlier ones were accepted.
 #[derive(Drop)]
 pub(crate) struct Progress {
     pub(crate) line: Vec<u8>,
@@ -132,7 +132,7 @@ impl Progress {
         Ok(())
     }
 
-    /// Takes a line's last bytes and the newline behind them. After the end of a strict run that changes nothing.
+    /// Takes a line's last bytes and the newline after them. After the end of a strict run that changes nothing.
     fn take_line<
         I: Interpreter,
         W: Write,

@@ -79,7 +79,7 @@ is_by_threads Serves = true
 is_by_threads Moves = true
 is_by_threads _ = false
 
--- the fault is the one that stands, or want of memory where none does
+-- the fault is the one that applies, or `Memory` where none does
 abbrev pub IsCaused : Option Fault → Fault → Type 0
 IsCaused stands fault = (stands ≡ Some fault) ⊎ ((fault ≡ Memory) × (stands ≡ None))
 

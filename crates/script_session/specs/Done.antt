@@ -20,7 +20,7 @@ shown b (Served refused) = record { lines = []; refused = refused.items }
 shown b Planned = only_lines (plan_lines b (parts_in_force b))
 shown b (Lines reply) = only_lines (reply_lines b reply)
 
--- the board has what is told of it
+-- the board has what is shown of it
 abbrev pub IsShowable : BoardData → Done → Type 0
 IsShowable b (Served refused) = Unit {0}
 IsShowable b Planned = (old : BoardData) × (plan : Plan) × IsPlanned old plan b

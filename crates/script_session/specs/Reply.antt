@@ -20,7 +20,7 @@ reply_lines b (Plan parts) = plan_lines b parts.items
 reply_lines b (Move orders outcomes) = move_lines b orders.items outcomes.items
 reply_lines b (Stat dirs) = cluster_line b ∷ map (dir_line b) dirs.items
 
--- the directories of the reply are there, a plan is in force where one is told, and each order has an outcome
+-- the directories of the reply are there, a plan is in force if the reply shows one, and each order has an outcome
 abbrev pub IsPrintable : BoardData → CommandReply → Type 0
 IsPrintable b Nothing = Unit {0}
 IsPrintable b (Cost parts) = AreThere b parts.items

@@ -84,7 +84,7 @@ IsSettled number p ample mid a new =
     ((a ≡ done_answer number p ample) × (new ≡ settled p mid))
     ⊎ ((a ≡ done_answer number p false) × (new ≡ mid))
 
--- the answer where memory was refused for a line of a reply: the lines before it stand
+-- the answer where memory was refused for a line of a reply: the lines before it are kept
 abbrev pub cut_answer : ℕ → List (List ℕ) → Answer
 cut_answer number lines =
     record { text = joined lines ++ fault_text number (words Memory); accepted = false; ample = false }
@@ -95,8 +95,8 @@ IsTold number p ample mid a new =
     IsSettled number p ample mid a new
     ⊎ ((count : ℕ) × (count < length p.lines) × (a ≡ cut_answer number (take count p.lines)) × (new ≡ mid))
 
--- A line is answered so: what it asks for is done; or a cause stands, and nothing has changed; or none does, but memory
--- was refused, and nothing has changed. (A line that finds no room for its bytes or its fields is beside these.)
+-- A line is answered so: what it asks for is done; or a cause applies, and nothing has changed; or none does, but
+-- memory was refused, and nothing has changed. (A line that finds no room for its bytes or its fields is another case.)
 abbrev pub answers : SessionData → ℕ → List ℕ → Answer → SessionData → Type 0
 answers old number bytes a new =
     ((p : Printed) × (ample : Bool) × (mid : SessionData) × IsDone old (asked

@@ -1,4 +1,4 @@
--- What a script's output says of want of memory.
+-- Where a script's output says that it is out of memory.
 use Rattle.std.specs.Prelude.{◌≡◌, ◌⊎◌, ℕ, ◌+◌, Bool, true, false, List, [], ◌∷◌, ◌++◌}
 use Rattle.script_engine.specs.Answers.{Answer, fault_text}
 use Rattle.script_commands.specs.Commands as line
@@ -8,7 +8,7 @@ use Rattle.script_session.specs.Fault.{words}
 use Rattle.script_session.specs.Does.{Changes, Meaning, Prints, meaning}
 use Rattle.script_session.specs.Session.{SessionData, published}
 
--- the answer ends with the line that says want of memory
+-- the answer ends with the line that says `Memory`
 abbrev pub SaysMemory : ℕ → Answer → Type 0
 SaysMemory number a = (front : List ℕ) × (a.text ≡ front ++ fault_text number (words Memory))
 
@@ -18,8 +18,8 @@ NoneSaysMemory number [] = Unit {0}
 NoneSaysMemory number (a ∷ more) = (SaysMemory number a → ⊥) × NoneSaysMemory (number + 1) more
 
 -- Whether a line's answer is the same however much of the map is published: not so `go`, whose requests are asked of
--- the ranks that the published map names, nor the report, which shows them. (A map that isn't published for want of
--- memory isn't told.)
+-- the ranks that the published map names, nor the report, which shows them. (The answer doesn't say that no memory
+-- was left to publish the map.)
 abbrev pub ignores_map : Meaning → Bool
 ignores_map (Changes change) = true
 ignores_map (Prints print) = true
@@ -29,11 +29,11 @@ abbrev pub tells_all : Asked → Bool
 tells_all (line.Asks command) = ignores_map (meaning command)
 tells_all _ = true
 
--- a line whose answer is known once it is known that it doesn't say want of memory
+-- a line whose answer is known once it is known that it doesn't say `Memory`
 abbrev pub is_visible : List ℕ → Bool
 is_visible bytes = tells_all (asked bytes)
 
--- no line of the answer says want of memory
+-- no line of the answer says `Memory`
 abbrev pub TellsNoMemory : ℕ → Answer → Type 0
 TellsNoMemory number a = (front back : List ℕ) → a.text ≡ front ++ (fault_text number (words Memory) ++ back) → ⊥
 

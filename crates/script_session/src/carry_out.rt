@@ -104,7 +104,7 @@ pub fn change<J: Naming, M: Publisher<J>, R: Threads + Sync>(
 }
 
 /// Makes a directory or lets a request wait, and says how that went. Most commands are these two, and they print
-/// nothing. Any other is left alone.
+/// nothing. It does nothing for any other.
 pub fn change_quietly<J: Naming, M: Publisher<J>>(
     board: &mut ScriptBoard<J, M>,
     alloc: Global,

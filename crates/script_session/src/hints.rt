@@ -1,4 +1,4 @@
-//! Who is told why a line spells no command. Nothing that is proved of a session rests on it.
+//! Reports why a line spells no command. Nothing that is proved of a session rests on it.
 ghost use Rattle.script_engine.specs.Telling.{Tells};
 ghost use Rattle.script_session.specs.Session.{answers};
 
@@ -13,12 +13,12 @@ use std::marker::{Model, Send, Sync};
 use std::sync::Wait;
 use std::thread::Threads;
 
-/// Who is told of each line that is answered `syntax`, once it is answered.
+/// Receives each line that is answered `syntax`, once it is answered.
 pub trait Hints {
     fn faulty_line(&mut self, number: u64, fault: &LineFault<'_>);
 }
 
-/// Is told, and does nothing.
+/// Receives each such line, and does nothing.
 #[derive(Clone, Copy, Debug)]
 pub struct Silence;
 
@@ -26,7 +26,7 @@ impl Hints for Silence {
     fn faulty_line(&mut self, _number: u64, _fault: &LineFault<'_>) {}
 }
 
-/// A session, and who is told of its lines that spell no command.
+/// A session, and what receives its lines that spell no command.
 pub(crate) struct Hinted<'h, S, H> {
     pub(crate) session: S,
     pub(crate) hints: &'h mut H,
@@ -50,7 +50,7 @@ impl<
     R: Threads + Wait + Sync,
     H: Hints,
 > Hinted<'h, Session<'r, J, M, R>, H> {
-    /// Answers a line. Where it isn't accepted as it spells no command, that is told.
+    /// Answers a line. Where it isn't accepted because it spells no command, `hints` receives it.
     pub(crate) fn answer<W: Write>(
         &mut self,
         alloc: Global,

@@ -45,7 +45,7 @@ impl From<WriteFailed> for Unprinted {
     }
 }
 
-/// Writes the lines of a reply, in pieces of 64 KB or a little more. They are made on the page, whatever stands there.
+/// Writes the lines of a reply, in pieces of 64 KB or a little more. They are made on `page`, whatever it holds.
 pub fn print_reply<J: Naming, M: Publisher<J>, W: Write>(
     board: &mut ScriptBoard<J, M>,
     alloc: Global,
@@ -105,7 +105,7 @@ fn push_line<J: Naming, M: Publisher<J>>(
     chunk.push_str(line.as_str())
 }
 
-// Makes one line of a reply, in place of what stood in the text.
+// Makes one line of a reply, in place of what the text held.
 fn make_line<J: Naming, M: Publisher<J>>(
     board: &mut ScriptBoard<J, M>,
     alloc: Global,

@@ -58,7 +58,7 @@ impl Ended {
 /// is read. However a run ends, the certificates of the plans that the board has adopted are then written to `proofs`,
 /// where one is given.
 ///
-/// `hints` is told of each line that is answered `syntax`, and why. It changes nothing that is answered.
+/// `hints` receives each line that is answered `syntax`, and why. It changes no answer.
 pub fn run<T: Threads + Wait + Sync, R: Read, W: Write, P: Write, H: Hints>(
     rt: &T,
     alloc: Global,
@@ -85,7 +85,7 @@ pub fn run<T: Threads + Wait + Sync, R: Read, W: Write, P: Write, H: Hints>(
     run_named::<Brand, T, R, W, P, H>(rt, alloc, book, map, input, writer, proofs, hints, options)
 }
 
-// The same for a board whose name was picked. It alone names the type of the board's map, and hands the rest on: a
+// The same for a board whose name was picked. Only it names the type of the board's map, and hands the rest on: a
 // function that names it takes long to prove.
 fn run_named<
     J: Naming + Send + Sync,

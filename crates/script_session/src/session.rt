@@ -283,7 +283,7 @@ impl<'r, J: Naming + Send + Sync, M: Publisher<J> + Send, R: Threads + Wait + Sy
     }
 
     // Carries out what a line asks for where that is a directory to make or a request that is to wait, and there is a
-    // board. Most lines are such, and print nothing: no room is made for a reply. All else is left alone.
+    // board. Most lines are such, and print nothing: no room is made for a reply. It does nothing for other lines.
     fn change_quietly(&mut self, alloc: Global, what: &Asked<'_>) -> Option<Result<(), Fault>>
         ensures done { IfSome result (λ changed. OnOk changed
             (IsDone self.old (asked_view what.now) (only_lines []) true self.new)) }

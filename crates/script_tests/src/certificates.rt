@@ -18,7 +18,7 @@ const THREE_PLANS: &str =
     "ranks 2\nmask 0x3\ndir /a 10\nload /a 4\ngo\nplan\nplan\nload /a 90\ngo\nplan\nmask 0x0\nplan\n";
 
 /// Whether all certificates of a script's plans were written to a device that takes `step` bytes at a write and fails
-/// after so many writes, and what it has.
+/// after `writes` writes, and what it has.
 fn written<T: Threads + Wait + Sync>(
     rt: &T,
     alloc: Global,
@@ -135,7 +135,7 @@ fn no_plan_has_no_certificate(rt: HostRuntime) {
     }
 }
 
-/// Whether a device that fails after so many writes has a beginning of the certificates, and no more.
+/// Whether a device that fails after `writes` writes has a beginning of the certificates, and no more.
 fn has_beginning<T: Threads + Wait + Sync>(
     rt: &T,
     alloc: Global,

@@ -3,7 +3,7 @@ use std::alloc::Global;
 use std::io;
 use std::io::{Read, Write};
 
-/// Gives at most `step` bytes at a read, and fails after so many reads.
+/// Gives at most `step` bytes at a read, and fails after `reads` reads.
 #[derive(Drop)]
 pub struct Source<'a> {
     pub rest: &'a [u8],
@@ -24,7 +24,7 @@ impl Read for Source<'_> {
     }
 }
 
-/// Takes at most `step` bytes at a write, and fails after so many writes.
+/// Takes at most `step` bytes at a write, and fails after `writes` writes.
 #[derive(Drop)]
 pub struct Sink {
     pub bytes: Vec<u8>,

@@ -115,7 +115,7 @@ fn says_nothing_of_other_lines(rt: HostRuntime) {
     }
 }
 
-/// Keeps the numbers of the lines that it is told of.
+/// Keeps the numbers of the lines that it receives.
 #[derive(Drop)]
 struct Heard {
     lines: Vec<u64>,
@@ -129,10 +129,10 @@ impl Hints for Heard {
 
 const SCRIPT: &str = "ranks 0\nplan\nranks 1\nplan\n# lod\n\nlod\nload /a 1\nload /a";
 
-// (strict, the lines that are told)
+// (strict, the lines that are reported)
 const TOLD: &[(bool, &[u64])] = &[(false, &[1, 7, 9]), (true, &[1])];
 
-/// A run tells these lines.
+/// A run reports these lines.
 fn tells_lines<T: Threads + Wait + Sync + Abort>(
     rt: &T,
     alloc: Global,
@@ -162,7 +162,7 @@ fn tells_lines<T: Threads + Wait + Sync + Abort>(
     same_in(rt, &heard.lines.as_slice(), &wanted, &strict);
 }
 
-// A line that is refused, or says nothing, is not told.
+// A line that is refused, or says nothing, is not reported.
 #[test]
 fn a_run_tells_each_line_that_spells_no_command(rt: HostRuntime) {
     for (strict, wanted) in TOLD {

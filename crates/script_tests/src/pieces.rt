@@ -87,7 +87,7 @@ const ANSWERED: &[Row] = &[
     ("!", true, false, "line 1: bad\n"),
 ];
 
-/// Whether a run over devices that give and take so many bytes at a time ends as the row says.
+/// Whether a run over devices that give and take `step` bytes at a time ends as the row says.
 fn answers_so(alloc: Global, row: &Row, step: usize) -> bool {
     let (script, strict, accepted, text) = row;
     let mut sink = sink_of(alloc, step);
@@ -125,7 +125,7 @@ const READ: &[(usize, &str)] = &[
     (4, "a\nbc\nline 3: bad\n"),
 ];
 
-/// Whether a run ends at the read behind so many, and this is written.
+/// Whether a run ends at the read after `reads` reads, and this is written.
 fn stops_at_read(alloc: Global, reads: usize, text: &str) -> bool {
     let mut source = source_of(b"a\nbc\n!\nd", 2);
     source.reads = reads;
@@ -149,7 +149,7 @@ fn ends_at_a_failed_read(rt: HostRuntime) {
 /// What is written where no write fails.
 const WRITTEN: &[u8] = b"a\nline 2: bad\n\nz\n";
 
-/// Whether a run ends at the write behind so many, each of a byte.
+/// Whether a run ends at the write after `writes` writes, each of a byte.
 fn stops_at_write(alloc: Global, writes: usize) -> bool {
     let mut sink = sink_of(alloc, 1);
     sink.writes = writes;
@@ -234,7 +234,7 @@ fn written_before_reads(alloc: Global, script: &[u8]) -> Vec<usize> {
     input.into_inner().noted
 }
 
-// Each answer stands written before the next piece is read.
+// Each answer is written before the next piece is read.
 #[test]
 fn answers_before_it_reads_on(rt: HostRuntime) {
     let noted = written_before_reads(rt.alloc(), b"a\nbc\n!\nd");

@@ -90,7 +90,7 @@ fn ends_with_its_status(rt: HostRuntime) {
     }
 }
 
-/// Takes some bytes of each write, and fails after so many writes.
+/// Takes some bytes of each write, and fails after `writes` writes.
 #[derive(Drop)]
 struct Failing {
     bytes: Vec<u8>,
@@ -121,7 +121,7 @@ const HINTED_ANSWERS: &str =
 const HINTS: &str =
     "mdbal: line 2: unknown command \"lod\"\nmdbal: line 3: stop RANK: RANK is 64, and must be 0 to 63\n";
 
-/// Runs over a standard error that fails after so many writes. Each of the two hints takes two.
+/// Runs over a standard error that fails after `writes` writes. Each of the two hints takes two.
 fn loses_hints<T: Threads + Wait + Files + RandomSource + Sync + Abort>(
     rt: &T,
     alloc: Global,
@@ -140,7 +140,7 @@ fn loses_hints<T: Threads + Wait + Files + RandomSource + Sync + Abort>(
     same_in(rt, &is_whole, &(writes == 4), &writes);
 }
 
-// A standard error that fails loses hints alone.
+// A standard error that fails loses only hints.
 #[test]
 fn a_lost_hint_changes_nothing(rt: HostRuntime) {
     for writes in 0..5usize {

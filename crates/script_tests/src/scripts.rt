@@ -160,7 +160,7 @@ fn answers_scripts(rt: HostRuntime) {
     }
 }
 
-// Scripts behind `ranks 2` and `mask 0x3`, with what is written.
+// Scripts that follow `ranks 2` and `mask 0x3`, with what is written.
 const PLANS: &[(&str, &str)] = &[
     (
         "",
@@ -223,7 +223,7 @@ fn plans_for_usable_ranks_alone(rt: HostRuntime) {
     }
 }
 
-// Behind the read in which the faulty line ends a strict run reads nothing.
+// After the read in which the faulty line ends a strict run reads nothing.
 #[test]
 fn a_strict_run_ends_at_the_first_fault(rt: HostRuntime) {
     let script = "ranks 1\nload /a\nranks 1\ncost\n";
@@ -235,7 +235,7 @@ fn a_strict_run_ends_at_the_first_fault(rt: HostRuntime) {
     same(&rt, &ENOUGH.saturating_sub(left), &6);
 }
 
-// The answers to whole lines stand written before the next read is asked for, of which each fails here in turn.
+// The answers to whole lines are written before the next read is asked for, of which each fails here in turn.
 fn stops_at_read<T: Threads + Wait + Sync>(rt: &T, alloc: Global, reads: usize) -> bool {
     let mut source = source_of(TWO_PARTS.as_bytes(), 7);
     source.reads = reads;

@@ -68,7 +68,7 @@ const REFUSED: &[&[&str]] = &[
     &["mdbal", "--proofs", "a", "--proofs", "b"],
 ];
 
-/// What an error prints on a device that fails after so many writes, and on standard error, with the status.
+/// What an error prints on a device that fails after `writes` writes, and on standard error, with the status.
 fn printed(alloc: Global, error: &OptionsError, writes: usize) -> (u8, Vec<u8>, Vec<u8>) {
     let mut sink = sink_of(alloc, 4096);
     sink.writes = writes;
@@ -189,7 +189,7 @@ const SAID: Settings<'static> = Settings {
     quiet: false,
 };
 
-/// How many of two answers are want of memory. All others are as ever.
+/// How many of two answers are out of memory. All others are as ever.
 fn refusals(rt: &impl Abort, alloc: Global) -> u32 {
     let mut without_memory = 0;
     match options(alloc, ACCEPTED) {
@@ -205,7 +205,7 @@ fn refusals(rt: &impl Abort, alloc: Global) -> u32 {
     without_memory
 }
 
-// With `rt try --test --fail-alloc N`, the N-th growth is refused: one answer at most is want of
+// With `rt try --test --fail-alloc N`, the N-th growth is refused: at most one answer is out of
 // memory, and all others are as ever.
 #[test]
 fn a_refused_growth_is_told(rt: HostRuntime) {

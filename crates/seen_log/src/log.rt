@@ -115,7 +115,7 @@ impl<E, N: LogName> Model for Sight<E, N> {
 }
 
 impl<E, N: LogName> Log<E, N> {
-    /// The log goes on to what `G` says, which a caller picks by what is told.
+    /// The log goes on to what `G` says. The caller picks `G` by the argument.
     pub fn grow<G: Growth<E>, T>(&mut self, _told: &T)
         requires { IsPrefix self.old G.log }
         ensures { self.new ≡ G.log }

@@ -55,7 +55,7 @@ fn time_opened<J: Naming + Send + Sync, R: Threads + Wait + Clock + Sync>(
     }
 }
 
-/// The nanoseconds of a phase on a new board of so many ranks, with room for 65,536 directories.
+/// The nanoseconds of a phase on a new board of `ranks` ranks, with room for 65,536 directories.
 ///
 /// A board has a name, which is that of what was opened for its book and for its map.
 pub fn time_named<R: Threads + Wait + Clock + Sync>(

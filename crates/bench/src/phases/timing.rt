@@ -26,7 +26,7 @@ pub struct Phase {
     pub by_threads: bool,
 }
 
-// The wall time, or nothing where the system doesn't tell it.
+// The wall time, or nothing where the system doesn't give it.
 fn wall<C: Clock>(rt: &C) -> Duration {
     rt.monotonic().unwrap_or(Duration::ZERO)
 }
@@ -49,7 +49,7 @@ fn make_one<J: Naming, M: Publisher<J>>(
     }
 }
 
-// Makes so many directories, the root with them, and gives each rank those of its own. It says whether that was done.
+// Makes `dirs` directories, the root with them, and gives each rank those of its own. It says whether that was done.
 fn make<J: Naming, M: Publisher<J>>(
     alloc: Global,
     board: &mut Board<J, M>,

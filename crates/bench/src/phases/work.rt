@@ -10,7 +10,7 @@ const REQUESTS: u32 = 10_000;
 /// What is timed.
 #[derive(Clone, Copy)]
 pub enum Work {
-    /// Requests of so many hits.
+    /// Requests, each of this many hits.
     Serve(u32),
     /// Exports.
     Export,
