@@ -7,7 +7,7 @@ use lib.Dec.{leb}
 use Rattle.authority_map.specs.Runs.{IsIn, AreStarts, AreRuns, AreBefore, HasCells, HasFirst}
 use Rattle.authority_map.proofs.RunLemmas.{not_sooner, rises_to}
 
--- so many numbers of a list, from a place on
+-- `count` numbers of a list, from `first` on
 abbrev pub some_of : List ℕ → ℕ → ℕ → List ℕ
 some_of xs first count = take count (drop first xs)
 
@@ -24,7 +24,7 @@ no_sooner starts order i j le h = step (ℕ_discrete i j)
     step (yes e) = rw e (omega arith)
     step (no n) = omega (arith, rises_to starts order i j (omega (arith, le, n)) h)
 
--- The runs made so far end at the directory mid, with the cell of run; so many runs after it follow. The last of them, or
+-- The runs made so far end at the directory mid, with the cell of run; then count runs follow. The last of them, or
 -- run itself where there is none, has the directory before end.
 pub record IsPiece (starts : List ℕ) (run count mid end : ℕ) : Type 0 where
   pub there : run + count < length starts
@@ -95,7 +95,7 @@ module _ (limit : ℕ) (starts cells made filled : List ℕ) (run count mid end 
   left_cell : (k : ℕ) → k < length made → get_or all_cells k 0 ≡ get_or filled k 0
   left_cell k h = get_or_append_left filled (some_of cells (run + 1) count) 0 k (omega (arith, h, runs.sized))
 
-  -- the run of old that stands at a place behind those made so far
+  -- the run of old at a place after those made so far
   abbrev from_old : ℕ → ℕ
   from_old k = run + 1 + (k - length made)
 

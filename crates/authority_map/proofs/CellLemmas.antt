@@ -30,7 +30,7 @@ or_false false = refl
 differs : (d e : ℕ) → d ≢ e → (d == e) ≡ false
 differs d e n = grind (arith, nat_tests)
 
--- a list doesn't name what differs from all that stands on it
+-- a list doesn't name what differs from all that is in it
 pub not_named : (dirs : List ℕ) (d : ℕ) → ((k : ℕ) → k < length dirs → get_or dirs k 0 ≢ d) → names dirs d ≡ false
 not_named [] d h = refl
 not_named (x ∷ xs) d h = rw (differs x d (h 0 (omega arith)), not_named xs d (λ k l. h (suc k) (omega arith))) refl

@@ -121,7 +121,7 @@ module _ (limit : ℕ) (starts cells : List ℕ) (first end cell : ℕ) (runs : 
   pub before_kept : AreBefore end starts
   before_kept k h = omega (arith, before k h, some)
 
--- the run of directory 0 alone
+-- only the run of directory 0
 pub first_cell : (cell : ℕ) (want : ℕ → ℕ) → want 0 ≡ cell → HasFirst 1 (0 ∷ []) (cell ∷ []) want
 first_cell cell want is = record {
   each = λ run d h i. let e : d ≡ 0 = omega arith in let f : run ≡ 0 = omega (arith, i.there) in rw (e, f) (sym is);

@@ -1,4 +1,4 @@
--- A list of directories that rises, beside a directory that parts it.
+-- A list of directories that rises, parted at a directory.
 use Rattle.std.proofs.Common.{◌≡◌, ◌≢◌, ◌⊎◌, ℕ, zero, suc, ◌+◌, ◌-◌, ◌<◌, ◌≤◌, ◌==◌, ◌||◌, Bool, true, false, if◌then◌else◌, List, [], ◌∷◌, length, get_or, refl, arith, subst, inl, inr}
 use Rattle.std.proofs.lemmas.Bool.Decides.{nat_tests, leb_tells}
 use Rattle.std.specs.List.Sorted.{IsStrictlyIncreasing}
@@ -8,7 +8,7 @@ use Rattle.authority_map.specs.Runs.{ComeBefore}
 use Rattle.authority_map.proofs.CellLemmas.{not_named}
 use Rattle.authority_map.proofs.Extending.{HaveAll}
 
--- what stands on a list is named by it
+-- a list names what is in it
 pub named : (dirs : List ℕ) (k : ℕ) → k < length dirs → names dirs (get_or dirs k 0) ≡ true
 named [] k h = absurd (omega arith)
 named (x ∷ xs) zero h = rw (same x) refl
@@ -29,7 +29,7 @@ unnamed dirs count first end d lower upper from until = not_named dirs d (λ k h
     step k h e (inl le) = absurd (omega (arith, upper.after k le.1 h, e, until))
     step k h e (inr less) = absurd (omega (arith, lower.before k less.1, e, from))
 
--- what stands later is no less
+-- what comes later is no less
 later : (dirs : List ℕ) → IsStrictlyIncreasing dirs → (i k : ℕ) → i + k < length dirs → get_or dirs i 0 + k ≤ get_or dirs (i + k) 0
 later dirs up i zero h = let e : i + 0 ≡ i = omega arith in rw e (omega arith)
 later dirs up i (suc k) h =

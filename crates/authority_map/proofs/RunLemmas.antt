@@ -60,7 +60,7 @@ same_test x y e = grind (arith, nat_tests)
 pub other_test : (x y : ℕ) → x ≢ y → (x == y) ≡ false
 other_test x y n = grind (arith, nat_tests)
 
--- where a directory stands alone in its run, that run's cell is written
+-- where a run has only this directory, that run's cell is written
 module _ (limit : ℕ) (starts cells : List ℕ) (run dir value : ℕ) (runs : AreRuns limit starts cells) (inside : IsIn starts run dir) (here : StartsAt starts dir) (next : dir + 1 < limit → StartsAt starts (dir + 1)) (below : dir < limit) where
   -- no other directory is in it
   alone : (d : ℕ) → d < limit → IsIn starts run d → d ≡ dir
@@ -138,7 +138,7 @@ among_blocks limit starts index dir first last order was inside from to =
       },
     )
 
--- what an index tells is below the limit, and 0 past it
+-- what an index holds is below the limit, and 0 past it
 pub index_small : (limit : ℕ) (starts cells index : List ℕ) → AreRuns limit starts cells → IsIndex limit starts index → (block : ℕ) → get_or index block 0 < limit
 index_small limit starts cells index runs was block = step (leb_tells (length index) block)
   where

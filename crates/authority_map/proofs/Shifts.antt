@@ -9,7 +9,7 @@ use Rattle.authority_map.proofs.RunLemmas.{rises_to, not_sooner, same_test, othe
 pub one_start : (starts : List ℕ) → AreStarts starts → (i j dir : ℕ) → IsIn starts i dir → IsIn starts j dir → i ≡ j
 one_start starts order i j dir p q = omega (arith, not_sooner starts order i j dir dir p q (omega arith), not_sooner starts order j i dir dir q p (omega arith))
 
--- an index tells the run of the directory that a block begins with
+-- an index holds the run of the directory that a block begins with
 pub block_run : (limit : ℕ) (starts index : List ℕ) (run dir : ℕ) → AreStarts starts → IsIndex limit starts index → IsIn starts run dir → dir < limit → dir % 256 ≡ 0 → (dir / 256 < length index) × (get_or index (dir / 256) 0 ≡ run)
 block_run limit starts index run dir order was inside below begins =
     let within : dir / 256 < length index = omega (arith, was.sized, below) in
@@ -18,7 +18,7 @@ block_run limit starts index run dir order was inside below begins =
       one_start starts order (get_or index (dir / 256) 0) run dir (subst (λ (d : ℕ). IsIn starts (get_or index (dir / 256) 0) d) first (was.each (dir / 256) within)) inside,
     )
 
--- a run that started at the directory starts behind it now, or the other way round
+-- a run that started at the directory starts after it now, or the other way round
 module _ (limit : ℕ) (starts : List ℕ) (run start dir : ℕ) (order : AreStarts starts) (some : 1 ≤ run) (there : run < length starts) (after : get_or starts (run - 1) 0 < start) (before : run + 1 < length starts → start < get_or starts (run + 1) 0) (below : start < limit) (both : get_or starts run 0 + start ≡ dir + dir + 1) (least : dir ≤ start) (most : start ≤ dir + 1) where
   abbrev moved : List ℕ
   moved = set starts run start
@@ -137,7 +137,7 @@ module _ (limit : ℕ) (starts : List ℕ) (run dir : ℕ) (order : AreStarts st
   pub index_shifted : (index : List ℕ) → IsIndex limit starts index → dir % 256 ≡ 0 → IsIndex limit (set starts run (dir + 1)) (set index (dir / 256) (run - 1))
   index_shifted index tells begins = index_set limit starts run (dir + 1) dir order some next.there (omega (arith, sooner)) next.until below (omega (arith, first)) (omega arith) (omega arith) (run - 1) goes index tells begins (block_was index tells begins).0
 
--- the last directory of a run, which has another, goes to the run behind
+-- the last directory of a run, which has another, goes to the next run
 module _ (limit : ℕ) (starts : List ℕ) (run dir : ℕ) (order : AreStarts starts) (there : run + 1 < length starts) (later : get_or starts run 0 < dir) (last : get_or starts (run + 1) 0 ≡ dir + 1) (below : dir < limit) where
   ends : run + 1 + 1 < length starts → dir < get_or starts (run + 1 + 1) 0
   ends h = omega (arith, order.rising (run + 1) h, last)

@@ -1,4 +1,4 @@
--- Where a number stands among the numbers that pass a test.
+-- The place of a number among the numbers that pass a test.
 use Rattle.std.proofs.Common.{◌≡◌, ℕ, zero, suc, ◌<◌, ◌≤◌, ◌+◌, [], ◌∷◌, ◌++◌, length, sym, ap, ◌∙◌, refl, arith, Bool, true, false, cond, ltb, get_or, append-nil, length-append, inl, inr}
 use Rattle.std.specs.Prelude.{filter}
 use Rattle.std.proofs.lemmas.Bool.{cases_Bool, cases_eq, cases_lt, le-ltb, lt-ltb}
@@ -48,7 +48,7 @@ pub kept_few : (test : ℕ → Bool) (n : ℕ) → length (filter test (below n)
 kept_few test zero = omega arith
 kept_few test (suc n) = omega (arith, ap length (kept_next test n), length-append (filter test (below n)) (cond (test n) (n ∷ []) []), one_few (test n) n, kept_few test n)
 
--- a number that passes stands before the larger ones
+-- a number that passes comes before the larger ones
 pub place_less : (test : ℕ → Bool) (n p : ℕ) → p < n → test p ≡ true → length (filter test (below p)) < length (filter test (below n))
 place_less test zero p h is = absurd (omega arith)
 place_less test (suc n) p h is =
@@ -61,7 +61,7 @@ place_less test (suc n) p h is =
       | inr other ↦ omega (arith, all, place_less test n p (omega (arith, h, other)) is)
     ]
 
--- and it stands at its place
+-- and it is at its place
 pub at_place : (test : ℕ → Bool) (n p : ℕ) → p < n → test p ≡ true → get_or (filter test (below n)) (length (filter test (below p))) 0 ≡ p
 at_place test zero p h is = absurd (omega arith)
 at_place test (suc n) p h is = elim (cases_eq p n) [
@@ -73,7 +73,7 @@ at_place test (suc n) p h is = elim (cases_eq p n) [
       rw (kept_next test n) (get_or_append_left (filter test (below n)) (cond (test n) (n ∷ []) []) 0 (length (filter test (below p))) (place_less test n p less is) ∙ at_place test n p less is)
 ]
 
--- what stands at a place is below n, passes, and has this place
+-- what is at a place is below n, passes, and has this place
 pub record IsKept (test : ℕ → Bool) (n i d : ℕ) : Type 0 where
   pub below_n : d < n
   pub passes : test d ≡ true

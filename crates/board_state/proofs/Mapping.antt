@@ -226,7 +226,7 @@ notifies w x h =
     on true is h = absurd (cc)
     on false is h = grind (arith, nat_tests)
 
--- the root alone has a rank
+-- only the root has a rank
 pub first_mapped : (limit ranks d : ℕ) → rank_after (SetTo (0 ∷ []) 0 ∷ []) d ≡ named_of (machine.start limit ranks) d
 unfolding machine.start
 first_mapped limit ranks d = rank_after-snoc [] (SetTo (0 ∷ []) 0) d ∙ (ap (λ (x : Option ℕ). entry_after d x (SetTo (0 ∷ []) 0)) (rank_after-none d) ∙ on d)

@@ -51,7 +51,7 @@ of_piece items seen text i e h = ap (drop i) (sym e) ∙ (sym (take_rest seen i)
 pub to_piece : (items seen text : List ℕ) (i : ℕ) → seen ≡ items → drop i items ≡ text → piece seen i ≡ text
 to_piece items seen text i e h = take_rest seen i ∙ (ap (drop i) e ∙ h)
 
--- a certificate, and what is behind it
+-- a certificate, and what comes after it
 pub behind : (items seen front rest : List ℕ) (i : ℕ) → seen ≡ items → piece seen i ≡ front ++ rest → drop i items ≡ front ++ drop (i + (length (piece seen i) - length rest)) items
 behind items seen front rest i e h =
     let size : length (piece seen i) - length rest ≡ length front = omega (arith, ap length h, length-append front rest) in

@@ -95,7 +95,7 @@ no_groups_of a r h simple =
     let all = ap (λ (x : Rule). x.is_simple) h ∙ simple in
     none_of a.groups.items (both_true _ _ (both_true _ _ (both_true _ _ all).1).1).0
 
--- a name stands at one of the four places alone
+-- a name is at only one of the four places
 alone : (a b d e : Arg) → a.id.now ≡ codes "limit" → b.id.now ≡ codes "strict" → d.id.now ≡ codes "proofs" → e.id.now ≡ codes "quiet"
     → (j : ℕ) (x : Arg) → j < 4
     → (bytes_eq (slice_index_or (a ∷ b ∷ d ∷ e ∷ []) j x).id.now (codes "limit") ≡ true → j ≡ 0)

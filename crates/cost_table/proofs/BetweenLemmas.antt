@@ -11,7 +11,7 @@ use Rattle.mds_types.proofs.SumsLemmas.{sum_below-split, sum_from-same, sum_belo
 use Rattle.cost_table.specs.Costs.{AreCells, AreCosts, AreRows, AreSums, own_between, own_inodes, part_total}
 use Rattle.cost_table.proofs.InodeLemmas.{part_inodes-le, part_total-inodes, cost-own}
 
--- no row stands before itself
+-- no row comes before itself
 not_later : (from i : ℕ) → i < from → leb from i ≡ false
 not_later from i l = false_from_ne_true (leb from i) (λ yes. absurd (omega (arith, leb-true from i yes)))
 
@@ -102,7 +102,7 @@ rows_joined rows from mid to first second = record {
       ⊎_elim (λ (before : i < mid). first.inodes i low before) (λ (after : mid ≤ i). second.inodes i after high) (cases_lt i mid);
 }
 
--- so many rows have no more inodes
+-- the most inodes that n rows can have
 inodes_few : (rows : List ProblemRow) (n : ℕ) → ((i : ℕ) → i < n → inodes_at rows i < 2 ^ 32)
     → sum_below n (inodes_at rows) ≤ n * 2 ^ 32
 inodes_few rows zero small = omega arith

@@ -1,4 +1,4 @@
--- Where the ranks of a set stand among each other.
+-- The places of a set's ranks among each other.
 use Rattle.std.proofs.Common.{◌≡◌, ◌≢◌, ◌∙◌, ◌+◌, ◌*◌, ◌<◌, ◌≤◌, cond, set, ℕ, true, List, length, arith, ⊎_elim, get_or-set_other, get_or-set_same}
 use Rattle.std.proofs.lemmas.Nat.{same_from_place, row_fits}
 use Rattle.std.proofs.lemmas.Bool.{cases_order}
@@ -9,7 +9,7 @@ use Rattle.mds_types.proofs.RankSetLemmas.{count_below_more}
 use Rattle.mds_types.proofs.PlacingLemmas.{has_rank-lt}
 use Rattle.cost_table.specs.Costs.{rank_place, cell_at}
 
--- a later number stands after a rank of the set
+-- a later number comes after a rank of the set
 place_before : (ranks r s : ℕ) → has_rank ranks r ≡ true → r < s → rank_place ranks r < rank_place ranks s
 place_before ranks r s has before =
     let more = rw has at (count_below_more r (has_rank ranks)) in
@@ -73,7 +73,7 @@ pub row_inside : (ranks part count size : ℕ) → part < count → size ≡ cou
 row_inside ranks part count size l size_is =
     rw size_is (row_fits part (rank_count ranks) count (rank_count ranks) l (omega arith))
 
--- where a cell of a part stands
+-- where a cell of a part is
 pub cell_inside :
     (ranks part count size r : ℕ) → part < count → size ≡ count * rank_count ranks → has_rank ranks r ≡ true
     → part * rank_count ranks + rank_place ranks r < size

@@ -57,7 +57,7 @@ pinned es own d rank tree h = and_right (is_there es d) (is_none (nearest_pin es
 read_own : (own : List (Option ℕ)) (d : ℕ) (pin : Option ℕ) → d < length own → pin ≡ get_or own d pin → own_pin own d ≡ pin
 read_own own d pin inside is = grind (arith, common_steps)
 
--- the own pin that was read, from the list behind the view
+-- the own pin that was read, from the list that the view hides
 pub own_at : (own items : List (Option ℕ)) (d n : ℕ) (pin : Option ℕ) → items ≡ own → n ≡ d → d < length own → pin ≡ get_or items n pin → own_pin own d ≡ pin
 own_at own items d n pin view at inside is = read_own own d pin inside (is ∙ (rw (view, at) refl))
 

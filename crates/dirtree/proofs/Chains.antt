@@ -9,14 +9,14 @@ one h = cc
 nothing : {k : ℕ} → None ≡ Some k → ⊥
 nothing h = cc
 
--- A number above all others stands before them.
+-- A number above all others comes before them.
 module _ (place after : ℕ → Option ℕ) (next next_ head head_ : ℕ → ℕ) (new chain : ℕ)
     (chained : IsChained place next head) (some : 0 < new)
     (small : (d k : ℕ) → place d ≡ Some k → d < new)
     (same : (d : ℕ) → d < new → after d ≡ place d) (none : (d : ℕ) → new < d → after d ≡ None) (here : after new ≡ Some chain)
     (nexts : (d : ℕ) → d < new → next_ d ≡ next d) (behind : next_ new ≡ head chain)
     (front : head_ chain ≡ new) (fronts : (c : ℕ) → c ≢ chain → head_ c ≡ head c) where
-  -- a directory that stands in a chain afterwards stood there before, or is the new one
+  -- a directory that is in a chain afterwards was there before, or is the new one
   split : (d k : ℕ) → after d ≡ Some k → ((d < new) × (place d ≡ Some k)) ⊎ ((d ≡ new) × (chain ≡ k))
   split d k is = elim (cases_lt d new) [
     | inl below ↦ inl (below, sym (same d below) ∙ is)
@@ -133,7 +133,7 @@ module _ (place after : ℕ → Option ℕ) (next next_ head head_ : ℕ → ℕ
         omega (arith, kept, near);
   }
 
-  -- it stood behind another
+  -- it followed another
   pub chained_later : (before : ℕ) → 0 < before → next before ≡ gone → place before ≡ Some chain
       → next_ before ≡ next gone → ((d : ℕ) → d ≢ gone → d ≢ before → next_ d ≡ next d) → ((c : ℕ) → head_ c ≡ head c) → IsChained after next_ head_
   chained_later before more to in_chain skips nexts fronts = record {

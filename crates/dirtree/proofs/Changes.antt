@@ -13,7 +13,7 @@ use Rattle.dirtree.proofs.Indexed.{IsIndexed}
 use Rattle.dirtree.specs.Keeps.{Key, key, key_of, key_at}
 use Rattle.dirtree.proofs.Nodes.{there_by_key}
 
--- where a number stands among the entries and one more
+-- where a number is among the entries and one more
 pub places : (es : List (Option Entry)) (e : Option Entry) (d : ℕ) → ((d < length es) × (entry_at (es ++ e ∷ []) d ≡ entry_at es d)) ⊎ (((d ≡ length es) × (entry_at (es ++ e ∷ []) d ≡ e)) ⊎ ((length es < d) × (entry_at (es ++ e ∷ []) d ≡ None)))
 places es e d = grind (arith, common_steps)
 
@@ -23,7 +23,7 @@ outside es d h = grind (arith, common_steps)
 pub inside : (es : List (Option Entry)) (d : ℕ) → is_there es d ≡ true → d < length es
 inside es d there = elim (cases_lt d (length es)) [ inl below ↦ below | inr past ↦ absurd (false≢true (sym (ap is_some (outside es d past)) ∙ there)) ]
 
--- a test of a place, as the two facts that it stands for
+-- a test of a place, as the two facts that it means
 picks : (p i : ℕ) (name text : List ℕ) → (nat_eq p i && bytes_eq name text) ≡ true → (p ≡ i) × (text ≡ name)
 picks p i name text h = let parts = and_parts (nat_eq p i) (bytes_eq name text) h in ((Decides-eqb p i).0 parts.0, sym ((bytes_eq-Decides name text).0 parts.1))
 

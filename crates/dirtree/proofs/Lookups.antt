@@ -20,7 +20,7 @@ some_key : (e : Option Entry) → is_some (option_map key_of e) ≡ true → is_
 some_key None h = h
 some_key (Some e) h = refl
 
--- what stands in a chain is there
+-- what is in a chain is there
 pub placed_there : (h : FoldHasher) (es : List (Option Entry)) (d chain : ℕ) → place_at h es d ≡ Some chain → is_there es d ≡ true
 placed_there h es d chain is = some_key (entry_at es d) (place_key h (key_at es d) chain is)
 

@@ -122,7 +122,7 @@ module _ (limit : ℕ) (h : FoldHasher) (nodes after : List (Option Node)) (head
     chained = subst (λ (es : List (Option Entry)). IsChained (place_at h es) (next_at (after ++ Some n ∷ [])) (head_at (set heads (chain_of h n.parent n.name) (length nodes)))) (sym split) chained;
   }
 
--- what `make` leaves, from what it was told by each of its steps
+-- what `make` leaves, from what each of its steps returned
 pub sound_made : (limit : ℕ) (h : FoldHasher) (nodes reserved after pushed : List (Option Node)) (heads : List ℕ) (n : Node) (t : Directories) (parent at first number : ℕ) (name : List ℕ)
     → IsSound limit h nodes heads → record { limit = limit; entries = entries_of nodes } ≡ t → make_refusal t parent name ≡ None
     → n.parent ≡ parent → n.name ≡ name → n.children ≡ 0 → n.next ≡ head_at heads first → first ≡ chain_of h parent name → first < 2 ^ 17

@@ -9,7 +9,7 @@ use Rattle.dirtree.specs.Keeps.{entry_of, entries_of}
 use Rattle.dirtree.proofs.Changes.{inside}
 use Rattle.dirtree.proofs.Sound.{length-entries}
 
--- an element that was read stands there with any default
+-- an element that was read is there with any default
 pub read_at : (nodes : List (Option Node)) (i : ℕ) (n : Option Node) → i < length nodes → n ≡ get_or nodes i n → get_or nodes i None ≡ n
 read_at nodes i n inside is = grind (arith, common_steps)
 

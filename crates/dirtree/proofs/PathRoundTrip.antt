@@ -55,7 +55,7 @@ name_whole name h =
     let rest = and_parts (nat_lt 0 (length name) && nat_le (length name) 255) (list_all is_name_byte name && not (is_dots name)) h in
     no_slash name (and_parts (list_all is_name_byte name) (not (is_dots name)) rest.1).0
 
--- names, each behind a slash, are split into the names
+-- names, each after a slash, are split into the names
 split_names : (name : List ℕ) (names : List (List ℕ)) → list_all is_name (name ∷ names) ≡ true → slice_split (λ c. c == 47) (name ++ flat_map (λ name. 47 ∷ name) names) ≡ name ∷ names
 split_names name [] h =
     let both = and_parts (is_name name) true h in

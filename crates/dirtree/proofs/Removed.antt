@@ -121,7 +121,7 @@ module _ (limit : ℕ) (h : FoldHasher) (nodes : List (Option Node)) (heads : Li
     nexts_stay : (d : ℕ) → d ≢ gone → next_at (set nodes gone None) d ≡ next_at nodes d
     nexts_stay d other = ap (λ (m : Option Node). option_map_or (λ n. n.next) m 0) (node_stays nodes d gone other)
 
-    -- it stood first in its chain
+    -- it was first in its chain
     pub first_gone : chain < 2 ^ 17 → head_at heads chain ≡ gone → heads_ ≡ set heads chain n.next
         → ((d : ℕ) → next_at after d ≡ next_at (set nodes gone None) d) → IsSound limit h after heads_
     first_gone short first told nexts = sound_less (ap (λ (hs : List ℕ). length hs) told ∙ simp length-set sound.wide)
@@ -140,7 +140,7 @@ module _ (limit : ℕ) (h : FoldHasher) (nodes : List (Option Node)) (heads : Li
             kept : head_at (set heads chain n.next) c ≡ head_at heads c
             kept = get_or-set_other heads chain c n.next 0 other
 
-    -- it stood behind another
+    -- it followed another
     pub later_gone : (before : ℕ) → 0 < before → next_at nodes before ≡ gone → place_at h (entries_of nodes) before ≡ Some chain → heads_ ≡ heads
         → ((d : ℕ) → next_at after d ≡ cond (nat_eq d before) n.next (next_at (set nodes gone None) d)) → IsSound limit h after heads_
     later_gone before more to placed told nexts = sound_less (ap (λ (hs : List ℕ). length hs) told ∙ sound.wide)

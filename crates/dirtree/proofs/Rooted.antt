@@ -1,4 +1,4 @@
--- A tree that has the root alone is sound.
+-- A tree that has only the root is sound.
 use Rattle.std.proofs.Common.{◌≡◌, replicate, ℕ, zero, suc, ◌≤◌, ◌^◌, List, [], ◌∷◌, length, sym, ◌∙◌, refl, arith, subst, true, Some, get_or}
 use Rattle.std.proofs.lemmas.Bool.{false≢true}
 use Rattle.std.specs.declared.hash.FoldHasher.{FoldHasher}

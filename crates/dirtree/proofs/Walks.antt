@@ -34,7 +34,7 @@ pub names_up-step : (es : List (Option Entry)) (d : ℕ) → IsTree es → 0 < d
 names_up-step es zero tree some = absurd (omega arith)
 names_up-step es (suc d) tree some = ap (λ (ds : List ℕ). name_of es (suc d) ∷ map (name_of es) (filter (λ a. not (is_root a)) ds)) (up_parent es d tree)
 
--- what a node that stands for an entry says of it
+-- what a node says of its entry
 pub read_node : (es : List (Option Entry)) (d : ℕ) (e : Entry) → entry_at es d ≡ Some e → (parent_of es d ≡ e.parent) × (name_of es d ≡ e.name)
 read_node es d e is = (ap (λ (x : Option Entry). option_map_or (λ e. e.parent) x 0) is, ap (λ (x : Option Entry). option_map_or (λ e. e.name) x []) is)
 

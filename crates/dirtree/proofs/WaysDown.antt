@@ -1,4 +1,4 @@
--- The names down to a directory, each behind a slash, and when a text is that.
+-- The names down to a directory, each after a slash, and when a text is that.
 use Rattle.std.proofs.Common.{◌≡◌, ◌≢◌, ◌==◌, ◌↔◌, ℕ, zero, suc, ◌<◌, List, [], ◌∷◌, ◌++◌, sym, ap, ◌∙◌, refl, arith, true, append_assoc, Bor, Option, Some, None, Ok}
 use Rattle.std.specs.Prelude.{reverse, is_some, MatchOption, Bool, length}
 use Rattle.std.specs.List.{flat_map}

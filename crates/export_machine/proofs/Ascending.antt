@@ -1,4 +1,4 @@
--- Lists that rise: none of their members stands twice, and each is found by halves.
+-- Lists that rise: none of their members is there twice, and each is found by halves.
 use Rattle.std.proofs.Common.{◌≡◌, ◌≢◌, ℕ, zero, suc, ◌+◌, ◌<◌, ◌≤◌, Bool, true, false, eqb, ltb, List, [], ◌∷◌, length, get_or, Result, Ok, Err, refl, sym, ap, ◌∙◌, inl, inr, arith}
 use Rattle.std.specs.List.{IsAllAdjacentAnswer}
 use Rattle.std.specs.List.Sorted.{IsStrictlyIncreasing, IsBinarySearchResult}
@@ -11,7 +11,7 @@ use Rattle.export_machine.specs.Authority.{is_among}
 use Rattle.export_machine.specs.Step.{repeats}
 use Rattle.export_machine.proofs.Lists.{among_at}
 
--- what stands later is greater
+-- what comes later is greater
 
 abbrev pub Rises : List ℕ → Type 0
 Rises xs = (i j : ℕ) → i < j → j < length xs → get_or xs i 0 < get_or xs j 0

@@ -74,7 +74,7 @@ module _ (w : World) where
   delivered_sends None = none w w refl refl
   delivered_sends (Some m) = either_sends (is_stopped w (receiver w m)) (comes w m) (comes_sends m)
 
--- what is kept of a world beside the invariant of exports
+-- what is kept of a world in addition to the invariant of exports
 pub record Bounded (w : World) : Type 0 where
   pub distinct : (x : ℕ) → repeats (order_in w.orders x).dirs ≡ true → ⊥
   pub sent : length w.sent ≤ w.events
@@ -169,12 +169,12 @@ pub answer_refused : (w : World) (e : Event) (r : StepError) → refusal w e ≡
 unfolding step
 answer_refused w e r h = rw h refl
 
--- a refusal, or want of memory
+-- a refusal, or out of memory
 pub answer_refusal : (w v : World) (e : Event) (error : StepError) → IsRefusal w e error → v ≡ w → IsAnswer w e (Err error) v
 answer_refusal w v e error (inl r) same = (inl (answer_refused w e error r), same)
 answer_refusal w v e error (inr m) same = (inr (m.1, m.0), same)
 
--- the parts of one step that is told twice
+-- the parts of one step that is given twice
 pub step_reply : {p : Result Reply StepError × World} (r q : Reply) (v u : World) → p ≡ (Ok r, v) → p ≡ (Ok q, u) → (r ≡ q) × (v ≡ u)
 step_reply {p = p} r q v u h k = (same p.0 (ap (λ (x : Result Reply StepError × World). x.0) h) (ap (λ (x : Result Reply StepError × World). x.0) k), sym (ap (λ (x : Result Reply StepError × World). x.1) h) ∙ ap (λ (x : Result Reply StepError × World). x.1) k)
   where
@@ -245,7 +245,7 @@ pub on_ok : {A E : Type 0} {P Q : Type 0} (r : Result A E) → (P → Q) → OnO
 on_ok (Ok a) f h = f h
 on_ok (Err e) f h = h
 
--- what is kept speaks of the lists alone
+-- what is kept speaks only of the lists
 pub kept_same : (old new : Records) → world_of new ≡ world_of old → indexes_of new ≡ indexes_of old → IsKept old → IsKept new
 kept_same old new w i k = record {
   reached = rw w k.reached;

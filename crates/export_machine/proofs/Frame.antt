@@ -1,4 +1,4 @@
--- A message that comes changes states, journals and messages alone.
+-- A message that comes changes only states, journals and messages.
 use Rattle.std.proofs.Common.{◌≡◌, ℕ, Bool, true, false, cond, length, Option, Some, None, refl, ◌∙◌}
 use Rattle.std.specs.List.{slice_get}
 use Rattle.export_machine.specs.declared.journal.JournalEntry.{JournalEntry}

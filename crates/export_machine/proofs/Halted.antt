@@ -59,7 +59,7 @@ forgets rank w = record w { importers = map_at (λ x state. cond (eqb (to_of w x
 abbrev pub ends : ℕ → World → World
 ends rank w = record w { tickets = map_at (λ t request. ends_at rank request) w.tickets }
 
--- what the journal tells is what these changes leave
+-- what the journal holds is what these changes leave
 
 pub recovered_all : (rank : ℕ) (w : World) → IsReached w → recovered w rank ≡ forgets rank (aborts rank w)
 recovered_all rank w r =

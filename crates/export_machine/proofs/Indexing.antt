@@ -42,7 +42,7 @@ same_indexed w v i is a o t p n ns l c = record {
   dropped_places = c;
 }
 
--- the tickets that are kept by rank change alone
+-- only the tickets that are kept by rank change
 pub refiled : (w : World) (i : Indexes) → IsIndexed w i → (ls : List (List ℕ)) → AreByRank w.ranks w.tickets ls → IsIndexed w (record i { tickets_at = ls })
 refiled w i is ls by = record {
   owners = is.owners;
@@ -59,7 +59,7 @@ refiled w i is ls by = record {
   dropped_places = is.dropped_places;
 }
 
--- the exports that are listed by rank change alone
+-- only the exports that are listed by rank change
 pub relisted : (w : World) (i : Indexes) → IsIndexed w i → (ls : List (List ℕ)) → AreListed w.ranks w.orders w.exporters w.importers w.journals ls i.dropped → IsIndexed w (record i { open_at = ls })
 relisted w i is ls l = record {
   owners = is.owners;

@@ -161,7 +161,7 @@ start_listed ranks js none = record {
     many zero = refl
     many (suc n) = ap suc (many n)
 
--- exports whose states are told go
+-- exports whose states the journal holds go
 
 pub before_near : (es : List ExporterState) (x : ℕ) → is_before_log (get_or es x Aborted) ≡ true → x < length es
 before_near es x h = elim (cases_lt x (length es)) [ inl m ↦ m | inr m ↦ absurd (differ (ap is_before_log (sym (get_or_past es x Aborted m)) ∙ h)) ]

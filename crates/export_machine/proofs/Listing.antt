@@ -49,7 +49,7 @@ repeats_push (x ∷ xs) d =
 pub once_next : (xs : List ℕ) (i d : ℕ) → i < length xs → d ≡ get_or xs i d → repeats (take i xs) ≡ false → is_among (take i xs) d ≡ false → repeats (take (i + 1) xs) ≡ false
 once_next xs i d l e h k = ap repeats (take_next xs i d l e) ∙ (repeats_push (take i xs) d ∙ or_from (repeats (take i xs)) (is_among (take i xs) d) h k)
 
--- a member that stands before its place stands twice
+-- a member that is also before its place is there twice
 pub twice : (xs : List ℕ) (i d : ℕ) → i < length xs → d ≡ get_or xs i d → is_among (take i xs) d ≡ true → repeats xs ≡ true
 twice xs i d l e h = elim (cases_Bool (repeats xs)) [
   | inl t ↦ t

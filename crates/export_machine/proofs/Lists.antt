@@ -35,7 +35,7 @@ among_at [] i d h = absurd (omega arith)
 among_at (x ∷ xs) zero d h = or_left (eqb x x) (is_among xs x) (itself x)
 among_at (x ∷ xs) (suc i) d h = or_right (eqb x (get_or xs i d)) (is_among xs (get_or xs i d)) (among_at xs i d (omega arith))
 
--- in a list without repetitions no member stands before its place
+-- in a list without repetitions no member is before its place
 pub not_before : (xs : List ℕ) (i d : ℕ) → i < length xs → repeats xs ≡ false → is_among (take i xs) (get_or xs i d) ≡ false
 not_before [] i d h r = absurd (omega arith)
 not_before (x ∷ xs) zero d h r = refl

@@ -30,7 +30,7 @@ use Rattle.export_machine.proofs.Lists.{no_fault}
 use Rattle.export_machine.proofs.Accepted.{numbers_by, room_left, made_has, made_few, gone_dir, gone_closed, gone_idle, gone_has, froze_order, froze_state}
 use Rattle.export_machine.proofs.Starting.{start_few, start_present}
 
--- causes that don't stand
+-- causes that don't apply
 
 unmet : (b : Bool) (r : StepError) → b ≡ false → when b r ≡ None
 unmet b r h = rw h refl

@@ -287,7 +287,7 @@ start_noted limit ranks some = record {
       | inr n ↦ absurd (cc (ap (λ j. has_entry j f) (get_or-set_other (replicate ranks []) 0 r (JournalEntry.Made 0 ∷ []) [] n ∙ replicate_get ranks [] r), h))
     ]
 
--- what the journals tell of the directories
+-- what the journals hold of the directories
 
 by_noted : (w : World) → IsReached w → (Noted w → ⊥) → ⊥
 by_noted w h k = ∥∥₁_elim h (λ x y. absurd x) (λ r. k (subst Noted r.4 (run_noted r.2 (start r.0 r.1) (started r.0 r.1 r.3) (start_noted r.0 r.1 r.3))))

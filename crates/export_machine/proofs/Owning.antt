@@ -37,7 +37,7 @@ pub record Owning (inside : ℕ → ℕ → Bool) (from to : ℕ → ℕ) (phase
   -- a directory is in one open export at most
   pub one_export : (x y d : ℕ) → inside x d ≡ true → inside y d ≡ true → is_over (phase x) ≡ false → is_over (phase y) ≡ false → x ≡ y
 
--- a request stands at the owner, and no open export of its directory is past freezing
+-- a request is at the owner, and no open export of its directory is past freezing
 pub record Running (inside : ℕ → ℕ → Bool) (phase : ℕ → Phase) (owns : ℕ → ℕ → Bool) (request : ℕ → Option Request) : Type 0 where
   pub stands : (t : ℕ) (q : Request) → request t ≡ Some q → owns q.rank q.dir ≡ true
   pub early : (t : ℕ) (q : Request) (x : ℕ) → request t ≡ Some q → inside x q.dir ≡ true → is_over (phase x) ≡ false → phase x ≡ Early

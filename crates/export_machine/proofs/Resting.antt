@@ -101,7 +101,7 @@ module _ (w : World) where
     importer = λ y h. ap (λ (is : List ImporterState). get_or is y Unknown) i ∙ get_or-set_other w.importers x y s Unknown (λ k. differs w (to_of w x) (to_of w y) up h (ap (to_of w) (sym k)));
   }
 
-  -- a message changes a state at its receiver alone
+  -- a message changes a state only at its receiver
 
   comes_rests : (m : Message) (e : ExporterState) (i : ImporterState) → is_stopped w (receiver w m) ≡ false → Rests w (acts w m (move m e i)).world
   comes_rests (Discover x) e Unknown up = import_changes _ x Discovered up refl refl refl refl

@@ -26,7 +26,7 @@ use Rattle.export_machine.proofs.Found.{options_by, orders_by}
 use Rattle.export_machine.proofs.Listed.{exporter_listed, importer_listed, entry_listed, entry_drops_none, dropped_listed}
 use Rattle.export_machine.proofs.Indexing.{same_indexed, open_stays, exporter_open, entry_open, inside_there, marked, shut_opened}
 
--- states and messages alone change
+-- only states and messages change
 
 pub importer_indexed : (w : World) (i : Indexes) → IsIndexed w i → (importers : List ImporterState) (ms : List Message) (open_at : List (List ℕ)) → AreListed w.ranks w.orders w.exporters importers w.journals open_at i.dropped →
     IsIndexed (record w { importers = importers; sent = ms }) (record i { open_at = open_at })

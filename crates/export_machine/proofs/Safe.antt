@@ -95,7 +95,7 @@ module _ (w : World) (safe : Safe w) (x : ℕ) where
   pub ack_safe : importer_of w x ≡ Started → x < length w.orders → Safe (with_message w (ExportAck x))
   ack_safe e n = send_safe w safe (ExportAck x) (sent_ack _ _ _ _ _ _ _ safe.tables _ x (push_get w.sent (ExportAck x)) e n)
 
--- The exporter's state of x alone changes.
+-- Only the exporter's state of x changes.
 module _ (w : World) (safe : Safe w) (x : ℕ) (s : ExporterState) (near : x < length w.exporters) where
   pub exporter_at : exporter_of (exporter_to w x s) x ≡ s
   exporter_at = get_or-set_same w.exporters x s Aborted near

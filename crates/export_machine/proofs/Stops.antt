@@ -24,7 +24,7 @@ use Rattle.std.proofs.lemmas.Bool.{cases_lt, eqb-true}
 abbrev pub ExporterHalts : ExporterState → ExporterState → Type 0
 ExporterHalts old new = (new ≡ old) ⊎ ((is_before_log old ≡ true) × (new ≡ Aborted))
 
--- An importer's state stays, or no entry tells of it and it is unknown.
+-- An importer's state stays, or no entry gives it and it is unknown.
 abbrev pub ImporterHalts : Bool → ImporterState → ImporterState → Type 0
 ImporterHalts has_dropped old new =
     (new ≡ old) ⊎ ((new ≡ Unknown) × (is_started old ≡ false) × (is_imported old ≡ false) × (old ≡ Dropped → has_dropped ≡ false))

@@ -165,7 +165,7 @@ module _ (count : ℕ) (from to : ℕ → ℕ) (exporter : ℕ → ExporterState
     acked = λ k y h. grind (arith, old.acked, news k (ExportAck y) h);
   }
 
-  -- an entry on directories alone
+  -- an entry only on directories
   pub entry_tables : (has' : ℕ → JournalEntry → Bool) →
       ((r x : ℕ) → has' r (JournalEntry.Exported x) ≡ has r (JournalEntry.Exported x)) → ((r x : ℕ) → has' r (JournalEntry.Notified x) ≡ has r (JournalEntry.Notified x)) →
       ((r x : ℕ) → has' r (JournalEntry.Imported x) ≡ has r (JournalEntry.Imported x)) → ((r x : ℕ) → has' r (JournalEntry.Started x) ≡ has r (JournalEntry.Started x)) →
@@ -381,7 +381,7 @@ module _ (count : ℕ) (from to : ℕ → ℕ) (exporter : ℕ → ExporterState
       not_imported : (a b : Bool) → (not a && not b) ≡ true → not a ≡ true
       not_imported a b h = grind arith
 
-  -- Imports that no entry tells of are forgotten.
+  -- Imports whose state no entry gives are forgotten.
   pub halted_importers : (importer' : ℕ → ImporterState) →
       ((y : ℕ) → (importer' y ≡ importer y) ⊎
       ((importer' y ≡ Unknown) × (is_started (importer y) ≡ false) × (is_imported (importer y) ≡ false) × (importer y ≡ Dropped → has (to y) (JournalEntry.Dropped y) ≡ false))) →

@@ -1,4 +1,4 @@
--- How orders stand while a board goes on.
+-- The states of orders while a board goes on.
 use Rattle.std.proofs.Common.{◌≡◌, ◌≤◌, ◌<◌, ◌+◌, ℕ, zero, suc, Bool, cond, false, take, List, [], ◌∷◌, ◌++◌, length, Some, slice_get, get_or, refl, sym, ap, ◌∙◌, subst, arith}
 use Rattle.std.proofs.Math.ListN.{set}
 use Rattle.std.proofs.lemmas.List.Sums.{sum_by-append, sum_by-set}
@@ -54,7 +54,7 @@ each_snoc R (x ∷ xs) (y ∷ ys) a b r h = (h.0, each_snoc R xs ys a b r h.1)
 each_snoc R [] (y ∷ ys) a b r h = absurd h
 each_snoc R (x ∷ xs) [] a b r h = absurd h
 
--- what is told of the first elements, and of the next one
+-- what holds of the first elements, and of the next one
 pub each_next : {A B C : Type 0} (R : A → B → Type 0) (S : A → C → Type 0) (xs : List A) (ys : List B) (i : ℕ) (d : B) (c : C) (zs : List C) → AreEach R xs ys
     → i < length ys → ((a : A) → R a (get_or ys i d) → S a c) → AreEach S (take i xs) zs → AreEach S (take (suc i) xs) (zs ++ c ∷ [])
 each_next R S [] [] i d c zs h n f t = absurd (omega arith)
@@ -77,7 +77,7 @@ newly_started first now new order waiting x h is e more = (
 later : (first now : World) (o : Order) (s : Standing) (x : ℕ) → IsAsked first now o s → s ≡ Started x → length first.state.cluster.orders ≤ x
 later first now o s x h is = let started : IsStarted first now o x = subst (λ (t : Standing). IsAsked first now o t) is h in started.0
 
--- an export that stands for an order was started in the phase
+-- an order's export was started in the phase
 pub begun_later : (first now : World) (orders : List Order) (standings : List Standing) (k x : ℕ) (d : Standing) → k < length standings
     → AreAsked first now orders standings → get_or standings k d ≡ Started x → length first.state.cluster.orders ≤ x
 begun_later first now (o ∷ orders) (s ∷ standings) zero x d near h is = later first now o s x h.0 is
@@ -95,7 +95,7 @@ settled_more (x ∷ xs) zero s l h w (suc k) d n = absurd (omega arith)
 settled_more (x ∷ xs) (suc i) s l h w zero d n = h zero d (omega arith)
 settled_more (x ∷ xs) (suc i) s l h w (suc k) d n = settled_more xs i s (omega arith) (λ j e m. h (suc j) e (omega arith)) w k d (omega arith)
 
--- an order that stands otherwise
+-- an order that is in another state
 pub one_changed : (first now new : World) (orders : List Order) (standings : List Standing) (k : ℕ) (s d : Standing) → IsFurther now new → k < length standings
     → ((order : Order) → IsAsked first now order (get_or standings k d) → IsAsked first new order s) → AreAsked first now orders standings
     → AreAsked first new orders (set standings k s)

@@ -1,4 +1,4 @@
--- Going on by exports alone.
+-- Going on only by exports.
 use Rattle.std.proofs.Common.{◌≡◌, inl, inr, zero, suc, true, List, [], ◌∷◌, ◌++◌, Result, Ok, Err, All, MatchBool, Bool, false, refl, sym, ap, ◌∙◌, subst, arith, append-nil, append_assoc}
 use Rattle.std.proofs.lemmas.List.Elements.{All-nil, All-append}
 use Rattle.authority_map.specs.Operations.{Operation}

@@ -1,4 +1,4 @@
--- Directories that stand in a list once.
+-- Directories that are in a list once.
 use Rattle.std.proofs.Common.{◌≡◌, ◌≢◌, ℕ, zero, suc, ◌+◌, ◌<◌, ◌≤◌, ◌==◌, List, [], ◌∷◌, ◌++◌, Bool, true, false, if◌then◌else◌, set, length, refl, sym, ap, ◌∙◌, arith, subst, inl, inr}
 use Rattle.std.proofs.lemmas.Bool.Decides.{nat_tests, leb_tells}
 use native.Mathlib.Decide.{ℕ_discrete}
@@ -15,13 +15,13 @@ times_other d e ds n = grind (arith, nat_tests)
 pub times_more : (d e : ℕ) (ds : List ℕ) → times ds e ≤ times (d ∷ ds) e
 times_more d e ds = grind (arith, nat_tests)
 
--- what stands in a list does so at least once
+-- what is in a list is there at least once
 pub times_at : (ds : List ℕ) (j : ℕ) → j < length ds → 1 ≤ times ds (at ds j)
 times_at [] j h = absurd (omega arith)
 times_at (d ∷ ds) zero h = omega (arith, times_same d ds)
 times_at (d ∷ ds) (suc j) h = omega (arith, times_at ds j (omega arith), times_more d (at ds j) ds)
 
--- what is at no place stands in it not at all
+-- what is at no place is not in it at all
 pub times_none : (ds : List ℕ) (e : ℕ) → ((j : ℕ) → j < length ds → at ds j ≢ e) → times ds e ≡ 0
 times_none [] e h = refl
 times_none (d ∷ ds) e h = times_other d e ds (h 0 (omega arith)) ∙ times_none ds e (λ j less. h (suc j) (omega arith))
@@ -34,7 +34,7 @@ times_push (x ∷ xs) d e = step (λ e. times_push xs d e) (ℕ_discrete x e)
     step rest (yes s) = subst (λ (e : ℕ). times (x ∷ (xs ++ d ∷ [])) e ≡ times (x ∷ xs) e + times (d ∷ []) e) s (omega (arith, times_same x (xs ++ d ∷ []), times_same x xs, rest x))
     step rest (no n) = omega (arith, times_other x e (xs ++ d ∷ []) n, times_other x e xs n, rest e)
 
--- what stands at two places does so at least twice
+-- what is at two places is there at least twice
 times_twice : (ds : List ℕ) (k j : ℕ) → k < j → j < length ds → at ds k ≡ at ds j → 2 ≤ times ds (at ds j)
 times_twice [] k j less h e = absurd (omega arith)
 times_twice (d ∷ ds) k zero less h e = absurd (omega arith)

@@ -1,4 +1,4 @@
--- Lists of counts up to some directory alone.
+-- Lists of counts only up to some directory.
 use Rattle.std.proofs.Common.{◌≡◌, ℕ, zero, suc, ◌-◌, ◌≤◌, List, [], ◌∷◌, ◌++◌, length, replicate, refl, arith, length-append}
 use Rattle.heat_ledger.specs.Rows.{at, padded}
 use Rattle.heat_ledger.proofs.RowLemmas.{at_replicate, length-replicate}

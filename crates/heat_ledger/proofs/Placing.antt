@@ -138,7 +138,7 @@ pub given_count : (n : ℕ) (old places reached kept given : List ℕ) (d : ℕ)
     → at (padded n (counts_at old places)) d ≡ at kept (at given d)
 given_count n old places reached kept given d p same still = at_view n old places d p ∙ sym (ap (at old) (same d)) ∙ sym (still d)
 
--- a directory gets so many more, after it was given a place
+-- a directory gets `more` more, after it was given a place
 pub added_view : (n : ℕ) (old places reached kept given : List ℕ) (d place x more : ℕ) → IsPlaced old places → IsPlaced kept given → length places ≤ n → length given ≤ n → d < n
     → ((e : ℕ) → at reached e ≡ at places e) → ((e : ℕ) → at kept (at given e) ≡ at old (at reached e)) → place ≡ at given d → 1 ≤ place → x ≡ at kept place
     → padded n (counts_at (set kept place (x + more)) given) ≡ raised_by (padded n (counts_at old places)) d more
@@ -162,7 +162,7 @@ pub same_view : (n : ℕ) (old places kept given : List ℕ) → IsPlaced old pl
 same_view n old places kept given p q few within still =
     same_rows (padded n (counts_at kept given)) (padded n (counts_at old places)) (length_view n kept given within ∙ sym (length_view n old places few)) (λ d. at_view n kept given d q ∙ still d ∙ sym (at_view n old places d p))
 
--- a directory gets so many more at the place that it has now
+-- a directory gets `more` more at the place that it has now
 pub more_view : (n : ℕ) (old places kept given : List ℕ) (d place x more : ℕ) → IsPlaced old places → IsPlaced kept given → length places ≤ n → length given ≤ n → d < n
     → ((e : ℕ) → at kept (at given e) ≡ at old (at places e)) → place ≡ at given d → 1 ≤ place → x ≡ at kept place
     → padded n (counts_at (set kept place (x + more)) given) ≡ raised_by (padded n (counts_at old places)) d more

@@ -1,4 +1,4 @@
--- The entries of the totals, which stand for directories.
+-- The entries of the totals, which are of directories.
 use Rattle.std.proofs.Common.{◌≡◌, ◌≢◌, ◌⊎◌, ℕ, zero, suc, ◌+◌, ◌-◌, List, [], ◌∷◌, refl, ap, inl, inr, arith}
 use Rattle.heat_ledger.specs.Rows.{at, differences}
 use Rattle.heat_ledger.specs.Ledger.{spread, laid_out, unit, hit_slot, begun_slot}

@@ -18,7 +18,7 @@ wider n (slot.Began rank dir ticket) h = tt
 wider n (slot.Ended ticket) h = tt
 wider n (slot.Other place) h = omega (arith, h)
 
--- an entry more beside the slots changes none of theirs
+-- one entry more outside the slots changes none of theirs
 
 same_entry : (others : List Entry) (e : Entry) (s : Slot) → IsSlot (length others) s → entry_in (others ++ e ∷ []) s ≡ entry_in others s
 unfolding nowhere

@@ -60,7 +60,7 @@ not_up (negsuc n) h = refl
 matched : (y z : ℤ) (c : ℕ) → (y +ℤ z) ≡ pos c → z ≤ℤ pos 0 → c + (down y + down z) ≤ up y
 matched y z c chosen not_above = omega (arith, ints, not_up z not_above)
 
--- two sums of costs, each beside the same prices
+-- two sums of costs, each with the same prices
 less :
     (k : ℕ) (c d y x v w : ℕ → ℕ) → ((i : ℕ) → i < k → c i + (x i + v i) ≤ y i) → ((i : ℕ) → i < k → y i ≤ d i + (x i + w i))
     → sum_below k w ≤ sum_below k v → sum_below k c ≤ sum_below k d

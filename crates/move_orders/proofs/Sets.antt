@@ -72,7 +72,7 @@ module _ (es : List (Option Entry)) (now target : List (Option ℕ)) (tree : IsT
   top_in : (t : ℕ) → is_top es (move_of es now target) t ≡ true → is_member es (move_of es now target) t t ≡ true
   top_in t is = member es (move_of es now target) tree t t (top_moves es (move_of es now target) t is) (top_of-top es (move_of es now target) t is)
 
-  -- a directory beside a member that moves likewise is a member
+  -- a member's neighbour that moves likewise is a member
   beside : (t c d : ℕ) → is_member es (move_of es now target) t c ≡ true → IsEdge es c d → move_of es now target d ≡ move_of es now target c → is_member es (move_of es now target) t d ≡ true
   beside t c d is edge same =
       let both = is_in es (move_of es now target) tree t c is in

@@ -15,7 +15,7 @@ use Rattle.move_orders.specs.Orders.{from_of, is_member, order_of, to_of, tops}
 use Rattle.move_orders.proofs.Numbers.{kept_more, kept_rises, map_agree, passes_below, places_rise}
 use Rattle.move_orders.proofs.Tops.{goes_along, low, member, top_moves, top_of-other, top_of-top}
 
--- the orders of the directories below n; and for each of them that moves, where its order stands
+-- the orders of the directories below n; and for each of them that moves, where its order is
 pub record IsSoFar (es : List (Option Entry)) (move : ℕ → Option Move) (n : ℕ) (os : List Order) (places : List ℕ) : Type 0 where
   pub listed : os ≡ map (order_of es move n) (tops es move n)
   pub within : (d : ℕ) → d < n → is_some (move d) ≡ true → get_or places d 0 < length os
@@ -115,7 +115,7 @@ module _ (es : List (Option Entry)) (move : ℕ → Option Move) where
       | inr (inr more) ↦ let rises = places_rise (tops es move n) i k (kept_rises (is_top es move) n) more hk in omega (arith, same, rises)
     ]
 
-    -- one directory more in the order of top t, which stands at place i
+    -- one directory more in the order of top t, which is at place i
     added : (n i t : ℕ) (os : List Order) → os ≡ map (order_of es move n) (tops es move n) → i < length (tops es move n) → get_or (tops es move n) i 0 ≡ t → top_of es move n ≡ t → is_some (move n) ≡ true → set os i (with_dir (get_or os i no_order) n) ≡ map (order_of es move (n + 1)) (tops es move n)
     added n i t os listed inside at top some =
         let ts : List ℕ = tops es move n in

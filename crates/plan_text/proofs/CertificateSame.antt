@@ -20,14 +20,14 @@ use Rattle.plan_text.specs.Writable.{FitsCell, FitsCut, FitsList, FitsPart, Fits
 use Rattle.plan_text.proofs.LineSame.{IsField, decimal_field, differ, hex_field, line_same, signed_field}
 use Rattle.plan_text.proofs.NameLemmas.{row_name_field}
 
--- what is written can be read in one way only, whatever stands behind it
+-- what is written can be read in one way only, whatever comes after it
 abbrev pub Reads : {A : Type 0} → (A → Type 0) → (A → List ℕ) → Type 0
 Reads {A} fits spelled = (x y : A) (r s : List ℕ) → fits x → fits y → spelled x ++ r ≡ spelled y ++ s → (x ≡ y) × (r ≡ s)
 
 nth : (fields more : List (List ℕ)) (i : ℕ) → fields ≡ more → get_or fields i [] ≡ get_or more i []
 nth fields more i h = ap (λ (fs : List (List ℕ)). get_or fs i []) h
 
--- one text behind another
+-- one text after another
 seam : (a b c d r s : List ℕ) → (a ++ b) ++ r ≡ (c ++ d) ++ s → a ++ (b ++ r) ≡ c ++ (d ++ s)
 seam a b c d r s h = sym (append_assoc a b r) ∙ (h ∙ append_assoc c d s)
 
@@ -130,7 +130,7 @@ module _ {A : Type 0} (fits : A → Type 0) (line_of : A → List ℕ) (one : Re
       let count = number_same name field (length xs) (length ys) (flat_map line_of xs ++ r) (flat_map line_of ys ++ s) p.short q.short (seam (number_line name (length xs)) (flat_map line_of xs) (number_line name (length ys)) (flat_map line_of ys) r s h) in
       items_same xs ys r s count.0 p.all q.all count.1
 
--- two parts of a text, one behind the other
+-- two parts of a text, one after the other
 both : {A B : Type 0} (fa : A → Type 0) (fb : B → Type 0) (f : A → List ℕ) (g : B → List ℕ) → Reads fa f → Reads fb g
     → (x y : A) (u v : B) (r s : List ℕ) → fa x → fa y → fb u → fb v → (f x ++ g u) ++ r ≡ (f y ++ g v) ++ s → (x ≡ y) × (u ≡ v) × (r ≡ s)
 both fa fb f g one two x y u v r s p q k l h =
@@ -258,7 +258,7 @@ certificate_eq a b problem names plan =
 abbrev own_text : Certificate → List ℕ
 own_text c = text c.problem c.names c.plan
 
--- a certificate's text, whatever stands behind it
+-- a certificate's text, whatever comes after it
 pub certificate_same : Reads IsWritable own_text
 certificate_same a b r s p q h =
     let last : List ℕ = line (codes "end") [] in

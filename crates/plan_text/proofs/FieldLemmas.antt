@@ -53,7 +53,7 @@ first_field field e more f ends =
     let place = field_place field e more f ends in
     (ap (λ (n : ℕ). take n (field ++ e ∷ more)) place ∙ front_of field (e ∷ more), ap (λ (n : ℕ). drop (n + 1) (field ++ e ∷ more)) place ∙ back_of field e more)
 
--- the first field that is left, and those behind it
+-- the first field that is left, and those after it
 pub field_left : (field : List ℕ) (fields : List (List ℕ)) (more : List ℕ) → IsField field → (before_first ends_field (left (field ∷ fields) more) ≡ field) × (after_first ends_field (left (field ∷ fields) more) ≡ left fields more)
 field_left field [] more f = first_field field 10 more f refl
 field_left field (next ∷ fields) more f =
@@ -68,7 +68,7 @@ value_left {A} value x field fields more f is =
 same_bytes : (a b : List ℕ) → a ≡ b → bytes_eq a b ≡ true
 same_bytes a b h = (bytes_eq-Decides a b).1 h
 
--- a line's word, with the other fields behind it
+-- a line's word, with the other fields after it
 pub word_left : (word : List ℕ) (fields : List (List ℕ)) (more : List ℕ) → IsField word → behind_word word (left (word ∷ fields) more) ≡ Some (left fields more)
 word_left word fields more f =
     let first = field_left word fields more f in

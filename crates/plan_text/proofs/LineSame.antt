@@ -1,4 +1,4 @@
--- A line can be read in one way only, whatever stands behind it.
+-- A line can be read in one way only, whatever comes after it.
 use Rattle.std.proofs.Common.{◌≡◌, ◌∙◌, ℕ, suc, ◌<◌, ◌≤◌, ◌^◌, Bool, true, false, List, [], ◌∷◌, ◌++◌, drop, get_or, refl, ap, sym, subst, arith, append_assoc}
 use Rattle.std.specs.Prelude.{⊤, nat_lt, decimal, ℤ, pos, negsuc}
 use Rattle.std.specs.Int.Signed.{mag}
@@ -63,7 +63,7 @@ behind_same (x ∷ xs) (y ∷ ys) r s f g h =
     let more = behind_same xs ys r s f.1 g.1 one.1 in
     (cc (one.0, more.0), more.1)
 
--- its word, its other fields, and what stands behind it
+-- its word, its other fields, and what comes after it
 pub line_same : (w v : List ℕ) (xs ys : List (List ℕ)) (r s : List ℕ) → IsField w → IsField v → AreFields xs → AreFields ys → line w xs ++ r ≡ line v ys ++ s → (w ≡ v) × (xs ≡ ys) × (r ≡ s)
 line_same w v xs ys r s fw fv fx fy h =
     let one = field_same w v (behind xs ++ r) (behind ys ++ s) fw fv (behind_parts xs r) (behind_parts ys s) (sym (append_assoc w (behind xs) r) ∙ (h ∙ append_assoc v (behind ys) s)) in

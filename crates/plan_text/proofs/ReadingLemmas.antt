@@ -1,4 +1,4 @@
--- What is written is read again, whatever stands behind it.
+-- What is written is read again, whatever comes after it.
 use Rattle.std.proofs.Common.{◌≡◌, ◌∙◌, ℕ, suc, ◌-◌, ◌<◌, ◌≤◌, ◌^◌, ◌==◌, Bool, true, false, cond, List, [], ◌∷◌, ◌++◌, All, codes, length, refl, sym, ap, subst, arith, append_assoc, Option, Some, None}
 use Rattle.std.specs.Prelude.{decimal, ℤ, nat_le, nat_lt, IfSome, is_some}
 use Rattle.std.specs.Fmt.{digits, signed_decimal}
@@ -226,7 +226,7 @@ plan_from : (text a b c d e more : List ℕ) (part rank : List ℕ) (greatest mo
 unfolding read_plan
 plan_from bytes a b c d e more part rank greatest moved cut dual p r g m k u = rw (p, r, g, m, k, u) refl
 
--- seven parts of a text and what stands behind them
+-- seven parts of a text and what comes after them
 seven : (a b c d e f g more : List ℕ) → ((a ++ b) ++ (c ++ d) ++ e ++ (f ++ g)) ++ more ≡ a ++ (b ++ (c ++ (d ++ (e ++ (f ++ (g ++ more))))))
 seven a b c d e f g more = simp append_assoc
 
@@ -357,7 +357,7 @@ certificate_first bytes c more e =
     ap read_first (e ∙ three (head_lines c.problem c.names) (whole_plan_lines c.plan) (line (codes "end") []) more)
     ∙ head_first c.problem c.names (behind_names c more)
 
--- the names behind a problem that is the certificate's
+-- the names after a problem that is the certificate's
 pub certificate_names : (c : Certificate) (rows : List ProblemRow) (is_named : Bool) (rest more : List ℕ) → IsWritable c → is_named ≡ is_some c.names → rows ≡ c.problem.rows → rest ≡ behind_problem c more
     → read_names is_named (length rows) rest ≡ Some (c.names, behind_names c more)
 certificate_names c rows is_named rest more f named same e =

@@ -4,7 +4,7 @@ use Rattle.std.proofs.lemmas.Bool.{cases_eq}
 use Rattle.rank_assign.specs.Matching.{ArePlaced}
 use Rattle.rank_assign.specs.Ways.{ArePaths, IsHandedTo}
 
--- the parts below s have ranks other than this place; what stands there no longer counts
+-- the parts below s have ranks other than this place; what is there no longer counts
 pub record IsHanding (r : ℕ) (owner via turn own : ℕ → ℕ) (s place : ℕ) : Type 0 where
   pub inside : place < r
   pub seen : 0 < turn place

@@ -146,7 +146,7 @@ hottest_more rows rest test test2 i k most old new x l child above row_is rest_i
           (cases_lt 0 (row_count j met.forgotten));
     }
 
--- a child but k stands before the next one where it stands before k
+-- a child but k comes before the next one where it comes before k
 pub next_before :
     (rows : List ProblemRow) (i k k2 : ℕ) → 0 < k → IsNextChild rows i k k2 → (j : ℕ) → j < length rows → is_child rows i j ≡ true
     → j ≢ k → is_before k j ≡ is_before k2 j

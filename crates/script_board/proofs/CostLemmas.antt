@@ -80,7 +80,7 @@ all_false zero d = refl
 all_false (suc n) zero = refl
 all_false (suc n) (suc d) = all_false n d
 
--- the root alone
+-- only the root
 pub marked_root : (marks : List Bool) → ((d : ℕ) → get_or marks d false ≡ false) → 0 < length marks → Marks (set marks 0 true) []
 marked_root [] none some d inside = absurd (omega arith)
 marked_root (m ∷ marks) none some zero inside = refl
@@ -107,7 +107,7 @@ parts_there b ts =
 pub root_marked : (marks : List Bool) (ts : List ℕ) → 0 < length marks → Marks marks ts → get_or marks 0 false ≡ true
 root_marked marks ts some marked = marked 0 some
 
--- the paths before one of them, itself, and those behind it
+-- the paths before one of them, itself, and those after it
 pub paths_at : (paths : List (Bor (List ℕ))) (i : ℕ) (d : Bor (List ℕ)) → i < length paths
     → map (λ (path : Bor (List ℕ)). path.now) paths ≡ map (λ (path : Bor (List ℕ)). path.now) (take i paths) ++ (get_or paths i d).now ∷ map (λ (path : Bor (List ℕ)). path.now) (drop (i + 1) paths)
 paths_at [] i d h = absurd (omega arith)

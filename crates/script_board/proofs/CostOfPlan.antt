@@ -176,7 +176,7 @@ module _ (es : List (Option Entry)) (own : List (Option ℕ)) (heats now : List 
       as_top : (i : ℕ) → i < length (unpinned es own) → is_part_top (problem_rows es own heats now) (plan_label plan) i ≡ true → (part : ℕ) → plan_label plan i ≡ part → IsTopOf (problem_rows es own heats now) (plan_label plan) part i
       as_top i l top part same = record { inside = omega (arith, size, l); label_is = same; top = top }
 
-      -- the nearest chosen directory tells the part
+      -- the nearest chosen directory gives the part
       tells : (i j : ℕ) → i < length (unpinned es own) → is_part_top (problem_rows es own heats now) (plan_label plan) i ≡ true → j < length (unpinned es own) → eqb (plan_label plan j) (plan_label plan i) ≡ eqb (top_of es (chosen_tops es own heats now plan) (slice_index (unpinned es own) j)) (slice_index (unpinned es own) i)
       tells i j l top m =
           let found = top_for j j (omega arith) m in

@@ -110,7 +110,7 @@ returned_length limit (s ∷ olds) [] answers news h = absurd h
 returned_length limit (s ∷ olds) (w ∷ scripts) [] news h = absurd h
 returned_length limit (s ∷ olds) (w ∷ scripts) (a ∷ answers) [] h = absurd h
 
--- what is told in turn
+-- what is added in turn
 pub told_in_turn : (none of_requests of_ends of_deposits first second third : List Fault) → none ≡ [] → first ≡ none ++ of_requests → second ≡ first ++ of_ends → third ≡ second ++ of_deposits
     → third ≡ of_requests ++ of_ends ++ of_deposits
 told_in_turn none of_requests of_ends of_deposits first second third is one two three =

@@ -18,7 +18,7 @@ after_blanks p (b ∷ line) = elim (p b) as (λ v. p b ≡ v → fields_at p (dr
   | false ↦ λ e. rw (e, e) refl
 ] refl
 
--- without a byte of a field behind the blanks there is no field
+-- without a byte of a field after the blanks there is no field
 no_field : (p : ℕ → Bool) (line : List ℕ) → position_or_len p (drop (position_or_len (λ b. not (p b)) line) line) ≡ 0 → fields_at p line ≡ []
 no_field p [] none = refl
 no_field p (b ∷ line) none = elim (p b) as (λ v. p b ≡ v → fields_at p (b ∷ line) ≡ []) [
@@ -26,7 +26,7 @@ no_field p (b ∷ line) none = elim (p b) as (λ v. p b ≡ v → fields_at p (b
   | false ↦ λ e. absurd (let some = rw (e, e) at none in omega arith)
 ] refl
 
--- blanks alone have no field
+-- only blanks have no field
 all_blank : (p : ℕ → Bool) (line : List ℕ) → position_or_len (λ b. not (p b)) line ≡ length line → fields_at p line ≡ []
 all_blank p [] e = refl
 all_blank p (b ∷ line) e = elim (p b) as (λ v. p b ≡ v → fields_at p (b ∷ line) ≡ []) [
@@ -52,7 +52,7 @@ blank_line line e = all_blank is_blank line e
 pub no_fields : (line : List ℕ) → fields line ≡ [] → position_or_len (λ b. not (is_blank b)) line ≡ length line
 no_fields line e = without_fields is_blank line e
 
--- the first part, and the parts behind it
+-- the first part, and the parts after it
 first_part : (p : ℕ → Bool) (line : List ℕ) → (parts : List (List ℕ)) × (slice_split p line ≡ take (position_or_len p line) line ∷ parts) × (filter (λ part. not (is_empty part)) parts ≡ fields_at p (drop (position_or_len p line) line))
 first_part p [] = ([], refl, refl)
 first_part p (b ∷ line) = elim (p b) as (λ v. p b ≡ v → (parts : List (List ℕ)) × (slice_split p (b ∷ line) ≡ take (position_or_len p (b ∷ line)) (b ∷ line) ∷ parts) × (filter (λ part. not (is_empty part)) parts ≡ fields_at p (drop (position_or_len p (b ∷ line)) (b ∷ line)))) [

@@ -12,7 +12,7 @@ pub is_line_append : (line part : List ℕ) → IsLine line → IsLine part → 
 is_line_append [] part is more = more
 is_line_append (b ∷ line) part is more = (is.0, is_line_append line part is.1 more)
 
--- what stands before the first newline is a line
+-- what comes before the first newline is a line
 pub is_line_before : (bytes : List ℕ) (n : ℕ) → ((k : ℕ) → k < n → (get_or bytes k 0 == 10) ≡ true → ⊥) → IsLine (take n bytes)
 is_line_before bytes zero none = tt
 is_line_before [] (suc n) none = tt
@@ -22,7 +22,7 @@ pub is_line_whole : (bytes : List ℕ) → ((k : ℕ) → k < length bytes → (
 is_line_whole [] none = tt
 is_line_whole (b ∷ bytes) none = (false_from_ne_true (b == 10) (none 0 (omega arith)), is_line_whole bytes (λ k inside. none (suc k) (omega arith)))
 
--- the bytes before a newline, the newline, and the bytes behind it
+-- the bytes before a newline, the newline, and the bytes after it
 pub cut_at : (bytes : List ℕ) (n : ℕ) → n < length bytes → get_or bytes n 0 ≡ 10 → bytes ≡ take n bytes ++ 10 ∷ drop (suc n) bytes
 cut_at [] n inside is = absurd (omega arith)
 cut_at (b ∷ bytes) zero inside is = ap (λ (c : ℕ). c ∷ bytes) is

@@ -26,7 +26,7 @@ some_more : (rest part : List ℕ) → rest ≢ [] → (rest ++ part) ≢ []
 some_more [] part some e = some refl
 some_more (b ∷ rest) part some e = cc
 
--- bytes behind the rest
+-- bytes after the rest
 split_rest : (bytes front rest part : List ℕ) → bytes ≡ front ++ rest → bytes ++ part ≡ front ++ (rest ++ part)
 split_rest bytes front rest part e = ap (λ (t : List ℕ). t ++ part) e ∙ append_assoc front rest part
 

@@ -19,20 +19,20 @@ flat_map_more {A} f xs i d h = rw add-one (grown xs i h)
 pub joined_more : (lines : List (List ℕ)) (i : ℕ) → i < length lines → joined (take (i + 1) lines) ≡ joined (take i lines) ++ get_or lines i []
 joined_more lines i h = flat_map_more (λ (line : List ℕ). line) lines i [] h
 
--- the first lines, and those behind them
+-- the first lines, and those after them
 pub joined_parted : (lines : List (List ℕ)) (i : ℕ) → joined lines ≡ joined (take i lines) ++ joined (drop i lines)
 joined_parted lines zero = refl
 joined_parted [] (suc i) = refl
 joined_parted (x ∷ lines) (suc i) = ap (λ (t : List ℕ). x ++ t) (joined_parted lines i) ∙ sym (append_assoc x (joined (take i lines)) (joined (drop i lines)))
 
--- A chunk was written as far as it went, behind what was written before: both are the first lines together.
+-- A chunk was written as far as it went, after what was written before: both are the first lines together.
 pub lines_front : (first mid last : Option (List ℕ)) (front chunk : List ℕ) (lines : List (List ℕ)) (i : ℕ)
     → Appends first mid front → AppendsFront mid last chunk → front ++ chunk ≡ joined (take i lines) → AppendsFront first last (joined lines)
 lines_front first mid last front chunk lines i written err whole =
     subst (λ (t : List ℕ). AppendsFront first last t) (ap (λ (t : List ℕ). t ++ joined (drop i lines)) whole ∙ sym (joined_parted lines i))
     (front_wider first last (front ++ chunk) (joined (drop i lines)) (front_after first mid last front chunk written err))
 
--- a line behind the first
+-- a line after the first
 pub nth_line : {A : Type 0} (first : List ℕ) (f : A → List ℕ) (xs : List A) (i : ℕ) (d : A) → (i ≡ 0 → ⊥) → i < length (first ∷ map f xs) → f (get_or xs (i - 1) d) ≡ get_or (first ∷ map f xs) i []
 nth_line {A} first f xs zero d some h = absurd (some refl)
 nth_line {A} first f xs (suc i) d some h = let same : suc i - 1 ≡ i = omega arith in ap (λ (k : ℕ). f (get_or xs k d)) same ∙ behind xs i (omega arith)

@@ -52,7 +52,7 @@ done_line s line.Syntax p ample mid sure h = absurd h
 done_line s (line.Asks c) p ample mid sure h =
     ap (held s) (does_outcome_at s.limit s.board c p ample h.0 sure h.1) ∙ ap (λ (x : SessionData). Ok (p, x)) (sym h.2)
 
--- a cause that stands is the outcome
+-- a cause that applies is the outcome
 pub fault_line : (s : SessionData) (what : Asked) (fault : Fault) → is_determined what ≡ true → asked_cause s what ≡ Some fault → line_outcome s what ≡ Err fault
 fault_line s line.Nothing fault sure h = cc
 fault_line s line.Syntax fault sure h = cc

@@ -15,7 +15,7 @@ flat_map_more {A} f xs i d h = rw add-one (grown xs i h)
     grown (x ∷ xs) zero h = append-nil (f x)
     grown (x ∷ xs) (suc i) h = ap (λ (t : List ℕ). f x ++ t) (grown xs i (omega arith)) ∙ sym (append_assoc (f x) (flat_map f (take i xs)) (f (get_or xs i d)))
 
--- the first elements' texts, and those behind them
+-- the first elements' texts, and those after them
 flat_map_parted : {A : Type 0} (f : A → List ℕ) (xs : List A) (i : ℕ) → flat_map f xs ≡ flat_map f (take i xs) ++ flat_map f (drop i xs)
 flat_map_parted f xs zero = refl
 flat_map_parted f [] (suc i) = refl

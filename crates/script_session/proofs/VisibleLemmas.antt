@@ -222,7 +222,7 @@ alike s t new n bytes a sure like (inl (inr (inl (fault, stands, is, same)))) qu
 alike s t new n bytes a sure like (inl (inr (inr (none, is, same)))) quiet = absurd (quiet ([], ap (λ (x : Answer). x.text) is))
 alike s t new n bytes a sure like (inr (is, same)) quiet = absurd (quiet ([], ap (λ (x : Answer). x.text) is))
 
--- one answer, and those behind it
+-- one answer, and those after it
 one_more : (x : Bool) (a b : Answer) (rest others : List Answer) (y z : SessionData) → a.text ≡ b.text → (x ≡ true → rest ≡ []) → (x ≡ false → text_of rest ≡ text_of others)
     → a.text ++ text_of rest ≡ text_of (let both : List Answer × SessionData = cond x (b ∷ [], y) (b ∷ others, z) in both).0
 one_more true a b rest others y z same none same_rest = ap (λ (t : List ℕ). t ++ text_of rest) same ∙ ap (λ (rs : List Answer). b.text ++ text_of rs) (none refl)

@@ -2,7 +2,7 @@ use Rattle.std.proofs.Common.{◌≡◌, ◌<◌, ◌≤◌, Some}
 use Rattle.dirtree.specs.Keeps.{entries_of, head_at, next_at, place_at}
 use Rattle.dirtree.proofs.node.place_in_chain.Given as goal
 
--- what is looked at stands in the chain, no lower than the directory, and behind the one before
+-- what is looked at is in the chain, no lower than the directory, and follows the one before
 abbrev pub invariant-loop-at : goal.invariant-loop-at
 invariant-loop-at l = record {
   here : place_at l.fn.hasher (entries_of l.nodes) l.at ≡ Some l.chain;

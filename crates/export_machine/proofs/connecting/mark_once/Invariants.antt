@@ -3,7 +3,7 @@ use Rattle.export_machine.specs.Authority.{is_among}
 use Rattle.export_machine.specs.Step.{repeats}
 use Rattle.export_machine.proofs.connecting.mark_once.Given as goal
 
--- the directories so far have their marks, and none of them stands twice
+-- the directories so far have their marks, and none of them is there twice
 abbrev pub invariant-loop-dir : goal.invariant-loop-dir
 invariant-loop-dir l = record {
   places : length l.marks.items ≡ length l.table.parents;

@@ -4,7 +4,7 @@ use Rattle.std.specs.List.{flat_map}
 use Rattle.dirtree.specs.Path.{path_of}
 use Rattle.dirtree.proofs.tree.Tree.add_names.Given as goal
 
--- the names that are left stand behind what is written
+-- the names that are left come after what is written
 abbrev pub invariant-loop-name : goal.invariant-loop-name
 invariant-loop-name l = string_bytes l.path ++ flat_map (λ name. 47 ∷ name) (reverse (map (λ name. name.now) l.names.items)) ≡ path_of l.self.entries l.fn.dir
 

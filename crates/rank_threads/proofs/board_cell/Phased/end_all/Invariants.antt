@@ -6,7 +6,7 @@ use Rattle.rank_threads.specs.Answered.{IsEndMet}
 use Rattle.rank_threads.proofs.Ended.{IsOver}
 use Rattle.rank_threads.proofs.board_cell.Phased.end_all.Given as goal
 
--- the requests that the entries so far began are over, or a refusal is told
+-- the requests that the entries so far began are over, or a refusal is reported
 abbrev pub invariant-loop-number : goal.invariant-loop-number
 invariant-loop-number g l = record {
   over : IsOk l.ended → (k : ℕ) (e : Entry) → l.first ≤ k → k < l.number → slice_get l.initial.self.history k ≡ Some e → IsOver l.self e;
