@@ -123,7 +123,7 @@ impl NewMap {
     }
 }
 
-/// How many operations there are. Who has it appends.
+/// How many operations there are. Only its holder appends.
 #[derive(Drop)]
 pub struct Count<J: Naming> {
     count: Word<MapOperation, u64, Counted>,

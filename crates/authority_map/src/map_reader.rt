@@ -29,7 +29,7 @@ impl<J: Naming> Model for MapReader<J> {
     ghost view = { λ reader. reader.prefix };
 }
 
-/// What was published of the board's map: the operations that were when it was made. It goes to a reader
+/// What was published of the board's map when the token was made. A thread hands it to a reader
 /// in another thread.
 #[derive(Drop)]
 pub struct Published<J: Naming> {
@@ -86,7 +86,7 @@ impl<J: Naming> MapReader<J> {
         }
     }
 
-    /// What the answers hold is a beginning of what was published, or that is one of it.
+    /// What the answers hold is a beginning of what was published, or the other way round.
     pub fn beside(&self, published: &Published<J>)
         ensures { IsPrefix self.now published.now ⊎ IsPrefix published.now self.now }
     {

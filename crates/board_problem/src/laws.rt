@@ -20,8 +20,8 @@ pub fn opened_is_problem()
         IsProblem (record { rows = problem_rows entries own heats now; ranks = ranks }) }
 {}
 
-/// Divisions of the unpinned directories and divisions of the rows are the same, with the same heats: so a heat that no
-/// division of the rows is below is one that no division of the directories is below.
+/// Divisions of the unpinned directories and divisions of the rows are the same, with the same heats: so a lower bound
+/// of the greatest heat of all divisions of the rows is one for the directories, too.
 pub fn directories_divide_as_rows()
     ensures divisions { (entries : List (Option Entry)) (own : List (Option ℕ)) (heats now : List ℕ) (k : ℕ)
         (label : ℕ → ℕ) → IsTree entries → IsDirDivision entries own k label
@@ -35,7 +35,7 @@ pub fn directories_divide_as_rows()
         IsDirDivision entries own k label → heat ≤ greatest_dir_heat entries own heats k label }
 {}
 
-/// The row of a directory's parent is the row that its row names: the problem's
+/// The row of a directory's parent is the parent of its row: the problem's
 /// tree is that of the unpinned directories.
 pub fn parents_are_rows()
     ensures { (entries : List (Option Entry)) (own : List (Option ℕ)) (heats now : List ℕ) (i : ℕ) → IsTree entries

@@ -1,4 +1,4 @@
--- Which numbered refusal an error is. Want of memory is one refusal, wherever it comes from.
+-- Which numbered refusal an error is. Out of memory is one refusal, wherever it comes from.
 use Rattle.mds_types.specs.declared.refusal.Refusal.{Refusal}
 use Rattle.mds_types.specs.declared.refusal.Refusal.TheVariants as refusal
 use Rattle.dirtree.specs.declared.tree_error.TreeError.{TreeError}

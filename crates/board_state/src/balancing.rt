@@ -42,8 +42,8 @@ impl<J: Naming, M: Publisher<J>> BoardState<J, M> {
         None
     }
 
-    /// Opens the problem, solves it and adopts the plan: two events. It answers the problem, the plan and its orders,
-    /// these twice: to give, and to keep.
+    /// Opens the problem, solves it and adopts the plan: two events. It returns the problem, the plan and its orders,
+    /// the orders twice: to give, and to keep.
     #[tactic(auto, unfolding(crate::specs::State::happens))]
     pub fn balance<S: Solver, R: Threads + Sync>(
         &mut self,

@@ -31,7 +31,7 @@ impl<J: Naming, M: Publisher<J>> BoardState<J, M> {
         None
     }
 
-    /// Counts the hits that a share has pending, which give heat to the directories that are there. It answers them. It
+    /// Counts the pending hits of a share, which give heat to the directories that are there, and returns them. It
     /// takes time only for these directories.
     #[tactic(auto, unfolding(crate::specs::State::happens))]
     pub fn deposit(&mut self, alloc: Global, share: &mut Share<J>) -> Result<Hits, BoardError>
@@ -93,8 +93,8 @@ impl<J: Naming, M: Publisher<J>> BoardState<J, M> {
 }
 
 impl<J: Naming, M: Publisher<J>> BoardState<J, M> {
-    /// For whoever has all shares of the ledger: the counted and the pending hits are the hits of the shares, and the
-    /// begun requests theirs. It changes nothing.
+    /// For a caller that has all shares of the ledger: the counted and the pending hits are the hits of the shares, and
+    /// the begun requests are theirs. It changes nothing.
     pub fn audit(&mut self, shares: &mut Vec<Share<J>>)
         requires { weight_of shares.old.items ≡ self.old.shares }
         ensures hits { (dir : ℕ) → at self.new.state.counted dir + pending_of shares.new.items dir
@@ -106,7 +106,7 @@ impl<J: Naming, M: Publisher<J>> BoardState<J, M> {
     }
 
     /// Closes the ledger over all its shares, which have nothing pending and are used up: what was counted is what they
-    /// counted. Where some are missing, it says how much weight they have, and hands the shares back. It is no event.
+    /// counted. Where some are missing, it returns their weight, and the shares. It is no event.
     pub fn close(&mut self, shares: Vec<Share<J>>) -> Result<(), (Missing, Vec<Share<J>>)>
         requires { All IsClean shares.items }
         ensures ok { OnOk result ((self.old.is_open ≡ true) × (self.new ≡ record self.old { is_open = false })) }

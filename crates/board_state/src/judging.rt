@@ -95,7 +95,7 @@ impl<J: Naming, M: Publisher<J>> BoardState<J, M> {
     }
 
     /// Opens the problem of the directories that no pin holds, with their heats and authorities as they are. It is
-    /// answered twice: to give, and to keep.
+    /// returned twice: to give, and to keep.
     #[tactic(auto, unfolding(crate::specs::State::happens))]
     pub fn open_problem(&mut self, alloc: Global) -> Result<(Problem, KeptProblem), BoardError>
         ensures step { IsStep self.old Change.Open (spelled (λ p. Answer.Problem p.0) result) self.new }
@@ -160,8 +160,8 @@ impl<J: Naming, M: Publisher<J>> BoardState<J, M> {
         self.plan_orders(alloc, self.open_rows(), plan)
     }
 
-    /// Puts a plan in force that is best for the problem that is open. It is answered which directories go where,
-    /// twice: to give, and to keep.
+    /// Puts a plan in force that is best for the problem that is open. The plan's orders are returned twice: to give,
+    /// and to keep.
     #[tactic(auto, unfolding(crate::specs::State::happens))]
     pub fn adopt(&mut self, alloc: Global, plan: &Plan) -> Result<(Vec<Order>, Orders), BoardError>
         ensures step { IsStep self.old (Change.Adopt plan.now) (spelled (λ os. Answer.Orders os.0.items) result)

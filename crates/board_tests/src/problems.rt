@@ -148,7 +148,7 @@ pub(crate) fn plan_of(alloc: Global, part: Vec<u32>, ranks: &[u8]) -> Plan {
     }
 }
 
-/// What is answered for the parts of a plan.
+/// The answer for the parts of a plan.
 pub(crate) fn parts_of(
     rt: &impl Abort,
     alloc: Global,

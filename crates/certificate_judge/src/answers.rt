@@ -1,4 +1,4 @@
-//! What is answered for certificates.
+//! The answers to certificates.
 ghost use Rattle.std.specs.Prelude.{◌≡◌, ◌↔◌, ◌&&◌, ◌+◌, ◌++◌, ◌∷◌, [], IfOk, IsTrue, List, OnOk, length, string_bytes};
 ghost use Rattle.certificate_judge.specs.Judged.{AreAnswersFor, CutHolds, HasBest, IsVerdict, ProofsHold};
 ghost use Rattle.plan_text.specs.declared.certificate.Certificate.{Certificate};

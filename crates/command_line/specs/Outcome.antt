@@ -6,7 +6,7 @@ use Rattle.clap.specs.declared.error.kind.ErrorKind.TheVariants as kind
 use Rattle.command_line.specs.declared.options_error.OptionsError.{OptionsError}
 use Rattle.command_line.specs.declared.options_error.OptionsError.TheVariants.{Memory, Help, Version, Refused}
 
--- what is answered where `clap` gives this error
+-- the outcome where `clap` gives this error
 abbrev pub StandsFor : Error → OptionsError → Type 0
 StandsFor error Memory = kind_of error ≡ kind.OutOfMemory
 StandsFor error (Help given) = (given ≡ error) × (kind_of error ≡ kind.DisplayHelp)

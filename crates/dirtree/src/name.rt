@@ -42,7 +42,7 @@ pub fn is_name(text: &str) -> bool
     has_name_length(text) && has_name_bytes(text) && !is_dots(text)
 }
 
-// Most names have 16 bytes at most, and lie in the value itself: whoever compares one reads no other memory.
+// Most names have 16 bytes at most, and are in the value itself: to compare one reads no other memory.
 #[derive(Drop)]
 enum Kept {
     Short(ArrayString<16>),

@@ -6,8 +6,8 @@ use std::hash::{FoldHasher, Hasher};
 
 /// The key of the hash by which a tree finds names. No answer depends on it.
 ///
-/// Whoever names directories cannot pick many names of one hash, which would be slow to find, unless they know the
-/// key.
+/// Without the key nobody who names directories can pick many names of one hash, which would be slow to
+/// find.
 #[derive(Clone, Copy, Default)]
 pub struct NameKey(pub [u8; 8]);
 

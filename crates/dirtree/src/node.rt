@@ -4,7 +4,7 @@
 //! chain begins, and each directory which one follows. The root is in no chain, so 0 ends one.
 //!
 //! A look-up, a new directory and a removal each go through one chain at most. It mostly has one directory or none,
-//! unless names were picked that share a hash: a tree with a secret key (`NameKey`) leaves nobody the means for that.
+//! unless names were picked that share a hash: in a tree with a secret key (`NameKey`) nobody can pick such names.
 ghost use Rattle.std.specs.Prelude.{◌≡◌, ℕ, ◌+◌, ◌<◌, ◌==◌, ◌^◌, length, OnOk, Some, true, if◌then◌else◌};
 ghost use Rattle.std.specs.Prelude.{slice_set, slice_index_or, vec_capacity, IsTrue, ◌↔◌};
 ghost use Rattle.dirtree.specs.Tree.{child_of, IsTree, is_there};

@@ -17,7 +17,7 @@ const USUAL_DEPTH: usize = 16;
 impl Tree {
     /// The directory that a path names: only `/`, or names that each follow a `/`.
     ///
-    /// The names are read from left to right, and the first that is no name, or isn't there, decides.
+    /// The names are read from left to right. The first that is no name, or isn't there, decides the error.
     pub fn find(&self, path: &str) -> Result<Dir, TreeError>
         ensures dir { result ≡ find self.now.entries path.now }
         ensures below { IfOk result (λ dir. dir < self.now.limit) }
@@ -114,7 +114,7 @@ impl Tree {
         rest.is_empty()
     }
 
-    /// The path of a directory, which `find` leads back to it.
+    /// The path of a directory, from which `find` leads back to it.
     pub fn path(&self, alloc: Global, dir: Dir) -> Result<String, TreeError>
         ensures path { IfOk result (λ path. string_bytes path ≡ path_of self.now.entries dir) }
         ensures gone { is_there self.now.entries dir ≡ false → result ≡ Err TreeError.NoDir }

@@ -1,4 +1,4 @@
-//! Guesses of where paths lead, for whoever looks up the same paths time and again.
+//! Guesses of where paths lead, for a caller that looks up the same paths again and again.
 //!
 //! A guess is an answer only where the names up to the root are those of the path. So a guess changes how
 //! long a look-up takes, and never its answer: `find` answers as `Tree::find` does. No guess is asked for a path that

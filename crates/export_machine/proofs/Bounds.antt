@@ -181,7 +181,7 @@ step_reply {p = p} r q v u h k = (same p.0 (ap (λ (x : Result Reply StepError �
     same : (x : Result Reply StepError) → x ≡ Ok r → x ≡ Ok q → r ≡ q
     same x e f = cc
 
--- what is answered by a refusal leaves the world
+-- a refusal leaves the world as it was
 pub answered_same : (w v : World) (e : Event) (r : Result Reply StepError) → IsAnswer w e r v → OnErr r (v ≡ w)
 answered_same w v e (Ok a) h = tt
 answered_same w v e (Err f) h = h.1

@@ -1,4 +1,4 @@
--- Errors that no cause of the definition is: out of memory and, for lists that hang together, 26.
+-- Errors that no cause of the definition is: out of memory and, for connected lists, 26.
 use Rattle.std.proofs.Common.{◌≡◌, ◌≢◌, ℕ, zero, suc, Bool, true, false, not, eqb, leb, cond, List, [], ◌∷◌, length, Option, Some, None}
 use Rattle.export_machine.specs.declared.step_error.StepError.{StepError}
 use Rattle.export_machine.specs.declared.step_error.StepError.TheVariants.{Memory, NotConnected}
@@ -128,7 +128,7 @@ module _ (w : World) where
   unfolding refusal
   never_memory e = first_other Memory (when (leb history_limit w.events) StepError.HistoryFull ∷ causes w e) (when_named (leb history_limit w.events) StepError.HistoryFull (λ k. cc), causes_named e)
 
-  -- a list that hangs together is refused only for other causes
+  -- a connected list is refused only for other causes
   pub never_unconnected : (from to : ℕ) (dirs : List ℕ) → is_connected w dirs ≡ true → refusal w (Start from to dirs) ≢ Some NotConnected
   unfolding refusal causes
   never_unconnected from to dirs connected = first_other NotConnected (when (leb history_limit w.events) StepError.HistoryFull ∷ causes w (Start from to dirs)) (other _ StepError.HistoryFull (λ e. cc), (other _ StepError.NoRank (λ e. cc), (other _ StepError.NoRank (λ e. cc), (other _ (StepError.Stopped from) (λ e. cc), (other _ StepError.SameRank (λ e. cc), (other _ StepError.NoDir (λ e. cc), (passed (is_connected w dirs) connected, (least_other NotConnected (λ e. cc) (λ x e. cc) (λ r e. cc) w from dirs (length w.parents), (other _ StepError.ExportsFull (λ e. cc), tt)))))))))

@@ -56,7 +56,7 @@ impl Cluster {
     }
 
     /// Applies one event: a refusal changes nothing, and is the first cause in the order of the table of events. Where
-    /// no cause applies and memory is missing that is the answer.
+    /// no cause applies and no memory is left the answer is `Memory`.
     pub fn apply(&mut self, event: Event) -> Result<Reply, StepError>
         ensures answer { IsAnswer self.old.world (event) result self.new.world }
         ensures ready { refusal self.old.world (event) ≡ None → is_ready self.old (event) ≡ true → IsOk result }
@@ -137,9 +137,9 @@ impl Cluster {
         }
     }
 
-    /// What holds of every cluster: each directory that is there has exactly one authority, and no other has one; who
-    /// serves a directory is its authority, each running request is at its directory's authority, at a rank that
-    /// runs, and no event changes that; the map names the authority or, between log and notify, the exporter. It does
+    /// What holds of every cluster. Each directory that is there has exactly one authority, and no other has one. Who
+    /// serves a directory is its authority. Each running request is at its directory's authority, at a rank that
+    /// runs, and no event changes that. The map names the authority or, between log and notify, the exporter. It does
     /// nothing.
     pub fn promised(&self)
         ensures { Promised self.now.world }

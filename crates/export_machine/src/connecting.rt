@@ -1,4 +1,4 @@
-//! Whether a list of directories hangs together, in three walks over it: mark, count and clear.
+//! Whether a list of directories is connected, in three walks over it: mark, count and clear.
 
 ghost use Rattle.std.specs.Prelude.{◌≡◌, ℕ, true, false, None, IsTrue, not, length};
 ghost use Rattle.std.specs.Prelude.{count_by, slice_index_or, vec_capacity};
@@ -72,7 +72,7 @@ fn tops(table: &DirTable, marks: &[bool], dirs: &[Dir]) -> usize
 }
 
 impl Records {
-    /// Whether the directories are some, none twice, and hang together: only one of them has no parent among them. The
+    /// Whether the directories are some, none twice, and connected: only one of them has no parent among them. The
     /// answer is to be used only where all of them are there.
     pub(crate) fn connects(&mut self, dirs: &[Dir]) -> bool
         requires kept { IsKept self.old }

@@ -1,4 +1,4 @@
-//! What happens in a cluster, and what is answered.
+//! What happens in a cluster, and the answers.
 
 use mds_types::{Dir, Dirs, Rank};
 use std::alloc::{AllocError, Global};

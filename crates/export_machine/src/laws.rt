@@ -56,7 +56,7 @@ pub fn one_authority()
 /// What holds of every cluster that some list of events leads to, as each value of `Cluster` is.
 pub fn reached()
     ensures promised { (w : World) → IsReached w → Promised w }
-    // What is answered as the authority is the one that there is.
+    // The answer for an authority is the one that there is.
     ensures found { (w : World) (r d : ℕ) → IsReached w → (authority w d ≡ Some r) ↔ IsTheAuthority w r d }
     ensures absent { (w : World) (d : ℕ) → IsReached w → (authority w d ≡ None) ↔ (is_present w d ≡ false) }
 {}
@@ -86,7 +86,7 @@ pub fn nearest_owner()
     ensures { (limit ranks : ℕ) (events : List StepEvent) → 1 ≤ ranks → NearestOwns (run (start limit ranks) events) }
 {}
 
-/// The lists of directories that an export may move are those that hang together, after every list of events.
+/// The lists of directories that an export may move are those that are connected, after every list of events.
 pub fn connected()
     ensures tested { (limit ranks : ℕ) (events : List StepEvent) → TestsConnected (run (start limit ranks) events) }
     // Parents may come from elsewhere, where they are those of the list's directories.

@@ -1,4 +1,4 @@
-//! Whether a list of directories hangs together, without marks.
+//! Whether a list of directories is connected, without marks.
 
 ghost use Rattle.std.specs.Prelude.{◌≡◌, ◌↔◌, IsTrue, true};
 ghost use Rattle.std.specs.List.Sorted.{IsStrictlyIncreasing};
@@ -85,7 +85,7 @@ impl Records {
         }
     }
 
-    /// Whether the directories are some, none twice, and hang together: only one of them has no parent among them. A
+    /// Whether the directories are some, none twice, and connected: only one of them has no parent among them. A
     /// list that rises takes time in proportion to n log n, any other to n squared.
     pub(crate) fn is_connected(&self, dirs: &[Dir]) -> bool
         ensures { result ≡ is_connected (world_of self.now) dirs.now }

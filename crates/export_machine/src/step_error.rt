@@ -45,7 +45,7 @@ pub enum StepError {
     NoMessage,
     /// No running request has that ticket.
     NoTicket,
-    /// The list is empty, repeats a directory, or its directories don't hang together.
+    /// The list is empty, repeats a directory, or its directories aren't connected.
     NotConnected,
     /// As many exports as can be were started.
     ExportsFull,

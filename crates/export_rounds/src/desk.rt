@@ -71,7 +71,7 @@ pub fn set_up(
     Ok(desks)
 }
 
-// Lays orders on the desks of their exporters.
+// Puts orders on the desks of their exporters.
 fn lay_orders(orders: &[Order], desks: &mut Vec<Desk>) -> Result<(), AllocError> {
     for (number, order) in orders.iter().enumerate() {
         if let Some(desk) = desks.get_mut(order.from.number() as usize) {
@@ -81,7 +81,7 @@ fn lay_orders(orders: &[Order], desks: &mut Vec<Desk>) -> Result<(), AllocError>
     Ok(())
 }
 
-// Lays exports on the desks of their ranks.
+// Puts exports on the desks of their ranks.
 fn lay_exports(
     cluster: &Cluster,
     desks: &mut Vec<Desk>,
@@ -93,7 +93,7 @@ fn lay_exports(
     Ok(())
 }
 
-// Lays messages on the desks of the ranks that they are for.
+// Puts messages on the desks of the ranks that they are for.
 fn lay_messages(
     cluster: &Cluster,
     desks: &mut Vec<Desk>,
@@ -105,7 +105,7 @@ fn lay_messages(
     Ok(())
 }
 
-// Lays an export on the desks of its ranks, as far as these have to look after it.
+// Puts an export on the desks of its ranks, as far as these have to look after it.
 fn lay_export(cluster: &Cluster, desks: &mut Vec<Desk>, export: u32) -> Result<(), AllocError> {
     let (Some(order), Some((exporter, importer))) = (cluster.export(export), cluster.states(export))
     else {
@@ -124,7 +124,7 @@ fn lay_export(cluster: &Cluster, desks: &mut Vec<Desk>, export: u32) -> Result<(
     Ok(())
 }
 
-// Lays a message on the desk of the rank that it is for, unless it can't do anything any more or the rank has stopped.
+// Puts a message on the desk of the rank that it is for, unless it can't do anything any more or the rank has stopped.
 fn lay_message(cluster: &Cluster, desks: &mut Vec<Desk>, message: u32) -> Result<(), AllocError> {
     if let Some((export, rank)) = cluster.to(message) {
         if is_awaited(cluster, export) && !is_stopped(cluster, rank) {
@@ -136,7 +136,7 @@ fn lay_message(cluster: &Cluster, desks: &mut Vec<Desk>, message: u32) -> Result
     Ok(())
 }
 
-/// Lays messages that came on the desks of the ranks that they are for, except those that can't do anything any more. A
+/// Puts messages that came on the desks of the ranks that they are for, except those that can't do anything any more. A
 /// stopped rank gets none.
 pub fn sort_out(
     cluster: &Cluster,

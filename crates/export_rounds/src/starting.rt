@@ -50,7 +50,7 @@ pub(crate) fn start_at<J: Naming, M: Publisher<J>>(
     desk.orders.clear();
 }
 
-// Lays an export on a desk, if there is one. One that finds no place is aborted at the end of the phase.
+// Puts an export on a desk, if there is one. One that finds no place is aborted at the end of the phase.
 fn lay(exports: &mut Vec<u32>, started: Option<u32>) {
     if let Some(export) = started {
         let _ = exports.push(export);

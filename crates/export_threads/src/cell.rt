@@ -109,7 +109,7 @@ pub(crate) struct ExportCell<J: Naming, M: Publisher<J>, K: ExportPhase> {
 }
 
 impl<J: Naming, M: Publisher<J>, K: ExportPhase> ExportCell<J, M, K> {
-    /// Lays the board under the lock with which the phase begins, and the phase's orders, of which each waits.
+    /// Puts the board with which the phase begins under the lock, and the phase's orders, of which each waits.
     pub(crate) fn new(board: Board<J, M>, standings: Vec<Standing>) -> ExportCell<J, M, K>
         requires board { board ≡ K.before }
         requires asked { AreAsked board board K.orders standings.items }

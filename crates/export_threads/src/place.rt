@@ -46,7 +46,7 @@ impl Place {
         }
     }
 
-    /// Lays a desk here, for the rank's turn in a round. It says whether the rank has a thread.
+    /// Puts a desk here, for the rank's turn in a round. It says whether the rank has a thread.
     pub(crate) fn call<R: Wait>(&self, rt: &R, round: u64, desk: &mut Desk) -> bool {
         let is_taken = self.lay(rt, round, desk);
         self.called.notify_one();

@@ -136,7 +136,7 @@ impl<
         self.cell.lock(self.rt).cluster().sent()
     }
 
-    // Lays the messages out from this one on, and says how many were sent.
+    // Puts the messages from this one on on desks, and says how many were sent.
     fn sort_out(&self, desks: &mut Vec<Desk>, seen: u32) -> u32 {
         let board = self.cell.lock(self.rt);
         let sent = board.cluster().sent();

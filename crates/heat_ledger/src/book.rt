@@ -18,7 +18,7 @@ use std::sync::Arc;
 /// What the shares of one board have counted together: deposited hits and begun requests, by
 /// directory.
 ///
-/// For whoever has the book and all its shares, the counted hits and the pending hits of the shares
+/// For a caller that has the book and all its shares, the counted and the pending hits of the shares
 /// are the hits of the shares, and the begun requests are those of the shares: `audit` says so
 /// while the book is open, and `close` when it ends. All memory is taken by `open`.
 #[derive(Drop)]
@@ -177,7 +177,7 @@ impl<J: Naming> Book<J> {
     }
 
     /// Closes the book over all its shares, which are used up. Where some are missing, it says how
-    /// much weight they have, and hands the shares back.
+    /// much weight they have, and returns the shares.
     pub fn close(&mut self, shares: Vec<Share<J>>) -> Result<(), (Missing, Vec<Share<J>>)>
         requires { All IsClean shares.items }
         ensures ok { OnOk result ((self.old.is_open ≡ true) × (self.new ≡ record self.old { is_open = false })) }

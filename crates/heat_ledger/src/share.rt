@@ -67,8 +67,8 @@ impl<J: Naming> Share<J> {
         self.counts.pending(dir)
     }
 
-    /// The directories with hits that aren't deposited, rising, each with their number. Counts to
-    /// which the rows are added one by one have then what a deposit makes of them. It takes time for
+    /// The directories with hits that aren't deposited, rising, each with their number. To add the
+    /// rows to counts one by one gives what a deposit makes of the counts. It takes time for
     /// only these directories, and asks for memory first.
     pub fn pending_rows(&self, alloc: Global) -> Result<Vec<(Dir, u64)>, AllocError>
         ensures rows { IfOk result (λ rows. rows.items ≡ counted_rows self.now.pending) }
@@ -85,7 +85,7 @@ impl<J: Naming> Share<J> {
         self.counts.begun(dir)
     }
 
-    /// How many of the shares that were opened this one is.
+    /// How many opened shares this one represents.
     pub fn weight(&self) -> u8
         ensures weight { result ≡ self.now.weight }
         ensures some { 1 ≤ result }

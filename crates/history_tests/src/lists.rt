@@ -35,7 +35,7 @@ impl Solver for Planner {
     }
 }
 
-/// What a command is answered.
+/// The answer to a command.
 pub(crate) type Given = Result<Answer, BoardError>;
 
 fn with(commands: Vec<BoardCommand>, command: BoardCommand) -> Result<Vec<BoardCommand>, AllocError>
@@ -175,7 +175,7 @@ fn ask_each<J: Naming, M: Publisher<J>, R: Abort + Threads + Sync>(
     (answers, said(board, share, reader))
 }
 
-/// What the commands are answered, as a list or one by one, and what the board says then.
+/// The answers to the commands, as a list or one by one, and what the board says then.
 pub(crate) fn answers<J: Naming, M: Publisher<J>, R: Abort + Threads + Sync>(
     rt: &R,
     alloc: Global,

@@ -1,4 +1,4 @@
--- What a list of commands does to a board, and what is answered.
+-- What a list of commands does to a board, and the answers.
 use Rattle.std.specs.Prelude.{◌≡◌, ◌⊎◌, Bool, true, List, [], ◌∷◌, Result, Ok, Err, Some, None}
 use Rattle.mds_types.specs.declared.plan.Plan.{Plan}
 use Rattle.mds_types.specs.Certificate.{IsBest, IsCertified}

@@ -228,7 +228,7 @@ impl<J: Naming, M: Publisher<J>> Board<J, M> {
         Ok(given)
     }
 
-    /// Puts a plan in force that is best for the problem that is open. It answers the orders by which the directories
+    /// Puts a plan in force that is best for the problem that is open. It returns the orders by which the directories
     /// come to the ranks that the plan gives them.
     pub fn adopt(&mut self, alloc: Global, plan: Plan) -> Result<Vec<Order>, BoardError>
         ensures { IsAnswer self.old (Change.Adopt plan) (spelled (λ orders. Answer.Orders orders.items) result)
@@ -243,7 +243,7 @@ impl<J: Naming, M: Publisher<J>> Board<J, M> {
         Ok(given)
     }
 
-    /// Opens the problem, solves it and adopts the plan: two events. It answers the plan's orders, as the history has
+    /// Opens the problem, solves it and adopts the plan: two events. It returns the plan's orders, as the history has
     /// them. Where the present placement is itself best, the plan moves nothing. It fails only for a full history, a
     /// balancer that is off, or memory.
     #[tactic(auto, unfolding(board_state::specs::State::happens))]
@@ -277,8 +277,8 @@ impl<J: Naming, M: Publisher<J>> Board<J, M> {
         self.state.publish()
     }
 
-    /// For whoever has all shares of the ledger: the counted and the pending hits are the hits of the shares, and the
-    /// begun requests theirs. It changes nothing, and is no event.
+    /// For a caller that has all shares of the ledger: the counted and the pending hits are the hits of the shares, and
+    /// the begun requests are theirs. It changes nothing, and is no event.
     pub fn audit(&mut self, shares: &mut Vec<Share<J>>)
         requires { weight_of shares.old.items ≡ self.old.shares }
         ensures hits { (dir : ℕ) → at self.new.state.counted dir + pending_of shares.new.items dir
@@ -290,7 +290,7 @@ impl<J: Naming, M: Publisher<J>> Board<J, M> {
     }
 
     /// Closes the ledger over all its shares, which have nothing pending and are used up: what was counted is what they
-    /// counted. Where some are missing, it says how much weight they have, and hands the shares back. It is no event.
+    /// counted. Where some are missing, it returns their weight, and the shares. It is no event.
     pub fn close(&mut self, shares: Vec<Share<J>>) -> Result<(), (Missing, Vec<Share<J>>)>
         requires { All IsClean shares.items }
         ensures ok { OnOk result ((self.old.is_open ≡ true) × (self.new ≡ record self.old { is_open = false })) }

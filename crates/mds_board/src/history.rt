@@ -1,4 +1,4 @@
-//! The accepted changes of a board, as they lie in memory.
+//! The accepted changes of a board, as memory holds them.
 ghost use Rattle.std.specs.Prelude.{◌≡◌, ◌<◌, ◌++◌, ◌∷◌, [], OnOk, Some, length, slice_get};
 ghost use Rattle.std.specs.Option.{option_map};
 ghost use Rattle.mds_board.specs.Stored.{HasRoom, began, ended, shown_entry};

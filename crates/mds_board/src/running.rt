@@ -14,7 +14,7 @@ use std::alloc::{AllocError, Global};
 use std::thread::Threads;
 
 impl<J: Naming, M: Publisher<J>> Board<J, M> {
-    /// Carries out commands one after the other, whatever the ones before were answered. It gives the answer to each.
+    /// Carries out commands one after the other, whatever the answers to earlier ones. It returns the answer to each.
     /// Memory for the answers is asked for before the first command.
     pub fn run<S: Solver, R: Threads + Sync>(
         &mut self,

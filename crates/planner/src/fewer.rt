@@ -176,8 +176,8 @@ fn better_parts(
     }
 }
 
-/// A division within the limits that seems to move fewer inodes than one, if one is found. `part[i]` is the part of
-/// row i in the one that is given.
+/// A division within the limits that seems to move fewer inodes than the given one, if one is found. `part[i]` is the
+/// part of row i in the given one.
 pub fn fewer(
     alloc: Global,
     rows: &[ProblemRow],

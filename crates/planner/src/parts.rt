@@ -92,7 +92,7 @@ impl Divided {
             .saturating_add(self.heat(self.label(other)))
     }
 
-    /// How many inodes stay where each rank keeps the part that it has most of, of those of which it has the most.
+    /// How many inodes stay: the rank with most of a part claims it, and each rank keeps its largest claim.
     pub fn kept(&self, alloc: Global, pieces: &[Piece], ranks: RankSet) -> Result<u64, AllocError> {
         let none = Claim {
             rank: Rank::default(),

@@ -2,9 +2,9 @@
 //! assignment problem", Naval Research Logistics Quarterly 2, 1955; in this form J. Edmonds and
 //! R. M. Karp, Journal of the ACM 19(2), 1972).
 //!
-//! Parts are placed one after the other. Prices of parts and ranks show all the while that the parts
+//! Parts are placed one after the other. At each time prices of parts and ranks show that the parts
 //! placed so far are where they cost least. Ranks' prices are never above 0, so they are kept as
-//! debts, what they are below 0. All numbers are whole.
+//! debts: how far they are below 0. All numbers are whole.
 ghost use Rattle.std.specs.Prelude.{◌≡◌, ◌≢◌, ◌<◌, ◌≤◌, ◌+◌, ◌-◌, ◌*◌, ◌^◌, ℕ, length, slice_index};
 ghost use Rattle.cost_table.specs.Costs.{cell_at_place};
 ghost use Rattle.rank_assign.specs.Matching.{ArePlaced, IsMatching};

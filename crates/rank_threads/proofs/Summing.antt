@@ -44,7 +44,7 @@ same_weight limit (s ∷ olds) [] answers news h = absurd h
 same_weight limit (s ∷ olds) (w ∷ scripts) [] news h = absurd h
 same_weight limit (s ∷ olds) (w ∷ scripts) (a ∷ answers) [] h = absurd h
 
--- what a phase leaves to whoever has all shares
+-- what a phase leaves to a caller that has all shares
 
 pub whole_after : (limit : ℕ) (old new : World) (olds : List ShareData) (scripts : List (List Work)) (answers : List (List WorkAnswer)) (news : List ShareData) → WentOn old new
     → AreReturned limit olds scripts answers news → weight_of olds ≡ old.shares → weight_of news ≡ new.shares

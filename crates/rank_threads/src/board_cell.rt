@@ -36,7 +36,7 @@ impl Phase for Brand {
     ghost before = { no_board };
 }
 
-/// What lies under the lock: a board that has gone on from the one with which the phase `K` began. Its methods are
+/// What the lock guards: a board that has gone on from the one with which the phase `K` began. Its methods are
 /// all that a thread can do to it.
 pub struct Phased<J: Naming, M: Publisher<J>, K: Phase> {
     board: Board<J, M>,
@@ -57,7 +57,7 @@ impl<J: Naming, M: Publisher<J>, K: Phase> Model for Phased<J, M, K> {
 }
 
 impl<J: Naming, M: Publisher<J>, K: Phase> Phased<J, M, K> {
-    /// A request on a directory begins at a rank, and is counted in a share. It answers the ticket. The thread has then
+    /// A request on a directory begins at a rank, and is counted in a share. It returns the ticket. The thread has then
     /// seen the board's history.
     pub fn begin(
         &mut self,
@@ -92,8 +92,8 @@ impl<J: Naming, M: Publisher<J>, K: Phase> Phased<J, M, K> {
         ended
     }
 
-    /// Whether no request with this ticket runs any more, as far as the cluster says: at its limit of events it
-    /// doesn't.
+    /// Whether no request with this ticket runs any more, if the cluster can say it: at its limit of events it
+    /// can't.
     pub fn has_ended(&self, ticket: u32) -> bool
         ensures { IsTrue result ↔ (refusal self.now.state.cluster (Event.End ticket) ≡ Some StepError.NoTicket) }
     {
@@ -172,7 +172,7 @@ impl<J: Naming, M: Publisher<J>, K: Phase> Phased<J, M, K> {
     }
 }
 
-// A request begins. It answers the ticket.
+// A request begins. It returns the ticket.
 #[tactic(auto, unfolding(board_state::specs::State::happens, export_machine::specs::Step::happens))]
 fn begin<J: Naming, M: Publisher<J>>(
     board: &mut Board<J, M>,
@@ -221,7 +221,7 @@ pub struct BoardCell<J: Naming, M: Publisher<J>, K: Phase> {
 }
 
 impl<J: Naming, M: Publisher<J>, K: Phase> BoardCell<J, M, K> {
-    /// Lays the board under the lock with which the phase begins.
+    /// Puts the board with which the phase begins under the lock.
     pub fn new(board: Board<J, M>, log: NewLog<Entry>) -> BoardCell<J, M, K>
         requires board { board ≡ K.before }
         requires log { log ≡ K.log }
@@ -242,7 +242,7 @@ impl<J: Naming, M: Publisher<J>, K: Phase> BoardCell<J, M, K> {
         self.board.lock(rt)
     }
 
-    /// Takes what lies under the lock from there.
+    /// Takes what the lock guards.
     pub fn into_phased(self) -> Phased<J, M, K> {
         let BoardCell { board } = self;
         board.into_inner()

@@ -1,4 +1,4 @@
-//! What the boards of a phase have to do with each other.
+//! How the boards of a phase relate to each other.
 ghost use Rattle.std.specs.Prelude.{◌≡◌, ◌≤◌, length, true};
 ghost use mathlib.Core.List.{IsPrefix};
 ghost use Rattle.board_state.specs.declared.board_error.BoardError.TheVariants.{HistoryFull};

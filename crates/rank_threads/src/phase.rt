@@ -265,7 +265,7 @@ fn rooms_for(alloc: Global, scripts: &[Vec<Work>]) -> Result<Vec<Vec<WorkAnswer>
     Ok(rooms)
 }
 
-// Lays the shares out with room for answers and ranks. Where memory is refused they come back.
+// Gives each share room for answers and ranks. Where memory is refused, it returns the shares.
 fn lay<J: Naming, K: Phase>(
     alloc: Global,
     scripts: &[Vec<Work>],

@@ -1,4 +1,4 @@
-//! The requests of all ranks, for whoever has all shares of the ledger.
+//! The requests of all ranks, for a caller that has all shares of the ledger.
 ghost use Rattle.std.specs.Prelude.{◌≡◌, ◌≤◌, ◌<◌, ◌+◌, ℕ, IfErr, IfOk, OnErr, length, map, vec_len};
 ghost use Rattle.heat_ledger.specs.Ledger.{begun_of, hits_of, pending_of, weight_of};
 ghost use Rattle.heat_ledger.specs.Rows.{at};
@@ -20,7 +20,7 @@ use std::marker::{Send, Sync};
 use std::sync::Wait;
 use std::thread::Threads;
 
-/// Serves the requests of each rank as `serve_phase` does, for whoever has all shares of the board's ledger.
+/// Serves the requests of each rank as `serve_phase` does, for a caller that has all shares of the board's ledger.
 ///
 /// On each directory below the limit the board's requests rise by the answers with a ticket, and its hits, with those
 /// that are pending, by the hits that the answers name.

@@ -50,7 +50,7 @@ pub(crate) enum Trial {
     RankThreads(bool),
     /// Orders for which there may be no thread, or for which there is one.
     ExporterThreads(bool),
-    /// A phase for whoever has all shares.
+    /// A phase for a caller that has all shares.
     Totals,
 }
 

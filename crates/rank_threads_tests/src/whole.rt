@@ -1,4 +1,4 @@
-//! A phase for whoever has all shares.
+//! A phase for a caller that has all shares.
 ghost use Rattle.std.specs.Prelude.{◌≡◌, vec_len};
 ghost use Rattle.heat_ledger.specs.Ledger.{weight_of};
 

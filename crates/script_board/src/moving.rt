@@ -14,7 +14,7 @@ use std::thread::Threads;
 
 impl<J: Naming + Send + Sync, M: Publisher<J> + Send> ScriptBoard<J, M> {
     /// Carries out the orders of pins, and then those of the last plan, which are forgotten, by a thread for each rank
-    /// that has something to do. It answers the orders, each with its outcome. Where memory is refused before the first
+    /// that has something to do. It returns the orders, each with its outcome. Where memory is refused before the first
     /// of them is started, nothing has changed.
     pub fn carry_out_moves<R: Threads + Wait + Sync>(
         self,

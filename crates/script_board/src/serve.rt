@@ -17,7 +17,7 @@ use std::thread::Threads;
 
 impl<J: Naming + Send + Sync, M: Publisher<J> + Send> ScriptBoard<J, M> {
     /// Serves the waiting requests by a thread for each rank that has some, each request at the rank that the map
-    /// names and those of one rank in the order of their loads, and deposits what the shares counted. It answers the
+    /// names and those of one rank in the order of their loads, and deposits what the shares counted. It returns the
     /// refusals that were met: those of requests in the order of their loads, then the first of an end, then the
     /// first of a deposit. Where memory is refused before the first request, nothing has changed.
     pub fn go<R: Threads + Wait + Sync>(

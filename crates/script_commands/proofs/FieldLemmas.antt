@@ -34,7 +34,7 @@ all_blank p (b ∷ line) e = elim (p b) as (λ v. p b ≡ v → fields_at p (b �
   | false ↦ λ f. absurd (let none = rw f at e in omega arith)
 ] refl
 
--- a byte that doesn't part fields makes one
+-- a byte that doesn't separate fields makes one
 kept_byte : (b : ℕ) (parts : List (List ℕ)) → filter (λ part. not (is_empty part)) (onto_first b parts) ≡ [] → ⊥
 kept_byte b [] e = cc
 kept_byte b (part ∷ parts) e = cc

@@ -1,4 +1,4 @@
--- What the code's commands say, without where their paths lie in memory.
+-- What the code's commands say, without where memory holds their paths.
 use Rattle.std.specs.Prelude.{map}
 use Rattle.script_commands.specs.Commands as line
 use Rattle.script_commands.specs.declared.command.Command.{Command}

@@ -7,7 +7,7 @@ ghost use Rattle.script_commands.specs.Commands.{is_blank, is_empty, is_plain, f
 use memchr::memchr3;
 use std::alloc::{AllocError, Global};
 
-/// Whether a byte parts fields.
+/// Whether a byte separates fields.
 pub fn is_blank(byte: u8) -> bool
     ensures { result ≡ is_blank byte }
 {
@@ -20,7 +20,7 @@ fn is_plain(byte: u8) -> bool
     (byte >= b' ' && byte < 0x7f) || byte == b'\t' || byte == b'\r'
 }
 
-/// Whether a line holds only bytes that are seen in print and bytes that part fields.
+/// Whether a line holds only bytes that are seen in print and bytes that separate fields.
 ///
 /// The loop doesn't end at the first other byte, so that many bytes can be looked at in one step, and it leaves tabs
 /// and carriage returns, which few lines have, to a second look.

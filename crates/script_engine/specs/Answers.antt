@@ -14,7 +14,7 @@ pub record Answer : Type 0 where
 abbrev pub line_start : ℕ → List ℕ
 line_start number = codes "line " ++ decimal number ++ codes ": "
 
--- what a faulty line is answered
+-- the answer to a faulty line
 abbrev pub fault_text : ℕ → List ℕ → List ℕ
 fault_text number why = line_start number ++ why ++ 10 ∷ []
 

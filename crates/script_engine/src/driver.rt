@@ -29,8 +29,8 @@ pub enum RunError {
 /// Reads a script to its end, and has each of its lines answered. Says whether each was accepted.
 ///
 /// `answer` is called with the state, the line's number, the line and the writer, and says whether the line was
-/// accepted. It may also find no room for the line's fields, and answers as for one that has no room.
-/// At most 2^40 reads are made. Where they came to no end, the next counts as one that failed, and all bytes that came
+/// accepted. Where it finds no room for the line's fields, it answers as for a line that has no room.
+/// At most 2^40 reads are made. If a script has more, the next counts as one that failed, and all bytes that came
 /// were carried out. A strict run ends after the first line that isn't accepted. What was read after that line is
 /// lost. An answer that is an `Err` of the reader or the writer ends the run, an interrupted call too. A line that
 /// finds no room in memory is answered `line L: refused 0 Memory`, and the run goes on.

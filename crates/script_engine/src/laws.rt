@@ -14,7 +14,7 @@ pub fn cut_between<I: Interpreter>()
         × Run I.answers strict mid (length lines + number) more others new }
 {}
 
-/// Want of memory aside, the answers to a script of sure lines are a function of its bytes and of `strict`, where the
+/// If memory suffices, the answers to a script of sure lines are a function of its bytes and of `strict`, where the
 /// answer to such a line is a function of the state, the line's number and the line.
 pub fn determined<I: Interpreter>()
     ensures { (sure : List ℕ → Bool) (play : I → ℕ → List ℕ → Answer × I) (strict : Bool) (old new : I)

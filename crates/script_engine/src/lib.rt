@@ -1,6 +1,6 @@
 //! Reads a script in pieces of any size, and has each of its lines answered by what the caller provides.
 //!
-//! `run_script` knows nothing of commands. It parts the bytes into lines, counts them, hands each to
+//! `run_script` knows nothing of commands. It splits the bytes into lines, counts them, hands each to
 //! an `Interpreter`, stops early where the run is strict, and says what holds after a device failed.
 #![tactic(auto)]
 

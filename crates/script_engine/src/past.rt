@@ -1,4 +1,4 @@
-//! The bytes that went through a device. They exist in proofs: in memory it is two bytes, however many there are.
+//! The bytes that went through a device. They exist only in proofs: in memory they take two bytes at any length.
 ghost use Rattle.std.specs.Prelude.{◌≡◌, ◌++◌, ◌∷◌, []};
 ghost use Rattle.script_engine.specs.Past.{bytes_of};
 

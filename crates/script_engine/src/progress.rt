@@ -41,7 +41,7 @@ impl Progress {
         }
     }
 
-    /// Has the line answered that the buffer has.
+    /// Has the line in the buffer answered.
     fn answer_held<
         I: Interpreter,
         W: Write,
@@ -64,7 +64,7 @@ impl Progress {
         }
     }
 
-    /// Has the line answered that ends with these bytes. One that has just begun is handed on as it is.
+    /// Has the line that ends with these bytes answered. One that has just begun is handed on as it is.
     fn answer_line<
         I: Interpreter,
         W: Write,

@@ -1,4 +1,4 @@
--- Want of memory is seen in the answer to a line.
+-- The answer to a line shows where memory ran out.
 use Rattle.std.proofs.Common.{◌≡◌, ◌==◌, ℕ, Bool, true, false, cond, List, [], ◌++◌, length, take, Ok, sym, ap, subst, ◌∙◌, append-nil, ◌⊎◌, inl, inr}
 use Rattle.script_engine.specs.Answers.{Answer, fault_text}
 use Rattle.script_commands.specs.Commands.{asked}

@@ -30,7 +30,7 @@ pub fn output_is_determined()
         → text_of replies ≡ text_of (played answer_to strict (beginning limit) 1 (lines_of bytes)).0 }
 {}
 
-/// Want of memory is seen in a line's answer: where no line of it says `refused 0 Memory`, the answer to a line other
+/// A line's answer shows where memory ran out: if no line of it says `refused 0 Memory`, the answer to a line other
 /// than `go`, `plan` and `move` is a function of the session, the line's number and the line, and so is the session
 /// after it, but that its map may not have been published.
 pub fn line_is_visible()
@@ -38,8 +38,8 @@ pub fn line_is_visible()
         → answers old number line a new → TellsNoMemory number a → IsSeenAs a new (answer_to old number line) }
 {}
 
-/// Want of memory is seen in the output: what a run of a script without `plan`, `move`, `go` and `stat` writes is a
-/// function of its bytes, the limit and `strict`, where no answer says `refused 0 Memory`.
+/// The output shows where memory ran out: what a run of a script without `plan`, `move`, `go` and `stat` writes is a
+/// function of its bytes, the limit and `strict`, if no answer says `refused 0 Memory`.
 pub fn output_is_visible()
     ensures { (limit : ℕ) (strict : Bool) (bytes : List ℕ) (replies : List Answer) (last : SessionData)
         → list_all is_visible (lines_of bytes) ≡ true

@@ -1,4 +1,4 @@
-//! The lines of `move`. Each is made in a text, in place of what stood there.
+//! The lines of `move`. Each is made in a text, in place of what it held.
 ghost use Rattle.std.specs.Prelude.{◌≡◌, OnOk, string_bytes};
 ghost use Rattle.script_session.specs.Move.{all_inodes, export_line, export_text, move_line};
 ghost use Rattle.script_session.specs.Move.{order_word, top_of, top_path, way_text, word};

@@ -1,4 +1,4 @@
-//! The lines of `plan`. Each is made in a text, in place of what stood there.
+//! The lines of `plan`. Each is made in a text, in place of what it held.
 ghost use Rattle.std.specs.Prelude.{◌≡◌, All, IfOk, OnOk, Some, string_bytes, true};
 ghost use Rattle.dirtree.specs.Tree.{is_there};
 ghost use Rattle.mds_types.specs.declared.plan.Plan.{Plan as ThePlan};

@@ -11,7 +11,7 @@ use script_board::Fault;
 use script_engine::{WriteFailed, write_refusal};
 use std::io::Write;
 
-/// Writes what a faulty line is answered. It takes no memory.
+/// Writes the answer to a faulty line. It takes no memory.
 pub fn write_fault<W: Write>(writer: &mut W, number: u64, fault: Fault) -> Result<(), WriteFailed>
     ensures ok { OnOk result (Appends (W.contents writer.old) (W.contents writer.new)
         (fault_text number (words fault))) }

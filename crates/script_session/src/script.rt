@@ -23,7 +23,7 @@ use std::thread::Threads;
 /// How a script is to be carried out.
 #[derive(Clone, Copy)]
 pub struct RunOptions {
-    /// Picks the hash by which names are found. It changes nothing that is answered.
+    /// Picks the hash by which names are found. It changes no answer.
     pub key: NameKey,
     /// The numbers of the tree's directories are below it.
     pub limit: u32,

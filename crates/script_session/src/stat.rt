@@ -1,4 +1,4 @@
-//! The lines of `stat`. Each is made in a text, in place of what stood there.
+//! The lines of `stat`. Each is made in a text, in place of what it held.
 ghost use Rattle.std.specs.Prelude.{◌≡◌, ◌<◌, OnOk, length, string_bytes, true};
 ghost use Rattle.dirtree.specs.Tree.{is_there};
 ghost use Rattle.script_board.specs.Stat.{directories};
