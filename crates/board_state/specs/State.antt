@@ -133,11 +133,11 @@ cause s (Adopt plan) = adopt_cause s.opened
 abbrev pub event_limit : ℕ
 event_limit = 1_048_576
 
--- why a change is refused, a plan that isn't proved best apart
+-- why a change is refused, apart from a plan that isn't proved best
 unfoldable pub refusal : State → Change → Option BoardError
 refusal s c = or_cause (when (nat_le event_limit s.events) HistoryFull) (cause s c)
 
--- why a problem is neither opened nor its plan adopted in one call
+-- why a balance is refused, which opens a problem and adopts a plan
 abbrev pub balance_refusal : State → Option BoardError
 balance_refusal s =
     or_cause (when (nat_le 1_048_575 s.events) HistoryFull) (when (rank_count (usable s) == 0) BalancerOff)

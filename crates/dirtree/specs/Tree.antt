@@ -61,7 +61,7 @@ child_from first [] parent name = None
 child_from first (e ∷ entries) parent name =
     if is_named_child parent name e then Some first else child_from (suc first) entries parent name
 
--- the root is nobody's child
+-- the root is no directory's child
 abbrev pub child_of : List (Option Entry) → ℕ → List ℕ → Option ℕ
 child_of entries parent name = child_from 1 (drop 1 entries) parent name
 

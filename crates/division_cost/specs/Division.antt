@@ -1,4 +1,4 @@
--- What it says that the parts divide the directories that no pin holds, and that a heat is the greatest.
+-- When parts divide the directories that no pin holds, and when a heat is the greatest.
 use Rattle.std.specs.Prelude.{◌≡◌, ◌<◌, ◌≤◌, ℕ, true, List, length, sum_by, slice_index, Option}
 use Rattle.std.specs.List.{Contains}
 use Rattle.mds_types.specs.Connected.{IsConnected, IsParentOrChild}

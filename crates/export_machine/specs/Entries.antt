@@ -104,7 +104,7 @@ logs_export w e = is_log (entry w e)
 abbrev pub IsThere : World → ℕ → Type 0
 IsThere w d = ((r : ℕ) × (has w r (JournalEntry.Made d) ≡ true)) × ((r : ℕ) → has w r (JournalEntry.Gone d) ≡ false)
 
--- which directories are there is in the journals
+-- the journals say which directories are there
 abbrev pub AreInJournals : World → Type 0
 AreInJournals w = (d : ℕ) → (is_present w d ≡ true) ↔ IsThere w d
 

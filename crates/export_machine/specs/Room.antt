@@ -1,4 +1,4 @@
--- That room which was taken is kept, and why an event is refused where memory is asked for too.
+-- That room is kept once it is taken, and why an event is refused that also asks for memory.
 use Rattle.std.specs.Prelude.{◌≡◌, ℕ, true, None, Some, ◌⊎◌}
 use Rattle.export_machine.specs.declared.records.Records.{Records}
 use Rattle.export_machine.specs.declared.step_error.StepError.{StepError}

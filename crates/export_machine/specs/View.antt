@@ -26,6 +26,6 @@ AreAnswers old (e ∷ es) (r ∷ rs) new = (next : World) × IsAnswer old e r ne
 AreAnswers old [] (r ∷ rs) new = ⊥
 AreAnswers old (e ∷ es) [] new = ⊥
 
--- memory was wanted for none of them
+-- none of them is `Memory`
 abbrev pub NoneIsMemory : List (Result Reply StepError) → Type 0
 NoneIsMemory rs = All (λ r. r ≢ Err Memory) rs

@@ -25,7 +25,7 @@ world_of p history =
 abbrev pub no_board : World
 no_board = record { state = start 0 0; is_open = false; shares = 0; published = []; history = [] }
 
--- From old the entries' changes were accepted in turn, with these replies, and left new.
+-- In the state old the entries' changes were accepted in turn, with these replies, and led to new.
 abbrev pub IsReplay : State → List Entry → State → Type 0
 IsReplay old [] new = new ≡ old
 IsReplay old (e ∷ es) new =

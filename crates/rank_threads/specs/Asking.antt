@@ -1,4 +1,4 @@
--- Which ranks a phase has asked to serve their requests, and what is laid out for that.
+-- Which ranks a phase has asked to serve their requests, and the room for the answers.
 use Rattle.std.specs.Global.{Global}
 use Rattle.std.specs.List.{All, AllZip}
 use Rattle.std.specs.Prelude.{◌≡◌, ◌≤◌, ℕ, ◌+◌, List, [], ◌∷◌, ◌++◌, length, Result, IsOk, Vec, vec_len, vec_capacity}

@@ -7,8 +7,8 @@ use Rattle.residual_cut.specs.declared.child.Child.{Child}
 use Rattle.residual_cut.specs.declared.hottest.Hottest.{Hottest}
 use Rattle.residual_cut.specs.Heap.{row_count}
 
--- children of row i that pass the test, each at most once, with their rests; they are after it. None of them has less
--- than the floor, and where one that passes the test isn't among them, it has no more, and there are as many as wanted.
+-- children of row i that pass the test, each at most once, with their rests; they are after it. None has less than the
+-- floor. If one that passes the test isn't among them, it has no more than the floor, and they are at least `most`.
 pub record AreHottest (rows : List ProblemRow) (rest : ℕ → ℕ) (test : ℕ → Bool) (i most floor : ℕ)
     (children : List Child) : Type 0 where
   pub each : (j : ℕ) → row_count j children ≤ (if nat_lt j (length rows) && (is_child rows i j && test j) then 1 else 0)

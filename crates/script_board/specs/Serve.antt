@@ -44,7 +44,7 @@ works_at w ranks rank loads = map work_of (filter (λ l. asked_rank w ranks l.di
 abbrev pub script_at : List (List Work) → ℕ → List Work
 script_at scripts rank = slice_index_or scripts rank []
 
--- where the answer to a request is found that comes after these: at its rank, after the earlier ones that are asked
+-- where the answer to the request after these is found: at its rank, after the earlier ones that are asked
 -- of it
 abbrev pub place : World → ℕ → List Load → Load → Seat
 place w ranks earlier l = record {

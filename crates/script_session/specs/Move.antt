@@ -49,7 +49,7 @@ top_path b order =
     path_if (is_there b.world.state.directories.entries (top_of order)) b.world.state.directories.entries
     (top_of order)
 
--- whence and where the directories below a path go
+-- from where and to where the directories below a path go
 abbrev pub way_text : List ℕ → ℕ → ℕ → List ℕ
 way_text path from to = codes "export " ++ path ++ codes " from " ++ decimal from ++ codes " to " ++ decimal to
 

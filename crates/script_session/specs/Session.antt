@@ -19,7 +19,7 @@ pub record SessionData : Type 0 where
   pub limit : ℕ
   pub board : Option BoardData
 
--- Before `ranks` was accepted no other command is.
+-- No other command is accepted before `ranks`.
 abbrev pub at_beginning : ℕ → Command → Result BoardData Fault
 at_beginning limit (line.Ranks n) = Ok (empty_board limit n)
 at_beginning limit command = Err NoRanks
