@@ -31,7 +31,7 @@ pub record AreRuns (limit : ℕ) (starts cells : List ℕ) : Type 0 where
 abbrev pub StartsAt : List ℕ → ℕ → Type 0
 StartsAt starts dir = (run : ℕ) → IsIn starts run dir → slice_index starts run ≡ dir
 
--- Each directory's cell is that of its run. Neighbouring runs differ, but for
+-- Each directory's cell is that of its run. Neighbouring runs differ, except
 -- those that start at one of two directories.
 pub record HasCells (limit : ℕ) (starts cells : List ℕ) (cell : ℕ → ℕ) (this that : ℕ) : Type 0 where
   pub each : (run dir : ℕ) → dir < limit → IsIn starts run dir → slice_index cells run ≡ cell dir

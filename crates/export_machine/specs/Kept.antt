@@ -188,7 +188,7 @@ has_export_places r rank = r.exports.spare && has_spare r.sent && has_place r.op
 abbrev pub has_ticket_places : Records → ℕ → Bool
 has_ticket_places r rank = has_spare r.tickets && has_place r.tickets_at.items rank
 
--- the lists of an event but for the journal
+-- the lists of an event except the journal
 abbrev pub has_list_places : Records → Event → Bool
 has_list_places r (Event.Made parent) = has_dir_places r
 has_list_places r (Event.Gone dir) = true

@@ -130,7 +130,7 @@ impl Records {
         }
     }
 
-    /// Takes room in the lists that an event adds to, journals apart.
+    /// Takes room in the lists that an event adds to, except journals.
     fn grow_lists(&mut self, event: &Event) -> Result<(), AllocError>
         ensures world { world_of self.new ≡ world_of self.old }
         ensures indexes { indexes_of self.new ≡ indexes_of self.old }

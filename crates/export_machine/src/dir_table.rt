@@ -26,7 +26,7 @@ struct DirRow {
     children: u32,
 }
 
-/// The rows of all directories that ever were.
+/// The rows of all directories, those that are gone too.
 #[derive(Drop)]
 pub(crate) struct DirTable {
     rows: Vec<DirRow>,
@@ -59,7 +59,7 @@ impl DirTable {
         Ok(table)
     }
 
-    /// How many directories ever were.
+    /// How many directories there are, with those that are gone.
     pub(crate) fn len(&self) -> usize
         ensures { result ≡ length self.now.parents }
     {

@@ -23,7 +23,7 @@ struct ExportRow {
     dropped: bool,
 }
 
-/// The rows of all exports that ever were.
+/// The rows of all exports that were started.
 #[derive(Drop)]
 pub(crate) struct ExportTable {
     rows: Vec<ExportRow>,
@@ -53,7 +53,7 @@ impl ExportTable {
         }
     }
 
-    /// How many exports ever were.
+    /// How many exports were started.
     pub(crate) fn len(&self) -> usize
         ensures { result ≡ length self.now.orders }
     {

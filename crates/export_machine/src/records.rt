@@ -5,7 +5,7 @@
 //! children it has. So no read folds a journal and no event searches the exports. An export's row has what it moves,
 //! its states at both ranks and whether its importer's journal has it as dropped. A table of marks is for the test of a
 //! list of directories. By rank there are the tickets of its requests and the exports that are open there, so that a
-//! stop needn't look through all requests and exports that ever were.
+//! stop needn't look through all requests and exports since the start.
 
 ghost use Rattle.std.specs.Prelude.{◌≡◌, ℕ, ◌<◌, ◌≤◌, IfOk, map, replicate, slice_set};
 ghost use Rattle.std.specs.Prelude.{false, ◌∷◌, [], length, Some, slice_index_or};

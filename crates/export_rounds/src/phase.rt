@@ -23,8 +23,8 @@ use std::alloc::{AllocError, Global};
 /// Rounds of a phase after its first.
 const LATER_ROUNDS: u32 = 7;
 
-/// Carries out orders in eight rounds, and returns what became of each. It looks at all exports and messages that ever
-/// were.
+/// Carries out orders in eight rounds, and returns what became of each. It looks at all exports and messages of the
+/// board's past.
 ///
 /// For a board that has many phases, `carry_out_orders_from` keeps what isn't settled.
 pub fn carry_out_orders<J: Naming, M: Publisher<J>>(

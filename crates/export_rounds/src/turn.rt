@@ -37,7 +37,7 @@ pub(crate) fn ask<J: Naming, M: Publisher<J>>(board: &mut Board<J, M>, alloc: Gl
     }
 }
 
-// Delivers messages, but for those about an export whose import is over.
+// Delivers messages, except those about an export whose import is over.
 fn take_messages<J: Naming, M: Publisher<J>>(
     board: &mut Board<J, M>,
     alloc: Global,

@@ -171,7 +171,7 @@ fn carry_out_named<
 }
 
 /// Carries out orders in eight rounds, by a thread for each rank that has something to do, and returns what became of
-/// each. It looks at all exports and messages that ever were.
+/// each. It looks at all exports and messages of the board's past.
 ///
 /// For a board that has many phases, `export_phase_from` keeps what isn't settled.
 pub fn export_phase<
@@ -202,7 +202,7 @@ pub fn export_phase<
 /// In a round each rank takes the messages that had come when the round began, in rising order, freezes its exports
 /// in state freezing, notifies of its logged ones and publishes the map if it did. In the first round it starts its
 /// orders and asks about its imports that were left started before that. An event that is refused is passed over.
-/// What isn't logged after the last round is aborted, but for exports of earlier phases. The orders of a rank for
+/// What isn't logged after the last round is aborted, except exports of earlier phases. The orders of a rank for
 /// which there is no thread in the first round aren't started; what else it has to look after goes on by the calling
 /// thread.
 ///

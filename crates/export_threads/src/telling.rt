@@ -25,7 +25,7 @@ pub(crate) fn tell(cluster: &Cluster, standings: &[Standing], outcomes: &mut Vec
     }
 }
 
-// What became of an order, but for one that still waits, which no thread took up.
+// What became of an order, except one that still waits, which no thread took up.
 fn taken_up(cluster: &Cluster, standing: &Standing) -> Option<Outcome>
     ensures told { (first now : World) (order : TheOrder) → now.state.cluster ≡ cluster.now.world
         → IsAsked first now order standing.now → IsTold first now order (told_of result) }

@@ -61,7 +61,7 @@ fn ask<J: Naming, M: Publisher<J>, K: ExportPhase, R: Wait>(
     desk.imports.clear();
 }
 
-// Delivers the rank's messages, but for those about an export whose import is over.
+// Delivers the rank's messages, except those about an export whose import is over.
 fn take_messages<J: Naming, M: Publisher<J>, K: ExportPhase, R: Wait>(
     rt: &R,
     alloc: Global,

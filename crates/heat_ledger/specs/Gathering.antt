@@ -5,7 +5,7 @@ use Rattle.heat_ledger.specs.Rows.{at}
 use Rattle.heat_ledger.specs.Tally.{most, all_parts}
 use Rattle.heat_ledger.specs.Ledger.{ShareData, weight_of, hits_of, pending_of, begun_of, hit_slot, begun_slot}
 
--- an authority that had some parts and no amounts has taken back all of these shares but the rest
+-- an authority that had some parts and no amounts has taken back all of these shares except the rest
 pub record IsGathered (parts : ℕ) (state : TokenState) (all rest : List ShareData) : Type 0 where
   pub weights : state.parts + weight_of rest ≡ parts + weight_of all
   pub hits : (dir : ℕ) → at state.amounts (hit_slot dir) + hits_of rest dir ≡ hits_of all dir

@@ -37,6 +37,6 @@ is_visible bytes = tells_all (asked bytes)
 abbrev pub TellsNoMemory : ℕ → Answer → Type 0
 TellsNoMemory number a = (front back : List ℕ) → a.text ≡ front ++ (fault_text number (words Memory) ++ back) → ⊥
 
--- the answer is the one that is due, and so is the session after it, but that its map may not have been published
+-- the answer is the one that is due, and so is the session after it, except that its map may be unpublished
 abbrev pub IsSeenAs : Answer → SessionData → Answer × SessionData → Type 0
 IsSeenAs a new due = (a.text ≡ due.0.text) × (a.accepted ≡ due.0.accepted) × ((new ≡ due.1) ⊎ (published new ≡ due.1))

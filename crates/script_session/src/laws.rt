@@ -32,7 +32,7 @@ pub fn output_is_determined()
 
 /// A line's answer shows where memory ran out: if no line of it says `refused 0 Memory`, the answer to a line other
 /// than `go`, `plan` and `move` is a function of the session, the line's number and the line, and so is the session
-/// after it, but that its map may not have been published.
+/// after it, except that its map may not have been published.
 pub fn line_is_visible()
     ensures { (old new : SessionData) (number : ℕ) (line : List ℕ) (a : Answer) → is_sure line ≡ true
         → answers old number line a new → TellsNoMemory number a → IsSeenAs a new (answer_to old number line) }

@@ -189,7 +189,7 @@ const SAID: Settings<'static> = Settings {
     quiet: false,
 };
 
-/// How many of two answers are out of memory. All others are as ever.
+/// How many of two answers are out of memory. All others are as usual.
 fn refusals(rt: &impl Abort, alloc: Global) -> u32 {
     let mut without_memory = 0;
     match options(alloc, ACCEPTED) {
@@ -206,7 +206,7 @@ fn refusals(rt: &impl Abort, alloc: Global) -> u32 {
 }
 
 // With `rt try --test --fail-alloc N`, the N-th growth is refused: at most one answer is out of
-// memory, and all others are as ever.
+// memory, and all others are as usual.
 #[test]
 fn a_refused_growth_is_told(rt: HostRuntime) {
     let mut without_memory = 0u32;
