@@ -42,7 +42,7 @@ const CHAIN: &[Step] = &[
     Step::Remove(3),
 ];
 
-/// What is opened; the board; the first directory at rank 1, where all later ones are too; the mask of usable ranks;
+/// What is opened; the board; the first directory at rank 1, as are all later ones; the mask of usable ranks;
 /// the problem's rows and their directories.
 pub(crate) type Case = (
     &'static str,

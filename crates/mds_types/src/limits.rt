@@ -1,4 +1,4 @@
-//! The limits that types and contracts cite. Each is only here.
+//! The limits that types and contracts cite. Each is defined here only.
 
 /// How many metadata ranks a cluster can have.
 pub const RANK_LIMIT: u8 = 64;
