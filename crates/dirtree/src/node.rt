@@ -1,7 +1,7 @@
 //! The places of a tree's directories.
 //!
-//! A directory is in the chain of its parent and name, by falling numbers: the heads hold with which directory a
-//! chain begins, and each directory which one follows. The root is in no chain, so 0 ends one.
+//! A directory is in the chain of its parent and name, by falling numbers: a head names the directory with which its
+//! chain begins, and each directory names the next one. The root is in no chain, so 0 ends one.
 //!
 //! A look-up, a new directory and a removal each go through one chain at most. It mostly has one directory or none,
 //! unless names were picked that share a hash: in a tree with a secret key (`NameKey`) nobody can pick such names.
