@@ -1,4 +1,5 @@
 pub mod Amounts
+pub mod Check
 pub mod Json
 pub mod Moves
 pub mod Picture

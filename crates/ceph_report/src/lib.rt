@@ -2,6 +2,7 @@
 //! directories as a script of `mdbal`.
 #![tactic(auto)]
 
+pub mod check;
 pub mod facts;
 pub mod json;
 pub mod mdbal_script;
@@ -10,6 +11,7 @@ pub mod picture;
 pub mod report;
 mod text;
 
+pub use check::{PinCheck, check_pins};
 pub use facts::{Facts, hottest};
 pub use json::make_json;
 pub use mdbal_script::make_script;
