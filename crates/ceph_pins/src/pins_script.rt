@@ -30,7 +30,8 @@ const HEAD: &str = "#!/bin/sh
 # Sets CephFS export pins: new pins first, the deepest before those above it. Then it removes the pins of an earlier
 # plan that are no longer wanted, from the top down.
 # usage: sh FILE [-n]    With -n the script only prints what it would do.
-# Status 0: done. 1: another file system, a pin failed, or every directory is gone. 2: the command line is refused.
+# Status 0: done. 1: another file system, a pin failed, or more directories are gone than were changed. 2: the command
+# line is refused.
 LC_ALL=C; export LC_ALL
 only_print= changed=0 gone=0 failed=0
 case $#:${1-} in
@@ -72,7 +73,7 @@ fi
 /// The end of the script.
 const FOOT: &str = "[ -n \"$only_print\" ] ||
   printf '%s pins changed, %s directories gone, %s failed\\n' \"$changed\" \"$gone\" \"$failed\"
-[ \"$failed\" = 0 ] && { [ \"$gone\" = 0 ] || [ \"$changed\" != 0 ]; }
+[ \"$failed\" = 0 ] && [ \"$gone\" -le \"$changed\" ]
 ";
 
 /// The script of no change.

@@ -1,5 +1,5 @@
 -- What leads each directory, and the moves of all pins.
-use Rattle.std.proofs.Common.{◌≡◌, ◌∙◌, ◌+◌, ◌<◌, ◌≤◌, ◌-◌, ℕ, zero, suc, true, false, cond, List, [], ◌∷◌, ◌++◌, Option, Some, None, ap, arith, get_or, leb, length, refl, subst, sym, below_more, ⊎_elim}
+use Rattle.std.proofs.Common.{◌≡◌, ◌∙◌, ◌+◌, ◌<◌, ◌≤◌, ◌-◌, ℕ, zero, suc, Bool, true, false, cond, is_some, List, [], ◌∷◌, ◌++◌, Option, None, ap, arith, get_or, leb, length, refl, subst, sym, below_more, ⊎_elim}
 use Rattle.std.proofs.lemmas.Bool.{cases_Bool, leb-false}
 use Rattle.std.proofs.lemmas.List.{get_or_append_left, get_or_push, length_push}
 use Rattle.ceph_plan.specs.declared.row.PinRow.{PinRow}
@@ -11,7 +11,7 @@ use Rattle.ceph_snapshot.specs.declared.held.Held.{Held}
 use Rattle.ceph_snapshot.specs.Holding.{most_heat}
 use Rattle.ceph_report.specs.declared.moves.Brought.TheVariants.{Heat, Inodes}
 use Rattle.ceph_report.specs.declared.moves.Move.{Move}
-use Rattle.ceph_report.specs.Moves.{AreLeaders, AreMoves, brought_at, leader_of, moved_after, moves_below, pin_after, pin_move}
+use Rattle.ceph_report.specs.Moves.{AreLeaders, AreMoves, brought_at, is_pinned_after, leader_of, moved_after, moves_below, pin_after, pin_move}
 
 -- only leaders before directory i count
 unpinned_kept : (parent i x : ℕ) (xs : List ℕ) → i ≤ length xs → cond (leb i parent) i (get_or xs parent 0) ≡ cond (leb i parent) i (get_or (xs ++ x ∷ []) parent 0)
@@ -22,19 +22,19 @@ unpinned_kept parent i x xs inside =
     ap (λ (k : ℕ). cond (leb i parent) i k) (sym (get_or_append_left xs (x ∷ []) 0 parent (omega (arith, above, inside)))))
     (cases_Bool (leb i parent))
 
-leader_kept : (pin : Option ℕ) (parent i x : ℕ) (xs : List ℕ) → i ≤ length xs → leader_of pin parent i xs ≡ leader_of pin parent i (xs ++ x ∷ [])
-leader_kept None parent i x xs inside = unpinned_kept parent i x xs inside
-leader_kept (Some rank) parent i x xs inside = refl
+leader_kept : (leads : Bool) (parent i x : ℕ) (xs : List ℕ) → i ≤ length xs → leader_of leads parent i xs ≡ leader_of leads parent i (xs ++ x ∷ [])
+leader_kept false parent i x xs inside = unpinned_kept parent i x xs inside
+leader_kept true parent i x xs inside = refl
 
 -- one more leader
-pub leaders_more : (rows : List PinRow) (pins : ℕ → Option ℕ) (xs : List ℕ) (at x : ℕ) → AreLeaders rows pins at xs → x ≡ leader_of (pins at) (parent_at rows at) at xs → AreLeaders rows pins (at + 1) (xs ++ x ∷ [])
-leaders_more rows pins xs at x are is = record {
+pub leaders_more : (parent : ℕ → ℕ) (leads : ℕ → Bool) (xs : List ℕ) (at x : ℕ) → AreLeaders parent leads at xs → x ≡ leader_of (leads at) (parent at) at xs → AreLeaders parent leads (at + 1) (xs ++ x ∷ [])
+leaders_more parent leads xs at x are is = record {
   size = length_push xs x ∙ ap (λ (n : ℕ). n + 1) are.size;
-  led = below_more (λ (i : ℕ). get_or (xs ++ x ∷ []) i 0 ≡ leader_of (pins i) (parent_at rows i) i (xs ++ x ∷ [])) at
+  led = below_more (λ (i : ℕ). get_or (xs ++ x ∷ []) i 0 ≡ leader_of (leads i) (parent i) i (xs ++ x ∷ [])) at
       (λ i before.
       get_or_append_left xs (x ∷ []) 0 i (omega (arith, before, are.size))
-      ∙ (are.led i before ∙ leader_kept (pins i) (parent_at rows i) i x xs (omega (arith, before, are.size))))
-      (get_or_push xs x 0 at are.size ∙ (is ∙ leader_kept (pins at) (parent_at rows at) at x xs (omega (arith, are.size))));
+      ∙ (are.led i before ∙ leader_kept (leads i) (parent i) i x xs (omega (arith, before, are.size))))
+      (get_or_push xs x 0 at are.size ∙ (is ∙ leader_kept (leads at) (parent at) at x xs (omega (arith, are.size))));
 }
 
 pub above_more : (xs : List ℕ) (at x : ℕ) → length xs ≡ at → ((i : ℕ) → i < at → get_or xs i 0 ≤ i) → x ≤ length xs → (i : ℕ) → i < at + 1 → get_or (xs ++ x ∷ []) i 0 ≤ i
@@ -44,10 +44,10 @@ above_more xs at x size above last =
     (omega (arith, get_or_push xs x 0 at size, last, size))
 
 -- with the same pins
-pub leaders_same : (rows : List PinRow) (pins others : ℕ → Option ℕ) (n : ℕ) (xs : List ℕ) → ((i : ℕ) → i < n → pins i ≡ others i) → AreLeaders rows pins n xs → AreLeaders rows others n xs
-leaders_same rows pins others n xs same are = record {
+pub leaders_same : (parent : ℕ → ℕ) (leads others : ℕ → Bool) (n : ℕ) (xs : List ℕ) → ((i : ℕ) → i < n → leads i ≡ others i) → AreLeaders parent leads n xs → AreLeaders parent others n xs
+leaders_same parent leads others n xs same are = record {
   size = are.size;
-  led = λ i below. are.led i below ∙ ap (λ (pin : Option ℕ). leader_of pin (parent_at rows i) i xs) (same i below);
+  led = λ i below. are.led i below ∙ ap (λ (one : Bool). leader_of one (parent i) i xs) (same i below);
 }
 
 -- the same moves
@@ -61,7 +61,7 @@ moves_same f g (suc n) same =
 pub are_moves : (directories : List Directory) (holds : List Held) (rows : List PinRow) (changes : List PinChange) (pins : List (Option ℕ)) (leaders inodes heats : List ℕ) (moves sorted : List Move)
     → length pins ≡ length rows
     → ((i : ℕ) → i < length rows → get_or pins i None ≡ pin_after rows changes i)
-    → AreLeaders rows (λ (i : ℕ). get_or pins i None) (length rows) leaders
+    → AreLeaders (parent_at rows) (λ (i : ℕ). is_some (get_or pins i None)) (length rows) leaders
     → ((i : ℕ) → i < length rows → get_or inodes i 0 ≡ brought_at Inodes directories holds rows leaders i)
     → ((i : ℕ) → i < length rows → get_or heats i 0 ≡ brought_at Heat directories holds rows leaders i)
     → moves ≡ moves_below (λ (i : ℕ). pin_move (get_or pins i None) (get_or inodes i 0) (get_or heats i 0) i) (length pins)
@@ -80,7 +80,7 @@ are_moves directories holds rows changes pins leaders inodes heats moves sorted 
     is ∙ (ap (λ (n : ℕ). moves_below made n) size ∙ moves_same made meant (length rows) each) in
     record {
       leaders = leaders;
-      led = leaders_same rows (λ (i : ℕ). get_or pins i None) (pin_after rows changes) (length rows) leaders pinned led;
+      led = leaders_same (parent_at rows) (λ (i : ℕ). is_some (get_or pins i None)) (is_pinned_after rows changes) (length rows) leaders (λ i below. ap (λ (pin : Option ℕ). is_some pin) (pinned i below)) led;
       each = subst (λ (ones : List Move). IsPermutation ones sorted) all permuted;
       most_first = first;
     }

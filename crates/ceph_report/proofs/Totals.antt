@@ -1,5 +1,5 @@
 -- A number for each rank, while what goes to one of them is added.
-use Rattle.std.proofs.Common.{◌≡◌, ◌≢◌, ◌<◌, ◌+◌, ◌∙◌, ℕ, List, cond, eqb, get_or, length, length-set, min, refl, set, slice_get, suc, Option, Some, ap, arith, sym, ⊎_elim}
+use Rattle.std.proofs.Common.{◌≡◌, ◌≢◌, ◌<◌, ◌+◌, ◌∙◌, ℕ, List, cond, eqb, get_or, length, length-set, min, refl, set, slice_get, suc, Option, Some, None, is_some, ap, arith, sym, ⊎_elim}
 use Rattle.std.specs.Option.{option_map_or}
 use Rattle.std.proofs.lemmas.Bool.{cases_eq, eq-eqb, ne_eqb}
 use Rattle.std.proofs.lemmas.List.{get_or-set_other, get_or-set_same}
@@ -9,6 +9,7 @@ use Rattle.ceph_snapshot.specs.Holding.{held_at, inodes_at, most_heat, now_at}
 use Rattle.ceph_plan.specs.declared.row.PinRow.{PinRow}
 use Rattle.ceph_report.specs.Amounts.{AreAmounts, going_at, going_of, inodes_from, inodes_to}
 use Rattle.ceph_report.specs.Moves.{brought_by, leaving_at}
+use Rattle.ceph_report.specs.Staying.{followers, follows, has_policy_at}
 use Rattle.ceph_report.specs.declared.moves.Brought.{Brought}
 
 capped : (f x : ℕ) → min most_heat (min most_heat f + x) ≡ min most_heat (f + x)
@@ -71,3 +72,13 @@ pub brought_step : (what : Brought) (directories : List Directory) (holds : List
 brought_step what directories holds rows leaders r at leader more is amount =
     let next : at + 1 ≡ suc at = omega arith in
     rw (next, is, amount) refl
+
+-- what one directory more adds to those that another leads
+pub followers_step : (leaders : List ℕ) (r at leader more : ℕ) → leader ≡ get_or leaders at 0 → more ≡ follows leaders at
+    → followers leaders (at + 1) r ≡ followers leaders at r + cond (eqb leader r) more 0
+followers_step leaders r at leader more is amount =
+    let next : at + 1 ≡ suc at = omega arith in
+    rw (next, is, amount) refl
+
+pub policy_is : (directories : List Directory) (at : ℕ) (directory : Directory) → slice_get directories at ≡ Some directory → is_some directory.policy ≡ has_policy_at directories at
+policy_is directories at directory read = sym (ap (λ (found : Option Directory). is_some (option_map_or (λ (d : Directory). d.policy) found None)) read)

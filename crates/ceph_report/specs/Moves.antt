@@ -1,5 +1,5 @@
 -- What each pin of this program brings to its rank once changes of pins are made.
-use Rattle.std.specs.Prelude.{◌≡◌, ◌==◌, ◌<◌, ◌-◌, ◌++◌, ◌||◌, ℕ, zero, suc, is_some, List, [], ◌∷◌}
+use Rattle.std.specs.Prelude.{◌≡◌, ◌==◌, ◌<◌, ◌-◌, ◌++◌, ◌||◌, ℕ, zero, suc, Bool, is_some, List, [], ◌∷◌}
 use Rattle.std.specs.Prelude.{length, min, nat_le, slice_index, Option, Some, None, if◌then◌else◌}
 use Rattle.std.specs.List.Sorted.{IsNonDecreasingBy, IsPermutation}
 use Rattle.mds_types.specs.Sums.{sum_below}
@@ -20,14 +20,16 @@ use Rattle.ceph_report.specs.declared.moves.Move.{Move}
 abbrev pub pin_after : List PinRow → List PinChange → ℕ → Option ℕ
 pin_after rows changes i = applied (earlier_pin rows) changes i
 
--- what leads directory i, which has this pin and this parent: itself, or else what leads its parent; itself where
--- nothing above has a pin
-abbrev pub leader_of : Option ℕ → ℕ → ℕ → List ℕ → ℕ
-leader_of pin parent i leaders = if is_some pin || nat_le i parent then i else slice_index leaders parent
+abbrev pub is_pinned_after : List PinRow → List PinChange → ℕ → Bool
+is_pinned_after rows changes i = is_some (pin_after rows changes i)
 
-pub record AreLeaders (rows : List PinRow) (pins : ℕ → Option ℕ) (n : ℕ) (leaders : List ℕ) : Type 0 where
+-- what leads directory i, which has this parent: itself where it leads, or else what leads its parent
+abbrev pub leader_of : Bool → ℕ → ℕ → List ℕ → ℕ
+leader_of leads parent i leaders = if leads || nat_le i parent then i else slice_index leaders parent
+
+pub record AreLeaders (parent : ℕ → ℕ) (leads : ℕ → Bool) (n : ℕ) (leaders : List ℕ) : Type 0 where
   pub size : length leaders ≡ n
-  pub led : (i : ℕ) → i < n → slice_index leaders i ≡ leader_of (pins i) (parent_at rows i) i leaders
+  pub led : (i : ℕ) → i < n → slice_index leaders i ≡ leader_of (leads i) (parent i) i leaders
 
 -- what directory i has, and how much of it goes to another rank
 abbrev pub brought_amount : Brought → List Directory → ℕ → ℕ
@@ -66,7 +68,7 @@ moves_below move (suc n) = moved_after (moves_below move n) (move n)
 pub record AreMoves (directories : List Directory) (holds : List Held) (rows : List PinRow) (changes : List PinChange)
     (moves : List Move) : Type 0 where
   pub leaders : List ℕ
-  pub led : AreLeaders rows (pin_after rows changes) (length rows) leaders
+  pub led : AreLeaders (parent_at rows) (is_pinned_after rows changes) (length rows) leaders
   pub each : IsPermutation
       (moves_below
       (λ i. pin_move (pin_after rows changes i) (brought_at Inodes directories holds rows leaders i)

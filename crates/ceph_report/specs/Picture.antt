@@ -1,7 +1,9 @@
 -- The numbers in the picture.
-use Rattle.std.specs.Prelude.{◌*◌, ◌/◌, ◌%◌, ◌++◌, ℕ, List, [], codes}
+use Rattle.std.specs.Prelude.{◌*◌, ◌/◌, ◌%◌, ◌++◌, ℕ, List, [], codes, Option, Some, None}
 use Rattle.ceph_snapshot.specs.declared.directory.Directory.{Directory}
+use Rattle.ceph_report.specs.Staying.{stay_text}
 use Rattle.ceph_report.specs.Text.{field}
+use Rattle.ceph_report.specs.declared.staying.Stay.{Stay}
 
 unfoldable pub hundredths_text : List ℕ → ℕ → List ℕ
 hundredths_text label hundredths =
@@ -18,6 +20,11 @@ hover_text directory heat inodes rank =
     field (codes "\nrank ") rank ++ field (codes ", now ") directory.now
     ++ field (codes "\nheat ") (directory.heat / 1000) ++ field (codes ", with what is below ") (heat / 1000)
     ++ field (codes "\ninodes ") directory.inodes ++ field (codes ", with what is below ") inodes
+
+-- and why it is left where it is
+abbrev pub hover_stay : Option Stay → List ℕ
+hover_stay None = []
+hover_stay (Some stay) = codes "\n" ++ stay_text stay
 
 -- what is shown of the children together that have no box of their own
 unfoldable pub rest_text : ℕ → ℕ → ℕ → List ℕ

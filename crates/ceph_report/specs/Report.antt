@@ -1,13 +1,14 @@
 -- The report, byte by byte.
-use Rattle.std.specs.Prelude.{◌==◌, ◌&&◌, ◌-◌, ◌++◌, ℕ, Bool, List, [], codes, length, min, nat_lt, not}
-use Rattle.std.specs.Prelude.{is_some, slice_get, Option, Some, None, if◌then◌else◌}
+use Rattle.std.specs.Prelude.{◌==◌, ◌-◌, ◌++◌, ℕ, Bool, List, [], codes, length, min, nat_lt, not}
+use Rattle.std.specs.Prelude.{slice_get, slice_index_or, Option, Some, None, if◌then◌else◌}
 use Rattle.mds_types.specs.RankSet.{has_rank}
 use Rattle.mds_types.specs.Sums.{count_below}
 use Rattle.mds_types.specs.declared.limits.TheConstants.{HEAT_LIMIT}
 use Rattle.ceph_pins.specs.PinsScript.{path_at}
 use Rattle.ceph_snapshot.specs.declared.directory.Directory.{Directory}
-use Rattle.ceph_snapshot.specs.Holding.{heat_at, is_spread_at}
+use Rattle.ceph_snapshot.specs.Holding.{heat_at}
 use Rattle.ceph_snapshot.specs.Shown.{shown_path}
+use Rattle.ceph_report.specs.Staying.{is_left, stay_text}
 use Rattle.ceph_report.specs.Text.{columns, field, heat_text, lines_below, per_mille, percent_text}
 use Rattle.ceph_report.specs.Told.{bound_term, free_heat, hottest_place}
 use Rattle.ceph_report.specs.Told.{hottest_bound, hottest_now, hottest_planned, into_of, is_told, now_of, out_of}
@@ -17,6 +18,7 @@ use Rattle.ceph_report.specs.declared.facts.BoundTerm.TheVariants.{Hottest, Mean
 use Rattle.ceph_report.specs.declared.facts.Facts.{Facts}
 use Rattle.ceph_report.specs.declared.moves.Move.{Move}
 use Rattle.ceph_report.specs.declared.report.TheConstants.{CAVEAT, LINES_EACH, NOTHING}
+use Rattle.ceph_report.specs.declared.staying.Stay.{Stay}
 
 unfoldable pub hot_count : List Directory → ℕ
 hot_count directories = count_below (length directories) (λ i. nat_lt 0 (heat_at directories i))
@@ -130,36 +132,26 @@ absent_line facts r = if length (absence facts r) == 0 then [] else field (codes
 unfoldable pub absent_lines : Facts → List ℕ
 absent_lines facts = lines_below (absent_line facts) facts.size
 
--- why a directory is left where it is, if others decide about it
-unfoldable pub reason : List Directory → Directory → List ℕ
-reason directories one =
-    if is_some one.policy then codes "has a policy of ephemeral pins, and is left where it is: "
-    else if is_some one.idle
-    then codes "pinned by others to a rank that is not there, and left where it is: "
-    else if one.is_spread && not (is_spread_at directories one.parent)
-    then codes "spread over several ranks, and left where it is: "
-    else []
+-- the line of a directory that is left where it is
+unfoldable pub left_line : List Directory → Stay → ℕ → List ℕ
+left_line directories stay i = stay_text stay ++ codes ": " ++ place_text directories i
 
-abbrev pub reason_at : List Directory → Option Directory → List ℕ
-reason_at directories None = []
-reason_at directories (Some one) = reason directories one
+abbrev pub left_line_if : List Directory → Option Stay → ℕ → List ℕ
+left_line_if directories None i = []
+left_line_if directories (Some stay) i = left_line directories stay i
 
-abbrev pub is_left : List Directory → ℕ → Bool
-is_left directories i = not (length (reason_at directories (slice_get directories i)) == 0)
+-- where so many are before it; the first 40 have one
+unfoldable pub left_text : List Directory → List (Option Stay) → ℕ → ℕ → List ℕ
+left_text directories stays i before =
+    if nat_lt before LINES_EACH then left_line_if directories (slice_index_or stays i None) i else []
 
--- the line of a directory that is left where it is, where so many are before it; the first 40 have one
-unfoldable pub left_text : List Directory → ℕ → ℕ → List ℕ
-left_text directories i before =
-    if is_left directories i && nat_lt before LINES_EACH
-    then reason_at directories (slice_get directories i) ++ place_text directories i else []
+abbrev pub left_entry : List Directory → List (Option Stay) → ℕ → List ℕ
+left_entry directories stays i = left_text directories stays i (count_below i (is_left stays))
 
-abbrev pub left_line : List Directory → ℕ → List ℕ
-left_line directories i = left_text directories i (count_below i (is_left directories))
-
-unfoldable pub left_lines : List Directory → List ℕ
-left_lines directories =
-    lines_below (left_line directories) (length directories)
-    ++ more_line (count_below (length directories) (is_left directories) - LINES_EACH)
+unfoldable pub left_lines : List Directory → List (Option Stay) → List ℕ
+left_lines directories stays =
+    lines_below (left_entry directories stays) (length stays)
+    ++ more_line (count_below (length stays) (is_left stays) - LINES_EACH)
     (codes " more that are left where they are\n")
 
 -- the line of a directory that is hotter than a plan can count
@@ -183,7 +175,7 @@ plan_text facts =
 -- what was left out, or has no single rank
 unfoldable pub left_out : Facts → List ℕ
 left_out facts =
-    folded_line facts.folded ++ absent_lines facts ++ left_lines facts.directories.now
+    folded_line facts.folded ++ absent_lines facts ++ left_lines facts.directories.now facts.stays.now
     ++ capped_lines facts.directories.now
 
 unfoldable pub report : Facts → Bool → List ℕ

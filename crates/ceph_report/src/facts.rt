@@ -5,6 +5,7 @@ ghost use Rattle.ceph_report.specs.Told.{bound_term, free_heat, hottest, hottest
 ghost use Rattle.ceph_report.specs.Told.{hottest_place, hottest_planned, is_told, least_pinned, single_load};
 
 use crate::moves::{Move, Sums};
+use crate::staying::Stay;
 use ceph_plan::Planned;
 use ceph_snapshot::{Directory, Held};
 use mds_types::limits::{HEAT_LIMIT, RANK_LIMIT};
@@ -37,6 +38,8 @@ pub struct Facts<'a> {
     pub pinned: &'a [u64],
     /// What each new pin brings.
     pub moves: &'a [Move],
+    /// Of each directory whether it is left where it is, and why.
+    pub stays: &'a [Option<Stay>],
     /// How many changes of pins there are.
     pub changes: usize,
     /// How many pins of an earlier plan stand as they are.

@@ -1,18 +1,23 @@
 //! The plan as JSON, for programs.
 //!
 //! A path needn't be UTF-8: each of its bytes is one character there, U+0000 to U+00FF. Heat is in thousandths.
-ghost use Rattle.std.specs.Prelude.{◌≡◌, ◌<◌, ◌≤◌, ◌+◌, ◌++◌, OnOk, IfOk, length, slice_get, if◌then◌else◌};
+ghost use Rattle.std.specs.Prelude.{◌≡◌, ◌<◌, ◌≤◌, ◌+◌, ◌++◌, None, OnOk, IfOk, length, slice_get};
+ghost use Rattle.std.specs.Prelude.{slice_index_or, if◌then◌else◌};
 ghost use Rattle.ceph_pins.specs.PinsScript.{path_at, pin_text};
 ghost use Rattle.ceph_report.specs.Json.{bound_members, inode_numbers, json, part_list, part_member, pin_list};
 ghost use Rattle.ceph_report.specs.Json.{pin_member, pin_object, plan_head, plan_numbers, plan_totals, rank_entry};
 ghost use Rattle.ceph_report.specs.Json.{rank_list, rank_numbers, rank_object, term_name, truth};
+ghost use Rattle.ceph_report.specs.Json.{reason_name, stay_entry, stay_list, stay_object};
+ghost use Rattle.ceph_report.specs.Staying.{is_left};
 ghost use Rattle.ceph_report.specs.Text.{json_string};
 ghost use Rattle.ceph_report.specs.Told.{is_told};
 
 use crate::facts::{BoundTerm, Facts, number_at};
+use crate::staying::{Reason, Stay};
+use crate::staying_text::stay_in;
 use crate::text::{comma, push_number, push_string, push_text};
 use ceph_plan::PinChange;
-use ceph_snapshot::Directory;
+use ceph_snapshot::{Directory, EphemeralPin};
 use mds_types::Rank;
 use mds_types::limits::RANK_LIMIT;
 use std::alloc::{AllocError, Global};
@@ -164,6 +169,77 @@ fn push_parts(text: &mut Vec<u8>, ranks: &[Rank]) -> Result<(), AllocError>
     Ok(())
 }
 
+/// What a reason is called.
+fn reason_name(why: Reason) -> &'static str
+    ensures { result.now ≡ reason_name why }
+{
+    match why {
+        Reason::Policy(EphemeralPin::Distributed) => "distributed",
+        Reason::Policy(EphemeralPin::Random) => "random",
+        Reason::Policy(EphemeralPin::Unknown) => "ephemeral",
+        Reason::Absent => "absent_rank",
+        Reason::Spread => "several_ranks",
+    }
+}
+
+/// Adds a directory that is left where it is.
+#[tactic(auto, unfolding(crate::specs::Json::stay_object))]
+fn push_stay(
+    text: &mut Vec<u8>,
+    directories: &[Directory],
+    stay: Stay,
+    at: usize,
+) -> Result<(), AllocError>
+    ensures { OnOk result (text.new.items ≡ text.old.items ++ stay_object directories.now stay at) }
+{
+    push_text(text, "\n  {\"path\":")?;
+    push_place(text, directories, at)?;
+    push_text(text, ",\"why\":\"")?;
+    push_text(text, reason_name(stay.why))?;
+    push_number(text, "\",\"below\":", stay.below)?;
+    push_text(text, "}")
+}
+
+/// Adds a directory if it is left where it is, behind so many others. Gives how many there are now.
+#[tactic(auto, unfolding(crate::specs::Json::stay_entry))]
+fn push_left(
+    text: &mut Vec<u8>,
+    directories: &[Directory],
+    stays: &[Option<Stay>],
+    at: usize,
+    before: usize,
+) -> Result<usize, AllocError>
+    requires inside { at < length stays.now }
+    requires few { before ≤ at }
+    ensures member { OnOk result (text.new.items
+        ≡ text.old.items ++ stay_entry directories.now (slice_index_or stays.now at None) at before) }
+    ensures count { IfOk result (λ count. count ≡ before + (if is_left stays.now at then 1 else 0)) }
+{
+    let Some(stay) = stay_in(stays, at) else {
+        return Ok(before);
+    };
+    push_text(text, comma(before))?;
+    push_stay(text, directories, stay, at)?;
+    Ok(before + 1)
+}
+
+/// Adds the directories that are left where they are.
+#[tactic(auto, unfolding(crate::specs::Json::stay_list))]
+fn push_stays(
+    text: &mut Vec<u8>,
+    directories: &[Directory],
+    stays: &[Option<Stay>],
+) -> Result<(), AllocError>
+    ensures { OnOk result (text.new.items ≡ text.old.items ++ stay_list directories.now stays.now) }
+{
+    push_text(text, "],\n\"left\":[")?;
+    let mut count = 0usize;
+    for at in 0..stays.len() {
+        count = push_left(text, directories, stays, at, count)?;
+    }
+    Ok(())
+}
+
 /// Adds the rank of a pin, -1 where it is taken away.
 #[tactic(auto, unfolding(crate::specs::Text::field))]
 fn push_pin_rank(text: &mut Vec<u8>, pin: Option<Rank>) -> Result<(), AllocError>
@@ -237,7 +313,7 @@ fn push_pins(
     push_text(text, "]}\n")
 }
 
-/// The plan as JSON: bound, loads, the rank of each part, and the changes of pins.
+/// The plan as JSON: bound, loads, the rank of each part, what is left where it is, and the changes of pins.
 #[tactic(auto, unfolding(crate::specs::Json::json))]
 pub fn make_json(
     alloc: Global,
@@ -252,6 +328,7 @@ pub fn make_json(
     push_numbers(&mut text, facts)?;
     push_ranks(&mut text, facts)?;
     push_parts(&mut text, &facts.plan.packing.rank)?;
+    push_stays(&mut text, facts.directories, facts.stays)?;
     push_pins(&mut text, facts.directories, changes)?;
     Ok(text)
 }

@@ -8,7 +8,10 @@ pub mod json;
 pub mod mdbal_script;
 pub mod moves;
 pub mod picture;
+mod places;
 pub mod report;
+pub mod staying;
+pub mod staying_text;
 mod text;
 
 pub use check::{PinCheck, check_pins};
@@ -18,3 +21,4 @@ pub use mdbal_script::make_script;
 pub use moves::{Move, Sums, goals_of, moves_of, sums_of};
 pub use picture::make_picture;
 pub use report::make_report;
+pub use staying::{Stay, stays_of};

@@ -1,6 +1,8 @@
 //! What goes where: heat and inodes by rank, and by pin.
 
-ghost use Rattle.std.specs.Prelude.{◌≡◌, ◌==◌, ◌&&◌, ◌<◌, ◌≤◌, ◌+◌, not, length, slice_index, slice_index_or, IfOk, ℕ};
+ghost use Rattle.std.specs.Prelude.{◌≡◌, ◌==◌, ◌&&◌, ◌<◌, ◌≤◌, ◌+◌, is_some, not, length, slice_index, IfOk};
+ghost use Rattle.std.specs.Prelude.{None, slice_index_or, ℕ};
+ghost use Rattle.ceph_plan.specs.Rule.{parent_at};
 ghost use Rattle.ceph_snapshot.specs.Rows.{is_free};
 ghost use Rattle.ceph_report.specs.Amounts.{AreAmounts, goal_at, goal_of, going_of, heat_now, inodes_from, inodes_to};
 ghost use Rattle.ceph_report.specs.Moves.{AreLeaders, AreMoves, brought_at, leader_of, leaving_at, moves_below};
@@ -169,30 +171,31 @@ pub struct Move {
     pub to: Rank,
 }
 
-/// The place of the directory whose pin leads the next directory, where `leaders` has those before it, `pin` is its own
-/// pin and `parent` its parent's place; its own place where nothing at or above it has a pin.
-fn leader(leaders: &[usize], pin: Option<Rank>, parent: usize) -> usize
+/// The place of the directory that leads the next one, where `leaders` has those of the directories before it and
+/// `parent` is its parent's place: its own place where it leads.
+pub(crate) fn leader(leaders: &[usize], leads: bool, parent: usize) -> usize
     requires { (i : ℕ) → i < length leaders.now → slice_index leaders.now i ≤ i }
-    ensures is { result ≡ leader_of pin parent (length leaders.now) leaders.now }
+    ensures is { result ≡ leader_of leads parent (length leaders.now) leaders.now }
     ensures above { result ≤ length leaders.now }
 {
-    if pin.is_some() || parent >= leaders.len() {
+    if leads || parent >= leaders.len() {
         leaders.len()
     } else {
         leaders[parent]
     }
 }
 
-/// The place of the directory whose pin leads each directory.
+/// The place of the directory whose pin leads each directory; the root's where there is none.
 fn leaders(alloc: Global, rows: &[PinRow], pins: &[Option<Rank>]) -> Result<Vec<usize>, AllocError>
     requires { length pins.now ≡ length rows.now }
-    ensures led { IfOk result (λ leaders. AreLeaders rows.now (λ i. slice_index_or pins.now i None) (length rows.now)
-        leaders.items) }
+    ensures led { IfOk result (λ leaders. AreLeaders (parent_at rows.now)
+        (λ i. is_some (slice_index_or pins.now i None)) (length rows.now) leaders.items) }
     ensures above { IfOk result (λ leaders. (i : ℕ) → i < length rows.now → slice_index leaders.items i ≤ i) }
 {
     let mut leaders = Vec::with_capacity(alloc, rows.len())?;
     for at in 0..rows.len() {
-        let one = leader(&leaders, pins[at], rows[at].parent as usize);
+        let is_pinned = pins[at].is_some();
+        let one = leader(&leaders, is_pinned, rows[at].parent as usize);
         leaders.push(one)?;
     }
     Ok(leaders)

@@ -3,19 +3,16 @@
 //! go, a stripe at the foot has the colour of the rank that has it now. The children of a directory that are too cold
 //! for boxes of their own have a grey one together, behind the others. The last row says which colour a rank has.
 ghost use Rattle.std.specs.Prelude.{◌≡◌, ◌++◌, OnOk};
-ghost use Rattle.ceph_report.specs.Picture.{colour_text, hundredths_text, hover_text, rest_text};
+ghost use Rattle.ceph_report.specs.Picture.{colour_text, hundredths_text, hover_stay, hover_text, rest_text};
 
+use crate::places::{LEAST_WIDTH, Place, Rest, WIDTH, all_heat, places_of, width_of};
+use crate::staying::Stay;
+use crate::staying_text::push_stay;
 use crate::text::{push_number, push_path, push_text};
 use ceph_snapshot::Directory;
 use mds_types::limits::RANK_LIMIT;
 use mds_types::{Rank, RankSet};
 use std::alloc::{AllocError, Global};
-
-/// The width of the root's box, in hundredths of a pixel.
-const WIDTH: u64 = 140_000;
-
-/// The width below which a directory has no box of its own, in hundredths of a pixel.
-const LEAST_WIDTH: u64 = 100;
 
 /// The height of a box, in pixels.
 const HEIGHT: u64 = 18;
@@ -28,147 +25,6 @@ const KEY_WIDTH: u64 = 6_000;
 
 /// The width of a character, in hundredths of a pixel.
 const CHARACTER: u64 = 680;
-
-/// Where a directory's box is.
-#[derive(Clone, Copy)]
-struct Place {
-    /// The heat at and below the directory, in thousandths.
-    heat: u64,
-    /// Its inodes and those below.
-    inodes: u64,
-    /// How far from the left, and how wide, in hundredths of a pixel.
-    left: u64,
-    width: u64,
-    /// How much of the width its children have taken.
-    taken: u64,
-    /// How many boxes are above it.
-    depth: u64,
-    /// How many directories there are at and below it.
-    count: u64,
-    /// What its children come to that have no box of their own.
-    rest: Rest,
-}
-
-/// What the children of a directory come to that have no box of their own, with all below them.
-#[derive(Clone, Copy)]
-struct Rest {
-    count: u64,
-    heat: u64,
-    inodes: u64,
-}
-
-/// No such children.
-const NO_REST: Rest = Rest {
-    count: 0,
-    heat: 0,
-    inodes: 0,
-};
-
-/// Adds what is at and below a directory to its parent.
-fn add_below(places: &mut [Place], at: usize, parent: usize) {
-    let Some(place) = places.get(at).copied() else {
-        return;
-    };
-    if let Some(above) = places.get_mut(parent) {
-        above.heat = above.heat.saturating_add(place.heat);
-        above.inodes = above.inodes.saturating_add(place.inodes);
-        above.count = above.count.saturating_add(place.count);
-    }
-}
-
-/// Where nothing is yet, with what each directory has itself.
-fn unplaced(alloc: Global, directories: &[Directory]) -> Result<Vec<Place>, AllocError> {
-    let mut places = Vec::with_capacity(alloc, directories.len())?;
-    for directory in directories {
-        places.push(Place {
-            heat: directory.heat,
-            inodes: directory.inodes,
-            left: 0,
-            width: 0,
-            taken: 0,
-            depth: 0,
-            count: 1,
-            rest: NO_REST,
-        })?;
-    }
-    Ok(places)
-}
-
-/// Adds to each directory the heat and the inodes below it.
-fn add_all_below(places: &mut [Place], directories: &[Directory]) {
-    for at in (1..directories.len()).rev() {
-        add_below(places, at, directories[at].parent as usize);
-    }
-}
-
-/// The part of the width that a heat has of all.
-fn width_of(heat: u64, all: u64) -> u64 {
-    if all == 0 {
-        return 0;
-    }
-    if all < 1 << 40 {
-        heat.saturating_mul(WIDTH) / all
-    } else {
-        heat / (all / WIDTH)
-    }
-}
-
-/// Adds a directory that is too cold for a box to what its siblings without one come to.
-fn add_rest(above: &mut Place, place: Place) {
-    above.rest = Rest {
-        count: above.rest.count.saturating_add(place.count),
-        heat: above.rest.heat.saturating_add(place.heat),
-        inodes: above.rest.inodes.saturating_add(place.inodes),
-    };
-}
-
-/// Puts a directory's box behind those of its siblings, if it is wide enough for one.
-fn put(places: &mut [Place], at: usize, parent: usize, all: u64) {
-    let (Some(above), Some(mut place)) = (places.get(parent).copied(), places.get(at).copied())
-    else {
-        return;
-    };
-    place.width = width_of(place.heat, all);
-    place.left = above.left.saturating_add(above.taken);
-    place.depth = above.depth.saturating_add(1);
-    if let Some(there) = places.get_mut(at) {
-        *there = place;
-    }
-    if let Some(above) = places.get_mut(parent) {
-        if place.width < LEAST_WIDTH {
-            add_rest(above, place);
-        } else {
-            above.taken = above.taken.saturating_add(place.width);
-        }
-    }
-}
-
-/// The heat of all directories, which is at and below the root.
-fn all_heat(places: &[Place]) -> u64 {
-    match places.first() {
-        Some(root) => root.heat,
-        None => 0,
-    }
-}
-
-/// Puts the box of each directory below that of its parent.
-fn put_all(places: &mut [Place], directories: &[Directory]) {
-    let all = all_heat(places);
-    for at in 1..directories.len() {
-        put(places, at, directories[at].parent as usize, all);
-    }
-}
-
-/// Where the box of each directory is.
-fn places_of(alloc: Global, directories: &[Directory]) -> Result<Vec<Place>, AllocError> {
-    let mut places = unplaced(alloc, directories)?;
-    add_all_below(places.as_mut_slice(), directories);
-    if let Some(root) = places.as_mut_slice().first_mut() {
-        root.width = WIDTH;
-    }
-    put_all(places.as_mut_slice(), directories);
-    Ok(places)
-}
 
 /// The last name of a path.
 fn name_of(path: &[u8]) -> &[u8] {
@@ -250,6 +106,17 @@ fn push_label(text: &mut Vec<u8>, frame: Frame) -> Result<(), AllocError> {
     push_text(text, "\">")
 }
 
+/// Adds the line that is shown on hover where a directory is left where it is.
+fn push_hover_stay(text: &mut Vec<u8>, stay: Option<Stay>) -> Result<(), AllocError>
+    ensures { OnOk result (text.new.items ≡ text.old.items ++ hover_stay stay) }
+{
+    let Some(stay) = stay else {
+        return Ok(());
+    };
+    push_text(text, "\n")?;
+    push_stay(text, stay)
+}
+
 /// Adds the numbers that are shown on hover.
 #[tactic(auto, unfolding(crate::specs::Picture::hover_text))]
 fn push_hover(
@@ -318,6 +185,7 @@ fn push_box(
     push_text(text, "<g><title>")?;
     push_xml(text, alloc, &directory.path, usize::MAX)?;
     push_hover(text, directory, place, rank)?;
+    push_hover_stay(text, place.stay)?;
     push_text(text, "</title>\n")?;
     push_frame(text, frame)?;
     push_colour(text, rank)?;
@@ -490,13 +358,15 @@ fn ranks_of(directories: &[Directory], ranks: &[Rank]) -> RankSet {
     RankSet::from_bits(bits)
 }
 
-/// The picture, as SVG. `ranks[i]` is the rank that directory i is to be at.
+/// The picture, as SVG. `ranks[i]` is the rank that directory i is to be at, and `stays[i]` whether it is left where it
+/// is.
 pub fn make_picture(
     alloc: Global,
     directories: &[Directory],
     ranks: &[Rank],
+    stays: &[Option<Stay>],
 ) -> Result<Vec<u8>, AllocError> {
-    let places = places_of(alloc, directories)?;
+    let places = places_of(alloc, directories, stays)?;
     let foot = levels(&places).saturating_mul(HEIGHT);
     let mut text = Vec::new(alloc);
     push_head(&mut text, foot.saturating_add(HEIGHT))?;

@@ -1,16 +1,17 @@
 //! The report, for people.
 ghost use Rattle.std.specs.Prelude.{◌≡◌, ◌<◌, ◌≤◌, ◌+◌, ◌++◌, OnOk, IfOk, length, nat_lt, slice_get, if◌then◌else◌};
 ghost use Rattle.mds_types.specs.declared.limits.TheConstants.{HEAT_LIMIT};
-ghost use Rattle.ceph_snapshot.specs.Holding.{heat_at, is_spread_at};
+ghost use Rattle.ceph_snapshot.specs.Holding.{heat_at};
 ghost use Rattle.ceph_report.specs.Report.{absence, absent_line, absent_lines, bound_lines, brought_line};
 ghost use Rattle.ceph_report.specs.Report.{brought_lines, brought_text, capped_line, capped_lines, capped_text};
 ghost use Rattle.ceph_report.specs.Report.{count_line, folded_line, head_line, heat_lines, hot_count, hottest_line};
-ghost use Rattle.ceph_report.specs.Report.{is_left, left_lines, left_out, left_text, more_line, moves_table};
+ghost use Rattle.ceph_report.specs.Report.{left_out, more_line, moves_table};
 ghost use Rattle.ceph_report.specs.Report.{moves_text, place_text, plan_text, rank_heats, rank_inodes, rank_row};
-ghost use Rattle.ceph_report.specs.Report.{rank_table, reason, reason_at, report, standing_text, term_text, told_line};
+ghost use Rattle.ceph_report.specs.Report.{rank_table, report, standing_text, term_text, told_line};
 
 use crate::facts::{BoundTerm, Facts, has_number, number_at};
 use crate::moves::Move;
+use crate::staying_text::push_all_left;
 use crate::text::{
     per_mille, push_columns, push_heat, push_number, push_path, push_percent, push_text,
 };
@@ -19,7 +20,7 @@ use mds_types::limits::{HEAT_LIMIT, RANK_LIMIT};
 use std::alloc::{AllocError, Global};
 
 /// How many moves, or directories that are left where they are, have a line each.
-const LINES_EACH: usize = 40;
+pub(crate) const LINES_EACH: usize = 40;
 
 /// How many directories have heat of their own.
 #[tactic(auto, unfolding(crate::specs::Report::hot_count))]
@@ -187,7 +188,11 @@ fn push_counts(text: &mut Vec<u8>, facts: &Facts) -> Result<(), AllocError>
 
 /// Adds the path of a directory, and ends the line.
 #[tactic(auto, unfolding(crate::specs::Report::place_text))]
-fn push_place(text: &mut Vec<u8>, directories: &[Directory], at: usize) -> Result<(), AllocError>
+pub(crate) fn push_place(
+    text: &mut Vec<u8>,
+    directories: &[Directory],
+    at: usize,
+) -> Result<(), AllocError>
     ensures { OnOk result (text.new.items ≡ text.old.items ++ place_text directories.now at) }
 {
     match directories.get(at) {
@@ -227,7 +232,7 @@ fn push_move(
 
 /// Adds how many have no line of their own, if any.
 #[tactic(auto, unfolding(crate::specs::Report::more_line))]
-fn push_more(text: &mut Vec<u8>, count: usize, what: &str) -> Result<(), AllocError>
+pub(crate) fn push_more(text: &mut Vec<u8>, count: usize, what: &str) -> Result<(), AllocError>
     ensures { OnOk result (text.new.items ≡ text.old.items ++ more_line count what.now) }
 {
     if count == 0 {
@@ -338,80 +343,6 @@ fn push_all_absent(text: &mut Vec<u8>, facts: &Facts) -> Result<(), AllocError>
     Ok(())
 }
 
-/// Whether the directory at a place is spread.
-fn is_spread(directories: &[Directory], at: u32) -> bool
-    ensures { result ≡ is_spread_at directories.now at }
-{
-    match directories.get(at as usize) {
-        Some(directory) => directory.is_spread,
-        None => false,
-    }
-}
-
-/// Why a directory is left where it is, if others decide about it; otherwise empty.
-#[tactic(auto, unfolding(crate::specs::Report::reason))]
-fn reason(directories: &[Directory], directory: &Directory) -> &'static str
-    ensures { result.now ≡ reason directories.now directory.entry.now }
-{
-    if directory.policy.is_some() {
-        "has a policy of ephemeral pins, and is left where it is: "
-    } else if directory.idle.is_some() {
-        "pinned by others to a rank that is not there, and left where it is: "
-    } else if directory.is_spread && !is_spread(directories, directory.parent) {
-        "spread over several ranks, and left where it is: "
-    } else {
-        ""
-    }
-}
-
-/// The same of the directory at a place.
-fn reason_at(directories: &[Directory], at: usize) -> &'static str
-    ensures { result.now ≡ reason_at directories.now (slice_get directories.now at) }
-{
-    match directories.get(at) {
-        Some(directory) => reason(directories, directory),
-        None => "",
-    }
-}
-
-/// Adds the line of a directory if it is left where it is, and fewer than 40 have one before it. Gives how many are
-/// left where they are so far.
-#[tactic(auto, unfolding(crate::specs::Report::left_text))]
-fn push_left(
-    text: &mut Vec<u8>,
-    directories: &[Directory],
-    at: usize,
-    before: usize,
-) -> Result<usize, AllocError>
-    requires inside { at < length directories.now }
-    requires few { before ≤ at }
-    ensures line { OnOk result (text.new.items ≡ text.old.items ++ left_text directories.now at before) }
-    ensures count { IfOk result (λ count. count ≡ before + (if is_left directories.now at then 1 else 0)) }
-{
-    let why = reason_at(directories, at);
-    if why.is_empty() {
-        return Ok(before);
-    }
-    if before < LINES_EACH {
-        push_text(text, why)?;
-        push_place(text, directories, at)?;
-    }
-    Ok(before + 1)
-}
-
-/// Adds the directories that are left where they are: the first ones, and how many more there are.
-#[tactic(auto, unfolding(crate::specs::Report::left_lines))]
-fn push_all_left(text: &mut Vec<u8>, directories: &[Directory]) -> Result<(), AllocError>
-    ensures { OnOk result (text.new.items ≡ text.old.items ++ left_lines directories.now) }
-{
-    let mut count = 0usize;
-    for at in 0..directories.len() {
-        count = push_left(text, directories, at, count)?;
-    }
-    let more = count.saturating_sub(LINES_EACH);
-    push_more(text, more, " more that are left where they are\n")
-}
-
 /// Whether a directory is hotter than a plan can count.
 fn is_capped(directories: &[Directory], at: usize) -> bool
     ensures { result ≡ nat_lt HEAT_LIMIT (heat_at directories.now at) }
@@ -483,7 +414,7 @@ fn push_left_out(text: &mut Vec<u8>, facts: &Facts) -> Result<(), AllocError>
 {
     push_folded(text, facts.folded)?;
     push_all_absent(text, facts)?;
-    push_all_left(text, facts.directories)?;
+    push_all_left(text, facts.directories, facts.stays)?;
     push_all_capped(text, facts.directories)
 }
 

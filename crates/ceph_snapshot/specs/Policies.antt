@@ -3,8 +3,8 @@
 use Rattle.std.specs.Prelude.{◌≡◌, ◌<◌, ◌⊎◌, ◌↔◌, ◌≤◌, ◌||◌, ℕ, zero, suc}
 use Rattle.std.specs.Prelude.{Bool, true, is_some, List, [], length, slice_get, Option, Some, None}
 use Rattle.std.specs.Option.{option_map_or}
-use Rattle.ceph_dumps.specs.declared.listing.EphemeralPin.{EphemeralPin}
-use Rattle.ceph_dumps.specs.declared.listing.EphemeralPin.TheVariants.{Random}
+pub use Rattle.ceph_dumps.specs.declared.listing.EphemeralPin.{EphemeralPin}
+pub use Rattle.ceph_dumps.specs.declared.listing.EphemeralPin.TheVariants.{Distributed, Random, Unknown}
 use Rattle.ceph_snapshot.specs.declared.directory.Directory.{Directory}
 use Rattle.ceph_snapshot.specs.Holding.{is_kept_at, parent_at, pin_at}
 

@@ -14,6 +14,7 @@ pub mod rows;
 pub mod snapshot;
 pub mod snapshot_error;
 
+pub use ceph_dumps::EphemeralPin;
 pub use directory::Directory;
 pub use folding::fold;
 pub use gathering::Gathering;

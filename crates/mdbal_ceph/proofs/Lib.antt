@@ -1,3 +1,4 @@
 pub mod Ours
 pub mod Parents
+pub mod Simple
 pub mod Untouched

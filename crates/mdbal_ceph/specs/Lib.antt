@@ -1,4 +1,5 @@
 pub mod Collections
+pub mod CommandLine
 pub mod Options
 pub mod Outcomes
 pub mod Usable

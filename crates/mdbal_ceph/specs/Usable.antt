@@ -1,5 +1,5 @@
 -- Which ranks may have a part.
-use Rattle.std.specs.Prelude.{◌≡◌, ◌||◌, ◌&&◌, ◌-◌, ◌^◌, ℕ, Bool}
+use Rattle.std.specs.Prelude.{◌≡◌, ◌&&◌, ◌-◌, ◌^◌, ℕ, Bool}
 use Rattle.std.specs.Prelude.{List, Option, Some, None, codes, nat_lt, if◌then◌else◌}
 use Rattle.std.specs.Str.{bytes_eq}
 use Rattle.mds_types.specs.Mask.{mask_bits}
@@ -9,10 +9,13 @@ use Rattle.ceph_dumps.specs.declared.cluster.FileSystemRanks.{FileSystemRanks}
 abbrev pub all_ranks : ℕ
 all_ranks = 2 ^ 64 - 1
 
--- the mask of a cluster: empty and all are all ranks
+-- a mask as Ceph spells it
+abbrev pub asked_mask : List ℕ → Option ℕ
+asked_mask text = if bytes_eq text (codes "all") then Some all_ranks else mask_bits text
+
+-- the mask of a cluster: an empty one is all ranks
 abbrev pub cluster_mask : List ℕ → Option ℕ
-cluster_mask text =
-    if bytes_eq text (codes "") || bytes_eq text (codes "all") then Some all_ranks else mask_bits text
+cluster_mask text = if bytes_eq text (codes "") then Some all_ranks else asked_mask text
 
 -- a rank may have a part that the mask has, that is below max_mds, that is in the file system, and whose daemon is
 -- active

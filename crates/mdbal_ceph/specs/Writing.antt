@@ -10,7 +10,9 @@ use Rattle.ceph_pins.specs.OwnList.{own_list}
 use Rattle.ceph_pins.specs.PinsScript.{pins_script}
 use Rattle.ceph_pins.specs.Standing.{is_standing}
 use Rattle.ceph_report.specs.Json.{json}
+use Rattle.ceph_report.specs.Moves.{AreMoves}
 use Rattle.ceph_report.specs.Report.{report}
+use Rattle.ceph_report.specs.Staying.{AreStays}
 use Rattle.ceph_report.specs.Told.{hottest}
 use Rattle.ceph_report.specs.declared.facts.Facts.{Facts}
 use Rattle.mdbal_ceph.specs.declared.outcome.Outcome.{Outcome}
@@ -70,10 +72,14 @@ standing_count outcome =
     count_below (length outcome.decision.proposal.rows.items)
     (is_standing outcome.decision.proposal.rows.items outcome.decision.proposal.changes.items)
 
--- the text is the report of the outcome's facts, or the plan as JSON
+-- the text is the report of the outcome's facts, or the plan as JSON, with what each pin brings and what is left where
+-- it is
 pub record IsTold (outcome : Outcome) (is_json is_proposed : Bool) (text : List ℕ) : Type 0 where
   pub facts : Facts
   pub of : AreFacts outcome (standing_count outcome) facts
+  pub moves : AreMoves outcome.directories.items outcome.decision.holds.items outcome.decision.proposal.rows.items
+      outcome.decision.proposal.changes.items facts.moves.now
+  pub stays : AreStays outcome.directories.items facts.stays.now
   pub told : text
       ≡ (if is_json then json facts (proposed_changes outcome is_proposed) is_proposed else report facts is_proposed)
 

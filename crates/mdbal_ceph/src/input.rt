@@ -2,19 +2,30 @@
 ghost use Rattle.std.specs.Prelude.{◌≡◌, ℕ, None, IfSome, Some};
 ghost use Rattle.std.specs.Option.{option_map};
 ghost use Rattle.mds_types.specs.RankSet.{has_rank};
-ghost use Rattle.mdbal_ceph.specs.Usable.{IsMask, all_ranks, cluster_mask, may_have_part};
+ghost use Rattle.mdbal_ceph.specs.Usable.{IsMask, all_ranks, asked_mask, cluster_mask, may_have_part};
 
 use ceph_dumps::{FileSystemRanks, common_ranks};
 use mds_types::RankSet;
 
+/// The ranks that a mask names, if it is one.
+pub fn mask_named(text: &str) -> Option<RankSet>
+    ensures { result ≡ asked_mask text.now }
+{
+    if text == "all" {
+        Some(RankSet::from_bits(u64::MAX))
+    } else {
+        RankSet::parse(text).ok()
+    }
+}
+
 /// The ranks that the cluster's own mask names, if it is one.
-fn named(text: &str) -> Option<RankSet>
+fn cluster_mask(text: &str) -> Option<RankSet>
     ensures { result ≡ cluster_mask text.now }
 {
-    if text == "" || text == "all" {
+    if text == "" {
         return Some(RankSet::from_bits(u64::MAX));
     }
-    RankSet::parse(text).ok()
+    mask_named(text)
 }
 
 /// The mask that was asked for, or else the cluster's own; all ranks where there is none.
@@ -26,7 +37,7 @@ pub fn mask_of(asked: Option<RankSet>, own: Option<&str>) -> Option<RankSet>
     match (asked, own) {
         (Some(mask), _) => Some(mask),
         (None, None) => Some(RankSet::from_bits(u64::MAX)),
-        (None, Some(text)) => named(text),
+        (None, Some(text)) => cluster_mask(text),
     }
 }
 

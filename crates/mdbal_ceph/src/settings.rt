@@ -1,12 +1,16 @@
 //! What the words of the command line ask for.
-ghost use Rattle.std.specs.Prelude.{◌≡◌, ◌*◌, IfOk, map};
+ghost use Rattle.std.specs.Prelude.{◌≡◌, ◌*◌, IfOk, Some, codes, false, map, true};
 ghost use Rattle.std.specs.Option.{option_map};
-ghost use Rattle.mdbal_ceph.specs.Options.{AreRead, AreSettings, least_named, mask_named, option_number};
+ghost use Rattle.clap.specs.Words.{app_of, first_of, found_of, one_of, rows_of, rule_of, with_rule};
+ghost use Rattle.mdbal_ceph.specs.CommandLine.{AreSettings, folder_rule, json_rule, mdbal_ceph, option_rule};
+ghost use Rattle.mdbal_ceph.specs.CommandLine.{option_rules, plan_command, with_options};
+ghost use Rattle.mdbal_ceph.specs.Options.{AreRead, least_named, mask_named, option_number};
 ghost use Rattle.mdbal_ceph.specs.Options.{parts_named, value_or};
 
+use crate::input::mask_named;
 use ceph_plan::{LeastGain, PartCount, Wanted};
 use clap::error::ErrorKind;
-use clap::{Arg, ArgAction, ArgMatches, Command, Error, value_parser};
+use clap::{Arg, ArgAction, ArgMatches, Command, Error};
 use mds_types::RankSet;
 use std::alloc::{AllocError, Global};
 use std::convert::AsStr;
@@ -84,22 +88,12 @@ impl Refused {
     }
 }
 
-/// What an option takes.
-enum Takes {
-    /// A text.
-    Text,
-    /// A text that may begin with a hyphen.
-    Mask,
-    /// A text, and this one where the option isn't there.
-    TextOr(&'static str),
-    /// A percentage, 5 where the option isn't there.
-    Percent,
-}
-
 /// An option that takes a value.
+#[derive(Clone, Copy)]
 struct PlanOption {
     name: &'static str,
-    takes: Takes,
+    /// The value where the option isn't there, if that has one.
+    default: Option<&'static str>,
     /// How the help calls the value.
     value: &'static str,
     help: &'static str,
@@ -109,95 +103,106 @@ struct PlanOption {
 const OPTIONS: &[PlanOption] = &[
     PlanOption {
         name: "parts",
-        takes: Takes::TextOr("auto"),
+        default: Some("auto"),
         value: "auto|N",
         help: "Into how many connected parts the directories are divided, 1 to 65535, or auto",
     },
     PlanOption {
         name: "most-pins",
-        takes: Takes::TextOr("1000"),
+        default: Some("1000"),
         value: "N",
         help: "The most connected parts that --parts auto tries, 1 to 65535: each may take a pin",
     },
     PlanOption {
         name: "mask",
-        takes: Takes::Mask,
+        default: None,
         value: "MASK",
-        help: "The ranks that may have a part: -1 for all, or 0x and hexadecimal digits",
+        help: "The ranks that may have a part: all, --mask=-1 for all, too, or 0x and hexadecimal digits",
     },
     PlanOption {
         name: "own",
-        takes: Takes::Text,
+        default: None,
         value: "FILE",
         help: "The list of pins that an earlier run wrote; they count as unpinned",
     },
     PlanOption {
         name: "least-gain",
-        takes: Takes::Percent,
+        default: Some("5"),
         value: "PERCENT",
         help: "Propose nothing if the hottest rank gets cooler by less",
     },
     PlanOption {
         name: "least-heat",
-        takes: Takes::TextOr("0"),
+        default: Some("0"),
         value: "HEAT",
         help: "Propose nothing if the hottest rank has less heat",
     },
     PlanOption {
         name: "least-by-inodes",
-        takes: Takes::TextOr("0"),
+        default: Some("0"),
         value: "HEAT",
         help: "Propose nothing if the hottest rank gets cooler by less for each thousand inodes that move",
     },
     PlanOption {
         name: "keep",
-        takes: Takes::Percent,
+        default: Some("5"),
         value: "PERCENT",
         help: "By how much a load may pass the greatest so that a part stays where it is",
     },
     PlanOption {
         name: "mount",
-        takes: Takes::TextOr("/mnt/cephfs"),
+        default: Some("/mnt/cephfs"),
         value: "PATH",
         help: "Where the file system is mounted on the machine that sets the pins",
     },
     PlanOption {
         name: "pins",
-        takes: Takes::Text,
+        default: None,
         value: "FILE",
         help: "Write a shell script that sets the pins to FILE, one that restores the pins of now to FILE.back, and \
                the list of the pins to FILE.own",
     },
     PlanOption {
         name: "svg",
-        takes: Takes::Text,
+        default: None,
         value: "FILE",
         help: "Write a picture of the directories, as SVG",
     },
     PlanOption {
         name: "script",
-        takes: Takes::Text,
+        default: None,
         value: "FILE",
         help: "Write the directories as a script of mdbal",
     },
 ];
 
+/// The options that take a value.
+fn options() -> &'static [PlanOption]
+    ensures { map option_rule result.now ≡ option_rules }
+{
+    OPTIONS
+}
+
 /// An option with a value, as `clap` knows it.
-fn option_arg<'a>(alloc: Global, option: &PlanOption) -> Arg<'a> {
+fn option_arg<'a>(alloc: Global, option: PlanOption) -> Arg<'a>
+    ensures rule { rule_of result ≡ option_rule option }
+    ensures local { result.global ≡ false }
+{
     let arg = Arg::new(alloc, option.name)
         .long(option.name)
         .value_name(option.value)
         .help(option.help);
-    match option.takes {
-        Takes::Text => arg,
-        Takes::Mask => arg.allow_hyphen_values(true),
-        Takes::TextOr(default) => arg.default_value(default),
-        Takes::Percent => arg.value_parser(value_parser!(u8)).default_value("5"),
+    match option.default {
+        Some(default) => arg.default_value(default),
+        None => arg,
     }
 }
 
 /// The option without a value, as `clap` knows it.
-fn json_arg<'a>(alloc: Global) -> Arg<'a> {
+fn json_arg<'a>(alloc: Global) -> Arg<'a>
+    ensures rule { rule_of result ≡ json_rule }
+    ensures local { result.global ≡ false }
+{
     Arg::new(alloc, "json")
         .long("json")
         .action(ArgAction::SetTrue)
@@ -205,28 +210,58 @@ fn json_arg<'a>(alloc: Global) -> Arg<'a> {
 }
 
 /// The folder, as `clap` knows it.
-fn folder_arg<'a>(alloc: Global) -> Arg<'a> {
+fn folder_arg<'a>(alloc: Global) -> Arg<'a>
+    ensures rule { rule_of result ≡ folder_rule }
+    ensures local { result.global ≡ false }
+{
     Arg::new(alloc, "folder")
         .value_name("DIR")
         .required(true)
         .help("What ceph/collect wrote")
 }
 
-/// The program's command without its options, as `clap` knows it.
-fn plain_command<'a>(alloc: Global) -> Command<'a> {
+/// The program's command without its arguments, as `clap` knows it.
+fn plain_command<'a>(alloc: Global) -> Command<'a>
+    ensures { app_of result ≡ plan_command }
+{
     Command::new(alloc, "mdbal_ceph").version(VERSION).about(
         "Plans export pins that balance a live CephFS. Status 0: changes are proposed; 1: a file is missing, broken \
          or can't be written, or there is no plan; 2: the command line is refused; 3: nothing is proposed",
     )
 }
 
-/// The program's command, as `clap` knows it.
-fn command<'a>(alloc: Global) -> Result<Command<'a>, AllocError> {
-    let mut command = plain_command(alloc).arg(folder_arg(alloc))?;
-    for option in OPTIONS {
-        command = command.arg(option_arg(alloc, option))?;
+/// The command with one more option.
+fn with_option<'a>(
+    alloc: Global,
+    command: Command<'a>,
+    option: PlanOption,
+) -> Result<Command<'a>, AllocError>
+    ensures { IfOk result (λ c. app_of c ≡ with_rule (app_of command.entry) (option_rule option)) }
+{
+    command.arg(option_arg(alloc, option))
+}
+
+/// The command with these options.
+fn with_options<'a>(
+    alloc: Global,
+    command: Command<'a>,
+    options: &'static [PlanOption],
+) -> Result<Command<'a>, AllocError>
+    ensures { IfOk result (λ c. app_of c ≡ with_options (app_of command.entry) options.now) }
+{
+    let mut command = command;
+    for at in 0..options.len() {
+        command = with_option(alloc, command, options[at])?;
     }
-    command.arg(json_arg(alloc))
+    Ok(command)
+}
+
+/// The program's command, as `clap` knows it.
+fn command<'a>(alloc: Global) -> Result<Command<'a>, AllocError>
+    ensures { IfOk result (λ c. app_of c ≡ mdbal_ceph) }
+{
+    let command = plain_command(alloc).arg(folder_arg(alloc))?;
+    with_options(alloc, command, options())?.arg(json_arg(alloc))
 }
 
 /// The number of parts that a text names.
@@ -273,7 +308,7 @@ fn heat_of(text: &str, refused: &'static str) -> Result<u64, Refused>
 
 /// What a plan has to come to.
 fn least_of(matches: &ArgMatches<'_>) -> Result<LeastGain, Refused>
-    ensures { IfOk result (λ least. least ≡ least_named matches.now) }
+    ensures { IfOk result (λ least. least ≡ least_named (rows_of (found_of matches.now))) }
 {
     Ok(LeastGain {
         heat: heat_of(
@@ -295,9 +330,11 @@ fn mask_of(text: Option<&str>) -> Result<Option<RankSet>, Refused>
     let Some(text) = text else {
         return Ok(None);
     };
-    match RankSet::parse(text) {
-        Ok(mask) => Ok(Some(mask)),
-        Err(_) => Err(Refused::Value("--mask takes -1, or 0x and 1 to 16 digits")),
+    match mask_named(text) {
+        Some(mask) => Ok(Some(mask)),
+        None => Err(Refused::Value(
+            "--mask takes all, -1 as in --mask=-1, or 0x and 1 to 16 digits",
+        )),
     }
 }
 
@@ -311,11 +348,27 @@ fn mount_of(text: &str) -> Result<&str, Refused>
     }
 }
 
+/// The value of an option, if it is there or has a default.
+fn value_of<'a>(matches: &ArgMatches<'a>, option: &str) -> Option<&'a str>
+    ensures { option_map (λ text. text.now) result ≡ first_of option.now (rows_of (found_of matches.now)) }
+{
+    matches.get_str(option)
+}
+
+/// Whether the words have `--json`.
+fn has_json(matches: &ArgMatches<'_>) -> bool
+    ensures given { one_of (codes "json") (rows_of (found_of matches.now)) ≡ Some (codes "true") → result ≡ true }
+    ensures left_out { one_of (codes "json") (rows_of (found_of matches.now)) ≡ Some (codes "false")
+        → result ≡ false }
+{
+    matches.get_flag("json")
+}
+
 /// The value of an option, or this text where the option isn't there.
 fn value_or<'a>(matches: &ArgMatches<'a>, option: &str, other: &'static str) -> &'a str
-    ensures { result.now ≡ value_or matches.now option.now other.now }
+    ensures { result.now ≡ value_or (rows_of (found_of matches.now)) option.now other.now }
 {
-    match matches.get_str(option) {
+    match value_of(matches, option) {
         Some(value) => value,
         None => other,
     }
@@ -323,9 +376,9 @@ fn value_or<'a>(matches: &ArgMatches<'a>, option: &str, other: &'static str) -> 
 
 /// The settings that were found.
 fn found<'a>(matches: &ArgMatches<'a>) -> Result<PlanSettings<'a>, Refused>
-    ensures { IfOk result (AreRead matches.now) }
+    ensures { IfOk result (AreRead (rows_of (found_of matches.now))) }
 {
-    let mask = mask_of(matches.get_str("mask"))?;
+    let mask = mask_of(value_of(matches, "mask"))?;
     let most = value_or(matches, "most-pins", "1000");
     let parts = parts_of(value_or(matches, "parts", "auto"), most)?;
     let keep = percent_of(value_or(matches, "keep", "5"))?;
@@ -337,13 +390,13 @@ fn found<'a>(matches: &ArgMatches<'a>) -> Result<PlanSettings<'a>, Refused>
             rests: false,
         },
         mask,
-        own: matches.get_str("own"),
+        own: value_of(matches, "own"),
         least: least_of(matches)?,
         mount: mount_of(value_or(matches, "mount", "/mnt/cephfs"))?,
-        pins: matches.get_str("pins"),
-        svg: matches.get_str("svg"),
-        script: matches.get_str("script"),
-        is_json: matches.get_flag("json"),
+        pins: value_of(matches, "pins"),
+        svg: value_of(matches, "svg"),
+        script: value_of(matches, "script"),
+        is_json: has_json(matches),
     })
 }
 

@@ -1,6 +1,7 @@
 //! What is written of a plan: the text for standard output, and the files.
 ghost use Rattle.std.specs.Prelude.{◌≡◌, IfOk};
 ghost use Rattle.ceph_pins.specs.PinsScript.{pins_script};
+ghost use Rattle.ceph_report.specs.Staying.{AreStays};
 ghost use Rattle.mdbal_ceph.specs.Writing.{AreFacts, ArePinFiles, IsTold, IsWritten};
 ghost use Rattle.mdbal_ceph.specs.Writing.{gain_of, plan_status, proposed_changes};
 
@@ -12,7 +13,8 @@ use ceph_pins::{
 };
 use ceph_plan::{Gain, PinChange, is_worth_it};
 use ceph_report::{
-    Facts, Move, hottest, make_json, make_picture, make_report, make_script, moves_of,
+    Facts, Move, Stay, hottest, make_json, make_picture, make_report, make_script, moves_of,
+    stays_of,
 };
 use ceph_snapshot::Directory;
 use std::alloc::{AllocError, Global};
@@ -67,8 +69,15 @@ fn gain_of(outcome: &Outcome) -> Gain
 }
 
 /// What the report tells of an outcome.
-fn facts_of<'a>(outcome: &'a Outcome, moves: &'a [Move], standing: usize) -> Facts<'a>
-    ensures { AreFacts outcome.now standing result }
+fn facts_of<'a>(
+    outcome: &'a Outcome,
+    moves: &'a [Move],
+    stays: &'a [Option<Stay>],
+    standing: usize,
+) -> Facts<'a>
+    ensures facts { AreFacts outcome.now standing result }
+    ensures moves { result.moves.now ≡ moves.now }
+    ensures stays { result.stays.now ≡ stays.now }
 {
     Facts {
         directories: &outcome.directories,
@@ -83,6 +92,7 @@ fn facts_of<'a>(outcome: &'a Outcome, moves: &'a [Move], standing: usize) -> Fac
         sums: &outcome.decision.sums,
         pinned: &outcome.decision.pinned,
         moves,
+        stays,
         changes: outcome.decision.proposal.changes.len(),
         standing,
     }
@@ -92,9 +102,11 @@ fn facts_of<'a>(outcome: &'a Outcome, moves: &'a [Move], standing: usize) -> Fac
 fn told(
     alloc: Global,
     outcome: &Outcome,
+    stays: &[Option<Stay>],
     is_json: bool,
     is_proposed: bool,
 ) -> Result<Vec<u8>, AllocError>
+    requires { AreStays outcome.now.directories.items stays.now }
     ensures { IfOk result (λ text. IsTold outcome.now is_json is_proposed text.items) }
 {
     let (directories, holds) = (&outcome.directories, &outcome.decision.holds);
@@ -102,7 +114,7 @@ fn told(
     let (rows, changes) = (&proposal.rows, &proposal.changes);
     let standing = standing_pins(alloc, rows, changes)?;
     let moves = moves_of(alloc, directories, holds, rows, changes)?;
-    let facts = facts_of(outcome, &moves, standing);
+    let facts = facts_of(outcome, &moves, stays, standing);
     if is_json {
         make_json(alloc, &facts, changes_of(outcome, is_proposed), is_proposed)
     } else {
@@ -175,19 +187,24 @@ pub fn written(
     ensures { IfOk result (IsWritten settings.now outcome.now) }
 {
     let is_proposed = is_worth_it(gain_of(outcome), settings.least);
-    let text = told(alloc, outcome, settings.is_json, is_proposed)?;
+    let directories = outcome.directories.as_slice();
+    let stays = stays_of(alloc, directories)?;
+    let text = told(alloc, outcome, &stays, settings.is_json, is_proposed)?;
     let pins = match settings.pins {
         Some(_) => Some(pin_files(alloc, settings.mount, outcome, is_proposed)?),
         None => None,
     };
     let picture = match settings.svg {
-        Some(_) => Some(make_picture(alloc, &outcome.directories, &outcome.decision.goals)?),
+        Some(_) => {
+            let goals = outcome.decision.goals.as_slice();
+            Some(make_picture(alloc, directories, goals, &stays)?)
+        }
         None => None,
     };
     let script = match settings.script {
         Some(_) => {
             let holds = outcome.decision.holds.as_slice();
-            Some(make_script(alloc, &outcome.directories, holds, outcome.size)?)
+            Some(make_script(alloc, directories, holds, outcome.size)?)
         }
         None => None,
     };

@@ -1,6 +1,7 @@
-use Rattle.std.proofs.Common.{◌≡◌, ◌∙◌, ◌<◌, ◌-◌, ℕ, List, Option, None, ap, get_or, length, rules, subst}
+use Rattle.std.proofs.Common.{◌≡◌, ◌∙◌, ◌<◌, ◌-◌, ℕ, List, Option, None, ap, get_or, is_some, length, rules, subst}
 use Rattle.std.proofs.lemmas.List.Sorted.{IsNonDecreasingBy-from_sort_by_key}
 use Rattle.ceph_plan.specs.declared.row.PinRow.{PinRow}
+use Rattle.ceph_plan.specs.Rule.{parent_at}
 use Rattle.ceph_snapshot.specs.declared.directory.Directory.{Directory}
 use Rattle.ceph_snapshot.specs.declared.held.Held.{Held}
 use Rattle.ceph_snapshot.specs.Holding.{most_heat}
@@ -20,8 +21,8 @@ returns c =
     let inodes : List ℕ = c.in_ok-inodes.inodes.items in
     let heats : List ℕ = c.in_ok-heats.heats.items in
     let moves : List Move = c.in_ok-moves.moves.items in
-    let led : AreLeaders rows (λ (i : ℕ). get_or pins i None) (length rows) leaders =
-    subst (λ (ps : List (Option ℕ)). AreLeaders rows (λ (i : ℕ). get_or ps i None) (length rows) leaders) c.deref.ensures.value c.in_ok-leaders.ensures.led in
+    let led : AreLeaders (parent_at rows) (λ (i : ℕ). is_some (get_or pins i None)) (length rows) leaders =
+    subst (λ (ps : List (Option ℕ)). AreLeaders (parent_at rows) (λ (i : ℕ). is_some (get_or ps i None)) (length rows) leaders) c.deref.ensures.value c.in_ok-leaders.ensures.led in
     let into : (i : ℕ) → i < length rows → get_or inodes i 0 ≡ brought_at Inodes ds holds rows leaders i =
     subst (λ (ls : List ℕ). (i : ℕ) → i < length rows → get_or inodes i 0 ≡ brought_at Inodes ds holds rows ls i) c.deref-2.ensures.value c.in_ok-inodes.ensures.sums in
     let warm : (i : ℕ) → i < length rows → get_or heats i 0 ≡ brought_at Heat ds holds rows leaders i =

@@ -1,31 +1,46 @@
-use Rattle.std.proofs.Common.{◌≡◌, ◌∙◌, ℕ, List, ap, length, refl, subst}
+use Rattle.std.proofs.Common.{◌≡◌, ◌∙◌, ℕ, List, Option, ap, length, refl, subst, sym}
 use Rattle.std.proofs.lemmas.Result.{IfOk-weaker}
 use Rattle.ceph_plan.specs.declared.row.PinChange.{PinChange}
 use Rattle.ceph_report.specs.Json.{json}
+use Rattle.ceph_report.specs.Moves.{AreMoves}
+use Rattle.ceph_report.specs.Staying.{AreStays}
 use Rattle.ceph_report.specs.declared.facts.Facts.{Facts}
+use Rattle.ceph_report.specs.declared.moves.Move.{Move}
+use Rattle.ceph_report.specs.declared.staying.Stay.{Stay}
 use Rattle.mdbal_ceph.specs.Writing.{AreFacts, standing_count}
+use Rattle.mdbal_ceph.specs.declared.outcome.Outcome.{Outcome}
 use Rattle.mdbal_ceph.proofs.writing.told.Goals as goal
 
 pub returns-then-is_json : goal.returns-then-is_json
 returns-then-is_json c =
+    let o : Outcome = c.args.outcome.now in
     let facts : Facts = c.facts_of-facts.result in
-    let standing : c.in_ok-standing.standing ≡ standing_count c.args.outcome.now = rw (c.deref.ensures.value, c.deref-2.ensures.value) at c.in_ok-standing.ensures in
+    let standing : c.in_ok-standing.standing ≡ standing_count o = rw (c.deref.ensures.value, c.deref-2.ensures.value) at c.in_ok-standing.ensures in
+    let moved : AreMoves o.directories.items o.decision.holds.items o.decision.proposal.rows.items o.decision.proposal.changes.items c.in_ok-moves.moves.items =
+    rw (c.deref-3.ensures.value, c.deref-4.ensures.value, c.deref-5.ensures.value, c.deref-6.ensures.value) at c.in_ok-moves.ensures in
     IfOk-weaker c.make_json.result _ _
     (λ text e. record {
       facts = facts;
-      of = subst (λ (n : ℕ). AreFacts c.args.outcome.now n facts) standing c.facts_of-facts.ensures;
+      of = subst (λ (n : ℕ). AreFacts o n facts) standing c.facts_of-facts.ensures.facts;
+      moves = subst (λ (ms : List Move). AreMoves o.directories.items o.decision.holds.items o.decision.proposal.rows.items o.decision.proposal.changes.items ms) (sym (c.facts_of-facts.ensures.moves ∙ c.deref-7.ensures.value)) moved;
+      stays = subst (λ (ss : List (Option Stay)). AreStays o.directories.items ss) (sym c.facts_of-facts.ensures.stays) c.requires;
       told = rw (c.if-is_json.true) (e ∙ ap (λ (changes : List PinChange). json facts changes c.args.is_proposed) c.changes_of.ensures);
     })
     c.make_json.ensures
 
 pub returns : goal.returns
 returns c =
+    let o : Outcome = c.args.outcome.now in
     let facts : Facts = c.facts_of-facts.result in
-    let standing : c.in_ok-standing.standing ≡ standing_count c.args.outcome.now = rw (c.deref.ensures.value, c.deref-2.ensures.value) at c.in_ok-standing.ensures in
+    let standing : c.in_ok-standing.standing ≡ standing_count o = rw (c.deref.ensures.value, c.deref-2.ensures.value) at c.in_ok-standing.ensures in
+    let moved : AreMoves o.directories.items o.decision.holds.items o.decision.proposal.rows.items o.decision.proposal.changes.items c.in_ok-moves.moves.items =
+    rw (c.deref-3.ensures.value, c.deref-4.ensures.value, c.deref-5.ensures.value, c.deref-6.ensures.value) at c.in_ok-moves.ensures in
     IfOk-weaker c.make_report.result _ _
     (λ text e. record {
       facts = facts;
-      of = subst (λ (n : ℕ). AreFacts c.args.outcome.now n facts) standing c.facts_of-facts.ensures;
+      of = subst (λ (n : ℕ). AreFacts o n facts) standing c.facts_of-facts.ensures.facts;
+      moves = subst (λ (ms : List Move). AreMoves o.directories.items o.decision.holds.items o.decision.proposal.rows.items o.decision.proposal.changes.items ms) (sym (c.facts_of-facts.ensures.moves ∙ c.deref-7.ensures.value)) moved;
+      stays = subst (λ (ss : List (Option Stay)). AreStays o.directories.items ss) (sym c.facts_of-facts.ensures.stays) c.requires;
       told = rw (c.if-is_json.false) e;
     })
     c.make_report.ensures

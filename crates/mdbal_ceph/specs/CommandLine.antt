@@ -1,0 +1,51 @@
+-- The command line of `mdbal_ceph`, as a command of `clap`.
+use Rattle.std.specs.Prelude.{List, [], ◌∷◌, Some, None, codes, Option, true}
+use Rattle.std.specs.List.{fold}
+use Rattle.std.specs.Option.{option_map}
+use Rattle.clap.specs.Words.{App, Rule, Text, matches_of, new_app, new_rule, with_rule}
+use Rattle.clap.specs.declared.builder.action.ArgAction.TheVariants.{SetTrue}
+use Rattle.mdbal_ceph.specs.declared.settings.PlanOption.{PlanOption}
+use Rattle.mdbal_ceph.specs.declared.settings.PlanSettings.{PlanSettings}
+use Rattle.mdbal_ceph.specs.Options.{AreRead}
+
+-- `DIR`, which has to be there
+abbrev pub folder_rule : Rule
+folder_rule = record (new_rule (codes "folder")) { value_names = 1; required = true }
+
+-- `--json`, with no value
+abbrev pub json_rule : Rule
+json_rule = record (new_rule (codes "json")) { long = Some (codes "json"); action = Some SetTrue }
+
+-- an option with a value, and the value where it isn't there, if that has one
+abbrev pub value_rule : Text → List Text → Rule
+value_rule name defaults = record (new_rule name) { long = Some name; value_names = 1; defaults = defaults }
+
+abbrev pub option_rules : List Rule
+option_rules =
+    value_rule (codes "parts") (codes "auto" ∷ []) ∷ value_rule (codes "most-pins") (codes "1000" ∷ [])
+    ∷ value_rule (codes "mask") [] ∷ value_rule (codes "own") [] ∷ value_rule (codes "least-gain") (codes "5" ∷ [])
+    ∷ value_rule (codes "least-heat") (codes "0" ∷ []) ∷ value_rule (codes "least-by-inodes") (codes "0" ∷ [])
+    ∷ value_rule (codes "keep") (codes "5" ∷ []) ∷ value_rule (codes "mount") (codes "/mnt/cephfs" ∷ [])
+    ∷ value_rule (codes "pins") [] ∷ value_rule (codes "svg") [] ∷ value_rule (codes "script") [] ∷ []
+
+abbrev pub defaults_of : Option Text → List Text
+defaults_of None = []
+defaults_of (Some text) = text ∷ []
+
+abbrev pub option_rule : PlanOption → Rule
+option_rule option = value_rule option.name.now (defaults_of (option_map (λ text. text.now) option.default))
+
+abbrev pub with_options : App → List PlanOption → App
+with_options app options = fold (λ one option. with_rule one (option_rule option)) app options
+
+-- the program, which has a version
+abbrev pub plan_command : App
+plan_command = let app = new_app (codes "mdbal_ceph") in record app { top = record app.top { has_version = true } }
+
+-- `mdbal_ceph DIR [options]`
+abbrev pub mdbal_ceph : App
+mdbal_ceph = with_rule (fold with_rule (with_rule plan_command folder_rule) option_rules) json_rule
+
+-- the settings are those of the words of the command line
+abbrev pub AreSettings : List Text → PlanSettings → Type 0
+AreSettings words settings = AreRead (matches_of mdbal_ceph words) settings
