@@ -1,12 +1,40 @@
 //! What the planner is given of the directories.
-ghost use Rattle.std.specs.Prelude.{◌≡◌, length, IfOk};
-ghost use Rattle.ceph_snapshot.specs.Rows.{AreRowsOf};
+ghost use Rattle.std.specs.Prelude.{◌≡◌, ◌<◌, ℕ, length, slice_index, IfOk, if◌then◌else◌};
+ghost use Rattle.ceph_snapshot.specs.Rows.{AreRowsOf, free_heat, is_free};
 
 use crate::directory::Directory;
 use crate::held::Held;
 use mds_types::ProblemRow;
 use mds_types::limits::HEAT_LIMIT;
 use std::alloc::{AllocError, Global};
+
+/// The heat of each directory that nothing holds, as it was collected, in thousandths; 0 of one that is held.
+pub fn free_heats(
+    alloc: Global,
+    directories: &[Directory],
+    holds: &[Held],
+) -> Result<Vec<u64>, AllocError>
+    requires { length holds.now ≡ length directories.now }
+    ensures size { IfOk result (λ heats. length heats.items ≡ length directories.now) }
+    ensures heats { IfOk result (λ heats. (i : ℕ) → i < length directories.now
+        → slice_index heats.items i ≡ free_heat directories.now holds.now i) }
+{
+    let mut heats = Vec::with_capacity(alloc, directories.len())?;
+    for (at, directory) in directories.iter().enumerate() {
+        heats.push(heat_if_free(directory, holds[at]))?;
+    }
+    Ok(heats)
+}
+
+/// The heat of a directory if nothing holds it.
+fn heat_if_free(directory: &Directory, hold: Held) -> u64
+    ensures { result ≡ (if is_free hold then directory.entry.now.heat else 0) }
+{
+    match hold {
+        Held::Free => directory.heat,
+        Held::Pinned(_) | Held::Spread(_) => 0,
+    }
+}
 
 /// The directories as rows. What is held is planned as if it had neither heat nor
 /// inodes: it counts at the rank that holds it.
