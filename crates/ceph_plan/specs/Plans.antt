@@ -6,7 +6,7 @@ use Rattle.mds_types.specs.Division.{IsDivision, IsLeast, IsWithin}
 use Rattle.mds_types.specs.Problem.{IsForest, heat_at, inodes_at, now_at}
 use Rattle.mds_types.specs.Sums.{sum_below}
 use Rattle.ceph_plan.specs.Balance.{IsPackedEvenly}
-use Rattle.ceph_plan.specs.Packing.{IsAsGreatAsThree, IsLowerBound, IsPacking, packed_rank}
+use Rattle.ceph_plan.specs.Packing.{IsPacking, packed_rank}
 use Rattle.ceph_plan.specs.declared.plan.Planned.{Planned}
 
 -- the inodes of the first n rows that go to another rank than the one that has them
@@ -15,16 +15,13 @@ moved_inodes rows part rank n =
     sum_below n (λ i. if packed_rank rank part i == now_at rows i then 0 else inodes_at rows i)
 
 -- each row is in one part, each part is connected and on one rank of the set, the root's on rank 0; loads are what
--- they are told to be, and no greater than the parts and `keep` allow; the bound is one for every assignment of rows to
--- ranks, and the inodes that move are told
+-- they are told to be, and no greater than the parts and `keep` allow; the inodes that move are told
 pub record IsPlan (ranks keep : ℕ) (pinned : List ℕ) (rows : List ProblemRow) (plan : Planned) : Type 0 where
   pub forest : IsForest rows
   pub size : length plan.part.items ≡ length rows
   pub division : IsDivision rows plan.count (slice_index plan.part.items)
   pub packing : IsPacking ranks pinned rows plan.part.items plan.count plan.packing
   pub balanced : IsPackedEvenly ranks pinned rows plan.part.items plan.count keep plan.packing
-  pub bound : IsLowerBound ranks pinned rows plan.packing.bound
-  pub three : IsAsGreatAsThree ranks pinned rows plan.packing.bound
   pub moved : plan.moved ≡ moved_inodes rows plan.part.items plan.packing.rank.items (length rows)
 
 -- the rows, where none counts as hotter than the cap

@@ -26,7 +26,7 @@ mod rank_choice;
 pub mod row;
 pub mod worth;
 
-pub use bound::{heats_bound, lower_bound, total_heat};
+pub use bound::{heats_bound, total_heat};
 pub use changes::changes_for;
 pub use choice::{PartCount, Wanted, choose_plan};
 pub use packing::{Packing, are_parts, are_pinned, pack};

@@ -1,11 +1,11 @@
-//! A packing, with what it loads on each rank and what no assignment can get below.
+//! A packing, with what it loads on each rank.
 ghost use Rattle.std.specs.Prelude.{◌≡◌, ◌<◌, ◌≤◌, ◌^◌, ℕ, All, length, slice_index, true, IfOk, IsTrue};
 ghost use Rattle.mds_types.specs.Problem.{IsForest};
 ghost use Rattle.mds_types.specs.RankSet.{has_rank};
 ghost use Rattle.ceph_plan.specs.Balance.{IsPackedEvenly};
-ghost use Rattle.ceph_plan.specs.Packing.{IsAsGreatAsThree, IsLowerBound, IsPacking};
+ghost use Rattle.ceph_plan.specs.Packing.{IsPacking};
 
-use crate::bound::{lower_bound, most};
+use crate::bound::most;
 use crate::loads::loads;
 use crate::order::by_heat;
 use crate::rank_choice::{PartAmounts, choose, part_heats, part_inodes};
@@ -21,8 +21,6 @@ pub struct Packing {
     pub load: Vec<u64>,
     /// The greatest load of a rank of the set.
     pub greatest: u64,
-    /// What the greatest load is at least, whichever rank each row goes to.
-    pub bound: u64,
 }
 
 /// Whether each of these parts is below `count`.
@@ -66,8 +64,6 @@ pub fn pack(
     requires zero { has_rank ranks 0 ≡ true }
     ensures packing { IfOk result (λ packing. IsPacking ranks pinned.now rows.now part.now count packing) }
     ensures balanced { IfOk result (λ packing. IsPackedEvenly ranks pinned.now rows.now part.now count keep packing) }
-    ensures bound { IfOk result (λ packing. IsLowerBound ranks pinned.now rows.now packing.bound) }
-    ensures three { IfOk result (λ packing. IsAsGreatAsThree ranks pinned.now rows.now packing.bound) }
 {
     let heats = part_heats(alloc, rows, part, count)?;
     let inodes = part_inodes(alloc, rows, part, count)?;
@@ -82,11 +78,9 @@ pub fn pack(
     let rank = choose(alloc, parts, ranks, keep)?;
     let load = loads(alloc, &heats, &rank, pinned)?;
     let greatest = most(&load, ranks);
-    let bound = lower_bound(rows, pinned, ranks);
     Ok(Packing {
         rank,
         load,
         greatest,
-        bound,
     })
 }

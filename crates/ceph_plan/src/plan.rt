@@ -18,7 +18,7 @@ pub struct Planned {
     pub part: Vec<u32>,
     /// How many parts there are.
     pub count: u32,
-    /// The rank of each part, the load of each rank, and what no assignment can get below.
+    /// The rank of each part, and the load of each rank.
     pub packing: Packing,
     /// The inodes of the rows that are to go to another rank.
     pub moved: u64,

@@ -62,8 +62,6 @@ returns-clause-plan c =
         division = division-capped cap rows _ _ found.cut.parts.division;
         packing = subst (λ (part : List ℕ). IsPacking c.args.ranks c.args.pinned.now rows part best.cut.count c.in_ok-packing.packing) c.deref-3.ensures.value c.in_ok-packing.ensures.packing;
         balanced = subst (λ (part : List ℕ). IsPackedEvenly c.args.ranks c.args.pinned.now rows part best.cut.count c.args.keep c.in_ok-packing.packing) c.deref-3.ensures.value c.in_ok-packing.ensures.balanced;
-        bound = c.in_ok-packing.ensures.bound;
-        three = c.in_ok-packing.ensures.three;
         moved = c.moved-moved.ensures
             ∙ (ap (λ (part : List ℕ). moved_inodes rows part c.deref-5.result.now (length rows)) c.deref-4.ensures.value
             ∙ ap (λ (rank : List ℕ). moved_inodes rows best.cut.part.items rank (length rows)) c.deref-5.ensures.value);
