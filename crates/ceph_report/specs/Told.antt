@@ -42,7 +42,7 @@ hottest_planned facts = hottest facts.plan.now.packing.load.items
 
 -- what the hottest of all ranks can't get below: the bound of the plan's ranks, and the most that is pinned to a rank
 abbrev pub hottest_bound : Facts → ℕ
-hottest_bound facts = max facts.plan.now.packing.bound (hottest facts.pinned.now)
+hottest_bound facts = max facts.bound (hottest facts.pinned.now)
 
 -- the heat of a directory that is planned, and none of one that is held
 abbrev pub free_heat : Facts → ℕ → ℕ

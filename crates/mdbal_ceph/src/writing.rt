@@ -80,6 +80,7 @@ fn facts_of<'a>(outcome: &'a Outcome, moves: &'a [Move], standing: usize) -> Fac
         active: outcome.active,
         ranks: outcome.ranks,
         plan: &outcome.decision.proposal.plan,
+        bound: outcome.bound,
         sums: &outcome.decision.sums,
         pinned: &outcome.decision.pinned,
         moves,
