@@ -2,7 +2,7 @@
 
 use crate::given::{by_rank, first, rank};
 use crate::same::{Row, Sure, same_in, same_rows};
-use ceph_plan::{Packing, are_parts, are_pinned, pack};
+use ceph_plan::{Packing, are_parts, are_pinned, heats_bound, pack};
 use mds_types::{Problem, ProblemRow, Rank, RankSet};
 use std::alloc::Global;
 use std::process::Abort;
@@ -53,8 +53,8 @@ fn packed(rt: &impl Abort, alloc: Global, row: &Case) -> Packing {
     packing.ok_or("it isn't packed").sure(rt)
 }
 
-/// The loads of the first ranks, the greatest and the bound.
-type Loads<'a> = (&'a [u64], u64, u64);
+/// The loads of the first ranks, and the greatest.
+type Loads<'a> = (&'a [u64], u64);
 
 /// What is tried, and what it comes to.
 struct Case {
@@ -76,7 +76,7 @@ const PACKED: &[Case] = &[
         pinned: &[],
         keep: 0,
         ranks: &[0, 0, 1, 2, 2, 1],
-        loads: (&[7, 9, 9], 9, 9),
+        loads: (&[7, 9, 9], 9),
     },
     Case {
         name: "among equals the rank that has most of the part",
@@ -84,7 +84,7 @@ const PACKED: &[Case] = &[
         pinned: &[],
         keep: 0,
         ranks: &[0, 2],
-        loads: (&[0, 0, 7], 7, 7),
+        loads: (&[0, 0, 7], 7),
     },
     Case {
         name: "a part stays where it is while another rank is hotter anyway",
@@ -92,7 +92,7 @@ const PACKED: &[Case] = &[
         pinned: &[0, 100],
         keep: 0,
         ranks: &[0, 0],
-        loads: (&[8, 100, 0], 100, 100),
+        loads: (&[8, 100, 0], 100),
     },
     Case {
         name: "and goes where the least is pinned otherwise",
@@ -100,7 +100,7 @@ const PACKED: &[Case] = &[
         pinned: &[0, 100],
         keep: 0,
         ranks: &[0, 2],
-        loads: (&[3, 100, 99], 100, 100),
+        loads: (&[3, 100, 99], 100),
     },
     Case {
         name: "a part stays where the load passes the greatest by as much as is allowed",
@@ -108,7 +108,7 @@ const PACKED: &[Case] = &[
         pinned: &[],
         keep: 90,
         ranks: &[0, 1, 1],
-        loads: (&[0, 1900, 0], 1900, 1000),
+        loads: (&[0, 1900, 0], 1900),
     },
     Case {
         name: "and goes where it passes it by more",
@@ -116,7 +116,7 @@ const PACKED: &[Case] = &[
         pinned: &[],
         keep: 89,
         ranks: &[0, 1, 0],
-        loads: (&[900, 1000, 0], 1000, 1000),
+        loads: (&[900, 1000, 0], 1000),
     },
 ];
 
@@ -127,7 +127,7 @@ impl Row<u8> for Rank {
 }
 
 fn loads_of(found: &Packing) -> Loads<'_> {
-    (first(&found.load, 3), found.greatest, found.bound)
+    (first(&found.load, 3), found.greatest)
 }
 
 /// The parts are at the row's ranks, and the first ranks have its loads.
@@ -144,5 +144,38 @@ fn packs_so(rt: &impl Abort, alloc: Global, row: &Case) {
 fn packs_the_hottest_first(rt: HostRuntime) {
     for row in PACKED {
         packs_so(&rt, rt.alloc(), row);
+    }
+}
+
+/// Heats, what is pinned to the first of three ranks, and what no assignment can get below.
+const BOUNDS: &[(&[u64], &[u64], u64)] = &[
+    // the mean load, rounded up
+    (&[3, 2, 2, 2], &[], 3),
+    (&[6, 5, 4, 3], &[1], 7),
+    // the hottest directory, where least is pinned
+    (&[150, 20], &[30, 60, 60], 180),
+    // what is pinned to one rank
+    (&[7], &[0, 100], 100),
+    (&[], &[], 0),
+];
+
+/// The bound of heats, where this is pinned to the first ranks.
+fn bound_of(rt: &impl Abort, alloc: Global, heats: &[u64], pinned: &[u64]) -> u64 {
+    let pinned = by_rank(rt, alloc, pinned);
+    assert!(rt; are_pinned(&pinned));
+    let ranks = RankSet::from_bits(7);
+    assert!(rt; ranks.has(Rank::default()));
+    heats_bound(heats, &pinned, ranks)
+}
+
+#[test]
+fn bounds_what_can_be_had(rt: HostRuntime) {
+    for (heats, pinned, wanted) in BOUNDS {
+        same_in(
+            &rt,
+            &bound_of(&rt, rt.alloc(), heats, pinned),
+            wanted,
+            heats,
+        );
     }
 }
