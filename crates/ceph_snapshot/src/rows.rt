@@ -1,6 +1,6 @@
 //! What the planner is given of the directories.
-ghost use Rattle.std.specs.Prelude.{◌≡◌, ◌<◌, ℕ, length, slice_index, IfOk, if◌then◌else◌};
-ghost use Rattle.ceph_snapshot.specs.Rows.{AreRowsOf, free_heat, is_free};
+ghost use Rattle.std.specs.Prelude.{◌≡◌, ◌<◌, ℕ, length, slice_index, IfOk};
+ghost use Rattle.ceph_snapshot.specs.Rows.{AreRowsOf, free_heat};
 
 use crate::directory::Directory;
 use crate::held::Held;
@@ -21,23 +21,13 @@ pub fn free_heats(
 {
     let mut heats = Vec::with_capacity(alloc, directories.len())?;
     for (at, directory) in directories.iter().enumerate() {
-        heats.push(heat_if_free(directory, holds[at]))?;
+        let is_free = matches!(holds[at], Held::Free);
+        heats.push(if is_free { directory.heat } else { 0 })?;
     }
     Ok(heats)
 }
 
-/// The heat of a directory if nothing holds it.
-fn heat_if_free(directory: &Directory, hold: Held) -> u64
-    ensures { result ≡ (if is_free hold then directory.entry.now.heat else 0) }
-{
-    match hold {
-        Held::Free => directory.heat,
-        Held::Pinned(_) | Held::Spread(_) => 0,
-    }
-}
-
-/// The directories as rows. What is held is planned as if it had neither heat nor
-/// inodes: it counts at the rank that holds it.
+/// The directories as rows. What is held counts at the rank that holds it, and is planned with no heat or inodes.
 pub fn rows_of(
     alloc: Global,
     directories: &[Directory],
