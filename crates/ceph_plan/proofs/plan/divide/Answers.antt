@@ -1,14 +1,12 @@
-use Rattle.std.proofs.Common.{◌∙◌, ◌<◌, ◌↔◌, ◌≤◌, ℕ, IsTrue, List, length, ap, subst, sym, slice_index}
+use Rattle.std.proofs.Common.{◌∙◌, ◌<◌, ◌↔◌, ◌≤◌, ℕ, IsTrue, List, length, subst}
 use Rattle.std.proofs.lemmas.List.{length-map}
 use Rattle.mds_types.specs.declared.problem.ProblemRow.{ProblemRow}
 use Rattle.mds_types.specs.Problem.{heat_at}
 use Rattle.minmax_search.specs.declared.found.BestCut.{BestCut}
 use Rattle.minmax_search.specs.Found.{IsFound}
-use Rattle.ceph_plan.specs.Balance.{IsPackedEvenly}
-use Rattle.ceph_plan.specs.Packing.{IsPacking}
-use Rattle.ceph_plan.specs.Plans.{capped_row, capped_rows, moved_inodes}
+use Rattle.ceph_plan.specs.Plans.{ArePackings, capped_row, capped_rows}
 use Rattle.ceph_plan.proofs.CappedRows.{AreParts, division-capped, forest-capped, found-capped, parts-found, some-capped}
-use Rattle.ceph_plan.proofs.plan.plan_parts.Goals as goal
+use Rattle.ceph_plan.proofs.plan.divide.Goals as goal
 
 pub search_rows-requires-clause-forest : goal.search_rows-requires-clause-forest
 search_rows-requires-clause-forest c =
@@ -32,40 +30,19 @@ pack-requires-clause-parts c = (parts_at-pack c).size
 pub pack-requires-clause-below : goal.pack-requires-clause-below
 pack-requires-clause-below c = (parts_at-pack c).below
 
-parts_at-moved : (c : goal.After-deref-5) → AreParts c.args.rows.now c.deref-4.result.now c.in_ok-cut.field-0.cut.count
-parts_at-moved c =
-    parts-found c.args.rows.now c.deref.result.now c.args.size.cap c.args.size.parts c.in_ok-cut.field-0 c.deref-4.result.now c.deref-4.ensures.value
-    c.requires.few (c.deref.ensures.value ∙ c.in_ok-capped.ensures) c.in_ok-cut.ensures
-
-pub moved-moved-requires-clause-few : goal.moved-moved-requires-clause-few
-moved-moved-requires-clause-few c = c.requires.forest.few
-
-pub moved-moved-requires-clause-parts : goal.moved-moved-requires-clause-parts
-moved-moved-requires-clause-parts c = (parts_at-moved c).size
-
-pub moved-moved-requires-clause-below : goal.moved-moved-requires-clause-below
-moved-moved-requires-clause-below c = λ i lt.
-    subst (λ (n : ℕ). slice_index c.deref-4.result.now i < n) (sym (ap length c.deref-5.ensures.value ∙ c.in_ok-packing.ensures.packing.size))
-    ((parts_at-moved c).below i lt)
-
-pub returns-clause-plan : goal.returns-clause-plan
-returns-clause-plan c =
+pub returns-clause-divided : goal.returns-clause-divided
+returns-clause-divided c =
     let rows : List ProblemRow = c.args.rows.now in
     let cap : ℕ = c.args.size.cap in
     let best : BestCut = c.in_ok-cut.field-0 in
     let found : IsFound (capped_rows cap rows) c.args.size.parts best =
     found-capped rows c.deref.result.now cap c.args.size.parts best (c.deref.ensures.value ∙ c.in_ok-capped.ensures) c.in_ok-cut.ensures in
     record {
-      is = record {
-        forest = c.requires.forest;
-        size = found.cut.size ∙ length-map rows (capped_row cap);
-        division = division-capped cap rows _ _ found.cut.parts.division;
-        packing = subst (λ (part : List ℕ). IsPacking c.args.ranks c.args.pinned.now rows part best.cut.count c.in_ok-packing.packing) c.deref-3.ensures.value c.in_ok-packing.ensures.packing;
-        balanced = subst (λ (part : List ℕ). IsPackedEvenly c.args.ranks c.args.pinned.now rows part best.cut.count c.args.keep c.in_ok-packing.packing) c.deref-3.ensures.value c.in_ok-packing.ensures.balanced;
-        moved = c.moved-moved.ensures
-            ∙ (ap (λ (part : List ℕ). moved_inodes rows part c.deref-5.result.now (length rows)) c.deref-4.ensures.value
-            ∙ ap (λ (rank : List ℕ). moved_inodes rows best.cut.part.items rank (length rows)) c.deref-5.ensures.value);
-      };
+      forest = c.requires.forest;
+      size = found.cut.size ∙ length-map rows (capped_row cap);
+      division = division-capped cap rows _ _ found.cut.parts.division;
+      packings = subst (λ (part : List ℕ). ArePackings c.args.ranks c.args.pinned.now rows part best.cut.count c.in_ok-packings.packings.even c.in_ok-packings.packings.each.items)
+          c.deref-3.ensures.value c.in_ok-packings.ensures;
       few = found.few;
       greatest = best.greatest;
       within = found.cut.within;
