@@ -2,7 +2,8 @@
 //!
 //! Pins are changed in this order: first the new ones are set, from the last row to the first, and then those that are
 //! no longer wanted are taken away, from the first row to the last. No row goes by way of a third rank.
-ghost use Rattle.std.specs.Prelude.{◌≡◌, ◌<◌, ◌≤◌, ◌⊎◌, ℕ, List, Option, length};
+ghost use Rattle.std.specs.Prelude.{◌≡◌, ◌<◌, ◌≤◌, ◌⊎◌, ◌∷◌, [], ℕ, List, Option, length};
+ghost use Rattle.ceph_plan.specs.declared.packing.TheConstants.{TOLERANCES};
 ghost use Rattle.ceph_plan.specs.declared.plan.PackedDivision.{PackedDivision};
 ghost use Rattle.ceph_plan.specs.declared.plan.Planned.{Planned};
 ghost use Rattle.ceph_plan.specs.Choice.{IsTaken};
@@ -27,4 +28,9 @@ pub fn each_row_moves_once()
 pub fn larger_tolerance_moves_no_more()
     ensures { (keep more : ℕ) (divisions : List PackedDivision) (plan other : Planned) → keep ≤ more
         → IsTaken keep divisions plan → IsTaken more divisions other → other.moved ≤ plan.moved }
+{}
+
+/// The tolerances that are tried, in percent.
+pub fn tolerances_are()
+    ensures { TOLERANCES.now ≡ 0 ∷ 1 ∷ 2 ∷ 5 ∷ 10 ∷ 20 ∷ 50 ∷ 100 ∷ [] }
 {}
