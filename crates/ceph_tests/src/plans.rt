@@ -3,7 +3,7 @@
 use crate::given::{by_rank, first};
 use crate::refused::{WANTED, proposed};
 use crate::same::{Sure, same_in};
-use ceph_plan::{PlanError, choose_plan};
+use ceph_plan::{PlanError, Wanted, choose_plan};
 use mds_types::{ProblemRow, Rank, RankSet};
 use std::alloc::Global;
 use std::process::Abort;
@@ -72,4 +72,46 @@ fn refuses_what_it_cant_plan(rt: HostRuntime) {
         let found = refusal(rt.alloc(), &rows, first(NOTHING_HELD, *ranks), *mask);
         same_in(&rt, &found, error, heats);
     }
+}
+
+/// The inodes that move with each of these tolerances, where 50 children of the root have heat by Zipf's law.
+fn moved_by_tolerance(rt: &impl Abort, alloc: Global, tolerances: &[u8]) -> Vec<u64> {
+    let mut heats = Vec::new(alloc);
+    for place in 0..=50u64 {
+        let heat = if place == 0 { 0 } else { 100_000 / place };
+        heats.push(heat).sure(rt);
+    }
+    let rows = star(rt, alloc, &heats);
+    let mut moved = Vec::new(alloc);
+    for keep in tolerances {
+        let wanted = Wanted {
+            keep: *keep,
+            ..WANTED
+        };
+        let ranks = RankSet::from_bits(7);
+        let plan = choose_plan(alloc, &rows, wanted, NOTHING_HELD, ranks).sure(rt);
+        moved.push(plan.moved).sure(rt);
+    }
+    moved
+}
+
+/// How often a number is greater than the one before.
+fn rises(numbers: &[u64]) -> u32 {
+    let (mut rises, mut before) = (0u32, u64::MAX);
+    for number in numbers {
+        if *number > before {
+            rises = rises.saturating_add(1);
+        }
+        before = *number;
+    }
+    rises
+}
+
+/// Tolerances in percent, a larger one after a smaller one.
+const TOLERATED: &[u8] = &[0, 1, 5, 20, 100];
+
+#[test]
+fn a_larger_tolerance_moves_no_more(rt: HostRuntime) {
+    let moved = moved_by_tolerance(&rt, rt.alloc(), TOLERATED);
+    same_in(&rt, &rises(&moved), &0, &moved.as_slice());
 }
