@@ -150,7 +150,7 @@ impl Facts<'_> {
         let bound = self.hottest_bound();
         if bound <= hottest(self.pinned) {
             BoundTerm::Pinned
-        } else if bound <= self.single_load() {
+        } else if bound == self.single_load() {
             BoundTerm::Hottest
         } else {
             BoundTerm::Mean
