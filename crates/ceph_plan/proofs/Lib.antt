@@ -9,10 +9,12 @@ pub mod Least
 pub mod Means
 pub mod Moves
 pub mod Orders
-pub mod Packed
+pub mod PackedParts
+pub mod PackedRows
 pub mod PartSums
 pub mod PinList
 pub mod Quoting
 pub mod Script
 pub mod ScriptEnds
+pub mod Taken
 pub mod Weighed

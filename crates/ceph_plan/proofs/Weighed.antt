@@ -7,72 +7,72 @@ use Rattle.std.specs.List.{slice_get}
 use Rattle.std.specs.Option.{option_map_or}
 use Rattle.mds_types.specs.declared.problem.ProblemRow.{ProblemRow}
 use Rattle.mds_types.specs.RankSet.{rank_count}
-use Rattle.ceph_plan.specs.declared.plan.Planned.{Planned}
+use Rattle.ceph_plan.specs.declared.plan.PackedDivision.{PackedDivision}
 use Rattle.ceph_plan.specs.declared.plan.Size.{Size}
-use Rattle.ceph_plan.specs.Choice.{AreWeighed, HasHeavyPlan, HasPlanOf, IsWeighed, fair_share, gap, size_of, total_of_rows}
-use Rattle.ceph_plan.specs.Plans.{IsPlan, IsPlanOf, no_cap}
+use Rattle.ceph_plan.specs.Choice.{AreWeighed, HasDivision, HasHeavyDivision, IsWeighed, fair_share, gap, size_of, total_of_rows}
+use Rattle.ceph_plan.specs.Plans.{IsDivided, no_cap}
 
-get_kept : {X : Type 0} (xs : List X) (x y : X) (k : ℕ) → slice_get xs k ≡ Some y → slice_get (xs ++ x ∷ []) k ≡ Some y
+pub get_kept : {X : Type 0} (xs : List X) (x y : X) (k : ℕ) → slice_get xs k ≡ Some y → slice_get (xs ++ x ∷ []) k ≡ Some y
 get_kept [] x y k is = absurd (none-some y is)
 get_kept (a ∷ xs) x y zero is = is
 get_kept (a ∷ xs) x y (suc k) is = get_kept xs x y k is
 
-get_last : {X : Type 0} (xs : List X) (x : X) → slice_get (xs ++ x ∷ []) (length xs) ≡ Some x
+pub get_last : {X : Type 0} (xs : List X) (x : X) → slice_get (xs ++ x ∷ []) (length xs) ≡ Some x
 get_last [] x = refl
 get_last (a ∷ xs) x = get_last xs x
 
-get_either : {X : Type 0} (xs : List X) (x y : X) (k : ℕ) → slice_get (xs ++ x ∷ []) k ≡ Some y → (slice_get xs k ≡ Some y) ⊎ (x ≡ y)
+pub get_either : {X : Type 0} (xs : List X) (x y : X) (k : ℕ) → slice_get (xs ++ x ∷ []) k ≡ Some y → (slice_get xs k ≡ Some y) ⊎ (x ≡ y)
 get_either {X = X} [] x y zero is = inr (ap (λ (o : Option X). option_map_or (λ (z : X). z) o x) is)
 get_either [] x y (suc k) is = absurd (none-some y is)
 get_either (a ∷ xs) x y zero is = inl is
 get_either (a ∷ xs) x y (suc k) is = get_either xs x y k is
 
 -- what is there stays there
-plan_kept : (ranks keep : ℕ) (pinned : List ℕ) (rows : List ProblemRow) (plans : List Planned) (more : Planned) (parts cap : ℕ)
-    → HasPlanOf ranks keep pinned rows plans parts cap → HasPlanOf ranks keep pinned rows (plans ++ more ∷ []) parts cap
-plan_kept ranks keep pinned rows plans more parts cap has =
-    record { k = has.k; plan = has.plan; there = get_kept plans more has.plan has.k has.there; of = has.of }
+plan_kept : (ranks : ℕ) (pinned : List ℕ) (rows : List ProblemRow) (plans : List PackedDivision) (more : PackedDivision) (parts cap : ℕ)
+    → HasDivision ranks pinned rows plans parts cap → HasDivision ranks pinned rows (plans ++ more ∷ []) parts cap
+plan_kept ranks pinned rows plans more parts cap has =
+    record { k = has.k; divided = has.divided; there = get_kept plans more has.divided has.k has.there; of = has.of }
 
-heavy_kept : (ranks keep : ℕ) (pinned : List ℕ) (rows : List ProblemRow) (plans : List Planned) (more : Planned) (parts next : ℕ) → parts ≤ next
-    → HasHeavyPlan ranks keep pinned rows plans parts → HasHeavyPlan ranks keep pinned rows (plans ++ more ∷ []) next
-heavy_kept ranks keep pinned rows plans more parts next le has = record {
+heavy_kept : (ranks : ℕ) (pinned : List ℕ) (rows : List ProblemRow) (plans : List PackedDivision) (more : PackedDivision) (parts next : ℕ) → parts ≤ next
+    → HasHeavyDivision ranks pinned rows plans parts → HasHeavyDivision ranks pinned rows (plans ++ more ∷ []) next
+heavy_kept ranks pinned rows plans more parts next le has = record {
   fewer = has.fewer;
   less = le_trans has.less le;
   k = has.k;
-  plan = has.plan;
-  there = get_kept plans more has.plan has.k has.there;
+  divided = has.divided;
+  there = get_kept plans more has.divided has.k has.there;
   of = has.of;
   heavy = has.heavy;
 }
 
-weighed_kept : (ranks keep : ℕ) (pinned : List ℕ) (rows : List ProblemRow) (plans : List Planned) (more : Planned) (parts : ℕ)
-    → IsWeighed ranks keep pinned rows plans parts → IsWeighed ranks keep pinned rows (plans ++ more ∷ []) parts
-weighed_kept ranks keep pinned rows plans more parts is = record {
+weighed_kept : (ranks : ℕ) (pinned : List ℕ) (rows : List ProblemRow) (plans : List PackedDivision) (more : PackedDivision) (parts : ℕ)
+    → IsWeighed ranks pinned rows plans parts → IsWeighed ranks pinned rows (plans ++ more ∷ []) parts
+weighed_kept ranks pinned rows plans more parts is = record {
   tried = is.tried;
   low = is.low;
   near = is.near;
   of = elim is.of [
-    | inl has ↦ inl (plan_kept ranks keep pinned rows plans more is.tried no_cap has)
+    | inl has ↦ inl (plan_kept ranks pinned rows plans more is.tried no_cap has)
     | inr has ↦ inr (
-      heavy_kept ranks keep pinned rows plans more is.tried is.tried (le_refl is.tried) has.0,
-      plan_kept ranks keep pinned rows plans more is.tried (fair_share (total_of_rows rows) is.tried) has.1,
+      heavy_kept ranks pinned rows plans more is.tried is.tried (le_refl is.tried) has.0,
+      plan_kept ranks pinned rows plans more is.tried (fair_share (total_of_rows rows) is.tried) has.1,
     )
   ];
 }
 
 -- one more plan, of this number of parts
-pub weighed_more : (ranks keep : ℕ) (pinned : List ℕ) (rows : List ProblemRow) (plans : List Planned) (n next : ℕ) (more : Planned) → AreWeighed ranks keep pinned rows plans n
-    → next ≡ n + gap n + 1 → IsPlan ranks keep pinned rows more
-    → HasPlanOf ranks keep pinned rows (plans ++ more ∷ []) n no_cap
-    ⊎ (HasHeavyPlan ranks keep pinned rows (plans ++ more ∷ []) n × HasPlanOf ranks keep pinned rows (plans ++ more ∷ []) n (fair_share (total_of_rows rows) n))
-    → AreWeighed ranks keep pinned rows (plans ++ more ∷ []) next
-weighed_more ranks keep pinned rows plans n next more before step is of = record {
+pub weighed_more : (ranks : ℕ) (pinned : List ℕ) (rows : List ProblemRow) (plans : List PackedDivision) (n next cap : ℕ) (more : PackedDivision) → AreWeighed ranks pinned rows plans n
+    → next ≡ n + gap n + 1 → IsDivided ranks pinned rows n cap more
+    → HasDivision ranks pinned rows (plans ++ more ∷ []) n no_cap
+    ⊎ (HasHeavyDivision ranks pinned rows (plans ++ more ∷ []) n × HasDivision ranks pinned rows (plans ++ more ∷ []) n (fair_share (total_of_rows rows) n))
+    → AreWeighed ranks pinned rows (plans ++ more ∷ []) next
+weighed_more ranks pinned rows plans n next cap more before step is of = record {
   all = λ k plan there.
       ⊎_elim (λ (old : slice_get plans k ≡ Some plan). before.all k plan old)
-      (λ (new : more ≡ plan). subst (IsPlan ranks keep pinned rows) new is)
+      (λ (new : more ≡ plan). (n, cap, subst (IsDivided ranks pinned rows n cap) new is))
       (get_either plans more plan k there);
   each = λ parts low high.
-      ⊎_elim (λ (old : parts < n). weighed_kept ranks keep pinned rows plans more parts (before.each parts low old))
+      ⊎_elim (λ (old : parts < n). weighed_kept ranks pinned rows plans more parts (before.each parts low old))
       (λ (new : n ≤ parts). record { tried = n; low = new; near = below-next parts n (gap n) next high step; of = of })
       (cases_lt parts n);
 }
@@ -80,67 +80,67 @@ weighed_more ranks keep pinned rows plans n next more before step is of = record
     below-next : (parts n over next : ℕ) → parts < next → next ≡ n + over + 1 → parts ≤ n + over
     below-next parts n over next high step = omega (arith, high, step)
 
-has_last : (ranks keep : ℕ) (pinned : List ℕ) (rows : List ProblemRow) (plans : List Planned) (more : Planned) (n cap : ℕ) → IsPlanOf ranks keep pinned rows n cap more
-    → HasPlanOf ranks keep pinned rows (plans ++ more ∷ []) n cap
-has_last ranks keep pinned rows plans more n cap of = record { k = length plans; plan = more; there = get_last plans more; of = of }
+has_last : (ranks : ℕ) (pinned : List ℕ) (rows : List ProblemRow) (plans : List PackedDivision) (more : PackedDivision) (n cap : ℕ) → IsDivided ranks pinned rows n cap more
+    → HasDivision ranks pinned rows (plans ++ more ∷ []) n cap
+has_last ranks pinned rows plans more n cap of = record { k = length plans; divided = more; there = get_last plans more; of = of }
 
 -- what was weighed so far, and that a plan was heavy where the flag is set
-pub record IsSoFar (ranks keep : ℕ) (pinned : List ℕ) (rows : List ProblemRow) (plans : List Planned) (heavy : Bool) (n : ℕ) : Type 0 where
-  pub weighed : AreWeighed ranks keep pinned rows plans n
-  pub flag : heavy ≡ true → HasHeavyPlan ranks keep pinned rows plans n
+pub record IsSoFar (ranks : ℕ) (pinned : List ℕ) (rows : List ProblemRow) (plans : List PackedDivision) (heavy : Bool) (n : ℕ) : Type 0 where
+  pub weighed : AreWeighed ranks pinned rows plans n
+  pub flag : heavy ≡ true → HasHeavyDivision ranks pinned rows plans n
 
 -- a plan of the size that is to be weighed is added
-pub more-so_far : (ranks keep : ℕ) (pinned : List ℕ) (rows : List ProblemRow) (plans : List Planned) (heavy now : Bool) (n next heat : ℕ) (size : Size) (more : Planned)
-    → heat ≡ total_of_rows rows → size ≡ size_of heat n heavy → IsPlanOf ranks keep pinned rows size.parts size.cap more → next ≡ n + gap n + 1
-    → now ≡ (heavy || more.is_heavy) → IsSoFar ranks keep pinned rows plans heavy n → IsSoFar ranks keep pinned rows (plans ++ more ∷ []) now next
-more-so_far ranks keep pinned rows plans false now n next heat size more heat_is sized of step now_is before =
-    let plain : IsPlanOf ranks keep pinned rows n no_cap more = subst (λ (s : Size). IsPlanOf ranks keep pinned rows s.parts s.cap more) sized of in
+pub more-so_far : (ranks : ℕ) (pinned : List ℕ) (rows : List ProblemRow) (plans : List PackedDivision) (heavy now : Bool) (n next heat : ℕ) (size : Size) (more : PackedDivision)
+    → heat ≡ total_of_rows rows → size ≡ size_of heat n heavy → IsDivided ranks pinned rows size.parts size.cap more → next ≡ n + gap n + 1
+    → now ≡ (heavy || more.is_heavy) → IsSoFar ranks pinned rows plans heavy n → IsSoFar ranks pinned rows (plans ++ more ∷ []) now next
+more-so_far ranks pinned rows plans false now n next heat size more heat_is sized of step now_is before =
+    let plain : IsDivided ranks pinned rows n no_cap more = subst (λ (s : Size). IsDivided ranks pinned rows s.parts s.cap more) sized of in
     let less : n < next = later n (gap n) next step in
     record {
-      weighed = weighed_more ranks keep pinned rows plans n next more before.weighed step of.is (inl (has_last ranks keep pinned rows plans more n no_cap plain));
-      flag = λ set. record { fewer = n; less = less; k = length plans; plan = more; there = get_last plans more; of = plain; heavy = sym now_is ∙ set };
+      weighed = weighed_more ranks pinned rows plans n next no_cap more before.weighed step plain (inl (has_last ranks pinned rows plans more n no_cap plain));
+      flag = λ set. record { fewer = n; less = less; k = length plans; divided = more; there = get_last plans more; of = plain; heavy = sym now_is ∙ set };
     }
   where
     later : (n over next : ℕ) → next ≡ n + over + 1 → n < next
     later n over next step = omega (arith, step)
-more-so_far ranks keep pinned rows plans true now n next heat size more heat_is sized of step now_is before =
-    let heavy : HasHeavyPlan ranks keep pinned rows plans n = before.flag refl in
-    let capped : IsPlanOf ranks keep pinned rows n (fair_share (total_of_rows rows) n) more =
-    subst (λ (h : ℕ). IsPlanOf ranks keep pinned rows n (fair_share h n) more) heat_is
-    (subst (λ (s : Size). IsPlanOf ranks keep pinned rows s.parts s.cap more) sized of) in
+more-so_far ranks pinned rows plans true now n next heat size more heat_is sized of step now_is before =
+    let heavy : HasHeavyDivision ranks pinned rows plans n = before.flag refl in
+    let capped : IsDivided ranks pinned rows n (fair_share (total_of_rows rows) n) more =
+    subst (λ (h : ℕ). IsDivided ranks pinned rows n (fair_share h n) more) heat_is
+    (subst (λ (s : Size). IsDivided ranks pinned rows s.parts s.cap more) sized of) in
     record {
-      weighed = weighed_more ranks keep pinned rows plans n next more before.weighed step of.is
-          (inr (heavy_kept ranks keep pinned rows plans more n n (le_refl n) heavy, has_last ranks keep pinned rows plans more n (fair_share (total_of_rows rows) n) capped));
-      flag = λ set. heavy_kept ranks keep pinned rows plans more n next (later n (gap n) next step) heavy;
+      weighed = weighed_more ranks pinned rows plans n next (fair_share (total_of_rows rows) n) more before.weighed step capped
+          (inr (heavy_kept ranks pinned rows plans more n n (le_refl n) heavy, has_last ranks pinned rows plans more n (fair_share (total_of_rows rows) n) capped));
+      flag = λ set. heavy_kept ranks pinned rows plans more n next (later n (gap n) next step) heavy;
     }
   where
     later : (n over next : ℕ) → next ≡ n + over + 1 → n ≤ next
     later n over next step = omega (arith, step)
 
 -- what is weighed below a number is so below a smaller one
-pub weighed_fewer : (ranks keep : ℕ) (pinned : List ℕ) (rows : List ProblemRow) (plans : List Planned) (n m : ℕ) → m ≤ n → AreWeighed ranks keep pinned rows plans n
-    → AreWeighed ranks keep pinned rows plans m
-weighed_fewer ranks keep pinned rows plans n m le are = record { all = are.all; each = λ parts low high. are.each parts low (le_trans high le) }
+pub weighed_fewer : (ranks : ℕ) (pinned : List ℕ) (rows : List ProblemRow) (plans : List PackedDivision) (n m : ℕ) → m ≤ n → AreWeighed ranks pinned rows plans n
+    → AreWeighed ranks pinned rows plans m
+weighed_fewer ranks pinned rows plans n m le are = record { all = are.all; each = λ parts low high. are.each parts low (le_trans high le) }
 
 -- some plan was weighed
-pub some_weighed : (ranks keep : ℕ) (pinned : List ℕ) (rows : List ProblemRow) (plans : List Planned) (n : ℕ) → rank_count ranks < n → AreWeighed ranks keep pinned rows plans n → 0 < length plans
-some_weighed ranks keep pinned rows plans n more weighed = elim (weighed.each (rank_count ranks) (le_refl (rank_count ranks)) more).of [
-  | inl has ↦ positive has.k (length plans) (slice_get_within plans has.k has.plan has.there)
-  | inr has ↦ positive has.1.k (length plans) (slice_get_within plans has.1.k has.1.plan has.1.there)
+pub some_weighed : (ranks : ℕ) (pinned : List ℕ) (rows : List ProblemRow) (plans : List PackedDivision) (n : ℕ) → rank_count ranks < n → AreWeighed ranks pinned rows plans n → 0 < length plans
+some_weighed ranks pinned rows plans n more weighed = elim (weighed.each (rank_count ranks) (le_refl (rank_count ranks)) more).of [
+  | inl has ↦ positive has.k (length plans) (slice_get_within plans has.k has.divided has.there)
+  | inr has ↦ positive has.1.k (length plans) (slice_get_within plans has.1.k has.1.divided has.1.there)
 ]
   where
     positive : (k n : ℕ) → k < n → 0 < n
     positive k n inside = omega arith
 
 -- none is weighed before the first
-none_weighed : (ranks keep : ℕ) (pinned : List ℕ) (rows : List ProblemRow) → AreWeighed ranks keep pinned rows [] (rank_count ranks)
-none_weighed ranks keep pinned rows = record {
+none_weighed : (ranks : ℕ) (pinned : List ℕ) (rows : List ProblemRow) → AreWeighed ranks pinned rows [] (rank_count ranks)
+none_weighed ranks pinned rows = record {
   all = λ k plan there. absurd (none-some plan there);
   each = λ parts low high. let none : ⊥ = omega (arith, low, high) in absurd none;
 }
 
-pub none-so_far : (ranks keep : ℕ) (pinned : List ℕ) (rows : List ProblemRow) → IsSoFar ranks keep pinned rows [] false (rank_count ranks)
-none-so_far ranks keep pinned rows = record { weighed = none_weighed ranks keep pinned rows; flag = λ set. absurd (both_ways false refl set) }
+pub none-so_far : (ranks : ℕ) (pinned : List ℕ) (rows : List ProblemRow) → IsSoFar ranks pinned rows [] false (rank_count ranks)
+none-so_far ranks pinned rows = record { weighed = none_weighed ranks pinned rows; flag = λ set. absurd (both_ways false refl set) }
 
 pub later-count : (first n over next : ℕ) → first ≤ n → next ≡ n + over + 1 → first ≤ next
 later-count first n over next from step = omega (arith, from, step)

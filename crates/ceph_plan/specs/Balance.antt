@@ -106,14 +106,16 @@ pub record IsEvened (ranks : ℕ) (pinned heats : List ℕ) (root enough : ℕ) 
   pub cooler : (rank ≡ packed) ⊎ (greatest_by ranks pinned heats rank < greatest_by ranks pinned heats packed)
   pub left : greatest_by ranks pinned heats packed ≤ enough → rank ≡ packed
 
--- which packing is taken: the one that keeps parts at home, if its greatest load is at most `keep` percent above that
--- of the largest first, and else that one, both evened
-pub record IsChosenPacking (ranks : ℕ) (pinned heats inodes : List ℕ) (root keep : ℕ) (rank : List ℕ) : Type 0 where
+-- the packing by heat only: largest first, and then evened
+pub record IsEvenPacking (ranks : ℕ) (pinned heats : List ℕ) (root : ℕ) (even : List ℕ) : Type 0 where
   pub plain : List ℕ
   pub largest_first : IsLargestFirst ranks pinned heats root plain
   pub near_mean : IsNearMean ranks pinned heats root (greatest_by ranks pinned heats plain)
-  pub even : List ℕ
   pub evened : IsEvened ranks pinned heats root 0 plain even
+
+-- the packing that keeps parts at home within a limit, evened, if its greatest load is then within the limit, which is
+-- `keep` percent above that of the packing by heat only; and else that one
+pub record IsKeptPacking (ranks : ℕ) (pinned heats inodes : List ℕ) (root keep : ℕ) (even rank : List ℕ) : Type 0 where
   pub kept : List ℕ
   pub within : IsKeptWithin ranks pinned heats inodes root (allowed keep (greatest_by ranks pinned heats even)) kept
   pub near : List ℕ
@@ -122,23 +124,34 @@ pub record IsChosenPacking (ranks : ℕ) (pinned heats inodes : List ℕ) (root 
       × (rank ≡ near))
       ⊎ ((allowed keep (greatest_by ranks pinned heats even) < greatest_by ranks pinned heats near) × (rank ≡ even))
 
+-- a packing of parts of these heats and inodes, where `even` is the one by heat only: its loads and its greatest load,
+-- which is at most `keep` percent above that of `even`
+pub record IsPartsPacking (ranks : ℕ) (pinned heats inodes : List ℕ) (root : ℕ) (even : List ℕ)
+    (packing : Packing) : Type 0 where
+  pub ranks_are : HaveRanks ranks heats root packing.rank.items
+  pub chosen : IsKeptPacking ranks pinned heats inodes root packing.keep even packing.rank.items
+  pub size : length packing.load.items ≡ 64
+  pub loads : (r : ℕ) → r < 64 → slice_index packing.load.items r ≡ load_of_parts pinned heats packing.rank.items r
+  pub greatest : packing.greatest ≡ greatest_by ranks pinned heats packing.rank.items
+  pub coolest : packing.even ≡ greatest_by ranks pinned heats even
+  pub within : packing.greatest ≤ allowed packing.keep packing.even
+
 -- the inodes of part p at rank r
 abbrev pub part_inodes_at : List ProblemRow → List ℕ → ℕ → ℕ → ℕ
 part_inodes_at rows part p r =
     sum_below (length rows)
     (λ i. if (slice_index part i == p) && (now_at rows i == r) then inodes_at rows i else 0)
 
--- the greatest load of a packing is at most `keep` percent above that of its parts packed by heat only, largest first
--- and evened, which is no more than that of the largest first. Parts stay at home where that leaves it within the limit
-pub record IsPackedEvenly (ranks : ℕ) (pinned : List ℕ) (rows : List ProblemRow) (part : List ℕ) (count keep : ℕ)
+-- a packing of the parts of rows: its greatest load is at most its `keep` percent above that of the packing by heat
+-- only, which is no more than that of the largest first. Parts stay at home where that leaves it within the limit
+pub record IsPackedEvenly (ranks : ℕ) (pinned : List ℕ) (rows : List ProblemRow) (part : List ℕ) (count : ℕ)
     (packing : Packing) : Type 0 where
   pub heats : List ℕ
   pub inodes : List ℕ
   pub size : length heats ≡ count
   pub heat : (p : ℕ) → p < count → slice_index heats p ≡ part_heat rows (slice_index part) p
   pub there : (p r : ℕ) → p < count → r < 64 → inodes_there inodes p r ≡ part_inodes_at rows part p r
-  pub chosen : IsChosenPacking ranks pinned heats inodes (slice_index part 0) keep packing.rank.items
-  pub greatest : packing.greatest ≡ greatest_by ranks pinned heats packing.rank.items
-  pub within : packing.greatest ≤ allowed keep (greatest_by ranks pinned heats chosen.even)
-  pub cooler : greatest_by ranks pinned heats chosen.even ≤ greatest_by ranks pinned heats chosen.plain
-  pub bounded : packing.greatest ≤ allowed keep (greatest_by ranks pinned heats chosen.plain)
+  pub even : List ℕ
+  pub by_heat : IsEvenPacking ranks pinned heats (slice_index part 0) even
+  pub packed : IsPartsPacking ranks pinned heats inodes (slice_index part 0) even packing
+  pub cooler : packing.even ≤ greatest_by ranks pinned heats by_heat.plain

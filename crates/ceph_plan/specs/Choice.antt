@@ -1,5 +1,5 @@
--- Which of several plans is taken.
-use Rattle.std.specs.Prelude.{◌≡◌, ◌<◌, ◌≤◌, ◌+◌, ◌/◌, ◌⊎◌, ℕ, Bool, true, List}
+-- Which plan is taken of several divisions, each with several packings.
+use Rattle.std.specs.Prelude.{◌≡◌, ◌<◌, ◌≤◌, ◌+◌, ◌/◌, ◌⊎◌, ℕ, Bool, true, List, [], ◌∷◌}
 use Rattle.std.specs.Prelude.{Some, length, max, nat_lt, slice_get, if◌then◌else◌}
 use Rattle.std.specs.Option.{option_map_or}
 use Rattle.mds_types.specs.declared.problem.ProblemRow.{ProblemRow}
@@ -9,35 +9,65 @@ use Rattle.mds_types.specs.Sums.{sum_below}
 use Rattle.ceph_plan.specs.declared.choice.PartCount.{PartCount}
 use Rattle.ceph_plan.specs.declared.choice.PartCount.TheVariants.{AtMost, Auto}
 use Rattle.ceph_plan.specs.declared.choice.Wanted.{Wanted}
+use Rattle.ceph_plan.specs.declared.packing.Packed.{Packed}
+use Rattle.ceph_plan.specs.declared.plan.PackedDivision.{PackedDivision}
 use Rattle.ceph_plan.specs.declared.plan.Planned.{Planned}
 use Rattle.ceph_plan.specs.declared.plan.Size.{Size}
-use Rattle.ceph_plan.specs.Plans.{IsPlan, IsPlanOf, no_cap}
+use Rattle.ceph_plan.specs.Balance.{allowed}
+use Rattle.ceph_plan.specs.Plans.{IsDivided, IsPlan, no_cap, planned_of}
 use Rattle.ceph_plan.specs.Refusals.{IsPlannable}
 
-abbrev pub greatest_at : List Planned → ℕ → ℕ
-greatest_at plans k = option_map_or (λ (one : Planned). one.packing.greatest) (slice_get plans k) 0
+-- of division k: the greatest load of its parts packed by heat only, how many parts it has, and its packings
+abbrev pub even_at : List PackedDivision → ℕ → ℕ
+even_at divisions k = option_map_or (λ (one : PackedDivision). one.packings.even) (slice_get divisions k) 0
 
-abbrev pub moved_at : List Planned → ℕ → ℕ
-moved_at plans k = option_map_or (λ (one : Planned). one.moved) (slice_get plans k) 0
+abbrev pub part_count_at : List PackedDivision → ℕ → ℕ
+part_count_at divisions k = option_map_or (λ (one : PackedDivision). one.count) (slice_get divisions k) 0
 
-abbrev pub part_count_at : List Planned → ℕ → ℕ
-part_count_at plans k = option_map_or (λ (one : Planned). one.count) (slice_get plans k) 0
+abbrev pub packings_at : List PackedDivision → ℕ → List Packed
+packings_at divisions k = option_map_or (λ (one : PackedDivision). one.packings.each.items) (slice_get divisions k) []
 
--- one of two pairs has no greater number, and one that is less
-abbrev pub IsLess : ℕ → ℕ → ℕ → ℕ → Type 0
-IsLess count moved others other = (count ≤ others) × (moved ≤ other) × ((count < others) ⊎ (moved < other))
+-- of packing v: its greatest load, and the inodes that it moves
+abbrev pub greatest_in : List Packed → ℕ → ℕ
+greatest_in packings v = option_map_or (λ (one : Packed). one.packing.greatest) (slice_get packings v) 0
 
--- no plan is cooler by more than 1 %
-abbrev pub IsCool : List Planned → ℕ → Type 0
-IsCool plans k =
-    (i : ℕ) → i < length plans → greatest_at plans k ≤ greatest_at plans i + greatest_at plans i / 100
+abbrev pub moved_in : List Packed → ℕ → ℕ
+moved_in packings v = option_map_or (λ (one : Packed). one.moved) (slice_get packings v) 0
 
--- a plan within 1 % of the coolest, where no other of these has as few parts and moves as few inodes
-pub record IsChosen (plans : List Planned) (k : ℕ) : Type 0 where
-  pub inside : k < length plans
-  pub cool : IsCool plans k
-  pub fewest : (j : ℕ) → j < length plans → IsCool plans j
-      → ¬ IsLess (part_count_at plans j) (moved_at plans j) (part_count_at plans k) (moved_at plans k)
+-- each division has a packing that is as cool as that by heat only
+abbrev pub AreCool : List PackedDivision → Type 0
+AreCool divisions =
+    (k : ℕ) → k < length divisions
+    → (v : ℕ) × (v < length (packings_at divisions k)) × (greatest_in (packings_at divisions k) v ≤ even_at divisions k)
+
+-- fewer inodes move, or as few with fewer parts
+abbrev pub IsFewer : ℕ → ℕ → ℕ → ℕ → Type 0
+IsFewer moved count other others = (moved < other) ⊎ ((moved ≡ other) × (count < others))
+
+-- packing v of division k is chosen: its greatest load is at most `keep` percent above that of the coolest packing by
+-- heat only, of all divisions, and none that is as cool moves fewer inodes, or as few with fewer parts
+pub record IsChosen (keep : ℕ) (divisions : List PackedDivision) (k v : ℕ) : Type 0 where
+  pub inside : k < length divisions
+  pub there : v < length (packings_at divisions k)
+  pub coolest : ℕ
+  pub has : coolest < length divisions
+  pub least : (j : ℕ) → j < length divisions → even_at divisions coolest ≤ even_at divisions j
+  pub within : greatest_in (packings_at divisions k) v ≤ allowed keep (even_at divisions coolest)
+  pub fewest : (j w : ℕ) → j < length divisions → w < length (packings_at divisions j)
+      → greatest_in (packings_at divisions j) w ≤ allowed keep (even_at divisions coolest)
+      → ¬ IsFewer (moved_in (packings_at divisions j) w) (part_count_at divisions j)
+      (moved_in (packings_at divisions k) v) (part_count_at divisions k)
+
+-- the plan is a division with one of its packings, which is chosen
+pub record IsTaken (keep : ℕ) (divisions : List PackedDivision) (plan : Planned) : Type 0 where
+  pub k : ℕ
+  pub v : ℕ
+  pub chosen : IsChosen keep divisions k v
+  pub divided : PackedDivision
+  pub packed : Packed
+  pub at : slice_get divisions k ≡ Some divided
+  pub there : slice_get divided.packings.each.items v ≡ Some packed
+  pub is : plan ≡ planned_of divided packed
 
 -- a fair share of so much heat among so many parts, at least 1
 abbrev pub fair_share : ℕ → ℕ → ℕ
@@ -55,61 +85,66 @@ gap parts = if nat_lt parts 64 then 0 else parts / 4
 abbrev pub total_of_rows : List ProblemRow → ℕ
 total_of_rows rows = sum_below (length rows) (heat_at rows)
 
--- one of the plans is of so many parts, with rows capped there
-pub record HasPlanOf (ranks keep : ℕ) (pinned : List ℕ) (rows : List ProblemRow) (plans : List Planned)
+-- one of the divisions is into so many parts, with rows capped there
+pub record HasDivision (ranks : ℕ) (pinned : List ℕ) (rows : List ProblemRow) (divisions : List PackedDivision)
     (parts cap : ℕ) : Type 0 where
   pub k : ℕ
-  pub plan : Planned
-  pub there : slice_get plans k ≡ Some plan
-  pub of : IsPlanOf ranks keep pinned rows parts cap plan
+  pub divided : PackedDivision
+  pub there : slice_get divisions k ≡ Some divided
+  pub of : IsDivided ranks pinned rows parts cap divided
 
--- one of the plans is of fewer parts, and one row alone is its hottest part: more parts change nothing
-pub record HasHeavyPlan (ranks keep : ℕ) (pinned : List ℕ) (rows : List ProblemRow) (plans : List Planned)
+-- one of the divisions is into fewer parts, and one row alone is its hottest part: more parts change nothing
+pub record HasHeavyDivision (ranks : ℕ) (pinned : List ℕ) (rows : List ProblemRow) (divisions : List PackedDivision)
     (parts : ℕ) : Type 0 where
   pub fewer : ℕ
   pub less : fewer < parts
   pub k : ℕ
-  pub plan : Planned
-  pub there : slice_get plans k ≡ Some plan
-  pub of : IsPlanOf ranks keep pinned rows fewer no_cap plan
-  pub heavy : plan.is_heavy ≡ true
+  pub divided : PackedDivision
+  pub there : slice_get divisions k ≡ Some divided
+  pub of : IsDivided ranks pinned rows fewer no_cap divided
+  pub heavy : divided.is_heavy ≡ true
 
 -- a number of parts is weighed, or one below it with no more than the gap between. Where one row alone was the hottest
 -- part before, rows are capped at a fair share
-pub record IsWeighed (ranks keep : ℕ) (pinned : List ℕ) (rows : List ProblemRow) (plans : List Planned)
+pub record IsWeighed (ranks : ℕ) (pinned : List ℕ) (rows : List ProblemRow) (divisions : List PackedDivision)
     (parts : ℕ) : Type 0 where
   pub tried : ℕ
   pub low : tried ≤ parts
   pub near : parts ≤ tried + gap tried
-  pub of : HasPlanOf ranks keep pinned rows plans tried no_cap
-      ⊎ (HasHeavyPlan ranks keep pinned rows plans tried
-      × HasPlanOf ranks keep pinned rows plans tried (fair_share (total_of_rows rows) tried))
+  pub of : HasDivision ranks pinned rows divisions tried no_cap
+      ⊎ (HasHeavyDivision ranks pinned rows divisions tried
+      × HasDivision ranks pinned rows divisions tried (fair_share (total_of_rows rows) tried))
+
+-- each is a division of the rows
+abbrev pub AreDivisions : ℕ → List ℕ → List ProblemRow → List PackedDivision → Type 0
+AreDivisions ranks pinned rows divisions =
+    (k : ℕ) (divided : PackedDivision) → slice_get divisions k ≡ Some divided
+    → (parts : ℕ) × (cap : ℕ) × IsDivided ranks pinned rows parts cap divided
 
 -- every number of parts below n, from that of the ranks on, is weighed
-pub record AreWeighed (ranks keep : ℕ) (pinned : List ℕ) (rows : List ProblemRow) (plans : List Planned)
+pub record AreWeighed (ranks : ℕ) (pinned : List ℕ) (rows : List ProblemRow) (divisions : List PackedDivision)
     (n : ℕ) : Type 0 where
-  pub all : (k : ℕ) (plan : Planned) → slice_get plans k ≡ Some plan → IsPlan ranks keep pinned rows plan
-  pub each : (parts : ℕ) → rank_count ranks ≤ parts → parts < n → IsWeighed ranks keep pinned rows plans parts
+  pub all : AreDivisions ranks pinned rows divisions
+  pub each : (parts : ℕ) → rank_count ranks ≤ parts → parts < n → IsWeighed ranks pinned rows divisions parts
 
--- the plan that is chosen of all that are weighed, from as many parts as ranks up to so many
-pub record IsBest (ranks keep : ℕ) (pinned : List ℕ) (rows : List ProblemRow) (most : ℕ) (plan : Planned) : Type 0 where
-  pub plans : List Planned
-  pub weighed : AreWeighed ranks keep pinned rows plans (max most (rank_count ranks) + 1)
-  pub k : ℕ
-  pub chosen : IsChosen plans k
-  pub is : slice_get plans k ≡ Some plan
+-- there is one division, into at most so many parts
+pub record IsDividedOnce (ranks : ℕ) (pinned : List ℕ) (rows : List ProblemRow) (parts : ℕ)
+    (divisions : List PackedDivision) : Type 0 where
+  pub divided : PackedDivision
+  pub only : divisions ≡ divided ∷ []
+  pub of : IsDivided ranks pinned rows parts no_cap divided
 
--- the plan is the best of all numbers of parts, or one of the number that is asked for
-abbrev pub IsPlanAsked : ℕ → ℕ → List ℕ → List ProblemRow → PartCount → Planned → Type 0
-IsPlanAsked ranks keep pinned rows (Auto most) plan = IsBest ranks keep pinned rows most plan
-IsPlanAsked ranks keep pinned rows (AtMost parts) plan = IsPlanOf ranks keep pinned rows parts no_cap plan
+-- the divisions that are tried: into each number of parts up to the most, or into the number that is asked for
+abbrev pub AreTried : ℕ → List ℕ → List ProblemRow → PartCount → List PackedDivision → Type 0
+AreTried ranks pinned rows (Auto most) divisions =
+    AreWeighed ranks pinned rows divisions (max most (rank_count ranks) + 1) × (0 < length divisions)
+AreTried ranks pinned rows (AtMost parts) divisions = IsDividedOnce ranks pinned rows parts divisions
 
-abbrev pub IsAsked : ℕ → List ℕ → List ProblemRow → Wanted → Planned → Type 0
-IsAsked ranks pinned rows wanted plan = IsPlanAsked ranks wanted.keep pinned rows wanted.parts plan
-
--- what is planned: rows that can be, a plan of them, and the one that is asked for
+-- what is planned: rows that can be, and a plan of them, which is taken of all that are tried
 pub record IsPlanChoice (ranks : ℕ) (pinned : List ℕ) (rows : List ProblemRow) (wanted : Wanted)
     (found : Planned) : Type 0 where
   pub plannable : IsPlannable ranks pinned rows
-  pub plan : IsPlan ranks wanted.keep pinned rows found
-  pub asked : IsAsked ranks pinned rows wanted found
+  pub plan : IsPlan ranks pinned rows found
+  pub divisions : List PackedDivision
+  pub tried : AreTried ranks pinned rows wanted.parts divisions
+  pub taken : IsTaken wanted.keep divisions found

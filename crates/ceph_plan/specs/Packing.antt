@@ -24,16 +24,7 @@ total_of ranks f = sum_below 64 (λ r. if has_rank ranks r then f r else 0)
 abbrev pub greatest_load : ℕ → List ℕ → List ProblemRow → (ℕ → ℕ) → ℕ
 greatest_load ranks pinned rows to = greatest_of ranks (load pinned rows to)
 
--- each row goes to a rank of the set: in whatever way, in connected parts or not
-pub record IsAssignment (ranks : ℕ) (rows : List ProblemRow) (to : ℕ → ℕ) : Type 0 where
-  pub usable : (i : ℕ) → i < length rows → has_rank ranks (to i) ≡ true
-
--- every assignment has a rank that is loaded at least so much
-abbrev pub IsLowerBound : ℕ → List ℕ → List ProblemRow → ℕ → Type 0
-IsLowerBound ranks pinned rows bound =
-    (to : ℕ → ℕ) → IsAssignment ranks rows to → bound ≤ greatest_load ranks pinned rows to
-
--- the same of n directories of these heats: whichever ranks of the set they go to, one is loaded at least so much
+-- n directories of these heats: whichever ranks of the set they go to, one rank is loaded at least so much
 abbrev pub IsBoundOf : ℕ → List ℕ → ℕ → (ℕ → ℕ) → ℕ → Type 0
 IsBoundOf ranks pinned n heat bound =
     (to : ℕ → ℕ) → ((i : ℕ) → i < n → has_rank ranks (to i) ≡ true)
@@ -45,9 +36,6 @@ pub record IsAsGreat (ranks : ℕ) (pinned : List ℕ) (n : ℕ) (heat : ℕ →
   pub mean : sum_below n heat + total_of ranks (slice_index pinned) ≤ bound * rank_count ranks
   pub least : (r : ℕ) × (has_rank ranks r ≡ true) × ((i : ℕ) → i < n → heat i + slice_index pinned r ≤ bound)
   pub most : (r : ℕ) → has_rank ranks r ≡ true → slice_index pinned r ≤ bound
-
-abbrev pub IsAsGreatAsThree : ℕ → List ℕ → List ProblemRow → ℕ → Type 0
-IsAsGreatAsThree ranks pinned rows bound = IsAsGreat ranks pinned (length rows) (heat_at rows) bound
 
 -- the rank that row i goes to with its part
 abbrev pub packed_rank : List ℕ → List ℕ → ℕ → ℕ

@@ -1,12 +1,15 @@
 -- Plans: rows divided into connected parts, and the parts on ranks.
-use Rattle.std.specs.Prelude.{◌≡◌, ◌==◌, ◌<◌, ◌≤◌, ◌-◌, ◌^◌, ◌↔◌, ℕ, IsTrue, List}
-use Rattle.std.specs.Prelude.{length, map, min, slice_index, if◌then◌else◌}
+use Rattle.std.specs.Prelude.{◌≡◌, ◌==◌, ◌<◌, ◌≤◌, ◌-◌, ◌^◌, ◌↔◌, ℕ, IsTrue, List, Some}
+use Rattle.std.specs.Prelude.{length, map, min, slice_get, slice_index, if◌then◌else◌}
 use Rattle.mds_types.specs.declared.problem.ProblemRow.{ProblemRow}
 use Rattle.mds_types.specs.Division.{IsDivision, IsLeast, IsWithin}
 use Rattle.mds_types.specs.Problem.{IsForest, heat_at, inodes_at, now_at}
 use Rattle.mds_types.specs.Sums.{sum_below}
 use Rattle.ceph_plan.specs.Balance.{IsPackedEvenly}
-use Rattle.ceph_plan.specs.Packing.{IsAsGreatAsThree, IsLowerBound, IsPacking, packed_rank}
+use Rattle.ceph_plan.specs.Packing.{IsPacking, packed_rank}
+use Rattle.ceph_plan.specs.declared.packing.Packed.{Packed}
+use Rattle.ceph_plan.specs.declared.packing.TheConstants.{TOLERANCES}
+use Rattle.ceph_plan.specs.declared.plan.PackedDivision.{PackedDivision}
 use Rattle.ceph_plan.specs.declared.plan.Planned.{Planned}
 
 -- the inodes of the first n rows that go to another rank than the one that has them
@@ -15,17 +18,29 @@ moved_inodes rows part rank n =
     sum_below n (λ i. if packed_rank rank part i == now_at rows i then 0 else inodes_at rows i)
 
 -- each row is in one part, each part is connected and on one rank of the set, the root's on rank 0; loads are what
--- they are told to be, and no greater than the parts and `keep` allow; the bound is one for every assignment of rows to
--- ranks, and the inodes that move are told
-pub record IsPlan (ranks keep : ℕ) (pinned : List ℕ) (rows : List ProblemRow) (plan : Planned) : Type 0 where
+-- they are told to be, and no greater than the parts and the packing's `keep` allow; the inodes that move are told
+pub record IsPlan (ranks : ℕ) (pinned : List ℕ) (rows : List ProblemRow) (plan : Planned) : Type 0 where
   pub forest : IsForest rows
   pub size : length plan.part.items ≡ length rows
   pub division : IsDivision rows plan.count (slice_index plan.part.items)
   pub packing : IsPacking ranks pinned rows plan.part.items plan.count plan.packing
-  pub balanced : IsPackedEvenly ranks pinned rows plan.part.items plan.count keep plan.packing
-  pub bound : IsLowerBound ranks pinned rows plan.packing.bound
-  pub three : IsAsGreatAsThree ranks pinned rows plan.packing.bound
+  pub balanced : IsPackedEvenly ranks pinned rows plan.part.items plan.count plan.packing
   pub moved : plan.moved ≡ moved_inodes rows plan.part.items plan.packing.rank.items (length rows)
+
+-- a packing of the parts of rows, and the inodes that it moves
+pub record IsPacked (ranks : ℕ) (pinned : List ℕ) (rows : List ProblemRow) (part : List ℕ) (count even : ℕ)
+    (packed : Packed) : Type 0 where
+  pub packing : IsPacking ranks pinned rows part count packed.packing
+  pub balanced : IsPackedEvenly ranks pinned rows part count packed.packing
+  pub even_is : packed.packing.even ≡ even
+  pub moved : packed.moved ≡ moved_inodes rows part packed.packing.rank.items (length rows)
+
+-- a packing for each of the tolerances, in their order; for all the packing by heat only has the same greatest load
+pub record ArePackings (ranks : ℕ) (pinned : List ℕ) (rows : List ProblemRow) (part : List ℕ) (count even : ℕ)
+    (each : List Packed) : Type 0 where
+  pub keeps : map (λ (packed : Packed). packed.packing.keep) each ≡ TOLERANCES.now
+  pub are : (v : ℕ) (packed : Packed) → slice_get each v ≡ Some packed
+      → IsPacked ranks pinned rows part count even packed
 
 -- the rows, where none counts as hotter than the cap
 abbrev pub capped_row : ℕ → ProblemRow → ProblemRow
@@ -38,14 +53,28 @@ capped_rows cap rows = map (capped_row cap) rows
 abbrev pub no_cap : ℕ
 no_cap = 2 ^ 64 - 1
 
--- a plan of at most so many parts: its hottest part is as cool as that of any such division, where no row counts as
--- hotter than the cap. It is heavy where one row alone is as hot, so that more parts change nothing
-pub record IsPlanOf (ranks keep : ℕ) (pinned : List ℕ) (rows : List ProblemRow) (parts cap : ℕ)
-    (plan : Planned) : Type 0 where
-  pub is : IsPlan ranks keep pinned rows plan
-  pub few : plan.count ≤ parts
+-- a division into at most so many parts, with its packings: its hottest part is as cool as that of any such division,
+-- where no row counts as hotter than the cap. It is heavy where one row alone is as hot, so that more parts change
+-- nothing
+pub record IsDivided (ranks : ℕ) (pinned : List ℕ) (rows : List ProblemRow) (parts cap : ℕ)
+    (divided : PackedDivision) : Type 0 where
+  pub forest : IsForest rows
+  pub size : length divided.part.items ≡ length rows
+  pub division : IsDivision rows divided.count (slice_index divided.part.items)
+  pub packings : ArePackings ranks pinned rows divided.part.items divided.count divided.packings.even
+      divided.packings.each.items
+  pub few : divided.count ≤ parts
   pub greatest : ℕ
-  pub within : IsWithin (capped_rows cap rows) plan.count (slice_index plan.part.items) greatest
+  pub within : IsWithin (capped_rows cap rows) divided.count (slice_index divided.part.items) greatest
   pub least : IsLeast (capped_rows cap rows) parts greatest
-  pub heavy : IsTrue plan.is_heavy ↔ ((i : ℕ) × (i < length (capped_rows cap rows))
+  pub heavy : IsTrue divided.is_heavy ↔ ((i : ℕ) × (i < length (capped_rows cap rows))
       × (greatest ≤ heat_at (capped_rows cap rows) i))
+
+-- a division with one of its packings
+abbrev pub planned_of : PackedDivision → Packed → Planned
+planned_of divided packed = record {
+  part = divided.part;
+  count = divided.count;
+  packing = packed.packing;
+  moved = packed.moved;
+}

@@ -31,6 +31,11 @@ IsPartsRefusal parts cause.PinnedTooHot = ⊥
 IsPartsRefusal parts cause.PinnedRoot = ⊥
 IsPartsRefusal parts (cause.Problem fault) = parts ≡ 0
 
+-- why rows aren't divided: no parts are asked for, or want of memory
+abbrev pub IsCountRefusal : PartCount → PlanError → Type 0
+IsCountRefusal (Auto most) error = error ≡ cause.Memory
+IsCountRefusal (AtMost parts) error = IsPartsRefusal parts error
+
 -- no parts are asked for
 abbrev pub AsksNoParts : PartCount → Type 0
 AsksNoParts (Auto most) = ⊥

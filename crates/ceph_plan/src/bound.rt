@@ -4,7 +4,7 @@ ghost use Rattle.std.specs.Prelude.{length, min, slice_index, if◌then◌else�
 ghost use Rattle.mds_types.specs.Problem.{IsForest, heat_at};
 ghost use Rattle.mds_types.specs.RankSet.{has_rank};
 ghost use Rattle.mds_types.specs.Sums.{max_below, sum_below};
-ghost use Rattle.ceph_plan.specs.Packing.{IsAsGreat, IsAsGreatAsThree, IsBoundOf, IsLowerBound, greatest_of, total_of};
+ghost use Rattle.ceph_plan.specs.Packing.{IsAsGreat, IsBoundOf, greatest_of, total_of};
 
 use mds_types::{ProblemRow, Rank, RankSet};
 
@@ -78,19 +78,6 @@ pub fn total_heat(rows: &[ProblemRow]) -> u64
     total
 }
 
-/// The heat of the hottest row.
-fn hottest(rows: &[ProblemRow]) -> u64
-    requires { IsForest rows.now }
-    ensures hottest { result ≡ max_below (length rows.now) (heat_at rows.now) }
-    ensures small { result ≤ 2 ^ 40 }
-{
-    let mut hottest = 0;
-    for row in rows {
-        hottest = row.heat.max(hottest);
-    }
-    hottest
-}
-
 /// The greatest of three: the mean load, rounded up; the hottest directory where least is pinned; the most that is
 /// pinned. `all` is the heat of all directories, and `hottest` that of the hottest.
 fn bound_of(all: u64, hottest: u64, pinned: &[u64], ranks: RankSet) -> u64
@@ -108,18 +95,6 @@ fn bound_of(all: u64, hottest: u64, pinned: &[u64], ranks: RankSet) -> u64
     let mean = (all + total(pinned, ranks)).div_ceil(count);
     let single = hottest + least(pinned, ranks);
     mean.max(single).max(most(pinned, ranks))
-}
-
-/// What each assignment of rows to ranks, connected or not, loads at least on some rank.
-pub fn lower_bound(rows: &[ProblemRow], pinned: &[u64], ranks: RankSet) -> u64
-    requires forest { IsForest rows.now }
-    requires size { length pinned.now ≡ 64 }
-    requires small { All (λ n. n ≤ 2 ^ 57) pinned.now }
-    requires zero { has_rank ranks 0 ≡ true }
-    ensures lower { IsLowerBound ranks pinned.now rows.now result }
-    ensures three { IsAsGreatAsThree ranks pinned.now rows.now result }
-{
-    bound_of(total_heat(rows), hottest(rows), pinned, ranks)
 }
 
 /// No more heat than this is counted.

@@ -1,16 +1,18 @@
-//! How many parts: numbers from that of the ranks up to the most that are allowed are tried.
+//! How many parts: numbers from that of the ranks up to the most that are allowed are tried. Of the packings of all of
+//! them that are cool enough, one is taken that moves the fewest inodes.
 ghost use Rattle.std.specs.Prelude.{◌≡◌, ◌<◌, ◌≤◌, ◌+◌, ◌/◌, ◌^◌, ◌↔◌, ℕ, All, length, max};
 ghost use Rattle.std.specs.Prelude.{true, IfErr, IfOk, IsTrue};
 ghost use Rattle.mds_types.specs.Problem.{IsForest};
 ghost use Rattle.mds_types.specs.RankSet.{has_rank, rank_count};
-ghost use Rattle.ceph_plan.specs.Choice.{AreWeighed, IsBest, IsChosen, IsLess, IsPlanChoice};
-ghost use Rattle.ceph_plan.specs.Choice.{part_count_at, gap, greatest_at, moved_at, size_of};
-ghost use Rattle.ceph_plan.specs.Plans.{IsPlanOf, no_cap};
-ghost use Rattle.ceph_plan.specs.Refusals.{IsPartsRefusal, IsPlanRefusal};
+ghost use Rattle.ceph_plan.specs.Balance.{allowed};
+ghost use Rattle.ceph_plan.specs.Choice.{AreCool, AreTried, AreWeighed, IsChosen, IsDividedOnce, IsFewer, IsPlanChoice};
+ghost use Rattle.ceph_plan.specs.Choice.{IsTaken, even_at, gap, greatest_in, moved_in, packings_at, part_count_at};
+ghost use Rattle.ceph_plan.specs.Choice.{size_of};
+ghost use Rattle.ceph_plan.specs.Refusals.{IsCountRefusal, IsPartsRefusal, IsPlanRefusal};
 
 use crate::bound::total_heat;
-use crate::packing::are_pinned;
-use crate::plan::{Planned, Size, plan_parts};
+use crate::packing::{Packed, are_pinned};
+use crate::plan::{PackedDivision, Planned, Size, divide};
 use crate::plan_error::PlanError;
 use mds_types::{Problem, ProblemError, ProblemRow, Rank, RankSet};
 use std::alloc::Global;
@@ -18,8 +20,8 @@ use std::alloc::Global;
 /// Into how many parts the directories are divided.
 #[derive(Clone, Copy)]
 pub enum PartCount {
-    /// As many as give the coolest plan, or one within 1 % of it that has no more parts and moves no more inodes. At
-    /// most this many, or as many as there are ranks.
+    /// As many as give the plan that moves the fewest inodes, of those that are cool enough. At most this many, or as
+    /// many as there are ranks.
     Auto(u16),
     /// At most this many.
     AtMost(u16),
@@ -30,73 +32,128 @@ pub enum PartCount {
 pub struct Wanted {
     /// Into how many parts the directories are divided.
     pub parts: PartCount,
-    /// The percent by which a load may pass the greatest of the packing that looks at heat only, so that a part stays
-    /// where it is.
+    /// The percent by which the greatest load may pass that of the coolest packing by heat only, so that fewer inodes
+    /// move.
     pub keep: u8,
     /// Whether a directory without a pin at or above it stays where it is, as it does while Ceph's balancer is off.
     /// Then only those get a pin that move, or that would move with the one above.
     pub rests: bool,
 }
 
-/// The place of the coolest.
-fn coolest(plans: &[Planned]) -> usize
-    requires { 0 < length plans.now }
-    ensures inside { result < length plans.now }
-    ensures least { (k : ℕ) → k < length plans.now → greatest_at plans.now result ≤ greatest_at plans.now k }
+/// The place of the division whose packing by heat only is the coolest.
+fn coolest(divisions: &[PackedDivision]) -> usize
+    requires { 0 < length divisions.now }
+    ensures inside { result < length divisions.now }
+    ensures least { (k : ℕ) → k < length divisions.now → even_at divisions.now result ≤ even_at divisions.now k }
 {
     let mut best = 0;
-    for at in 1..plans.len() {
-        if plans[at].packing.greatest < plans[best].packing.greatest {
+    for at in 1..divisions.len() {
+        if divisions[at].packings.even < divisions[best].packings.even {
             best = at;
         }
     }
     best
 }
 
-/// The greatest load of a rank that is at most 1 % above that of a plan.
-fn limit_of(plans: &[Planned], at: usize) -> u128
-    requires { at < length plans.now }
-    ensures { result ≡ greatest_at plans.now at + greatest_at plans.now at / 100 }
+/// The greatest load that passes by at most `keep` percent that of a division's packing by heat only.
+fn limit_of(divisions: &[PackedDivision], at: usize, keep: u8) -> u128
+    requires { at < length divisions.now }
+    ensures { result ≡ allowed keep (even_at divisions.now at) }
 {
-    let greatest = u128::from(plans[at].packing.greatest);
-    greatest + greatest / 100
+    let even = u128::from(divisions[at].packings.even);
+    even + even / 100 * u128::from(keep)
 }
 
-/// Whether a plan is within the limit, and has fewer parts than another and moves no more inodes, or the other way
-/// round.
-fn is_better(plans: &[Planned], at: usize, best: usize, limit: u128) -> bool
-    requires at { at < length plans.now }
-    requires best { best < length plans.now }
-    ensures { IsTrue result ↔ ((greatest_at plans.now at ≤ limit)
-        × IsLess (part_count_at plans.now at) (moved_at plans.now at) (part_count_at plans.now best)
-        (moved_at plans.now best)) }
+/// The packings of a division.
+fn packings_of(divisions: &[PackedDivision], at: usize) -> &[Packed]
+    requires { at < length divisions.now }
+    ensures { result.now ≡ packings_at divisions.now at }
 {
-    let (here, other) = (&plans[at], &plans[best]);
-    let is_cool = u128::from(here.packing.greatest) <= limit;
-    is_cool && is_less(here.count, here.moved, other.count, other.moved)
+    &divisions[at].packings.each
 }
 
-/// Whether one of two numbers is less than the other pair's, and the other no more.
-fn is_less(count: u32, moved: u64, others: u32, other: u64) -> bool
-    ensures { IsTrue result ↔ IsLess count moved others other }
+/// The place of a packing within the limit that moves the fewest inodes; how many packings there are, if none is.
+fn fewest_within(packings: &[Packed], limit: u128) -> usize
+    ensures within { result < length packings.now → greatest_in packings.now result ≤ limit }
+    ensures fewest { (v : ℕ) → v < length packings.now → greatest_in packings.now v ≤ limit
+        → (result < length packings.now) × (moved_in packings.now result ≤ moved_in packings.now v) }
 {
-    count <= others && moved <= other && (count < others || moved < other)
-}
-
-/// The place of one within 1 % of the coolest, where no other of these has as few parts and moves as few inodes.
-fn chosen(plans: &[Planned]) -> usize
-    requires { 0 < length plans.now }
-    ensures { IsChosen plans.now result }
-{
-    let coolest = coolest(plans);
-    let limit = limit_of(plans, coolest);
-    let mut best = coolest;
-    for at in 0..plans.len() {
-        if is_better(plans, at, best, limit) {
+    let mut best = packings.len();
+    for at in 0..packings.len() {
+        let is_first = best == packings.len();
+        if u128::from(packings[at].packing.greatest) <= limit
+            && (is_first || packings[at].moved < packings[best].moved)
+        {
             best = at;
         }
     }
     best
+}
+
+/// Whether fewer inodes move, or as few with fewer parts.
+fn is_fewer(moved: u64, count: u32, other: u64, others: u32) -> bool
+    ensures { IsTrue result ↔ IsFewer moved count other others }
+{
+    moved < other || (moved == other && count < others)
+}
+
+/// Whether a packing of one division moves fewer inodes than one of another, or as few with fewer parts.
+fn is_better(
+    divisions: &[PackedDivision],
+    at: usize,
+    there: usize,
+    best: usize,
+    place: usize,
+) -> bool
+    requires at { at < length divisions.now }
+    requires there { there < length (packings_at divisions.now at) }
+    requires best { best < length divisions.now }
+    requires place { place < length (packings_at divisions.now best) }
+    ensures { IsTrue result ↔ IsFewer (moved_in (packings_at divisions.now at) there) (part_count_at divisions.now at)
+        (moved_in (packings_at divisions.now best) place) (part_count_at divisions.now best) }
+{
+    let moved = packings_of(divisions, at)[there].moved;
+    let other = packings_of(divisions, best)[place].moved;
+    is_fewer(moved, divisions[at].count, other, divisions[best].count)
+}
+
+/// Which packing of which division is taken: of those whose greatest load passes by at most `keep` percent that of the
+/// coolest packing by heat only, one that moves the fewest inodes, with the fewest parts of these.
+fn chosen(divisions: &[PackedDivision], keep: u8) -> (usize, usize)
+    requires some { 0 < length divisions.now }
+    requires cool { AreCool divisions.now }
+    ensures { IsChosen keep divisions.now result.0 result.1 }
+{
+    let first = coolest(divisions);
+    let limit = limit_of(divisions, first, keep);
+    let mut best = first;
+    let mut place = fewest_within(packings_of(divisions, first), limit);
+    for at in 0..divisions.len() {
+        let packings = packings_of(divisions, at);
+        let there = fewest_within(packings, limit);
+        if there < packings.len() && is_better(divisions, at, there, best, place) {
+            best = at;
+            place = there;
+        }
+    }
+    (best, place)
+}
+
+/// The plan that is taken of these divisions.
+fn taken(mut divisions: Vec<PackedDivision>, keep: u8) -> Planned
+    requires some { 0 < length divisions.items }
+    requires cool { AreCool divisions.items }
+    ensures { IsTaken keep divisions.items result }
+{
+    let (at, place) = chosen(&divisions, keep);
+    let mut divided = divisions.swap_remove(at);
+    let packed = divided.packings.each.swap_remove(place);
+    Planned {
+        part: divided.part,
+        count: divided.count,
+        packing: packed.packing,
+        moved: packed.moved,
+    }
 }
 
 /// How finely rows of this heat are divided for so many parts. Once one row alone was the hottest part, more parts
@@ -125,85 +182,86 @@ fn next_count(parts: u32) -> u32
     }
 }
 
-/// A plan of each number of parts that is tried, from that of the ranks to the most, as results don't fall steadily
-/// with the number.
+/// A division into each number of parts that is tried, from that of the ranks to the most, as results don't fall
+/// steadily with the number.
 fn weighed(
     alloc: Global,
     rows: &[ProblemRow],
     most: u16,
     pinned: &[u64],
     ranks: RankSet,
-    keep: u8,
-) -> Result<Vec<Planned>, PlanError>
+) -> Result<Vec<PackedDivision>, PlanError>
     requires forest { IsForest rows.now }
     requires some { 0 < length rows.now }
     requires size { length pinned.now ≡ 64 }
     requires small { All (λ n. n ≤ 2 ^ 57) pinned.now }
     requires zero { has_rank ranks 0 ≡ true }
-    ensures weighed { IfOk result (λ plans. AreWeighed ranks keep pinned.now rows.now plans.items
+    ensures weighed { IfOk result (λ divisions. AreWeighed ranks pinned.now rows.now divisions.items
         (max most (rank_count ranks) + 1)) }
-    ensures some { IfOk result (λ plans. 0 < length plans.items) }
+    ensures some { IfOk result (λ divisions. 0 < length divisions.items) }
     ensures refused { IfErr result (λ error. error ≡ PlanError.Memory) }
 {
     let (heat, count) = (total_heat(rows), u32::from(ranks.len()));
     let last = u32::from(most).max(count);
-    let mut plans = Vec::new(alloc);
+    let mut divisions = Vec::new(alloc);
     let mut is_heavy = false;
     let mut parts = count;
     while parts <= last {
         let size = size_for(parts, heat, is_heavy);
-        let plan = plan_parts(alloc, rows, size, pinned, ranks, keep)?;
-        is_heavy |= plan.is_heavy;
-        plans.push(plan)?;
+        let divided = divide(alloc, rows, size, pinned, ranks)?;
+        is_heavy |= divided.is_heavy;
+        divisions.push(divided)?;
         parts = next_count(parts);
     }
-    Ok(plans)
+    Ok(divisions)
 }
 
-/// Of the plans of all numbers that are tried the coolest, or one within 1 % of it that needs less.
-fn best_plan(
-    alloc: Global,
-    rows: &[ProblemRow],
-    most: u16,
-    pinned: &[u64],
-    ranks: RankSet,
-    keep: u8,
-) -> Result<Planned, PlanError>
-    requires forest { IsForest rows.now }
-    requires some { 0 < length rows.now }
-    requires size { length pinned.now ≡ 64 }
-    requires small { All (λ n. n ≤ 2 ^ 57) pinned.now }
-    requires zero { has_rank ranks 0 ≡ true }
-    ensures best { IfOk result (IsBest ranks keep pinned.now rows.now most) }
-    ensures refused { IfErr result (λ error. error ≡ PlanError.Memory) }
-{
-    let mut plans = weighed(alloc, rows, most, pinned, ranks, keep)?;
-    let at = chosen(&plans);
-    Ok(plans.swap_remove(at))
-}
-
-/// A plan of at most this many parts, if any are asked for.
-fn plan_of_count(
+/// One division into at most this many parts, if any are asked for.
+fn divided_once(
     alloc: Global,
     rows: &[ProblemRow],
     parts: u16,
     pinned: &[u64],
     ranks: RankSet,
-    keep: u8,
-) -> Result<Planned, PlanError>
+) -> Result<Vec<PackedDivision>, PlanError>
     requires forest { IsForest rows.now }
     requires some { 0 < length rows.now }
     requires size { length pinned.now ≡ 64 }
     requires small { All (λ n. n ≤ 2 ^ 57) pinned.now }
     requires zero { has_rank ranks 0 ≡ true }
-    ensures plan { IfOk result (IsPlanOf ranks keep pinned.now rows.now parts no_cap) }
+    ensures divided { IfOk result (λ divisions. IsDividedOnce ranks pinned.now rows.now parts divisions.items) }
     ensures refused { IfErr result (IsPartsRefusal parts) }
 {
     if parts == 0 {
         return Err(PlanError::Problem(ProblemError::NoRanks));
     }
     let (parts, cap) = (u32::from(parts), u64::MAX);
-    plan_parts(alloc, rows, Size { parts, cap }, pinned, ranks, keep)
+    let divided = divide(alloc, rows, Size { parts, cap }, pinned, ranks)?;
+    let mut divisions = Vec::new(alloc);
+    divisions.push(divided)?;
+    Ok(divisions)
+}
+
+/// The divisions that are tried. They don't depend on how much a load may pass the greatest.
+fn tried(
+    alloc: Global,
+    rows: &[ProblemRow],
+    parts: PartCount,
+    pinned: &[u64],
+    ranks: RankSet,
+) -> Result<Vec<PackedDivision>, PlanError>
+    requires forest { IsForest rows.now }
+    requires some { 0 < length rows.now }
+    requires size { length pinned.now ≡ 64 }
+    requires small { All (λ n. n ≤ 2 ^ 57) pinned.now }
+    requires zero { has_rank ranks 0 ≡ true }
+    ensures tried { IfOk result (λ divisions. AreTried ranks pinned.now rows.now parts divisions.items) }
+    ensures refused { IfErr result (IsCountRefusal parts) }
+{
+    match parts {
+        PartCount::Auto(most) => weighed(alloc, rows, most, pinned, ranks),
+        PartCount::AtMost(parts) => divided_once(alloc, rows, parts, pinned, ranks),
+    }
 }
 
 /// Which rank of the set each row is to be at, in connected parts, several a rank.
@@ -234,9 +292,6 @@ pub fn choose_plan(
         Ok(problem) => problem,
         Err((error, _)) => return Err(PlanError::Problem(error)),
     };
-    let rows = problem.rows();
-    match wanted.parts {
-        PartCount::Auto(most) => best_plan(alloc, rows, most, pinned, ranks, wanted.keep),
-        PartCount::AtMost(parts) => plan_of_count(alloc, rows, parts, pinned, ranks, wanted.keep),
-    }
+    let divisions = tried(alloc, problem.rows(), wanted.parts, pinned, ranks)?;
+    Ok(taken(divisions, wanted.keep))
 }

@@ -26,10 +26,10 @@ mod rank_choice;
 pub mod row;
 pub mod worth;
 
-pub use bound::{heats_bound, lower_bound, total_heat};
+pub use bound::{heats_bound, total_heat};
 pub use changes::changes_for;
 pub use choice::{PartCount, Wanted, choose_plan};
-pub use packing::{Packing, are_parts, are_pinned, pack};
+pub use packing::{Packed, Packing, Packings, are_parts, are_pinned, pack};
 pub use pins::{are_rows, pins_for};
 pub use plan::Planned;
 pub use plan_error::PlanError;

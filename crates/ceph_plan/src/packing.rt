@@ -1,14 +1,14 @@
-//! A packing, with what it loads on each rank and what no assignment can get below.
-ghost use Rattle.std.specs.Prelude.{◌≡◌, ◌<◌, ◌≤◌, ◌^◌, ℕ, All, length, slice_index, true, IfOk, IsTrue};
+//! A packing, with what it loads on each rank.
+ghost use Rattle.std.specs.Prelude.{◌≡◌, ◌<◌, ◌≤◌, ◌*◌, ◌^◌, ℕ, All, length, slice_index, true, IfOk, IsTrue};
 ghost use Rattle.mds_types.specs.Problem.{IsForest};
 ghost use Rattle.mds_types.specs.RankSet.{has_rank};
-ghost use Rattle.ceph_plan.specs.Balance.{IsPackedEvenly};
-ghost use Rattle.ceph_plan.specs.Packing.{IsAsGreatAsThree, IsLowerBound, IsPacking};
+ghost use Rattle.mds_types.specs.Sums.{sum_below};
+ghost use Rattle.ceph_plan.specs.Balance.{IsByHeat, IsEvenPacking, IsPartsPacking, greatest_by};
+ghost use Rattle.ceph_plan.specs.Plans.{ArePackings, moved_inodes};
 
-use crate::bound::{lower_bound, most};
 use crate::loads::loads;
 use crate::order::by_heat;
-use crate::rank_choice::{PartAmounts, choose, part_heats, part_inodes};
+use crate::rank_choice::{Choice, PartAmounts, even_choice, kept_choice, part_heats, part_inodes};
 use mds_types::{ProblemRow, Rank, RankSet};
 use std::alloc::{AllocError, Global};
 
@@ -21,8 +21,28 @@ pub struct Packing {
     pub load: Vec<u64>,
     /// The greatest load of a rank of the set.
     pub greatest: u64,
-    /// What the greatest load is at least, whichever rank each row goes to.
-    pub bound: u64,
+    /// The greatest load of the packing of the same parts by heat only.
+    pub even: u64,
+    /// The percent by which a load may pass that, so that a part stays where it is.
+    pub keep: u8,
+}
+
+/// A packing, and what it moves.
+#[derive(Drop)]
+pub struct Packed {
+    /// The packing.
+    pub packing: Packing,
+    /// The inodes of the rows that are to go to another rank.
+    pub moved: u64,
+}
+
+/// The packings of the same parts.
+#[derive(Drop)]
+pub struct Packings {
+    /// The greatest load of the packing by heat only.
+    pub even: u64,
+    /// One packing for each of `TOLERANCES`.
+    pub each: Vec<Packed>,
 }
 
 /// Whether each of these parts is below `count`.
@@ -42,11 +62,65 @@ pub fn are_pinned(pinned: &[u64]) -> bool
     pinned.len() == 64 && pinned.iter().all(|heat| *heat <= 1 << 57)
 }
 
-/// Packs the parts of rows on ranks. `part[i]` is the part of row i, and `pinned[r]` the heat of what is pinned to
-/// rank r. The root's part goes to rank 0.
+/// By how many percent a load may pass the greatest of the packing by heat only: each is tried.
+pub const TOLERANCES: &[u8] = &[0, 1, 2, 5, 10, 20, 50, 100];
+
+/// The inodes of the rows whose part goes to another rank than the one that has them.
+fn moved(rows: &[ProblemRow], part: &[u32], rank: &[Rank]) -> u64
+    requires few { length rows.now ≤ 65536 }
+    requires parts { length part.now ≡ length rows.now }
+    requires below { (i : ℕ) → i < length rows.now → slice_index part.now i < length rank.now }
+    ensures { result ≡ moved_inodes rows.now part.now rank.now (length rows.now) }
+{
+    let mut moved = 0;
+    for (i, row) in rows.iter().enumerate() {
+        if rank[part[i] as usize] != row.now {
+            moved += u64::from(row.inodes);
+        }
+    }
+    moved
+}
+
+/// The packing of parts where a load may pass by `keep` percent the greatest of the packing by heat only.
+fn packing_of(
+    alloc: Global,
+    parts: PartAmounts<'_>,
+    ranks: RankSet,
+    even: &Choice,
+    keep: u8,
+) -> Result<Packing, AllocError>
+    requires few { length parts.heats.now ≤ 65536 }
+    requires inodes { length parts.inodes.now ≡ length parts.heats.now * 64 }
+    requires order { IsByHeat parts.heats.now parts.order.now }
+    requires root { parts.root < length parts.heats.now }
+    requires pinned { length parts.pinned.now ≡ 64 }
+    requires small { All (λ n. n ≤ 2 ^ 57) parts.pinned.now }
+    requires total { sum_below (length parts.heats.now) (slice_index parts.heats.now) ≤ 2 ^ 56 }
+    requires zero { has_rank ranks 0 ≡ true }
+    requires even { IsEvenPacking ranks parts.pinned.now parts.heats.now parts.root even.now.rank.items }
+    requires greatest { even.now.greatest
+        ≡ greatest_by ranks parts.pinned.now parts.heats.now even.now.rank.items }
+    ensures parts { IfOk result (IsPartsPacking ranks parts.entry.pinned.now parts.entry.heats.now
+        parts.entry.inodes.now parts.entry.root even.now.rank.items) }
+    ensures keep { IfOk result (λ packing. packing.keep ≡ keep) }
+    ensures even { IfOk result (λ packing. packing.even ≡ even.now.greatest) }
+{
+    let choice = kept_choice(alloc, parts, ranks, even, keep)?;
+    let load = loads(alloc, parts.heats, &choice.rank, parts.pinned)?;
+    Ok(Packing {
+        rank: choice.rank,
+        load,
+        greatest: choice.greatest,
+        even: even.greatest,
+        keep,
+    })
+}
+
+/// Packs the parts of rows on ranks, once for each of `TOLERANCES`. `part[i]` is the part of row i, and `pinned[r]` the
+/// heat of what is pinned to rank r. The root's part goes to rank 0.
 ///
-/// Another part stays at the rank that has most of its inodes, unless the load there would pass by `keep` percent the
-/// greatest load of a packing that looks at heat alone.
+/// Another part stays at the rank that has most of its inodes, unless the load there would pass, by more than the
+/// tolerance, the greatest load of the packing by heat only.
 pub fn pack(
     alloc: Global,
     rows: &[ProblemRow],
@@ -54,8 +128,7 @@ pub fn pack(
     count: u32,
     pinned: &[u64],
     ranks: RankSet,
-    keep: u8,
-) -> Result<Packing, AllocError>
+) -> Result<Packings, AllocError>
     requires forest { IsForest rows.now }
     requires some { 0 < length rows.now }
     requires few { count ≤ 65536 }
@@ -64,10 +137,8 @@ pub fn pack(
     requires size { length pinned.now ≡ 64 }
     requires small { All (λ n. n ≤ 2 ^ 57) pinned.now }
     requires zero { has_rank ranks 0 ≡ true }
-    ensures packing { IfOk result (λ packing. IsPacking ranks pinned.now rows.now part.now count packing) }
-    ensures balanced { IfOk result (λ packing. IsPackedEvenly ranks pinned.now rows.now part.now count keep packing) }
-    ensures bound { IfOk result (λ packing. IsLowerBound ranks pinned.now rows.now packing.bound) }
-    ensures three { IfOk result (λ packing. IsAsGreatAsThree ranks pinned.now rows.now packing.bound) }
+    ensures { IfOk result (λ found. ArePackings ranks pinned.now rows.now part.now count found.even
+        found.each.items) }
 {
     let heats = part_heats(alloc, rows, part, count)?;
     let inodes = part_inodes(alloc, rows, part, count)?;
@@ -79,14 +150,13 @@ pub fn pack(
         root: part[0],
         pinned,
     };
-    let rank = choose(alloc, parts, ranks, keep)?;
-    let load = loads(alloc, &heats, &rank, pinned)?;
-    let greatest = most(&load, ranks);
-    let bound = lower_bound(rows, pinned, ranks);
-    Ok(Packing {
-        rank,
-        load,
-        greatest,
-        bound,
-    })
+    let even = even_choice(alloc, parts, ranks)?;
+    let mut each = Vec::with_capacity(alloc, TOLERANCES.len())?;
+    for keep in TOLERANCES {
+        let packing = packing_of(alloc, parts, ranks, &even, *keep)?;
+        let moved = moved(rows, part, &packing.rank);
+        each.push(Packed { packing, moved })?;
+    }
+    let even = even.greatest;
+    Ok(Packings { even, each })
 }

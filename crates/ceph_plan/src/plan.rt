@@ -1,13 +1,13 @@
-//! A plan of one number of parts.
-ghost use Rattle.std.specs.Prelude.{◌≡◌, ◌<◌, ◌≤◌, ◌^◌, ◌↔◌, ℕ, All, IsTrue, length, slice_index, true};
+//! Plans of one number of parts.
+ghost use Rattle.std.specs.Prelude.{◌≡◌, ◌<◌, ◌≤◌, ◌^◌, ◌↔◌, ℕ, All, IsTrue, length, true};
 ghost use Rattle.std.specs.Prelude.{IfErr, IfOk};
 ghost use Rattle.mds_types.specs.Problem.{IsForest, heat_at};
 ghost use Rattle.mds_types.specs.RankSet.{has_rank};
-ghost use Rattle.ceph_plan.specs.Plans.{IsPlanOf, capped_rows, moved_inodes};
+ghost use Rattle.ceph_plan.specs.Plans.{IsDivided, capped_rows};
 
-use crate::packing::{Packing, pack};
+use crate::packing::{Packing, Packings, pack};
 use crate::plan_error::PlanError;
-use mds_types::{ProblemRow, Rank, RankSet};
+use mds_types::{ProblemRow, RankSet};
 use minmax_search::{BestCut, search_rows};
 use std::alloc::{AllocError, Global};
 
@@ -18,10 +18,21 @@ pub struct Planned {
     pub part: Vec<u32>,
     /// How many parts there are.
     pub count: u32,
-    /// The rank of each part, the load of each rank, and what no assignment can get below.
+    /// The rank of each part, and the load of each rank.
     pub packing: Packing,
     /// The inodes of the rows that are to go to another rank.
     pub moved: u64,
+}
+
+/// The directories divided into connected parts, and several packings of the parts on the ranks.
+#[derive(Drop)]
+pub struct PackedDivision {
+    /// `part[i]` is the part of row i.
+    pub part: Vec<u32>,
+    /// How many parts there are.
+    pub count: u32,
+    /// The packings.
+    pub packings: Packings,
     /// Whether one row alone is as hot as the hottest part, or none has heat, so that more parts change nothing.
     pub is_heavy: bool,
 }
@@ -33,22 +44,6 @@ pub struct Size {
     pub parts: u32,
     /// No row counts as hotter than this.
     pub cap: u64,
-}
-
-/// The inodes of the rows whose part goes to another rank than the one that has them.
-fn moved(rows: &[ProblemRow], part: &[u32], rank: &[Rank]) -> u64
-    requires few { length rows.now ≤ 65536 }
-    requires parts { length part.now ≡ length rows.now }
-    requires below { (i : ℕ) → i < length rows.now → slice_index part.now i < length rank.now }
-    ensures { result ≡ moved_inodes rows.now part.now rank.now (length rows.now) }
-{
-    let mut moved = 0;
-    for (i, row) in rows.iter().enumerate() {
-        if rank[part[i] as usize] != row.now {
-            moved += u64::from(row.inodes);
-        }
-    }
-    moved
 }
 
 /// The rows, none hotter than `cap`.
@@ -80,21 +75,19 @@ fn has_row_of(rows: &[ProblemRow], heat: u64) -> bool
 }
 
 /// Divides the rows into at most so many parts with the least greatest heat, where no row counts as hotter than
-/// `cap`, and packs the parts on the ranks by the heat that they have.
+/// `cap`, and packs the parts on the ranks by the heat that they have, once for each of `TOLERANCES`.
 ///
 /// Where one row alone is the hottest part, no division is cooler, and the rest isn't divided any further. A cap
 /// below that row's heat lets the rest be divided as finely as the number of parts allows.
 ///
-/// `pinned[r]` is the heat that is held at rank r, and `keep` the percent by which a load may pass the greatest so
-/// that a part stays where it is.
-pub fn plan_parts(
+/// `pinned[r]` is the heat that is held at rank r.
+pub fn divide(
     alloc: Global,
     rows: &[ProblemRow],
     size: Size,
     pinned: &[u64],
     ranks: RankSet,
-    keep: u8,
-) -> Result<Planned, PlanError>
+) -> Result<PackedDivision, PlanError>
     requires forest { IsForest rows.now }
     requires some { 0 < length rows.now }
     requires parts { 0 < size.parts }
@@ -102,7 +95,7 @@ pub fn plan_parts(
     requires size { length pinned.now ≡ 64 }
     requires small { All (λ n. n ≤ 2 ^ 57) pinned.now }
     requires zero { has_rank ranks 0 ≡ true }
-    ensures plan { IfOk result (IsPlanOf ranks keep pinned.now rows.now size.parts size.cap) }
+    ensures divided { IfOk result (IsDivided ranks pinned.now rows.now size.parts size.cap) }
     ensures refused { IfErr result (λ error. error ≡ PlanError.Memory) }
 {
     let capped = capped(alloc, rows, size.cap)?;
@@ -113,13 +106,11 @@ pub fn plan_parts(
         passes: _,
     } = search_rows(alloc, &capped, size.parts)?;
     let is_heavy = has_row_of(&capped, greatest);
-    let packing = pack(alloc, rows, &cut.part, cut.count, pinned, ranks, keep)?;
-    let moved = moved(rows, &cut.part, &packing.rank);
-    Ok(Planned {
+    let packings = pack(alloc, rows, &cut.part, cut.count, pinned, ranks)?;
+    Ok(PackedDivision {
         part: cut.part,
         count: cut.count,
-        packing,
-        moved,
+        packings,
         is_heavy,
     })
 }

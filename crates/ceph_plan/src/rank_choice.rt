@@ -5,7 +5,8 @@ ghost use Rattle.mds_types.specs.Division.{part_heat};
 ghost use Rattle.mds_types.specs.Problem.{IsForest};
 ghost use Rattle.mds_types.specs.RankSet.{has_rank};
 ghost use Rattle.mds_types.specs.Sums.{sum_below};
-ghost use Rattle.ceph_plan.specs.Balance.{HaveRanks, IsByHeat, IsChosenPacking, IsEvened, IsHomeRank, IsKeptWithin};
+ghost use Rattle.ceph_plan.specs.Balance.{HaveRanks, IsByHeat, IsEvenPacking, IsEvened, IsHomeRank};
+ghost use Rattle.ceph_plan.specs.Balance.{IsKeptPacking, IsKeptWithin};
 ghost use Rattle.ceph_plan.specs.Balance.{IsNearMean, IsSent, allowed, greatest_by, inodes_there, part_inodes_at};
 
 use crate::bound::{has_number, most};
@@ -150,11 +151,11 @@ fn rank_for(
 
 /// A rank for each part, and what that comes to.
 #[derive(Drop)]
-struct Choice {
+pub(crate) struct Choice {
     /// `rank[p]` is the rank of part p.
-    rank: Vec<Rank>,
+    pub rank: Vec<Rank>,
     /// The greatest load of a rank of the set.
-    greatest: u64,
+    pub greatest: u64,
 }
 
 /// Packs the parts, the hottest first. A part stays where most of it is while the load there is within the limit.
@@ -242,16 +243,12 @@ fn evened(
     }
 }
 
-/// A rank of the set for each part: rank 0 for the root's part.
-///
-/// Another part stays at the rank that has most of its inodes, unless the load there would pass by `keep` percent the
-/// greatest load of a choice that looks at heat only.
-pub fn choose(
+/// The packing by heat only: largest first, with parts exchanged.
+pub(crate) fn even_choice(
     alloc: Global,
     parts: PartAmounts<'_>,
     ranks: RankSet,
-    keep: u8,
-) -> Result<Vec<Rank>, AllocError>
+) -> Result<Choice, AllocError>
     requires few { length parts.heats.now ≤ 65536 }
     requires inodes { length parts.inodes.now ≡ length parts.heats.now * 64 }
     requires order { IsByHeat parts.heats.now parts.order.now }
@@ -260,14 +257,47 @@ pub fn choose(
     requires small { All (λ n. n ≤ 2 ^ 57) parts.pinned.now }
     requires total { sum_below (length parts.heats.now) (slice_index parts.heats.now) ≤ 2 ^ 56 }
     requires zero { has_rank ranks 0 ≡ true }
-    ensures { IfOk result (λ rank. IsChosenPacking ranks parts.entry.pinned.now parts.entry.heats.now
-        parts.entry.inodes.now parts.entry.root keep rank.items) }
+    ensures even { IfOk result (λ choice. IsEvenPacking ranks parts.entry.pinned.now parts.entry.heats.now
+        parts.entry.root choice.rank.items) }
+    ensures greatest { IfOk result (λ choice. choice.greatest
+        ≡ greatest_by ranks parts.entry.pinned.now parts.entry.heats.now choice.rank.items) }
 {
     let plain = packed_within(alloc, parts, ranks, 0)?;
-    let even = evened(alloc, parts, ranks, 0, plain)?;
+    evened(alloc, parts, ranks, 0, plain)
+}
+
+/// A rank of the set for each part: rank 0 for the root's part.
+///
+/// Another part stays at the rank that has most of its inodes, unless the load there would pass by `keep` percent the
+/// greatest load of `even`, the packing by heat only.
+pub(crate) fn kept_choice(
+    alloc: Global,
+    parts: PartAmounts<'_>,
+    ranks: RankSet,
+    even: &Choice,
+    keep: u8,
+) -> Result<Choice, AllocError>
+    requires few { length parts.heats.now ≤ 65536 }
+    requires inodes { length parts.inodes.now ≡ length parts.heats.now * 64 }
+    requires order { IsByHeat parts.heats.now parts.order.now }
+    requires root { parts.root < length parts.heats.now }
+    requires pinned { length parts.pinned.now ≡ 64 }
+    requires small { All (λ n. n ≤ 2 ^ 57) parts.pinned.now }
+    requires total { sum_below (length parts.heats.now) (slice_index parts.heats.now) ≤ 2 ^ 56 }
+    requires zero { has_rank ranks 0 ≡ true }
+    requires greatest { even.now.greatest
+        ≡ greatest_by ranks parts.pinned.now parts.heats.now even.now.rank.items }
+    ensures kept { IfOk result (λ choice. IsKeptPacking ranks parts.entry.pinned.now parts.entry.heats.now
+        parts.entry.inodes.now parts.entry.root keep even.now.rank.items choice.rank.items) }
+    ensures greatest { IfOk result (λ choice. choice.greatest
+        ≡ greatest_by ranks parts.entry.pinned.now parts.entry.heats.now choice.rank.items) }
+{
     let limit = with_percent(even.greatest, keep);
     let kept = packed_within(alloc, parts, ranks, limit)?;
     let near = evened(alloc, parts, ranks, limit, kept)?;
-    let choice = if near.greatest <= limit { near } else { even };
-    Ok(choice.rank)
+    if near.greatest <= limit {
+        return Ok(near);
+    }
+    let (rank, greatest) = (even.rank.to_vec(alloc)?, even.greatest);
+    Ok(Choice { rank, greatest })
 }

@@ -1,5 +1,5 @@
 -- What is told of a plan.
-use Rattle.std.specs.Prelude.{◌||◌, ◌+◌, ℕ, zero, suc, Bool, List, length, max, min, nat_le, nat_lt, slice_index}
+use Rattle.std.specs.Prelude.{◌==◌, ◌||◌, ◌+◌, ℕ, zero, suc, Bool, List, length, max, min, nat_le, nat_lt, slice_index}
 use Rattle.std.specs.Prelude.{if◌then◌else◌}
 use Rattle.mds_types.specs.RankSet.{has_rank}
 use Rattle.mds_types.specs.Sums.{max_below}
@@ -42,7 +42,7 @@ hottest_planned facts = hottest facts.plan.now.packing.load.items
 
 -- what the hottest of all ranks can't get below: the bound of the plan's ranks, and the most that is pinned to a rank
 abbrev pub hottest_bound : Facts → ℕ
-hottest_bound facts = max facts.plan.now.packing.bound (hottest facts.pinned.now)
+hottest_bound facts = max facts.bound (hottest facts.pinned.now)
 
 -- the heat of a directory that is planned, and none of one that is held
 abbrev pub free_heat : Facts → ℕ → ℕ
@@ -68,8 +68,8 @@ unfoldable pub single_load : Facts → ℕ
 single_load facts = min most_heat (min (free_heat facts (hottest_place facts)) HEAT_LIMIT + least_pinned facts 64)
 
 -- the term that makes the bound: what is pinned to one rank or the hottest directory, where that comes to the bound,
--- and else the mean load
+-- and else the mean load. A directory that folding made hotter than the bound doesn't make it
 unfoldable pub bound_term : Facts → BoundTerm
 bound_term facts =
     if nat_le (hottest_bound facts) (hottest facts.pinned.now) then Pinned
-    else if nat_le (hottest_bound facts) (single_load facts) then Hottest else Mean
+    else if hottest_bound facts == single_load facts then Hottest else Mean

@@ -32,6 +32,8 @@ pub struct Facts<'a> {
     pub ranks: RankSet,
     /// The plan.
     pub plan: &'a Planned,
+    /// What no assignment of the collected directories to the ranks that may have a part can get below, in thousandths.
+    pub bound: u64,
     /// What each rank has now, and what comes and goes.
     pub sums: &'a Sums,
     /// The heat that is held at each rank by pins of others, in thousandths.
@@ -95,7 +97,7 @@ impl Facts<'_> {
     pub(crate) fn hottest_bound(&self) -> u64
         ensures { result ≡ hottest_bound self.now }
     {
-        self.plan.packing.bound.max(hottest(self.pinned))
+        self.bound.max(hottest(self.pinned))
     }
 
     /// The heat of a directory that is planned, in thousandths; 0 of one that is held.
@@ -151,7 +153,7 @@ impl Facts<'_> {
         let bound = self.hottest_bound();
         if bound <= hottest(self.pinned) {
             BoundTerm::Pinned
-        } else if bound <= self.single_load() {
+        } else if bound == self.single_load() {
             BoundTerm::Hottest
         } else {
             BoundTerm::Mean

@@ -148,7 +148,7 @@ pub nothing_folded : (ds : List Directory) → IsFolded ds ds
 nothing_folded ds = (
   λ i. false,
   λ i. i,
-  record { plain = λ i l is. apart false is refl; below = λ i some l is. apart false is refl },
+  record { plain = λ i l is. apart false is refl; below = λ i some l is. apart false is refl; coldest = λ i is. apart false is refl },
   record {
     nearest = λ i l. home_here ds (λ i. false) i refl;
     inside = λ i l. l;

@@ -17,7 +17,7 @@ use Rattle.mds_types.proofs.RankSetLemmas.{count_below_more}
 use Rattle.mds_types.proofs.SumsLemmas.{sum_below-add, sum_below-fewer, sum_below-le, sum_below-once}
 use Rattle.ceph_snapshot.specs.declared.coldest.Key.{Key}
 use Rattle.ceph_snapshot.specs.declared.directory.Directory.{Directory}
-use Rattle.ceph_snapshot.specs.Folding.{AreGone, IsPlain, is_marked}
+use Rattle.ceph_snapshot.specs.Folding.{AreColdest, AreGone, IsPlain, is_marked}
 use Rattle.ceph_snapshot.specs.Holding.{AreParentsFirst, parent_at}
 use Rattle.ceph_snapshot.specs.Keys.{goes, is_at_most, is_below, key_at, key_cmp, passes}
 
@@ -222,9 +222,9 @@ pub gone-marked : (ds : List Directory) (heats : List ℕ) (stays marks : List B
     → ((i : ℕ) → i < length ds → is_marked stays i ≡ false → IsPlain ds i)
     → ((i : ℕ) → 0 < i → i < length ds → is_marked stays i ≡ true → is_marked stays (parent_at ds i) ≡ true)
     → ((i : ℕ) → 0 < i → i < length ds → slice_index heats i ≤ slice_index heats (parent_at ds i))
-    → ((i : ℕ) → i < length heats → is_marked marks i ≡ goes heats stays last i)
+    → ((i : ℕ) → i < length heats → is_marked marks i ≡ goes heats stays last i) → AreColdest ds (is_marked marks)
     → AreGone ds (is_marked marks)
-gone-marked ds heats stays marks last size first plain above rise marked =
+gone-marked ds heats stays marks last size first plain above rise marked coldest =
     let within : (i : ℕ) → i < length ds → i < length heats = λ i l. subst (λ (n : ℕ). i < n) (sym size) l in
     record {
       plain = λ i l gone.
@@ -240,4 +240,5 @@ gone-marked ds heats stays marks last size first plain above rise marked =
           marked i (within i l)
           ∙ and_from (not (is_marked stays i)) (is_at_most (key_at heats i) last) (not_from_false (is_marked stays i) free)
           (colder heats last i (parent_at ds i) up (within i l) (rise i some l) both.1);
+      coldest = λ i gone. coldest;
     }

@@ -1,6 +1,7 @@
 pub mod Adding
 pub mod Beaten
 pub mod Folds
+pub mod HeatBelow
 pub mod Holders
 pub mod Keys
 pub mod Lookups

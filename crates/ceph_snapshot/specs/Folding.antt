@@ -1,11 +1,12 @@
 -- What folding leaves: the directories that are kept, each with what the folded ones below it had.
-use Rattle.std.specs.Prelude.{◌≡◌, ◌==◌, ◌<◌, ℕ, Bool, true, false, not, List, length, slice_get}
-use Rattle.std.specs.Prelude.{slice_index, slice_index_or, Option, None, if◌then◌else◌}
+use Rattle.std.specs.Prelude.{◌≡◌, ◌==◌, ◌<◌, ◌≤◌, ◌+◌, ◌&&◌, ◌⊎◌, ℕ, Bool, true, false, not, nat_le, List}
+use Rattle.std.specs.Prelude.{length, slice_get, slice_index, slice_index_or, Option, None, if◌then◌else◌}
 use Rattle.std.specs.List.{sum_by}
 use Rattle.std.specs.Option.{option_map}
 use Rattle.mds_types.specs.Sums.{count_below, sum_below}
 use Rattle.ceph_snapshot.specs.declared.directory.Directory.{Directory}
-use Rattle.ceph_snapshot.specs.Holding.{climb, earlier_at, heat_at, inodes_at, is_holding, now_at, parent_at}
+use Rattle.ceph_snapshot.specs.Holding.{climb, earlier_at, heat_at, inodes_at, is_holding, is_spread_at, most_heat}
+use Rattle.ceph_snapshot.specs.Holding.{now_at, parent_at}
 
 abbrev pub all_heat : List Directory → ℕ
 all_heat directories = sum_by (λ d. d.heat) directories
@@ -17,12 +18,45 @@ all_inodes directories = sum_by (λ d. d.inodes) directories
 abbrev pub is_marked : List Bool → ℕ → Bool
 is_marked marks i = slice_index_or marks i false
 
--- a directory that may be folded: it isn't the root, has no pin of its own, isn't spread, and is where its parent is
+-- a directory that may be folded: it isn't the root, has no pin of its own, isn't spread, and is where its parent is,
+-- which isn't spread either
 pub record IsPlain (directories : List Directory) (i : ℕ) : Type 0 where
   pub below : 0 < i
   pub free : is_holding directories i ≡ false
   pub unset : earlier_at directories i ≡ None
   pub here : now_at directories i ≡ now_at directories (parent_at directories i)
+  pub whole : is_spread_at directories (parent_at directories i) ≡ false
+
+-- a sum, as far as 64 bits can count it
+abbrev pub IsCappedSum : ℕ → ℕ → Type 0
+IsCappedSum capped whole = (capped ≡ whole) ⊎ ((capped ≡ most_heat) × (most_heat ≤ whole))
+
+-- what is below i in one step, among those from the first one on
+abbrev pub of_children : List Directory → (ℕ → ℕ) → ℕ → ℕ → ℕ
+of_children directories heat first i =
+    sum_below (length directories) (λ c. if nat_le first c && (parent_at directories c == i) then heat c else 0)
+
+-- the heat at and below each directory: its own, and that at and below its children
+abbrev pub IsHeatBelow : List Directory → (ℕ → ℕ) → Type 0
+IsHeatBelow directories heat =
+    (i : ℕ) → i < length directories
+    → IsCappedSum (heat i) (heat_at directories i + of_children directories heat 1 i)
+
+-- directory i, or one below it, isn't plain
+pub record HasToStay (directories : List Directory) (i : ℕ) : Type 0 where
+  pub below : ℕ
+  pub inside : below < length directories
+  pub steps : ℕ
+  pub there : climb directories steps below ≡ i
+  pub stays : ¬ IsPlain directories below
+
+-- the coldest are gone: of one that is gone and one that is kept though it need not stay, the first has no more heat
+-- at and below it
+pub record AreColdest (directories : List Directory) (gone : ℕ → Bool) : Type 0 where
+  pub heat : ℕ → ℕ
+  pub is : IsHeatBelow directories heat
+  pub first : (i j : ℕ) → i < length directories → j < length directories → gone i ≡ true → gone j ≡ false
+      → ¬ HasToStay directories j → heat i ≤ heat j
 
 -- how many of the first n directories are kept; of one that is kept that is its new place
 abbrev pub kept_below : (ℕ → Bool) → ℕ → ℕ
@@ -60,10 +94,11 @@ pub record HasLeft (directories left : List Directory) (gone : ℕ → Bool) (ho
   pub kept : (i : ℕ) → i < length directories → gone i ≡ false
       → slice_get left (kept_below gone i) ≡ folded directories gone home i
 
--- only plain directories are gone, each with all below it
+-- only plain directories are gone, each with all below it; where one is gone, the coldest are
 pub record AreGone (directories : List Directory) (gone : ℕ → Bool) : Type 0 where
   pub plain : (i : ℕ) → i < length directories → gone i ≡ true → IsPlain directories i
   pub below : (i : ℕ) → 0 < i → i < length directories → gone (parent_at directories i) ≡ true → gone i ≡ true
+  pub coldest : (i : ℕ) → gone i ≡ true → AreColdest directories gone
 
 abbrev pub IsFolded : List Directory → List Directory → Type 0
 IsFolded directories left =

@@ -12,6 +12,10 @@ is_free Free = true
 is_free (Pinned rank) = false
 is_free (Spread rank) = false
 
+-- the heat of directory i if nothing holds it
+abbrev pub free_heat : List Directory → List Held → ℕ → ℕ
+free_heat directories holds i = if is_free (held_at holds i) then heat_at directories i else 0
+
 -- what nothing holds is planned with its heat and inodes, as far as a row can count them; what is held with none
 abbrev pub planned_row : List Directory → List Held → ℕ → ProblemRow
 planned_row directories holds i = record {

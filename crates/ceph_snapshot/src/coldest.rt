@@ -1,11 +1,10 @@
 //! Which directories are folded where there are too many: the coldest, each with all that is below it.
-//!
 //! A directory goes by the heat at and below it, so it never goes before what is below it; of two that are as cold
-//! the last goes first. One that isn't plain stays, and so does all that is above it.
+//! the last goes first. One that isn't plain stays, and so does all above it. What is below a spread one isn't plain.
 ghost use Rattle.std.specs.Prelude.{◌≡◌, ◌<◌, ◌≤◌, ◌↔◌, ℕ, Bool, IsTrue, true, false, count_by};
 ghost use Rattle.std.specs.Prelude.{length, slice_index, slice_set, IfOk, IfSome};
 ghost use Rattle.mds_types.specs.Sums.{count_below};
-ghost use Rattle.ceph_snapshot.specs.Folding.{AreGone, IsPlain, is_marked, kept_below};
+ghost use Rattle.ceph_snapshot.specs.Folding.{AreGone, HasToStay, IsHeatBelow, IsPlain, is_marked, kept_below};
 ghost use Rattle.ceph_snapshot.specs.Holding.{AreParentsFirst, parent_at};
 ghost use Rattle.ceph_snapshot.specs.Keys.{goes, is_at_most, is_below, key_at, passes};
 
@@ -36,6 +35,7 @@ fn is_plain(directories: &[Directory], at: usize) -> bool
         && directory.earlier.is_none()
         && !directory.is_fixed()
         && directory.now == above.now
+        && !above.is_spread
 }
 
 /// Marks a directory that stays, and its parent.
@@ -56,6 +56,7 @@ fn staying(alloc: Global, directories: &[Directory]) -> Result<Vec<bool>, AllocE
         → IsPlain directories.now i) }
     ensures above { IfOk result (λ stays. (i : ℕ) → 0 < i → i < length directories.now
         → is_marked stays.items i ≡ true → is_marked stays.items (parent_at directories.now i) ≡ true) }
+    ensures needed { IfOk result (λ stays. (i : ℕ) → is_marked stays.items i ≡ true → HasToStay directories.now i) }
 {
     let mut stays = vec![in alloc; false; directories.len()]?;
     for at in (0..directories.len()).rev() {
@@ -72,6 +73,7 @@ fn heats_below(alloc: Global, directories: &[Directory]) -> Result<Vec<u64>, All
     ensures size { IfOk result (λ heats. length heats.items ≡ length directories.now) }
     ensures rise { IfOk result (λ heats. (i : ℕ) → 0 < i → i < length directories.now
         → slice_index heats.items i ≤ slice_index heats.items (parent_at directories.now i)) }
+    ensures heats { IfOk result (λ heats. IsHeatBelow directories.now (slice_index heats.items)) }
 {
     let mut heats = own_heats(alloc, directories)?;
     for at in (1..directories.len()).rev() {

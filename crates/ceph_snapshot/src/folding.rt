@@ -104,8 +104,7 @@ fn put(directories: &mut [Directory], from: usize, to: usize, parent: u32, heat:
     directory.inodes = inodes;
 }
 
-/// Puts the directories that are kept behind one another, each with its new parent
-/// and what came to it. Gives how many they are.
+/// Puts the kept directories one after another, each with its new parent and what came to it. Gives their number.
 fn close_up(
     directories: &mut [Directory],
     gone: &[bool],
@@ -156,10 +155,8 @@ fn folded(
     Ok(directories)
 }
 
-/// Folds the coldest directories, each with all below it, until `limit` are left: what they have, heat and
-/// inodes, goes to the nearest directory above them that is kept. Gives how many were folded.
-///
-/// Directories with a pin, those that are spread, and those that are at another rank than their parent stay.
+/// Folds the coldest directories, each with all below it, until `limit` are left: their heat and inodes go to the
+/// nearest directory above them that is kept. Gives how many were folded. Directories that aren't plain stay.
 pub fn fold(
     alloc: Global,
     directories: Vec<Directory>,

@@ -1,5 +1,4 @@
 //! Gathers what the dumps of all ranks say.
-//!
 //! A directory has its heat from the rank that has authority: the nearest subtree root at or above it decides. Where
 //! that root is in fragments at several ranks, there is no such rank: the directory, and what is below it with no
 //! root of its own, is spread.

@@ -1,5 +1,4 @@
 //! What pins hold, and what that comes to at each rank.
-//!
 //! A directory is held by the nearest pin at or above it that this program didn't set.
 //! What is spread, or may not be pinned, is held where it lies, and so is what is below it.
 ghost use Rattle.std.specs.Prelude.{◌≡◌, ◌<◌, ◌+◌, ◌↔◌, ℕ, Some, false, length, min, slice_index, true, IfOk};

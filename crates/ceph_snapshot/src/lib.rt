@@ -19,6 +19,6 @@ pub use directory::Directory;
 pub use folding::fold;
 pub use gathering::Gathering;
 pub use held::{Held, held_heat, holds};
-pub use rows::rows_of;
+pub use rows::{free_heats, rows_of};
 pub use snapshot::Snapshot;
 pub use snapshot_error::SnapshotError;

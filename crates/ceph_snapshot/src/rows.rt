@@ -1,6 +1,6 @@
 //! What the planner is given of the directories.
-ghost use Rattle.std.specs.Prelude.{◌≡◌, length, IfOk};
-ghost use Rattle.ceph_snapshot.specs.Rows.{AreRowsOf};
+ghost use Rattle.std.specs.Prelude.{◌≡◌, ◌<◌, ℕ, length, slice_index, IfOk};
+ghost use Rattle.ceph_snapshot.specs.Rows.{AreRowsOf, free_heat};
 
 use crate::directory::Directory;
 use crate::held::Held;
@@ -8,8 +8,26 @@ use mds_types::ProblemRow;
 use mds_types::limits::HEAT_LIMIT;
 use std::alloc::{AllocError, Global};
 
-/// The directories as rows. What is held is planned as if it had neither heat nor
-/// inodes: it counts at the rank that holds it.
+/// The heat of each directory that nothing holds, as it was collected, in thousandths; 0 of one that is held.
+pub fn free_heats(
+    alloc: Global,
+    directories: &[Directory],
+    holds: &[Held],
+) -> Result<Vec<u64>, AllocError>
+    requires { length holds.now ≡ length directories.now }
+    ensures size { IfOk result (λ heats. length heats.items ≡ length directories.now) }
+    ensures heats { IfOk result (λ heats. (i : ℕ) → i < length directories.now
+        → slice_index heats.items i ≡ free_heat directories.now holds.now i) }
+{
+    let mut heats = Vec::with_capacity(alloc, directories.len())?;
+    for (at, directory) in directories.iter().enumerate() {
+        let is_free = matches!(holds[at], Held::Free);
+        heats.push(if is_free { directory.heat } else { 0 })?;
+    }
+    Ok(heats)
+}
+
+/// The directories as rows. What is held counts at the rank that holds it, and is planned with no heat or inodes.
 pub fn rows_of(
     alloc: Global,
     directories: &[Directory],

@@ -239,7 +239,6 @@ fn all_finished(
 
 impl Gathering {
     /// The snapshot of what was gathered, where each rank gave so many samples and these ranks are in the file system.
-    ///
     /// Without a listing no policy is known. Then a directory just below the root is held as a whole where Ceph's own
     /// pins are at or below it.
     pub fn snapshot(self, samples: u64, ranks: RankSet) -> Result<Snapshot, SnapshotError>

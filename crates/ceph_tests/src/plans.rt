@@ -3,7 +3,7 @@
 use crate::given::{by_rank, first};
 use crate::refused::{WANTED, proposed};
 use crate::same::{Sure, same_in};
-use ceph_plan::{PlanError, choose_plan};
+use ceph_plan::{PlanError, Wanted, choose_plan};
 use mds_types::{ProblemRow, Rank, RankSet};
 use std::alloc::Global;
 use std::process::Abort;
@@ -23,26 +23,22 @@ fn star(rt: &impl Abort, alloc: Global, heats: &[u64]) -> Vec<ProblemRow> {
     rows
 }
 
-/// The greatest load of a plan, the bound, and the inodes that move.
-fn planned(rt: &impl Abort, alloc: Global, heats: &[u64], pinned: &[u64]) -> (u64, u64, u64) {
+/// The greatest load of a plan, and the inodes that move.
+fn planned(rt: &impl Abort, alloc: Global, heats: &[u64], pinned: &[u64]) -> (u64, u64) {
     let rows = star(rt, alloc, heats);
     let pinned = by_rank(rt, alloc, pinned);
     let plan = proposed(alloc, &rows, &pinned).sure(rt).plan;
-    (plan.packing.greatest, plan.packing.bound, plan.moved)
+    (plan.packing.greatest, plan.moved)
 }
 
-/// Heats, those pinned to the first ranks, and then the greatest load, the bound, and the inodes that move.
-const PLANNED: &[(&[u64], &[u64], (u64, u64, u64))] = &[
-    (&[0, 6, 5, 4, 3], &[], (7, 6, 20)),
+/// Heats, those pinned to the first ranks, and then the greatest load, and the inodes that move.
+const PLANNED: &[(&[u64], &[u64], (u64, u64))] = &[
+    (&[0, 6, 5, 4, 3], &[], (7, 20)),
     // what is pinned counts
-    (&[0, 6, 6], &[0, 6], (6, 6, 10)),
+    (&[0, 6, 6], &[0, 6], (6, 10)),
     // one hot child: the rest is divided all the same
-    (
-        &[0, 90, 20, 20, 20, 20, 20, 20],
-        &[0, 60, 60],
-        (120, 110, 50),
-    ),
-    (&[0], &[], (0, 0, 0)),
+    (&[0, 90, 20, 20, 20, 20, 20, 20], &[0, 60, 60], (120, 50)),
+    (&[0], &[], (0, 0)),
 ];
 
 #[test]
@@ -76,4 +72,46 @@ fn refuses_what_it_cant_plan(rt: HostRuntime) {
         let found = refusal(rt.alloc(), &rows, first(NOTHING_HELD, *ranks), *mask);
         same_in(&rt, &found, error, heats);
     }
+}
+
+/// The inodes that move with each of these tolerances, where 50 children of the root have heat by Zipf's law.
+fn moved_by_tolerance(rt: &impl Abort, alloc: Global, tolerances: &[u8]) -> Vec<u64> {
+    let mut heats = Vec::new(alloc);
+    for place in 0..=50u64 {
+        let heat = if place == 0 { 0 } else { 100_000 / place };
+        heats.push(heat).sure(rt);
+    }
+    let rows = star(rt, alloc, &heats);
+    let mut moved = Vec::new(alloc);
+    for keep in tolerances {
+        let wanted = Wanted {
+            keep: *keep,
+            ..WANTED
+        };
+        let ranks = RankSet::from_bits(7);
+        let plan = choose_plan(alloc, &rows, wanted, NOTHING_HELD, ranks).sure(rt);
+        moved.push(plan.moved).sure(rt);
+    }
+    moved
+}
+
+/// How often a number is greater than the one before.
+fn rises(numbers: &[u64]) -> u32 {
+    let (mut rises, mut before) = (0u32, u64::MAX);
+    for number in numbers {
+        if *number > before {
+            rises = rises.saturating_add(1);
+        }
+        before = *number;
+    }
+    rises
+}
+
+/// Tolerances in percent, a larger one after a smaller one.
+const TOLERATED: &[u8] = &[0, 1, 5, 20, 100];
+
+#[test]
+fn a_larger_tolerance_moves_no_more(rt: HostRuntime) {
+    let moved = moved_by_tolerance(&rt, rt.alloc(), TOLERATED);
+    same_in(&rt, &rises(&moved), &0, &moved.as_slice());
 }

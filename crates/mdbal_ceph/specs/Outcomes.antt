@@ -1,13 +1,15 @@
 -- What the report's numbers are of.
-use Rattle.std.specs.Prelude.{◌≡◌, ◌≢◌, ◌<◌, ◌≤◌, ◌+◌, ℕ, All, List, length, min, slice_index, true}
+use Rattle.std.specs.Prelude.{◌≡◌, ◌≢◌, ◌<◌, ◌≤◌, ◌+◌, ◌^◌, ℕ, All, List, length, min, slice_index, true}
 use Rattle.mds_types.specs.declared.limits.TheConstants.{DIR_LIMIT}
 use Rattle.mds_types.specs.declared.problem.ProblemRow.{ProblemRow}
+use Rattle.mds_types.specs.Sums.{sum_below}
 use Rattle.ceph_snapshot.specs.declared.directory.Directory.{Directory}
 use Rattle.ceph_snapshot.specs.declared.held.Held.{Held}
 use Rattle.ceph_snapshot.specs.Folding.{IsFolded}
-use Rattle.ceph_snapshot.specs.Holding.{IsHeld, held_at, held_below, is_holding, most_heat}
+use Rattle.ceph_snapshot.specs.Holding.{AreParentsFirst, IsHeld, held_at, held_below, is_holding, most_heat}
 use Rattle.ceph_snapshot.specs.Policies.{KeepUnpinnable, StillKeepUnpinnable}
-use Rattle.ceph_snapshot.specs.Rows.{AreRowsOf}
+use Rattle.ceph_snapshot.specs.Rows.{AreRowsOf, free_heat}
+use Rattle.ceph_plan.specs.Packing.{IsAsGreat, IsBoundOf}
 use Rattle.ceph_plan.specs.declared.choice.Wanted.{Wanted}
 use Rattle.ceph_plan.specs.declared.proposal.OwnPins.{OwnPins}
 use Rattle.ceph_plan.specs.declared.proposal.Proposal.{Proposal}
@@ -53,9 +55,25 @@ pub record IsDecision (directories : List Directory) (spread : List ℕ) (ranks 
   pub out : AreAmounts decision.sums.out.items
       (λ r. inodes_from directories decision.holds.items decision.goals.items r (length directories))
 
+-- the heat of each directory that nothing holds, and none of one that is held, before any directory is folded
+pub record AreFreeHeats (collected : List Directory) (heats : List ℕ) : Type 0 where
+  pub holds : List Held
+  pub held : AreParentsFirst collected → (i : ℕ) → i < length collected → IsHeld collected i (held_at holds i)
+  pub size : length heats ≡ length collected
+  pub free : (i : ℕ) → i < length collected → slice_index heats i ≡ free_heat collected holds i
+
+-- whichever of the ranks each collected directory goes to that nothing holds, one rank is loaded at least so much, with
+-- what is held there; and the bound is no less than the mean load, each directory and what is held at each rank
+pub record IsBoundOfAll (collected : List Directory) (pinned : List ℕ) (ranks bound : ℕ) : Type 0 where
+  pub heats : List ℕ
+  pub are : AreFreeHeats collected heats
+  pub lower : IsBoundOf ranks pinned (length heats) (slice_index heats) bound
+  pub great : sum_below (length heats) (slice_index heats) ≤ 2 ^ 62
+      → IsAsGreat ranks pinned (length heats) (slice_index heats) bound
+
 -- what was collected of directories, with this heat by rank of what is spread, and what came of it: as many
 -- directories as the planner takes, all that were collected where they are no more than that, with all their heat and
--- inodes, each that may not be pinned among them, and what is decided for these
+-- inodes, each that may not be pinned among them, what is decided for these, and the bound of all that were collected
 pub record IsOutcome
     (collected : List Directory) (spread : List ℕ) (wanted : Wanted) (outcome : Outcome) : Type 0 where
   pub few : length outcome.directories.items ≡ min (length collected) DIR_LIMIT
@@ -64,3 +82,4 @@ pub record IsOutcome
   pub count : length outcome.directories.items + outcome.folded ≡ length collected
   pub unpinnable : KeepUnpinnable collected → StillKeepUnpinnable collected outcome.directories.items
   pub decided : IsDecision outcome.directories.items spread outcome.ranks wanted outcome.decision
+  pub bound : IsBoundOfAll collected outcome.decision.pinned.items outcome.ranks outcome.bound

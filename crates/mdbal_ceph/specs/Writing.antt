@@ -61,6 +61,7 @@ pub record AreFacts (outcome : Outcome) (count : ℕ) (facts : Facts) : Type 0 w
   pub active : facts.active ≡ outcome.active
   pub ranks : facts.ranks ≡ outcome.ranks
   pub plan : facts.plan.now ≡ outcome.decision.proposal.plan
+  pub bound : facts.bound ≡ outcome.bound
   pub sums : facts.sums.now ≡ outcome.decision.sums
   pub pinned : facts.pinned.now ≡ outcome.decision.pinned.items
   pub changes : facts.changes ≡ length outcome.decision.proposal.changes.items

@@ -3,7 +3,7 @@ ghost use Rattle.std.specs.Prelude.{◌≡◌, ◌≤◌, ◌+◌, IfOk, IsOkAnd
 ghost use Rattle.std.specs.Option.{option_map};
 ghost use Rattle.ceph_snapshot.specs.Folding.{IsFolded};
 ghost use Rattle.ceph_snapshot.specs.Policies.{KeepUnpinnable, StillKeepUnpinnable};
-ghost use Rattle.mdbal_ceph.specs.Outcomes.{IsDecision, IsOutcome};
+ghost use Rattle.mdbal_ceph.specs.Outcomes.{AreFreeHeats, IsDecision, IsOutcome};
 ghost use Rattle.mdbal_ceph.specs.Usable.{AreUsable};
 
 use crate::collected::Collected;
@@ -12,12 +12,12 @@ use crate::settings::PlanSettings;
 use anyhow::{Error, bail};
 use ceph_dumps::{FileSystem, FileSystemRanks};
 use ceph_pins::own_pins;
-use ceph_plan::{Proposal, propose};
+use ceph_plan::{Proposal, heats_bound, propose};
 use ceph_report::{Sums, goals_of, sums_of};
-use ceph_snapshot::{Directory, Held, SnapshotError, fold, held_heat, holds, rows_of};
+use ceph_snapshot::{Directory, Held, SnapshotError, fold, free_heats, held_heat, holds, rows_of};
 use mds_types::limits::DIR_LIMIT;
 use mds_types::{Rank, RankSet};
-use std::alloc::Global;
+use std::alloc::{AllocError, Global};
 
 /// What was decided for directories.
 #[derive(Drop)]
@@ -55,6 +55,8 @@ pub(crate) struct Outcome {
     pub folded: usize,
     /// What was decided for them.
     pub decision: Decision,
+    /// What no assignment of the collected directories to the ranks can get below, in thousandths of heat.
+    pub bound: u64,
 }
 
 /// The ranks that may have a part.
@@ -115,6 +117,14 @@ fn folded(
     fold(alloc, directories, DIR_LIMIT as usize)
 }
 
+/// The heat of each directory that nothing holds, as it was collected.
+fn collected_heats(alloc: Global, directories: &[Directory]) -> Result<Vec<u64>, AllocError>
+    ensures { IfOk result (λ heats. AreFreeHeats directories.now heats.items) }
+{
+    let holds = holds(alloc, directories)?;
+    free_heats(alloc, directories, &holds)
+}
+
 /// Plans what was collected.
 pub fn planned(
     alloc: Global,
@@ -141,8 +151,10 @@ pub fn planned(
     } = collected;
     let ranks = usable(settings, &cluster)?;
     let spread = snapshot.spread;
+    let heats = collected_heats(alloc, &snapshot.directories)?;
     let (directories, folded) = folded(alloc, snapshot.directories)?;
     let decision = decided(alloc, settings, ranks, &directories, &spread)?;
+    let bound = heats_bound(&heats, &decision.pinned, ranks);
     Ok(Outcome {
         file_system,
         size: cluster.size,
@@ -153,5 +165,6 @@ pub fn planned(
         directories,
         folded,
         decision,
+        bound,
     })
 }

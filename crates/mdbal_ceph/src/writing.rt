@@ -89,6 +89,7 @@ fn facts_of<'a>(
         active: outcome.active,
         ranks: outcome.ranks,
         plan: &outcome.decision.proposal.plan,
+        bound: outcome.bound,
         sums: &outcome.decision.sums,
         pinned: &outcome.decision.pinned,
         moves,

@@ -3,8 +3,11 @@ use Rattle.std.proofs.lemmas.Bool.{eqb-false}
 use Rattle.mds_types.specs.Problem.{ProblemData}
 use Rattle.mds_types.specs.RankSet.{has_rank}
 use Rattle.mds_types.specs.declared.problem.ProblemRow.{ProblemRow}
+use Rattle.ceph_plan.specs.declared.plan.PackedDivision.{PackedDivision}
+use Rattle.ceph_plan.specs.Choice.{AreTried}
 use Rattle.ceph_plan.specs.Refusals.{IsPlannable}
-use Rattle.ceph_plan.proofs.Chosen.{best-chosen, count-chosen, memory-refused, parts-refused}
+use Rattle.ceph_plan.proofs.Chosen.{counts-refused}
+use Rattle.ceph_plan.proofs.Taken.{are-cool, divisions-tried, plan-taken, some-tried}
 use Rattle.ceph_plan.proofs.choice.choose_plan.Goals as goal
 
 positive : (n : ℕ) → (n == 0) ≡ false → 0 < n
@@ -14,27 +17,16 @@ positive n is = let some : n ≢ 0 = eqb-false n 0 is in omega arith
 some_row : (rows those : List ProblemRow) (none : Bool) → none ≡ (length rows == 0) → none ≡ false → those ≡ rows → 0 < length those
 some_row rows those none is some same = subst (λ (found : List ProblemRow). 0 < length found) (sym same) (positive (length rows) (sym is ∙ some))
 
-pub best_plan-requires-clause-some : goal.best_plan-requires-clause-some
-best_plan-requires-clause-some c =
-    some_row c.args.rows.now c.rows-rows.result.now c.is_empty.result c.is_empty.ensures c.if-is_empty.false
-    (c.rows-rows.ensures.value ∙ (ap (λ (problem : ProblemData). problem.rows) c.in-Ok.ensures.ok ∙ c.in_ok-to_vec.ensures.items_if_clones_equal (λ x y is. is)))
+pub tried-requires-clause-some : goal.tried-requires-clause-some
+tried-requires-clause-some c =
+    some_row c.args.rows.now c.rows.result.now c.is_empty.result c.is_empty.ensures c.if-is_empty.false
+    (c.rows.ensures.value ∙ (ap (λ (problem : ProblemData). problem.rows) c.in-Ok.ensures.ok ∙ c.in_ok-to_vec.ensures.items_if_clones_equal (λ x y is. is)))
 
-pub best_plan-requires-clause-size : goal.best_plan-requires-clause-size
-best_plan-requires-clause-size c = c.if-not-are_pinned.ensures.size refl
+pub tried-requires-clause-size : goal.tried-requires-clause-size
+tried-requires-clause-size c = c.if-not-are_pinned.ensures.size refl
 
-pub best_plan-requires-clause-small : goal.best_plan-requires-clause-small
-best_plan-requires-clause-small c = c.if-not-are_pinned.ensures.small refl
-
-pub plan_of_count-requires-clause-some : goal.plan_of_count-requires-clause-some
-plan_of_count-requires-clause-some c =
-    some_row c.args.rows.now c.rows-rows.result.now c.is_empty.result c.is_empty.ensures c.if-is_empty.false
-    (c.rows-rows.ensures.value ∙ (ap (λ (problem : ProblemData). problem.rows) c.in-Ok.ensures.ok ∙ c.in_ok-to_vec.ensures.items_if_clones_equal (λ x y is. is)))
-
-pub plan_of_count-requires-clause-size : goal.plan_of_count-requires-clause-size
-plan_of_count-requires-clause-size c = c.if-not-are_pinned.ensures.size refl
-
-pub plan_of_count-requires-clause-small : goal.plan_of_count-requires-clause-small
-plan_of_count-requires-clause-small c = c.if-not-are_pinned.ensures.small refl
+pub tried-requires-clause-small : goal.tried-requires-clause-small
+tried-requires-clause-small c = c.if-not-are_pinned.ensures.small refl
 
 plannable : (ranks : ℕ) (pinned : List ℕ) (rows : List ProblemRow) (root : ℕ) (has none : Bool) → root ≡ 0 → has ≡ has_rank ranks root → has ≡ true
     → none ≡ (length rows == 0) → none ≡ false → length pinned ≡ 64 → All (λ n. n ≤ 2 ^ 57) pinned → IsPlannable ranks pinned rows
@@ -44,32 +36,27 @@ plannable ranks pinned rows root has none zero has_is there none_is some size sm
   held = record { size = size; small = small };
 }
 
-pub returns-in-Auto-clause-chosen : goal.returns-in-Auto-clause-chosen
-returns-in-Auto-clause-chosen c =
-    best-chosen c.args.ranks c.args.pinned.now c.args.rows.now c.rows-rows.result.now c.args.wanted c.in-Auto.most c.best_plan.result c.in-Auto.is
-    (c.rows-rows.ensures.value ∙ (ap (λ (problem : ProblemData). problem.rows) c.in-Ok.ensures.ok ∙ c.in_ok-to_vec.ensures.items_if_clones_equal (λ x y is. is)))
-    (plannable c.args.ranks c.args.pinned.now c.args.rows.now c.default.result c.has.result c.is_empty.result (sym c.default.ensures.1 ∙ c.default.ensures.2)
-    c.has.ensures c.if-not-has.false c.is_empty.ensures c.if-is_empty.false (c.if-not-are_pinned.ensures.size refl) (c.if-not-are_pinned.ensures.small refl))
-    c.best_plan.ensures.best
-
-pub returns-in-Auto-clause-refused : goal.returns-in-Auto-clause-refused
-returns-in-Auto-clause-refused c =
-    memory-refused c.args.ranks c.args.pinned.now c.args.rows.now c.args.wanted c.best_plan.result
-    (plannable c.args.ranks c.args.pinned.now c.args.rows.now c.default.result c.has.result c.is_empty.result (sym c.default.ensures.1 ∙ c.default.ensures.2)
-    c.has.ensures c.if-not-has.false c.is_empty.ensures c.if-is_empty.false (c.if-not-are_pinned.ensures.size refl) (c.if-not-are_pinned.ensures.small refl))
-    c.best_plan.ensures.refused
+pub taken-requires-clause-cool : goal.taken-requires-clause-cool
+taken-requires-clause-cool c =
+    are-cool c.args.ranks c.args.pinned.now c.rows.result.now c.in_ok-divisions.divisions.items
+    (divisions-tried c.args.ranks c.args.pinned.now c.rows.result.now c.args.wanted.parts c.in_ok-divisions.divisions.items c.in_ok-divisions.ensures.tried)
 
 pub returns-clause-chosen : goal.returns-clause-chosen
 returns-clause-chosen c =
-    count-chosen c.args.ranks c.args.pinned.now c.args.rows.now c.rows-rows.result.now c.args.wanted c.in-AtMost.parts c.plan_of_count.result c.in-AtMost.is
-    (c.rows-rows.ensures.value ∙ (ap (λ (problem : ProblemData). problem.rows) c.in-Ok.ensures.ok ∙ c.in_ok-to_vec.ensures.items_if_clones_equal (λ x y is. is)))
-    (plannable c.args.ranks c.args.pinned.now c.args.rows.now c.default.result c.has.result c.is_empty.result (sym c.default.ensures.1 ∙ c.default.ensures.2)
-    c.has.ensures c.if-not-has.false c.is_empty.ensures c.if-is_empty.false (c.if-not-are_pinned.ensures.size refl) (c.if-not-are_pinned.ensures.small refl))
-    c.plan_of_count.ensures.plan
-
-pub returns-clause-refused : goal.returns-clause-refused
-returns-clause-refused c =
-    parts-refused c.args.ranks c.args.pinned.now c.args.rows.now c.args.wanted c.in-AtMost.parts c.plan_of_count.result c.in-AtMost.is
-    (plannable c.args.ranks c.args.pinned.now c.args.rows.now c.default.result c.has.result c.is_empty.result (sym c.default.ensures.1 ∙ c.default.ensures.2)
-    c.has.ensures c.if-not-has.false c.is_empty.ensures c.if-is_empty.false (c.if-not-are_pinned.ensures.size refl) (c.if-not-are_pinned.ensures.small refl))
-    c.plan_of_count.ensures.refused
+    let ranks : ℕ = c.args.ranks in
+    let pinned : List ℕ = c.args.pinned.now in
+    let rows : List ProblemRow = c.args.rows.now in
+    let divisions : List PackedDivision = c.in_ok-divisions.divisions.items in
+    let tried : AreTried ranks pinned rows c.args.wanted.parts divisions =
+    subst (λ (those : List ProblemRow). AreTried ranks pinned those c.args.wanted.parts divisions)
+    (c.rows.ensures.value ∙ (ap (λ (problem : ProblemData). problem.rows) c.in-Ok.ensures.ok ∙ c.in_ok-to_vec.ensures.items_if_clones_equal (λ x y is. is)))
+    c.in_ok-divisions.ensures.tried in
+    record {
+      plannable =
+          plannable ranks pinned rows c.default.result c.has.result c.is_empty.result (sym c.default.ensures.1 ∙ c.default.ensures.2)
+          c.has.ensures c.if-not-has.false c.is_empty.ensures c.if-is_empty.false (c.if-not-are_pinned.ensures.size refl) (c.if-not-are_pinned.ensures.small refl);
+      plan = plan-taken ranks c.args.wanted.keep pinned rows divisions c.taken.result (divisions-tried ranks pinned rows c.args.wanted.parts divisions tried) c.taken.ensures;
+      divisions = divisions;
+      tried = tried;
+      taken = c.taken.ensures;
+    }

@@ -1,10 +1,13 @@
 use Rattle.std.proofs.Common.{◌<◌, ◌≤◌, ℕ, length}
-use Rattle.ceph_plan.specs.Choice.{IsLess, part_count_at, greatest_at, moved_at}
+use Rattle.ceph_plan.specs.Choice.{IsFewer, greatest_in, moved_in, packings_at, part_count_at}
 use Rattle.ceph_plan.proofs.choice.chosen.Given as goal
 
+-- of those so far that are within the limit, none is better
 abbrev pub invariant-loop-at : goal.invariant-loop-at
 invariant-loop-at l = record {
-  inside : l.best < length l.plans;
-  cool : greatest_at l.plans l.best ≤ l.limit;
-  fewest : (k : ℕ) → k < l.at → greatest_at l.plans k ≤ l.limit → ¬ IsLess (part_count_at l.plans k) (moved_at l.plans k) (part_count_at l.plans l.best) (moved_at l.plans l.best);
+  inside : l.best < length l.divisions;
+  there : l.place < length (packings_at l.divisions l.best);
+  within : greatest_in (packings_at l.divisions l.best) l.place ≤ l.limit;
+  fewest : (j w : ℕ) → j < l.at → w < length (packings_at l.divisions j) → greatest_in (packings_at l.divisions j) w ≤ l.limit
+      → ¬ IsFewer (moved_in (packings_at l.divisions j) w) (part_count_at l.divisions j) (moved_in (packings_at l.divisions l.best) l.place) (part_count_at l.divisions l.best);
 }

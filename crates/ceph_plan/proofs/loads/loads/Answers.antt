@@ -1,7 +1,7 @@
 use Rattle.std.proofs.Common.{◌≡◌, ◌<◌, ◌≤◌, ◌+◌, ◌^◌, ◌==◌, ℕ, Bool, true, false, List, arith, cond, get_or, length, refl, slice_index}
 use Rattle.mds_types.specs.Sums.{sum_below}
 use Rattle.mds_types.proofs.SumsLemmas.{sum_below-fewer, sum_below-le, sum_below_more}
-use Rattle.ceph_plan.proofs.Packed.{read-value}
+use Rattle.ceph_plan.proofs.PackedParts.{read-value}
 use Rattle.ceph_plan.proofs.loads.loads.Goals as goal
 
 fewer : (b : Bool) (x : ℕ) → cond b x 0 ≤ x

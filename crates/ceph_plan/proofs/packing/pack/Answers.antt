@@ -1,119 +1,71 @@
-use Rattle.std.proofs.Common.{◌≡◌, ◌<◌, ◌≤◌, ◌^◌, ◌∙◌, ℕ, List, length, slice_index, ap, arith, subst, sym}
-use Rattle.std.proofs.Math.Nat.{le_trans}
+use Rattle.std.proofs.Common.{◌≡◌, ◌<◌, ◌≤◌, ◌+◌, ◌++◌, ◌∷◌, ◌^◌, ◌∙◌, [], ℕ, suc, List, ap, arith, length, refl, slice_index, subst, sym, take}
+use Rattle.std.proofs.Math.Seq.{take-length, take-suc}
 use Rattle.mds_types.specs.Sums.{sum_below}
-use Rattle.ceph_plan.specs.Balance.{IsChosenPacking, IsByHeat, allowed, greatest_by, load_of_parts}
-use Rattle.ceph_plan.specs.Packing.{greatest_of, load, packed_rank}
-use Rattle.ceph_plan.proofs.Bounds.{greatest-same}
-use Rattle.ceph_plan.proofs.Packed.{allowed-more, chosen-same, cooler-evened, ranks-chosen, within-chosen}
-use Rattle.ceph_plan.proofs.PartSums.{heats-small, load-parts}
+use Rattle.ceph_plan.specs.declared.packing.Packed.{Packed}
+use Rattle.ceph_plan.specs.declared.packing.Packing.{Packing}
+use Rattle.ceph_plan.specs.declared.packing.TheConstants.{TOLERANCES}
+use Rattle.ceph_plan.specs.Balance.{IsEvenPacking, IsPartsPacking}
+use Rattle.ceph_plan.specs.Plans.{moved_inodes}
+use Rattle.ceph_plan.proofs.PackedRows.{AreOfParts, AreSoFar, packed-evenly, packed-rows, packings-more, parts-same}
+use Rattle.ceph_plan.proofs.PartSums.{heats-small}
 use Rattle.ceph_plan.proofs.packing.pack.Goals as goal
 
-size_of_heats : (c : goal.After-shared_slice_known-3-1) → length c.deref-2.result.now ≡ c.args.count
-size_of_heats c = ap (λ (xs : List ℕ). length xs) c.deref-2.ensures.value ∙ c.in_ok-heats.ensures.size
-
-pub by_heat-requires : goal.by_heat-requires
-by_heat-requires c =
-    omega (arith, ap (λ (xs : List ℕ). length xs) c.deref.ensures.value, c.in_ok-heats.ensures.size, c.requires.few)
-
-pub choose-requires-clause-few : goal.choose-requires-clause-few
-choose-requires-clause-few c = omega (arith, size_of_heats c, c.requires.few)
-
-pub choose-requires-clause-inodes : goal.choose-requires-clause-inodes
-choose-requires-clause-inodes c =
-    omega (arith, size_of_heats c, ap (λ (xs : List ℕ). length xs) c.deref-4.ensures.value, c.in_ok-inodes.ensures.size)
-
-pub choose-requires-clause-order : goal.choose-requires-clause-order
-choose-requires-clause-order c =
-    subst (λ (heats : List ℕ). IsByHeat heats c.deref-3.result.now) (c.deref.ensures.value ∙ sym c.deref-2.ensures.value)
-    (subst (λ (order : List ℕ). IsByHeat c.deref.result.now order) (sym c.deref-3.ensures.value) c.in_ok-order.ensures)
-
-pub choose-requires-clause-root : goal.choose-requires-clause-root
-choose-requires-clause-root c = omega (arith, size_of_heats c, c.requires.below 0 c.requires.some)
-
-pub choose-requires-clause-pinned : goal.choose-requires-clause-pinned
-choose-requires-clause-pinned c = c.requires.size
-
-pub choose-requires-clause-small : goal.choose-requires-clause-small
-choose-requires-clause-small c = c.requires.small
-
-pub choose-requires-clause-total : goal.choose-requires-clause-total
-choose-requires-clause-total c =
+pub even_choice-requires-clause-total : goal.even_choice-requires-clause-total
+even_choice-requires-clause-total c =
     subst (λ (heats : List ℕ). sum_below (length heats) (slice_index heats) ≤ 2 ^ 56) (sym c.deref-2.ensures.value)
     (heats-small c.args.rows.now c.args.part.now c.in_ok-heats.heats.items c.args.count c.requires.forest c.in_ok-heats.ensures.size c.requires.below c.in_ok-heats.ensures.heats)
 
-pub loads-requires-clause-ranks : goal.loads-requires-clause-ranks
-loads-requires-clause-ranks c =
-    let all : length c.in_ok-rank.rank.items ≡ length c.in_ok-heats.heats.items =
-    (ranks-chosen c.args.ranks c.args.pinned.now c.in_ok-heats.heats.items c.in_ok-inodes.inodes.items (slice_index c.args.part.now 0) c.args.keep c.in_ok-rank.rank.items
-    (chosen-same c.args.ranks c.args.pinned.now c.in_ok-heats.heats.items c.in_ok-inodes.inodes.items c.deref-2.result.now c.deref-4.result.now
-    (slice_index c.args.part.now 0) c.args.keep c.in_ok-rank.rank.items c.deref-2.ensures.value c.deref-4.ensures.value c.in_ok-rank.ensures)).size in
-    omega (arith, all, ap (λ (xs : List ℕ). length xs) c.deref-5.ensures.value, ap (λ (xs : List ℕ). length xs) c.deref-6.ensures.value)
-
-pub loads-requires-clause-total : goal.loads-requires-clause-total
-loads-requires-clause-total c =
-    subst (λ (heats : List ℕ). sum_below (length heats) (slice_index heats) ≤ 2 ^ 56) (sym c.deref-5.ensures.value)
+pub packing_of-requires-clause-total : goal.packing_of-requires-clause-total
+packing_of-requires-clause-total c =
+    subst (λ (heats : List ℕ). sum_below (length heats) (slice_index heats) ≤ 2 ^ 56) (sym c.deref-2.ensures.value)
     (heats-small c.args.rows.now c.args.part.now c.in_ok-heats.heats.items c.args.count c.requires.forest c.in_ok-heats.ensures.size c.requires.below c.in_ok-heats.ensures.heats)
 
--- the loads are those of the parts, and of the rows
-by_parts : (c : goal.After-drop-heats-2) → (r : ℕ) → r < 64
-    → slice_index c.in_ok-load.load.items r ≡ load_of_parts c.args.pinned.now c.in_ok-heats.heats.items c.in_ok-rank.rank.items r
-by_parts c r l =
-    c.in_ok-load.ensures.loads r l
-    ∙ (ap (λ (xs : List ℕ). load_of_parts c.args.pinned.now xs c.deref-6.result.now r) c.deref-5.ensures.value
-    ∙ ap (λ (xs : List ℕ). load_of_parts c.args.pinned.now c.in_ok-heats.heats.items xs r) c.deref-6.ensures.value)
+pub moved-moved-requires-clause-below : goal.moved-moved-requires-clause-below
+moved-moved-requires-clause-below c = λ i lt.
+    let is : IsPartsPacking c.args.ranks c.args.pinned.now c.in_ok-heats.heats.items c.in_ok-inodes.inodes.items (slice_index c.args.part.now 0) c.in_ok-even.even.rank.items c.in_ok-packing.packing =
+    parts-same c.args.ranks c.args.pinned.now c.in_ok-heats.heats.items c.in_ok-inodes.inodes.items c.deref-2.result.now c.deref-4.result.now (slice_index c.args.part.now 0)
+    c.in_ok-even.even.rank.items c.in_ok-packing.packing c.deref-2.ensures.value c.deref-4.ensures.value c.in_ok-packing.ensures.parts in
+    subst (λ (n : ℕ). slice_index c.args.part.now i < n)
+    (sym (ap length c.deref-in-loop-keep.ensures.value ∙ (is.ranks_are.size ∙ c.in_ok-heats.ensures.size)))
+    (c.requires.below i lt)
 
-by_rows : (c : goal.After-drop-heats-2) → (r : ℕ) → r < 64
-    → slice_index c.in_ok-load.load.items r ≡ load c.args.pinned.now c.args.rows.now (packed_rank c.in_ok-rank.rank.items c.args.part.now) r
-by_rows c r l =
-    by_parts c r l
-    ∙ sym (load-parts c.args.rows.now c.args.pinned.now c.args.part.now c.in_ok-heats.heats.items c.in_ok-rank.rank.items c.args.count r
-    c.in_ok-heats.ensures.size c.requires.below c.in_ok-heats.ensures.heats)
-
-greatest_is : (c : goal.After-drop-heats-2) → c.most-greatest.result ≡ greatest_of c.args.ranks (slice_index c.in_ok-load.load.items)
-greatest_is c = c.most-greatest.ensures ∙ ap (λ (xs : List ℕ). greatest_of c.args.ranks (slice_index xs)) c.deref-7.ensures.value
-
-pub returns-clause-packing : goal.returns-clause-packing
-returns-clause-packing c =
-    let rank : List ℕ = c.in_ok-rank.rank.items in
-    let are = ranks-chosen c.args.ranks c.args.pinned.now c.in_ok-heats.heats.items c.in_ok-inodes.inodes.items (slice_index c.args.part.now 0) c.args.keep rank
-    (chosen-same c.args.ranks c.args.pinned.now c.in_ok-heats.heats.items c.in_ok-inodes.inodes.items c.deref-2.result.now c.deref-4.result.now
-    (slice_index c.args.part.now 0) c.args.keep c.in_ok-rank.rank.items c.deref-2.ensures.value c.deref-4.ensures.value c.in_ok-rank.ensures) in
-    record {
-      size = are.size ∙ c.in_ok-heats.ensures.size;
-      usable = λ p l. are.usable p (omega (arith, c.in_ok-heats.ensures.size, l));
-      root = are.at_zero;
-      loads_size = c.in_ok-load.ensures.size;
-      loads = by_rows c;
-      greatest = greatest_is c
-          ∙ greatest-same c.args.ranks (slice_index c.in_ok-load.load.items) (load c.args.pinned.now c.args.rows.now (packed_rank rank c.args.part.now)) (by_rows c);
-    }
-
-pub returns-clause-balanced : goal.returns-clause-balanced
-returns-clause-balanced c =
-    let pinned : List ℕ = c.args.pinned.now in
-    let rank : List ℕ = c.in_ok-rank.rank.items in
+pub loop-keep-preserved : goal.loop-keep-preserved
+loop-keep-preserved c =
+    let rows = c.args.rows.now in
+    let part : List ℕ = c.args.part.now in
     let heats : List ℕ = c.in_ok-heats.heats.items in
-    let keep : ℕ = c.args.keep in
-    let root : ℕ = slice_index c.args.part.now 0 in
-    let greatest : c.most-greatest.result ≡ greatest_by c.args.ranks pinned heats rank =
-    greatest_is c ∙ greatest-same c.args.ranks (slice_index c.in_ok-load.load.items) (load_of_parts pinned heats rank) (by_parts c) in
-    let chosen : IsChosenPacking c.args.ranks pinned heats c.in_ok-inodes.inodes.items root keep rank =
-    chosen-same c.args.ranks pinned heats c.in_ok-inodes.inodes.items c.deref-2.result.now c.deref-4.result.now root keep rank
-    c.deref-2.ensures.value c.deref-4.ensures.value c.in_ok-rank.ensures in
-    let within : c.most-greatest.result ≤ allowed keep (greatest_by c.args.ranks pinned heats chosen.even) =
-    subst (λ (x : ℕ). x ≤ allowed keep (greatest_by c.args.ranks pinned heats chosen.even)) (sym greatest)
-    (within-chosen c.args.ranks pinned heats c.in_ok-inodes.inodes.items root keep rank chosen) in
-    let cooler : greatest_by c.args.ranks pinned heats chosen.even ≤ greatest_by c.args.ranks pinned heats chosen.plain =
-    cooler-evened c.args.ranks pinned heats root 0 chosen.plain chosen.even chosen.evened in
+    let inodes : List ℕ = c.in_ok-inodes.inodes.items in
+    let even : List ℕ = c.in_ok-even.even.rank.items in
+    let packing : Packing = c.in_ok-packing.packing in
+    let more : Packed = record { packing = packing; moved = c.moved-moved.result } in
+    let at : ℕ = c.loop-keep.keep-index in
+    let tolerances : List ℕ = TOLERANCES.now in
+    let of : AreOfParts rows part c.args.count heats inodes =
+    record { below = c.requires.below; size = c.in_ok-heats.ensures.size; heat = c.in_ok-heats.ensures.heats; there = c.in_ok-inodes.ensures.inodes } in
+    let by_heat : IsEvenPacking c.args.ranks c.args.pinned.now heats (slice_index part 0) even =
+    subst (λ (those : List ℕ). IsEvenPacking c.args.ranks c.args.pinned.now those (slice_index part 0) even) c.deref-2.ensures.value c.in_ok-even.ensures.even in
+    let is : IsPartsPacking c.args.ranks c.args.pinned.now heats inodes (slice_index part 0) even packing =
+    parts-same c.args.ranks c.args.pinned.now c.in_ok-heats.heats.items c.in_ok-inodes.inodes.items c.deref-2.result.now c.deref-4.result.now (slice_index c.args.part.now 0)
+    c.in_ok-even.even.rank.items c.in_ok-packing.packing c.deref-2.ensures.value c.deref-4.ensures.value c.in_ok-packing.ensures.parts in
+    let next : suc at ≡ at + 1 = omega arith in
+    let one : take at tolerances ++ packing.keep ∷ [] ≡ take (at + 1) tolerances =
+    ap (λ (keep : ℕ). take at tolerances ++ keep ∷ []) c.in_ok-packing.ensures.keep
+    ∙ (sym (take-suc tolerances at _ c.loop-keep-test.true) ∙ ap (λ (n : ℕ). take n tolerances) next) in
+    subst (λ (each : List Packed). AreSoFar c.args.ranks c.args.pinned.now rows part c.args.count c.in_ok-even.even.greatest each (take (at + 1) tolerances)) (sym c.in_ok-push.ensures.items)
+    (subst (λ (tried : List ℕ). AreSoFar c.args.ranks c.args.pinned.now rows part c.args.count c.in_ok-even.even.greatest (c.loop-keep.each.items ++ more ∷ []) tried) one
+    (packings-more c.args.ranks c.args.pinned.now rows part c.args.count c.in_ok-even.even.greatest packing.keep c.loop-keep.each.items (take at tolerances) more c.loop-keep.invariant refl
+    (record {
+      packing = packed-rows c.args.ranks c.args.pinned.now rows part c.args.count heats inodes even packing of is;
+      balanced = packed-evenly c.args.ranks c.args.pinned.now rows part c.args.count heats inodes even packing of by_heat is;
+      even_is = c.in_ok-packing.ensures.even;
+      moved = c.moved-moved.ensures ∙ ap (λ (rank : List ℕ). moved_inodes rows part rank (length rows)) c.deref-in-loop-keep.ensures.value;
+    })))
+
+pub returns : goal.returns
+returns c =
+    let tolerances : List ℕ = TOLERANCES.now in
+    let all : c.loop-keep.keep-index ≡ length tolerances = omega (arith, c.loop-keep-test.false, c.loop-keep.auto.keep-index-end) in
     record {
-      heats = heats;
-      inodes = c.in_ok-inodes.inodes.items;
-      size = c.in_ok-heats.ensures.size;
-      heat = c.in_ok-heats.ensures.heats;
-      there = c.in_ok-inodes.ensures.inodes;
-      chosen = chosen;
-      greatest = greatest;
-      within = within;
-      cooler = cooler;
-      bounded = le_trans within (allowed-more keep (greatest_by c.args.ranks pinned heats chosen.even) (greatest_by c.args.ranks pinned heats chosen.plain) cooler);
+      keeps = c.loop-keep.invariant.keeps ∙ (ap (λ (n : ℕ). take n tolerances) all ∙ take-length tolerances);
+      are = c.loop-keep.invariant.are;
     }

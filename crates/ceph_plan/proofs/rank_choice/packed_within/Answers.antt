@@ -4,7 +4,7 @@ use Rattle.mds_types.proofs.SumsLemmas.{sum_below-term}
 use Rattle.ceph_plan.specs.Balance.{IsNearMean, IsSent, greatest_by, load_of_parts}
 use Rattle.ceph_plan.specs.Packing.{greatest_of}
 use Rattle.ceph_plan.proofs.Bounds.{greatest-same}
-use Rattle.ceph_plan.proofs.Packed.{ArePacked, added-set, fair-all, load-bound, loads-all, packed-all, packed-first, packed-more, packed-none, read-value}
+use Rattle.ceph_plan.proofs.PackedParts.{ArePacked, added-set, fair-all, load-bound, loads-all, packed-all, packed-first, packed-more, packed-none, read-value}
 use Rattle.ceph_plan.proofs.rank_choice.packed_within.Goals as goal
 
 pub overflow_add-index_mut : goal.overflow_add-index_mut

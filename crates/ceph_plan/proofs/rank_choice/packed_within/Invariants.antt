@@ -1,4 +1,4 @@
-use Rattle.ceph_plan.proofs.Packed.{ArePacked}
+use Rattle.ceph_plan.proofs.PackedParts.{ArePacked}
 use Rattle.ceph_plan.proofs.rank_choice.packed_within.Given as goal
 
 abbrev pub invariant-loop-left : goal.invariant-loop-left

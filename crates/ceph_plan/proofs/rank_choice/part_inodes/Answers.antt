@@ -3,7 +3,7 @@ use Rattle.std.proofs.Math.Nat.{le_of_lt}
 use Rattle.std.proofs.lemmas.List.{get_or_read}
 use Rattle.mds_types.specs.declared.problem.ProblemRow.{ProblemRow}
 use Rattle.mds_types.specs.Problem.{inodes_at, no_row, now_at, row_at}
-use Rattle.ceph_plan.proofs.Packed.{read-value}
+use Rattle.ceph_plan.proofs.PackedParts.{read-value}
 use Rattle.ceph_plan.proofs.PartSums.{cell-more, cell-small, cells-more}
 use Rattle.ceph_plan.proofs.rank_choice.part_inodes.Goals as goal
 

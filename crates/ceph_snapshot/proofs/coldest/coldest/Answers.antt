@@ -2,8 +2,10 @@ use Rattle.std.proofs.Common.{◌≡◌, ◌+◌, ◌<◌, ◌≤◌, ◌-◌, �
 use Rattle.std.specs.List.{count_by}
 use Rattle.mds_types.specs.Sums.{count_below}
 use Rattle.ceph_snapshot.specs.declared.coldest.Key.{Key}
+use Rattle.ceph_snapshot.specs.declared.directory.Directory.{Directory}
 use Rattle.ceph_snapshot.specs.Folding.{is_marked}
 use Rattle.ceph_snapshot.specs.Keys.{goes, is_at_most, is_below, passes}
+use Rattle.ceph_snapshot.proofs.HeatBelow.{coldest-gone}
 use Rattle.ceph_snapshot.proofs.Keys.{count_both, gone-marked, one-more}
 use Rattle.ceph_snapshot.proofs.coldest.coldest.Goals as goal
 
@@ -17,8 +19,13 @@ keys-requires c =
 
 pub returns-clause-gone : goal.returns-clause-gone
 returns-clause-gone c =
-    gone-marked c.args.directories.now c.in_ok-heats.heats.items c.in_ok-stays.stays.items c.in_ok-marks.field-0.items c.in-Some.last c.in_ok-heats.ensures.size c.requires.first
-    c.in_ok-stays.ensures.plain c.in_ok-stays.ensures.above c.in_ok-heats.ensures.rise (rw (c.deref-3.ensures.value, c.deref-4.ensures.value) at c.in_ok-marks.ensures.marks)
+    let ds : List Directory = c.args.directories.now in
+    let heats : List ℕ = c.in_ok-heats.heats.items in
+    let stays : List Bool = c.in_ok-stays.stays.items in
+    let marks : List Bool = c.in_ok-marks.field-0.items in
+    let marked : (i : ℕ) → i < length heats → is_marked marks i ≡ goes heats stays c.in-Some.last i = rw (c.deref-3.ensures.value, c.deref-4.ensures.value) at c.in_ok-marks.ensures.marks in
+    gone-marked ds heats stays marks c.in-Some.last c.in_ok-heats.ensures.size c.requires.first c.in_ok-stays.ensures.plain c.in_ok-stays.ensures.above c.in_ok-heats.ensures.rise marked
+    (coldest-gone ds heats stays marks c.in-Some.last c.in_ok-heats.ensures.size c.in_ok-heats.ensures.heats c.in_ok-stays.ensures.needed marked)
 
 pub returns-clause-left : goal.returns-clause-left
 returns-clause-left c =

@@ -1,12 +1,14 @@
-use Rattle.std.proofs.Common.{arith, ◌≡◌, ◌<◌, ◌≤◌, ◌-◌, ◌∙◌, ℕ, Global, List, Option, Some, Vec, ap, get_or, length, length-set, slice_get, subst, sym}
+use Rattle.std.proofs.Common.{arith, inl, ◌≡◌, ◌<◌, ◌≤◌, ◌+◌, ◌-◌, ◌∙◌, ℕ, Global, List, Option, Some, Vec, ap, get_or, length, length-set, slice_get, slice_index, subst, sym}
 use Rattle.std.specs.Option.{option_map_or}
 use Rattle.std.specs.Vec.{vec_len}
-use Rattle.std.proofs.Math.Nat.{lt_trans}
+use Rattle.std.proofs.Math.Nat.{le_refl, lt_trans}
 use Rattle.std.proofs.lemmas.List.{get_or_read}
 use Rattle.std.proofs.lemmas.Option.{slice_get-get_or}
 use Rattle.ceph_snapshot.specs.declared.directory.Directory.{Directory}
-use Rattle.ceph_snapshot.specs.Holding.{parent_at}
+use Rattle.ceph_snapshot.specs.Folding.{IsCappedSum, of_children}
+use Rattle.ceph_snapshot.specs.Holding.{heat_at, parent_at}
 use Rattle.ceph_snapshot.proofs.Adding.{add-back, before-inside, parent-inside, rise-more}
+use Rattle.ceph_snapshot.proofs.HeatBelow.{below-more, none-below}
 use Rattle.ceph_snapshot.proofs.coldest.heats_below.Goals as goal
 
 -- the places that are read are inside
@@ -45,8 +47,25 @@ loop-at-preserved c =
     (omega (arith, c.saturating_add.ensures), omega (arith, c.saturating_add.ensures)) in
     record {
       size = length-set heats above c.saturating_add.result ∙ c.loop-at.invariant.size;
+      some = λ some. (before-inside c.loop-at.at (length ds) c.loop-at-test.true c.loop-at.auto.at).0;
+      sums = below-more ds heats at above c.saturating_add.result c.loop-at.invariant.size inside parent up
+          (omega (arith, c.saturating_add.ensures, get_or_read heats above c.index.result.now above_in c.index.ensures 0, get_or_read heats at c.index-in-loop-at.result.now child_in c.index-in-loop-at.ensures 0))
+          (λ i l. subst (λ (k : ℕ). IsCappedSum (slice_index heats i) (heat_at ds i + of_children ds (slice_index heats) k i)) (sym (add-back c.loop-at.at c.loop-at-test.true)) (c.loop-at.invariant.sums i l));
       rise = rise-more ds heats at above c.saturating_add.result above_in parent up
           (subst (λ (n : ℕ). n ≤ c.saturating_add.result) (get_or_read heats above c.index.result.now above_in c.index.ensures 0) both.0)
           (subst (λ (n : ℕ). n ≤ c.saturating_add.result) (get_or_read heats at c.index-in-loop-at.result.now child_in c.index-in-loop-at.ensures 0) both.1)
           (λ i some low. c.loop-at.invariant.rise i some (subst (λ (n : ℕ). n ≤ i) (add-back c.loop-at.at c.loop-at-test.true) low));
     }
+
+pub loop-at-init : goal.loop-at-init
+loop-at-init c = record {
+  size = c.in_ok-heats.ensures.size;
+  sums = λ i l. inl (omega (arith, c.in_ok-heats.ensures.heats i l, none-below c.args.directories.now (slice_index c.in_ok-heats.heats.items) (length c.args.directories.now) i (le_refl (length c.args.directories.now))));
+  some = λ some. some;
+  rise = λ i some low l. absurd (omega (arith, low, l));
+}
+
+pub returns-clause-heats : goal.returns-clause-heats
+returns-clause-heats c = λ i l.
+    subst (λ (k : ℕ). IsCappedSum (slice_index c.loop-at.heats.items i) (heat_at c.args.directories.now i + of_children c.args.directories.now (slice_index c.loop-at.heats.items) k i))
+    (omega (arith, c.loop-at-test.false, c.loop-at.invariant.some (omega (arith, l)))) (c.loop-at.invariant.sums i l)

@@ -1,5 +1,5 @@
 use Rattle.std.proofs.Common.{◌≡◌, ◌≤◌, ◌<◌, ℕ, true, false, length}
-use Rattle.ceph_snapshot.specs.Folding.{IsPlain, is_marked}
+use Rattle.ceph_snapshot.specs.Folding.{HasToStay, IsPlain, is_marked}
 use Rattle.ceph_snapshot.specs.Holding.{parent_at}
 use Rattle.ceph_snapshot.proofs.coldest.staying.Given as goal
 
@@ -9,4 +9,5 @@ invariant-loop-at l = record {
   low : l.at ≤ length l.directories;
   plain : (i : ℕ) → l.at ≤ i → i < length l.directories → is_marked l.stays.items i ≡ false → IsPlain l.directories i;
   above : (i : ℕ) → 0 < i → l.at ≤ i → i < length l.directories → is_marked l.stays.items i ≡ true → is_marked l.stays.items (parent_at l.directories i) ≡ true;
+  needed : (i : ℕ) → is_marked l.stays.items i ≡ true → HasToStay l.directories i;
 }

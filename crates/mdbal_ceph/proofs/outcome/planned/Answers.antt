@@ -1,13 +1,41 @@
-use Rattle.std.proofs.Common.{ℕ, List, subst}
+use Rattle.std.proofs.Common.{◌≡◌, ◌∙◌, ◌≤◌, ◌^◌, All, ℕ, List, ap, length, slice_index, subst, sym}
+use Rattle.mds_types.specs.Sums.{sum_below}
 use Rattle.ceph_snapshot.specs.declared.directory.Directory.{Directory}
-use Rattle.mdbal_ceph.specs.Outcomes.{IsDecision}
+use Rattle.ceph_plan.specs.Packing.{IsAsGreat, IsBoundOf}
+use Rattle.mdbal_ceph.specs.Outcomes.{AreFreeHeats, IsBoundOfAll, IsDecision}
 use Rattle.mdbal_ceph.specs.declared.outcome.Decision.{Decision}
 use Rattle.mdbal_ceph.proofs.outcome.planned.Goals as goal
+
+pub heats_bound-bound-requires-clause-size : goal.heats_bound-bound-requires-clause-size
+heats_bound-bound-requires-clause-size c = ap length c.deref-5.ensures.value ∙ c.in_ok-decision.ensures.pinned.size
+
+pub heats_bound-bound-requires-clause-small : goal.heats_bound-bound-requires-clause-small
+heats_bound-bound-requires-clause-small c =
+    subst (All (λ n. n ≤ 2 ^ 57)) (sym c.deref-5.ensures.value) c.in_ok-decision.ensures.planned.proposed.chosen.plannable.held.small
+
+pub heats_bound-bound-requires-clause-zero : goal.heats_bound-bound-requires-clause-zero
+heats_bound-bound-requires-clause-zero c = c.in_ok-decision.ensures.planned.proposed.chosen.plannable.zero
+
+-- the bound of what was collected
+bound_of_all : (collected : List Directory) (heats those pinned held : List ℕ) (ranks bound : ℕ) → AreFreeHeats collected heats → those ≡ heats → held ≡ pinned
+    → IsBoundOf ranks held (length those) (slice_index those) bound
+    → (sum_below (length those) (slice_index those) ≤ 2 ^ 62 → IsAsGreat ranks held (length those) (slice_index those) bound)
+    → IsBoundOfAll collected pinned ranks bound
+bound_of_all collected heats those pinned held ranks bound are heats_are pinned_are lower great = record {
+  heats = heats;
+  are = are;
+  lower = subst (λ (xs : List ℕ). IsBoundOf ranks pinned (length xs) (slice_index xs) bound) heats_are
+      (subst (λ (xs : List ℕ). IsBoundOf ranks xs (length those) (slice_index those) bound) pinned_are lower);
+  great = subst (λ (xs : List ℕ). sum_below (length xs) (slice_index xs) ≤ 2 ^ 62 → IsAsGreat ranks pinned (length xs) (slice_index xs) bound) heats_are
+      (subst (λ (xs : List ℕ). sum_below (length those) (slice_index those) ≤ 2 ^ 62 → IsAsGreat ranks xs (length those) (slice_index those) bound) pinned_are great);
+}
 
 pub returns-clause-outcome : goal.returns-clause-outcome
 returns-clause-outcome c =
     let directories : List Directory = c.in_ok-directories.directories.items in
+    let collected : List Directory = c.args.collected.snapshot.directories.items in
     let spread : List ℕ = c.args.collected.snapshot.spread.items in
+    let heats : List ℕ = c.in_ok-heats.heats.items in
     let decision : Decision = c.in_ok-decision.decision in
     record {
       few = c.in_ok-directories.ensures.few;
@@ -16,6 +44,9 @@ returns-clause-outcome c =
       count = c.in_ok-directories.ensures.count;
       unpinnable = c.in_ok-directories.ensures.unpinnable;
       decided =
-          subst (λ (heats : List ℕ). IsDecision directories heats c.in_ok-ranks.ranks c.args.settings.now.wanted decision) c.deref-2.ensures.value
-          (subst (λ (others : List Directory). IsDecision others c.deref-2.result.now c.in_ok-ranks.ranks c.args.settings.now.wanted decision) c.deref.ensures.value c.in_ok-decision.ensures);
+          subst (λ (heats : List ℕ). IsDecision directories heats c.in_ok-ranks.ranks c.args.settings.now.wanted decision) c.deref-3.ensures.value
+          (subst (λ (others : List Directory). IsDecision others c.deref-3.result.now c.in_ok-ranks.ranks c.args.settings.now.wanted decision) c.deref-2.ensures.value c.in_ok-decision.ensures);
+      bound = bound_of_all collected heats c.deref-4.result.now decision.pinned.items c.deref-5.result.now c.in_ok-ranks.ranks c.heats_bound-bound.result
+          (subst (λ (those : List Directory). AreFreeHeats those heats) c.deref.ensures.value c.in_ok-heats.ensures) c.deref-4.ensures.value c.deref-5.ensures.value
+          c.heats_bound-bound.ensures.lower c.heats_bound-bound.ensures.three;
     }

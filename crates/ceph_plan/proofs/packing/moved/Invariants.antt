@@ -1,6 +1,6 @@
 use Rattle.std.proofs.Common.{◌≡◌, ◌≤◌, ◌*◌, ◌^◌}
 use Rattle.ceph_plan.specs.Plans.{moved_inodes}
-use Rattle.ceph_plan.proofs.plan.moved.Given as goal
+use Rattle.ceph_plan.proofs.packing.moved.Given as goal
 
 abbrev pub invariant-loop-i : goal.invariant-loop-i
 invariant-loop-i l = record {

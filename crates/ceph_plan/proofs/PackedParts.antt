@@ -1,13 +1,13 @@
 -- The packing with one more part.
 use Rattle.std.proofs.Common.{All, ◌^◌, ◌/◌, ◌≡◌, ◌≢◌, ◌∙◌, ◌+◌, ◌*◌, ◌<◌, ◌≤◌, ◌&&◌, ◌||◌, ◌==◌, ℕ, Bool, true, false, List, length, length-set, get_or, set, slice_index, cond, eqb, nat_lt, inl, inr, ⊎_elim, ap, arith, refl, replicate, subst, sym}
-use Rattle.std.proofs.Math.Nat.{le-add_right, le_of_eq, le_of_lt, mul-le-mul_left, mul_comm}
+use Rattle.std.proofs.Math.Nat.{le-add_right, le_of_eq, le_of_lt, mul-le-mul_left}
 use Rattle.std.proofs.lemmas.Bool.{and_parts, both_ways, cases_Bool, cases_eq, cases_lt, eq-eqb, eqb-true, le-ltb, ltb-true, ne_eqb, or_cases, or_from, or_left, or_right}
 use Rattle.std.proofs.lemmas.List.{get_or-replicate, get_or-set_other, get_or-set_same, get_or_default, length-replicate}
 use Rattle.std.proofs.lemmas.List.Elements.{All-get_or}
 use Rattle.mds_types.specs.RankSet.{has_rank}
 use Rattle.mds_types.specs.Sums.{sum_below}
 use Rattle.mds_types.proofs.SumsLemmas.{sum_below-add, sum_below-pick, sum_below-same, sum_below-zero}
-use Rattle.ceph_plan.specs.Balance.{HaveRanks, IsChosenPacking, IsEvened, IsKeptWithin, IsLargestFirst, IsNearMean, IsByHeat, IsSent, allowed, goes_before, greatest_by, is_hotter, load_before, load_by, load_of_parts}
+use Rattle.ceph_plan.specs.Balance.{HaveRanks, IsEvened, IsKeptPacking, IsKeptWithin, IsLargestFirst, IsNearMean, IsByHeat, IsSent, allowed, goes_before, greatest_by, is_hotter, load_before, load_by, load_of_parts}
 use Rattle.ceph_plan.proofs.Bounds.{rank-small, set_usable}
 use Rattle.ceph_plan.proofs.Means.{IsFairLoad, fair-least, load-small, near-mean}
 
@@ -350,20 +350,20 @@ load-bound ranks pinned heats inodes order root limit rank done loads left r pac
     omega (arith, packed.loads_are r inside, load-small ranks pinned heats rank (is_done done) r, most, total)
 
 -- whichever packing is taken, each part has a rank
-pub ranks-chosen : (ranks : ℕ) (pinned heats inodes : List ℕ) (root keep : ℕ) (rank : List ℕ) → IsChosenPacking ranks pinned heats inodes root keep rank
+pub ranks-kept : (ranks : ℕ) (pinned heats inodes : List ℕ) (root keep : ℕ) (even rank : List ℕ) → HaveRanks ranks heats root even → IsKeptPacking ranks pinned heats inodes root keep even rank
     → HaveRanks ranks heats root rank
-ranks-chosen ranks pinned heats inodes root keep rank chosen = elim chosen.taken [
+ranks-kept ranks pinned heats inodes root keep even rank have chosen = elim chosen.taken [
   | inl near ↦ subst (HaveRanks ranks heats root) (sym near.1) chosen.mended.ranks_are
-  | inr even ↦ subst (HaveRanks ranks heats root) (sym even.1) chosen.evened.ranks_are
+  | inr plain ↦ subst (HaveRanks ranks heats root) (sym plain.1) have
 ]
 
 -- and the greatest load is allowed
-pub within-chosen : (ranks : ℕ) (pinned heats inodes : List ℕ) (root keep : ℕ) (rank : List ℕ) → (chosen : IsChosenPacking ranks pinned heats inodes root keep rank)
-    → greatest_by ranks pinned heats rank ≤ allowed keep (greatest_by ranks pinned heats chosen.even)
-within-chosen ranks pinned heats inodes root keep rank chosen = elim chosen.taken [
-  | inl near ↦ subst (λ (xs : List ℕ). greatest_by ranks pinned heats xs ≤ allowed keep (greatest_by ranks pinned heats chosen.even)) (sym near.1) near.0
-  | inr even ↦ subst (λ (xs : List ℕ). greatest_by ranks pinned heats xs ≤ allowed keep (greatest_by ranks pinned heats chosen.even)) (sym even.1)
-      (le-add_right (greatest_by ranks pinned heats chosen.even) (greatest_by ranks pinned heats chosen.even / 100 * keep))
+pub within-kept : (ranks : ℕ) (pinned heats inodes : List ℕ) (root keep : ℕ) (even rank : List ℕ) → IsKeptPacking ranks pinned heats inodes root keep even rank
+    → greatest_by ranks pinned heats rank ≤ allowed keep (greatest_by ranks pinned heats even)
+within-kept ranks pinned heats inodes root keep even rank chosen = elim chosen.taken [
+  | inl near ↦ subst (λ (xs : List ℕ). greatest_by ranks pinned heats xs ≤ allowed keep (greatest_by ranks pinned heats even)) (sym near.1) near.0
+  | inr plain ↦ subst (λ (xs : List ℕ). greatest_by ranks pinned heats xs ≤ allowed keep (greatest_by ranks pinned heats even)) (sym plain.1)
+      (le-add_right (greatest_by ranks pinned heats even) (greatest_by ranks pinned heats even / 100 * keep))
 ]
 
 -- what is evened is no hotter
@@ -374,15 +374,8 @@ cooler-evened ranks pinned heats root enough packed rank evened = elim evened.co
   | inr less ↦ le_of_lt less
 ]
 
-pub allowed-more : (keep load more : ℕ) → load ≤ more → allowed keep load ≤ allowed keep more
-allowed-more keep load more le =
-    let hundredths : load / 100 ≤ more / 100 = omega (arith, le) in
-    let times : load / 100 * keep ≤ more / 100 * keep = rw (mul_comm (load / 100) keep, mul_comm (more / 100) keep) (mul-le-mul_left keep hundredths) in
-    omega (arith, le, times)
-
--- the same is chosen of the same lists
-pub chosen-same : (ranks : ℕ) (pinned heats inodes those others : List ℕ) (root keep : ℕ) (rank : List ℕ) → those ≡ heats → others ≡ inodes
-    → IsChosenPacking ranks pinned those others root keep rank → IsChosenPacking ranks pinned heats inodes root keep rank
-chosen-same ranks pinned heats inodes those others root keep rank heats_are inodes_are chosen =
-    subst (λ (xs : List ℕ). IsChosenPacking ranks pinned xs inodes root keep rank) heats_are
-    (subst (λ (xs : List ℕ). IsChosenPacking ranks pinned those xs root keep rank) inodes_are chosen)
+-- a greater percentage allows more
+pub allowed-wider : (keep more load : ℕ) → keep ≤ more → allowed keep load ≤ allowed more load
+allowed-wider keep more load le =
+    let times : load / 100 * keep ≤ load / 100 * more = mul-le-mul_left (load / 100) le in
+    omega (arith, times)
