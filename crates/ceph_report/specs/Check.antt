@@ -59,3 +59,7 @@ check_text directories listed =
 -- each pin of the list is set, and holds
 abbrev pub all_hold : List Directory → ℕ → Bool
 all_hold directories listed = not (nat_lt (set_count directories) listed) && (astray_count directories == 0)
+
+-- the status of the program
+abbrev pub check_status : Bool → ℕ
+check_status holds = if holds then 0 else 4

@@ -3,7 +3,7 @@ ghost use Rattle.std.specs.Prelude.{◌≡◌, ◌++◌, IfOk, OnOk};
 ghost use Rattle.std.specs.List.{flat_map};
 ghost use Rattle.ceph_report.specs.Check as check;
 ghost use Rattle.ceph_report.specs.Check.{all_hold, astray_line, astray_text, check_text, hold_line, lies_text};
-ghost use Rattle.ceph_report.specs.Check.{unset_line};
+ghost use Rattle.ceph_report.specs.Check.{check_status, unset_line};
 
 use crate::text::{push_number, push_path, push_text};
 use ceph_snapshot::Directory;
@@ -17,6 +17,15 @@ pub struct PinCheck {
     pub text: Vec<u8>,
     /// Whether each pin of the list is set, and holds.
     pub all_hold: bool,
+}
+
+impl PinCheck {
+    /// The status of the program: 0 if all pins are set and hold, otherwise 4.
+    pub fn status(&self) -> u8
+        ensures { result ≡ check_status self.now.all_hold }
+    {
+        if self.all_hold { 0 } else { 4 }
+    }
 }
 
 /// The rank of a directory's pin, if the directory lies at another one or at several.

@@ -1,13 +1,16 @@
 -- The options as they are read of the words, and what is planned by them.
-use Rattle.std.specs.Prelude.{◌≡◌, ◌*◌, ℕ, true, false, List, Option, Some, None, codes, is_some, string_bytes}
+use Rattle.std.specs.Prelude.{◌≡◌, ◌*◌, ℕ, true, false, List, [], Option, Some, None, codes, is_some, length}
+use Rattle.std.specs.Prelude.{string_bytes}
 use Rattle.std.specs.Prelude.{if◌then◌else◌}
-use Rattle.std.specs.Option.{option_map, unwrap_or}
+use Rattle.std.specs.Option.{option_map, option_map_or, unwrap_or}
 use Rattle.std.specs.Str.{bytes_eq}
 use Rattle.std.specs.Str.Parse.{digits_value, without_leading_plus}
 use Rattle.clap.specs.Words.{Row, first_of, one_of}
 use Rattle.ceph_plan.specs.declared.choice.PartCount.{PartCount}
 use Rattle.ceph_plan.specs.declared.worth.LeastGain.{LeastGain}
 use Rattle.ceph_plan.specs.declared.choice.PartCount.TheVariants.{AtMost, Auto}
+use Rattle.ceph_report.specs.Check.{all_hold, check_text}
+use Rattle.ceph_report.specs.declared.check.PinCheck.{PinCheck}
 use Rattle.mdbal_ceph.specs.declared.collected.Collected.{Collected}
 use Rattle.mdbal_ceph.specs.declared.outcome.Outcome.{Outcome}
 use Rattle.mdbal_ceph.specs.declared.settings.PlanSettings.{PlanSettings}
@@ -54,6 +57,7 @@ pub record AreRead (rows : List Row) (settings : PlanSettings) : Type 0 where
   pub mask : settings.mask ≡ mask_named (first_of (codes "mask") rows)
   pub mount : settings.mount.now ≡ value_or rows (codes "mount") (codes "/mnt/cephfs")
   pub own : option_map (λ text. text.now) settings.own ≡ first_of (codes "own") rows
+  pub check : option_map (λ text. text.now) settings.check ≡ first_of (codes "check") rows
   pub pins : option_map (λ text. text.now) settings.pins ≡ first_of (codes "pins") rows
   pub svg : option_map (λ text. text.now) settings.svg ≡ first_of (codes "svg") rows
   pub script : option_map (λ text. text.now) settings.script ≡ first_of (codes "script") rows
@@ -71,3 +75,15 @@ pub record IsPlanWritten (settings : PlanSettings) (output : PlanOutput) : Type 
   pub of : IsOutcome collected.snapshot.directories.items collected.snapshot.spread.items settings.wanted outcome
   pub file_system : outcome.file_system ≡ collected.file_system
   pub written : IsWritten settings outcome output
+
+-- how many pins a list has, if there is one
+abbrev pub listed_count : Collected → ℕ
+listed_count collected = length (option_map_or (λ pins. pins.items) collected.own [])
+
+-- what is reported is how the pins of the list hold in what was collected
+pub record IsChecked (found : PinCheck) : Type 0 where
+  pub collected : Collected
+  pub own : is_some collected.own ≡ true
+  pub ours : HasOurPins collected
+  pub text : found.text.items ≡ check_text collected.snapshot.directories.items (listed_count collected)
+  pub holds : found.all_hold ≡ all_hold collected.snapshot.directories.items (listed_count collected)

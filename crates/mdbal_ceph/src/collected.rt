@@ -204,7 +204,7 @@ fn add_all<R: Files + AllocGlobal + Clock + Eprint>(
 }
 
 /// The pins of a list, and none where there is no list.
-fn listed(own: &Option<Vec<OwnPin>>) -> &[OwnPin]
+pub fn listed(own: &Option<Vec<OwnPin>>) -> &[OwnPin]
     ensures { result.now ≡ option_map_or (λ pins. pins.items) own.now [] }
 {
     match own {

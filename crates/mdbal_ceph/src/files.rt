@@ -1,13 +1,14 @@
 //! Reads what was collected, and writes the files of a plan.
 ghost use Rattle.std.specs.Prelude.{IfOk};
-ghost use Rattle.mdbal_ceph.specs.Options.{IsPlanWritten};
+ghost use Rattle.mdbal_ceph.specs.Options.{IsChecked, IsPlanWritten};
 
-use crate::collected::read_collected;
+use crate::collected::{listed, read_collected};
 use crate::outcome::planned;
 use crate::progress::Progress;
 use crate::settings::PlanSettings;
 use crate::writing::{PinFiles, PlanOutput, written};
 use anyhow::{Context, Error};
+use ceph_report::{PinCheck, check_pins};
 use command_line::create_file;
 use std::io::Write;
 use std::rt::{Clock, Files};
@@ -64,4 +65,19 @@ pub fn carry_out<R: Files + AllocGlobal + Clock + Eprint>(
     let output = written(rt.alloc(), settings, &outcome)?;
     write_files(rt, settings, &output)?;
     Ok(output)
+}
+
+/// Reads what was collected, and reports how the pins of a list hold.
+pub fn checked<R: Files + AllocGlobal + Clock + Eprint>(
+    rt: &R,
+    folder: &str,
+    own: &str,
+) -> Result<PinCheck, Error>
+    ensures { IfOk result IsChecked }
+{
+    let mut progress = Progress::begin(rt);
+    let collected = read_collected(rt, &mut progress, folder, Some(own))?;
+    let count = listed(&collected.own).len();
+    let found = check_pins(rt.alloc(), &collected.snapshot.directories, count)?;
+    Ok(found)
 }

@@ -10,7 +10,7 @@ mod settings;
 mod writing;
 
 use anyhow::{Context, Error};
-use files::carry_out;
+use files::{carry_out, checked};
 use settings::{PlanSettings, settings_of};
 use std::env::Env;
 use std::io::Write;
@@ -24,14 +24,24 @@ fn words<R: Env + AllocGlobal>(rt: &R) -> io::Result<Vec<String>> {
     Ok(words)
 }
 
-/// Plans, and prints the report. Gives the status.
+/// Prints a report.
+fn print<R: Print>(rt: &R, text: &[u8]) -> Result<(), Error> {
+    let written = io::writer(rt).write_all(text);
+    written.context("standard output")
+}
+
+/// Plans, or checks pins, and prints the report. Returns the status.
 fn run<R: Files + AllocGlobal + Clock + Print + Eprint>(
     rt: &R,
     settings: &PlanSettings,
 ) -> Result<u8, Error> {
+    if let Some(list) = settings.check {
+        let found = checked(rt, settings.folder, list)?;
+        print(rt, &found.text)?;
+        return Ok(found.status());
+    }
     let output = carry_out(rt, settings)?;
-    let written = io::writer(rt).write_all(&output.text);
-    written.context("standard output")?;
+    print(rt, &output.text)?;
     Ok(output.status())
 }
 

@@ -30,6 +30,8 @@ pub struct PlanSettings<'a> {
     pub mask: Option<RankSet>,
     /// The list of pins that this program set before.
     pub own: Option<&'a str>,
+    /// The list of pins that are compared with the cluster's, and nothing is planned.
+    pub check: Option<&'a str>,
     /// What a plan has to come to for a proposal. Heat is in thousandths.
     pub least: LeastGain,
     /// Where the file system is mounted on the machine that sets the pins.
@@ -124,6 +126,12 @@ const OPTIONS: &[PlanOption] = &[
         default: None,
         value: "FILE",
         help: "The list of pins that an earlier run wrote; they count as unpinned",
+    },
+    PlanOption {
+        name: "check",
+        default: None,
+        value: "FILE",
+        help: "Plan nothing, and report which pins of this list are not set or do not hold",
     },
     PlanOption {
         name: "least-gain",
@@ -226,7 +234,8 @@ fn plain_command<'a>(alloc: Global) -> Command<'a>
 {
     Command::new(alloc, "mdbal_ceph").version(VERSION).about(
         "Plans export pins that balance a live CephFS. Status 0: changes are proposed; 1: a file is missing, broken \
-         or can't be written, or there is no plan; 2: the command line is refused; 3: nothing is proposed",
+         or can't be written, or there is no plan; 2: the command line is refused; 3: nothing is proposed; 4: a pin of \
+         --check does not hold",
     )
 }
 
@@ -391,6 +400,7 @@ fn found<'a>(matches: &ArgMatches<'a>) -> Result<PlanSettings<'a>, Refused>
         },
         mask,
         own: value_of(matches, "own"),
+        check: value_of(matches, "check"),
         least: least_of(matches)?,
         mount: mount_of(value_or(matches, "mount", "/mnt/cephfs"))?,
         pins: value_of(matches, "pins"),
