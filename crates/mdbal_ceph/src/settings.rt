@@ -155,7 +155,7 @@ const OPTIONS: &[PlanOption] = &[
         name: "keep",
         default: Some("5"),
         value: "PERCENT",
-        help: "By how much a load may pass the greatest so that a part stays where it is",
+        help: "By how much the hottest rank may pass that of the coolest plan, so that fewer inodes move",
     },
     PlanOption {
         name: "mount",

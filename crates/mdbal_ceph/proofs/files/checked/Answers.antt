@@ -5,6 +5,6 @@ returns g c = record {
   collected = c.in_ok-collected.collected;
   own = c.in_ok-collected.ensures.own;
   ours = c.in_ok-collected.ensures.ours;
-  text = c.in_ok-found.ensures.text;
-  holds = c.in_ok-found.ensures.holds;
+  text = rw (c.deref.ensures.value, c.listed-count.ensures) at c.in_ok-found.ensures.text;
+  holds = rw (c.deref.ensures.value, c.listed-count.ensures) at c.in_ok-found.ensures.holds;
 }
