@@ -42,7 +42,8 @@ fn astray(directory: &Directory) -> Option<Rank>
 
 /// Adds where a directory lies.
 fn push_place(text: &mut Vec<u8>, directory: &Directory) -> Result<(), AllocError>
-    ensures { OnOk result (text.new.items ≡ text.old.items ++ lies_text directory.entry.now.is_spread directory.entry.now.now) }
+    ensures { OnOk result (text.new.items
+        ≡ text.old.items ++ lies_text directory.entry.now.is_spread directory.entry.now.now) }
 {
     if directory.is_spread {
         return push_text(text, "lies at several ranks\n");

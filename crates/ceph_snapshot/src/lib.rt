@@ -1,5 +1,4 @@
-//! One picture of a live CephFS, made of the dumps of its ranks: the directories with their own heat, their inodes,
-//! where each is and what pins it.
+//! One picture of a live CephFS from its ranks' dumps: directories with heat and inodes, where each is, what pins it.
 #![tactic(auto)]
 
 mod amounts;
