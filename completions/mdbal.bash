@@ -11,12 +11,13 @@ _mdbal_ceph() {
     local cur=${COMP_WORDS[COMP_CWORD]} prev=${COMP_WORDS[COMP_CWORD-1]}
     case $prev in
         --parts) COMPREPLY=($(compgen -W 'auto' -- "$cur")); return ;;
-        --own|--pins|--svg|--script) COMPREPLY=($(compgen -f -- "$cur")); return ;;
+        --own|--check|--pins|--svg|--script) COMPREPLY=($(compgen -f -- "$cur")); return ;;
         --mount) COMPREPLY=($(compgen -d -- "$cur")); return ;;
-        --most-pins|--mask|--least-gain|--least-heat|--least-by-inodes|--keep) return ;;
+        --mask) COMPREPLY=($(compgen -W 'all' -- "$cur")); return ;;
+        --most-pins|--least-gain|--least-heat|--least-by-inodes|--keep) return ;;
     esac
     case $cur in
-        -*) COMPREPLY=($(compgen -W '--parts --most-pins --mask --own --least-gain --least-heat --least-by-inodes --keep --mount --pins --svg --script --json --help --version' -- "$cur")) ;;
+        -*) COMPREPLY=($(compgen -W '--parts --most-pins --mask --own --check --least-gain --least-heat --least-by-inodes --keep --mount --pins --svg --script --json --help --version' -- "$cur")) ;;
         *) COMPREPLY=($(compgen -d -- "$cur")) ;;
     esac
 }
