@@ -1,9 +1,9 @@
 //! Writes zeros over bare `-inf`, `inf` and `nan`, which Ceph prints where JSON has no number.
 ghost use Rattle.std.specs.Prelude.{◌≡◌, ◌≤◌, length};
 
-/// Where a byte of JSON stands.
+/// Where a byte of JSON is.
 #[derive(Clone, Copy)]
-enum Place {
+pub(crate) enum Place {
     /// Outside of strings.
     Bare,
     /// In a string.
@@ -13,8 +13,12 @@ enum Place {
 }
 
 impl Place {
-    /// Where the byte behind this one stands.
-    fn behind(self, byte: u8) -> Place {
+    ghost use Rattle.ceph_dumps.specs.KeyPath.{behind};
+
+    /// Where the byte after this one is.
+    pub(crate) fn behind(self, byte: u8) -> Place
+        ensures { result ≡ behind self byte }
+    {
         match (self, byte) {
             (Place::Bare, b'"') => Place::Quoted,
             (Place::Bare, _) => Place::Bare,

@@ -11,12 +11,14 @@ pub enum DumpError {
     #[error("no memory")]
     Memory,
     /// It isn't the JSON that this dump is, or is cut off. Lines and columns (bytes) are counted from 1.
-    #[error("line {line}, column {column}: {reason}")]
+    #[error("line {line}, column {column}, at {path}: {reason}")]
     Json {
         /// The line.
         line: usize,
         /// The column.
         column: usize,
+        /// The names of members and the places in lists that lead there, as `.mdsmap.in[0]`.
+        path: String,
         /// What was expected, as the reader says it.
         reason: String,
     },

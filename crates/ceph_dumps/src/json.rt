@@ -1,23 +1,14 @@
 //! Reads a dump by the type that it has.
+ghost use Rattle.std.specs.Prelude.{IfErr, IfOk};
+ghost use Rattle.ceph_dumps.specs.Told.{IsToldOf};
 
 use crate::bare_words::write_over_bare_words;
 use crate::dump_error::DumpError;
-use crate::listing::is_newline;
+use crate::key_path::{column_of, key_path, line_start};
 use crate::members::Whole;
 use crate::wide_bytes::widened;
 use serde::DeserializeOwned;
 use std::alloc::{AllocError, Global};
-
-/// The column, from 1, of the byte that was widened to the one at this column of its widened line.
-fn column_of(line: &[u8], wide: usize) -> usize {
-    let mut column = 0usize;
-    for byte in line.get(..wide).unwrap_or(line) {
-        if !matches!(*byte, 128..=191) {
-            column = column.saturating_add(1);
-        }
-    }
-    column
-}
 
 /// What the reader says of an error, without the place, which it tells in the widened text.
 fn reason_of(alloc: Global, error: &serde_json::Error) -> Result<String, AllocError> {
@@ -28,26 +19,35 @@ fn reason_of(alloc: Global, error: &serde_json::Error) -> Result<String, AllocEr
     }
 }
 
-/// The column as the file has it, where the reader of a text tells this place.
-fn column_in(text: &[u8], line: usize, wide: usize) -> usize {
-    match text.split(is_newline).nth(line.saturating_sub(1)) {
-        Some(here) => column_of(here, wide),
-        None => wide,
-    }
+/// What is told of the place in a text, which the reader of the text tells by its line and its column.
+fn told(
+    alloc: Global,
+    text: &[u8],
+    line: usize,
+    wide: usize,
+    reason: String,
+) -> Result<DumpError, AllocError>
+    ensures { IfOk result (IsToldOf text.now) }
+{
+    let start = line_start(text, line);
+    let byte = start.saturating_add(wide.saturating_sub(1)).min(text.len());
+    Ok(DumpError::Json {
+        line,
+        column: column_of(text, start, wide),
+        path: key_path(alloc, text, byte)?,
+        reason,
+    })
 }
 
 /// The error of the reader of a text, with the column as the file has it.
-fn placed(alloc: Global, text: &[u8], error: &serde_json::Error) -> Result<DumpError, AllocError> {
+fn placed(alloc: Global, text: &[u8], error: &serde_json::Error) -> Result<DumpError, AllocError>
+    ensures { IfOk result (IsToldOf text.now) }
+{
     if error.is_memory() {
         return Ok(DumpError::Memory);
     }
-    let line = error.line();
     let reason = reason_of(alloc, error)?;
-    Ok(DumpError::Json {
-        line,
-        column: column_in(text, line, error.column()),
-        reason,
-    })
+    told(alloc, text, error.line(), error.column(), reason)
 }
 
 /// The text of a dump, in UTF-8 and without bare words.
@@ -58,7 +58,9 @@ fn text_of(alloc: Global, bytes: &[u8]) -> Result<Vec<u8>, AllocError> {
 }
 
 /// What the text of a dump says. Errors tell the place in the dump's own bytes.
-fn read_text<T: DeserializeOwned>(alloc: Global, text: &[u8]) -> Result<T, DumpError> {
+fn read_text<T: DeserializeOwned>(alloc: Global, text: &[u8]) -> Result<T, DumpError>
+    ensures { IfErr result (IsToldOf text.now) }
+{
     match serde_json::from_slice(alloc, text) {
         Ok(Whole(value)) => Ok(value),
         Err(error) => Err(placed(alloc, text, &error)?),

@@ -10,6 +10,7 @@ pub mod cluster;
 pub mod dump_error;
 pub mod file_system;
 mod json;
+mod key_path;
 pub mod listing;
 pub mod loads;
 mod members;

@@ -144,7 +144,11 @@ fn refusal_of<T: Drop>(rt: &impl Abort, alloc: Global, answer: Result<T, DumpErr
 #[test]
 fn tells_where_a_dump_is_broken(rt: HostRuntime) {
     let told = refusal_of(&rt, rt.alloc(), read_loads(rt.alloc(), WRONG_COUNTERS));
-    holds_in(&rt, told.starts_with("line 2, column 2"), &told);
+    holds_in(
+        &rt,
+        told.starts_with("line 2, column 22, at .dirfrags[0].pop_me: "),
+        &told,
+    );
 }
 
 /// Two roots: one that is here and spread, and a rank's own directory.
@@ -205,7 +209,15 @@ const REFUSED_RANKS: &[(&[u8], &str)] = &[
     ),
     (
         b"{\"mdsmap\":{\"max_mds\":1,\"in\":[0],\"in\":[1]}}",
-        "line 1, column 33: duplicate field `in`",
+        "line 1, column 33, at .mdsmap: duplicate field `in`",
+    ),
+    (
+        b"{\"mdsmap\":{\"max_mds\":1,\"in\":[0,true],\"info\":{}}}",
+        "line 1, column 32, at .mdsmap.in[1]: invalid type",
+    ),
+    (
+        b"{\"id\":[{},{\"a\":1}],\"mdsmap\":{\"max_mds\":1,\"info\":{}}}",
+        "line 1, column 51, at .mdsmap: missing field `in`",
     ),
 ];
 
