@@ -2,11 +2,10 @@
 ghost use Rattle.std.specs.Prelude.{IfErr, IfOk};
 ghost use Rattle.ceph_dumps.specs.Told.{IsToldOf};
 
-use crate::bare_words::write_over_bare_words;
 use crate::dump_error::DumpError;
-use crate::key_path::{column_of, key_path, line_start};
 use crate::members::Whole;
-use crate::wide_bytes::widened;
+use json_text::key_path::{column_of, key_path, line_begin};
+use json_text::{widened, write_over_bare_words};
 use serde::DeserializeOwned;
 use std::alloc::{AllocError, Global};
 
@@ -29,7 +28,7 @@ fn told(
 ) -> Result<DumpError, AllocError>
     ensures { IfOk result (IsToldOf text.now) }
 {
-    let start = line_start(text, line);
+    let start = line_begin(text, line);
     let byte = start.saturating_add(wide.saturating_sub(1)).min(text.len());
     Ok(DumpError::Json {
         line,

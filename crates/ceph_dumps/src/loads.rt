@@ -5,7 +5,7 @@ ghost use Rattle.mds_types.specs.declared.limits.TheConstants.{HEAT_LIMIT};
 use crate::dump_error::DumpError;
 use crate::json::read_json;
 use crate::members::{Member, Members, Named, fill, present, read_object};
-use crate::wide_bytes::narrowed;
+use json_text::narrowed;
 use mds_types::limits::HEAT_LIMIT;
 use serde::{DeserializeOwned, Deserializer, Format, Name};
 use std::alloc::Global;

@@ -3,7 +3,7 @@
 use crate::dump_error::DumpError;
 use crate::json::read_json;
 use crate::members::{Members, fill, present, read_object};
-use crate::wide_bytes::narrowed;
+use json_text::narrowed;
 use serde::{DeserializeOwned, Deserializer, Format, Name};
 use std::alloc::Global;
 

@@ -1,0 +1,2 @@
+pub mod KeyPath
+pub mod WideBytes
