@@ -19,7 +19,7 @@ fn column_of(line: &[u8], wide: usize) -> usize {
     column
 }
 
-/// What the reader says of an error, without the place, which it tells in the widened text.
+/// What the reader reports of an error, without the place, which is that in the widened text.
 fn reason_of(alloc: Global, error: &serde_json::Error) -> Result<String, AllocError> {
     let text = format!(in alloc; "{error}")?;
     match text.as_str().split_once(" at line ") {
@@ -28,7 +28,7 @@ fn reason_of(alloc: Global, error: &serde_json::Error) -> Result<String, AllocEr
     }
 }
 
-/// The column as the file has it, where the reader of a text tells this place.
+/// The column in the file, where the reader of a text reports this place.
 fn column_in(text: &[u8], line: usize, wide: usize) -> usize {
     match text.split(is_newline).nth(line.saturating_sub(1)) {
         Some(here) => column_of(here, wide),
@@ -57,7 +57,7 @@ fn text_of(alloc: Global, bytes: &[u8]) -> Result<Vec<u8>, AllocError> {
     Ok(text)
 }
 
-/// What the text of a dump says. Errors tell the place in the dump's own bytes.
+/// What the text of a dump says. Errors give the place in the dump's own bytes.
 fn read_text<T: DeserializeOwned>(alloc: Global, text: &[u8]) -> Result<T, DumpError> {
     match serde_json::from_slice(alloc, text) {
         Ok(Whole(value)) => Ok(value),

@@ -1,8 +1,8 @@
 //! What the collector wrote of a live CephFS: which file says what, and how it is read.
 //!
-//! Ceph's dumps are JSON but for two things. Names stand in them as raw bytes, which needn't be UTF-8, and old
-//! releases print bare `-inf` where a number should be. So each byte from 0x80 is widened to a character of its own
-//! before a dump is read and narrowed again in each name, and bare words are written over.
+//! Ceph's dumps are JSON but for two things. Names are in them as raw bytes, which needn't be UTF-8, and old releases
+//! print bare `-inf` where a number should be. So each byte from 0x80 is widened to a character of its own before a
+//! dump is read, and narrowed again in each name; and bare words are written over.
 #![tactic(auto)]
 
 pub mod bare_words;
