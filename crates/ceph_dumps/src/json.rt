@@ -9,7 +9,7 @@ use json_text::{widened, write_over_bare_words};
 use serde::DeserializeOwned;
 use std::alloc::{AllocError, Global};
 
-/// What the reader says of an error, without the place, which it tells in the widened text.
+/// What the reader reports of an error, without the place, which is that in the widened text.
 fn reason_of(alloc: Global, error: &serde_json::Error) -> Result<String, AllocError> {
     let text = format!(in alloc; "{error}")?;
     match text.as_str().split_once(" at line ") {
@@ -18,7 +18,7 @@ fn reason_of(alloc: Global, error: &serde_json::Error) -> Result<String, AllocEr
     }
 }
 
-/// What is told of the place in a text, which the reader of the text tells by its line and its column.
+/// The error with this reason at a place of a text, which the reader of the text gives by its line and its column.
 fn told(
     alloc: Global,
     text: &[u8],
@@ -56,7 +56,7 @@ fn text_of(alloc: Global, bytes: &[u8]) -> Result<Vec<u8>, AllocError> {
     Ok(text)
 }
 
-/// What the text of a dump says. Errors tell the place in the dump's own bytes.
+/// What the text of a dump says. Errors give the place in the dump's own bytes.
 fn read_text<T: DeserializeOwned>(alloc: Global, text: &[u8]) -> Result<T, DumpError>
     ensures { IfErr result (IsToldOf text.now) }
 {

@@ -43,7 +43,7 @@ pub(crate) fn is_newline(byte: &u8) -> bool {
     *byte == b'\n'
 }
 
-/// The byte that three octal digits behind a backslash stand for.
+/// The byte that three octal digits after a backslash mean.
 fn octal(text: &[u8]) -> Option<u8> {
     match text {
         [b'\\', a @ b'0'..=b'3', b @ b'0'..=b'7', c @ b'0'..=b'7', ..] => {

@@ -24,7 +24,7 @@ pub(crate) trait Members: Drop {
     ) -> Result<Self::Whole, F::Error>;
 }
 
-/// The place of the next member, if there is one: by its name, or in a list that so many came before.
+/// The place of the next member, if there is one: by its name, or in a list after `before` others.
 pub(crate) fn next_member<F: Format>(
     is_list: bool,
     before: usize,
@@ -98,7 +98,7 @@ pub(crate) fn present<T: Drop, F: Format>(
     }
 }
 
-/// What always stands in a member of one name, alone of its object's members.
+/// What is always in a member of one name, the only one that is read of its object.
 pub(crate) trait Named {
     /// The name.
     const NAME: &'static str;

@@ -1,4 +1,4 @@
--- Which pins of an earlier plan stand as they are.
+-- Which pins of an earlier plan stay as they are.
 use Rattle.std.specs.Prelude.{◌==◌, ◌&&◌, ℕ, Bool, not, is_some, List}
 use Rattle.std.specs.List.{list_any}
 use Rattle.ceph_plan.specs.declared.row.PinChange.{PinChange}

@@ -59,8 +59,8 @@ fn push_pin(
     }
 }
 
-/// The list of the pins of this program once the changes are made: those that stand already and those that are set,
-/// deepest first.
+/// The list of the pins of this program once the changes are made: those that stay as they are and those that are
+/// set, deepest first.
 pub fn make_own_list(
     alloc: Global,
     directories: &[Directory],

@@ -330,7 +330,7 @@ fair-all ranks pinned heats inodes order root rank done loads packed =
     near-mean ranks pinned heats rank root (λ r has.
     subst (λ (x : ℕ). IsFairLoad ranks pinned heats root 0 r x) (loads-all ranks pinned heats inodes order root 0 rank done loads packed r (rank-small ranks r has)) (packed.fair r has))
 
--- what is read of a list, whatever stands past its end
+-- what is read of a list, whatever is read past its end
 pub read-value : (xs ys : List ℕ) (i x : ℕ) → xs ≡ ys → i < length ys → x ≡ get_or xs i x → x ≡ get_or ys i 0
 read-value xs ys i x same inside is = is ∙ (ap (λ (zs : List ℕ). get_or zs i x) same ∙ get_or_default ys i x 0 inside)
 

@@ -41,7 +41,7 @@ unfolding rank_in
 rests_false None target is same = both_ways (is_none (Some target)) refl (ap is_none (sym same))
 rests_false (Some rank) target is same = both_ways (rests_at (Some rank) target) is (eq-eqb rank target (ap rank_in same))
 
--- a new pin that isn't set stands already
+-- a new pin that isn't set is there already
 standing_is : (row : PinRow) (hold : Hold) → is_own hold ≡ true → is_set row hold ≡ false → first_of row.foreign row.earlier ≡ Some row.target
 standing_is row hold own is =
     ⊎_elim (λ (yes : stands row ≡ true). rests_true (first_of row.foreign row.earlier) row.target yes)

@@ -10,7 +10,7 @@ use Rattle.ceph_plan.specs.Rule.{IsNearest, row_at}
 use Rattle.ceph_plan.specs.Packing.{packed_rank}
 use Rattle.ceph_plan.specs.declared.proposal.OwnPins.{OwnPins}
 
--- what stands past the last row
+-- what is read past the last row
 abbrev pub no_pins : OwnPins
 no_pins = record { foreign = None; earlier = None }
 

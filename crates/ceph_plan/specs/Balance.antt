@@ -81,7 +81,7 @@ pub record IsKeptWithin (ranks : ℕ) (pinned heats inodes : List ℕ) (root lim
   pub sent : (p : ℕ) → p < length heats → p ≢ root
       → IsSent ranks (load_before pinned heats root rank p) inodes p (slice_index heats p) limit (slice_index rank p)
 
--- a load that is greater by so many percent, where each full hundredth counts
+-- a load and `keep` hundredths of it, where a hundredth is rounded down
 abbrev pub allowed : ℕ → ℕ → ℕ
 allowed keep load = load + load / 100 * keep
 
@@ -114,7 +114,7 @@ pub record IsEvenPacking (ranks : ℕ) (pinned heats : List ℕ) (root : ℕ) (e
   pub evened : IsEvened ranks pinned heats root 0 plain even
 
 -- the packing that keeps parts at home within a limit, evened, if its greatest load is then within the limit, which is
--- `keep` percent above that of the packing by heat only; and else that one
+-- `keep` percent above that of the packing by heat only; otherwise that one
 pub record IsKeptPacking (ranks : ℕ) (pinned heats inodes : List ℕ) (root keep : ℕ) (even rank : List ℕ) : Type 0 where
   pub kept : List ℕ
   pub within : IsKeptWithin ranks pinned heats inodes root (allowed keep (greatest_by ranks pinned heats even)) kept

@@ -36,7 +36,7 @@ AreForced rows own =
 abbrev pub StillHolds : List PinRow → (ℕ → Option ℕ) → Type 0
 StillHolds rows own = (i r : ℕ) → IsNearest rows (foreign_at rows) i r → IsNearest rows own i r
 
--- the new pins are set at the rows from this one on; the old ones still stand
+-- the new pins are set at the rows from this one on; the old ones are still there
 abbrev pub while_set : (ℕ → Option ℕ) → (ℕ → Option ℕ) → ℕ → ℕ → Option ℕ
 while_set old new at j = if nat_lt j at then old j else first_of (new j) (old j)
 
@@ -48,7 +48,7 @@ while_unset old new at j = if nat_lt j at then new j else first_of (new j) (old 
 abbrev pub stands : PinRow → Bool
 stands row = rests_at (first_of row.foreign row.earlier) row.target
 
--- a new pin that doesn't stand already
+-- a new pin that the row doesn't have already
 abbrev pub is_set : PinRow → Hold → Bool
 is_set row hold = is_own hold && not (stands row)
 
@@ -56,7 +56,7 @@ is_set row hold = is_own hold && not (stands row)
 abbrev pub is_dropped : PinRow → Hold → Bool
 is_dropped row hold = is_none row.foreign && (is_some row.earlier && not (is_own hold))
 
--- the new pins of the rows below n that don't stand already, by falling rows
+-- the new pins of the rows below n that they don't have already, by falling rows
 abbrev pub sets_below : List PinRow → List Hold → ℕ → List PinChange
 sets_below rows holds zero = []
 sets_below rows holds (suc n) =

@@ -69,12 +69,12 @@ pub record IsTaken (keep : ℕ) (divisions : List PackedDivision) (plan : Planne
   pub there : slice_get divided.packings.each.items v ≡ Some packed
   pub is : plan ≡ planned_of divided packed
 
--- a fair share of so much heat among so many parts, at least 1
+-- a fair share of the heat among the parts, at least 1
 abbrev pub fair_share : ℕ → ℕ → ℕ
 fair_share heat parts = max (heat / parts) 1
 
--- how finely rows are divided for so many parts: once one row alone was the hottest part, rows are capped at a fair
--- share
+-- how finely rows are divided into `parts` parts: once one row is as hot as the hottest part, rows are capped at a
+-- fair share
 abbrev pub size_of : ℕ → ℕ → Bool → Size
 size_of heat parts is_heavy = record { parts = parts; cap = if is_heavy then fair_share heat parts else no_cap }
 
@@ -85,7 +85,7 @@ gap parts = if nat_lt parts 64 then 0 else parts / 4
 abbrev pub total_of_rows : List ProblemRow → ℕ
 total_of_rows rows = sum_below (length rows) (heat_at rows)
 
--- one of the divisions is into so many parts, with rows capped there
+-- one of the divisions is into at most `parts` parts, with rows capped at `cap`
 pub record HasDivision (ranks : ℕ) (pinned : List ℕ) (rows : List ProblemRow) (divisions : List PackedDivision)
     (parts cap : ℕ) : Type 0 where
   pub k : ℕ
@@ -93,7 +93,7 @@ pub record HasDivision (ranks : ℕ) (pinned : List ℕ) (rows : List ProblemRow
   pub there : slice_get divisions k ≡ Some divided
   pub of : IsDivided ranks pinned rows parts cap divided
 
--- one of the divisions is into fewer parts, and one row alone is its hottest part: more parts change nothing
+-- one of the divisions is into fewer parts, and one row is as hot as its hottest part: more parts change nothing
 pub record HasHeavyDivision (ranks : ℕ) (pinned : List ℕ) (rows : List ProblemRow) (divisions : List PackedDivision)
     (parts : ℕ) : Type 0 where
   pub fewer : ℕ
@@ -104,8 +104,8 @@ pub record HasHeavyDivision (ranks : ℕ) (pinned : List ℕ) (rows : List Probl
   pub of : IsDivided ranks pinned rows fewer no_cap divided
   pub heavy : divided.is_heavy ≡ true
 
--- a number of parts is weighed, or one below it with no more than the gap between. Where one row alone was the hottest
--- part before, rows are capped at a fair share
+-- a number of parts is weighed, or one below it with no more than the gap between. Where one row was as hot as the
+-- hottest part before, rows are capped at a fair share
 pub record IsWeighed (ranks : ℕ) (pinned : List ℕ) (rows : List ProblemRow) (divisions : List PackedDivision)
     (parts : ℕ) : Type 0 where
   pub tried : ℕ
@@ -127,7 +127,7 @@ pub record AreWeighed (ranks : ℕ) (pinned : List ℕ) (rows : List ProblemRow)
   pub all : AreDivisions ranks pinned rows divisions
   pub each : (parts : ℕ) → rank_count ranks ≤ parts → parts < n → IsWeighed ranks pinned rows divisions parts
 
--- there is one division, into at most so many parts
+-- there is one division, into at most `parts` parts
 pub record IsDividedOnce (ranks : ℕ) (pinned : List ℕ) (rows : List ProblemRow) (parts : ℕ)
     (divisions : List PackedDivision) : Type 0 where
   pub divided : PackedDivision

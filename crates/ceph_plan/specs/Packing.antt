@@ -24,14 +24,14 @@ total_of ranks f = sum_below 64 (λ r. if has_rank ranks r then f r else 0)
 abbrev pub greatest_load : ℕ → List ℕ → List ProblemRow → (ℕ → ℕ) → ℕ
 greatest_load ranks pinned rows to = greatest_of ranks (load pinned rows to)
 
--- n directories of these heats: whichever ranks of the set they go to, one rank is loaded at least so much
+-- n directories of these heats: whichever ranks of the set they go to, one rank has at least this load
 abbrev pub IsBoundOf : ℕ → List ℕ → ℕ → (ℕ → ℕ) → ℕ → Type 0
 IsBoundOf ranks pinned n heat bound =
     (to : ℕ → ℕ) → ((i : ℕ) → i < n → has_rank ranks (to i) ≡ true)
     → bound ≤ greatest_of ranks (λ r. slice_index pinned r + sum_below n (λ i. if to i == r then heat i else 0))
 
--- the bound is no less than the mean load, than each heat beside the least that is pinned to a rank of the set, and
--- than what is pinned to each
+-- the bound is no less than the mean load, than each heat and the least that is pinned to a rank of the set together,
+-- and than what is pinned to each
 pub record IsAsGreat (ranks : ℕ) (pinned : List ℕ) (n : ℕ) (heat : ℕ → ℕ) (bound : ℕ) : Type 0 where
   pub mean : sum_below n heat + total_of ranks (slice_index pinned) ≤ bound * rank_count ranks
   pub least : (r : ℕ) × (has_rank ranks r ≡ true) × ((i : ℕ) → i < n → heat i + slice_index pinned r ≤ bound)
@@ -41,7 +41,7 @@ pub record IsAsGreat (ranks : ℕ) (pinned : List ℕ) (n : ℕ) (heat : ℕ →
 abbrev pub packed_rank : List ℕ → List ℕ → ℕ → ℕ
 packed_rank rank part i = slice_index rank (slice_index part i)
 
--- each part has a rank of the set, the root's part rank 0, and the loads and the greatest are told as they are
+-- each part has a rank of the set, the root's part rank 0, and the loads and the greatest are right
 pub record IsPacking (ranks : ℕ) (pinned : List ℕ) (rows : List ProblemRow) (part : List ℕ) (count : ℕ)
     (packing : Packing) : Type 0 where
   pub size : length packing.rank.items ≡ count

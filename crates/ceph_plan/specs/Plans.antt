@@ -17,8 +17,8 @@ abbrev pub moved_inodes : List ProblemRow → List ℕ → List ℕ → ℕ → 
 moved_inodes rows part rank n =
     sum_below n (λ i. if packed_rank rank part i == now_at rows i then 0 else inodes_at rows i)
 
--- each row is in one part, each part is connected and on one rank of the set, the root's on rank 0; loads are what
--- they are told to be, and no greater than the parts and the packing's `keep` allow; the inodes that move are told
+-- each row is in one part, each part is connected and on one rank of the set, the root's on rank 0; loads and moved
+-- inodes are right, and no load is greater than the parts and the packing's `keep` allow
 pub record IsPlan (ranks : ℕ) (pinned : List ℕ) (rows : List ProblemRow) (plan : Planned) : Type 0 where
   pub forest : IsForest rows
   pub size : length plan.part.items ≡ length rows
@@ -53,9 +53,9 @@ capped_rows cap rows = map (capped_row cap) rows
 abbrev pub no_cap : ℕ
 no_cap = 2 ^ 64 - 1
 
--- a division into at most so many parts, with its packings: its hottest part is as cool as that of any such division,
--- where no row counts as hotter than the cap. It is heavy where one row alone is as hot, so that more parts change
--- nothing
+-- a division into at most `parts` parts, with its packings: its hottest part is as cool as that of any such division,
+-- where no row counts as hotter than the cap. It is heavy where one row is as hot as that part, so that more parts
+-- change nothing
 pub record IsDivided (ranks : ℕ) (pinned : List ℕ) (rows : List ProblemRow) (parts cap : ℕ)
     (divided : PackedDivision) : Type 0 where
   pub forest : IsForest rows

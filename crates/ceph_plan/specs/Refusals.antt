@@ -22,7 +22,7 @@ pub record IsPlannable (ranks : ℕ) (pinned : List ℕ) (rows : List ProblemRow
   pub some : 0 < length rows
   pub held : IsPinnedHeat pinned
 
--- why there is no plan of so many parts: none are asked for, or want of memory
+-- why there is no plan of this many parts: none are asked for, or out of memory
 abbrev pub IsPartsRefusal : ℕ → PlanError → Type 0
 IsPartsRefusal parts cause.Memory = ⊤
 IsPartsRefusal parts cause.NoDirectory = ⊥
@@ -31,7 +31,7 @@ IsPartsRefusal parts cause.PinnedTooHot = ⊥
 IsPartsRefusal parts cause.PinnedRoot = ⊥
 IsPartsRefusal parts (cause.Problem fault) = parts ≡ 0
 
--- why rows aren't divided: no parts are asked for, or want of memory
+-- why rows aren't divided: no parts are asked for, or out of memory
 abbrev pub IsCountRefusal : PartCount → PlanError → Type 0
 IsCountRefusal (Auto most) error = error ≡ cause.Memory
 IsCountRefusal (AtMost parts) error = IsPartsRefusal parts error
@@ -41,7 +41,7 @@ abbrev pub AsksNoParts : PartCount → Type 0
 AsksNoParts (Auto most) = ⊥
 AsksNoParts (AtMost parts) = parts ≡ 0
 
--- why rows aren't planned: the first thing that is wrong, or want of memory where it is none of the first three
+-- why rows aren't planned: the first thing that is wrong, or out of memory where it is none of the first three
 abbrev pub IsPlanRefusal : ℕ → List ℕ → List ProblemRow → Wanted → PlanError → Type 0
 IsPlanRefusal ranks pinned rows wanted cause.Memory = IsPlannable ranks pinned rows
 IsPlanRefusal ranks pinned rows wanted cause.NoDirectory = (has_rank ranks 0 ≡ true) × (length rows ≡ 0)

@@ -5,7 +5,7 @@ use Rattle.mds_types.specs.declared.limits.TheConstants.{DIR_LIMIT}
 use Rattle.ceph_plan.specs.declared.row.PinRow.{PinRow}
 use Rattle.ceph_plan.specs.declared.row.Pin.{Pin}
 
--- what stands past the last row
+-- what is read past the last row
 abbrev pub no_row : PinRow
 no_row = record { parent = 0; target = 0; foreign = None; earlier = None; rest = None }
 
@@ -24,12 +24,12 @@ foreign_at rows i = (row_at rows i).foreign
 abbrev pub rest_at : List PinRow → ℕ → Option ℕ
 rest_at rows i = (row_at rows i).rest
 
--- the row so many steps above row i; the root is its own parent
+-- the row this many steps above row i; the root is its own parent
 abbrev pub climb : List PinRow → ℕ → ℕ → ℕ
 climb rows zero i = i
 climb rows (suc steps) i = climb rows steps (parent_at rows i)
 
--- parents stand before their children; the root has no pin, and rests at its target
+-- parents come before their children; the root has no pin, and rests at its target
 pub record AreRows (rows : List PinRow) : Type 0 where
   pub few : length rows ≤ DIR_LIMIT
   pub root : parent_at rows 0 ≡ 0
@@ -70,7 +70,7 @@ pub record IsSettled (rows : List PinRow) : Type 0 where
   pub same : (i j : ℕ) → 0 < i → 0 < j → i < length rows → j < length rows → rest_at rows i ≡ rest_at rows j
   pub root : (i r : ℕ) → i < length rows → rest_at rows i ≡ Some r → rest_at rows 0 ≡ Some r
 
--- what stands past the last pin
+-- what is read past the last pin
 abbrev pub no_pin : Pin
 no_pin = record { row = 0; rank = 0 }
 
@@ -85,12 +85,12 @@ abbrev pub pin_at : List Pin → ℕ → Option ℕ
 pin_at [] i = None
 pin_at (pin ∷ pins) i = if pin.row == i then Some pin.rank else pin_at pins i
 
--- what stands first counts
+-- the first that is there counts
 abbrev pub first_of : Option ℕ → Option ℕ → Option ℕ
 first_of None other = other
 first_of (Some rank) other = Some rank
 
--- the rows' own pins, where the list is set beside the foreign ones
+-- the rows' own pins, where the list is set in addition to the foreign ones
 abbrev pub own_pin : List PinRow → List Pin → ℕ → Option ℕ
 own_pin rows pins i = first_of (foreign_at rows i) (pin_at pins i)
 

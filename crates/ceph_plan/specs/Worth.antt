@@ -3,8 +3,8 @@ use Rattle.std.specs.Prelude.{◌<◌, ◌≤◌, ◌-◌, ◌*◌}
 use Rattle.ceph_plan.specs.declared.worth.Gain.{Gain}
 use Rattle.ceph_plan.specs.declared.worth.LeastGain.{LeastGain}
 
--- the hottest rank gets cooler, there is enough heat, and it gets cooler by enough: by so many percent, and by so much
--- for each thousand inodes that move
+-- the hottest rank gets cooler, there is enough heat, and the rank gets cooler by enough: by `percent`, and by
+-- `each_thousand` for each thousand inodes that move
 pub record IsWorthMoving (gain : Gain) (least : LeastGain) : Type 0 where
   pub cooler : gain.planned < gain.now
   pub heat : least.heat ≤ gain.heat

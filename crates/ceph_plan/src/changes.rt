@@ -16,14 +16,14 @@ fn is_standing(row: PinRow) -> bool
     row.foreign.or(row.earlier) == Some(row.target)
 }
 
-/// Whether a row is to get a new pin that doesn't stand already.
+/// Whether a row is to get a new pin that it doesn't have already.
 fn sets(row: PinRow, hold: Hold) -> bool
     ensures { result ≡ is_set row hold }
 {
     hold.is_new() && !is_standing(row)
 }
 
-/// A new pin for each row that has one which doesn't stand already, by falling rows.
+/// A new pin for each row that is to have one and doesn't have it already, by falling rows.
 fn push_sets(
     changes: &mut Vec<PinChange>,
     rows: &[PinRow],
@@ -77,7 +77,7 @@ fn push_drops(
 }
 
 /// The changes that put each row at its target, in an order in which no row goes by way of a third rank. A pin that
-/// stands already is left as it is.
+/// is there already is left as it is.
 pub fn changes_for(alloc: Global, rows: &[PinRow]) -> Result<Vec<PinChange>, AllocError>
     requires { AreRows rows.now }
     // once all are made, each row of ours is at its target

@@ -156,8 +156,8 @@ fn taken(mut divisions: Vec<PackedDivision>, keep: u8) -> Planned
     }
 }
 
-/// How finely rows of this heat are divided for so many parts. Once one row alone was the hottest part, more parts
-/// change nothing: rows are then capped at a fair share.
+/// How finely rows of this heat are divided into `parts` parts. Once one row is as hot as the hottest part, more
+/// parts change nothing: rows are then capped at a fair share.
 fn size_for(parts: u32, heat: u64, is_heavy: bool) -> Size
     requires { 0 < parts }
     ensures { result ≡ size_of heat parts is_heavy }

@@ -11,7 +11,7 @@ use mds_types::{Rank, RankSet};
 use std::alloc::{AllocError, Global};
 use std::cmp::Reverse;
 
-/// After so many exchanges no more are tried.
+/// At most this many exchanges are tried.
 const MOST_EXCHANGES: u32 = 64;
 
 /// The number of the most loaded rank of the set, and that of the least loaded one.
@@ -58,7 +58,7 @@ fn parts_at(
     Ok(found)
 }
 
-/// Of the first parts one, and of the others one, so that the first is hotter by as nearly as possible so much.
+/// One of the first parts and one of the others, so that the first is hotter by as nearly as possible `wanted`.
 fn closest(hot: &[PartHeat], cold: &[PartHeat], wanted: u64) -> Option<(PartHeat, PartHeat)> {
     let (mut i, mut j) = (0, 0);
     let mut least = u64::MAX;

@@ -33,7 +33,7 @@ pub struct PackedDivision {
     pub count: u32,
     /// The packings.
     pub packings: Packings,
-    /// Whether one row alone is as hot as the hottest part, or none has heat, so that more parts change nothing.
+    /// Whether one row is as hot as the hottest part, or none has heat, so that more parts change nothing.
     pub is_heavy: bool,
 }
 
@@ -74,10 +74,10 @@ fn has_row_of(rows: &[ProblemRow], heat: u64) -> bool
     false
 }
 
-/// Divides the rows into at most so many parts with the least greatest heat, where no row counts as hotter than
-/// `cap`, and packs the parts on the ranks by the heat that they have, once for each of `TOLERANCES`.
+/// Divides the rows into at most `size.parts` parts with the least greatest heat, where no row counts as hotter than
+/// `size.cap`, and packs the parts on the ranks by the heat that they have, once for each of `TOLERANCES`.
 ///
-/// Where one row alone is the hottest part, no division is cooler, and the rest isn't divided any further. A cap
+/// Where one row is as hot as the hottest part, no division is cooler, and the rest isn't divided any further. A cap
 /// below that row's heat lets the rest be divided as finely as the number of parts allows.
 ///
 /// `pinned[r]` is the heat that is held at rank r.

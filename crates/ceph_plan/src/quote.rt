@@ -4,7 +4,7 @@ ghost use Rattle.ceph_plan.specs.Words.{IsWordFor, quoted_word};
 
 use std::alloc::{AllocError, Global};
 
-/// A word that `sh` reads as these bytes: they stand in single quotes, and each single quote among them as `'\''`.
+/// A word that `sh` reads as these bytes: they are in single quotes, and each single quote among them is `'\''`.
 pub fn quoted(alloc: Global, bytes: &[u8]) -> Result<Vec<u8>, AllocError>
     requires { All (λ byte. 0 < byte) bytes.now }
     ensures word { IfOk result (λ word. word.items ≡ quoted_word bytes.now) }

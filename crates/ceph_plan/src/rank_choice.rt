@@ -202,7 +202,7 @@ fn packed_within(
     Ok(Choice { rank, greatest })
 }
 
-/// The load that is greater by so many percent, where each full hundredth counts.
+/// The load and `keep` hundredths of it, where a hundredth is rounded down.
 fn with_percent(load: u64, keep: u8) -> u64
     requires { load ≤ 2 ^ 58 }
     ensures { result ≡ allowed keep load }

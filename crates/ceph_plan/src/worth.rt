@@ -18,11 +18,11 @@ pub struct Gain {
 /// What a plan has to come to.
 #[derive(Clone, Copy)]
 pub struct LeastGain {
-    /// There is at least so much heat.
+    /// There is at least this much heat.
     pub heat: u64,
-    /// The hottest rank gets cooler by at least so many percent.
+    /// The hottest rank gets cooler by at least this percentage.
     pub percent: u8,
-    /// It gets cooler by at least so much heat for each thousand inodes that move.
+    /// It gets cooler by at least this much heat for each thousand inodes that move.
     pub each_thousand: u64,
 }
 

@@ -14,7 +14,7 @@ below_more line old before after i was more =
     let next : i + 1 ≡ suc i = omega arith in
     more ∙ (ap (λ (text : List ℕ). text ++ line i) was ∙ (append_assoc old (lines_below line i) (line i) ∙ ap (λ (n : ℕ). old ++ lines_below line n) (sym next)))
 
--- all lines, behind a head
+-- all lines, after a head
 pub below_all : (line : ℕ → List ℕ) (old head before after : List ℕ) (i n : ℕ) → before ≡ old ++ head → after ≡ before ++ lines_below line i → i ≡ n → after ≡ old ++ (head ++ lines_below line n)
 below_all line old head before after i n was more same =
     more ∙ (ap (λ (text : List ℕ). text ++ lines_below line i) was ∙ (append_assoc old head (lines_below line i) ∙ ap (λ (k : ℕ). old ++ (head ++ lines_below line k)) same))

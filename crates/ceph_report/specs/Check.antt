@@ -50,7 +50,7 @@ unset_line unset = if nat_lt 0 unset then field [] unset ++ codes " pins of the 
 unfoldable pub hold_line : ℕ → ℕ → List ℕ
 hold_line holding listed = field [] holding ++ field (codes " of ") listed ++ codes " pins hold\n"
 
--- the text for a list of so many pins
+-- the text for a list of `listed` pins
 unfoldable pub check_text : List Directory → ℕ → List ℕ
 check_text directories listed =
     flat_map astray_line directories ++ unset_line (listed - set_count directories)

@@ -58,7 +58,7 @@ inode_numbers facts r =
 unfoldable pub rank_object : Facts → ℕ → List ℕ
 rank_object facts r = rank_numbers facts r ++ inode_numbers facts r
 
--- a rank that is told of, behind so many others
+-- a rank that is reported, after `before` others
 unfoldable pub rank_entry : Facts → ℕ → ℕ → List ℕ
 rank_entry facts r before = if is_told facts r then comma before ++ rank_object facts r else []
 

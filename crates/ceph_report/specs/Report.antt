@@ -140,7 +140,7 @@ abbrev pub left_line_if : List Directory → Option Stay → ℕ → List ℕ
 left_line_if directories None i = []
 left_line_if directories (Some stay) i = left_line directories stay i
 
--- where so many are before it; the first 40 have one
+-- after `before` others; the first 40 have a line
 unfoldable pub left_text : List Directory → List (Option Stay) → ℕ → ℕ → List ℕ
 left_text directories stays i before =
     if nat_lt before LINES_EACH then left_line_if directories (slice_index_or stays i None) i else []

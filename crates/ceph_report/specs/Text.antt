@@ -14,11 +14,11 @@ lines_below line (suc n) = lines_below line n ++ line n
 unfoldable pub field : List ℕ → ℕ → List ℕ
 field label number = label ++ decimal number
 
--- a number at the right of so many columns, 12 at most
+-- a number at the right of `width` columns, 12 at most
 unfoldable pub columns : ℕ → ℕ → List ℕ
 columns width number = take (width - length (decimal number)) (codes "            ") ++ decimal number
 
--- a heat in thousandths, with one digit behind the point
+-- a heat in thousandths, with one digit after the point
 unfoldable pub heat_text : List ℕ → ℕ → List ℕ
 heat_text label heat = label ++ columns 10 (heat / 1000) ++ field (codes ".") (heat % 1000 / 100)
 
@@ -46,6 +46,6 @@ json_byte c =
 unfoldable pub json_string : List ℕ → List ℕ
 json_string path = codes "\"" ++ flat_map json_byte path ++ codes "\""
 
--- what stands before the member of a list at this place
+-- what comes before the member of a list at this place
 unfoldable pub comma : ℕ → List ℕ
 comma at = if at == 0 then [] else codes ","

@@ -1,4 +1,4 @@
--- What is told of a plan.
+-- What is reported of a plan.
 use Rattle.std.specs.Prelude.{◌==◌, ◌||◌, ◌+◌, ℕ, zero, suc, Bool, List, length, max, min, nat_le, nat_lt, slice_index}
 use Rattle.std.specs.Prelude.{if◌then◌else◌}
 use Rattle.mds_types.specs.RankSet.{has_rank}
@@ -26,7 +26,7 @@ into_of facts r = slice_index facts.sums.now.into.items r
 abbrev pub out_of : Facts → ℕ → ℕ
 out_of facts r = slice_index facts.sums.now.out.items r
 
--- a rank is told of that may have a part, or where something is now
+-- a rank is reported if it may have a part, or something is there now
 abbrev pub is_told : Facts → ℕ → Bool
 is_told facts r = nat_lt 0 (now_of facts r) || has_rank facts.ranks r
 
@@ -63,12 +63,12 @@ least_pinned facts zero = most_heat
 least_pinned facts (suc n) =
     if has_rank facts.ranks n then min (pinned_of facts n) (least_pinned facts n) else least_pinned facts n
 
--- the heat of the hottest directory, as far as a plan counts it, beside the least that is pinned
+-- the heat of the hottest directory, as far as a plan counts it, with the least that is pinned to a rank
 unfoldable pub single_load : Facts → ℕ
 single_load facts = min most_heat (min (free_heat facts (hottest_place facts)) HEAT_LIMIT + least_pinned facts 64)
 
 -- the term that makes the bound: what is pinned to one rank or the hottest directory, where that comes to the bound,
--- and else the mean load. A directory that folding made hotter than the bound doesn't make it
+-- otherwise the mean load. A directory that folding made hotter than the bound doesn't make it
 unfoldable pub bound_term : Facts → BoundTerm
 bound_term facts =
     if nat_le (hottest_bound facts) (hottest facts.pinned.now) then Pinned

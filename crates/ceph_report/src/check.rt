@@ -133,7 +133,7 @@ fn push_holding(text: &mut Vec<u8>, holding: usize, listed: usize) -> Result<(),
     push_text(text, " pins hold\n")
 }
 
-/// Compares the pins of this program with a list of so many: those that directories have are in `directories`.
+/// Compares the pins of this program with a list of `listed` pins: those that directories have are in `directories`.
 #[tactic(auto, unfolding(crate::specs::Check::check_text))]
 pub fn check_pins(
     alloc: Global,

@@ -1,4 +1,4 @@
-//! What is told of a plan, in the report and as JSON.
+//! What is reported of a plan, as text and as JSON.
 ghost use Rattle.std.specs.Prelude.{◌≡◌, ◌<◌, slice_index};
 ghost use Rattle.mds_types.specs.RankSet.{has_rank};
 ghost use Rattle.ceph_report.specs.Told.{bound_term, free_heat, hottest, hottest_bound, hottest_now};
@@ -11,7 +11,7 @@ use ceph_snapshot::{Directory, Held};
 use mds_types::limits::{HEAT_LIMIT, RANK_LIMIT};
 use mds_types::{Rank, RankSet};
 
-/// What is told of a plan.
+/// What is reported of a plan.
 #[derive(Clone, Copy)]
 pub struct Facts<'a> {
     /// The directories that were planned.
@@ -44,7 +44,7 @@ pub struct Facts<'a> {
     pub stays: &'a [Option<Stay>],
     /// How many changes of pins there are.
     pub changes: usize,
-    /// How many pins of an earlier plan stand as they are.
+    /// How many pins of an earlier plan stay as they are.
     pub standing: usize,
 }
 
@@ -136,7 +136,7 @@ impl Facts<'_> {
         least
     }
 
-    /// The heat of the hottest directory, as far as a plan counts it, beside the least that is pinned to a rank.
+    /// The heat of the hottest directory, as far as a plan counts it, with the least that is pinned to a rank.
     #[tactic(auto, unfolding(crate::specs::Told::single_load))]
     fn single_load(&self) -> u64
         ensures { result ≡ single_load self.now }
@@ -160,7 +160,7 @@ impl Facts<'_> {
         }
     }
 
-    /// Whether a rank is told of: it may have a part, or something is there now.
+    /// Whether a rank is reported: it may have a part, or something is there now.
     pub(crate) fn is_told(&self, number: u8) -> bool
         requires { number < 64 }
         ensures { result ≡ is_told self.now number }

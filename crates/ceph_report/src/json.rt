@@ -114,7 +114,7 @@ fn push_rank(text: &mut Vec<u8>, facts: &Facts, number: u8) -> Result<(), AllocE
     push_rank_inodes(text, facts, number)
 }
 
-/// Adds a rank if it is told of, behind so many others. Gives how many there are now.
+/// Adds a rank if it is reported, after `before` others. Gives how many there are now.
 #[tactic(auto, unfolding(crate::specs::Json::rank_entry))]
 fn push_told(
     text: &mut Vec<u8>,
@@ -200,7 +200,7 @@ fn push_stay(
     push_text(text, "}")
 }
 
-/// Adds a directory if it is left where it is, behind so many others. Gives how many there are now.
+/// Adds a directory if it is left where it is, after `before` others. Gives how many there are now.
 #[tactic(auto, unfolding(crate::specs::Json::stay_entry))]
 fn push_left(
     text: &mut Vec<u8>,

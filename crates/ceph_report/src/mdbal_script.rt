@@ -66,7 +66,7 @@ fn push_load(script: &mut Vec<u8>, path: &[u8], heat: u64) -> Result<(), AllocEr
     push_line(script, "load ", path, rest)
 }
 
-/// A script that makes these directories with their heat and what holds them, and plans them for so many ranks.
+/// A script that makes these directories with their heat and what holds them, and plans them for `ranks` ranks.
 pub fn make_script(
     alloc: Global,
     directories: &[Directory],

@@ -1,7 +1,7 @@
 //! A picture of the directories: a box a directory under its parent's, as wide as the heat at and below it, in the
 //! colour of the rank that it is to be at. Where the rank differs from the parent's the edge is thick. Where it is to
 //! go, a stripe at the foot has the colour of the rank that has it now. The children of a directory that are too cold
-//! for boxes of their own have a grey one together, behind the others. The last row says which colour a rank has.
+//! for boxes of their own have a grey one together, after the others. The last row says which colour a rank has.
 ghost use Rattle.std.specs.Prelude.{◌≡◌, ◌++◌, OnOk};
 ghost use Rattle.ceph_report.specs.Picture.{colour_text, hundredths_text, hover_stay, hover_text, rest_text};
 
@@ -254,7 +254,7 @@ const STYLE: &str = "\">
 text{font:11px monospace;pointer-events:none}</style>
 ";
 
-/// Adds what stands before the boxes.
+/// Adds what comes before the boxes.
 fn push_head(text: &mut Vec<u8>, height: u64) -> Result<(), AllocError> {
     push_number(
         text,

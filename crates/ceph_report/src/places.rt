@@ -110,7 +110,7 @@ fn add_rest(above: &mut Place, place: Place) {
     };
 }
 
-/// Puts a directory's box behind those of its siblings, if it is wide enough for one.
+/// Puts a directory's box after those of its siblings, if it is wide enough for one.
 fn put(places: &mut [Place], at: usize, parent: usize, all: u64) {
     let (Some(above), Some(mut place)) = (places.get(parent).copied(), places.get(at).copied())
     else {

@@ -161,7 +161,7 @@ fn push_hottest(text: &mut Vec<u8>, facts: &Facts) -> Result<(), AllocError>
     push_place(text, facts.directories, at)
 }
 
-/// Adds how many pins of an earlier plan stand.
+/// Adds how many pins of an earlier plan stay as they are.
 #[tactic(auto, unfolding(crate::specs::Report::standing_text))]
 fn push_standing(text: &mut Vec<u8>, count: usize) -> Result<(), AllocError>
     ensures { OnOk result (text.new.items ≡ text.old.items ++ standing_text count) }

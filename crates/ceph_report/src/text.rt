@@ -28,7 +28,7 @@ pub(crate) fn push_number(text: &mut Vec<u8>, label: &str, number: u64) -> Resul
 /// What fills columns.
 const BLANK: &[u8] = b"            ";
 
-/// Adds a number at the right of so many columns, 12 at most.
+/// Adds a number at the right of `width` columns, 12 at most.
 #[tactic(auto, unfolding(crate::specs::Text::columns))]
 pub(crate) fn push_columns(text: &mut Vec<u8>, number: u64, width: usize) -> Result<(), AllocError>
     requires { width ≤ 12 }
@@ -40,7 +40,7 @@ pub(crate) fn push_columns(text: &mut Vec<u8>, number: u64, width: usize) -> Res
     text.extend_from_slice(digits)
 }
 
-/// Adds a label, and a heat that is given in thousandths, with one digit behind the point, in twelve columns.
+/// Adds a label, and a heat that is given in thousandths, with one digit after the point, in twelve columns.
 #[tactic(auto, unfolding(crate::specs::Text::heat_text))]
 pub(crate) fn push_heat(text: &mut Vec<u8>, label: &str, heat: u64) -> Result<(), AllocError>
     ensures { OnOk result (text.new.items ≡ text.old.items ++ heat_text label.now heat) }
@@ -157,7 +157,7 @@ pub(crate) fn push_string(text: &mut Vec<u8>, path: &[u8]) -> Result<(), AllocEr
     push_text(text, "\"")
 }
 
-/// What stands before the member of a list at this place.
+/// What comes before the member of a list at this place.
 #[tactic(auto, unfolding(crate::specs::Text::comma))]
 pub(crate) fn comma(at: usize) -> &'static str
     ensures { result.now ≡ comma at }

@@ -21,7 +21,7 @@ slice_get_some ds i inside =
 past_parent : (ds : List Directory) (i : ℕ) → length ds ≤ i → parent_at ds i ≡ 0
 past_parent ds i past = ap (λ (o : Option Directory). option_map_or (λ (one : Directory). one.parent) o 0) (slice_get_past ds i past)
 
--- a child stands behind its parent
+-- a child comes after its parent
 child_inside : (ds : List Directory) (child at : ℕ) → 0 < at → parent_at ds child ≡ at → child < length ds
 child_inside ds child at below parent =
     ⊎_elim (λ (inside : child < length ds). inside)
@@ -120,7 +120,7 @@ beaten_more ds old new at is_so first below inside before so made i some low =
           (cases_eq h.child at),
     )
 
--- no child stands past the last one
+-- there is no child past the last directory
 pub none_yet : (ds : List Directory) (i : ℕ) → HasBeaten ds (length ds) i → ⊥
 none_yet ds i h = omega (arith, h.from, h.inside)
 

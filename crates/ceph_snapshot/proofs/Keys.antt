@@ -52,7 +52,7 @@ not_lt_back Greater is = refl
 at_most : (a b : Key) → is_lt (key_cmp b a) ≡ false → is_at_most a b ≡ true
 at_most a b is = ap is_le (key_total.antisymm a b) ∙ not_lt_back (key_cmp b a) is
 
--- so many keys are at most the last of so many in order
+-- at least `count` keys are at most the last of the first `count` in order
 pub enough : (keys sorted : List Key) (count : ℕ) (last : Key) → 0 < count → count ≤ length keys → IsPermutation keys sorted → IsSorted key_cmp sorted
     → last ≡ get_or sorted (count - 1) last → count ≤ count_by (λ key. is_at_most key last) keys
 enough keys sorted count last some inside moved up is =
@@ -70,7 +70,7 @@ enough keys sorted count last some inside moved up is =
     sym (sum_keys f last sorted) ∙ sum_by-IsPermutation f keys sorted moved in
     omega (arith, ones count, first, more, whole)
 
--- fewer keys are below the last of so many in order
+-- values of at most 1, all 0 from m on, come to at most m
 none_of : (n : ℕ) (f : ℕ → ℕ) (m : ℕ) → ((i : ℕ) → i < n → f i ≤ 1) → ((i : ℕ) → m ≤ i → i < n → f i ≡ 0) → sum_below n f ≤ m
 none_of zero f m one none = omega arith
 none_of (suc n) f m one none =
@@ -82,6 +82,7 @@ at_most_one : (b : Bool) → cond b 1 0 ≤ 1
 at_most_one true = omega arith
 at_most_one false = omega arith
 
+-- fewer than `count` keys are below the last of the first `count` in order
 pub fewer-below : (keys sorted : List Key) (count : ℕ) (last : Key) → 0 < count → count ≤ length keys → IsPermutation keys sorted → IsSorted key_cmp sorted
     → last ≡ get_or sorted (count - 1) last → count_by (λ key. is_below key last) keys < count
 fewer-below keys sorted count last some inside moved up is =
@@ -159,7 +160,7 @@ stays_passed heats stays test at stay =
     count_below_more at (passes heats stays test)
     ∙ (ap (λ (b : Bool). count_below at (passes heats stays test) + cond b 1 0) same ∙ add-zero (count_below at (passes heats stays test)))
 
--- one more value behind those of the first n
+-- one more value after those of the first n
 pub values_more : {A : Type 0} (none : A) (value : ℕ → A) (xs : List A) (x : A) (n : ℕ) → length xs ≡ n
     → ((i : ℕ) → i < n → get_or xs i none ≡ value i) → x ≡ value n
     → (i : ℕ) → i < n + 1 → get_or (xs ++ x ∷ []) i none ≡ value i
@@ -212,7 +213,7 @@ pub parent_le : (ds : List Directory) (i : ℕ) → AreParentsFirst ds → i < l
 parent_le ds zero first l = omega (arith, first.root)
 parent_le ds (suc n) first l = omega (arith, first.above (suc n) (omega arith) l)
 
--- what is as cold, and stands behind
+-- what is as cold, and comes after
 colder : (heats : List ℕ) (last : Key) (i above : ℕ) → above < i → i < length heats → slice_index heats i ≤ slice_index heats above
     → is_at_most (key_at heats above) last ≡ true → is_at_most (key_at heats i) last ≡ true
 colder heats last i above behind inside cold is = grind (arith, common_steps)

@@ -23,7 +23,7 @@ at-other xs at i x apart =
     slice_get_past (set xs at x) i far ∙ sym (slice_get_past xs i past))
     (cases_lt i (length xs))
 
--- what stands above an earlier place is as it was
+-- what is above an earlier place is as it was
 rank_same : (start cur : List Node) (at i : ℕ) (new : Node) → (i ≢ 0 → above_at start i ≢ at) → rank_above start (set cur at new) i ≡ rank_above start cur i
 rank_same start cur at i new apart =
     ⊎_elim

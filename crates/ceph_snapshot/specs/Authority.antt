@@ -49,7 +49,7 @@ rank_above nodes placed i = if i == 0 then 0 else lies_at placed (above_at nodes
 abbrev pub is_torn_above : List Node → List Node → ℕ → Bool
 is_torn_above nodes placed i = if i == 0 then false else is_torn_at placed (above_at nodes i)
 
--- each directory with its rank, where each but the root of the tree stands behind its parent
+-- each directory with its rank, where each but the root of the tree comes after its parent
 pub record LieAsClaimed (nodes placed : List Node) : Type 0 where
   pub size : length placed ≡ length nodes
   pub above : (i : ℕ) → 0 < i → i < length nodes → above_at nodes i < i
@@ -72,7 +72,7 @@ pub record IsUnclaimed (placed : List Node) (hearsay : List Hearsay) (path : Pat
   pub by_of : by ≡ said.by
   pub authority_of : authority ≡ said.authority
 
--- a path in the tree of users: the root's, or one behind a slash, with no NUL
+-- a path in the tree of users: the root's, or one that begins with a slash, with no NUL
 abbrev pub is_user_path : List ℕ → Bool
 is_user_path path = (length path == 0) || ((slice_index_or path 0 0 == 47) && not (list_any (λ c. c == 0) path))
 

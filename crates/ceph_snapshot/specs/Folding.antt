@@ -85,7 +85,7 @@ folded directories gone home i =
     (brought (inodes_at directories) home (length directories) i))
     (slice_get directories i)
 
--- what is left where these are gone: each kept directory stands at its new place, and what the others had is at the
+-- what is left where these are gone: each kept directory is at its new place, and what the others had is at the
 -- nearest above them that is kept
 pub record HasLeft (directories left : List Directory) (gone : ℕ → Bool) (home : ℕ → ℕ) : Type 0 where
   pub nearest : (i : ℕ) → i < length directories → IsHome directories gone i (home i)

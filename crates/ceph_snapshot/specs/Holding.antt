@@ -36,12 +36,12 @@ is_kept_at directories i = option_map_or (λ (d : Directory). d.is_kept) (slice_
 abbrev pub is_fixed_at : List Directory → ℕ → Bool
 is_fixed_at directories i = is_spread_at directories i || is_kept_at directories i
 
--- the root names itself, and each other directory stands behind its parent
+-- the root names itself, and each other directory comes after its parent
 pub record AreParentsFirst (directories : List Directory) : Type 0 where
   pub root : parent_at directories 0 ≡ 0
   pub above : (i : ℕ) → 0 < i → i < length directories → parent_at directories i < i
 
--- the directory so many steps above directory i
+-- the directory this many steps above directory i
 abbrev pub climb : List Directory → ℕ → ℕ → ℕ
 climb directories zero i = i
 climb directories (suc steps) i = climb directories steps (parent_at directories i)

@@ -5,7 +5,7 @@ use Rattle.std.specs.declared.cmp.Ordering.{Ordering}
 use Rattle.ceph_snapshot.specs.declared.coldest.Key.{Key}
 use Rattle.ceph_snapshot.specs.Folding.{is_marked}
 
--- a key by the heat, and among equals by how many stand behind
+-- a key by the heat, and among equals by how many directories come after it
 abbrev pub key_cmp : Key → Key → Ordering
 key_cmp = then_cmp (on (λ (key : Key). key.heat) nat_cmp) (on (λ (key : Key). key.behind) nat_cmp)
 

@@ -17,8 +17,8 @@ dir_path_at directories i = option_map_or (λ (d : Directory). d.path.items) (sl
 abbrev pub idle_at : List Directory → ℕ → Option ℕ
 idle_at directories i = option_map_or (λ (d : Directory). d.idle) (slice_get directories i) None
 
--- a directory so many steps below directory i has a random policy, and from there up to the child of i there is no pin.
--- An export pin on i would beat the random pins below, as no other pin is nearer
+-- a directory this many steps below directory i has a random policy, and there is no pin from there up to the child of
+-- i. An export pin on i would beat the random pins below, as no other pin is nearer
 abbrev pub LeadsToRandom : List Directory → ℕ → ℕ → Type 0
 LeadsToRandom directories zero i = policy_at directories i ≡ Some Random
 LeadsToRandom directories (suc steps) i =

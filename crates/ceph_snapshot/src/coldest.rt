@@ -18,7 +18,7 @@ use std::alloc::{AllocError, Global};
 struct Key {
     /// The heat at and below it, in thousandths.
     heat: u64,
-    /// How many directories stand behind it.
+    /// How many directories come after it.
     behind: usize,
 }
 
@@ -109,7 +109,7 @@ fn keys(alloc: Global, heats: &[u64], stays: &[bool]) -> Result<Vec<Key>, AllocE
     Ok(keys)
 }
 
-/// The key of the last that goes where so many go, if there are so many.
+/// The key of the last that goes where `count` go, if there are that many.
 fn last_key(mut keys: Vec<Key>, count: usize) -> Result<Option<Key>, AllocError>
     requires { 0 < count }
     ensures enough { IfOk result (λ found. IfSome found (λ last.
@@ -145,7 +145,7 @@ fn marks(alloc: Global, heats: &[u64], stays: &[bool], last: Key) -> Result<Vec<
     Ok(marks)
 }
 
-/// Which directories are gone once the coldest are folded that are too many, if so many can be.
+/// Which directories are gone once the coldest are folded, so that `limit` are left, if that many can be folded.
 pub fn coldest(
     alloc: Global,
     directories: &[Directory],

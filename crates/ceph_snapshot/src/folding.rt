@@ -13,7 +13,7 @@ use crate::directory::Directory;
 use crate::snapshot_error::SnapshotError;
 use std::alloc::{AllocError, Global};
 
-/// Whether the root names itself and each other directory stands behind its parent.
+/// Whether the root names itself and each other directory comes after its parent.
 fn are_parents_first(directories: &[Directory]) -> bool
     ensures { IsTrue result → AreParentsFirst directories.now }
 {

@@ -65,7 +65,7 @@ pub struct Gathering {
 }
 
 impl Gathering {
-    /// The root alone, at rank 0.
+    /// Only the root, at rank 0.
     pub fn new(alloc: Global) -> Result<Gathering, SnapshotError> {
         let mut nodes = Vec::new(alloc);
         nodes.push(unknown(Vec::new(alloc), 0))?;
@@ -280,7 +280,7 @@ impl Gathering {
     }
 }
 
-/// Whether a path is in the tree of users: the root's, or one behind a slash, with no NUL.
+/// Whether a path is in the tree of users: the root's, or one that begins with a slash, with no NUL.
 fn is_user_path(path: &[u8]) -> bool
     ensures { result ≡ is_user_path path.now }
 {

@@ -13,7 +13,7 @@ pub struct Names {
 }
 
 impl Names {
-    /// The root alone.
+    /// Only the root.
     pub fn new(alloc: Global) -> Result<Names, AllocError> {
         let mut numbers = HashMap::new(alloc);
         numbers.insert(Vec::new(alloc), 0)?;

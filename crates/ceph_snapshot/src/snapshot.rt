@@ -30,7 +30,7 @@ pub struct Snapshot {
     pub spread: Vec<u64>,
 }
 
-/// Where a directory is: at its own rank if it is the root of a subtree, and else where its parent is.
+/// Where a directory is: at its own rank if it is the root of a subtree, otherwise where its parent is.
 fn place(node: &mut Node, now: Rank, is_spread: bool)
     ensures { node.new ≡ placed_node now is_spread node.old }
 {
@@ -56,7 +56,7 @@ fn above(nodes: &[Node], at: usize, parent: usize) -> (Rank, bool)
     (directory.now, directory.is_spread)
 }
 
-/// Where each directory is: at the rank of the nearest root of a subtree. One that stands before its parent is refused.
+/// Where each directory is: at the rank of the nearest root of a subtree. One that comes before its parent is refused.
 fn place_all(nodes: &mut Vec<Node>) -> Result<(), SnapshotError>
     ensures placed { OnOk result (LieAsClaimed nodes.old.items nodes.new.items) }
     ensures refused { IfErr result (λ error. error ≡ SnapshotError.TooMany) }
@@ -143,7 +143,7 @@ fn pins_of(pinned: Option<u64>, own: Option<u64>, ranks: RankSet) -> Pins
     Pins { pin, idle, earlier }
 }
 
-/// The directory of a node, with the mean heat of so many samples and its pins, where these ranks are there.
+/// The directory of a node, with the mean heat of `samples` samples and its pins, where these ranks are there.
 fn finished(node: Node, samples: u64, ranks: RankSet) -> Directory
     requires { 0 < samples }
     ensures heat { result.heat ≡ min (node.directory.heat / samples) HEAT_LIMIT }
@@ -238,7 +238,7 @@ fn all_finished(
 }
 
 impl Gathering {
-    /// The snapshot of what was gathered, where each rank gave so many samples and these ranks are in the file system.
+    /// The snapshot of what was gathered, where each rank gave `samples` samples and `ranks` are in the file system.
     /// Without a listing no policy is known. Then a directory just below the root is held as a whole where Ceph's own
     /// pins are at or below it.
     pub fn snapshot(self, samples: u64, ranks: RankSet) -> Result<Snapshot, SnapshotError>
@@ -289,7 +289,7 @@ fn see(nodes: &mut Vec<Node>, seen: Sighting) -> u64
     }
 }
 
-/// Adds the heat of all sightings. Gives the heat by rank, a mean of so many samples, of what is spread.
+/// Adds the heat of all sightings. Gives by rank the heat of what is spread, a mean of `samples` samples.
 fn see_all(
     alloc: Global,
     nodes: &mut Vec<Node>,

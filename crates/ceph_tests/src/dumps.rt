@@ -40,7 +40,7 @@ const SUBTREES: &[u8] = b"[{\"is_auth\":true,\"auth_first\":1,\"auth_second\":-2
 const CLUSTER: &[u8] =
     b"{\"mdsmap\":{\"max_mds\":3,\"in\":[0,2],\"info\":{},\"bal_rank_mask\":\"0x5\"},\"id\":1}";
 
-/// A text without its end: so many bytes of it, and never all.
+/// A text without its end: its first `end` bytes, and never all.
 fn cut(text: &[u8], end: usize) -> &[u8] {
     let most = text.len().saturating_sub(1);
     text.get(..end.min(most)).unwrap_or(text)
@@ -51,7 +51,7 @@ fn is_refused<T: Drop>(answer: Result<T, DumpError>) -> bool {
     answer.is_err()
 }
 
-/// Whether each of the three dumps is refused where it ends after so many bytes.
+/// Whether each of the three dumps is refused where it is cut after `end` bytes.
 fn are_refused(alloc: Global, end: usize) -> bool {
     let loads = is_refused(read_loads(alloc, cut(LOADS, end)));
     let subtrees = is_refused(read_subtrees(alloc, cut(SUBTREES, end)));
@@ -66,7 +66,7 @@ fn refuses_dumps_that_are_cut(rt: HostRuntime) {
     }
 }
 
-/// How many paths are told; 0 where the dump is refused.
+/// How many paths are read; 0 where the dump is refused.
 fn told(alloc: Global, text: &[u8]) -> usize {
     match read_loads(alloc, text) {
         Ok(found) => found.len(),
@@ -82,7 +82,7 @@ fn set(text: &mut [u8], at: usize, byte: u8) -> u8 {
     }
 }
 
-/// Where a byte is broken the dump is refused, or all that is read has the number of paths that were told, or fewer.
+/// Where a byte is broken the dump is refused, or at most as many paths are read as the whole dump has.
 fn break_byte(rt: &impl Abort, alloc: Global, text: &mut [u8], at: usize) {
     for byte in [b'\0', b'"', b'\\', b'{', b']', b',', b'-', 0xff] {
         let before = set(text, at, byte);
@@ -130,10 +130,10 @@ fn reads_long_names_of_any_bytes(rt: HostRuntime) {
     }
 }
 
-/// A number where an object should be, behind a byte that isn't ASCII.
+/// A number where an object should be, after a byte that isn't ASCII.
 const WRONG_COUNTERS: &[u8] = b"{\"dirfrags\":[\n{\"path\":\"\xff\",\"pop_me\":1}]}";
 
-/// Why a dump is refused, as it is told; nothing where it is read.
+/// Why a dump is refused, as it is printed; nothing where it is read.
 fn refusal_of<T: Drop>(rt: &impl Abort, alloc: Global, answer: Result<T, DumpError>) -> String {
     match answer {
         Ok(_) => String::new(alloc),
@@ -171,7 +171,7 @@ impl<'a> Row<Root<'a>> for SubtreeRoot {
     }
 }
 
-/// The ranks of a file system, behind an empty line. Rank 3 is active and above `max_mds`, rank 2 is replaying.
+/// The ranks of a file system, after an empty line. Rank 3 is active and above `max_mds`, rank 2 is replaying.
 const RANKS: &[u8] =
     b"\n{\"mdsmap\":{\"max_mds\":3,\"in\":[0,2,3],\"info\":{\"gid_1\":{\"rank\":0,\"state\":\"up:active\"},\
 \"gid_2\":{\"rank\":2,\"state\":\"up:replay\"},\"gid_3\":{\"rank\":3,\"state\":\"up:active\"},\

@@ -11,7 +11,7 @@ pub(crate) fn rank(number: u8) -> Rank {
     Rank::new(number).unwrap_or_default()
 }
 
-/// The first of a list: so many of them, or all.
+/// The first `count` of a list, or all.
 pub(crate) fn first<T>(all: &[T], count: usize) -> &[T] {
     all.get(..count).unwrap_or(all)
 }

@@ -93,7 +93,7 @@ fn pins_where_a_rank_changes(rt: HostRuntime) {
     }
 }
 
-// Row 1 goes from rank 1 to rank 2 and takes row 2 with it, row 3 is no longer apart, and row 4's pin stands already.
+// Row 1 goes from rank 1 to rank 2 and takes row 2 with it, row 3 is no longer apart, and row 4 has its pin already.
 const GIVEN: &[Given] = &[
     (0, 0, -1, 0),
     (0, 2, -1, 0),

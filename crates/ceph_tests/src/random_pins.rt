@@ -19,7 +19,7 @@ fn below(seed: &mut u64, limit: u8) -> u8 {
     u8::try_from(number).unwrap_or(0)
 }
 
-/// A rank in one case of so many.
+/// A rank in one case of `one_in`.
 fn maybe_rank(seed: &mut u64, one_in: u8) -> Option<Rank> {
     if below(seed, one_in) == 0 {
         Some(rank(below(seed, 4)))
@@ -94,7 +94,7 @@ fn is_held(rows: &[PinRow], at: usize) -> bool {
 }
 
 /// Whether a row is where it should once all changes are made (a foreign pin may hold it elsewhere), and its nearest
-/// pin isn't on a third rank once so many of them are made.
+/// pin isn't on a third rank once the first `made` are made.
 fn is_right(rows: &[PinRow], changes: &[PinChange], made: usize, at: usize, target: Rank) -> bool {
     let now = nearest(rows, first(changes, made), at);
     let last = nearest(rows, changes, at);
@@ -102,7 +102,7 @@ fn is_right(rows: &[PinRow], changes: &[PinChange], made: usize, at: usize, targ
     is_there && (now.is_none() || now == last || now == nearest(rows, &[], at))
 }
 
-/// How many rows of a tree aren't right once so many of the changes are made.
+/// How many rows of a tree aren't right once the first `made` changes are made.
 fn wrong_count(rows: &[PinRow], changes: &[PinChange], made: usize) -> usize {
     let mut count = 0usize;
     for (at, row) in rows.iter().enumerate() {

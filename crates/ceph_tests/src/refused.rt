@@ -74,7 +74,7 @@ const SUBTREES: &[u8] =
 /// The entries of one directory.
 const LISTING: &[u8] = b"# file: c\nceph.dir.entries=\"7\"\n";
 
-/// Adds all that the dumps tell.
+/// Adds all that the dumps say.
 fn add_all(alloc: Global, all: &mut Gathering) -> Result<(), Refused> {
     all.add_subtrees(Rank::default(), &read_subtrees(alloc, SUBTREES)?)?;
     all.add_loads(Rank::default(), &read_loads(alloc, LOADS)?)?;
@@ -82,7 +82,7 @@ fn add_all(alloc: Global, all: &mut Gathering) -> Result<(), Refused> {
     Ok(())
 }
 
-/// The directories, as the dumps tell them.
+/// The directories of the dumps.
 fn gathered(alloc: Global) -> Result<Snapshot, Refused> {
     let mut all = Gathering::new(alloc)?;
     add_all(alloc, &mut all)?;

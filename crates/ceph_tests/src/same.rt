@@ -1,4 +1,4 @@
-//! Comparisons, each behind one call: what a failed one prints costs the proof of its caller nothing.
+//! Comparisons, each in one call: what a failed one prints costs the proof of its caller nothing.
 
 use std::fmt::Debug;
 use std::process::Abort;
@@ -8,12 +8,12 @@ pub(crate) fn holds_in<R: Debug>(rt: &impl Abort, is_so: bool, row: &R) {
     assert!(rt; is_so, "it is not so: {row:?}");
 }
 
-/// Both are the same. A failure tells both.
+/// Both are the same. A failure prints both.
 pub(crate) fn same<T: PartialEq + Debug>(rt: &impl Abort, found: &T, wanted: &T) {
     holds_in(rt, found == wanted, &(found, wanted));
 }
 
-/// Both are the same, in this row of a table. A failure tells the row and both.
+/// Both are the same, in this row of a table. A failure prints the row and both.
 pub(crate) fn same_in<T: PartialEq + Debug, R: Debug>(
     rt: &impl Abort,
     found: &T,

@@ -188,7 +188,7 @@ fn many(rt: &impl Abort, alloc: Global) -> Vec<Directory> {
     all.snapshot(1, RankSet::from_bits(1)).sure(rt).directories
 }
 
-/// Folds so many directories: heat and inodes stay, and so many are left.
+/// Folds directories: heat and inodes stay, and `limit` are left, or all if there are fewer.
 fn keeps_sums(rt: &impl Abort, alloc: Global, directories: Vec<Directory>, limit: usize) {
     let (before, count) = (sums(&directories), directories.len());
     let (kept, folded) = fold(alloc, directories, limit).sure(rt);

@@ -14,7 +14,7 @@ wide bytes = flat_map wide_byte bytes
 abbrev pub is_lead : ℕ → Bool
 is_lead byte = (byte == 194) || (byte == 195)
 
--- what is read back, where a first byte stands before
+-- what is read back, where a first byte may come before
 abbrev pub narrow_behind : Option ℕ → List ℕ → List ℕ
 narrow_behind None [] = []
 narrow_behind (Some lead) [] = []

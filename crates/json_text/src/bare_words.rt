@@ -1,4 +1,4 @@
-//! Writes zeros over bare `-inf`, `inf` and `nan`, which Ceph prints where JSON has no number.
+//! Writes blanks and a zero over bare `-inf`, `inf` and `nan`, which Ceph prints where JSON has no number.
 ghost use Rattle.std.specs.Prelude.{◌≡◌, ◌≤◌, length};
 
 /// Where a byte of JSON is.
@@ -8,7 +8,7 @@ pub(crate) enum Place {
     Bare,
     /// In a string.
     Quoted,
-    /// In a string, behind a backslash.
+    /// In a string, after a backslash.
     Escaped,
 }
 
@@ -59,7 +59,7 @@ fn is_word(a: u8, b: u8, c: u8) -> bool {
     is_inf | is_nan
 }
 
-/// Whether `inf` or `nan` stands anywhere, in strings or not. All places are looked
+/// Whether `inf` or `nan` occurs anywhere, in strings or not. All places are looked
 /// at, which a processor does for many at once.
 fn may_have_words(text: &[u8]) -> bool {
     let mut found = false;
@@ -69,7 +69,7 @@ fn may_have_words(text: &[u8]) -> bool {
     found
 }
 
-/// Writes over each bare word outside of strings. No byte comes to stand elsewhere, so lines and columns stay.
+/// Writes over each bare word outside of strings. No byte is moved, so lines and columns stay.
 pub fn write_over_bare_words(text: &mut [u8])
     ensures { length text.new ≡ length text.old }
 {

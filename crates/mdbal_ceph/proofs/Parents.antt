@@ -1,4 +1,4 @@
--- Directories whose rows were planned stand behind their parents.
+-- Directories whose rows were planned come after their parents.
 use Rattle.std.proofs.Common.{◌≡◌, ◌∙◌, ◌<◌, ℕ, List, [], ◌∷◌, length, ap, sym, refl, arith}
 use Rattle.mds_types.specs.declared.problem.ProblemRow.{ProblemRow}
 use Rattle.mds_types.specs.Problem as problem

@@ -62,8 +62,9 @@ pub record AreFreeHeats (collected : List Directory) (heats : List ℕ) : Type 0
   pub size : length heats ≡ length collected
   pub free : (i : ℕ) → i < length collected → slice_index heats i ≡ free_heat collected holds i
 
--- whichever of the ranks each collected directory goes to that nothing holds, one rank is loaded at least so much, with
--- what is held there; and the bound is no less than the mean load, each directory and what is held at each rank
+-- whichever of the ranks each collected directory goes to that nothing holds, one rank has at least this load, with
+-- what is held there. If their heat is at most 2^62 in all, the bound is no less than the mean load, than each
+-- directory with the least that is held at a rank, and than what is held at each
 pub record IsBoundOfAll (collected : List Directory) (pinned : List ℕ) (ranks bound : ℕ) : Type 0 where
   pub heats : List ℕ
   pub are : AreFreeHeats collected heats

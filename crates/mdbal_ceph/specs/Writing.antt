@@ -67,7 +67,7 @@ pub record AreFacts (outcome : Outcome) (count : ℕ) (facts : Facts) : Type 0 w
   pub changes : facts.changes ≡ length outcome.decision.proposal.changes.items
   pub standing : facts.standing ≡ count
 
--- how many pins of an earlier plan stand as they are
+-- how many pins of an earlier plan stay as they are
 abbrev pub standing_count : Outcome → ℕ
 standing_count outcome =
     count_below (length outcome.decision.proposal.rows.items)

@@ -68,7 +68,7 @@ fn gain_of(outcome: &Outcome) -> Gain
     }
 }
 
-/// What the report tells of an outcome.
+/// What is reported of an outcome.
 fn facts_of<'a>(
     outcome: &'a Outcome,
     moves: &'a [Move],
