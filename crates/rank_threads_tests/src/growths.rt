@@ -67,20 +67,25 @@ fn counted<J: Naming>(shares: &[Share<J>]) -> (u64, u64) {
     (hits, pending)
 }
 
-// Whether the answer is that of a request that found no memory.
-fn is_memory(answer: &WorkAnswer) -> bool {
-    *answer == WorkAnswer::refused(WorkError::Board(BoardError::Memory))
+// Two for a request that found no memory, and one for a request of a rank without a thread.
+fn lack(answer: &WorkAnswer) -> u32 {
+    if *answer == WorkAnswer::refused(WorkError::Board(BoardError::Memory)) {
+        2
+    } else {
+        u32::from(*answer == WorkAnswer::refused(WorkError::NoThread))
+    }
 }
 
-// The hits that were served, of the answers to two requests on directory 1 and one on none. One at most found no
-// memory.
+// The hits that were served, of the answers to two requests on directory 1 and one on none. One request at most found
+// no memory, or one rank no thread.
 fn served_hits(rt: &impl Abort, answers: &[Vec<WorkAnswer>]) -> u64 {
     let mut hits: u64 = 0;
-    let mut refusals: u32 = 0;
+    let mut lacks: u32 = 0;
     for (answers, wanted) in answers.iter().zip([[3, 4], [0, 0]]) {
         for (answer, all) in answers.iter().zip(wanted) {
-            if is_memory(answer) {
-                refusals = refusals.wrapping_add(1);
+            let lack = lack(answer);
+            if lack > 0 {
+                lacks = lacks.wrapping_add(lack);
             } else if all > 0 {
                 same(rt, &(answer.hits, answer.refused), &(all, None));
                 hits = hits.wrapping_add(u64::from(all));
@@ -89,11 +94,11 @@ fn served_hits(rt: &impl Abort, answers: &[Vec<WorkAnswer>]) -> u64 {
             }
         }
     }
-    assert!(rt; refusals <= 1);
+    assert!(rt; lacks <= 2);
     hits
 }
 
-/// One growth at most is refused: a request finds no memory, or a deposit does. An end that finds none is tried again.
+/// One growth at most is refused: a request or a deposit finds no memory, or a rank no thread. An end that finds none is tried again.
 /// A phase that was refused has left board and shares as they were.
 pub(crate) fn serve_on<
     J: Naming + Send + Sync,
@@ -156,7 +161,7 @@ fn carry_out_at_last<J: Naming + Send + Sync, M: Publisher<J> + Send, R: Threads
 // Whether an order's directory is where its outcome says, or where an open export may have it, and there a phase later.
 fn stands(outcome: &OrderOutcome, to: u8, first: Option<Rank>, later: Option<Rank>) -> bool {
     let OrderOutcome::TakenUp(outcome) = outcome else {
-        return false;
+        return first == Some(rank(0)) && later == first;
     };
     match outcome {
         Outcome::Done(_) => first == Some(rank(to)) && later == first,
@@ -168,7 +173,7 @@ fn stands(outcome: &OrderOutcome, to: u8, first: Option<Rank>, later: Option<Ran
     }
 }
 
-/// One growth at most is refused: an order, or a step of its export, finds no memory. A phase that was refused has left
+/// One growth at most is refused: an order or a step of its export finds no memory, or a rank no thread. A phase that was refused has left
 /// the board as it was.
 pub(crate) fn move_on<
     J: Naming + Send + Sync,

@@ -104,7 +104,7 @@ fn gone<J: Naming + Send + Sync, M: Publisher<J> + Send, R: Abort + Threads + Wa
     board.go(rt, alloc)
 }
 
-/// A request is refused at most as out of memory, and then counts no hit. Hits
+/// A request is refused only for memory, or for its rank's thread, and then counts no hit. Hits
 /// that found no memory stay for the next call.
 fn served<J: Naming + Send + Sync, M: Publisher<J> + Send, R: Abort + Threads + Wait + Sync>(
     rt: &R,
@@ -116,7 +116,11 @@ fn served<J: Naming + Send + Sync, M: Publisher<J> + Send, R: Abort + Threads + 
     let (mut board, refused) = gone(rt, alloc, board);
     let refused = refused.unwrap_or(Vec::new(alloc));
     if !refused.is_empty() {
-        assert!(rt; refused.iter().all(|fault| *fault == Fault::Memory));
+        assert!(rt;
+            refused
+                .iter()
+                .all(|fault| matches!(*fault, Fault::Memory | Fault::NoThread))
+        );
         same(rt, &(refused.len(), board.hits_of(Dir::new(2))), &(1, 0));
         same(rt, &board.load("/b", 5), &Ok(()));
     }
