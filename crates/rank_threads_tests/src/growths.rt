@@ -98,8 +98,8 @@ fn served_hits(rt: &impl Abort, answers: &[Vec<WorkAnswer>]) -> u64 {
     hits
 }
 
-/// One growth at most is refused: a request or a deposit finds no memory, or a rank no thread. An end that finds none is tried again.
-/// A phase that was refused has left board and shares as they were.
+/// One growth at most is refused: a request or a deposit finds no memory, or a rank no thread. An end that finds none
+/// is tried again. A phase that was refused has left board and shares as they were.
 pub(crate) fn serve_on<
     J: Naming + Send + Sync,
     M: Publisher<J> + Send,
@@ -173,8 +173,8 @@ fn stands(outcome: &OrderOutcome, to: u8, first: Option<Rank>, later: Option<Ran
     }
 }
 
-/// One growth at most is refused: an order or a step of its export finds no memory, or a rank no thread. A phase that was refused has left
-/// the board as it was.
+/// One growth at most is refused: an order or a step of its export finds no memory, or a rank no thread. A phase that
+/// was refused has left the board as it was.
 pub(crate) fn move_on<
     J: Naming + Send + Sync,
     M: Publisher<J> + Send,
