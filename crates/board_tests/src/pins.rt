@@ -55,10 +55,13 @@ fn some_rank(number: i32) -> Option<Rank> {
     u8::try_from(number).ok().and_then(Rank::new)
 }
 
-/// The directories that no pin holds.
+/// The directories that no pin holds, asked for again where a growth was refused.
 fn unpinned(rt: &impl Abort, alloc: Global, board: &Board) -> Vec<Dir> {
     assert!(rt; board.tree.limit() <= board.pins.limit());
-    board.pins.unpinned(alloc, &board.tree).sure(rt)
+    match board.pins.unpinned(alloc, &board.tree) {
+        Ok(dirs) => dirs,
+        Err(_) => board.pins.unpinned(alloc, &board.tree).sure(rt),
+    }
 }
 
 /// Each directory gets a pin on rank 1, and then its own.
