@@ -21,13 +21,13 @@ astray one = astray_of one.earlier one
 abbrev pub astray_at : List Directory → ℕ → Bool
 astray_at directories i = option_map_or (λ (one : Directory). is_some (astray one)) (slice_get directories i) false
 
-abbrev pub lies_text : Bool → ℕ → List ℕ
-lies_text true now = codes "lies at several ranks\n"
-lies_text false now = field (codes "lies at rank ") now ++ codes "\n"
+abbrev pub at_rank_text : Bool → ℕ → List ℕ
+at_rank_text true now = codes "is at several ranks\n"
+at_rank_text false now = field (codes "is at rank ") now ++ codes "\n"
 
 unfoldable pub astray_text : Directory → ℕ → List ℕ
 astray_text one rank = shown_path one.path.items ++ field (codes ": pinned to rank ") rank ++ codes ", "
-    ++ lies_text one.is_spread one.now
+    ++ at_rank_text one.is_spread one.now
 
 -- the line of a directory that its pin doesn't hold
 abbrev pub astray_line_of : Directory → Option ℕ → List ℕ

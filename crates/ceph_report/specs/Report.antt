@@ -80,7 +80,7 @@ hottest_line facts =
     ++ place_text facts.directories.now (hottest_place facts)
 
 unfoldable pub standing_text : ℕ → List ℕ
-standing_text count = if nat_lt 0 count then field (codes ", ") count ++ codes " pins stand already" else []
+standing_text count = if nat_lt 0 count then field (codes ", ") count ++ codes " pins are set already" else []
 
 unfoldable pub count_line : Facts → List ℕ
 count_line facts =

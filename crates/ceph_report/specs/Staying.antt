@@ -14,7 +14,7 @@ use Rattle.ceph_report.specs.declared.staying.Stay.{Stay}
 abbrev pub has_policy_at : List Directory → ℕ → Bool
 has_policy_at directories i = is_some (policy_at directories i)
 
--- directory i lies at several ranks, or Ceph pinned it by a policy that isn't known; its parent doesn't, and it isn't
+-- directory i is at several ranks, or Ceph pinned it by a policy that isn't known; its parent doesn't, and it isn't
 -- below a policy
 abbrev pub is_parted_at : List Directory → List ℕ → ℕ → Bool
 is_parted_at directories leaders i =

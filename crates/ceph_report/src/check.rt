@@ -2,7 +2,7 @@
 ghost use Rattle.std.specs.Prelude.{◌≡◌, ◌++◌, IfOk, OnOk};
 ghost use Rattle.std.specs.List.{flat_map};
 ghost use Rattle.ceph_report.specs.Check as check;
-ghost use Rattle.ceph_report.specs.Check.{all_hold, astray_line, astray_text, check_text, hold_line, lies_text};
+ghost use Rattle.ceph_report.specs.Check.{all_hold, astray_line, astray_text, at_rank_text, check_text, hold_line};
 ghost use Rattle.ceph_report.specs.Check.{check_status, unset_line};
 
 use crate::text::{push_number, push_path, push_text};
@@ -40,15 +40,15 @@ fn astray(directory: &Directory) -> Option<Rank>
     }
 }
 
-/// Adds where a directory lies.
+/// Adds the rank that a directory is at.
 fn push_place(text: &mut Vec<u8>, directory: &Directory) -> Result<(), AllocError>
     ensures { OnOk result (text.new.items
-        ≡ text.old.items ++ lies_text directory.entry.now.is_spread directory.entry.now.now) }
+        ≡ text.old.items ++ at_rank_text directory.entry.now.is_spread directory.entry.now.now) }
 {
     if directory.is_spread {
-        return push_text(text, "lies at several ranks\n");
+        return push_text(text, "is at several ranks\n");
     }
-    push_number(text, "lies at rank ", u64::from(directory.now.number()))?;
+    push_number(text, "is at rank ", u64::from(directory.now.number()))?;
     push_text(text, "\n")
 }
 

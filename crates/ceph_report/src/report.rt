@@ -170,7 +170,7 @@ fn push_standing(text: &mut Vec<u8>, count: usize) -> Result<(), AllocError>
         return Ok(());
     }
     push_number(text, ", ", count as u64)?;
-    push_text(text, " pins stand already")
+    push_text(text, " pins are set already")
 }
 
 /// Adds how many parts there are, and what changes.

@@ -17,7 +17,7 @@ pub enum Reason {
     Policy(EphemeralPin),
     /// Somebody's pin to a rank that isn't there.
     Absent,
-    /// It lies at several ranks, or Ceph pinned it by a policy that isn't known.
+    /// It is at several ranks, or Ceph pinned it by a policy that isn't known.
     Spread,
 }
 
@@ -71,7 +71,7 @@ fn followers(alloc: Global, leaders: &[usize]) -> Result<Vec<u64>, AllocError>
     Ok(counts)
 }
 
-/// Whether the directory at a place lies at several ranks, and what is above it doesn't.
+/// Whether the directory at a place is at several ranks, and what is above it doesn't.
 fn is_torn(directories: &[Directory], leaders: &[usize], at: usize) -> bool
     requires size { length leaders.now ≡ length directories.now }
     requires inside { at < length directories.now }
