@@ -1,5 +1,5 @@
 #!/usr/bin/env python3
-"""Tells how even a load lay on the ranks: figures.py LOAD.jsonl WATCH.jsonl [--series] [FROM [TO]]
+"""Prints how even a load was on the ranks: figures.py LOAD.jsonl WATCH.jsonl [--series] [FROM [TO]]
 
 LOAD.jsonl is of load.py and WATCH.jsonl of watch.py. FROM and TO are seconds after the first line of LOAD.jsonl. `offered`
 is greatest/mean of the operations that the client did, each at the rank that had its directory; `served` is that of the ranks'

@@ -104,8 +104,19 @@ fn gone<J: Naming + Send + Sync, M: Publisher<J> + Send, R: Abort + Threads + Wa
     board.go(rt, alloc)
 }
 
-/// A request is refused only for memory, or for its rank's thread, and then counts no hit. Hits
-/// that found no memory stay for the next call.
+/// Serves what waits. Nothing is refused.
+fn all_gone<J: Naming + Send + Sync, M: Publisher<J> + Send, R: Abort + Threads + Wait + Sync>(
+    rt: &R,
+    alloc: Global,
+    board: ScriptBoard<J, M>,
+) -> ScriptBoard<J, M> {
+    let (board, refused) = gone(rt, alloc, board);
+    assert!(rt; refused.is_ok_and(|refused| refused.is_empty()));
+    board
+}
+
+/// A request is refused only for memory, or for its rank's thread, and then counts no hit. A refused
+/// deposit keeps its hits for the next call.
 fn served<J: Naming + Send + Sync, M: Publisher<J> + Send, R: Abort + Threads + Wait + Sync>(
     rt: &R,
     alloc: Global,
@@ -113,19 +124,19 @@ fn served<J: Naming + Send + Sync, M: Publisher<J> + Send, R: Abort + Threads + 
 ) -> ScriptBoard<J, M> {
     let mut board = board;
     commands(rt, alloc, &mut board, &[Do::Publish, Do::Load("/b", 5)]);
-    let (mut board, refused) = gone(rt, alloc, board);
+    let (board, refused) = gone(rt, alloc, board);
     let refused = refused.unwrap_or(Vec::new(alloc));
-    if !refused.is_empty() {
-        assert!(rt;
-            refused
-                .iter()
-                .all(|fault| matches!(*fault, Fault::Memory | Fault::NoThread))
-        );
-        same(rt, &(refused.len(), board.hits_of(Dir::new(2))), &(1, 0));
+    assert!(rt;
+        refused
+            .iter()
+            .all(|fault| matches!(*fault, Fault::Memory | Fault::NoThread))
+    );
+    let mut board = all_gone(rt, alloc, board);
+    if board.hits_of(Dir::new(2)) == 0 {
+        same(rt, &refused.len(), &1);
         same(rt, &board.load("/b", 5), &Ok(()));
+        board = all_gone(rt, alloc, board);
     }
-    let (board, again) = gone(rt, alloc, board);
-    assert!(rt; again.is_ok_and(|refused| refused.is_empty()));
     same(rt, &board.hits_of(Dir::new(2)), &5);
     board
 }
@@ -155,13 +166,16 @@ fn costs<J: Naming, M: Publisher<J>>(
     board: &mut ScriptBoard<J, M>,
 ) {
     let before = read(board);
-    let first = board.cost(alloc, &["/", "/b"]);
-    if first.is_err() {
-        same(rt, &first.err(), &Some(Fault::Memory));
-        assert!(rt; read(board) == before);
-    }
-    let Ok(parts) = board.cost(alloc, &["/", "/b"]) else {
-        panic!(rt; "no parts");
+    let parts = match board.cost(alloc, &["/", "/b"]) {
+        Ok(parts) => parts,
+        Err(fault) => {
+            same(rt, &fault, &Fault::Memory);
+            assert!(rt; read(board) == before);
+            let Ok(parts) = board.cost(alloc, &["/", "/b"]) else {
+                panic!(rt; "no parts");
+            };
+            parts
+        }
     };
     same(rt, &parts.len(), &2);
 }
