@@ -8,9 +8,15 @@ use Rattle.atomic_table.specs.Table.{State, Step, Me}
 use Rattle.atomic_table.specs.declared.shared.Seat.{Seat}
 use Rattle.seen_log.specs.declared.rule.TokenState.{TokenState}
 
--- the name of no log
+-- the name of no table
 abbrev pub no_name : TableId
 no_name = record { words = 0; slots = 0; views_name = 0; atom = 0; block = 0; offset = 0; slot_names = [] }
+
+-- it is a token of this table, and nothing else is out
+pub record IsSeatOf {V : Type 0} (tokens : TableId) (token : Seat ℕ V) : Type 0 where
+  pub words : tokens.words ≡ 1
+  pub table : token.table_id ≡ tokens
+  pub none_out : token.me.1 ≡ []
 
 module _ {E : Type 0} where
   abbrev pub state : Bool → List E → List E → TokenState E
@@ -42,9 +48,3 @@ module _ {E : Type 0} where
   -- the log went on to this one
   abbrev pub Grows : List E → Step ℕ → Me ℕ (TokenState E) → ℕ → Me ℕ (TokenState E) → Type 0
   Grows log s me found now = now ≡ (state true log me.0.shown, me.1)
-
-  -- it is a token of this table, and nothing else is out
-  pub record IsTokenOf (tokens : TableId) (token : Seat ℕ (TokenState E)) : Type 0 where
-    pub words : tokens.words ≡ 1
-    pub table : token.table_id ≡ tokens
-    pub none_out : token.me.1 ≡ []

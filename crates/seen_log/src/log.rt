@@ -44,7 +44,7 @@ pub struct NewLog<E> {
 impl<E> Model for NewLog<E> {
     ghost use Rattle.std.specs.Prelude.{◌≡◌, [], true};
     ghost use Rattle.atomic_table.specs.Seated.{TableId, table_id_coded};
-    ghost use Rattle.seen_log.specs.Growing.{IsTokenOf, state};
+    ghost use Rattle.seen_log.specs.Growing.{IsSeatOf, state};
 
     ghost Value = { TableId };
 
@@ -52,7 +52,7 @@ impl<E> Model for NewLog<E> {
 
     ghost view = { λ new. new.table.shared.table_id };
 
-    ghost invariant = { λ new. IsTokenOf new.table.shared.table_id new.token
+    ghost invariant = { λ new. IsSeatOf new.table.shared.table_id new.token
         × (new.token.me.0 ≡ state true [] []) };
 }
 
@@ -87,13 +87,13 @@ pub struct Log<E, N: LogName> {
 
 impl<E, N: LogName> Model for Log<E, N> {
     ghost use Rattle.std.specs.Prelude.{◌≡◌, List, true};
-    ghost use Rattle.seen_log.specs.Growing.{IsTokenOf};
+    ghost use Rattle.seen_log.specs.Growing.{IsSeatOf};
 
     ghost Value = { List E };
 
     ghost view = { λ l. l.token.me.0.log };
 
-    ghost invariant = { λ l. IsTokenOf l.table.shared.table_id l.token × (l.table.shared.table_id ≡ N.log)
+    ghost invariant = { λ l. IsSeatOf l.table.shared.table_id l.token × (l.table.shared.table_id ≡ N.log)
         × (l.token.me.0.leads ≡ true) };
 }
 
