@@ -1,5 +1,7 @@
 -- The states of orders while a board goes on.
-use Rattle.std.proofs.Common.{◌≡◌, ◌≤◌, ◌<◌, ◌+◌, ℕ, zero, suc, Bool, cond, false, take, List, [], ◌∷◌, ◌++◌, length, Some, slice_get, get_or, refl, sym, ap, ◌∙◌, subst, arith}
+use Rattle.std.proofs.Common.{◌≡◌, ◌≤◌, ◌<◌, ◌+◌, ℕ, zero, suc, Bool, cond, false, take, List, [], ◌∷◌, ◌++◌, length, Some, slice_get, get_or, refl, sym, ap, ◌∙◌, subst, arith, append-nil, append_assoc}
+use mathlib.Core.List.{IsPrefix}
+use Rattle.mds_board.specs.declared.entry.Entry.{Entry}
 use Rattle.std.proofs.Math.ListN.{set}
 use Rattle.std.proofs.lemmas.List.Sums.{sum_by-append, sum_by-set}
 use Rattle.std.specs.List.{count_by}
@@ -9,10 +11,16 @@ use Rattle.mds_board.specs.History.{World}
 use Rattle.export_rounds.specs.declared.standing.Standing.{Standing}
 use Rattle.export_rounds.specs.declared.standing.Standing.TheVariants.{Waiting, Started, Refused}
 use Rattle.export_rounds.specs.Asked.{AreAsked, IsAsked, is_waiting}
+use Rattle.board_state.specs.declared.board_error.BoardError.{BoardError}
+use Rattle.board_state.specs.declared.change.Change.{Change}
 use Rattle.export_rounds.specs.Further.{IsFurther}
-use Rattle.export_rounds.specs.Outcomes.{IsStarted}
+use Rattle.export_rounds.specs.Moments.{IsMet, IsSince}
+use Rattle.export_machine.specs.declared.event.Event.TheVariants.{Start}
+use Rattle.board_state.specs.declared.change.Change.TheVariants.{Step}
+use Rattle.board_state.specs.Steps.{IsDue}
+use Rattle.export_rounds.specs.Outcomes.{IsRefused, IsStarted}
 use Rattle.export_rounds.specs.Pairs.{AreEach}
-use Rattle.export_rounds.proofs.Going.{joins}
+use Rattle.export_rounds.proofs.Going.{replay_both, stays}
 use Rattle.export_rounds.proofs.Ordering.{get_first, get_last, no_fewer, orders_stay}
 
 pub each_maps : {A B : Type 0} (R S : A → B → Type 0) → ((a : A) (b : B) → R a b → S a b) → (xs : List A) (ys : List B) → AreEach R xs ys → AreEach S xs ys
@@ -29,18 +37,49 @@ each_set R S f (a ∷ xs) (c ∷ ys) (suc k) b d l g h = (f a c h.0, each_set R 
 each_set R S f [] (c ∷ ys) k b d l g h = absurd h
 each_set R S f (a ∷ xs) [] k b d l g h = absurd h
 
-started_stays : (first now new : World) (order : Order) (x : ℕ) → IsFurther now new → IsStarted first now order x → IsStarted first new order x
-started_stays first now new order x h s =
-    let more = orders_stay now new h in
-    (s.0, ap (λ (os : List Order). slice_get os x) more.1 ∙ get_first now.state.cluster.orders more.0 x order s.1)
+-- Boards on the way.
 
-pub asked_stays : (first now new : World) → IsFurther now new → (order : Order) (standing : Standing) → IsAsked first now order standing → IsAsked first new order standing
-asked_stays first now new h order (Waiting waiting) is = is
-asked_stays first now new h order (Started x) is = started_stays first now new order x h is
-asked_stays first now new h order (Refused error) is = (is.0, is.1, joins is.0 now new is.2 h, is.3)
+pub follows : (xs ys zs : List Entry) → IsPrefix xs ys → IsPrefix ys zs → IsPrefix xs zs
+follows xs ys zs p q = (p.0 ++ q.0, sym (append_assoc xs p.0 q.0) ∙ (ap (λ (l : List Entry). l ++ q.0) p.1 ∙ q.1))
+
+pub met_later : (first : World) (log longer : List Entry) (change : Change) (e : BoardError) → IsPrefix log longer → IsMet first log change e → IsMet first longer change e
+met_later first log longer change e more h = record { board = h.board; since = h.since; due = h.due; kept = follows h.board.history log longer h.kept more }
+
+pub since_joins : (first old new : World) → IsSince first old → IsFurther old new → IsSince first new
+since_joins first old new h k = record {
+  entries = h.entries ++ k.more;
+  history = k.history ∙ (ap (λ es. es ++ k.more) h.history ∙ append_assoc first.history h.entries k.more);
+  replay = replay_both first.state h.entries old.state k.more new.state h.replay k.replay;
+  orders = let few = no_fewer old new k in let more = h.orders in omega arith;
+}
+
+pub further_since : (first now : World) → IsFurther first now → IsSince first now
+further_since first now h = record { entries = h.more; history = h.history; replay = h.replay; orders = no_fewer first now h }
+
+pub itself_since : (w : World) → IsSince w w
+itself_since w = further_since w w (stays w)
+
+-- The history goes on, and so do the exports.
+pub record Grows (now new : World) : Type 0 where
+  pub history : IsPrefix now.history new.history
+  pub more : List Order
+  pub orders : new.state.cluster.orders ≡ now.state.cluster.orders ++ more
+
+pub further_grows : (now new : World) → IsFurther now new → Grows now new
+further_grows now new h =
+    let more = orders_stay now new h in record { history = (h.more, sym h.history); more = more.0; orders = more.1 }
+
+asked_grows : (first now new : World) → Grows now new → (order : Order) (standing : Standing) → IsAsked first now order standing → IsAsked first new order standing
+asked_grows first now new h order (Waiting waiting) is = is
+asked_grows first now new h order (Started x) is =
+    (is.0, ap (λ (os : List Order). slice_get os x) h.orders ∙ get_first now.state.cluster.orders h.more x order is.1)
+asked_grows first now new h order (Refused error) is = met_later first now.history new.history _ error h.history is
+
+pub all_grow : (first now new : World) (orders : List Order) (standings : List Standing) → Grows now new → AreAsked first now orders standings → AreAsked first new orders standings
+all_grow first now new orders standings h all = each_maps (IsAsked first now) (IsAsked first new) (asked_grows first now new h) orders standings all
 
 pub all_stay : (first now new : World) (orders : List Order) (standings : List Standing) → IsFurther now new → AreAsked first now orders standings → AreAsked first new orders standings
-all_stay first now new orders standings h all = each_maps (IsAsked first now) (IsAsked first new) (asked_stays first now new h) orders standings all
+all_stay first now new orders standings h all = all_grow first now new orders standings (further_grows now new h) all
 
 pub each_long : {A B : Type 0} (R : A → B → Type 0) (xs : List A) (ys : List B) → AreEach R xs ys → length xs ≡ length ys
 each_long R [] [] h = refl
@@ -65,11 +104,21 @@ each_next R S (a ∷ xs) (b ∷ ys) (suc i) d c (z ∷ zs) h n f t = (t.0, each_
 each_next R S [] (b ∷ ys) i d c zs h n f t = absurd h
 each_next R S (a ∷ xs) [] i d c zs h n f t = absurd h
 
+-- an order that has just been refused
+pub newly_refused : (first now : World) (order waiting : Order) (e : BoardError) → IsSince first now → waiting ≡ order
+    → IsDue now.state (Step (Start waiting.from waiting.to waiting.dirs)) e → IsRefused first now order e
+newly_refused first now order waiting e h is due = record {
+  board = now;
+  since = h;
+  due = subst (λ (o : Order). IsDue now.state (Step (Start o.from o.to o.dirs)) e) is due;
+  kept = ([], append-nil now.history);
+}
+
 -- an order that has just been started
-pub newly_started : (first now new : World) (order waiting : Order) (x : ℕ) → IsFurther first now → waiting ≡ order → x ≡ length now.state.cluster.orders
+pub newly_started : (first now new : World) (order waiting : Order) (x : ℕ) → IsSince first now → waiting ≡ order → x ≡ length now.state.cluster.orders
     → new.state.cluster.orders ≡ now.state.cluster.orders ++ waiting ∷ [] → IsStarted first new order x
 newly_started first now new order waiting x h is e more = (
-  subst (λ n. length first.state.cluster.orders ≤ n) (sym e) (no_fewer first now h),
+  subst (λ n. length first.state.cluster.orders ≤ n) (sym e) h.orders,
   ap (λ (os : List Order). slice_get os x) more
       ∙ (ap (λ n. slice_get (now.state.cluster.orders ++ waiting ∷ []) n) e ∙ (get_last now.state.cluster.orders waiting ∙ ap (λ (o : Order). Some o) is)),
 )
@@ -100,7 +149,7 @@ pub one_changed : (first now new : World) (orders : List Order) (standings : Lis
     → ((order : Order) → IsAsked first now order (get_or standings k d) → IsAsked first new order s) → AreAsked first now orders standings
     → AreAsked first new orders (set standings k s)
 one_changed first now new orders standings k s d h near f all =
-    each_set (IsAsked first now) (IsAsked first new) (asked_stays first now new h) orders standings k s d near f all
+    each_set (IsAsked first now) (IsAsked first new) (asked_grows first now new (further_grows now new h)) orders standings k s d near f all
 
 -- counts
 

@@ -38,19 +38,19 @@ replay_after : (s : State) (es : List Entry) (t : State) → IsReplay s es t →
 replay_after s [] t h = h
 replay_after s (e ∷ es) t h = replay_after (next s e.change) es t h.3
 
-replay_both : (s : State) (xs : List Entry) (t : State) (ys : List Entry) (u : State) → IsReplay s xs t → IsReplay t ys u → IsReplay s (xs ++ ys) u
+pub replay_both : (s : State) (xs : List Entry) (t : State) (ys : List Entry) (u : State) → IsReplay s xs t → IsReplay t ys u → IsReplay s (xs ++ ys) u
 replay_both s [] t ys u h k = subst (λ v. IsReplay v ys u) h k
 replay_both s (e ∷ xs) t ys u h k = (h.0, h.1, h.2, replay_both (next s e.change) xs t ys u h.3 k)
 
 -- what is published
 
-kept_published : (old between : World) (first more : List Entry) (now : List Operation) → IsPublished old first between.published
+pub kept_published : (old between : World) (first more : List Entry) (now : List Operation) → IsPublished old first between.published
     → now ≡ between.published → IsPublished old (first ++ more) now
 kept_published old between first more now (inl h) same = inl (same ∙ h)
 kept_published old between first more now (inr p) same =
     inr (p.0, p.1 ++ more, ap (λ m. m ++ more) p.2 ∙ append_assoc p.0 p.1 more, same ∙ p.3)
 
-published_both : (old between : World) (first more : List Entry) (now : List Operation) → IsReplay old.state first between.state
+pub published_both : (old between : World) (first more : List Entry) (now : List Operation) → IsReplay old.state first between.state
     → IsPublished old first between.published → IsPublished between more now → IsPublished old (first ++ more) now
 published_both old between first more now replay before (inl same) = kept_published old between first more now before same
 published_both old between first more now replay before (inr p) =

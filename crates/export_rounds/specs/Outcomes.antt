@@ -9,23 +9,20 @@ use Rattle.export_machine.specs.declared.importer.ImporterState.TheVariants.{Imp
 use Rattle.mds_types.specs.declared.order.Order.{Order}
 use Rattle.board_state.specs.declared.board_error.BoardError.{BoardError}
 use Rattle.board_state.specs.declared.change.Change.TheVariants.{Step}
-use Rattle.board_state.specs.Steps.{IsDue}
 use Rattle.mds_board.specs.History.{World}
 use Rattle.export_rounds.specs.declared.outcome.Outcome.{Outcome}
 use Rattle.export_rounds.specs.declared.outcome.Outcome.TheVariants.{Done, Open, Refused}
 use Rattle.export_rounds.specs.declared.outcome.Outcome.TheVariants as outcome
-use Rattle.export_rounds.specs.Further.{IsFurther}
+use Rattle.export_rounds.specs.Moments.{IsMet}
 use Rattle.export_rounds.specs.Pairs.{AreEach}
 
 -- this export is the order's, and was started between the two
 abbrev pub IsStarted : World → World → Order → ℕ → Type 0
 IsStarted old new order x = (length old.state.cluster.orders ≤ x) × (slice_get new.state.cluster.orders x ≡ Some order)
 
--- between the two there was a state in which the order was refused for this
+-- a board on the way from the one to the other refused the order for this
 abbrev pub IsRefused : World → World → Order → BoardError → Type 0
-IsRefused old new order error =
-    (between : World) × IsFurther old between × IsFurther between new
-    × IsDue between.state (Step (Start order.from order.to order.dirs)) error
+IsRefused old new order error = IsMet old new.history (Step (Start order.from order.to order.dirs)) error
 
 -- the word for an export in these states at its two ranks
 abbrev pub word : ℕ → ExporterState → ImporterState → Outcome

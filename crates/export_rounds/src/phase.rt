@@ -5,6 +5,7 @@ ghost use Rattle.mds_types.specs.declared.order.Order.{Order as TheOrder};
 ghost use Rattle.export_rounds.specs.Adding.{GoesOnBy};
 ghost use Rattle.export_rounds.specs.Asked.{AreAsked, StartsNone, is_begun};
 ghost use Rattle.export_rounds.specs.Further.{IsFurther};
+ghost use Rattle.export_rounds.specs.Moments.{IsSince};
 ghost use Rattle.export_rounds.specs.Outcomes.{AreAll, AreOutcomes};
 
 use crate::closing::{abort_rest, tell};
@@ -84,7 +85,7 @@ fn first_round<J: Naming, M: Publisher<J>>(
 )
     ensures further { IsFurther board.old board.new }
     ensures events { (before : ℕ) → GoesOnBy before board.old board.new }
-    ensures asked { (first : World) (orders : List TheOrder) → IsFurther first board.old
+    ensures asked { (first : World) (orders : List TheOrder) → IsSince first board.old
         → AreAsked first board.old orders standings.old.items → AreAsked first board.new orders standings.new.items }
     ensures counted { length board.new.state.cluster.orders + count_by is_begun standings.old.items
         ≡ length board.old.state.cluster.orders + count_by is_begun standings.new.items }

@@ -5,6 +5,7 @@ ghost use Rattle.mds_types.specs.declared.order.Order.{Order as TheOrder};
 ghost use Rattle.export_rounds.specs.Adding.{GoesOnBy};
 ghost use Rattle.export_rounds.specs.Asked.{AreAsked, AreSettled, IsAsked, is_begun, is_waiting, ones};
 ghost use Rattle.export_rounds.specs.Further.{IsFurther};
+ghost use Rattle.export_rounds.specs.Moments.{IsSince};
 
 use crate::desk::Desk;
 use crate::standing::Standing;
@@ -38,7 +39,7 @@ pub(crate) fn start_at<J: Naming, M: Publisher<J>>(
 )
     ensures further { IsFurther board.old board.new }
     ensures events { (before : ℕ) → GoesOnBy before board.old board.new }
-    ensures asked { (first : World) (orders : List TheOrder) → IsFurther first board.old
+    ensures asked { (first : World) (orders : List TheOrder) → IsSince first board.old
         → AreAsked first board.old orders standings.old.items → AreAsked first board.new orders standings.new.items }
     ensures counted { length board.new.state.cluster.orders + count_by is_begun standings.old.items
         ≡ length board.old.state.cluster.orders + count_by is_begun standings.new.items }
@@ -67,7 +68,7 @@ pub fn settle_at<J: Naming, M: Publisher<J>>(
 ) -> Option<u32>
     ensures further { IsFurther board.old board.new }
     ensures events { (before : ℕ) → GoesOnBy before board.old board.new }
-    ensures asked { (first : World) (orders : List TheOrder) → IsFurther first board.old
+    ensures asked { (first : World) (orders : List TheOrder) → IsSince first board.old
         → AreAsked first board.old orders standings.old.items → AreAsked first board.new orders standings.new.items }
     ensures counted { length board.new.state.cluster.orders + count_by is_begun standings.old.items
         ≡ length board.old.state.cluster.orders + count_by is_begun standings.new.items }
@@ -84,7 +85,7 @@ pub(crate) fn settle_rest<J: Naming, M: Publisher<J>>(
 )
     ensures further { IsFurther board.old board.new }
     ensures events { (before : ℕ) → GoesOnBy before board.old board.new }
-    ensures asked { (first : World) (orders : List TheOrder) → IsFurther first board.old
+    ensures asked { (first : World) (orders : List TheOrder) → IsSince first board.old
         → AreAsked first board.old orders standings.old.items → AreAsked first board.new orders standings.new.items }
     ensures counted { length board.new.state.cluster.orders + count_by is_begun standings.old.items
         ≡ length board.old.state.cluster.orders + count_by is_begun standings.new.items }
@@ -104,7 +105,7 @@ fn settle<J: Naming, M: Publisher<J>>(
 ) -> Option<u32>
     ensures further { IsFurther board.old board.new }
     ensures events { (before : ℕ) → GoesOnBy before board.old board.new }
-    ensures asked { (first : World) (order : TheOrder) → IsFurther first board.old
+    ensures asked { (first : World) (order : TheOrder) → IsSince first board.old
         → IsAsked first board.old order standing.old → IsAsked first board.new order standing.new }
     ensures counted { length board.new.state.cluster.orders + ones (is_begun standing.old)
         ≡ length board.old.state.cluster.orders + ones (is_begun standing.new) }

@@ -5,7 +5,7 @@ ghost use Rattle.export_rounds.specs.Asked.{AreAsked, is_begun};
 ghost use Rattle.export_rounds.specs.Further.{IsFurther};
 ghost use Rattle.export_threads.specs.Carrying.{AreAll, AreTold};
 
-use crate::cell::{ExportCell, ExportPhase};
+use crate::cell::{ExportPhase, Exporting};
 use crate::order_outcome::OrderOutcome;
 use crate::place::Place;
 use crate::telling::tell;
@@ -16,22 +16,32 @@ use export_machine::Event;
 use export_rounds::desk::set_up;
 use export_rounds::looks::is_before_log;
 use export_rounds::starting::waiting;
-use export_rounds::{Desk, Gate, Standing, Unsettled};
+use export_rounds::{Desk, ExportSide, Gate, Standing, Unsettled};
 use mds_board::Board;
 use mds_types::Order;
 use naming::Naming;
 use std::alloc::{AllocError, Global};
 use std::marker::{Brand, Send, Sync};
-use std::sync::Wait;
+use std::sync::{Mutex, Wait};
 use std::thread;
 use std::thread::Threads;
 
-// What a phase asks memory for before its first event.
-struct Prepared {
-    outcomes: Vec<OrderOutcome>,
-    standings: Vec<Standing>,
+/// The ranks of a phase: what each has to look after, and its place.
+#[derive(Drop)]
+pub struct Places {
     desks: Vec<Desk>,
     places: Vec<Place>,
+}
+
+/// What a phase of exports asks memory for before its first event.
+#[derive(Drop)]
+pub struct Prepared {
+    /// Room for the outcomes.
+    pub outcomes: Vec<OrderOutcome>,
+    /// The orders, of which each waits.
+    pub standings: Vec<Standing>,
+    /// The ranks.
+    pub ranks: Places,
 }
 
 // A place for each rank that has a desk.
@@ -43,8 +53,8 @@ fn places_for(alloc: Global, desks: &[Desk]) -> Result<Vec<Place>, AllocError> {
     Ok(places)
 }
 
-// Room for the outcomes, the orders as ones that wait, and what each rank has to look after.
-fn prepare<J: Naming, M: Publisher<J>>(
+/// Room for the outcomes, the orders as ones that wait, and what each rank has to look after.
+pub fn prepare<J: Naming, M: Publisher<J>>(
     alloc: Global,
     board: &Board<J, M>,
     orders: &[Order],
@@ -63,16 +73,15 @@ fn prepare<J: Naming, M: Publisher<J>>(
     Ok(Prepared {
         outcomes,
         standings,
-        desks,
-        places,
+        ranks: Places { desks, places },
     })
 }
 
 // Starts the orders whose exporter is no active rank, so that each is refused.
-fn start_strays<J: Naming, M: Publisher<J>, K: ExportPhase, R: Wait>(
+fn start_strays<X: ExportSide, R: Wait>(
     rt: &R,
     alloc: Global,
-    cell: &ExportCell<J, M, K>,
+    cell: &Mutex<X>,
     active: usize,
     orders: &[Order],
 ) {
@@ -84,17 +93,10 @@ fn start_strays<J: Naming, M: Publisher<J>, K: ExportPhase, R: Wait>(
 }
 
 // The ranks take their turns in rounds.
-fn take_rounds<
-    'a,
-    J: Naming + Send + Sync,
-    M: Publisher<J> + Send,
-    K: ExportPhase + Send + Sync,
-    R: Threads + Wait + Sync,
-    G: Gate + Sync,
->(
+fn take_rounds<'a, X: ExportSide + Send, R: Threads + Wait + Sync, G: Gate + Sync>(
     rt: &'a R,
     alloc: Global,
-    cell: &'a ExportCell<J, M, K>,
+    cell: &'a Mutex<X>,
     gate: &'a G,
     places: Vec<Place>,
     desks: Vec<Desk>,
@@ -113,12 +115,7 @@ fn take_rounds<
 }
 
 // Aborts the exports of the phase that aren't logged.
-fn abort_rest<J: Naming, M: Publisher<J>, K: ExportPhase, R: Wait>(
-    rt: &R,
-    alloc: Global,
-    cell: &ExportCell<J, M, K>,
-    orders: usize,
-) {
+fn abort_rest<X: ExportSide, R: Wait>(rt: &R, alloc: Global, cell: &Mutex<X>, orders: usize) {
     for number in 0..orders {
         let mut board = cell.lock(rt);
         if let Some(export) = board.started(number) {
@@ -127,6 +124,22 @@ fn abort_rest<J: Naming, M: Publisher<J>, K: ExportPhase, R: Wait>(
             }
         }
     }
+}
+
+/// Carries out orders on a board that is under a lock, in eight rounds, by a thread for each rank that has something to
+/// look after. What the phase started and isn't logged after the last round is aborted.
+pub fn carry_out<X: ExportSide + Send, R: Threads + Wait + Sync, G: Gate + Sync>(
+    rt: &R,
+    alloc: Global,
+    cell: &Mutex<X>,
+    gate: &G,
+    orders: &[Order],
+    ranks: Places,
+) {
+    let Places { desks, places } = ranks;
+    start_strays(rt, alloc, cell, desks.len(), orders);
+    take_rounds(rt, alloc, cell, gate, places, desks);
+    abort_rest(rt, alloc, cell, orders.len());
 }
 
 // Carries out the orders with which the phase K begins.
@@ -157,15 +170,11 @@ fn carry_out_named<
     let Prepared {
         mut outcomes,
         standings,
-        desks,
-        places,
+        ranks,
     } = prepared;
-    let active = desks.len();
-    let cell = ExportCell::<J, M, K>::new(board, standings);
-    start_strays(rt, alloc, &cell, active, orders);
-    take_rounds(rt, alloc, &cell, gate, places, desks);
-    abort_rest(rt, alloc, &cell, orders.len());
-    let (board, standings) = cell.into_parts();
+    let cell = Mutex::new(Exporting::<J, M, K>::new(board, standings));
+    carry_out(rt, alloc, &cell, gate, orders, ranks);
+    let (board, standings) = cell.into_inner().into_parts();
     tell(board.cluster(), &standings, &mut outcomes);
     (board, outcomes)
 }

@@ -12,7 +12,7 @@ use export_rounds::closing::outcome;
 use export_rounds::{Outcome, Standing};
 
 /// Adds what became of orders, where there is room for it.
-pub(crate) fn tell(cluster: &Cluster, standings: &[Standing], outcomes: &mut Vec<OrderOutcome>)
+pub fn tell(cluster: &Cluster, standings: &[Standing], outcomes: &mut Vec<OrderOutcome>)
     requires room { length standings.now ≤ vec_capacity outcomes.old }
     requires none { outcomes.old.items ≡ [] }
     ensures told { (first now : World) (orders : List TheOrder) → now.state.cluster ≡ cluster.now.world

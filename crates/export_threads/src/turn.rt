@@ -1,20 +1,17 @@
 //! The turn of a rank in a round of exports. The lock is held for one event at a time.
 
-use crate::cell::{ExportCell, ExportPhase};
-use authority_map::Publisher;
 use export_machine::Event;
 use export_rounds::looks::{is_at_work, is_freezing, is_logged, is_wanted};
-use export_rounds::{Desk, Gate};
-use naming::Naming;
+use export_rounds::{Desk, ExportSide, Gate};
 use std::alloc::Global;
-use std::sync::Wait;
+use std::sync::{Mutex, Wait};
 
 /// A rank starts its orders and asks about its imports, once; takes the messages that have come, goes on with its
 /// exports, and publishes the map if it changed that.
-pub(crate) fn take_turn<J: Naming, M: Publisher<J>, K: ExportPhase, R: Wait, G: Gate>(
+pub(crate) fn take_turn<X: ExportSide, R: Wait, G: Gate>(
     rt: &R,
     alloc: Global,
-    cell: &ExportCell<J, M, K>,
+    cell: &Mutex<X>,
     gate: &G,
     round: u64,
     desk: &mut Desk,
@@ -33,12 +30,7 @@ pub(crate) fn take_turn<J: Naming, M: Publisher<J>, K: ExportPhase, R: Wait, G: 
 }
 
 // Starts the rank's orders, and lays their exports on its desk.
-fn start<J: Naming, M: Publisher<J>, K: ExportPhase, R: Wait>(
-    rt: &R,
-    alloc: Global,
-    cell: &ExportCell<J, M, K>,
-    desk: &mut Desk,
-) {
+fn start<X: ExportSide, R: Wait>(rt: &R, alloc: Global, cell: &Mutex<X>, desk: &mut Desk) {
     for number in desk.orders.iter() {
         if let Some(export) = cell.lock(rt).start(alloc, *number) {
             // an export that finds no place is aborted at the end of the phase
@@ -49,12 +41,7 @@ fn start<J: Naming, M: Publisher<J>, K: ExportPhase, R: Wait>(
 }
 
 // Asks what became of the rank's imports that were left started.
-fn ask<J: Naming, M: Publisher<J>, K: ExportPhase, R: Wait>(
-    rt: &R,
-    alloc: Global,
-    cell: &ExportCell<J, M, K>,
-    desk: &mut Desk,
-) {
+fn ask<X: ExportSide, R: Wait>(rt: &R, alloc: Global, cell: &Mutex<X>, desk: &mut Desk) {
     for import in desk.imports.iter() {
         cell.lock(rt).step(alloc, Event::Ask(*import));
     }
@@ -62,12 +49,7 @@ fn ask<J: Naming, M: Publisher<J>, K: ExportPhase, R: Wait>(
 }
 
 // Delivers the rank's messages, except those about an export whose import is over.
-fn take_messages<J: Naming, M: Publisher<J>, K: ExportPhase, R: Wait>(
-    rt: &R,
-    alloc: Global,
-    cell: &ExportCell<J, M, K>,
-    desk: &mut Desk,
-) {
+fn take_messages<X: ExportSide, R: Wait>(rt: &R, alloc: Global, cell: &Mutex<X>, desk: &mut Desk) {
     for message in desk.messages.iter() {
         let mut board = cell.lock(rt);
         if is_wanted(board.cluster(), *message) {
@@ -78,12 +60,7 @@ fn take_messages<J: Naming, M: Publisher<J>, K: ExportPhase, R: Wait>(
 }
 
 // Freezes the exports that are in state freezing.
-fn freeze<J: Naming, M: Publisher<J>, K: ExportPhase, R: Wait>(
-    rt: &R,
-    alloc: Global,
-    cell: &ExportCell<J, M, K>,
-    exports: &[u32],
-) {
+fn freeze<X: ExportSide, R: Wait>(rt: &R, alloc: Global, cell: &Mutex<X>, exports: &[u32]) {
     for export in exports {
         let mut board = cell.lock(rt);
         if is_freezing(board.cluster(), *export) {
@@ -93,12 +70,7 @@ fn freeze<J: Naming, M: Publisher<J>, K: ExportPhase, R: Wait>(
 }
 
 // Notifies of the exports that are logged, and says whether it did.
-fn notify<J: Naming, M: Publisher<J>, K: ExportPhase, R: Wait>(
-    rt: &R,
-    alloc: Global,
-    cell: &ExportCell<J, M, K>,
-    exports: &[u32],
-) -> bool {
+fn notify<X: ExportSide, R: Wait>(rt: &R, alloc: Global, cell: &Mutex<X>, exports: &[u32]) -> bool {
     let mut notified = false;
     for export in exports {
         let mut board = cell.lock(rt);

@@ -1,17 +1,14 @@
 //! The rounds of a phase of exports, with a thread for each rank that has something to look after.
 
-use crate::cell::{ExportCell, ExportPhase};
 use crate::place::{Call, Place};
 use crate::turn::take_turn;
 use crate::under_way::UnderWay;
-use authority_map::Publisher;
 use export_rounds::desk::sort_out;
-use export_rounds::{Desk, Gate};
+use export_rounds::{Desk, ExportSide, Gate};
 use mds_types::RankSet;
-use naming::Naming;
 use std::alloc::Global;
 use std::marker::{Send, Sync};
-use std::sync::Wait;
+use std::sync::{Mutex, Wait};
 use std::thread::Scope;
 
 /// Rounds of a phase.
@@ -19,10 +16,10 @@ const ROUNDS: u64 = 8;
 
 /// What the threads of a phase work with.
 #[derive(Drop)]
-pub(crate) struct Rounds<'a, J: Naming, M: Publisher<J>, K: ExportPhase, R: Wait, G: Gate> {
+pub(crate) struct Rounds<'a, X: ExportSide, R: Wait, G: Gate> {
     pub(crate) rt: &'a R,
     pub(crate) alloc: Global,
-    pub(crate) cell: &'a ExportCell<J, M, K>,
+    pub(crate) cell: &'a Mutex<X>,
     pub(crate) gate: &'a G,
     pub(crate) under_way: UnderWay,
 }
@@ -38,13 +35,7 @@ fn idle_ranks(desks: &[Desk]) -> RankSet {
     RankSet::from_bits(bits)
 }
 
-impl<
-    J: Naming + Send + Sync,
-    M: Publisher<J> + Send,
-    K: ExportPhase + Send + Sync,
-    R: Wait + Sync,
-    G: Gate + Sync,
-> Rounds<'_, J, M, K, R, G> {
+impl<X: ExportSide + Send, R: Wait + Sync, G: Gate + Sync> Rounds<'_, X, R, G> {
     // A rank takes the turn that it is called for at its place. Without a thread of its own, its orders aren't started.
     // It says whether there was a turn to take: none is when the phase is over.
     fn take_turn(&self, place: &Place, has_thread: bool) -> bool {

@@ -5,12 +5,13 @@ use Rattle.mds_types.specs.declared.order.Order.{Order}
 use Rattle.export_rounds.specs.Adding.{GoesOnBy}
 use Rattle.export_rounds.specs.Asked.{AreAsked, is_begun}
 use Rattle.export_rounds.specs.Further.{IsFurther}
+use Rattle.export_rounds.specs.Moments.{IsSince}
 use Rattle.export_rounds.proofs.starting.start_at.Given as goal
 
 abbrev pub invariant-loop-number : goal.invariant-loop-number
 invariant-loop-number g l = record {
   further : IsFurther l.fn.board l.board;
   events : (before : ℕ) → GoesOnBy before l.fn.board l.board;
-  asked : (first : World) (orders : List Order) → IsFurther first l.fn.board → AreAsked first l.fn.board orders l.fn.standings.items → AreAsked first l.board orders l.standings.items;
+  asked : (first : World) (orders : List Order) → IsSince first l.fn.board → AreAsked first l.fn.board orders l.fn.standings.items → AreAsked first l.board orders l.standings.items;
   counted : length l.board.state.cluster.orders + count_by is_begun l.fn.standings.items ≡ length l.fn.board.state.cluster.orders + count_by is_begun l.standings.items;
 }

@@ -1,6 +1,6 @@
-use Rattle.std.proofs.Common.{length, List, ap}
+use Rattle.std.proofs.Common.{length, List, ap, subst, sym}
 use Rattle.export_rounds.proofs.Asking.{each_long}
-use Rattle.export_rounds.specs.Asked.{IsAsked}
+use Rattle.export_rounds.specs.Asked.{AreAsked, IsAsked}
 use Rattle.export_rounds.specs.declared.standing.Standing.{Standing}
 use Rattle.export_threads.proofs.exporting.carry_out_named.Goals as goal
 
@@ -12,3 +12,11 @@ tell-requires-clause-room g c =
     let orders = c.requires.orders in
     let room = c.requires.room.1 in
     rw (same, ← long, ← orders) room
+
+pub returns-clause-outcomes : goal.returns-clause-outcomes
+returns-clause-outcomes g c =
+    let first = g.K.ExportPhase.before in
+    let orders = g.K.ExportPhase.orders in
+    let now = c.into_parts-board.result.0 in
+    let asked = subst (λ (ss : List Standing). AreAsked first now orders ss) (sym c.deref.ensures.value) c.into_parts-board.ensures.asked in
+    rw (c.requires.board, c.requires.orders) (c.tell.ensures.told first now orders (sym c.cluster.ensures) asked)

@@ -1,6 +1,6 @@
 use Rattle.export_rounds.proofs.Ordering.{publishes_none}
 use Rattle.export_threads.proofs.Carrying.{goes_on}
-use Rattle.export_threads.proofs.cell.Exporting.publish.Goals as goal
+use Rattle.export_threads.proofs.cell.ExportingExportSide.publish.Goals as goal
 
 pub invariant_of-self : goal.invariant_of-self
 invariant_of-self g c =

@@ -1,7 +1,7 @@
 use Rattle.std.proofs.Common.{◌∙◌, sym, subst}
 use Rattle.export_rounds.specs.Asked.{AreAsked}
 use Rattle.export_rounds.proofs.Asking.{begun_later}
-use Rattle.export_threads.proofs.cell.Exporting.started.Goals as goal
+use Rattle.export_threads.proofs.cell.ExportingExportSide.started.Goals as goal
 
 pub returns-in-Some-Started : goal.returns-in-Some-Started
 returns-in-Some-Started g c =

@@ -2,7 +2,7 @@ use Rattle.export_rounds.proofs.Going.{steps}
 use Rattle.export_rounds.proofs.Ordering.{answer_orders}
 use Rattle.export_rounds.proofs.Adding.{answer_added}
 use Rattle.export_threads.proofs.Carrying.{goes_on}
-use Rattle.export_threads.proofs.cell.Exporting.step.Goals as goal
+use Rattle.export_threads.proofs.cell.ExportingExportSide.step.Goals as goal
 
 pub invariant_of-self : goal.invariant_of-self
 invariant_of-self g c =
