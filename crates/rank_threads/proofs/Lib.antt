@@ -1,9 +1,7 @@
 pub mod Counting
-pub mod Ended
-pub mod Full
-pub mod Given
-pub mod GoingOn
 pub mod Joining
 pub mod Later
+pub mod Naming
 pub mod Returning
+pub mod Routing
 pub mod Summing

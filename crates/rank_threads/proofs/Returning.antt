@@ -1,5 +1,5 @@
 -- Shares come back in rank order.
-use Rattle.std.proofs.Common.{◌≡◌, ℕ, suc, ◌+◌, ◌<◌, ◌≤◌, Option, Some, None, List, [], ◌∷◌, ◌++◌, length, Vec, Global, refl, sym, ap, arith, ◌∙◌, subst, inl, inr}
+use Rattle.std.proofs.Common.{◌≡◌, ℕ, suc, ◌<◌, ◌≤◌, Option, Some, None, List, [], ◌∷◌, ◌++◌, length, Vec, Global, refl, sym, ap, arith, ◌∙◌, subst, inl, inr}
 use Rattle.std.specs.List.{All, AllZip}
 use Rattle.std.proofs.lemmas.List.Elements.{All-push}
 use Rattle.heat_ledger.specs.declared.hit_error.HitError.TheVariants as hit
@@ -13,6 +13,7 @@ use Rattle.rank_threads.specs.declared.work.WorkError.{WorkError}
 use Rattle.rank_threads.specs.declared.work.WorkError.TheVariants as error
 use Rattle.rank_threads.specs.Answered.{AreAnswered, IsRankAnswered}
 use Rattle.rank_threads.specs.Asking.{IsRoomFor}
+use Rattle.rank_threads.specs.Ways.{Hand, HoldsAsMuch}
 use Rattle.rank_threads.specs.Serving.{AreReturned, AreShort, IsDeposited, IsReturned, IsServed, IsShort}
 
 -- a share that counts no less is as full
@@ -89,13 +90,16 @@ module _ {A B : Type 0} (R : A → B → Type 0) where
   zip_length (v ∷ xs) (w ∷ ys) all = ap (λ n. suc n) (zip_length xs ys all.1)
 
 -- the answers of one rank more
-pub answered_last : (before : World) (log : List Entry) (first : ℕ) (scripts : List (List Work)) (answers : List (List WorkAnswer)) (works : List Work) (given : List WorkAnswer)
-    → AreAnswered before log first scripts answers → IsRankAnswered before log (first + length scripts) works given
-    → AreAnswered before log first (scripts ++ works ∷ []) (answers ++ given ∷ [])
-answered_last before log first [] [] works given all last =
-    let same : first + 0 ≡ first = omega arith in (subst (λ (r : ℕ). IsRankAnswered before log r works given) same last, tt)
-answered_last before log first [] (a ∷ answers) works given all last = absurd all
-answered_last before log first (w ∷ scripts) [] works given all last = absurd all
-answered_last before log first (w ∷ scripts) (a ∷ answers) works given all last =
-    let same : first + suc (length scripts) ≡ first + 1 + length scripts = omega arith in
-    (all.0, answered_last before log (first + 1) scripts answers works given all.1 (subst (λ (r : ℕ). IsRankAnswered before log r works given) same last))
+pub answered_last : (before : World) (log : List Entry) (hands : List Hand) (scripts : List (List Work)) (answers : List (List WorkAnswer)) (after : List Hand)
+    (old : Hand) (works : List Work) (given : List WorkAnswer) (new : Hand) → AreAnswered before log hands scripts answers after
+    → IsRankAnswered before log old.way new.way works given → HoldsAsMuch old.way new.way
+    → AreAnswered before log (hands ++ old ∷ []) (scripts ++ works ∷ []) (answers ++ given ∷ []) (after ++ new ∷ [])
+answered_last before log [] [] [] [] old works given new all last held = (last, held, tt)
+answered_last before log (x ∷ hands) (w ∷ scripts) (a ∷ answers) (y ∷ after) old works given new all last held =
+    (all.0, all.1, answered_last before log hands scripts answers after old works given new all.2 last held)
+answered_last before log [] [] [] (y ∷ after) old works given new all last held = absurd all
+answered_last before log [] [] (a ∷ answers) after old works given new all last held = absurd all
+answered_last before log [] (w ∷ scripts) answers after old works given new all last held = absurd all
+answered_last before log (x ∷ hands) [] answers after old works given new all last held = absurd all
+answered_last before log (x ∷ hands) (w ∷ scripts) [] after old works given new all last held = absurd all
+answered_last before log (x ∷ hands) (w ∷ scripts) (a ∷ answers) [] old works given new all last held = absurd all

@@ -5,7 +5,7 @@ use Rattle.std.specs.List.{sum_by}
 use Rattle.heat_ledger.specs.Ledger.{ShareData, begun_of, hits_of, pending_of, weight_of}
 use Rattle.heat_ledger.specs.Rows.{at}
 use Rattle.mds_board.specs.History.{World}
-use Rattle.rank_threads.specs.Going.{WentOn}
+use Rattle.phased_board.specs.Going.{WentOn}
 use Rattle.rank_threads.specs.declared.work.Work.{Work}
 use Rattle.rank_threads.specs.declared.work.WorkAnswer.{WorkAnswer}
 use Rattle.rank_threads.specs.Serving.{AreReturned, IsReturned, begun_on, hits_on}

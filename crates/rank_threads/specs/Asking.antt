@@ -1,7 +1,7 @@
 -- Which ranks a phase has asked to serve their requests, and the room for the answers.
 use Rattle.std.specs.Global.{Global}
 use Rattle.std.specs.List.{All, AllZip}
-use Rattle.std.specs.Prelude.{◌≡◌, ◌≤◌, ℕ, ◌+◌, List, [], ◌∷◌, ◌++◌, length, Result, IsOk, Vec, vec_len, vec_capacity}
+use Rattle.std.specs.Prelude.{◌≡◌, ◌≤◌, ℕ, List, [], ◌∷◌, ◌++◌, length, Result, IsOk, Vec, vec_len, vec_capacity}
 use Rattle.board_state.specs.declared.board_error.BoardError.{BoardError}
 use Rattle.heat_ledger.specs.Ledger.{IsClean, ShareData}
 use Rattle.mds_board.specs.declared.entry.Entry.{Entry}
@@ -10,29 +10,33 @@ use Rattle.rank_threads.specs.declared.work.Work.{Work}
 use Rattle.rank_threads.specs.declared.work.WorkAnswer.{WorkAnswer}
 use Rattle.rank_threads.specs.Answered.{AreAnswered, IsDepositTold}
 use Rattle.rank_threads.specs.Serving.{AreReturned}
-use Rattle.rank_threads.specs.Tickets.{AreApart, all_tickets}
+use Rattle.rank_threads.specs.Tickets.{all_tickets}
+use Rattle.rank_threads.specs.Ways.{Hand, Way, hands_of}
+use Rattle.seen_log.specs.Numbers.{AreApart}
 
--- a rank, the share that it has, and its script
+-- what the thread of a rank has, and its script
 pub record Asking : Type 0 where
-  pub rank : ℕ
-  pub share : ShareData
+  pub hand : Hand
   pub script : List Work
 
--- the ranks of these shares and scripts, numbered from this one on, the last rank first
-abbrev pub askings : ℕ → List ShareData → List (List Work) → List Asking
-askings rank [] scripts = []
-askings rank (share ∷ shares) [] = []
-askings rank (share ∷ shares) (script ∷ scripts) =
-    askings (rank + 1) shares scripts ++ record { rank = rank; share = share; script = script } ∷ []
+-- the ranks with these hands and scripts, the last rank first
+abbrev pub askings : List Hand → List (List Work) → List Asking
+askings [] scripts = []
+askings (hand ∷ hands) [] = []
+askings (hand ∷ hands) (script ∷ scripts) =
+    askings hands scripts ++ record { hand = hand; script = script } ∷ []
 
 -- room for the answers to a script
 abbrev pub IsRoomFor : Vec Work Global → Vec WorkAnswer Global → Type 0
 IsRoomFor script room = (room.items ≡ []) × (length script.items ≤ vec_capacity room)
 
--- A share for each script, room for its answers, and room for all ranks that are asked.
-pub record AreLaid (scripts : List (Vec Work Global)) (shares : Vec ShareData Global)
+-- At most 64 scripts. For each a share, one of `many` ways, and room for its answers; and room for all ranks that are
+-- asked.
+pub record AreLaid (scripts : List (Vec Work Global)) (shares : Vec ShareData Global) (many : ℕ)
     (rooms : Vec (Vec WorkAnswer Global) Global) (asked : Vec Asking Global) : Type 0 where
+  pub few : length scripts ≤ 64
   pub equal : vec_len shares ≡ length scripts
+  pub ways : many ≡ length scripts
   pub as_many : vec_len rooms ≡ length scripts
   pub roomy : AllZip IsRoomFor scripts rooms.items
   pub none : asked.items ≡ []
@@ -40,11 +44,11 @@ pub record AreLaid (scripts : List (Vec Work Global)) (shares : Vec ShareData Gl
 
 -- All ranks have answered, in a phase that began with this board and has come to this log. Their shares have deposited
 -- their hits, or a deposit was refused so.
-pub record AreServed (limit : ℕ) (before : World) (log : List Entry) (shares : List ShareData)
-    (scripts : List (List Work)) (answers : List (List WorkAnswer)) (after : List ShareData)
+pub record AreServed (limit : ℕ) (before : World) (log : List Entry) (shares : List ShareData) (ways : List Way)
+    (scripts : List (List Work)) (answers : List (List WorkAnswer)) (after : List ShareData) (later : List Way)
     (deposited : Result Unit BoardError) : Type 0 where
   pub returned : AreReturned limit shares scripts answers after
-  pub answered : AreAnswered before log 0 scripts answers
+  pub answered : AreAnswered before log (hands_of shares ways) scripts answers (hands_of after later)
   pub apart : AreApart (all_tickets answers)
   pub clean : IsOk deposited → All (λ s. IsClean s) after
   pub told : IsDepositTold before log deposited

@@ -1,7 +1,7 @@
 pub mod Answered
 pub mod Asking
-pub mod Going
 pub mod Refused
 pub mod Serving
 pub mod Tickets
 pub mod Totals
+pub mod Ways

@@ -1,18 +1,20 @@
 //! The requests of all ranks, by a thread a rank.
-ghost use Rattle.std.specs.Prelude.{◌≡◌, ◌<◌, ◌≤◌, ◌+◌, [], ◌∷◌, ◌++◌, IfErr, IfOk, IsOk, List};
+ghost use Rattle.std.specs.Prelude.{◌≡◌, ◌<◌, ◌≤◌, ◌+◌, [], ◌∷◌, ◌++◌, IfErr, IfOk, IsOk, List, false};
 ghost use Rattle.std.specs.Prelude.{OnErr, length, map, vec_capacity, vec_len};
 ghost use Rattle.std.specs.List.{All, AllZip};
 ghost use Rattle.heat_ledger.specs.Ledger.{IsClean, ShareData};
 ghost use Rattle.rank_threads.specs.declared.work.Work.{Work as TheWork};
-ghost use Rattle.rank_threads.specs.Answered.{IsDepositTold, IsEndTold};
-ghost use Rattle.rank_threads.specs.Asking.{AreServed, AreLaid, IsRoomFor, askings};
-ghost use Rattle.rank_threads.specs.Going.{WentOn};
+ghost use Rattle.rank_threads.specs.Answered.{IsDepositTold};
+ghost use Rattle.phased_board.specs.Begun.{IsEndTold};
+ghost use Rattle.rank_threads.specs.Asking.{AreLaid, AreServed, IsRoomFor, askings};
+ghost use Rattle.phased_board.specs.Going.{WentOn, WentOnBy};
 ghost use Rattle.rank_threads.specs.Serving.{IsDeposited};
+ghost use Rattle.rank_threads.specs.Ways.{At, Way, hands_of, own_ranks};
+ghost use Rattle.seen_log.specs.Numbers.{AreApart};
 ghost use mathlib.Core.List.{IsPrefix};
 
-use crate::board_cell::{BoardCell, Phase};
-use crate::desk::{Asked, Desk, Done, Serving};
-use crate::ending::first_refusal;
+use crate::desk::{AskedRank, Desk, Done, Serving};
+use crate::route::{OwnRank, Route};
 use crate::work::{Work, WorkAnswer};
 use authority_map::Publisher;
 use board_state::BoardError;
@@ -21,10 +23,11 @@ use heat_ledger::Share;
 use mds_board::{Board, Entry};
 use mds_types::Rank;
 use naming::Naming;
-use seen_log::{NewLog, Sight};
+use phased_board::{Known, Phase, Phased, first_refusal};
+use seen_log::{NewLog, NewNumbers};
 use std::alloc::{AllocError, AllocFailed, Global};
 use std::marker::{Brand, Send, Sync};
-use std::sync::Wait;
+use std::sync::{Mutex, Wait};
 use std::thread;
 use std::thread::{Scope, Threads};
 
@@ -41,96 +44,121 @@ pub struct Ranks<J: Naming> {
     pub ended: Result<(), BoardError>,
 }
 
-// What the threads leave, of the ranks so far, and what was seen of the board.
+/// What the threads of a phase leave, of the ranks so far, and what is known of the board.
 #[derive(Drop)]
-struct Joined<J: Naming, K: Phase> {
-    shares: Vec<Share<J>>,
-    answers: Vec<Vec<WorkAnswer>>,
-    deposited: Result<(), BoardError>,
-    seen: Sight<Entry, K>,
+pub struct Joined<J: Naming, W: Route, K: Phase> {
+    pub shares: Vec<Share<J>>,
+    pub ways: Vec<W>,
+    pub answers: Vec<Vec<WorkAnswer>>,
+    pub deposited: Result<(), BoardError>,
+    pub known: Known<K>,
 }
 
-// The shares, room for the answers, and room for the ranks that are asked.
+/// What a phase of requests has before its first: the share and the way of each rank, room for the answers, and room
+/// for the ranks that are asked.
 #[derive(Drop)]
-struct Laid<J: Naming, K: Phase> {
-    shares: Vec<Share<J>>,
-    rooms: Vec<Vec<WorkAnswer>>,
-    asked: Vec<Asked<J, K>>,
+pub struct Laid<J: Naming, W: Route, K: Phase> {
+    pub shares: Vec<Share<J>>,
+    pub ways: Vec<W>,
+    pub rooms: Vec<Vec<WorkAnswer>>,
+    pub asked: Vec<AskedRank<J, W, K>>,
 }
 
 // Deposits a share's hits.
 fn deposit<J: Naming, M: Publisher<J>, K: Phase, R: Wait>(
     rt: &R,
     alloc: Global,
-    cell: &BoardCell<J, M, K>,
-    seen: &mut Sight<Entry, K>,
-    of_rank: Sight<Entry, K>,
+    cell: &Mutex<Phased<J, M, K>>,
+    known: &mut Known<K>,
+    of_rank: Known<K>,
     share: &mut Share<J>,
 ) -> Result<(), BoardError>
     ensures deposited { IsDeposited share.old share.new }
     ensures clean { IsOk result → IsClean share.new }
-    ensures told { IsDepositTold K.before seen.new result }
-    ensures seen { IsPrefix seen.old seen.new × IsPrefix of_rank seen.new }
+    ensures told { IsDepositTold K.before known.new.seen result }
+    ensures seen { IsPrefix known.old.seen known.new.seen × IsPrefix of_rank.seen known.new.seen }
+    ensures tickets { known.new.tickets ≡ known.old.tickets ++ of_rank.tickets }
+    ensures apart { AreApart known.new.tickets }
 {
-    cell.lock(rt).deposit(alloc, seen, of_rank, share)
+    cell.lock(rt).deposit(alloc, known, of_rank, share)
 }
 
 // Deposits the hits of a rank's share, and puts it after those of the ranks before.
-fn with_desk<J: Naming, M: Publisher<J>, K: Phase, R: Wait>(
+fn with_desk<J: Naming, M: Publisher<J>, W: Route, K: Phase, R: Wait>(
     rt: &R,
     alloc: Global,
-    cell: &BoardCell<J, M, K>,
-    ranks: Joined<J, K>,
-    done: Done<J, K>,
-) -> Joined<J, K>
+    cell: &Mutex<Phased<J, M, K>>,
+    ranks: Joined<J, W, K>,
+    done: Done<J, W, K>,
+) -> Joined<J, W, K>
     requires shares { vec_len ranks.shares < vec_capacity ranks.shares }
+    requires ways { vec_len ranks.ways < vec_capacity ranks.ways }
     requires answers { vec_len ranks.answers < vec_capacity ranks.answers }
     ensures last { (last : ShareData) × IsDeposited done.share last × (IsOk result.deposited → IsClean last)
         × (result.shares.items ≡ ranks.shares.items ++ last ∷ []) }
+    ensures way { result.ways.items ≡ ranks.ways.items ++ done.way ∷ [] }
     ensures given { result.answers.items ≡ ranks.answers.items ++ done.answers ∷ [] }
     ensures deposited { IsOk result.deposited → IsOk ranks.deposited }
-    ensures told { IsDepositTold K.before ranks.seen ranks.deposited → IsDepositTold K.before result.seen
+    ensures told { IsDepositTold K.before ranks.known.seen ranks.deposited → IsDepositTold K.before result.known.seen
         result.deposited }
-    ensures seen { IsPrefix ranks.seen result.seen × IsPrefix done.seen result.seen }
+    ensures seen { IsPrefix ranks.known.seen result.known.seen × IsPrefix done.known.seen result.known.seen }
+    ensures tickets { result.known.tickets ≡ ranks.known.tickets ++ done.known.tickets }
+    ensures apart { AreApart result.known.tickets }
     ensures shares { vec_capacity result.shares ≡ vec_capacity ranks.shares }
+    ensures ways { vec_capacity result.ways ≡ vec_capacity ranks.ways }
     ensures answers { vec_capacity result.answers ≡ vec_capacity ranks.answers }
 {
     let Joined {
         mut shares,
+        mut ways,
         mut answers,
         deposited,
-        mut seen,
+        mut known,
     } = ranks;
     let Done {
         mut share,
+        way,
         answers: given,
-        seen: of_rank,
+        known: of_rank,
     } = done;
-    let last = deposit(rt, alloc, cell, &mut seen, of_rank, &mut share);
+    let last = deposit(rt, alloc, cell, &mut known, of_rank, &mut share);
     shares.push_reserved(share);
+    ways.push_reserved(way);
     answers.push_reserved(given);
     Joined {
         shares,
+        ways,
         answers,
         deposited: first_refusal(deposited, last),
-        seen,
+        known,
     }
 }
 
-// Takes the share of the last rank, and the room for its answers.
-fn last_desk<J: Naming>(shares: &mut Vec<Share<J>>, rooms: &mut Vec<Vec<WorkAnswer>>) -> Desk<J>
+// Takes the share and the way of the last rank, and the room for its answers.
+fn last_desk<J: Naming, W: Route>(
+    shares: &mut Vec<Share<J>>,
+    ways: &mut Vec<W>,
+    rooms: &mut Vec<Vec<WorkAnswer>>,
+) -> Desk<J, W>
     requires some { 0 < vec_len shares.old }
+    requires as_many { vec_len ways.old ≡ vec_len shares.old }
     requires equal { vec_len rooms.old ≡ vec_len shares.old }
     ensures share { shares.old.items ≡ shares.new.items ++ result.share ∷ [] }
+    ensures way { ways.old.items ≡ ways.new.items ++ result.way ∷ [] }
     ensures room { rooms.old.items ≡ rooms.new.items ++ result.answers ∷ [] }
-    ensures fewer { (vec_len shares.new + 1 ≡ vec_len shares.old) × (vec_len rooms.new + 1 ≡ vec_len rooms.old) }
-    ensures same { (vec_capacity shares.new ≡ vec_capacity shares.old)
+    ensures fewer { (vec_len shares.new + 1 ≡ vec_len shares.old) × (vec_len ways.new + 1 ≡ vec_len ways.old)
+        × (vec_len rooms.new + 1 ≡ vec_len rooms.old) }
+    ensures same { (vec_capacity shares.new ≡ vec_capacity shares.old) × (vec_capacity ways.new ≡ vec_capacity ways.old)
         × (vec_capacity rooms.new ≡ vec_capacity rooms.old) }
 {
-    let (Some(share), Some(answers)) = (shares.pop(), rooms.pop()) else {
+    let (Some(share), Some(way), Some(answers)) = (shares.pop(), ways.pop(), rooms.pop()) else {
         unreachable!()
     };
-    Desk { share, answers }
+    Desk {
+        share,
+        way,
+        answers,
+    }
 }
 
 impl<
@@ -141,22 +169,23 @@ impl<
     G: Gate + Sync,
 > Serving<'_, J, M, K, R, G> {
     // Asks all ranks to serve their requests, the last rank first.
-    fn ask_all<'s, E>(
+    fn ask_all<'s, W: Route + Send + 's, E>(
         &'s self,
         scope: &Scope<'s, E>,
         scripts: &'s [Vec<Work>],
-        laid: Laid<J, K>,
-    ) -> Laid<J, K>
-        requires few { length scripts.now ≤ 64 }
-        requires laid { AreLaid scripts.now laid.shares laid.rooms laid.asked }
-        ensures asked { result.asked.items ≡ askings 0 laid.shares.items (map (λ s. s.items) scripts.now) }
-        ensures empty { (result.shares.items ≡ []) × (result.rooms.items ≡ []) }
+        laid: Laid<J, W, K>,
+    ) -> Laid<J, W, K>
+        requires laid { AreLaid scripts.now laid.shares (vec_len laid.ways) laid.rooms laid.asked }
+        ensures asked { result.asked.items ≡ askings (hands_of laid.shares.items (map W.way laid.ways.items))
+            (map (λ s. s.items) scripts.now) }
+        ensures empty { (result.shares.items ≡ []) × (result.ways.items ≡ []) × (result.rooms.items ≡ []) }
         ensures count { vec_len result.asked ≡ length scripts.now }
         ensures room { (length scripts.now ≤ vec_capacity result.shares)
-            × (length scripts.now ≤ vec_capacity result.rooms) }
+            × (length scripts.now ≤ vec_capacity result.ways) × (length scripts.now ≤ vec_capacity result.rooms) }
     {
         let Laid {
             mut shares,
+            mut ways,
             mut rooms,
             mut asked,
         } = laid;
@@ -165,25 +194,35 @@ impl<
             let Some(rank) = Rank::new(before.len() as u8) else {
                 unreachable!()
             };
-            let desk = last_desk(&mut shares, &mut rooms);
+            let desk = last_desk(&mut shares, &mut ways, &mut rooms);
             asked.push_reserved(self.ask(scope, rank, script, desk));
             left = before;
         }
         Laid {
             shares,
+            ways,
             rooms,
             asked,
         }
     }
 
     // Waits for each rank, from rank 0 on, and deposits its share's hits.
-    fn join_all(&self, asked: Vec<Asked<J, K>>, ranks: Joined<J, K>) -> Joined<J, K>
-        requires none { (ranks.shares.items ≡ []) × (ranks.answers.items ≡ []) }
+    fn join_all<W: Route>(
+        &self,
+        asked: Vec<AskedRank<J, W, K>>,
+        ranks: Joined<J, W, K>,
+    ) -> Joined<J, W, K>
+        requires none { (ranks.shares.items ≡ []) × (ranks.ways.items ≡ []) × (ranks.answers.items ≡ []) }
+        requires given { ranks.known.tickets ≡ [] }
         requires deposited { IsOk ranks.deposited }
-        requires room { (vec_len asked ≤ vec_capacity ranks.shares) × (vec_len asked ≤ vec_capacity ranks.answers) }
-        ensures joined { (shares : List ShareData) (scripts : List (List TheWork)) → length shares ≡ length scripts
-            → asked.items ≡ askings 0 shares scripts → AreServed J.limit K.before result.seen shares scripts
-            (map (λ a. a.items) result.answers.items) result.shares.items result.deposited }
+        requires room { (vec_len asked ≤ vec_capacity ranks.shares) × (vec_len asked ≤ vec_capacity ranks.ways)
+            × (vec_len asked ≤ vec_capacity ranks.answers) }
+        ensures joined { (shares : List ShareData) (ways : List Way) (scripts : List (List TheWork))
+            → length shares ≡ length scripts → length ways ≡ length scripts
+            → asked.items ≡ askings (hands_of shares ways) scripts
+            → AreServed J.limit K.before result.known.seen shares ways scripts
+            (map (λ a. a.items) result.answers.items) result.shares.items (map W.way result.ways.items)
+            result.deposited }
     {
         let mut asked = asked;
         let mut ranks = ranks;
@@ -194,63 +233,76 @@ impl<
         ranks
     }
 
-    // Serves the requests of all ranks, and then deposits each share's hits, in rank order.
-    fn serve_all<'s, E>(
+    // Serves the requests of all ranks, while this thread does something else, and then deposits each share's hits, in
+    // rank order.
+    fn serve_all<'s, W: Route + Send + 's, F: FnOnce(), E>(
         &'s self,
         scope: &Scope<'s, E>,
         scripts: &'s [Vec<Work>],
-        laid: Laid<J, K>,
-    ) -> Joined<J, K>
-        requires few { length scripts.now ≤ 64 }
-        requires laid { AreLaid scripts.now laid.shares laid.rooms laid.asked }
-        ensures { AreServed J.limit K.before result.seen laid.shares.items (map (λ s. s.items) scripts.now)
-            (map (λ a. a.items) result.answers.items) result.shares.items result.deposited }
+        laid: Laid<J, W, K>,
+        meanwhile: F,
+    ) -> Joined<J, W, K>
+        requires laid { AreLaid scripts.now laid.shares (vec_len laid.ways) laid.rooms laid.asked }
+        requires meanwhile { F.IsAlwaysCallable meanwhile }
+        ensures { AreServed J.limit K.before result.known.seen laid.shares.items (map W.way laid.ways.items)
+            (map (λ s. s.items) scripts.now) (map (λ a. a.items) result.answers.items) result.shares.items
+            (map W.way result.ways.items) result.deposited }
     {
         let Laid {
             shares,
+            ways,
             rooms,
             asked,
         } = self.ask_all(scope, scripts, laid);
+        meanwhile();
         let ranks = Joined {
             shares,
+            ways,
             answers: rooms,
             deposited: Ok(()),
-            seen: self.cell.lock(self.rt).seen(),
+            known: self.cell.lock(self.rt).look(),
         };
         self.join_all(asked, ranks)
     }
 }
 
-// Serves the requests of all ranks, each rank's by a thread of its own, and deposits each share's hits.
-fn serve_ranks<
+/// Serves the requests of all ranks, each rank's by a thread of its own, while this thread does something else, and
+/// deposits each share's hits.
+pub fn serve_ranks<
     'a,
     J: Naming + Send + Sync,
     M: Publisher<J> + Send,
+    W: Route + Send,
     K: Phase + Send + Sync,
     R: Threads + Wait + Sync,
     G: Gate + Sync,
+    F: FnOnce(),
 >(
     rt: &'a R,
     alloc: Global,
-    cell: &'a BoardCell<J, M, K>,
+    cell: &'a Mutex<Phased<J, M, K>>,
     gate: &'a G,
     scripts: &'a [Vec<Work>],
-    laid: Laid<J, K>,
-) -> Joined<J, K>
-    requires few { length scripts.now ≤ 64 }
-    requires laid { AreLaid scripts.now laid.shares laid.rooms laid.asked }
-    ensures { AreServed J.limit K.before result.seen laid.shares.items (map (λ s. s.items) scripts.now)
-        (map (λ a. a.items) result.answers.items) result.shares.items result.deposited }
+    laid: Laid<J, W, K>,
+    meanwhile: F,
+) -> Joined<J, W, K>
+    requires laid { AreLaid scripts.now laid.shares (vec_len laid.ways) laid.rooms laid.asked }
+    requires meanwhile { F.IsAlwaysCallable meanwhile }
+    ensures { AreServed J.limit K.before result.known.seen laid.shares.items (map W.way laid.ways.items)
+        (map (λ s. s.items) scripts.now) (map (λ a. a.items) result.answers.items) result.shares.items
+        (map W.way result.ways.items) result.deposited }
 {
     let serving = Serving::new(rt, alloc, cell, gate);
     thread::scope(
         thread::scope_env(),
         rt,
-        |scope| -> Joined<J, K>
-            requires { (length scripts.now ≤ 64) × AreLaid scripts.now laid.shares laid.rooms laid.asked }
-            ensures { AreServed J.limit K.before result.seen laid.shares.items (map (λ s. s.items) scripts.entry.now)
-                (map (λ a. a.items) result.answers.items) result.shares.items result.deposited }
-        { serving.serve_all(scope, scripts, laid) },
+        |scope| -> Joined<J, W, K>
+            requires { AreLaid scripts.now laid.shares (vec_len laid.ways) laid.rooms laid.asked
+                × F.IsAlwaysCallable meanwhile }
+            ensures { AreServed J.limit K.before result.known.seen laid.shares.items (map W.way laid.ways.items)
+                (map (λ s. s.items) scripts.entry.now) (map (λ a. a.items) result.answers.items) result.shares.items
+                (map W.way result.ways.items) result.deposited }
+        { serving.serve_all(scope, scripts, laid, meanwhile) },
     )
 }
 
@@ -265,28 +317,73 @@ fn rooms_for(alloc: Global, scripts: &[Vec<Work>]) -> Result<Vec<Vec<WorkAnswer>
     Ok(rooms)
 }
 
-// Gives each share room for answers and ranks. Where memory is refused, it returns the shares.
-fn lay<J: Naming, K: Phase>(
+/// Gives each share room for answers and ranks. Where memory is refused, it returns shares and ways.
+pub fn lay<J: Naming, W: Route, K: Phase>(
     alloc: Global,
     scripts: &[Vec<Work>],
     shares: Vec<Share<J>>,
-) -> Result<Laid<J, K>, AllocFailed<Vec<Share<J>>>>
+    ways: Vec<W>,
+) -> Result<Laid<J, W, K>, AllocFailed<(Vec<Share<J>>, Vec<W>)>>
+    requires few { length scripts.now ≤ 64 }
     requires equal { vec_len shares ≡ length scripts.now }
-    ensures laid { IfOk result (λ laid. AreLaid scripts.now laid.shares laid.rooms laid.asked
-        × (laid.shares.items ≡ shares.items)) }
-    ensures memory { IfErr result (λ e. e.value.items ≡ shares.items) }
+    requires ways { vec_len ways ≡ length scripts.now }
+    ensures laid { IfOk result (λ laid. AreLaid scripts.now laid.shares (vec_len laid.ways) laid.rooms laid.asked
+        × (laid.shares.items ≡ shares.items) × (laid.ways.items ≡ ways.items)) }
+    ensures memory { IfErr result (λ e. e.value ≡ (shares, ways)) }
 {
     let Ok(rooms) = rooms_for(alloc, scripts) else {
-        return Err(AllocFailed { value: shares });
+        return Err(AllocFailed {
+            value: (shares, ways),
+        });
     };
     let Ok(asked) = Vec::with_capacity(alloc, scripts.len()) else {
-        return Err(AllocFailed { value: shares });
+        return Err(AllocFailed {
+            value: (shares, ways),
+        });
     };
     Ok(Laid {
         shares,
+        ways,
         rooms,
         asked,
     })
+}
+
+/// Ends the requests of a phase that still run when its threads have joined. The history had `first` entries when the
+/// phase began. It returns what was under the lock, the ranks, and the way of each.
+pub fn close<J: Naming, M: Publisher<J>, W: Route, K: Phase>(
+    alloc: Global,
+    phased: Phased<J, M, K>,
+    first: usize,
+    joined: Joined<J, W, K>,
+) -> (Phased<J, M, K>, Ranks<J>, Vec<W>)
+    requires first { first ≡ length K.before.history }
+    ensures went { WentOnBy K.exports K.before result.0 }
+    ensures served { (shares : List ShareData) (ways : List Way) (scripts : List (List TheWork))
+        → AreServed J.limit K.before joined.known.seen shares ways scripts (map (λ a. a.items) joined.answers.items)
+        joined.shares.items (map W.way joined.ways.items) joined.deposited → AreServed J.limit K.before result.0.history
+        shares ways scripts (map (λ a. a.items) result.1.answers.items) result.1.shares.items
+        (map W.way result.2.items) result.1.deposited }
+    ensures ended { IsEndTold K.before result.0 result.1.ended }
+{
+    let Joined {
+        shares,
+        ways,
+        answers,
+        deposited,
+        known,
+    } = joined;
+    let mut phased = phased;
+    let ended = phased.end_all(alloc, first);
+    phased.compare(known);
+    phased.promises();
+    let ranks = Ranks {
+        shares,
+        answers,
+        deposited,
+        ended,
+    };
+    (phased, ranks, ways)
 }
 
 // Serves the requests of all ranks over a board that `K` names.
@@ -300,45 +397,58 @@ fn serve_named<
     rt: &R,
     alloc: Global,
     board: Board<J, M>,
-    log: NewLog<Entry>,
+    names: (NewLog<Entry>, NewNumbers),
     gate: &G,
     scripts: &[Vec<Work>],
     shares: Vec<Share<J>>,
+    ways: Vec<OwnRank>,
 ) -> (Board<J, M>, Result<Ranks<J>, AllocFailed<Vec<Share<J>>>>)
     requires board { board ≡ K.before }
-    requires log { log ≡ K.log }
+    requires orders { K.orders ≡ [] }
+    requires exports { K.exports ≡ false }
+    requires log { names.0 ≡ K.log }
+    requires tickets { names.1 ≡ K.numbers }
     requires few { length scripts.now ≤ 64 }
     requires equal { vec_len shares ≡ length scripts.now }
+    requires ways { map (λ own. At own.rank) ways.items ≡ own_ranks 0 (length scripts.now) }
     ensures board { WentOn K.before result.0 }
     ensures served { IfOk result.1 (λ ranks. AreServed J.limit K.before result.0.history shares.items
-        (map (λ s. s.items) scripts.now) (map (λ a. a.items) ranks.answers.items) ranks.shares.items
-        ranks.deposited) }
+        (own_ranks 0 (length scripts.now)) (map (λ s. s.items) scripts.now) (map (λ a. a.items) ranks.answers.items)
+        ranks.shares.items (own_ranks 0 (length scripts.now)) ranks.deposited) }
     ensures ended { IfOk result.1 (λ ranks. IsEndTold K.before result.0 ranks.ended) }
     ensures memory { IfErr result.1 (λ e. e.value.items ≡ shares.items) }
     ensures unchanged { OnErr result.1 (result.0 ≡ board) }
 {
-    let laid = match lay::<J, K>(alloc, scripts, shares) {
+    let laid = match lay::<J, OwnRank, K>(alloc, scripts, shares, ways) {
         Ok(laid) => laid,
-        Err(refused) => return (board, Err(refused)),
+        Err(refused) => {
+            let (shares, _ways) = refused.value;
+            return (board, Err(AllocFailed { value: shares }));
+        }
     };
     let first = board.history().len();
-    let cell = BoardCell::<J, M, K>::new(board, log);
-    let Joined {
-        shares,
-        answers,
-        deposited,
-        seen,
-    } = serve_ranks(rt, alloc, &cell, gate, scripts, laid);
-    let mut phased = cell.into_phased();
-    let ended = phased.end_all(alloc, first);
-    phased.compare(seen);
-    let ranks = Ranks {
-        shares,
-        answers,
-        deposited,
-        ended,
-    };
-    (phased.into_board(), Ok(ranks))
+    let (log, tickets) = names;
+    let phased = Phased::<J, M, K>::new(board, Vec::new(alloc), false, log, tickets);
+    let cell = Mutex::new(phased);
+    let joined = serve_ranks(rt, alloc, &cell, gate, scripts, laid, || {});
+    let (phased, ranks, _ways) = close(alloc, cell.into_inner(), first, joined);
+    let (board, _standings) = phased.into_parts();
+    (board, Ok(ranks))
+}
+
+// Each rank's own, for so many ranks.
+fn own_ways(alloc: Global, ranks: usize) -> Result<Vec<OwnRank>, AllocError>
+    requires few { ranks ≤ 64 }
+    ensures { IfOk result (λ ways. map (λ own. At own.rank) ways.items ≡ own_ranks 0 ranks) }
+{
+    let mut ways = Vec::with_capacity(alloc, ranks)?;
+    for number in 0..ranks {
+        let Some(rank) = Rank::new(number as u8) else {
+            unreachable!()
+        };
+        ways.push(OwnRank { rank })?;
+    }
+    Ok(ways)
 }
 
 /// Serves the requests of each rank in order, by a thread a rank, and deposits the hits of their shares. `scripts[k]`
@@ -364,14 +474,26 @@ pub fn serve_phase<
     requires equal { vec_len shares ≡ length scripts.now }
     ensures board { WentOn board result.0 }
     ensures served { IfOk result.1 (λ ranks. AreServed J.limit board result.0.history shares.items
-        (map (λ s. s.items) scripts.now) (map (λ a. a.items) ranks.answers.items) ranks.shares.items
-        ranks.deposited) }
+        (own_ranks 0 (length scripts.now)) (map (λ s. s.items) scripts.now) (map (λ a. a.items) ranks.answers.items)
+        ranks.shares.items (own_ranks 0 (length scripts.now)) ranks.deposited) }
     ensures ended { IfOk result.1 (λ ranks. IsEndTold board result.0 ranks.ended) }
     ensures memory { IfErr result.1 (λ e. e.value.items ≡ shares.items) }
     ensures unchanged { OnErr result.1 (result.0 ≡ board) }
 {
-    let Ok(log) = NewLog::new(alloc) else {
+    let Ok(ways) = own_ways(alloc, scripts.len()) else {
         return (board, Err(AllocFailed { value: shares }));
     };
-    serve_named::<J, M, Brand, R, G>(rt, alloc, board, log, gate, scripts, shares)
+    let (Ok(log), Ok(tickets)) = (NewLog::new(alloc), NewNumbers::new(alloc)) else {
+        return (board, Err(AllocFailed { value: shares }));
+    };
+    serve_named::<J, M, Brand, R, G>(
+        rt,
+        alloc,
+        board,
+        (log, tickets),
+        gate,
+        scripts,
+        shares,
+        ways,
+    )
 }

@@ -1,22 +1,23 @@
 //! The requests of one rank are served in order.
-ghost use Rattle.std.specs.Prelude.{◌≡◌, ◌<◌, ◌≤◌, [], ◌∷◌, IsNone, IsSome, Some, false, length, true, vec_capacity};
+ghost use Rattle.std.specs.Prelude.{◌≡◌, ◌<◌, ◌≤◌, [], ◌∷◌, ◌++◌, IsNone, IsSome, Some};
+ghost use Rattle.std.specs.Prelude.{false, length, true, vec_capacity};
 ghost use Rattle.std.specs.Option.{option_map};
-ghost use Rattle.rank_threads.specs.Answered.{IsAnswered, IsRankAnswered};
-ghost use Rattle.rank_threads.specs.Tickets.{AreApart, IsGivenBetween, tickets_of};
-ghost use Rattle.std.specs.Prelude.{IfSome};
+ghost use Rattle.rank_threads.specs.Answered.{IsAnswered, IsRankServed};
+ghost use Rattle.rank_threads.specs.Serving.{Counted, Fits, IsShort, after_hits, no_thread};
+ghost use Rattle.rank_threads.specs.Tickets.{ticket_named};
+ghost use Rattle.rank_threads.specs.Ways.{HoldsAsMuch};
 ghost use mathlib.Core.List.{IsPrefix};
-ghost use Rattle.rank_threads.specs.Serving.{Counted, Fits, IsServed, IsShort, after_hits, no_thread};
 
-use crate::board_cell::{BoardCell, Phase};
+use crate::desk::{Done, Serving};
+use crate::route::Route;
 use crate::work::{Work, WorkAnswer, WorkError};
 use authority_map::Publisher;
 use export_rounds::Gate;
 use heat_ledger::{HitError, Share};
-use mds_board::Entry;
 use mds_types::{Dir, Rank};
 use naming::Naming;
-use seen_log::Sight;
-use std::alloc::Global;
+use phased_board::Phase;
+use std::marker::{Send, Sync};
 use std::sync::Wait;
 
 // Counts the hits on a directory for which there is room, and says how many these are and why not all.
@@ -40,41 +41,6 @@ fn count<J: Naming>(share: &mut Share<J>, dir: Dir, hits: u32) -> (u32, Option<H
     }
 }
 
-// Serves a request. The lock is held only for each event.
-fn serve_one<J: Naming, M: Publisher<J>, K: Phase, R: Wait, G: Gate>(
-    rt: &R,
-    alloc: Global,
-    cell: &BoardCell<J, M, K>,
-    gate: &G,
-    seen: &mut Sight<Entry, K>,
-    share: &mut Share<J>,
-    rank: Rank,
-    number: usize,
-    work: Work,
-) -> WorkAnswer
-    ensures fits { Fits work result }
-    ensures counted { Counted J.limit share.old (work ∷ []) (result ∷ []) share.new }
-    ensures short { IsShort J.limit share.new work.dir result.refused }
-    ensures answered { IsAnswered K.before seen.new rank work result }
-    ensures given { IfSome result.ticket (λ ticket. IsGivenBetween K.before seen.old ticket seen.new) }
-    ensures seen { IsPrefix seen.old seen.new }
-{
-    let _rows = share.limit();
-    let begun = cell.lock(rt).begin(seen, share, rank, work.dir);
-    gate.before(rank, number as u64);
-    let answer = match begun {
-        Ok(ticket) => {
-            let (hits, refused) = count(share, work.dir, work.hits);
-            // where this is refused, it is tried once more when all threads have joined
-            let _end = cell.lock(rt).end(alloc, ticket);
-            counted(ticket, hits, refused)
-        }
-        Err(error) => WorkAnswer::refused(WorkError::Board(error)),
-    };
-    gate.after(rank, number as u64);
-    answer
-}
-
 // The answer to a request that began.
 fn counted(ticket: u32, hits: u32, refused: Option<HitError>) -> WorkAnswer
     ensures ticket { result.ticket ≡ Some ticket }
@@ -92,57 +58,96 @@ fn counted(ticket: u32, hits: u32, refused: Option<HitError>) -> WorkAnswer
     }
 }
 
-// Serves a request, or refuses it where the rank has no thread.
-fn answer_to<J: Naming, M: Publisher<J>, K: Phase, R: Wait, G: Gate>(
-    rt: &R,
-    alloc: Global,
-    cell: &BoardCell<J, M, K>,
-    gate: &G,
-    has_thread: bool,
-    seen: &mut Sight<Entry, K>,
-    share: &mut Share<J>,
-    rank: Rank,
-    number: usize,
-    work: Work,
-) -> WorkAnswer
-    ensures fits { Fits work result }
-    ensures counted { Counted J.limit share.old (work ∷ []) (result ∷ []) share.new }
-    ensures short { IsShort J.limit share.new work.dir result.refused }
-    ensures answered { has_thread ≡ true → IsAnswered K.before seen.new rank work result }
-    ensures refused { has_thread ≡ false → result ≡ no_thread }
-    ensures given { IfSome result.ticket (λ ticket. IsGivenBetween K.before seen.old ticket seen.new) }
-    ensures seen { IsPrefix seen.old seen.new }
-{
-    if has_thread {
-        serve_one(rt, alloc, cell, gate, seen, share, rank, number, work)
-    } else {
-        WorkAnswer::no_thread()
+impl<
+    J: Naming + Send + Sync,
+    M: Publisher<J> + Send,
+    K: Phase + Send + Sync,
+    R: Wait + Sync,
+    G: Gate + Sync,
+> Serving<'_, J, M, K, R, G> {
+    // Serves a request. The lock is held only for each event.
+    fn serve_one<W: Route>(
+        &self,
+        rank: Rank,
+        number: usize,
+        work: Work,
+        done: &mut Done<J, W, K>,
+    ) -> WorkAnswer
+        ensures fits { Fits work result }
+        ensures counted { Counted J.limit done.old.share (work ∷ []) (result ∷ []) done.new.share }
+        ensures short { IsShort J.limit done.new.share work.dir result.refused }
+        ensures answered { IsAnswered K.before done.new.known.seen (W.way done.old.way) (W.way done.new.way) work
+            result }
+        ensures given { done.new.known.tickets ≡ done.old.known.tickets ++ ticket_named result.ticket }
+        ensures seen { IsPrefix done.old.known.seen done.new.known.seen }
+        ensures held { HoldsAsMuch (W.way done.old.way) (W.way done.new.way) }
+        ensures answers { done.new.answers ≡ done.old.answers }
+    {
+        let _rows = done.share.limit();
+        let asked = done.way.rank_for(work.dir);
+        let begun = self
+            .cell
+            .lock(self.rt)
+            .begin(&mut done.known, &mut done.share, asked, work.dir);
+        self.gate.before(rank, number as u64);
+        let answer = match begun {
+            Ok(ticket) => {
+                let (hits, refused) = count(&mut done.share, work.dir, work.hits);
+                // where this is refused, it is tried once more when all threads have joined
+                let _end = self.cell.lock(self.rt).end(self.alloc, ticket);
+                counted(ticket, hits, refused)
+            }
+            Err(error) => WorkAnswer::refused(WorkError::Board(error)),
+        };
+        self.gate.after(rank, number as u64);
+        answer
     }
-}
 
-/// Serves the requests of a rank in order, or refuses them where it has no thread. There is room for their answers.
-pub(crate) fn serve_script<J: Naming, M: Publisher<J>, K: Phase, R: Wait, G: Gate>(
-    rt: &R,
-    alloc: Global,
-    cell: &BoardCell<J, M, K>,
-    gate: &G,
-    has_thread: bool,
-    rank: Rank,
-    script: &[Work],
-    seen: &mut Sight<Entry, K>,
-    share: &mut Share<J>,
-    answers: &mut Vec<WorkAnswer>,
-)
-    requires empty { answers.old.items ≡ [] }
-    requires room { length script.now ≤ vec_capacity answers.old }
-    ensures served { IsServed J.limit share.old script.now answers.new.items share.new }
-    ensures answered { IsRankAnswered K.before seen.new rank script.now answers.new.items }
-    ensures apart { AreApart (tickets_of answers.new.items) }
-{
-    for (number, work) in script.iter().enumerate() {
-        let answer = answer_to(
-            rt, alloc, cell, gate, has_thread, seen, share, rank, number, *work,
-        );
-        answers.push_reserved(answer);
+    // Serves a request, or refuses it where the rank has no thread.
+    fn answer_to<W: Route>(
+        &self,
+        has_thread: bool,
+        rank: Rank,
+        number: usize,
+        work: Work,
+        done: &mut Done<J, W, K>,
+    ) -> WorkAnswer
+        ensures fits { Fits work result }
+        ensures counted { Counted J.limit done.old.share (work ∷ []) (result ∷ []) done.new.share }
+        ensures short { IsShort J.limit done.new.share work.dir result.refused }
+        ensures answered { has_thread ≡ true → IsAnswered K.before done.new.known.seen (W.way done.old.way)
+            (W.way done.new.way) work result }
+        ensures refused { has_thread ≡ false → result ≡ no_thread }
+        ensures given { done.new.known.tickets ≡ done.old.known.tickets ++ ticket_named result.ticket }
+        ensures seen { IsPrefix done.old.known.seen done.new.known.seen }
+        ensures held { HoldsAsMuch (W.way done.old.way) (W.way done.new.way) }
+        ensures answers { done.new.answers ≡ done.old.answers }
+    {
+        if has_thread {
+            self.serve_one(rank, number, work, done)
+        } else {
+            WorkAnswer::no_thread()
+        }
+    }
+
+    /// Serves the requests of a rank in order, or refuses them where it has no thread. There is room for their answers.
+    pub(crate) fn serve_script<W: Route>(
+        &self,
+        has_thread: bool,
+        rank: Rank,
+        script: &[Work],
+        done: &mut Done<J, W, K>,
+    )
+        requires empty { done.old.answers.items ≡ [] }
+        requires room { length script.now ≤ vec_capacity done.old.answers }
+        requires none { done.old.known.tickets ≡ [] }
+        ensures { IsRankServed J.limit K.before done.new.known.seen
+            (record { share = done.old.share; way = W.way done.old.way }) script.now done.new.answers.items
+            (record { share = done.new.share; way = W.way done.new.way }) done.new.known.tickets }
+    {
+        for (number, work) in script.iter().enumerate() {
+            let answer = self.answer_to(has_thread, rank, number, *work, done);
+            done.answers.push_reserved(answer);
+        }
     }
 }

@@ -2,11 +2,12 @@
 ghost use Rattle.std.specs.Prelude.{◌≡◌, ◌≤◌, ◌<◌, ◌+◌, ℕ, IfErr, IfOk, OnErr, length, map, vec_len};
 ghost use Rattle.heat_ledger.specs.Ledger.{begun_of, hits_of, pending_of, weight_of};
 ghost use Rattle.heat_ledger.specs.Rows.{at};
-ghost use Rattle.rank_threads.specs.Answered.{IsEndTold};
+ghost use Rattle.phased_board.specs.Begun.{IsEndTold};
 ghost use Rattle.rank_threads.specs.Asking.{AreServed};
-ghost use Rattle.rank_threads.specs.Going.{WentOn};
+ghost use Rattle.phased_board.specs.Going.{WentOn};
 ghost use Rattle.rank_threads.specs.Serving.{begun_on, hits_on};
 ghost use Rattle.rank_threads.specs.Totals.{over_ranks};
+ghost use Rattle.rank_threads.specs.Ways.{own_ranks};
 
 use crate::phase::{Ranks, serve_phase};
 use crate::work::Work;
@@ -42,8 +43,8 @@ pub fn serve_with_totals<
     requires whole { weight_of shares.items ≡ board.shares }
     ensures board { WentOn board result.0 }
     ensures served { IfOk result.1 (λ ranks. AreServed J.limit board result.0.history shares.items
-        (map (λ s. s.items) scripts.now) (map (λ a. a.items) ranks.answers.items) ranks.shares.items
-        ranks.deposited) }
+        (own_ranks 0 (length scripts.now)) (map (λ s. s.items) scripts.now) (map (λ a. a.items) ranks.answers.items)
+        ranks.shares.items (own_ranks 0 (length scripts.now)) ranks.deposited) }
     ensures whole { IfOk result.1 (λ ranks. weight_of ranks.shares.items ≡ result.0.shares) }
     ensures begun { IfOk result.1 (λ ranks. (d : ℕ) → d < J.limit → at result.0.state.begun d
         ≡ at board.state.begun d

@@ -11,11 +11,12 @@ use Rattle.board_state.specs.declared.board_error.BoardError.{BoardError}
 use Rattle.mds_board.specs.History.{World}
 use Rattle.rank_threads.specs.declared.work.Work.{Work}
 use Rattle.rank_threads.specs.declared.work.WorkAnswer.{WorkAnswer}
-use Rattle.rank_threads.specs.Answered.{IsEndTold}
+use Rattle.phased_board.specs.Begun.{IsEndTold}
 use Rattle.rank_threads.specs.Asking.{AreServed}
-use Rattle.rank_threads.specs.Going.{WentOn}
+use Rattle.phased_board.specs.Going.{WentOn}
 use Rattle.rank_threads.specs.Serving.{begun_on, hits_on}
 use Rattle.rank_threads.specs.Totals.{over_ranks}
+use Rattle.rank_threads.specs.Ways.{own_ranks}
 use Rattle.script_board.specs.declared.dealing.Seat.{Seat}
 use Rattle.script_board.specs.declared.fault.Fault.{Fault}
 use Rattle.script_board.specs.declared.load.Load.{Load}
@@ -99,8 +100,8 @@ pub record IsServed (old : BoardData) (refused : List Fault) (new : BoardData) :
   pub ended : Result Unit BoardError
   pub deposited : Result Unit BoardError
   pub dealt : IsDealt old.world (length old.shares) (waiting old) scripts seats
-  pub served : AreServed old.world.state.directories.limit old.world new.world.history old.shares scripts answers
-      new.shares deposited
+  pub served : AreServed old.world.state.directories.limit old.world new.world.history old.shares
+      (own_ranks 0 (length old.shares)) scripts answers new.shares (own_ranks 0 (length old.shares)) deposited
   pub end_told : IsEndTold old.world new.world ended
   pub went : WentOn old.world new.world
   pub begun : (d : ℕ) → d < old.world.state.directories.limit → at new.world.state.begun d

@@ -8,11 +8,14 @@ pub returns-clause-laid : goal.returns-clause-laid
 returns-clause-laid g c =
     let same = zip_length IsRoomFor c.args.scripts.now c.in-Ok.rooms.items c.in-Ok.ensures in (
       record {
+        few = c.requires.few;
         equal = c.requires.equal;
+        ways = c.requires.ways;
         as_many = grind (arith, common_steps);
         roomy = c.in-Ok.ensures;
         none = c.in-Ok-with_capacity.ensures.items;
         place = grind (arith, common_steps, c.in-Ok-with_capacity.ensures.capacity);
       },
+      refl,
       refl,
     )

@@ -7,4 +7,6 @@ use Rattle.rank_threads.proofs.desk.Serving.serve_all.Goals as goal
 pub returns : goal.returns
 returns g c =
     let same = length-map c.args.scripts.now (λ (s : Vec Work Global). s.items) in
-    c.join_all.ensures.joined c.args.laid.shares.items (map (λ (s : Vec Work Global). s.items) c.args.scripts.now) (grind (arith, common_steps, c.requires.laid.equal, same)) c.ask_all-shares.ensures.asked
+    let ways = length-map c.args.laid.ways.items g.W.Route.way in
+    c.join_all.ensures.joined c.args.laid.shares.items (map g.W.Route.way c.args.laid.ways.items) (map (λ (s : Vec Work Global). s.items) c.args.scripts.now)
+    (grind (arith, common_steps, c.requires.laid.equal, same)) (grind (arith, common_steps, c.requires.laid.ways, ways, same)) c.ask_all-shares.ensures.asked

@@ -1,9 +1,11 @@
 use Rattle.std.proofs.Common.{◌≡◌, ◌<◌, ◌≤◌, ℕ, List, Vec, Global, [], ◌++◌, length, map, refl, sym, subst, ap, arith, ◌∙◌}
+use Rattle.std.proofs.lemmas.List.{length-map}
 use Rattle.heat_ledger.specs.Ledger.{ShareData, weight_of}
 use Rattle.mds_board.specs.History.{World}
 use Rattle.rank_threads.specs.declared.work.Work.{Work}
 use Rattle.rank_threads.specs.declared.work.WorkAnswer.{WorkAnswer}
 use Rattle.rank_threads.specs.Asking.{AreServed}
+use Rattle.rank_threads.specs.Ways.{own_ranks}
 use Rattle.script_board.specs.declared.dealing.Seat.{Seat}
 use Rattle.script_board.specs.Board.{BoardData}
 use Rattle.script_board.specs.Serve.{IsDealt, IsGone, waiting}
@@ -37,18 +39,23 @@ returns-clause-done g c =
     let limit : g.J.Naming.limit ≡ old.world.state.directories.limit = sym c.limit-limit.ensures.named ∙ c.limit-limit.ensures.limit in
     let seats : List Seat = c.in-Ok.prepared.0.seats.items in
     let answers : List (List WorkAnswer) = map (λ (a : Vec WorkAnswer Global). a.items) c.in-Ok-done.ranks.answers.items in
+    let scripts : List (List Work) = map (λ (s : Vec Work Global). s.items) c.deref.result.now in
+    let dealt : IsDealt old.world (length old.shares) (waiting old) scripts seats =
+    subst (λ (l : List (Vec Work Global)). IsDealt old.world (length old.shares) (waiting old) (map (λ (s : Vec Work Global). s.items) l) seats) (sym c.deref.ensures.value)
+    (subst (λ (b : BoardData). IsDealt b.world (length b.shares) (waiting b) (map (λ (s : Vec Work Global). s.items) c.in-Ok.prepared.0.scripts.items) seats) (sym as_before) c.in-Ok.ensures.dealt) in
+    let ranks : length c.deref.result.now ≡ length old.shares = sym (length-map c.deref.result.now (λ (s : Vec Work Global). s.items)) ∙ dealt.as_many in
     subst (λ (shares : List ShareData). IsGone c.args.self c.told-shares.result.1.items (new shares)) (sym c.told-shares.ensures.shares)
     (subst (λ (b : BoardData). IsGone b c.told-shares.result.1.items (new c.in-Ok-done.ranks.shares.items)) as_before (
       record {
-        scripts = map (λ (s : Vec Work Global). s.items) c.deref.result.now;
+        scripts = scripts;
         seats = seats;
         answers = answers;
         ended = c.in-Ok-done.ranks.ended;
         deposited = c.in-Ok-done.ranks.deposited;
-        dealt = subst (λ (l : List (Vec Work Global)). IsDealt old.world (length old.shares) (waiting old) (map (λ (s : Vec Work Global). s.items) l) seats) (sym c.deref.ensures.value)
-            (subst (λ (b : BoardData). IsDealt b.world (length b.shares) (waiting b) (map (λ (s : Vec Work Global). s.items) c.in-Ok.prepared.0.scripts.items) seats) (sym as_before) c.in-Ok.ensures.dealt);
-        served = subst (λ (n : ℕ). AreServed n old.world c.serve_with_totals-board.result.0.history old.shares (map (λ (s : Vec Work Global). s.items) c.deref.result.now) answers c.in-Ok-done.ranks.shares.items c.in-Ok-done.ranks.deposited) limit
-            (rw c.in-Ok-done.is at c.serve_with_totals-board.ensures.served);
+        dealt = dealt;
+        served = subst (λ (n : ℕ). AreServed n old.world c.serve_with_totals-board.result.0.history old.shares (own_ranks 0 (length old.shares)) scripts answers c.in-Ok-done.ranks.shares.items (own_ranks 0 (length old.shares)) c.in-Ok-done.ranks.deposited) limit
+            (subst (λ (n : ℕ). AreServed g.J.Naming.limit old.world c.serve_with_totals-board.result.0.history old.shares (own_ranks 0 n) scripts answers c.in-Ok-done.ranks.shares.items (own_ranks 0 n) c.in-Ok-done.ranks.deposited) ranks
+            (rw c.in-Ok-done.is at c.serve_with_totals-board.ensures.served));
         end_told = rw c.in-Ok-done.is at c.serve_with_totals-board.ensures.ended;
         went = c.serve_with_totals-board.ensures.board;
         begun = λ d inside. (let all = rw c.in-Ok-done.is at c.serve_with_totals-board.ensures.begun in all d (subst (λ (n : ℕ). d < n) (sym limit) inside));

@@ -1,0 +1,115 @@
+-- Boards of a phase: how one goes on to another, and that a full history stays full.
+use Rattle.std.proofs.Common.{◌≡◌, ◌≤◌, ℕ, ◌+◌, Bool, true, false, List, [], ◌∷◌, ◌++◌, length, take, drop, Option, Some, None, refl, sym, ap, ◌∙◌, subst, inl, inr, arith, append_assoc, length-append}
+use Rattle.std.proofs.lemmas.Bool.Decides.{nat_tests}
+use Rattle.std.proofs.lemmas.List.{append_cancel_left}
+use Rattle.std.specs.List.{All}
+use Rattle.std.specs.Prelude.{nat_le}
+use mathlib.Core.List.{IsPrefix}
+use Rattle.export_machine.specs.declared.event.Event.TheVariants.{Made, Gone, Begin, End, Start, Deliver, Froze, Notify, Abort, Stop, Restart, Ask}
+use Rattle.export_machine.specs.declared.step_error.StepError.{StepError}
+use Rattle.export_machine.specs.Step as machine
+use Rattle.board_state.specs.declared.board_error.BoardError.{BoardError}
+use Rattle.board_state.specs.declared.board_error.BoardError.TheVariants as error
+use Rattle.board_state.specs.declared.change.Change.{Change}
+use Rattle.board_state.specs.declared.change.Change.TheVariants.{Make, Remove, Mask, Deposit, Tick, Step, Open, Adopt}
+use Rattle.board_state.specs.declared.change.Change.TheVariants as change
+use Rattle.board_state.specs.State as state
+use Rattle.board_state.specs.State.{State}
+use Rattle.board_state.specs.Steps.{IsDue}
+use Rattle.export_rounds.proofs.Going.{tail_have}
+use Rattle.mds_board.specs.declared.entry.Entry.{Entry}
+use Rattle.mds_board.specs.History.{World, IsReplay}
+use Rattle.mds_board.specs.Promises.{IsKept}
+use Rattle.export_rounds.specs.Moments.{IsMet}
+use Rattle.phased_board.proofs.GoingOn.{parts_of}
+use Rattle.phased_board.specs.Going.{WentOn, added, is_of_requests}
+
+-- How one goes on to another.
+
+drop_whole : (xs ys : List Entry) → drop (length xs) (xs ++ ys) ≡ ys
+drop_whole [] ys = refl
+drop_whole (x ∷ xs) ys = drop_whole xs ys
+
+take_whole : (xs ys : List Entry) → take (length xs) (xs ++ ys) ≡ xs
+take_whole [] ys = refl
+take_whole (x ∷ xs) ys = ap (λ (l : List Entry). x ∷ l) (take_whole xs ys)
+
+all_after : (P : Entry → Type 0) (xs ys : List Entry) → All P (xs ++ ys) → All P ys
+all_after P [] ys h = h
+all_after P (x ∷ xs) ys h = all_after P xs ys (tail_have P x (xs ++ ys) h)
+
+replay_after : (s : State) (xs ys : List Entry) (t u : State) → IsReplay s xs t → IsReplay s (xs ++ ys) u → IsReplay t ys u
+replay_after s [] ys t u h r = subst (λ (v : State). IsReplay v ys u) (sym h) r
+replay_after s (x ∷ xs) ys t u h r = replay_after (state.next s x.change) xs ys t u h.3 r.3
+
+pub goes_between : (before between last : World) → WentOn before between → WentOn before last → IsPrefix between.history last.history → WentOn between last
+goes_between before between last mid went more =
+    let is : last.history ≡ between.history ++ more.0 = sym more.1 in
+    let beyond : added between last ≡ more.0 = ap (λ (l : List Entry). drop (length between.history) l) is ∙ drop_whole between.history more.0 in
+    let whole : before.history ++ added before last ≡ before.history ++ (added before between ++ more.0) =
+    sym (parts_of false before last went) ∙ (is ∙ (ap (λ (l : List Entry). l ++ more.0) (parts_of false before between mid) ∙ append_assoc before.history (added before between) more.0)) in
+    let parts : added before last ≡ added before between ++ more.0 = append_cancel_left before.history (added before last) (added before between ++ more.0) whole in
+    record {
+      kept = ap (λ (l : List Entry). take (length between.history) l) is ∙ take_whole between.history more.0;
+      alone = rw beyond (all_after (λ (e : Entry). is_of_requests e.change ≡ true) (added before between) more.0 (subst (λ (l : List Entry). All (λ e. is_of_requests e.change ≡ true) l) parts went.alone));
+      replay = rw beyond (replay_after before.state (added before between) more.0 between.state last.state mid.replay (subst (λ (l : List Entry). IsReplay before.state l last.state) parts went.replay));
+      same_book = (went.same_book.0 ∙ sym mid.same_book.0, went.same_book.1 ∙ sym mid.same_book.1);
+      same_map = went.same_map ∙ sym mid.same_map;
+    }
+
+-- A full history.
+
+events_by : (s : State) (es : List Entry) (u : State) → IsReplay s es u → u.events ≡ s.events + length es
+events_by s [] u r = let same = ap (λ (v : State). v.events) r in omega arith
+events_by s (e ∷ es) u r = let rest = events_by (state.next s e.change) es u r.3 in omega arith
+
+of_step : (x : Option StepError) → state.of_step x ≡ Some error.HistoryFull → ⊥
+of_step None h = cc
+of_step (Some x) h = cc
+
+other_cause : (s : State) (c : Change) → is_of_requests c ≡ true → state.cause s c ≡ Some error.HistoryFull → ⊥
+other_cause s (Step (Begin r d)) is h = of_step (machine.refusal s.cluster (Begin r d)) h
+other_cause s (Step (End t)) is h = of_step (machine.refusal s.cluster (End t)) h
+other_cause s (Deposit hits) is h = cc
+other_cause s (Make parent name inodes) is h = cc
+other_cause s (Remove d) is h = cc
+other_cause s (change.Pin d value) is h = cc
+other_cause s (Mask bits) is h = cc
+other_cause s Tick is h = cc
+other_cause s Open is h = cc
+other_cause s (Adopt plan) is h = cc
+other_cause s (Step (Made parent)) is h = cc
+other_cause s (Step (Gone d)) is h = cc
+other_cause s (Step (Start from to dirs)) is h = cc
+other_cause s (Step (Deliver message)) is h = cc
+other_cause s (Step (Froze x)) is h = cc
+other_cause s (Step (Notify x)) is h = cc
+other_cause s (Step (Abort x)) is h = cc
+other_cause s (Step (Stop rank)) is h = cc
+other_cause s (Step (Restart rank)) is h = cc
+other_cause s (Step (Ask x)) is h = cc
+
+by_limit : (events : ℕ) (full : Bool) (cause : Option BoardError) → nat_le state.event_limit events ≡ full → state.or_cause (state.when full error.HistoryFull) cause ≡ Some error.HistoryFull
+    → (cause ≡ Some error.HistoryFull → ⊥) → 1048576 ≤ events
+by_limit events true cause is h other = grind (arith, nat_tests)
+by_limit events false cause is h other = absurd (other h)
+
+is_full : (s : State) (c : Change) → is_of_requests c ≡ true → IsDue s c error.HistoryFull → 1048576 ≤ s.events
+unfolding state.refusal
+is_full s c is (inl cause) = by_limit s.events (nat_le state.event_limit s.events) (state.cause s c) refl cause (other_cause s c is)
+is_full s c is (inr (none, inl memory)) = absurd (cc)
+is_full s c is (inr (none, inr best)) = let not_best = best.0 in absurd (cc)
+
+prefix_length : (xs ys : List Entry) → IsPrefix xs ys → length xs ≤ length ys
+prefix_length xs ys p = let long = ap (λ (l : List Entry). length l) p.1 in let both = length-append xs p.0 in omega arith
+
+pub full_at_last : (before last : World) (c : Change) → is_of_requests c ≡ true → WentOn before last → IsKept last → IsMet before last.history c error.HistoryFull → 1048576 ≤ length last.history
+full_at_last before last c is went kept met =
+    let full = is_full met.board.state c is met.due in
+    let all = events_by (state.start last.state.directories.limit last.state.pins.active) last.history last.state kept.replay in
+    let more = events_by before.state (added before last) last.state went.replay in
+    let long = ap (λ (l : List Entry). length l) (parts_of false before last went) ∙ length-append before.history (added before last) in
+    let some = events_by before.state met.since.entries met.board.state met.since.replay in
+    let short = ap (λ (l : List Entry). length l) met.since.history ∙ length-append before.history met.since.entries in
+    let less = prefix_length met.board.history last.history met.kept in
+    omega arith

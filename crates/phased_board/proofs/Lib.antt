@@ -1,0 +1,5 @@
+pub mod Begun
+pub mod Ended
+pub mod Full
+pub mod GoingOn
+pub mod Later

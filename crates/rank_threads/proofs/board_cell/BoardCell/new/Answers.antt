@@ -1,7 +1,0 @@
-use Rattle.std.proofs.Common.{List, refl, subst, sym}
-use mathlib.Core.List.{IsPrefix}
-use Rattle.mds_board.specs.declared.entry.Entry.{Entry}
-use Rattle.rank_threads.proofs.board_cell.BoardCell.new.Goals as goal
-
-pub note-requires : goal.note-requires
-note-requires g c = subst (λ (l : List Entry). IsPrefix l c.args.board.history) (sym c.named-log.ensures) (c.args.board.history, refl)
