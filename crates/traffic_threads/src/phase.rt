@@ -1,0 +1,204 @@
+//! A phase of requests and exports.
+ghost use Rattle.std.specs.Prelude.{◌≡◌, ◌≤◌, [], IfErr, IfOk, OnErr, count_by, length, map, true};
+ghost use Rattle.std.specs.Prelude.{vec_capacity, vec_len};
+ghost use Rattle.export_rounds.specs.Asked.{AreAsked, is_begun};
+ghost use Rattle.export_threads.specs.Carrying.{AreAll, AreTold};
+ghost use Rattle.phased_board.specs.Begun.{IsEndTold};
+ghost use Rattle.rank_threads.specs.Asking.{AreServed};
+ghost use Rattle.phased_board.specs.Going.{WentOnBy};
+ghost use Rattle.rank_threads.specs.Ways.{ByMap};
+
+use authority_map::{MapReader, Publisher};
+use export_rounds::{Gate, Unsettled};
+use export_threads::telling::tell;
+use export_threads::{OrderOutcome, Prepared, carry_out, prepare};
+use heat_ledger::Share;
+use mds_board::{Board, Entry};
+use mds_types::Order;
+use naming::Naming;
+use rank_threads::phase::{close, lay, serve_ranks};
+use rank_threads::{Phase, Phased, Ranks, Work};
+use seen_log::{NewLog, NewNumbers};
+use std::alloc::{AllocFailed, Global};
+use std::marker::{Brand, Send, Sync};
+use std::sync::{Mutex, Wait};
+use std::thread::Threads;
+
+/// What a phase leaves.
+#[derive(Drop)]
+pub struct Traffic<J: Naming> {
+    /// The shares of the ranks and the answers to their requests, in rank order.
+    pub ranks: Ranks<J>,
+    /// The reader of each rank, in rank order.
+    pub readers: Vec<MapReader<J>>,
+    /// What became of each order, in their order.
+    pub outcomes: Vec<OrderOutcome>,
+}
+
+/// What is done in a phase.
+#[derive(Clone, Copy)]
+pub struct Tasks<'a> {
+    /// The requests of each rank's thread.
+    pub scripts: &'a [Vec<Work>],
+    /// The exports.
+    pub orders: &'a [Order],
+}
+
+// What a phase begins with besides its board: the log of what happens to it, and the giver of its tickets.
+#[derive(Drop)]
+struct Names {
+    log: NewLog<Entry>,
+    tickets: NewNumbers,
+}
+
+// The phase over a board that `K` names.
+fn traffic_named<
+    J: Naming + Send + Sync,
+    M: Publisher<J> + Send,
+    K: Phase + Send + Sync,
+    R: Threads + Wait + Sync,
+    G: Gate + Sync,
+    H: Gate + Sync,
+>(
+    rt: &R,
+    alloc: Global,
+    board: Board<J, M>,
+    names: Names,
+    prepared: Prepared,
+    gate: &G,
+    rounds: &H,
+    scripts: &[Vec<Work>],
+    orders: &[Order],
+    shares: Vec<Share<J>>,
+    readers: Vec<MapReader<J>>,
+) -> (
+    Board<J, M>,
+    Result<Traffic<J>, AllocFailed<(Vec<Share<J>>, Vec<MapReader<J>>)>>,
+)
+    requires board { board ≡ K.before }
+    requires orders { orders.now ≡ K.orders }
+    requires exports { K.exports ≡ true }
+    requires log { names.log ≡ K.log }
+    requires tickets { names.tickets ≡ K.numbers }
+    requires asked { AreAsked board board orders.now prepared.standings.items }
+    requires none { count_by is_begun prepared.standings.items ≡ 0 }
+    requires room { (prepared.outcomes.items ≡ []) × (length orders.now ≤ vec_capacity prepared.outcomes) }
+    requires few { length scripts.now ≤ 64 }
+    requires equal { vec_len shares ≡ length scripts.now }
+    requires readers { vec_len readers ≡ length scripts.now }
+    ensures board { WentOnBy true board result.0 }
+    ensures served { IfOk result.1 (λ t. AreServed J.limit board result.0.history shares.items (map ByMap readers.items)
+        (map (λ s. s.items) scripts.now) (map (λ a. a.items) t.ranks.answers.items) t.ranks.shares.items
+        (map ByMap t.readers.items) t.ranks.deposited) }
+    ensures ended { IfOk result.1 (λ t. IsEndTold board result.0 t.ranks.ended) }
+    ensures outcomes { IfOk result.1 (λ t. AreTold board result.0 orders.now t.outcomes.items) }
+    ensures all { IfOk result.1 (λ t. AreAll board result.0 t.outcomes.items) }
+    ensures memory { IfErr result.1 (λ e. (e.value.0.items ≡ shares.items) × (e.value.1.items ≡ readers.items)) }
+    ensures unchanged { OnErr result.1 (result.0 ≡ board) }
+{
+    let laid = match lay::<J, MapReader<J>, K>(alloc, scripts, shares, readers) {
+        Ok(laid) => laid,
+        Err(refused) => return (board, Err(refused)),
+    };
+    let Names { log, tickets } = names;
+    let Prepared {
+        mut outcomes,
+        standings,
+        ranks: places,
+    } = prepared;
+    let first = board.history().len();
+    let cell = Mutex::new(Phased::<J, M, K>::new(board, standings, true, log, tickets));
+    let joined = serve_ranks(
+        rt,
+        alloc,
+        &cell,
+        gate,
+        scripts,
+        laid,
+        || carry_out(rt, alloc, &cell, rounds, orders, places),
+    );
+    let (phased, ranks, readers) = close(alloc, cell.into_inner(), first, joined);
+    let (board, standings) = phased.into_parts();
+    tell(board.cluster(), &standings, &mut outcomes);
+    (
+        board,
+        Ok(Traffic {
+            ranks,
+            readers,
+            outcomes,
+        }),
+    )
+}
+
+/// Serves the requests of each rank in order and carries out orders in eight rounds, both at once, each rank's requests
+/// by one thread and its exports by another. `scripts[k]`, `shares[k]` and `readers[k]` are those of rank k's thread of
+/// requests. It asks each request at the rank that its reader finds at that moment, and at rank 0 where it finds none.
+///
+/// `gate` is called around each request, and `rounds` around each turn of a rank in a round, as `serve_phase` and
+/// `export_phase` do. Hits are deposited, and what isn't logged is aborted, as these do.
+///
+/// All memory is asked for before the first event; where it is refused, board, shares and readers come back as they
+/// were. `unsettled` is what the board's earlier phases left.
+pub fn traffic_phase<
+    J: Naming + Send + Sync,
+    M: Publisher<J> + Send,
+    R: Threads + Wait + Sync,
+    G: Gate + Sync,
+    H: Gate + Sync,
+>(
+    rt: &R,
+    alloc: Global,
+    board: Board<J, M>,
+    shares: Vec<Share<J>>,
+    readers: Vec<MapReader<J>>,
+    tasks: Tasks<'_>,
+    gate: &G,
+    rounds: &H,
+    unsettled: &mut Unsettled,
+) -> (
+    Board<J, M>,
+    Result<Traffic<J>, AllocFailed<(Vec<Share<J>>, Vec<MapReader<J>>)>>,
+)
+    requires few { length tasks.scripts.now ≤ 64 }
+    requires equal { vec_len shares ≡ length tasks.scripts.now }
+    requires readers { vec_len readers ≡ length tasks.scripts.now }
+    ensures board { WentOnBy true board result.0 }
+    ensures served { IfOk result.1 (λ t. AreServed J.limit board result.0.history shares.items (map ByMap readers.items)
+        (map (λ s. s.items) tasks.entry.scripts.now) (map (λ a. a.items) t.ranks.answers.items) t.ranks.shares.items
+        (map ByMap t.readers.items) t.ranks.deposited) }
+    ensures ended { IfOk result.1 (λ t. IsEndTold board result.0 t.ranks.ended) }
+    ensures outcomes { IfOk result.1 (λ t. AreTold board result.0 tasks.entry.orders.now t.outcomes.items) }
+    ensures all { IfOk result.1 (λ t. AreAll board result.0 t.outcomes.items) }
+    ensures memory { IfErr result.1 (λ e. (e.value.0.items ≡ shares.items) × (e.value.1.items ≡ readers.items)) }
+    ensures unchanged { OnErr result.1 (result.0 ≡ board) }
+{
+    let (Ok(log), Ok(tickets)) = (NewLog::new(alloc), NewNumbers::new(alloc)) else {
+        return (
+            board,
+            Err(AllocFailed {
+                value: (shares, readers),
+            }),
+        );
+    };
+    let Ok(prepared) = prepare(alloc, &board, tasks.orders, unsettled) else {
+        return (
+            board,
+            Err(AllocFailed {
+                value: (shares, readers),
+            }),
+        );
+    };
+    traffic_named::<J, M, Brand, R, G, H>(
+        rt,
+        alloc,
+        board,
+        Names { log, tickets },
+        prepared,
+        gate,
+        rounds,
+        tasks.scripts,
+        tasks.orders,
+        shares,
+        readers,
+    )
+}
