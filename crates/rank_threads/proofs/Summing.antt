@@ -1,11 +1,11 @@
 -- The shares of all ranks together count what the answers name.
-use Rattle.std.proofs.Common.{◌≡◌, ℕ, ◌+◌, ◌<◌, List, [], ◌∷◌, refl, sym, ap, ◌∙◌, arith}
+use Rattle.std.proofs.Common.{◌≡◌, Bool, ℕ, ◌+◌, ◌<◌, List, [], ◌∷◌, refl, sym, ap, ◌∙◌, arith}
 use Rattle.std.proofs.lemmas.List.Sums.{sum_by-append}
 use Rattle.std.specs.List.{sum_by}
 use Rattle.heat_ledger.specs.Ledger.{ShareData, begun_of, hits_of, pending_of, weight_of}
 use Rattle.heat_ledger.specs.Rows.{at}
 use Rattle.mds_board.specs.History.{World}
-use Rattle.phased_board.specs.Going.{WentOn}
+use Rattle.phased_board.specs.Going.{WentOnBy}
 use Rattle.rank_threads.specs.declared.work.Work.{Work}
 use Rattle.rank_threads.specs.declared.work.WorkAnswer.{WorkAnswer}
 use Rattle.rank_threads.specs.Serving.{AreReturned, IsReturned, begun_on, hits_on}
@@ -46,9 +46,9 @@ same_weight limit (s ∷ olds) (w ∷ scripts) (a ∷ answers) [] h = absurd h
 
 -- what a phase leaves to a caller that has all shares
 
-pub whole_after : (limit : ℕ) (old new : World) (olds : List ShareData) (scripts : List (List Work)) (answers : List (List WorkAnswer)) (news : List ShareData) → WentOn old new
+pub whole_after : (exports : Bool) (limit : ℕ) (old new : World) (olds : List ShareData) (scripts : List (List Work)) (answers : List (List WorkAnswer)) (news : List ShareData) → WentOnBy exports old new
     → AreReturned limit olds scripts answers news → weight_of olds ≡ old.shares → weight_of news ≡ new.shares
-whole_after limit old new olds scripts answers news went h whole = same_weight limit olds scripts answers news h ∙ (whole ∙ sym went.same_book.1)
+whole_after exports limit old new olds scripts answers news went h whole = same_weight limit olds scripts answers news h ∙ (whole ∙ sym went.same_book.1)
 
 pub begun_after : (limit : ℕ) (old new : World) (olds : List ShareData) (scripts : List (List Work)) (answers : List (List WorkAnswer)) (news : List ShareData) → AreReturned limit olds scripts answers news
     → ((d : ℕ) → at old.state.begun d ≡ begun_of olds d) → ((d : ℕ) → at new.state.begun d ≡ begun_of news d)

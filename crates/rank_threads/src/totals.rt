@@ -70,8 +70,8 @@ pub fn serve_with_totals<
     }
 }
 
-// What the board counts is what the shares count.
-fn audited<J: Naming, M: Publisher<J>>(
+/// What the board counts is what the shares of all ranks count, for a caller that has them all.
+pub fn audited<J: Naming, M: Publisher<J>>(
     board: Board<J, M>,
     ranks: Ranks<J>,
 ) -> (Board<J, M>, Ranks<J>)

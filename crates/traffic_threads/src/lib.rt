@@ -6,7 +6,9 @@
 #![tactic(auto)]
 
 pub mod phase;
+pub mod totals;
 
 pub use export_threads::OrderOutcome;
-pub use phase::{Traffic, traffic_phase};
+pub use phase::{Tasks, Traffic, traffic_phase};
 pub use rank_threads::{Gate, OpenGate, Ranks, Work, WorkAnswer};
+pub use totals::traffic_with_totals;

@@ -1,4 +1,4 @@
-use Rattle.std.proofs.Common.{◌∙◌, ap, sym}
+use Rattle.std.proofs.Common.{◌∙◌, ap, false, sym}
 use Rattle.heat_ledger.specs.Ledger.{weight_of}
 use Rattle.mds_board.specs.History.{World}
 use Rattle.rank_threads.proofs.Summing.{begun_after, hits_after, whole_after}
@@ -8,7 +8,7 @@ pub audited-board-requires : goal.audited-board-requires
 audited-board-requires g c =
     let same = c.audit.ensures.same in
     let returned = (rw c.in-Ok.is at c.serve_phase-board.ensures.served).returned in
-    record { whole = whole_after g.J.Naming.limit c.audit.new.self c.serve_phase-board.result.0 c.audit.new.shares.items _ _ c.in-Ok.ranks.shares.items c.serve_phase-board.ensures.board returned (ap weight_of same.1 ∙ (c.requires.whole ∙ sym (ap (λ (w : World). w.shares) same.0))) }
+    record { whole = whole_after false g.J.Naming.limit c.audit.new.self c.serve_phase-board.result.0 c.audit.new.shares.items _ _ c.in-Ok.ranks.shares.items c.serve_phase-board.ensures.board returned (ap weight_of same.1 ∙ (c.requires.whole ∙ sym (ap (λ (w : World). w.shares) same.0))) }
 
 pub returns-in-Ok-clause-served : goal.returns-in-Ok-clause-served
 returns-in-Ok-clause-served g c =
@@ -21,7 +21,7 @@ returns-in-Ok-clause-whole g c =
     let same = c.audit.ensures.same in
     let returned = (rw c.in-Ok.is at c.serve_phase-board.ensures.served).returned in
     rw (c.audited-board.ensures.board, c.audited-board.ensures.shares)
-    (whole_after g.J.Naming.limit c.audit.new.self c.serve_phase-board.result.0 c.audit.new.shares.items _ _ c.in-Ok.ranks.shares.items c.serve_phase-board.ensures.board returned (ap weight_of same.1 ∙ (c.requires.whole ∙ sym (ap (λ (w : World). w.shares) same.0))))
+    (whole_after false g.J.Naming.limit c.audit.new.self c.serve_phase-board.result.0 c.audit.new.shares.items _ _ c.in-Ok.ranks.shares.items c.serve_phase-board.ensures.board returned (ap weight_of same.1 ∙ (c.requires.whole ∙ sym (ap (λ (w : World). w.shares) same.0))))
 
 pub returns-in-Ok-clause-begun : goal.returns-in-Ok-clause-begun
 returns-in-Ok-clause-begun g c =
