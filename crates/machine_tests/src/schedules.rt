@@ -2,12 +2,12 @@
 
 use crate::found::{Found, Schedule, roots, run_schedules};
 use crate::same::{Sure, holds_in, same};
-use crate::starts::prepare_and_run;
-use crate::steps::{Do, Row, TO_THE_LOG, after, cluster_of, event, rank, run_rows};
+use crate::starts::{Room, prepare_and_run};
+use crate::steps::{Do, Row, TO_THE_LOG, after, cluster_of, event, rank, run_rows, written};
 use crate::told::{Told, same_as_told};
 use export_machine::{Cluster, Event, ExporterState, ImporterState, Reply, StepError};
 use mds_types::Dir;
-use std::alloc::Global;
+use std::alloc::{AllocError, Global};
 use std::process::Abort;
 
 const SCHEDULES: &[Schedule] = &[
@@ -224,16 +224,16 @@ fn aborts_before_the_log_entry_only(rt: HostRuntime) {
 }
 
 /// The events that lead to the log entry.
-fn events(rt: &impl Abort, alloc: Global) -> Vec<Event> {
+fn events(alloc: Global) -> Result<Vec<Event>, AllocError> {
     let mut events = Vec::new(alloc);
     for (step, _) in TO_THE_LOG {
-        events.push(event(alloc, *step).sure(rt)).sure(rt);
+        events.push(event(alloc, *step)?)?;
     }
-    events
+    Ok(events)
 }
 
 /// Runs the list after the events that are done, as far as there is memory. Returns how many events are done. Where
-/// no memory is left for the answers, no more are.
+/// no memory is left for the answers nothing has changed.
 fn run_on(
     rt: &impl Abort,
     alloc: Global,
@@ -241,7 +241,9 @@ fn run_on(
     events: &[Event],
     done: usize,
 ) -> usize {
+    let before = written(cluster);
     let Ok(answers) = cluster.run(alloc, events.get(done..).unwrap_or(&[])) else {
+        holds_in(rt, written(cluster) == before, &"no answers");
         return done;
     };
     let mut at = done;
@@ -256,9 +258,12 @@ fn run_on(
 }
 
 #[test]
-fn runs_a_list_of_events(rt: HostRuntime) {
+fn a_refused_growth_of_a_list_is_made_up_for(rt: HostRuntime) {
     let mut cluster = cluster_of(rt.alloc(), 16).sure(&rt);
-    let events = events(&rt, rt.alloc());
+    let events = match events(rt.alloc()) {
+        Ok(events) => events,
+        Err(AllocError) => events(rt.alloc()).sure(&rt),
+    };
     let done = run_on(&rt, rt.alloc(), &mut cluster, &events, 0);
     let done = run_on(&rt, rt.alloc(), &mut cluster, &events, done);
     same(&rt, &done, &9);
@@ -370,5 +375,13 @@ fn a_refused_growth_changes_nothing(rt: HostRuntime) {
 /// The same events, each prepared first.
 #[test]
 fn a_refused_growth_leaves_what_is_prepared(rt: HostRuntime) {
-    prepare_and_run(&rt, rt.alloc(), FURTHER, &[Found::Authority(3, 1)])
+    let found = &[Found::Authority(3, 1)];
+    prepare_and_run(&rt, rt.alloc(), Room::Prepared, FURTHER, found)
+}
+
+/// The same events, each with room that is reserved first.
+#[test]
+fn a_refused_growth_leaves_what_is_reserved(rt: HostRuntime) {
+    let found = &[Found::Authority(3, 1)];
+    prepare_and_run(&rt, rt.alloc(), Room::Reserved, FURTHER, found)
 }

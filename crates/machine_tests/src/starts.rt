@@ -10,7 +10,7 @@ use crate::steps::{Do, Row, TO_THE_LOG, answer, cluster_of, event, written};
 use crate::told::{Told, same_as_told, same_refusal};
 use export_machine::{Cluster, Event, Reply, StepError};
 use mds_types::Dir;
-use std::alloc::Global;
+use std::alloc::{AllocError, Global};
 use std::process::Abort;
 
 /// A cluster in which directory d has the children 2d + 1 and 2d + 2, up to 14.
@@ -23,15 +23,40 @@ fn with_two_children_each(rt: &impl Abort, alloc: Global) -> Cluster {
     cluster
 }
 
-/// Prepares an event. Where a growth is refused nothing has changed, and it is prepared again.
-fn prepared(cluster: &mut Cluster, event: &Event) -> Result<(), StepError>
+/// By which call an event gets its room.
+#[derive(Clone, Copy)]
+pub(crate) enum Room {
+    Prepared,
+    Reserved,
+}
+
+/// Refuses an event, or takes the memory that it needs.
+fn take_room(cluster: &mut Cluster, room: Room, event: &Event) -> Result<(), StepError>
+    ensures accepted { OnOk result (refusal cluster.old.world (event.now) ≡ None) }
+    ensures room { OnOk result (is_ready cluster.new (event.now) ≡ true) }
+    ensures world { cluster.new.world ≡ cluster.old.world }
+{
+    match room {
+        Room::Prepared => cluster.prepare(event),
+        Room::Reserved => {
+            cluster.can_apply(event)?;
+            match cluster.reserve(event) {
+                Ok(()) => Ok(()),
+                Err(AllocError) => Err(StepError::Memory),
+            }
+        }
+    }
+}
+
+/// An event with its room. Where a growth is refused nothing has changed, and it is asked for again.
+fn prepared(cluster: &mut Cluster, room: Room, event: &Event) -> Result<(), StepError>
     ensures accepted { OnOk result (refusal cluster.old.world (event.now) ≡ None) }
     ensures room { OnOk result (is_ready cluster.new (event.now) ≡ true) }
     ensures world { cluster.new.world ≡ cluster.old.world }
 {
     let before = written(cluster);
-    match cluster.prepare(event) {
-        Err(StepError::Memory) if written(cluster) == before => cluster.prepare(event),
+    match take_room(cluster, room, event) {
+        Err(StepError::Memory) if written(cluster) == before => take_room(cluster, room, event),
         answer => answer,
     }
 }
@@ -70,7 +95,14 @@ fn starts_as_told(
 ) {
     let start = event(alloc, Do::Start(0, 1, dirs)).sure(rt);
     same_refusal(rt, alloc, cluster.can_apply(&start).err(), told, &dirs);
-    same_refusal(rt, alloc, prepared(cluster, &start).err(), told, &dirs);
+    let room = Room::Prepared;
+    same_refusal(
+        rt,
+        alloc,
+        prepared(cluster, room, &start).err(),
+        told,
+        &dirs,
+    );
     same_refusal(rt, alloc, cluster.apply(start).err(), told, &dirs);
 }
 
@@ -83,25 +115,31 @@ fn can_apply_names_the_refusal_of_a_start(rt: HostRuntime) {
 }
 
 /// An event that is prepared, and then happens.
-fn happened(cluster: &mut Cluster, event: Event) -> Result<Reply, StepError> {
-    match prepared(cluster, &event) {
+fn happened(cluster: &mut Cluster, room: Room, event: Event) -> Result<Reply, StepError> {
+    match prepared(cluster, room, &event) {
         Ok(()) => Ok(cluster.happen(event)),
         Err(error) => Err(error),
     }
 }
 
-fn run_prepared(rt: &impl Abort, alloc: Global, cluster: &mut Cluster, rows: &[Row]) {
+fn run_prepared(rt: &impl Abort, alloc: Global, cluster: &mut Cluster, room: Room, rows: &[Row]) {
     for (at, (step, told)) in rows.iter().enumerate() {
         let next = event(alloc, *step).sure(rt);
-        same_as_told(rt, alloc, &happened(cluster, next), *told, &at);
+        same_as_told(rt, alloc, &happened(cluster, room, next), *told, &at);
     }
 }
 
 /// Takes the steps to the log entry, and then these, each of which is prepared first.
-pub(crate) fn prepare_and_run(rt: &impl Abort, alloc: Global, rows: &[Row], all: &[Found]) {
+pub(crate) fn prepare_and_run(
+    rt: &impl Abort,
+    alloc: Global,
+    room: Room,
+    rows: &[Row],
+    all: &[Found],
+) {
     let mut cluster = cluster_of(alloc, 16).sure(rt);
-    run_prepared(rt, alloc, &mut cluster, TO_THE_LOG);
-    run_prepared(rt, alloc, &mut cluster, rows);
+    run_prepared(rt, alloc, &mut cluster, room, TO_THE_LOG);
+    run_prepared(rt, alloc, &mut cluster, room, rows);
     all_found(rt, alloc, &cluster, "prepared", all);
 }
 
@@ -109,14 +147,15 @@ const TOO_LATE: &[Row] = &[(Do::Abort(0), Told::Refused("23 Late logged"))];
 
 #[test]
 fn prepared_events_happen(rt: HostRuntime) {
-    prepare_and_run(&rt, rt.alloc(), TOO_LATE, &[Found::Authority(1, 1)])
+    let found = &[Found::Authority(1, 1)];
+    prepare_and_run(&rt, rt.alloc(), Room::Prepared, TOO_LATE, found)
 }
 
 #[test]
 fn refused_events_leave_room(rt: HostRuntime) {
     let mut cluster = with_two_children_each(&rt, rt.alloc());
     let make = event(rt.alloc(), Do::Make(3)).sure(&rt);
-    prepared(&mut cluster, &make).sure(&rt);
+    prepared(&mut cluster, Room::Prepared, &make).sure(&rt);
     let refused = event(rt.alloc(), Do::Start(0, 1, &[14, 9])).sure(&rt);
     same(&rt, &cluster.apply(refused), &Err(StepError::NotConnected));
     same(&rt, &cluster.apply(make), &Ok(Reply::Dir(Dir::new(15))));
