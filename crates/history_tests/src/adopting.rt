@@ -10,7 +10,7 @@ use board_state::{Answer, BoardError};
 use export_machine::{Event, Reply};
 use heat_ledger::Share;
 use mds_board::{Board, Shown};
-use mds_types::{CutProof, Dir, DualProof, Order, Plan, Rank, RankSet};
+use mds_types::{CutProof, Dir, DualProof, Order, Plan, RankSet};
 use naming::Naming;
 use std::alloc::{AllocError, Global};
 use std::process::Abort;
@@ -18,7 +18,7 @@ use std::process::Abort;
 // Root and /a, which has 5 hits and 10 inodes, go to rank 1 together. It says that the greatest heat is this.
 pub(crate) fn plan(alloc: Global, greatest: u64) -> Result<Plan, AllocError> {
     let mut ranks = ArrayVec::new();
-    let _full = ranks.try_push(Rank::new(1).unwrap_or_default());
+    let _full = ranks.try_push(rank(1));
     Ok(Plan {
         part: vec![in alloc; 0, 0]?,
         rank: ranks,
@@ -80,7 +80,7 @@ fn adopt<J: Naming, M: Publisher<J>>(rt: &impl Abort, alloc: Global, board: &mut
     kept(rt, board, &orders);
     for order in orders {
         let Order { from, to, dirs } = order;
-        same(rt, &(from, to), &(rank(0).sure(rt), rank(1).sure(rt)));
+        same(rt, &(from, to), &(rank(0), rank(1)));
         same(rt, &dirs.as_slice(), &[Dir::new(0), Dir::new(1)].as_slice());
         let started = board.step(alloc, Event::Start(from, to, dirs));
         same(rt, &started, &Ok(Reply::Export(0, 0)));

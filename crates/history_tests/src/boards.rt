@@ -32,7 +32,7 @@ pub(crate) fn board_of<J: Naming, M: Publisher<J>>(
     }
 }
 
-/// The rank of a number.
-pub(crate) fn rank(number: u8) -> Result<Rank, &'static str> {
-    Ok(Rank::new(number).ok_or("no rank")?)
+/// The rank of a number, and rank 0 where that is none.
+pub(crate) fn rank(number: u8) -> Rank {
+    Rank::new(number).unwrap_or_default()
 }

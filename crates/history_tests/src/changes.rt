@@ -3,7 +3,7 @@ ghost use Rattle.std.specs.Prelude.{◌≤◌};
 
 use crate::boards::rank;
 use crate::cases::{Case, try_case};
-use crate::same::{Sure, same};
+use crate::same::same;
 use authority_map::{MapReader, Publisher};
 use board_state::{Answer, BoardError, Change};
 use dir_pins::PinError;
@@ -61,14 +61,14 @@ fn use_it<J: Naming, M: Publisher<J>>(
     same(rt, &board.deposit(alloc, share), &Ok(()));
     same(rt, &share.pending(a), &0);
     same(rt, &board.tick(), &Ok(()));
-    let begun = board.begin(share, rank(0).sure(rt), a);
+    let begun = board.begin(share, rank(0), a);
     same(rt, &begun, &Ok(Reply::Ticket(0)));
     same(rt, &share.begun(a), &1);
-    let elsewhere = board.begin(share, rank(1).sure(rt), a);
+    let elsewhere = board.begin(share, rank(1), a);
     same(
         rt,
         &elsewhere,
-        &Err(BoardError::Step(StepError::Elsewhere(rank(0).sure(rt)))),
+        &Err(BoardError::Step(StepError::Elsewhere(rank(0)))),
     );
     same(
         rt,

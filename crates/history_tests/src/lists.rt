@@ -4,6 +4,7 @@ ghost use Rattle.board_state.specs.Steps.{is_inner};
 ghost use Rattle.heat_ledger.specs.Ledger.{IsClean};
 ghost use Rattle.mds_board.specs.Commands.{is_fit};
 
+use crate::boards::rank;
 use crate::cases::{Case, answers_in, try_case};
 use crate::said::{Reading, said};
 use crate::same::{Sure, holds_in, same};
@@ -54,10 +55,6 @@ fn make(alloc: Global, parent: u32, name: &str) -> Result<BoardCommand, AllocErr
     Ok(BoardCommand::Make(Dir::new(parent), Name::new(alloc, name)?, 10))
 }
 
-fn rank() -> Rank {
-    Rank::new(1).unwrap_or_default()
-}
-
 /// Commands of the tree and the settings, accepted and refused.
 fn settings(alloc: Global) -> Result<Vec<BoardCommand>, AllocError>
     ensures { IfOk result (λ commands. All (λ c. is_fit c ≡ true) commands.items) }
@@ -77,9 +74,9 @@ fn commands(alloc: Global) -> Result<Vec<BoardCommand>, AllocError>
     ensures { IfOk result (λ commands. All (λ c. is_fit c ≡ true) commands.items) }
 {
     let list = settings(alloc)?;
-    let list = with(list, BoardCommand::Step(Event::Stop(rank())))?;
-    let list = with(list, BoardCommand::Step(Event::Stop(rank())))?;
-    let list = with(list, BoardCommand::Step(Event::Restart(rank())))?;
+    let list = with(list, BoardCommand::Step(Event::Stop(rank(1))))?;
+    let list = with(list, BoardCommand::Step(Event::Stop(rank(1))))?;
+    let list = with(list, BoardCommand::Step(Event::Restart(rank(1))))?;
     let list = with(list, BoardCommand::Balance)?;
     let list = with(list, BoardCommand::Remove(Dir::new(1)))?;
     with(list, BoardCommand::Remove(Dir::new(2)))

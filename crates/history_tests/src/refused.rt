@@ -5,18 +5,22 @@ ghost use Rattle.std.specs.Prelude.{◌≡◌, ◌≤◌, IfOk, true};
 ghost use Rattle.board_state.specs.Steps.{is_inner};
 
 use crate::adopting::plan;
+use crate::boards::rank;
 use crate::cases::{Case, try_case};
+use crate::lists::Planner;
 use crate::said::said;
 use crate::same::{Sure, holds_in, same, same_in};
 use authority_map::{MapReader, Publisher};
 use board_state::BoardError;
 use export_machine::Event;
 use heat_ledger::Share;
-use mds_board::Board;
-use mds_types::{Dir, Dirs, Plan, Rank, RankSet};
+use mds_board::{Board, BoardCommand};
+use mds_types::{Dir, Dirs, Plan, RankSet};
 use naming::Naming;
 use std::alloc::{AllocError, Global};
+use std::marker::Sync;
 use std::process::Abort;
+use std::thread::Threads;
 
 /// What is done to a board, by the numbers of directories, ranks, exports and messages.
 #[derive(Clone, Copy)]
@@ -31,8 +35,15 @@ enum Do {
     Begin(u8, u32),
     Open,
     Adopt,
+    Balance,
+    /// A list of one command, which is to balance.
+    Run,
     Publish,
     Step(Step),
+    /// The events of the cluster, which are this many.
+    Events(usize),
+    /// The orders of the pins, which are this many.
+    PinOrders(usize),
 }
 
 /// An event of the cluster.
@@ -50,8 +61,8 @@ enum Step {
 }
 
 /// A list in which each change is accepted: the root and /a move to rank 1 by a plan,
-/// one export is aborted, and one is asked about.
-const CHANGES: [Do; 50] = [
+/// one export is aborted, and one is asked about. Two more plans move nothing.
+const CHANGES: [Do; 55] = [
     Do::Make(0, "a"),
     Do::Hit(1),
     Do::Hit(1),
@@ -77,6 +88,8 @@ const CHANGES: [Do; 50] = [
     Do::Step(Step::Deliver(6)),
     Do::Tick,
     Do::Make(1, "b"),
+    Do::Pin(2, 0),
+    Do::PinOrders(1),
     Do::Pin(2, 1),
     Do::Begin(1, 2),
     Do::Step(Step::End(0)),
@@ -102,11 +115,10 @@ const CHANGES: [Do; 50] = [
     Do::Make(1, "c"),
     Do::Deposit,
     Do::Publish,
+    Do::Balance,
+    Do::Run,
+    Do::Events(31),
 ];
-
-fn rank(number: u8) -> Rank {
-    Rank::new(number).unwrap_or_default()
-}
 
 fn listed(alloc: Global, numbers: &[u32]) -> Result<Dirs, AllocError> {
     let mut dirs = Vec::new(alloc);
@@ -188,9 +200,24 @@ fn count<J: Naming, M: Publisher<J>>(
     }
 }
 
-/// Opens a problem, adopts the plan, publishes, or makes an event of the cluster.
-fn go_on<J: Naming, M: Publisher<J>>(
-    rt: &impl Abort,
+/// Has a board carry out a list of one command, which is to balance.
+fn run_balance<J: Naming, M: Publisher<J>, R: Threads + Sync>(
+    rt: &R,
+    alloc: Global,
+    board: &mut Board<J, M>,
+) -> Result<(), BoardError> {
+    let Ok(answers) = board.run(rt, alloc, &Planner, &[BoardCommand::Balance]) else {
+        return Err(BoardError::Memory);
+    };
+    for answer in answers {
+        done(answer)?;
+    }
+    Ok(())
+}
+
+/// Plans, by a call or by a list.
+fn plan_on<J: Naming, M: Publisher<J>, R: Abort + Threads + Sync>(
+    rt: &R,
     alloc: Global,
     board: &mut Board<J, M>,
     change: Do,
@@ -198,6 +225,36 @@ fn go_on<J: Naming, M: Publisher<J>>(
     match change {
         Do::Open => done(board.open_problem(alloc)),
         Do::Adopt => done(board.adopt(alloc, plan_at_last(alloc).sure(rt))),
+        Do::Balance => done(board.balance(rt, alloc, &Planner)),
+        _ => run_balance(rt, alloc, board),
+    }
+}
+
+/// Whether a list has this many entries, where there was memory for it.
+fn is_long<T: Drop>(
+    rt: &impl Abort,
+    list: Result<Vec<T>, AllocError>,
+    length: usize,
+) -> Result<(), BoardError> {
+    match list {
+        Ok(list) => {
+            same(rt, &list.len(), &length);
+            Ok(())
+        }
+        Err(AllocError) => Err(BoardError::Memory),
+    }
+}
+
+/// Publishes, makes an event of the cluster, or lists what takes memory.
+fn go_on<J: Naming, M: Publisher<J>>(
+    rt: &impl Abort,
+    alloc: Global,
+    board: &mut Board<J, M>,
+    change: Do,
+) -> Result<(), BoardError> {
+    match change {
+        Do::Events(length) => is_long(rt, board.cluster_events(alloc), length),
+        Do::PinOrders(length) => is_long(rt, board.pin_orders(alloc), length),
         Do::Publish => if board.publish() {
             Ok(())
         } else {
@@ -208,8 +265,8 @@ fn go_on<J: Naming, M: Publisher<J>>(
     }
 }
 
-fn change_once<J: Naming, M: Publisher<J>>(
-    rt: &impl Abort,
+fn change_once<J: Naming, M: Publisher<J>, R: Abort + Threads + Sync>(
+    rt: &R,
     alloc: Global,
     board: &mut Board<J, M>,
     share: &mut Share<J>,
@@ -217,14 +274,17 @@ fn change_once<J: Naming, M: Publisher<J>>(
 ) -> Result<(), BoardError> {
     match change {
         Do::Hit(_) | Do::Deposit | Do::Begin(_, _) => count(alloc, board, share, change),
-        Do::Open | Do::Adopt | Do::Publish | Do::Step(_) => go_on(rt, alloc, board, change),
+        Do::Open | Do::Adopt | Do::Balance | Do::Run => plan_on(rt, alloc, board, change),
+        Do::Publish | Do::Step(_) | Do::Events(_) | Do::PinOrders(_) => {
+            go_on(rt, alloc, board, change)
+        }
         _ => set(alloc, board, change),
     }
 }
 
 /// Makes a change. Where a growth is refused nothing has changed, and the next call makes it. It says whether one was.
-fn change_at_last<J: Naming, M: Publisher<J>>(
-    rt: &impl Abort,
+fn change_at_last<J: Naming, M: Publisher<J>, R: Abort + Threads + Sync>(
+    rt: &R,
     alloc: Global,
     board: &mut Board<J, M>,
     share: &mut Share<J>,
@@ -245,8 +305,8 @@ fn change_at_last<J: Naming, M: Publisher<J>>(
 }
 
 /// Makes all changes, of which one at most is refused.
-fn change_all<J: Naming, M: Publisher<J>>(
-    rt: &impl Abort,
+fn change_all<J: Naming, M: Publisher<J>, R: Abort + Threads + Sync>(
+    rt: &R,
     alloc: Global,
     board: &mut Board<J, M>,
     share: &mut Share<J>,
@@ -264,7 +324,7 @@ fn change_all<J: Naming, M: Publisher<J>>(
 /// The board is as without a refused growth.
 fn look_back<J: Naming, M: Publisher<J>>(rt: &impl Abort, board: &Board<J, M>) {
     let a = Dir::new(1);
-    same(rt, &board.history().len(), &40);
+    same(rt, &board.history().len(), &45);
     same(rt, &board.tree().numbers(), &4);
     same(rt, &(board.counted(a), board.begun(a)), &(6, 1));
     same(rt, &board.cluster().authority(a), &Some(rank(1)));
@@ -272,12 +332,12 @@ fn look_back<J: Naming, M: Publisher<J>>(rt: &impl Abort, board: &Board<J, M>) {
     same(
         rt,
         &board.plan_in_force().map(|plan| plan.greatest),
-        &Some(5),
+        &Some(2),
     );
 }
 
-pub(crate) fn on_board<J: Naming, M: Publisher<J>>(
-    rt: &impl Abort,
+pub(crate) fn on_board<J: Naming, M: Publisher<J>, R: Abort + Threads + Sync>(
+    rt: &R,
     alloc: Global,
     board: Board<J, M>,
     shares: Vec<Share<J>>,
