@@ -1,7 +1,7 @@
 /* Refuses one call of a program, for tools/refusals: loaded by LD_PRELOAD.
  *
- * KIND is what is counted: `growth` of memory (but for what making a thread takes), `read`, `write`, or `short`, a read or write
- * of which only one byte is done.
+ * KIND is what is counted: `growth` of memory (but for what making a thread takes), `read`, `write`, or a read or write of several
+ * bytes of which only some are done: one (`short`), `half`, or all but one (`all but one`).
  * REFUSED is the number of the call, from 1 (0: none). The file that COUNT names, of eight bytes, gets the number of such calls
  * so far, also where the program is killed. */
 #define _GNU_SOURCE
@@ -69,14 +69,22 @@ int posix_memalign(void **at, size_t to, size_t size) {
     return 0;
 }
 
+/* How many bytes of a read or write are done. */
+static size_t done(size_t size) {
+    if (size < 2) return size;
+    if (is_refused('s')) return 1;
+    if (is_refused('h')) return size / 2;
+    return is_refused('a') ? size - 1 : size;
+}
+
 ssize_t read(int file, void *to, size_t size) {
     if (is_refused('r')) return errno = EIO, -1;
-    return libc_read(file, to, size > 1 && is_refused('s') ? 1 : size);
+    return libc_read(file, to, done(size));
 }
 
 ssize_t write(int file, const void *from, size_t size) {
     if (is_refused('w')) return errno = EIO, -1;
-    return libc_write(file, from, size > 1 && is_refused('s') ? 1 : size);
+    return libc_write(file, from, done(size));
 }
 
 int pthread_create(pthread_t *thread, const pthread_attr_t *how, void *(*run)(void *), void *with) {
