@@ -1,3 +1,4 @@
 pub mod Cluster
 pub mod Complete
+pub mod OwnList
 pub mod Told

@@ -6,12 +6,20 @@ ghost use Rattle.ceph_dumps.specs.Cluster.{IsListed};
 
 use crate::dump_error::DumpError;
 use crate::json::read_json;
-use crate::members::{Member, Members, Named, fill, next_member, present, read_object};
+use crate::members::{
+    Member, Members, NESTED, Named, TEXT, WHOLE, begin_object, fill, present, read_object,
+};
 use crate::rank_sets::{common_ranks, set_of};
 use mds_types::limits::RANK_LIMIT;
 use mds_types::{Rank, RankSet};
 use serde::{DeserializeOwned, Deserializer, Format, Name};
 use std::alloc::Global;
+
+/// What is expected of numbers that are no less than 0.
+const UNSIGNED: &str = "expected 0 to 4294967295";
+
+/// What is expected of a list of ranks.
+const RANKS: &str = "expected a list of ranks";
 
 /// The ranks of a file system.
 #[derive(Drop)]
@@ -47,8 +55,8 @@ impl Members for DaemonMembers {
         from: &mut Deserializer<'_, '_, F>,
     ) -> Result<(), F::Error> {
         match at {
-            0 => fill(&mut self.rank, "rank", alloc, from),
-            1 => fill(&mut self.state, "state", alloc, from),
+            0 => fill(&mut self.rank, "rank", WHOLE, alloc, from),
+            1 => fill(&mut self.state, "state", TEXT, alloc, from),
             _ => from.skip(),
         }
     }
@@ -92,9 +100,9 @@ impl DeserializeOwned for ActiveRanks {
         from: &mut Deserializer<'_, '_, F>,
     ) -> Result<ActiveRanks, F::Error> {
         let mut found = Vec::new(alloc);
-        let is_list = from.begin_struct()?;
-        for before in 0..usize::MAX {
-            if next_member(is_list, before, &[], from)?.is_none() {
+        begin_object(from)?;
+        for _ in 0..usize::MAX {
+            if from.next_key(&[])?.is_none() {
                 break;
             }
             let ActiveRank(rank) = ActiveRank::deserialize_owned(alloc, from)?;
@@ -117,6 +125,8 @@ struct MdsMap {
 
 impl Named for MdsMap {
     const NAME: &'static str = "mdsmap";
+
+    const EXPECTED: &'static str = NESTED;
 }
 
 /// The members of the map of a file system's ranks.
@@ -138,10 +148,10 @@ impl Members for MapMembers {
         from: &mut Deserializer<'_, '_, F>,
     ) -> Result<(), F::Error> {
         match at {
-            0 => fill(&mut self.size, "max_mds", alloc, from),
-            1 => fill(&mut self.ranks, "in", alloc, from),
-            2 => fill(&mut self.active, "info", alloc, from),
-            3 => fill(&mut self.mask, "bal_rank_mask", alloc, from),
+            0 => fill(&mut self.size, "max_mds", UNSIGNED, alloc, from),
+            1 => fill(&mut self.ranks, "in", RANKS, alloc, from),
+            2 => fill(&mut self.active, "info", NESTED, alloc, from),
+            3 => fill(&mut self.mask, "bal_rank_mask", TEXT, alloc, from),
             _ => from.skip(),
         }
     }

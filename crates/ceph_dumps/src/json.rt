@@ -1,6 +1,7 @@
 //! Reads a dump by the type that it has.
 ghost use Rattle.std.specs.Prelude.{IfErr, IfOk};
 ghost use Rattle.ceph_dumps.specs.Told.{IsToldOf};
+ghost use Rattle.json_text.specs.WideBytes.{wide};
 
 use crate::dump_error::DumpError;
 use crate::members::Whole;
@@ -38,15 +39,16 @@ fn told(
     })
 }
 
-/// The error of the reader of a text, with the column as the file has it.
-fn placed(alloc: Global, text: &[u8], error: &serde_json::Error) -> Result<DumpError, AllocError>
-    ensures { IfOk result (IsToldOf text.now) }
+/// The error of the reader of a dump's text, with the place in the dump: no byte is moved where words are written over.
+fn placed(alloc: Global, bytes: &[u8], error: &serde_json::Error) -> Result<DumpError, AllocError>
+    ensures { IfOk result (IsToldOf (wide bytes.now)) }
 {
     if error.is_memory() {
         return Ok(DumpError::Memory);
     }
+    let text = widened(alloc, bytes)?;
     let reason = reason_of(alloc, error)?;
-    told(alloc, text, error.line(), error.column(), reason)
+    told(alloc, &text, error.line(), error.column(), reason)
 }
 
 /// The text of a dump, in UTF-8 and without bare words.
@@ -56,18 +58,13 @@ fn text_of(alloc: Global, bytes: &[u8]) -> Result<Vec<u8>, AllocError> {
     Ok(text)
 }
 
-/// What the text of a dump says. Errors give the place in the dump's own bytes.
-fn read_text<T: DeserializeOwned>(alloc: Global, text: &[u8]) -> Result<T, DumpError>
-    ensures { IfErr result (IsToldOf text.now) }
+/// What a dump says. Errors give the place in the dump's own bytes.
+pub(crate) fn read_json<T: DeserializeOwned>(alloc: Global, bytes: &[u8]) -> Result<T, DumpError>
+    ensures { IfErr result (IsToldOf (wide bytes.now)) }
 {
-    match serde_json::from_slice(alloc, text) {
-        Ok(Whole(value)) => Ok(value),
-        Err(error) => Err(placed(alloc, text, &error)?),
-    }
-}
-
-/// What a dump says.
-pub(crate) fn read_json<T: DeserializeOwned>(alloc: Global, bytes: &[u8]) -> Result<T, DumpError> {
     let text = text_of(alloc, bytes)?;
-    read_text(alloc, text.as_slice())
+    match serde_json::from_slice(alloc, text.as_slice()) {
+        Ok(Whole(value)) => Ok(value),
+        Err(error) => Err(placed(alloc, bytes, &error)?),
+    }
 }

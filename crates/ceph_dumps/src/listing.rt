@@ -4,6 +4,10 @@
 //! `\015` are a backslash, a newline and a return, and all else is raw. The root is
 //! `.`, and other names have no slash in front.
 
+ghost use Rattle.std.specs.Prelude.{◌≡◌, ◌≤◌, ◌++◌, IfSome, OnOk, length};
+ghost use Rattle.std.specs.Str.Parse.{digits_value, without_leading_plus};
+ghost use Rattle.ceph_dumps.specs.OwnList.{named_bytes, octal_byte};
+
 use crate::dump_error::DumpError;
 use std::alloc::{AllocError, Global};
 
@@ -38,13 +42,11 @@ pub struct ListedDir {
     pub value: ListedValue,
 }
 
-/// Whether a line ends at a byte.
-pub(crate) fn is_newline(byte: &u8) -> bool {
-    *byte == b'\n'
-}
-
 /// The byte that three octal digits after a backslash mean.
-fn octal(text: &[u8]) -> Option<u8> {
+fn octal(text: &[u8]) -> Option<u8>
+    ensures byte { result ≡ octal_byte text.now }
+    ensures long { IfSome result (λ _. 4 ≤ length text.now) }
+{
     match text {
         [b'\\', a @ b'0'..=b'3', b @ b'0'..=b'7', c @ b'0'..=b'7', ..] => {
             Some((*a - b'0') * 64 + (*b - b'0') * 8 + (*c - b'0'))
@@ -53,28 +55,33 @@ fn octal(text: &[u8]) -> Option<u8> {
     }
 }
 
-/// The path of a listed name.
-pub fn path_of(alloc: Global, name: &[u8]) -> Result<Vec<u8>, AllocError> {
-    let mut path = Vec::with_capacity(alloc, name.len() + 1)?;
-    if name == b".".as_slice() {
-        return Ok(path);
+/// Adds the bytes that a listed name means.
+pub(crate) fn push_name(path: &mut Vec<u8>, name: &[u8]) -> Result<(), AllocError>
+    ensures { OnOk result (path.new.items ≡ path.old.items ++ named_bytes 0 name.now) }
+{
+    let mut rest = name;
+    while !rest.is_empty() {
+        let read = octal(rest);
+        path.push(read.unwrap_or(rest[0]))?;
+        rest = &rest[if read.is_some() { 4 } else { 1 }..];
     }
-    path.push(b'/')?;
-    let mut passed = 0;
-    for at in 0..name.len() {
-        if passed > 0 {
-            passed -= 1;
-            continue;
-        }
-        let read = octal(&name[at..]);
-        path.push(read.unwrap_or(name[at]))?;
-        passed = if read.is_some() { 3 } else { 0 };
+    Ok(())
+}
+
+/// The path of a listed name.
+fn path_of(alloc: Global, name: &[u8]) -> Result<Vec<u8>, AllocError> {
+    let mut path = Vec::with_capacity(alloc, name.len() + 1)?;
+    if name != b".".as_slice() {
+        path.push(b'/')?;
+        push_name(&mut path, name)?;
     }
     Ok(path)
 }
 
 /// The number of decimal digits, at most 19 of them.
-pub(crate) fn number_of(digits: &[u8]) -> Option<u64> {
+pub(crate) fn number_of(digits: &[u8]) -> Option<u64>
+    ensures { IfSome result (λ number. number ≡ digits_value 10 (without_leading_plus digits.now)) }
+{
     if digits.is_empty() || digits.len() > 19 {
         return None;
     }
@@ -133,7 +140,7 @@ fn listed(
 /// Adds what a listing says, in its order.
 fn add_listed(alloc: Global, found: &mut Vec<ListedDir>, bytes: &[u8]) -> Result<(), DumpError> {
     let mut name = None;
-    for (at, line) in bytes.split(is_newline).enumerate() {
+    for (at, line) in bytes.split(|byte| *byte == b'\n').enumerate() {
         if let Some(here) = line.strip_prefix(b"# file: ") {
             name = Some(here);
         } else if !line.is_empty() && line != b"--".as_slice() {

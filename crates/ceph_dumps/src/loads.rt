@@ -4,7 +4,7 @@ ghost use Rattle.mds_types.specs.declared.limits.TheConstants.{HEAT_LIMIT};
 
 use crate::dump_error::DumpError;
 use crate::json::read_json;
-use crate::members::{Member, Members, Named, fill, present, read_object};
+use crate::members::{Member, Members, NESTED, Named, Objects, TEXT, fill, present, read_object};
 use json_text::narrowed;
 use mds_types::limits::HEAT_LIMIT;
 use serde::{DeserializeOwned, Deserializer, Format, Name};
@@ -15,18 +15,24 @@ use std::num::saturating_f64_to_u64;
 const WEIGHTS: [f64; 5] = [1.0, 2.0, 1.0, 2.0, 4.0];
 
 /// The counters of a fragment: reads, writes, readdirs, fetches and stores.
-type Counters = Vec<Member<f64>>;
+type Counters = Objects<Member<f64>>;
 
 impl Named for f64 {
     const NAME: &'static str = "value";
+
+    const EXPECTED: &'static str = "expected a number";
 }
 
 impl Named for Counters {
     const NAME: &'static str = "Decay Counters";
+
+    const EXPECTED: &'static str = NESTED;
 }
 
-impl Named for Vec<FragmentHeat> {
+impl Named for Objects<FragmentHeat> {
     const NAME: &'static str = "dirfrags";
+
+    const EXPECTED: &'static str = NESTED;
 }
 
 /// The members of a fragment.
@@ -46,8 +52,8 @@ impl Members for Fragment {
         from: &mut Deserializer<'_, '_, F>,
     ) -> Result<(), F::Error> {
         match at {
-            0 => fill(&mut self.path, "path", alloc, from),
-            1 => fill(&mut self.counters, "pop_me", alloc, from),
+            0 => fill(&mut self.path, "path", TEXT, alloc, from),
+            1 => fill(&mut self.counters, "pop_me", NESTED, alloc, from),
             _ => from.skip(),
         }
     }
@@ -59,7 +65,7 @@ impl Members for Fragment {
     ) -> Result<FragmentHeat, F::Error> {
         let path = present(self.path.as_deref(), "path", from)?;
         let counters = present(self.counters.as_ref(), "pop_me", from)?;
-        let heat = heat_of(counters.0.as_slice());
+        let heat = heat_of(counters.0.0.as_slice());
         match narrowed(alloc, path.as_bytes()) {
             Ok(path) => Ok(FragmentHeat { path, heat }),
             Err(_) => Err(from.no_memory()),
@@ -112,7 +118,7 @@ fn limit(fragments: &mut [FragmentHeat])
 pub fn read_loads(alloc: Global, bytes: &[u8]) -> Result<Vec<FragmentHeat>, DumpError>
     ensures { IfOk result (λ found. All (λ fragment. fragment.heat ≤ HEAT_LIMIT) found.items) }
 {
-    let Member(mut found): Member<Vec<FragmentHeat>> = read_json(alloc, bytes)?;
+    let Member(Objects(mut found)): Member<Objects<FragmentHeat>> = read_json(alloc, bytes)?;
     limit(&mut found);
     Ok(found)
 }

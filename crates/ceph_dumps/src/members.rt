@@ -1,4 +1,5 @@
 //! Objects of which few members are read.
+ghost use Rattle.std.specs.Prelude.{◌≡◌, None, Ok, Some, IfOk, IfSome, IsSome, OnOk};
 
 use serde::{Deserialize, DeserializeOwned, Deserializer, Format, Name};
 use std::alloc::Global;
@@ -24,36 +25,48 @@ pub(crate) trait Members: Drop {
     ) -> Result<Self::Whole, F::Error>;
 }
 
-/// The place of the next member, if there is one: by its name, or in a list after `before` others.
-pub(crate) fn next_member<F: Format>(
-    is_list: bool,
-    before: usize,
-    names: &[Name<'_>],
-    from: &mut Deserializer<'_, '_, F>,
-) -> Result<Option<usize>, F::Error> {
-    if !is_list {
-        return from.next_key(names);
-    }
-    if !from.next_item()? {
-        return Ok(None);
-    }
-    if before < names.len() {
-        Ok(Some(before))
-    } else {
-        Err(from.wrong_len())
+/// The reader of an object or a list says itself what was expected.
+pub(crate) const NESTED: &str = "";
+
+/// What is expected of plain values.
+pub(crate) const TEXT: &str = "expected a string";
+
+pub(crate) const WHOLE: &str = "expected a whole number";
+
+pub(crate) const TRUTH: &str = "expected true or false";
+
+/// What was read, or an error that says what was expected. An error of memory stays, and one of a text that is no JSON.
+pub(crate) fn expected<T, F: Format>(
+    read: Result<T, F::Error>,
+    what: &str,
+    from: &Deserializer<'_, '_, F>,
+) -> Result<T, F::Error>
+    ensures kept { IfOk read (λ value. result ≡ Ok value) }
+    ensures read { IfOk result (λ value. read ≡ Ok value) }
+{
+    match read {
+        Ok(value) => Ok(value),
+        Err(error) if what.is_empty() || from.is_fatal(&error) => Err(error),
+        Err(_) => Err(from.custom(what)),
     }
 }
 
-/// Reads the members of an object that have these names. A list of them, in this order, is taken too.
+/// Begins an object.
+pub(crate) fn begin_object<F: Format>(from: &mut Deserializer<'_, '_, F>) -> Result<(), F::Error> {
+    let begun = from.begin_map();
+    expected(begun, "expected an object", from)
+}
+
+/// Reads the members of an object that have these names.
 fn read_members<M: Members, F: Format>(
     members: &mut M,
     names: &[Name<'_>],
     alloc: Global,
     from: &mut Deserializer<'_, '_, F>,
 ) -> Result<(), F::Error> {
-    let is_list = from.begin_struct()?;
-    for before in 0..usize::MAX {
-        let Some(at) = next_member(is_list, before, names, from)? else {
+    begin_object(from)?;
+    for _ in 0..usize::MAX {
+        let Some(at) = from.next_key(names)? else {
             break;
         };
         members.take(at, alloc, from)?;
@@ -72,17 +85,22 @@ pub(crate) fn read_object<M: Members, F: Format>(
     members.whole(alloc, from)
 }
 
-/// Reads a member that hasn't come before.
+/// Reads a member that hasn't come before. An error says what was expected; with nothing to say it stays as it is.
 pub(crate) fn fill<T: DeserializeOwned, F: Format>(
     slot: &mut Option<T>,
     name: &str,
+    what: &str,
     alloc: Global,
     from: &mut Deserializer<'_, '_, F>,
-) -> Result<(), F::Error> {
+) -> Result<(), F::Error>
+    ensures first { OnOk result (slot.old ≡ None) }
+    ensures filled { OnOk result (IsSome slot.new) }
+{
     if slot.is_some() {
         return Err(from.duplicate(name));
     }
-    *slot = Some(T::deserialize_owned(alloc, from)?);
+    let read = T::deserialize_owned(alloc, from);
+    *slot = Some(expected(read, what, from)?);
     Ok(())
 }
 
@@ -91,10 +109,38 @@ pub(crate) fn present<T: Drop, F: Format>(
     slot: Option<T>,
     name: &str,
     from: &Deserializer<'_, '_, F>,
-) -> Result<T, F::Error> {
+) -> Result<T, F::Error>
+    ensures value { IfOk result (λ value. slot ≡ Some value) }
+    ensures there { IfSome slot (λ value. result ≡ Ok value) }
+{
     match slot {
         Some(value) => Ok(value),
         None => Err(from.missing(name)),
+    }
+}
+
+/// A list of objects.
+#[derive(Drop)]
+pub(crate) struct Objects<T>(pub(crate) Vec<T>);
+
+impl<T: DeserializeOwned> DeserializeOwned for Objects<T> {
+    fn deserialize_owned<F: Format>(
+        alloc: Global,
+        from: &mut Deserializer<'_, '_, F>,
+    ) -> Result<Objects<T>, F::Error> {
+        let begun = from.begin_seq();
+        expected(begun, "expected a list", from)?;
+        let mut items = Vec::new(alloc);
+        for _ in 0..usize::MAX {
+            if !from.next_item()? {
+                break;
+            }
+            let item = T::deserialize_owned(alloc, from)?;
+            if items.push(item).is_err() {
+                return Err(from.no_memory());
+            }
+        }
+        Ok(Objects(items))
     }
 }
 
@@ -102,6 +148,8 @@ pub(crate) fn present<T: Drop, F: Format>(
 pub(crate) trait Named {
     /// The name.
     const NAME: &'static str;
+    /// What is expected in it, as `fill` takes it.
+    const EXPECTED: &'static str;
 }
 
 /// The one member that is read of an object.
@@ -118,7 +166,7 @@ impl<T: DeserializeOwned + Named> Members for Option<T> {
         from: &mut Deserializer<'_, '_, F>,
     ) -> Result<(), F::Error> {
         if at == 0 {
-            fill(self, T::NAME, alloc, from)
+            fill(self, T::NAME, T::EXPECTED, alloc, from)
         } else {
             from.skip()
         }

@@ -1,8 +1,13 @@
 //! The list of the pins that a plan set before: a line `RANK NAME` each, with names as `getfattr` writes them.
+ghost use Rattle.std.specs.Prelude.{◌≡◌, ◌≤◌, ◌++◌, ◌∷◌, All, IfOk, IfSome, OnOk, drop, length, map, take};
+ghost use Rattle.std.specs.Prelude.{slice_index};
+ghost use Rattle.std.specs.Str.Parse.{digits_value};
+ghost use Rattle.ceph_dumps.specs.OwnList.{ArePinsOfList, IsPinLine, behind_digits, digit_count, line_pins, list_lines};
+ghost use Rattle.ceph_dumps.specs.OwnList.{named_bytes, rank_path};
 
 use crate::dump_error::DumpError;
-use crate::listing::{is_newline, number_of, path_of};
-use std::alloc::Global;
+use crate::listing::{number_of, push_name};
+use std::alloc::{AllocError, Global};
 
 /// A pin that a plan set before.
 #[derive(Drop)]
@@ -13,31 +18,79 @@ pub struct OwnPin {
     pub path: Vec<u8>,
 }
 
-/// The rank and the name, without its slash, that a line has on both sides of its first blank, if it has.
-fn words_of(line: &[u8]) -> Option<(u64, &[u8])> {
-    let space = line.iter().position(|byte| *byte == b' ')?;
-    let rank = number_of(&line[..space])?;
-    let name = line[space..].strip_prefix(b" /")?;
-    Some((rank, name))
-}
-
-/// Adds the pins of a list, in its order.
-fn add_pins(alloc: Global, found: &mut Vec<OwnPin>, bytes: &[u8]) -> Result<(), DumpError> {
-    for (at, line) in bytes.split(is_newline).enumerate() {
-        if !line.is_empty() {
-            let Some((rank, name)) = words_of(line) else {
-                return Err(DumpError::Own(at + 1));
-            };
-            let path = path_of(alloc, name)?;
-            found.push(OwnPin { rank, path })?;
+/// How many digits a line begins with.
+fn digit_count(line: &[u8]) -> usize
+    ensures inside { result ≤ length line.now }
+    ensures count { result ≡ digit_count line.now }
+{
+    for (at, byte) in line.iter().enumerate() {
+        if !byte.is_ascii_digit() {
+            return at;
         }
     }
+    line.len()
+}
+
+/// The rank and the name, without its slash, that a line has on both sides of its first blank, if it has.
+fn words_of(line: &[u8]) -> Option<(u64, &[u8])>
+    ensures rank { IfSome result (λ words. words.0 ≡ digits_value 10 (take (digit_count line.now) line.now)) }
+    ensures name { IfSome result (λ words. words.1.now ≡ drop 2 (behind_digits line.now)) }
+    ensures line { IfSome result (λ _. IsPinLine line.now) }
+{
+    let (digits, rest) = line.split_at(digit_count(line));
+    let rank = number_of(digits)?;
+    match rest {
+        [b' ', b'/', name @ ..] => Some((rank, name)),
+        _ => None,
+    }
+}
+
+/// The path of a name that lacks its slash.
+fn path_of(alloc: Global, name: &[u8]) -> Result<Vec<u8>, AllocError>
+    ensures { IfOk result (λ path. path.items ≡ 47 ∷ named_bytes 0 name.now) }
+{
+    let mut path = Vec::with_capacity(alloc, name.len() + 1)?;
+    path.push(b'/')?;
+    push_name(&mut path, name)?;
+    Ok(path)
+}
+
+/// Adds the pin of the line of this number, unless the line is empty.
+fn push_pin(
+    alloc: Global,
+    found: &mut Vec<OwnPin>,
+    line: &[u8],
+    number: usize,
+) -> Result<(), DumpError>
+    ensures pins { OnOk result (map rank_path found.new.items ≡ map rank_path found.old.items ++ line_pins line.now) }
+    ensures line { OnOk result (IsPinLine line.now) }
+{
+    if line.is_empty() {
+        return Ok(());
+    }
+    let Some((rank, name)) = words_of(line) else {
+        return Err(DumpError::Own(number));
+    };
+    let path = path_of(alloc, name)?;
+    found.push(OwnPin { rank, path })?;
     Ok(())
 }
 
+/// The lines of a list.
+fn lines_of(alloc: Global, bytes: &[u8]) -> Result<Vec<&[u8]>, AllocError>
+    ensures { IfOk result (λ lines. map (λ line. line.now) lines.items ≡ list_lines bytes.now) }
+{
+    bytes.split(|byte| *byte == b'\n').collect(alloc)
+}
+
 /// The pins of a list, in its order.
-pub fn read_own_list(alloc: Global, bytes: &[u8]) -> Result<Vec<OwnPin>, DumpError> {
+pub fn read_own_list(alloc: Global, bytes: &[u8]) -> Result<Vec<OwnPin>, DumpError>
+    ensures { IfOk result (λ found. ArePinsOfList bytes.now found.items) }
+{
+    let lines = lines_of(alloc, bytes)?;
     let mut found = Vec::new(alloc);
-    add_pins(alloc, &mut found, bytes)?;
+    for at in 0..lines.len() {
+        push_pin(alloc, &mut found, lines[at], at + 1)?;
+    }
     Ok(found)
 }

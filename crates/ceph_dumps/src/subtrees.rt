@@ -2,7 +2,7 @@
 
 use crate::dump_error::DumpError;
 use crate::json::read_json;
-use crate::members::{Members, fill, present, read_object};
+use crate::members::{Members, NESTED, Objects, TEXT, TRUTH, WHOLE, fill, present, read_object};
 use json_text::narrowed;
 use serde::{DeserializeOwned, Deserializer, Format, Name};
 use std::alloc::Global;
@@ -48,8 +48,8 @@ impl Members for DirMembers {
         from: &mut Deserializer<'_, '_, F>,
     ) -> Result<(), F::Error> {
         match at {
-            0 => fill(&mut self.path, "path", alloc, from),
-            1 => fill(&mut self.fragment, "dirfrag", alloc, from),
+            0 => fill(&mut self.path, "path", TEXT, alloc, from),
+            1 => fill(&mut self.fragment, "dirfrag", TEXT, alloc, from),
             _ => from.skip(),
         }
     }
@@ -96,14 +96,21 @@ impl Pins {
         from: &mut Deserializer<'_, '_, F>,
     ) -> Result<(), F::Error> {
         match at {
-            1 => fill(&mut self.export, "export_pin", alloc, from),
+            1 => fill(&mut self.export, "export_pin", WHOLE, alloc, from),
             2 => fill(
                 &mut self.is_distributed,
                 "distributed_ephemeral_pin",
+                TRUTH,
                 alloc,
                 from,
             ),
-            3 => fill(&mut self.is_random, "random_ephemeral_pin", alloc, from),
+            3 => fill(
+                &mut self.is_random,
+                "random_ephemeral_pin",
+                TRUTH,
+                alloc,
+                from,
+            ),
             _ => from.skip(),
         }
     }
@@ -136,9 +143,9 @@ impl Members for Root {
         from: &mut Deserializer<'_, '_, F>,
     ) -> Result<(), F::Error> {
         match at {
-            0 => fill(&mut self.is_here, "is_auth", alloc, from),
-            4 => fill(&mut self.dir, "dir", alloc, from),
-            5 => fill(&mut self.authority, "auth_first", alloc, from),
+            0 => fill(&mut self.is_here, "is_auth", TRUTH, alloc, from),
+            4 => fill(&mut self.dir, "dir", NESTED, alloc, from),
+            5 => fill(&mut self.authority, "auth_first", WHOLE, alloc, from),
             _ => self.pins.take(at, alloc, from),
         }
     }
@@ -202,5 +209,6 @@ impl DeserializeOwned for SubtreeRoot {
 
 /// The roots of the subtrees that a rank knows.
 pub fn read_subtrees(alloc: Global, bytes: &[u8]) -> Result<Vec<SubtreeRoot>, DumpError> {
-    read_json(alloc, bytes)
+    let Objects(roots): Objects<SubtreeRoot> = read_json(alloc, bytes)?;
+    Ok(roots)
 }

@@ -1,4 +1,4 @@
-use Rattle.std.proofs.Common.{◌≡◌, ◌≢◌, ◌==◌, ◌<◌, ◌||◌, ◌*◌, ◌%◌, ◌^◌, ℕ, true, false, refl, inl, inr, nat_eq, nat_lt, bit_or, w64, arith}
+use Rattle.std.proofs.Common.{◌≡◌, ◌≢◌, ◌==◌, ◌<◌, ◌||◌, ◌*◌, ◌%◌, ◌^◌, ℕ, refl, inl, inr, nat_eq, bit_or, w64, arith}
 use Rattle.std.proofs.lemmas.Bool.{cases_Bool}
 use Rattle.std.proofs.lemmas.Nat.Bits.{bit_at_set_other, bit_at_set_same}
 use Rattle.std.proofs.lemmas.Bool.{eqb-true, eqb-false}
