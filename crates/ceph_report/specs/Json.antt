@@ -1,21 +1,19 @@
 -- The plan as JSON, byte by byte.
 use Rattle.std.specs.Prelude.{◌++◌, ℕ, Bool, List, [], codes, length, slice_get, slice_index}
-use Rattle.std.specs.Prelude.{slice_index_or, Option, Some, None, if◌then◌else◌}
+use Rattle.std.specs.Prelude.{Option, Some, None, if◌then◌else◌}
 use Rattle.mds_types.specs.Sums.{count_below}
 use Rattle.ceph_pins.specs.PinsScript.{path_at, pin_text}
 use Rattle.ceph_plan.specs.declared.row.PinChange.{PinChange}
-use Rattle.ceph_snapshot.specs.Policies.{Distributed, Random, Unknown}
 use Rattle.ceph_snapshot.specs.declared.directory.Directory.{Directory}
-use Rattle.ceph_report.specs.Staying.{is_left}
+use Rattle.ceph_report.specs.Left.{left_at}
 use Rattle.ceph_report.specs.Text.{comma, field, json_string, lines_below}
 use Rattle.ceph_report.specs.Told.{bound_term, hottest_bound, hottest_place, hottest_planned, into_of, is_told}
 use Rattle.ceph_report.specs.Told.{now_of, out_of, pinned_of, planned_of}
 use Rattle.ceph_report.specs.declared.facts.BoundTerm.{BoundTerm}
 use Rattle.ceph_report.specs.declared.facts.BoundTerm.TheVariants.{Hottest, Mean, Pinned}
 use Rattle.ceph_report.specs.declared.facts.Facts.{Facts}
-use Rattle.ceph_report.specs.declared.staying.Reason.{Reason}
-use Rattle.ceph_report.specs.declared.staying.Reason.TheVariants.{Absent, Policy, Spread}
 use Rattle.ceph_report.specs.declared.staying.Stay.{Stay}
+use Rattle.ceph_report.specs.declared.staying_text.LeftForm.TheVariants.{Member}
 
 abbrev pub truth : Bool → List ℕ
 truth is_so = if is_so then codes "true" else codes "false"
@@ -75,30 +73,10 @@ part_member ranks p = field (comma p) (slice_index ranks p)
 unfoldable pub part_list : List ℕ → List ℕ
 part_list ranks = codes "],\n\"rank_of_part\":[" ++ lines_below (part_member ranks) (length ranks)
 
--- a directory that is left where it is, and how many are left with it
-abbrev pub reason_name : Reason → List ℕ
-reason_name (Policy Distributed) = codes "distributed"
-reason_name (Policy Random) = codes "random"
-reason_name (Policy Unknown) = codes "ephemeral"
-reason_name Absent = codes "absent_rank"
-reason_name Spread = codes "several_ranks"
-
-unfoldable pub stay_object : List Directory → Stay → ℕ → List ℕ
-stay_object directories stay i =
-    codes "\n  {\"path\":" ++ json_string (path_at directories i) ++ codes ",\"why\":\"" ++ reason_name stay.why
-    ++ field (codes "\",\"below\":") stay.below ++ codes "}"
-
-unfoldable pub stay_entry : List Directory → Option Stay → ℕ → ℕ → List ℕ
-stay_entry directories None i before = []
-stay_entry directories (Some stay) i before = comma before ++ stay_object directories stay i
-
-abbrev pub stay_member : List Directory → List (Option Stay) → ℕ → List ℕ
-stay_member directories stays i =
-    stay_entry directories (slice_index_or stays i None) i (count_below i (is_left stays))
-
+-- the directories that are left where they are
 unfoldable pub stay_list : List Directory → List (Option Stay) → List ℕ
 stay_list directories stays =
-    codes "],\n\"left\":[" ++ lines_below (stay_member directories stays) (length stays)
+    codes "],\n\"left\":[" ++ lines_below (left_at Member directories stays) (length stays)
 
 -- a change of a pin, -1 where it is taken away
 unfoldable pub pin_object : List Directory → PinChange → List ℕ

@@ -1,6 +1,7 @@
 pub mod Amounts
 pub mod Check
 pub mod Json
+pub mod Left
 pub mod Moves
 pub mod Picture
 pub mod Report

@@ -1,15 +1,14 @@
 -- The report, byte by byte.
 use Rattle.std.specs.Prelude.{◌==◌, ◌-◌, ◌++◌, ℕ, Bool, List, [], codes, length, min, nat_lt, not}
-use Rattle.std.specs.Prelude.{slice_get, slice_index_or, Option, Some, None, if◌then◌else◌}
+use Rattle.std.specs.Prelude.{slice_get, Option, Some, None, if◌then◌else◌}
 use Rattle.mds_types.specs.RankSet.{has_rank}
 use Rattle.mds_types.specs.Sums.{count_below}
 use Rattle.mds_types.specs.declared.limits.TheConstants.{HEAT_LIMIT}
-use Rattle.ceph_pins.specs.PinsScript.{path_at}
 use Rattle.ceph_snapshot.specs.declared.directory.Directory.{Directory}
 use Rattle.ceph_snapshot.specs.Holding.{heat_at}
-use Rattle.ceph_snapshot.specs.Shown.{shown_path}
-use Rattle.ceph_report.specs.Staying.{is_left, stay_text}
-use Rattle.ceph_report.specs.Text.{columns, field, heat_text, lines_below, per_mille, percent_text}
+use Rattle.ceph_report.specs.Left.{left_at}
+use Rattle.ceph_report.specs.Staying.{is_left}
+use Rattle.ceph_report.specs.Text.{columns, field, heat_text, lines_below, per_mille, percent_text, place_text}
 use Rattle.ceph_report.specs.Told.{bound_term, free_heat, hottest_place}
 use Rattle.ceph_report.specs.Told.{hottest_bound, hottest_now, hottest_planned, into_of, is_told, now_of, out_of}
 use Rattle.ceph_report.specs.Told.{pinned_of, planned_of}
@@ -19,6 +18,7 @@ use Rattle.ceph_report.specs.declared.facts.Facts.{Facts}
 use Rattle.ceph_report.specs.declared.moves.Move.{Move}
 use Rattle.ceph_report.specs.declared.report.TheConstants.{CAVEAT, LINES_EACH, NOTHING}
 use Rattle.ceph_report.specs.declared.staying.Stay.{Stay}
+use Rattle.ceph_report.specs.declared.staying_text.LeftForm.TheVariants.{Line}
 
 unfoldable pub hot_count : List Directory → ℕ
 hot_count directories = count_below (length directories) (λ i. nat_lt 0 (heat_at directories i))
@@ -68,10 +68,6 @@ heat_lines facts =
 -- and the term that makes the bound
 unfoldable pub bound_lines : Facts → List ℕ
 bound_lines facts = heat_lines facts ++ codes ": " ++ term_text (bound_term facts)
-
--- a directory's path, and the end of the line
-unfoldable pub place_text : List Directory → ℕ → List ℕ
-place_text directories i = shown_path (path_at directories i) ++ codes "\n"
 
 -- the hottest directory that is planned: no pin divides it
 unfoldable pub hottest_line : Facts → List ℕ
@@ -132,25 +128,9 @@ absent_line facts r = if length (absence facts r) == 0 then [] else field (codes
 unfoldable pub absent_lines : Facts → List ℕ
 absent_lines facts = lines_below (absent_line facts) facts.size
 
--- the line of a directory that is left where it is
-unfoldable pub left_line : List Directory → Stay → ℕ → List ℕ
-left_line directories stay i = stay_text stay ++ codes ": " ++ place_text directories i
-
-abbrev pub left_line_if : List Directory → Option Stay → ℕ → List ℕ
-left_line_if directories None i = []
-left_line_if directories (Some stay) i = left_line directories stay i
-
--- after `before` others; the first 40 have a line
-unfoldable pub left_text : List Directory → List (Option Stay) → ℕ → ℕ → List ℕ
-left_text directories stays i before =
-    if nat_lt before LINES_EACH then left_line_if directories (slice_index_or stays i None) i else []
-
-abbrev pub left_entry : List Directory → List (Option Stay) → ℕ → List ℕ
-left_entry directories stays i = left_text directories stays i (count_below i (is_left stays))
-
 unfoldable pub left_lines : List Directory → List (Option Stay) → List ℕ
 left_lines directories stays =
-    lines_below (left_entry directories stays) (length stays)
+    lines_below (left_at Line directories stays) (length stays)
     ++ more_line (count_below (length stays) (is_left stays) - LINES_EACH)
     (codes " more that are left where they are\n")
 

@@ -2,8 +2,10 @@
 use Rattle.std.specs.Prelude.{◌==◌, ◌||◌, ◌+◌, ◌-◌, ◌*◌, ◌/◌, ◌%◌, ◌++◌, ℕ, zero, suc, List, [], ◌∷◌}
 use Rattle.std.specs.Prelude.{codes, decimal, length, min, nat_lt, take, if◌then◌else◌}
 use Rattle.std.specs.List.{flat_map}
+use Rattle.ceph_pins.specs.PinsScript.{path_at}
 use Rattle.ceph_snapshot.specs.Holding.{most_heat}
-use Rattle.ceph_snapshot.specs.Shown.{is_printed}
+use Rattle.ceph_snapshot.specs.Shown.{is_printed, shown_path}
+use Rattle.ceph_snapshot.specs.declared.directory.Directory.{Directory}
 
 -- the texts of the numbers below n, in their order
 unfoldable pub lines_below : (ℕ → List ℕ) → ℕ → List ℕ
@@ -49,3 +51,7 @@ json_string path = codes "\"" ++ flat_map json_byte path ++ codes "\""
 -- what comes before the member of a list at this place
 unfoldable pub comma : ℕ → List ℕ
 comma at = if at == 0 then [] else codes ","
+
+-- a directory's path, and the end of the line
+unfoldable pub place_text : List Directory → ℕ → List ℕ
+place_text directories i = shown_path (path_at directories i) ++ codes "\n"

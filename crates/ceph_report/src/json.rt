@@ -7,17 +7,16 @@ ghost use Rattle.ceph_pins.specs.PinsScript.{path_at, pin_text};
 ghost use Rattle.ceph_report.specs.Json.{bound_members, inode_numbers, json, part_list, part_member, pin_list};
 ghost use Rattle.ceph_report.specs.Json.{pin_member, pin_object, plan_head, plan_numbers, plan_totals, rank_entry};
 ghost use Rattle.ceph_report.specs.Json.{rank_list, rank_numbers, rank_object, term_name, truth};
-ghost use Rattle.ceph_report.specs.Json.{reason_name, stay_entry, stay_list, stay_object};
-ghost use Rattle.ceph_report.specs.Staying.{is_left};
+ghost use Rattle.ceph_report.specs.Json.{stay_list};
 ghost use Rattle.ceph_report.specs.Text.{json_string};
 ghost use Rattle.ceph_report.specs.Told.{is_told};
 
 use crate::facts::{BoundTerm, Facts, number_at};
-use crate::staying::{Reason, Stay};
-use crate::staying_text::stay_in;
+use crate::staying::Stay;
+use crate::staying_text::{LeftForm, push_left};
 use crate::text::{comma, push_number, push_string, push_text};
 use ceph_plan::PinChange;
-use ceph_snapshot::{Directory, EphemeralPin};
+use ceph_snapshot::Directory;
 use mds_types::Rank;
 use mds_types::limits::RANK_LIMIT;
 use std::alloc::{AllocError, Global};
@@ -169,60 +168,6 @@ fn push_parts(text: &mut Vec<u8>, ranks: &[Rank]) -> Result<(), AllocError>
     Ok(())
 }
 
-/// What a reason is called.
-fn reason_name(why: Reason) -> &'static str
-    ensures { result.now ≡ reason_name why }
-{
-    match why {
-        Reason::Policy(EphemeralPin::Distributed) => "distributed",
-        Reason::Policy(EphemeralPin::Random) => "random",
-        Reason::Policy(EphemeralPin::Unknown) => "ephemeral",
-        Reason::Absent => "absent_rank",
-        Reason::Spread => "several_ranks",
-    }
-}
-
-/// Adds a directory that is left where it is.
-#[tactic(auto, unfolding(crate::specs::Json::stay_object))]
-fn push_stay(
-    text: &mut Vec<u8>,
-    directories: &[Directory],
-    stay: Stay,
-    at: usize,
-) -> Result<(), AllocError>
-    ensures { OnOk result (text.new.items ≡ text.old.items ++ stay_object directories.now stay at) }
-{
-    push_text(text, "\n  {\"path\":")?;
-    push_place(text, directories, at)?;
-    push_text(text, ",\"why\":\"")?;
-    push_text(text, reason_name(stay.why))?;
-    push_number(text, "\",\"below\":", stay.below)?;
-    push_text(text, "}")
-}
-
-/// Adds a directory if it is left where it is, after `before` others. Gives how many there are now.
-#[tactic(auto, unfolding(crate::specs::Json::stay_entry))]
-fn push_left(
-    text: &mut Vec<u8>,
-    directories: &[Directory],
-    stays: &[Option<Stay>],
-    at: usize,
-    before: usize,
-) -> Result<usize, AllocError>
-    requires inside { at < length stays.now }
-    requires few { before ≤ at }
-    ensures member { OnOk result (text.new.items
-        ≡ text.old.items ++ stay_entry directories.now (slice_index_or stays.now at None) at before) }
-    ensures count { IfOk result (λ count. count ≡ before + (if is_left stays.now at then 1 else 0)) }
-{
-    let Some(stay) = stay_in(stays, at) else {
-        return Ok(before);
-    };
-    push_text(text, comma(before))?;
-    push_stay(text, directories, stay, at)?;
-    Ok(before + 1)
-}
-
 /// Adds the directories that are left where they are.
 #[tactic(auto, unfolding(crate::specs::Json::stay_list))]
 fn push_stays(
@@ -233,10 +178,7 @@ fn push_stays(
     ensures { OnOk result (text.new.items ≡ text.old.items ++ stay_list directories.now stays.now) }
 {
     push_text(text, "],\n\"left\":[")?;
-    let mut count = 0usize;
-    for at in 0..stays.len() {
-        count = push_left(text, directories, stays, at, count)?;
-    }
+    push_left(text, directories, stays, LeftForm::Member)?;
     Ok(())
 }
 
@@ -252,7 +194,11 @@ fn push_pin_rank(text: &mut Vec<u8>, pin: Option<Rank>) -> Result<(), AllocError
 }
 
 /// Adds the path of a directory.
-fn push_place(text: &mut Vec<u8>, directories: &[Directory], at: usize) -> Result<(), AllocError>
+pub(crate) fn push_place(
+    text: &mut Vec<u8>,
+    directories: &[Directory],
+    at: usize,
+) -> Result<(), AllocError>
     ensures { OnOk result (text.new.items ≡ text.old.items ++ json_string (path_at directories.now at)) }
 {
     match directories.get(at) {

@@ -6,8 +6,9 @@ ghost use Rattle.ceph_report.specs.Report.{absence, absent_line, absent_lines, b
 ghost use Rattle.ceph_report.specs.Report.{brought_lines, brought_text, capped_line, capped_lines, capped_text};
 ghost use Rattle.ceph_report.specs.Report.{count_line, folded_line, head_line, heat_lines, hot_count, hottest_line};
 ghost use Rattle.ceph_report.specs.Report.{left_out, more_line, moves_table};
-ghost use Rattle.ceph_report.specs.Report.{moves_text, place_text, plan_text, rank_heats, rank_inodes, rank_row};
+ghost use Rattle.ceph_report.specs.Report.{moves_text, plan_text, rank_heats, rank_inodes, rank_row};
 ghost use Rattle.ceph_report.specs.Report.{rank_table, report, standing_text, term_text, told_line};
+ghost use Rattle.ceph_report.specs.Text.{place_text};
 
 use crate::facts::{BoundTerm, Facts, has_number, number_at};
 use crate::moves::Move;
@@ -187,7 +188,7 @@ fn push_counts(text: &mut Vec<u8>, facts: &Facts) -> Result<(), AllocError>
 }
 
 /// Adds the path of a directory, and ends the line.
-#[tactic(auto, unfolding(crate::specs::Report::place_text))]
+#[tactic(auto, unfolding(crate::specs::Text::place_text))]
 pub(crate) fn push_place(
     text: &mut Vec<u8>,
     directories: &[Directory],
