@@ -2,19 +2,43 @@
 ghost use Rattle.std.specs.Prelude.{◌≡◌, ℕ, None, IfSome, Some};
 ghost use Rattle.std.specs.Option.{option_map};
 ghost use Rattle.mds_types.specs.RankSet.{has_rank};
-ghost use Rattle.mdbal_ceph.specs.Usable.{IsMask, all_ranks, asked_mask, cluster_mask, may_have_part};
+ghost use Rattle.mdbal_ceph.specs.Usable.{IsMask, all_ranks, asked_mask, cluster_mask, hex_mask};
+ghost use Rattle.mdbal_ceph.specs.Usable.{mask_digits, may_have_part};
 
 use ceph_dumps::{FileSystemRanks, common_ranks};
 use mds_types::RankSet;
+
+/// The digits of a mask.
+fn mask_digits(text: &str) -> &str
+    ensures { result.now ≡ mask_digits text.now }
+{
+    match text.strip_prefix("0x") {
+        Some(digits) => digits,
+        None => text.strip_prefix("0X").unwrap_or(text),
+    }
+}
+
+/// The ranks that 1 to 16 hexadecimal digits name.
+fn hex_mask(digits: &str) -> Option<RankSet>
+    ensures { result ≡ hex_mask digits.now }
+{
+    if digits.len() > 16 || digits.starts_with('+') {
+        return None;
+    }
+    match u64::from_str_radix(digits, 16) {
+        Ok(bits) => Some(RankSet::from_bits(bits)),
+        Err(_) => None,
+    }
+}
 
 /// The ranks that a mask names, if it is one.
 pub fn mask_named(text: &str) -> Option<RankSet>
     ensures { result ≡ asked_mask text.now }
 {
-    if text == "all" {
+    if text == "all" || text == "-1" {
         Some(RankSet::from_bits(u64::MAX))
     } else {
-        RankSet::parse(text).ok()
+        hex_mask(mask_digits(text))
     }
 }
 

@@ -63,12 +63,13 @@ pub(crate) struct Outcome {
 fn usable(settings: &PlanSettings, cluster: &FileSystemRanks) -> Result<RankSet, Error>
     ensures { IfOk result (AreUsable settings.now.mask (option_map string_bytes cluster.now.mask) cluster.now) }
 {
-    match mask_of(settings.mask, cluster.mask.as_deref()) {
-        Some(mask) => Ok(ranks_of(mask, cluster)),
-        None => bail!(
-            "the mask of the cluster isn't -1, all or 0x and 1 to 16 digits: give --mask"
-        ),
+    let Some(mask) = mask_of(settings.mask, cluster.mask.as_deref()) else {
+        bail!("the cluster's mask isn't -1, all or 1 to 16 hexadecimal digits: give --mask");
+    };
+    if settings.mask.is_none() && !mask.has(Rank::default()) {
+        bail!("the cluster's mask lacks rank 0, which keeps the root directory: give --mask");
     }
+    Ok(ranks_of(mask, cluster))
 }
 
 /// Plans directories for these ranks, where `spread[r]` is the heat at rank r of what is spread.

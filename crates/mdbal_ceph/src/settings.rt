@@ -119,7 +119,7 @@ const OPTIONS: &[PlanOption] = &[
         name: "mask",
         default: None,
         value: "MASK",
-        help: "The ranks that may have a part: all, --mask=-1 for all, too, or 0x and hexadecimal digits",
+        help: "The ranks that may have a part: all, --mask=-1 for all, too, or hexadecimal digits, as 0x3",
     },
     PlanOption {
         name: "own",
@@ -342,7 +342,7 @@ fn mask_of(text: Option<&str>) -> Result<Option<RankSet>, Refused>
     match mask_named(text) {
         Some(mask) => Ok(Some(mask)),
         None => Err(Refused::Value(
-            "--mask takes all, -1 as in --mask=-1, or 0x and 1 to 16 digits",
+            "--mask takes all, -1 as in --mask=-1, or 1 to 16 hexadecimal digits",
         )),
     }
 }
