@@ -1,13 +1,13 @@
 -- The heat at and below directories, and that the coldest go.
 use Rattle.std.proofs.Common.{◌≡◌, ◌≢◌, ◌∙◌, ◌+◌, ◌<◌, ◌≤◌, ◌&&◌, ◌⊎◌, ℕ, zero, suc, Bool, true, false, not, List, length, cond, eqb, nat_le, set, slice_index, inl, inr, ⊎_elim, ap, arith, min, refl, subst, sym}
-use Rattle.std.proofs.lemmas.Bool.{and_from, and_parts, both_ways, cases_Bool, cases_eq, cases_lt, eq-eqb, le-leb, leb-true, ne_eqb, not-true, not_from_false}
+use Rattle.std.proofs.lemmas.Bool.{and_from, and_parts, both_ways, cases_Bool, cases_eq, cases_lt, eq-eqb, le-leb, leb-true, ne_eqb, not_from_false}
 use Rattle.std.proofs.lemmas.Grind.{common_steps}
 use Rattle.std.proofs.lemmas.List.{get_or-set_other, get_or-set_same}
 use Rattle.mds_types.specs.Sums.{sum_below}
 use Rattle.mds_types.proofs.SumsLemmas.{sum_below-add, sum_below-pick, sum_below-same, sum_below-zero}
 use Rattle.ceph_snapshot.specs.declared.coldest.Key.{Key}
 use Rattle.ceph_snapshot.specs.declared.directory.Directory.{Directory}
-use Rattle.ceph_snapshot.specs.Folding.{AreColdest, HasToStay, IsCappedSum, IsHeatBelow, IsPlain, is_marked, of_children}
+use Rattle.ceph_snapshot.specs.Folding.{AreColdest, HasToStay, IsCappedSum, IsHeatBelow, is_marked, of_children}
 use Rattle.ceph_snapshot.specs.Holding.{climb, heat_at, most_heat, parent_at}
 use Rattle.ceph_snapshot.specs.Keys.{goes, is_at_most, key_at}
 

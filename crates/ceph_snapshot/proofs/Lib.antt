@@ -5,6 +5,6 @@ pub mod HeatBelow
 pub mod Holders
 pub mod Keys
 pub mod Lookups
-pub mod Ours
+pub mod Owners
 pub mod Placing
 pub mod StillKept

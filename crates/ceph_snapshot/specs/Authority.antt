@@ -4,7 +4,7 @@
 -- "Configuring multiple active MDS daemons".) Each rank lists the roots that it has, and of others which rank it takes
 -- for the authority.
 use Rattle.std.specs.Prelude.{◌≡◌, ◌≢◌, ◌==◌, ◌&&◌, ◌||◌, ◌<◌, ℕ, All, Bool, true, false, not, is_some}
-use Rattle.std.specs.Prelude.{List, [], length, slice_get, slice_index_or, string_bytes, Option, Some, None}
+use Rattle.std.specs.Prelude.{List, [], length, slice_get, slice_index_or, string_bytes, Option, Some}
 use Rattle.std.specs.Prelude.{String, if◌then◌else◌}
 use Rattle.std.specs.Global.{Global}
 use Rattle.std.specs.List.{list_any}

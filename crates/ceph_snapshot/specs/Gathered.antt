@@ -2,12 +2,12 @@
 use Rattle.std.specs.Prelude.{◌==◌, ◌&&◌, ◌+◌, ℕ, Bool, false, List, Option, Some, None, min, not, nat_lt, slice_get}
 use Rattle.std.specs.Prelude.{if◌then◌else◌}
 use Rattle.std.specs.List.{fold}
-use Rattle.std.specs.Option.{option_map_or}
+use Rattle.std.specs.Option.{option_map}
+use Rattle.std.specs.Str.{bytes_eq}
 use Rattle.mds_types.specs.RankSet.{has_rank}
 use Rattle.ceph_dumps.specs.declared.own_list.OwnPin.{OwnPin}
+use Rattle.ceph_snapshot.specs.declared.directory.Directory.{Directory}
 use Rattle.ceph_snapshot.specs.declared.gathering.Node.{Node}
-use Rattle.ceph_snapshot.specs.declared.names.Names.{Names}
-use Rattle.ceph_snapshot.specs.Names.{path_number}
 use Rattle.ceph_snapshot.specs.Holding.{most_heat}
 
 -- a pin is this program's own where the program set it to the same rank before
@@ -34,27 +34,42 @@ idle_pin (Some rank) own ranks = if not (is_ours rank own) && not (has_rank rank
 abbrev pub seen_heat : ℕ → ℕ → Bool → ℕ
 seen_heat heat more counts = if counts then min most_heat (heat + more) else heat
 
--- the pin of directory i, whoever set it, and the rank that this program pinned it to before
-abbrev pub pinned_at : List Node → ℕ → Option ℕ
-pinned_at nodes i = option_map_or (λ (n : Node). n.pinned) (slice_get nodes i) None
+-- the rank that a list of this program's pins names for a path: that of the last line with it
+abbrev pub rank_named : List ℕ → Option ℕ → OwnPin → Option ℕ
+rank_named path before pin = if bytes_eq pin.path.items path then Some pin.rank else before
 
-abbrev pub noted_at : List Node → ℕ → Option ℕ
-noted_at nodes i = option_map_or (λ (n : Node). n.own) (slice_get nodes i) None
+abbrev pub listed_rank : List OwnPin → List ℕ → Option ℕ
+listed_rank own path = fold (rank_named path) None own
 
-abbrev pub ours_at : List Node → ℕ → Option ℕ
-ours_at nodes i = our_pin (pinned_at nodes i) (noted_at nodes i)
+-- the path of a directory, and its pin, whoever set it
+abbrev pub PathPin : Type 0
+PathPin = List ℕ × Option ℕ
 
--- the rank that a line of a list of this program's pins names for directory i, or else the one before
-abbrev pub is_number : Option ℕ → ℕ → Bool
-is_number None i = false
-is_number (Some number) i = number == i
+abbrev pub path_pin : Node → PathPin
+path_pin n = (n.directory.path.items, n.pinned)
 
-abbrev pub own_with : Names → ℕ → Option ℕ → OwnPin → Option ℕ
-own_with names i before pin = if is_number (path_number names pin.path.items) i then Some pin.rank else before
+abbrev pub path_pin_at : List Node → ℕ → Option PathPin
+path_pin_at nodes i = option_map path_pin (slice_get nodes i)
 
--- and the last line of the list that names it
-abbrev pub own_listed : Names → List OwnPin → List Node → ℕ → Option ℕ
-own_listed names pins nodes i = fold (own_with names i) (noted_at nodes i) pins
+-- the path of a directory, and whose its pin is: somebody else's, whose rank is there or not, or this program's
+abbrev pub WhosePin : Type 0
+WhosePin = List ℕ × (Option ℕ × (Option ℕ × Option ℕ))
 
-abbrev pub ours_with : Names → List OwnPin → List Node → ℕ → Option ℕ
-ours_with names pins nodes i = our_pin (pinned_at nodes i) (own_listed names pins nodes i)
+abbrev pub whose_pin : Directory → WhosePin
+whose_pin d = (d.path.items, (d.pin, (d.idle, d.earlier)))
+
+abbrev pub whose_pin_at : List Directory → ℕ → Option WhosePin
+whose_pin_at directories i = option_map whose_pin (slice_get directories i)
+
+-- by the list of this program's pins
+abbrev pub with_owner : List OwnPin → ℕ → PathPin → WhosePin
+with_owner own ranks at = (
+  at.0,
+  (
+    foreign_pin at.1 (listed_rank own at.0) ranks,
+    (
+      idle_pin at.1 (listed_rank own at.0) ranks,
+      our_pin at.1 (listed_rank own at.0),
+    ),
+  ),
+)

@@ -3,18 +3,17 @@
 //! that root is in fragments at several ranks, there is no such rank: the directory, and what is below it with no
 //! root of its own, is spread.
 ghost use Rattle.std.specs.Prelude.{◌≡◌, ◌||◌, ◌<◌, ◌≤◌, ℕ, List, Some, None, true, false, max};
-ghost use Rattle.std.specs.Prelude.{IfOk, IsErrOf, IsSome, OnOk, length};
+ghost use Rattle.std.specs.Prelude.{IfOk, IsErrOf, IsSome, OnOk};
 ghost use Rattle.std.specs.List.{IsAmong};
 ghost use Rattle.ceph_dumps.specs.declared.listing.ListedValue.TheVariants as listed;
 ghost use Rattle.ceph_snapshot.specs.Authority.{AreClaimed, IsClaim, IsClaimedTwice, StillClaimed};
 ghost use Rattle.ceph_snapshot.specs.Authority.{PathText, fragment_of, is_user_path};
-ghost use Rattle.ceph_snapshot.specs.Gathered.{noted_at, own_with, ours_at, ours_with, pinned_at};
 ghost use Rattle.ceph_snapshot.specs.Names.{path_number};
 
 use crate::directory::Directory;
 use crate::names::Names;
 use crate::snapshot_error::{SnapshotError, told_path};
-use ceph_dumps::{FragmentHeat, ListedDir, ListedValue, OwnPin, SubtreeRoot};
+use ceph_dumps::{FragmentHeat, ListedDir, ListedValue, SubtreeRoot};
 use mds_types::Rank;
 use std::alloc::Global;
 
@@ -42,8 +41,6 @@ pub(crate) struct Node {
     pub root: Option<Rank>,
     /// Its pin, whoever set it.
     pub pinned: Option<u64>,
-    /// The rank of the pin that this program set at it before.
-    pub own: Option<u64>,
     /// The greatest heat that a rank has seen at it, where it is spread.
     pub most: u64,
 }
@@ -252,32 +249,6 @@ impl Gathering {
         }
         Ok(())
     }
-
-    /// Says that this program pinned a directory before. One that nothing else names is passed over.
-    pub fn add_own(&mut self, pin: &OwnPin)
-        ensures names { self.new.names ≡ self.old.names }
-        ensures size { length self.new.nodes.items ≡ length self.old.nodes.items }
-        ensures pinned { (i : ℕ) → pinned_at self.new.nodes.items i ≡ pinned_at self.old.nodes.items i }
-        ensures own { (i : ℕ) → i < length self.old.nodes.items → noted_at self.new.nodes.items i
-            ≡ own_with self.old.names i (noted_at self.old.nodes.items i) pin.now }
-    {
-        if let Some(number) = self.names.number(pin.path.as_slice()) {
-            if let Some(node) = self.nodes.get_mut(number as usize) {
-                node.own = Some(pin.rank);
-            }
-        }
-    }
-
-    /// The same for each pin of a list.
-    pub fn add_own_list(&mut self, pins: &[OwnPin])
-        ensures size { length self.new.nodes.items ≡ length self.old.nodes.items }
-        ensures ours { (i : ℕ) → i < length self.old.nodes.items → ours_at self.new.nodes.items i
-            ≡ ours_with self.old.names pins.now self.old.nodes.items i }
-    {
-        for pin in pins {
-            self.add_own(pin);
-        }
-    }
 }
 
 /// Whether a path is in the tree of users: the root's, or one that begins with a slash, with no NUL.
@@ -305,7 +276,6 @@ fn unknown(path: Vec<u8>, parent: u32) -> Node {
         },
         root: None,
         pinned: None,
-        own: None,
         most: 0,
     }
 }
@@ -314,7 +284,6 @@ fn unknown(path: Vec<u8>, parent: u32) -> Node {
 fn add_root(node: &mut Node, rank: Rank, root: &SubtreeRoot)
     ensures here { root.now.is_here ≡ true → node.new.root ≡ Some rank }
     ensures elsewhere { root.now.is_here ≡ false → node.new.root ≡ node.old.root }
-    ensures own { node.new.own ≡ node.old.own }
 {
     if root.is_here {
         let is_elsewhere = node.root.is_some_and(|other| other != rank);
@@ -333,7 +302,6 @@ fn add_value(node: &mut Node, value: ListedValue)
     ensures entries { (count : ℕ) → value ≡ listed.Entries count → node.new.directory.inodes ≡ max count 1 }
     ensures pin { (rank : ℕ) → value ≡ listed.Pin (Some rank) → node.new.pinned ≡ Some rank }
     ensures no_pin { value ≡ listed.Pin None → node.new.pinned ≡ node.old.pinned }
-    ensures own { node.new.own ≡ node.old.own }
 {
     match value {
         ListedValue::Entries(count) => node.directory.inodes = count.max(1),

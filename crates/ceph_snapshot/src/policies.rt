@@ -4,7 +4,8 @@ ghost use Rattle.std.specs.Prelude.{ℕ, None, Some, length, true, IfOk, OnOk, s
 ghost use Rattle.std.specs.Option.{option_map};
 ghost use Rattle.ceph_dumps.specs.declared.listing.EphemeralPin.TheVariants.{Random};
 ghost use Rattle.ceph_snapshot.specs.Folding.{is_marked};
-ghost use Rattle.ceph_snapshot.specs.Holding.{AreParentsFirst, earlier_at};
+ghost use Rattle.ceph_snapshot.specs.Gathered.{whose_pin_at};
+ghost use Rattle.ceph_snapshot.specs.Holding.{AreParentsFirst};
 ghost use Rattle.ceph_snapshot.specs.Policies.{KeepUnpinnable, HasBeaten, kept_where};
 
 use crate::directory::Directory;
@@ -61,7 +62,8 @@ fn mark_kept(directories: &mut Vec<Directory>, above: &[bool])
 /// Keeps those directories that may not be pinned: they stay where they lie.
 pub(crate) fn keep(alloc: Global, directories: &mut Vec<Directory>) -> Result<(), AllocError>
     ensures size { OnOk result (length directories.new.items ≡ length directories.old.items) }
-    ensures ours { OnOk result ((i : ℕ) → earlier_at directories.new.items i ≡ earlier_at directories.old.items i) }
+    ensures owner { OnOk result ((i : ℕ) → whose_pin_at directories.new.items i
+        ≡ whose_pin_at directories.old.items i) }
     ensures kept { OnOk result (AreParentsFirst directories.new.items → KeepUnpinnable directories.new.items) }
 {
     let above = above_random(alloc, directories.as_slice())?;

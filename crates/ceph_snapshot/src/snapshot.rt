@@ -2,13 +2,17 @@
 
 ghost use Rattle.std.specs.Prelude.{◌≡◌, ◌==◌, ◌||◌, ◌<◌, ◌/◌, ℕ, All, List, true, false};
 ghost use Rattle.std.specs.Prelude.{IfErr, IfOk, IsErrOf, OnOk, length, map, min, nat_lt, string_bytes, if◌then◌else◌};
+ghost use Rattle.std.specs.HashMap.{get_by};
+ghost use Rattle.std.specs.Option.{option_map};
+ghost use Rattle.std.specs.Str.{bytes_eq};
 ghost use Rattle.mds_types.specs.RankSet.{has_rank};
 ghost use Rattle.mds_types.specs.declared.limits.TheConstants.{HEAT_LIMIT};
 ghost use Rattle.ceph_snapshot.specs.declared.gathering.Node.{Node};
 ghost use Rattle.ceph_snapshot.specs.Authority.{IsUnclaimed, LieAsClaimed, PathText, is_torn_at, is_true_of};
 ghost use Rattle.ceph_snapshot.specs.Authority.{node_path_at, placed_node, lies_at};
-ghost use Rattle.ceph_snapshot.specs.Gathered.{foreign_pin, idle_pin, our_pin, ours_at, seen_heat};
-ghost use Rattle.ceph_snapshot.specs.Holding.{AreParentsFirst, earlier_at};
+ghost use Rattle.ceph_snapshot.specs.Gathered.{foreign_pin, idle_pin, listed_rank, our_pin, path_pin};
+ghost use Rattle.ceph_snapshot.specs.Gathered.{path_pin_at, seen_heat, whose_pin, whose_pin_at, with_owner};
+ghost use Rattle.ceph_snapshot.specs.Holding.{AreParentsFirst};
 ghost use Rattle.ceph_snapshot.specs.Policies.{KeepUnpinnable};
 ghost use Rattle.ceph_snapshot.specs.Shown.{shown_path};
 
@@ -16,10 +20,11 @@ use crate::directory::Directory;
 use crate::gathering::{Gathering, Hearsay, Node, Sighting};
 use crate::policies::keep;
 use crate::snapshot_error::{SnapshotError, told_path};
-use ceph_dumps::EphemeralPin;
+use ceph_dumps::{EphemeralPin, OwnPin};
 use mds_types::limits::{HEAT_LIMIT, RANK_LIMIT};
 use mds_types::{Rank, RankSet};
 use std::alloc::{AllocError, Global};
+use std::collections::HashMap;
 
 /// The directories of a file system, parents before children.
 #[derive(Drop)]
@@ -79,8 +84,7 @@ fn sight(node: &mut Node, seen: Sighting) -> u64
     ensures heat { node.new.directory.heat ≡ seen_heat node.old.directory.heat seen.heat
         (node.old.directory.is_spread || (node.old.directory.now == seen.rank)) }
     ensures place { node.old.directory.is_spread ≡ false → node.new.directory.now ≡ node.old.directory.now }
-    ensures pinned { node.new.pinned ≡ node.old.pinned }
-    ensures own { node.new.own ≡ node.old.own }
+    ensures pinned { path_pin node.new ≡ path_pin node.old }
 {
     let directory = &mut node.directory;
     if directory.is_spread {
@@ -143,17 +147,19 @@ fn pins_of(pinned: Option<u64>, own: Option<u64>, ranks: RankSet) -> Pins
     Pins { pin, idle, earlier }
 }
 
-/// The directory of a node, with the mean heat of `samples` samples and its pins, where these ranks are there.
-fn finished(node: Node, samples: u64, ranks: RankSet) -> Directory
+/// The directory of a node, with the mean heat of `samples` samples and its pins, where these ranks are there. This
+/// program pinned it to the rank `own` before.
+fn finished(node: Node, own: Option<u64>, samples: u64, ranks: RankSet) -> Directory
     requires { 0 < samples }
     ensures heat { result.heat ≡ min (node.directory.heat / samples) HEAT_LIMIT }
     ensures now { result.now ≡ node.directory.now }
-    ensures pin { result.pin ≡ foreign_pin node.pinned node.own ranks }
-    ensures idle { result.idle ≡ idle_pin node.pinned node.own ranks }
-    ensures earlier { result.earlier ≡ our_pin node.pinned node.own }
+    ensures path { result.path ≡ node.directory.path }
+    ensures pin { result.pin ≡ foreign_pin node.pinned own ranks }
+    ensures idle { result.idle ≡ idle_pin node.pinned own ranks }
+    ensures earlier { result.earlier ≡ our_pin node.pinned own }
     ensures policy { result.policy ≡ node.directory.policy }
 {
-    let Pins { pin, idle, earlier } = pins_of(node.pinned, node.own, ranks);
+    let Pins { pin, idle, earlier } = pins_of(node.pinned, own, ranks);
     let mut directory = node.directory;
     directory.heat = (directory.heat / samples).min(HEAT_LIMIT);
     directory.pin = pin;
@@ -206,7 +212,7 @@ fn confirm(alloc: Global, nodes: &[Node], hearsay: &[Hearsay]) -> Result<(), Sna
 
 /// Gives each of these directories a policy that isn't known, if none is known of it, unless all were listed.
 fn hold_tops(nodes: &mut Vec<Node>, tops: &[u32], is_listed: bool)
-    ensures { (i : ℕ) → ours_at nodes.new.items i ≡ ours_at nodes.old.items i }
+    ensures { (i : ℕ) → path_pin_at nodes.new.items i ≡ path_pin_at nodes.old.items i }
 {
     if is_listed {
         return;
@@ -219,29 +225,50 @@ fn hold_tops(nodes: &mut Vec<Node>, tops: &[u32], is_listed: bool)
     }
 }
 
-/// The directories of nodes.
+/// The rank that a list of pins names for each of its paths: that of the last line with it.
+fn listed_ranks(alloc: Global, own: &[OwnPin]) -> Result<HashMap<Vec<u8>, u64>, AllocError>
+    ensures { IfOk result (λ ranks. (path : List ℕ) → get_by (λ key. bytes_eq path key.items) ranks
+        ≡ listed_rank own.now path) }
+{
+    let mut ranks = HashMap::new(alloc);
+    for pin in own {
+        ranks.insert(Vec::from_slice(alloc, &pin.path)?, pin.rank)?;
+    }
+    Ok(ranks)
+}
+
+/// The directories of nodes. Whose their pins are, the list of this program's pins says.
 fn all_finished(
     alloc: Global,
     nodes: Vec<Node>,
+    own: &[OwnPin],
     samples: u64,
     ranks: RankSet,
 ) -> Result<Vec<Directory>, AllocError>
     requires { 0 < samples }
-    ensures { IfOk result (λ directories. map (λ d. d.earlier) directories.items
-        ≡ map (λ n. our_pin n.pinned n.own) nodes.items) }
+    ensures { IfOk result (λ directories. map whose_pin directories.items
+        ≡ map (λ n. with_owner own.now ranks (path_pin n)) nodes.items) }
 {
+    let listed = listed_ranks(alloc, own)?;
     let mut directories = Vec::with_capacity(alloc, nodes.len())?;
     for node in nodes {
-        directories.push(finished(node, samples, ranks))?;
+        let rank = listed.get(node.directory.path.as_slice()).copied();
+        directories.push(finished(node, rank, samples, ranks))?;
     }
     Ok(directories)
 }
 
 impl Gathering {
-    /// The snapshot of what was gathered, where each rank gave `samples` samples and `ranks` are in the file system.
+    /// The snapshot of what was gathered, where each rank gave `samples` samples and `ranks` are in the file system. A
+    /// pin is this program's where the last line of its list with the directory's path has its rank.
     /// Without a listing no policy is known. Then a directory just below the root is held as a whole where Ceph's own
     /// pins are at or below it.
-    pub fn snapshot(self, samples: u64, ranks: RankSet) -> Result<Snapshot, SnapshotError>
+    pub fn snapshot(
+        self,
+        own: &[OwnPin],
+        samples: u64,
+        ranks: RankSet,
+    ) -> Result<Snapshot, SnapshotError>
         requires { 0 < samples }
         ensures authority { IfOk result (λ _. (placed : List Node) × LieAsClaimed self.nodes.items placed
             × All (λ said. is_true_of placed said ≡ true) self.hearsay.items) }
@@ -249,8 +276,8 @@ impl Gathering {
             → IsErrOf result (SnapshotError.Unclaimed path by authority)
             → (placed : List Node) × LieAsClaimed self.nodes.items placed
             × IsUnclaimed placed self.hearsay.items path by authority }
-        ensures ours { IfOk result (λ snapshot. (i : ℕ) → earlier_at snapshot.directories.items i
-            ≡ ours_at self.nodes.items i) }
+        ensures owner { IfOk result (λ snapshot. (i : ℕ) → whose_pin_at snapshot.directories.items i
+            ≡ option_map (with_owner own.now ranks) (path_pin_at self.nodes.items i)) }
         ensures spread { IfOk result (λ snapshot. length snapshot.spread.items ≡ 64) }
         ensures kept { IfOk result (λ snapshot. AreParentsFirst snapshot.directories.items
             → KeepUnpinnable snapshot.directories.items) }
@@ -270,7 +297,7 @@ impl Gathering {
         confirm(alloc, nodes.as_slice(), hearsay.as_slice())?;
         hold_tops(&mut nodes, tops.as_slice(), is_listed);
         let spread = see_all(alloc, &mut nodes, sightings.as_slice(), samples)?;
-        let mut directories = all_finished(alloc, nodes, samples, ranks)?;
+        let mut directories = all_finished(alloc, nodes, own, samples, ranks)?;
         keep(alloc, &mut directories)?;
         Ok(Snapshot {
             directories,
@@ -281,7 +308,7 @@ impl Gathering {
 
 /// Adds the heat of a sighting. Gives what of it counts as spread.
 fn see(nodes: &mut Vec<Node>, seen: Sighting) -> u64
-    ensures { (i : ℕ) → ours_at nodes.new.items i ≡ ours_at nodes.old.items i }
+    ensures { (i : ℕ) → path_pin_at nodes.new.items i ≡ path_pin_at nodes.old.items i }
 {
     match nodes.get_mut(seen.directory as usize) {
         Some(node) => sight(node, seen),
@@ -298,7 +325,7 @@ fn see_all(
 ) -> Result<Vec<u64>, AllocError>
     requires { 0 < samples }
     ensures spread { IfOk result (λ spread. length spread.items ≡ 64) }
-    ensures ours { (i : ℕ) → ours_at nodes.new.items i ≡ ours_at nodes.old.items i }
+    ensures pinned { (i : ℕ) → path_pin_at nodes.new.items i ≡ path_pin_at nodes.old.items i }
 {
     let mut spread = vec![in alloc; 0u64; usize::from(RANK_LIMIT)]?;
     for seen in sightings {

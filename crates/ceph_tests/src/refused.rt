@@ -86,7 +86,7 @@ fn add_all(alloc: Global, all: &mut Gathering) -> Result<(), Refused> {
 fn gathered(alloc: Global) -> Result<Snapshot, Refused> {
     let mut all = Gathering::new(alloc)?;
     add_all(alloc, &mut all)?;
-    Ok(all.snapshot(1, RankSet::from_bits(7))?)
+    Ok(all.snapshot(&[], 1, RankSet::from_bits(7))?)
 }
 
 /// The directories that are left where one is folded.

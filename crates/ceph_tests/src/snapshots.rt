@@ -1,7 +1,7 @@
 //! Snapshots from dumps, and what pins hold in them.
 
 use crate::given::rank;
-use crate::same::{Row, Sure, same, same_in, same_rows};
+use crate::same::{Row, Sure, same, same_rows};
 use ceph_dumps::{FragmentHeat, OwnPin, SubtreeRoot, read_listing};
 use ceph_snapshot::{Directory, Gathering, Held, Snapshot, fold, held_heat, holds};
 use mds_types::{Rank, RankSet};
@@ -31,6 +31,7 @@ fn add_roots(
     all: &mut Gathering,
     at: Rank,
     given: &[(&[u8], Option<i64>)],
+    is_spread: bool,
 ) {
     let mut roots = Vec::new(alloc);
     for (path, pin) in given {
@@ -40,7 +41,7 @@ fn add_roots(
             authority: i64::from(at.number()),
             fragment: None,
             pin: *pin,
-            is_spread: false,
+            is_spread,
         };
         roots.push(root).sure(rt);
     }
@@ -67,13 +68,13 @@ const SECOND_LOADS: &[(&[u8], u64)] = &[(b"/a", 700), (b"/a/x", 200), (b"/u", 60
 fn gathered(rt: &impl Abort, alloc: Global) -> Snapshot {
     let mut all = Gathering::new(alloc).sure(rt);
     add_ranks(rt, alloc, &mut all);
-    all.snapshot(1, RankSet::from_bits(3)).sure(rt)
+    all.snapshot(&[], 1, RankSet::from_bits(3)).sure(rt)
 }
 
 /// Adds what both ranks have.
 fn add_ranks(rt: &impl Abort, alloc: Global, all: &mut Gathering) {
-    add_roots(rt, alloc, all, rank(0), FIRST_ROOTS);
-    add_roots(rt, alloc, all, rank(1), SECOND_ROOTS);
+    add_roots(rt, alloc, all, rank(0), FIRST_ROOTS, false);
+    add_roots(rt, alloc, all, rank(1), SECOND_ROOTS, false);
     add_loads(rt, alloc, all, rank(0), FIRST_LOADS);
     add_loads(rt, alloc, all, rank(1), SECOND_LOADS);
     add_entries(rt, alloc, all);
@@ -151,7 +152,8 @@ const LEFT: &[Seen<'static>] = &[
 fn leaves(rt: &impl Abort, alloc: Global) -> Vec<Directory> {
     let mut all = Gathering::new(alloc).sure(rt);
     add_loads(rt, alloc, &mut all, rank(0), LEAVES);
-    all.snapshot(1, RankSet::from_bits(1)).sure(rt).directories
+    let found = all.snapshot(&[], 1, RankSet::from_bits(1)).sure(rt);
+    found.directories
 }
 
 #[test]
@@ -159,49 +161,6 @@ fn cold_leaves_are_folded(rt: HostRuntime) {
     let (kept, folded) = fold(rt.alloc(), leaves(&rt, rt.alloc()), 3).sure(&rt);
     same(&rt, &folded, &2);
     same_rows(&rt, &kept, LEFT, "left");
-}
-
-/// Heat and inodes of all directories.
-fn sums(directories: &[Directory]) -> (u64, u64) {
-    let (mut heat, mut inodes) = (0u64, 0u64);
-    for directory in directories {
-        heat = heat.saturating_add(directory.heat);
-        inodes = inodes.saturating_add(directory.inodes);
-    }
-    (heat, inodes)
-}
-
-/// Adds a directory of this number with heat.
-fn add_number(rt: &impl Abort, alloc: Global, all: &mut Gathering, number: u8) {
-    let (high, low, last) = (b'a' + number / 9, b'a' + number % 9, b'a' + number % 4);
-    let path = [b'/', high, b'/', low, b'/', last];
-    let heat = u64::from(number) * 37 % 101;
-    add_loads(rt, alloc, all, rank(0), &[(path.as_slice(), heat)]);
-}
-
-/// 59 directories with heat, in up to seven by nine by four.
-fn many(rt: &impl Abort, alloc: Global) -> Vec<Directory> {
-    let mut all = Gathering::new(alloc).sure(rt);
-    for number in 1..60u8 {
-        add_number(rt, alloc, &mut all, number);
-    }
-    all.snapshot(1, RankSet::from_bits(1)).sure(rt).directories
-}
-
-/// Folds directories: heat and inodes stay, and `limit` are left, or all if there are fewer.
-fn keeps_sums(rt: &impl Abort, alloc: Global, directories: Vec<Directory>, limit: usize) {
-    let (before, count) = (sums(&directories), directories.len());
-    let (kept, folded) = fold(alloc, directories, limit).sure(rt);
-    let counts = (kept.len(), kept.len().saturating_add(folded));
-    let wanted = (limit.min(count), count);
-    same_in(rt, &(sums(&kept), counts), &(before, wanted), &limit);
-}
-
-#[test]
-fn folding_keeps_heat_and_inodes(rt: HostRuntime) {
-    for limit in 1..60usize {
-        keeps_sums(&rt, rt.alloc(), many(&rt, rt.alloc()), limit);
-    }
 }
 
 /// A walk over ten directories. `/p` has a distributed policy; `/r/s/t` a random one, with nothing pinned above it;
@@ -243,12 +202,14 @@ const PINNED: &[Pinned<'static>] = &[
     (b"/e", (None, None, Some(3), false)),
 ];
 
-/// Says which pins were set before.
-fn add_set(rt: &impl Abort, alloc: Global, all: &mut Gathering) {
+/// The pins that were set before.
+fn own_pins(rt: &impl Abort, alloc: Global) -> Vec<OwnPin> {
+    let mut own = Vec::new(alloc);
     for (rank, path) in SET {
         let path = Vec::from_slice(alloc, path).sure(rt);
-        all.add_own(&OwnPin { rank: *rank, path });
+        own.push(OwnPin { rank: *rank, path }).sure(rt);
     }
+    own
 }
 
 #[test]
@@ -256,7 +217,24 @@ fn policies_and_pins_of_others_hold(rt: HostRuntime) {
     let mut all = Gathering::new(rt.alloc()).sure(&rt);
     let listing = read_listing(rt.alloc(), WALK).sure(&rt);
     all.add_listing(&listing).sure(&rt);
-    add_set(&rt, rt.alloc(), &mut all);
-    let snapshot = all.snapshot(1, RankSet::from_bits(7)).sure(&rt);
+    let own = own_pins(&rt, rt.alloc());
+    let snapshot = all.snapshot(&own, 1, RankSet::from_bits(7)).sure(&rt);
     same_rows(&rt, &snapshot.directories, PINNED, "pins");
+}
+
+/// What is known where Ceph itself pins `/k/x` and nothing was listed.
+const TOPS: &[Pinned<'static>] = &[
+    (b"", (None, None, None, false)),
+    (b"/k", (None, None, None, true)),
+    (b"/k/x", (None, None, None, false)),
+    (b"/m", (None, None, None, false)),
+];
+
+#[test]
+fn without_a_walk_the_whole_top_is_held(rt: HostRuntime) {
+    let mut all = Gathering::new(rt.alloc()).sure(&rt);
+    add_roots(&rt, rt.alloc(), &mut all, rank(0), &[(b"/k/x", None)], true);
+    add_loads(&rt, rt.alloc(), &mut all, rank(0), &[(b"/m", 3)]);
+    let snapshot = all.snapshot(&[], 1, RankSet::from_bits(1)).sure(&rt);
+    same_rows(&rt, &snapshot.directories, TOPS, "tops");
 }

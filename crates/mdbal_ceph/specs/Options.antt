@@ -1,8 +1,8 @@
 -- The options as they are read of the words, and what is planned by them.
-use Rattle.std.specs.Prelude.{◌≡◌, ◌*◌, ℕ, true, false, List, [], Option, Some, None, codes, is_some, length}
+use Rattle.std.specs.Prelude.{◌≡◌, ◌*◌, ℕ, true, false, List, Option, Some, None, codes, is_some, length}
 use Rattle.std.specs.Prelude.{string_bytes}
 use Rattle.std.specs.Prelude.{if◌then◌else◌}
-use Rattle.std.specs.Option.{option_map, option_map_or, unwrap_or}
+use Rattle.std.specs.Option.{option_map, unwrap_or}
 use Rattle.std.specs.Str.{bytes_eq}
 use Rattle.std.specs.Str.Parse.{digits_value, without_leading_plus}
 use Rattle.clap.specs.Words.{Row, first_of, one_of}
@@ -15,7 +15,7 @@ use Rattle.mdbal_ceph.specs.declared.collected.Collected.{Collected}
 use Rattle.mdbal_ceph.specs.declared.outcome.Outcome.{Outcome}
 use Rattle.mdbal_ceph.specs.declared.settings.PlanSettings.{PlanSettings}
 use Rattle.mdbal_ceph.specs.declared.writing.PlanOutput.{PlanOutput}
-use Rattle.mdbal_ceph.specs.Collections.{HasOurPins}
+use Rattle.mdbal_ceph.specs.Collections.{HasOurPins, listed_pins}
 use Rattle.mdbal_ceph.specs.Outcomes.{IsOutcome}
 use Rattle.mdbal_ceph.specs.Usable.{AreUsable, asked_mask}
 use Rattle.mdbal_ceph.specs.Writing.{IsWritten}
@@ -78,7 +78,7 @@ pub record IsPlanWritten (settings : PlanSettings) (output : PlanOutput) : Type 
 
 -- how many pins a list has, if there is one
 abbrev pub listed_count : Collected → ℕ
-listed_count collected = length (option_map_or (λ pins. pins.items) collected.own [])
+listed_count collected = length (listed_pins collected)
 
 -- what is reported is how the pins of the list hold in what was collected
 pub record IsChecked (found : PinCheck) : Type 0 where

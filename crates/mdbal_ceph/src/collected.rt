@@ -1,8 +1,6 @@
 //! Reads the files that `ceph/collect` wrote.
-ghost use Rattle.std.specs.Prelude.{◌≡◌, ◌<◌, ℕ, [], length, IfOk, is_some};
+ghost use Rattle.std.specs.Prelude.{◌≡◌, ◌<◌, [], length, IfOk, is_some};
 ghost use Rattle.std.specs.Option.{option_map_or};
-ghost use Rattle.ceph_snapshot.specs.Gathered.{ours_with};
-ghost use Rattle.ceph_snapshot.specs.Holding.{earlier_at};
 ghost use Rattle.mdbal_ceph.specs.Collections.{HasOurPins};
 
 use crate::progress::Progress;
@@ -11,7 +9,7 @@ use ceph_dumps::{
     DumpError, FileSystem, FileSystemRanks, OwnPin, read_cluster, read_complete, read_listing,
     read_loads, read_own_list, read_subtrees,
 };
-use ceph_snapshot::{Gathering, Snapshot, SnapshotError};
+use ceph_snapshot::{Gathering, Snapshot};
 use mds_types::limits::RANK_LIMIT;
 use mds_types::{Rank, RankSet};
 use std::alloc::Global;
@@ -213,23 +211,6 @@ pub fn listed(own: &Option<Vec<OwnPin>>) -> &[OwnPin]
     }
 }
 
-/// The snapshot of what was gathered, with the pins of an earlier plan.
-fn snapshot_of(
-    gathering: Gathering,
-    pins: &[OwnPin],
-    samples: u64,
-    ranks: RankSet,
-) -> Result<Snapshot, SnapshotError>
-    requires { 0 < samples }
-    ensures spread { IfOk result (λ snapshot. length snapshot.spread.items ≡ 64) }
-    ensures ours { IfOk result (λ snapshot. (i : ℕ) → earlier_at snapshot.directories.items i
-        ≡ ours_with gathering.names pins.now gathering.nodes.items i) }
-{
-    let mut gathering = gathering;
-    gathering.add_own_list(pins);
-    gathering.snapshot(samples, ranks)
-}
-
 /// Reads a folder, and the list of pins of an earlier plan if there is one.
 pub fn read_collected<R: Files + AllocGlobal + Clock + Eprint>(
     rt: &R,
@@ -248,7 +229,7 @@ pub fn read_collected<R: Files + AllocGlobal + Clock + Eprint>(
     let ranks = cluster.ranks;
     add_all(rt, progress, &mut gathering, folder, ranks, samples)?;
     let own = own_pins(rt, own)?;
-    let snapshot = snapshot_of(gathering, listed(&own), samples, ranks)?;
+    let snapshot = gathering.snapshot(listed(&own), samples, ranks)?;
     Ok(Collected {
         file_system,
         cluster,

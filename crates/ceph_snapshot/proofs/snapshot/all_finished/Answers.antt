@@ -1,0 +1,19 @@
+use Rattle.std.proofs.Common.{◌≡◌, ◌∙◌, ℕ, List, ap, refl}
+use Rattle.std.specs.HashMap.{get_by}
+use Rattle.std.specs.Str.{bytes_eq}
+use Rattle.ceph_snapshot.specs.declared.gathering.Node.{Node}
+use Rattle.ceph_snapshot.specs.Gathered.{listed_rank, path_pin, whose_pin, with_owner}
+use Rattle.ceph_snapshot.proofs.Owners.{mapped_more}
+use Rattle.ceph_snapshot.proofs.snapshot.all_finished.Goals as goal
+
+pub loop-node-preserved : goal.loop-node-preserved
+loop-node-preserved c =
+    let node : Node = c.in-Some.node in
+    let path : List ℕ = node.directory.path.items in
+    let rank : c.copied-rank.result ≡ listed_rank c.args.own.now path =
+    c.copied-rank.ensures ∙ c.get.ensures.value
+    ∙ (ap (λ (p : List ℕ). get_by (λ key. bytes_eq p key.items) c.in_ok-listed.listed) c.as_slice.ensures.value ∙ c.in_ok-listed.ensures path) in
+    let whose : whose_pin c.finished.result ≡ with_owner c.args.own.now c.args.ranks (path_pin node) =
+    rw (c.finished.ensures.path, c.finished.ensures.pin, c.finished.ensures.idle, c.finished.ensures.earlier, rank) refl in
+    mapped_more whose_pin (λ (n : Node). with_owner c.args.own.now c.args.ranks (path_pin n)) c.loop-node.directories.items c.push.new.self.items c.loop-node.yielded c.finished.result node
+    c.in_ok-push.ensures.items c.loop-node.invariant whose
