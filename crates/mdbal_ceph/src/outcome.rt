@@ -69,6 +69,9 @@ fn usable(settings: &PlanSettings, cluster: &FileSystemRanks) -> Result<RankSet,
     if settings.mask.is_none() && !mask.has(Rank::default()) {
         bail!("the cluster's mask lacks rank 0, which keeps the root directory: give --mask");
     }
+    if !cluster.active.has(Rank::default()) {
+        bail!("rank 0 is not active: wait until it is");
+    }
     Ok(ranks_of(mask, cluster))
 }
 
