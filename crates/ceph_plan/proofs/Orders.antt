@@ -115,14 +115,11 @@ ordered heats order found sorted size parts hot moved up is =
           hotter-from heats (get_or sorted i d) (get_or sorted j d) (get_or order i 0) (get_or order j 0) (at i early) (at j l)
           (all i d (omega (arith, early, long))).1 (all j d (omega (arith, l, long))).1 apart
           (subst (λ (m : ℕ). IsUpTo (get_or sorted i d) (get_or sorted m d)) same (far sorted up (j - i) i d (omega (arith, less, l, long))));
-      each = λ p l.
+      each = λ p l none.
           let x : PartHeat = get_or found p d in
           let there = Contains-permutation found sorted x moved (p, omega (arith, l, size), get_or_default found p x d (omega (arith, l, size))) in
-          let inside : there.0 < n = omega (arith, there.1, long) in (
-            there.0,
-            inside,
-            at there.0 inside
-                ∙ (ap (λ (one : PartHeat). one.part.0) (get_or_default sorted there.0 d x there.1)
-                ∙ (ap (λ (one : PartHeat). one.part.0) there.2 ∙ parts p d l)),
-          );
+          let inside : there.0 < n = omega (arith, there.1, long) in
+          none there.0 inside
+          (at there.0 inside
+          ∙ (ap (λ (one : PartHeat). one.part.0) (get_or_default sorted there.0 d x there.1) ∙ (ap (λ (one : PartHeat). one.part.0) there.2 ∙ parts p d l)));
     }

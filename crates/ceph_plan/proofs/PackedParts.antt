@@ -1,5 +1,5 @@
 -- The packing with one more part.
-use Rattle.std.proofs.Common.{All, ◌^◌, ◌/◌, ◌≡◌, ◌≢◌, ◌∙◌, ◌+◌, ◌*◌, ◌<◌, ◌≤◌, ◌&&◌, ◌||◌, ◌==◌, ℕ, Bool, true, false, List, length, length-set, get_or, set, slice_index, cond, eqb, nat_lt, inl, inr, ⊎_elim, ap, arith, refl, replicate, subst, sym}
+use Rattle.std.proofs.Common.{All, ◌^◌, ◌/◌, ◌≡◌, ◌≢◌, ◌∙◌, ◌+◌, ◌*◌, ◌<◌, ◌≤◌, ◌&&◌, ◌||◌, ◌==◌, ℕ, zero, suc, Bool, true, false, List, length, length-set, get_or, set, slice_index, cond, eqb, nat_lt, inl, inr, ⊎_elim, ap, arith, refl, replicate, subst, sym}
 use Rattle.std.proofs.Math.Nat.{le-add_right, le_of_eq, le_of_lt, mul-le-mul_left}
 use Rattle.std.proofs.lemmas.Bool.{and_parts, both_ways, cases_Bool, cases_eq, cases_lt, eq-eqb, eqb-true, le-ltb, ltb-true, ne_eqb, or_cases, or_from, or_left, or_right}
 use Rattle.std.proofs.lemmas.List.{get_or-replicate, get_or-set_other, get_or-set_same, get_or_default, length-replicate}
@@ -131,13 +131,24 @@ before-next heats root k q done root_done inside here other new order first =
 not-before : (heats : List ℕ) (root k p : ℕ) → k ≢ root → is_hotter heats k p ≡ false → goes_before heats root k p ≡ false
 not-before heats root k p later not = or_from (k == root) (is_hotter heats k p) (ne_eqb k root later) not
 
+-- where a part is that isn't missing
+place_of : (order : List ℕ) (p n : ℕ) → ¬ ((i : ℕ) → i < n → slice_index order i ≢ p) → (i : ℕ) × (i < n) × (slice_index order i ≡ p)
+place_of order p zero there = absurd (there (λ i l. absurd (omega (arith, l))))
+place_of order p (suc n) there =
+    ⊎_elim (λ (same : slice_index order n ≡ p). (n, omega arith, same))
+    (λ (other : slice_index order n ≢ p).
+    let before : ¬ ((i : ℕ) → i < n → slice_index order i ≢ p) = λ none. there (λ i l.
+    ⊎_elim (λ (low : i < n). none i low) (λ (high : n ≤ i). subst (λ (k : ℕ). slice_index order k ≢ p) (omega (arith, high, l)) other) (cases_lt i n)) in
+    let place = place_of order p n before in (place.0, omega (arith, place.1), place.2))
+    (cases_eq (slice_index order n) p)
+
 -- and it is the hottest of those that are left
 next-hottest : (heats order : List ℕ) (left next k : ℕ) (done : List Bool) → IsByHeat heats order
     → ((i : ℕ) → left ≤ i → i < length heats → is_done done (slice_index order i) ≡ true)
     → next < length heats → k ≡ slice_index order next → left ≡ next + 1
     → (q : ℕ) → q < length heats → q ≢ k → is_done done q ≡ false → is_hotter heats k q ≡ true
 next-hottest heats order left next k done ordered rest there is less q l other new =
-    let place = ordered.each q l in
+    let place = place_of order q (length heats) (ordered.each q l) in
     let low : place.0 < left =
     ⊎_elim (λ (low : place.0 < left). low)
     (λ (high : left ≤ place.0). absurd (both_ways (is_done done q) new (ap (is_done done) (sym place.2) ∙ rest place.0 high place.1)))
@@ -151,7 +162,7 @@ next-hottest heats order left next k done ordered rest there is less q l other n
 all-done : (heats order : List ℕ) (done : List Bool) → IsByHeat heats order
     → ((i : ℕ) → 0 ≤ i → i < length heats → is_done done (slice_index order i) ≡ true) → (q : ℕ) → q < length heats → is_done done q ≡ true
 all-done heats order done ordered rest q l =
-    let place = ordered.each q l in
+    let place = place_of order q (length heats) (ordered.each q l) in
     ap (is_done done) (sym place.2) ∙ rest place.0 (omega arith) place.1
 
 pub packed-more : (ranks : ℕ) (pinned heats inodes order : List ℕ) (root limit : ℕ) (rank : List ℕ) (done : List Bool) (loads : List ℕ) (left next k to : ℕ) (more : List ℕ)

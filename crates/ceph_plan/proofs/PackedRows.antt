@@ -1,5 +1,5 @@
 -- A packing of parts, as one of rows.
-use Rattle.std.proofs.Common.{◌≡◌, ◌∙◌, ◌<◌, ◌+◌, ◌⊎◌, ℕ, List, [], ◌∷◌, ◌++◌, Some, length, slice_index, take, ap, arith, subst, sym, ⊎_elim}
+use Rattle.std.proofs.Common.{◌≡◌, ◌∙◌, ◌<◌, ℕ, List, [], ◌∷◌, ◌++◌, Some, length, slice_index, ap, arith, subst, sym, ⊎_elim}
 use Rattle.std.specs.List.{slice_get}
 use Rattle.std.proofs.lemmas.List.{map-append}
 use Rattle.std.specs.Prelude.{map}
@@ -9,7 +9,7 @@ use Rattle.ceph_plan.specs.declared.packing.Packed.{Packed}
 use Rattle.ceph_plan.specs.declared.packing.Packing.{Packing}
 use Rattle.ceph_plan.specs.Balance.{IsEvenPacking, IsPackedEvenly, IsPartsPacking, inodes_there, load_of_parts, part_inodes_at}
 use Rattle.ceph_plan.specs.Packing.{IsPacking, load, packed_rank}
-use Rattle.ceph_plan.specs.Plans.{IsPacked, moved_inodes}
+use Rattle.ceph_plan.specs.Plans.{IsPacked}
 use Rattle.ceph_plan.proofs.Bounds.{greatest-same}
 use Rattle.ceph_plan.proofs.PackedParts.{cooler-evened}
 use Rattle.ceph_plan.proofs.PartSums.{load-parts}

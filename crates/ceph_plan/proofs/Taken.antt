@@ -1,5 +1,5 @@
 -- What the plan is that is taken of divisions.
-use Rattle.std.proofs.Common.{◌≡◌, ◌∙◌, ◌<◌, ◌≤◌, ◌+◌, ◌*◌, ◌/◌, ◌⊎◌, ℕ, zero, suc, List, [], ◌∷◌, Option, Some, inl, inr, length, ap, arith, refl, subst, sym, ⊎_elim}
+use Rattle.std.proofs.Common.{◌≡◌, ◌∙◌, ◌<◌, ◌≤◌, ◌+◌, ◌*◌, ◌/◌, ℕ, zero, suc, List, [], ◌∷◌, Option, Some, inl, length, ap, arith, refl, subst, sym, ⊎_elim}
 use Rattle.std.specs.List.{slice_get}
 use Rattle.std.specs.Option.{option_map_or}
 use Rattle.std.proofs.lemmas.Bool.{cases_lt}
@@ -14,7 +14,7 @@ use Rattle.ceph_plan.specs.declared.plan.PackedDivision.{PackedDivision}
 use Rattle.ceph_plan.specs.declared.plan.Planned.{Planned}
 use Rattle.ceph_plan.specs.Balance.{allowed}
 use Rattle.ceph_plan.specs.Choice.{AreCool, AreDivisions, AreTried, IsFewer, IsTaken, even_at, greatest_in, moved_in, packings_at, part_count_at}
-use Rattle.ceph_plan.specs.Plans.{ArePackings, IsDivided, IsPlan, no_cap, planned_of}
+use Rattle.ceph_plan.specs.Plans.{IsDivided, IsPlan, no_cap, planned_of}
 use Rattle.ceph_plan.proofs.PackedParts.{allowed-wider}
 
 -- a division of rows with one of its packings is a plan

@@ -1,5 +1,5 @@
 -- How parts are packed by their heat: one after another, the hottest first, each on the least loaded rank.
-use Rattle.std.specs.Prelude.{◌≡◌, ◌≢◌, ◌==◌, ◌<◌, ◌≤◌, ◌+◌, ◌*◌, ◌/◌, ◌||◌, ◌&&◌, ◌⊎◌, ℕ, Bool, true}
+use Rattle.std.specs.Prelude.{◌≡◌, ◌≢◌, ◌==◌, ◌<◌, ◌≤◌, ◌+◌, ◌*◌, ◌/◌, ◌^◌, ◌||◌, ◌&&◌, ◌⊎◌, ℕ, All, Bool, true}
 use Rattle.std.specs.Prelude.{List, length, nat_lt, slice_index, if◌then◌else◌}
 use Rattle.mds_types.specs.declared.problem.ProblemRow.{ProblemRow}
 use Rattle.mds_types.specs.Division.{part_heat}
@@ -15,13 +15,25 @@ is_hotter heats q p =
     nat_lt (slice_index heats p) (slice_index heats q)
     || ((slice_index heats p == slice_index heats q) && nat_lt q p)
 
--- the parts in an order, of two the hotter one later
+-- the parts in an order, of two the hotter one later, and none is missing
 pub record IsByHeat (heats order : List ℕ) : Type 0 where
   pub size : length order ≡ length heats
   pub inside : (i : ℕ) → i < length heats → slice_index order i < length heats
   pub hotter : (i j : ℕ) → i < j → j < length heats → slice_index order i ≢ slice_index order j
       → is_hotter heats (slice_index order j) (slice_index order i) ≡ true
-  pub each : (p : ℕ) → p < length heats → (i : ℕ) × (i < length heats) × (slice_index order i ≡ p)
+  pub each : (p : ℕ) → p < length heats → ¬ ((i : ℕ) → i < length heats → slice_index order i ≢ p)
+
+-- the amounts of parts: not too many of them and not too much heat, by heat in this order, with 64 numbers of inodes a
+-- part. Rank 0, for the root's part, is one of the ranks
+pub record ArePartAmounts (heats order inodes : List ℕ) (root : ℕ) (pinned : List ℕ) (ranks : ℕ) : Type 0 where
+  pub few : length heats ≤ 65536
+  pub inodes_size : length inodes ≡ length heats * 64
+  pub by_heat : IsByHeat heats order
+  pub inside : root < length heats
+  pub pinned_size : length pinned ≡ 64
+  pub small : All (λ n. n ≤ 2 ^ 57) pinned
+  pub total : sum_below (length heats) (slice_index heats) ≤ 2 ^ 56
+  pub zero : has_rank ranks 0 ≡ true
 
 -- the root's part goes first, and of two others the hotter one
 abbrev pub goes_before : List ℕ → ℕ → ℕ → ℕ → Bool

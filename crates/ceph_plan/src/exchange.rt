@@ -34,12 +34,11 @@ fn ends(loads: &[u64], ranks: RankSet) -> (usize, usize)
 /// The parts at a rank but the root's, the hottest last. The first is none: it has the root's part and no heat.
 fn parts_at(
     alloc: Global,
-    parts: PartAmounts<'_>,
+    parts: &PartAmounts<'_>,
     rank: &[Rank],
     at: usize,
 ) -> Result<Vec<PartHeat>, AllocError>
-    requires ranks { length rank.now ≡ length parts.heats.now }
-    requires order { IsByHeat parts.heats.now parts.order.now }
+    requires ranks { length rank.now ≡ length parts.now.heats.now }
 {
     let none = PartHeat {
         heat: 0,
@@ -96,29 +95,20 @@ fn send(rank: &mut [Rank], root: u32, ranks: RankSet, part: u32, number: usize)
 
 /// Sends a part of the most loaded rank to the least loaded one, where a colder one may come back for it, so that both
 /// are loaded less than the first was. Whether there is one.
-fn exchange(
-    alloc: Global,
-    parts: PartAmounts<'_>,
-    ranks: RankSet,
-    rank: &mut [Rank],
-) -> Result<bool, AllocError>
-    requires order { IsByHeat parts.heats.now parts.order.now }
-    requires pinned { length parts.pinned.now ≡ 64 }
-    requires small { All (λ n. n ≤ 2 ^ 57) parts.pinned.now }
-    requires total { sum_below (length parts.heats.now) (slice_index parts.heats.now) ≤ 2 ^ 56 }
-    requires ranks { HaveRanks ranks parts.heats.now parts.root rank.old }
-    ensures { HaveRanks ranks parts.entry.heats.now parts.entry.root rank.new }
+fn exchange(alloc: Global, parts: &PartAmounts<'_>, rank: &mut [Rank]) -> Result<bool, AllocError>
+    requires ranks { HaveRanks parts.now.ranks parts.now.heats.now parts.now.root rank.old }
+    ensures { HaveRanks parts.now.ranks parts.now.heats.now parts.now.root rank.new }
 {
-    let loads = loads(alloc, parts.heats, rank, parts.pinned)?;
-    let (most, least) = ends(&loads, ranks);
+    let loads = loads(alloc, parts, rank)?;
+    let (most, least) = ends(&loads, parts.ranks);
     let gap = loads[most].saturating_sub(loads[least]);
     let hot = parts_at(alloc, parts, rank, most)?;
     let cold = parts_at(alloc, parts, rank, least)?;
     if let Some((one, other)) = closest(&hot, &cold, gap / 2) {
         let change = one.heat.saturating_sub(other.heat);
         if change > 0 && change < gap {
-            send(rank, parts.root, ranks, one.part.0, least);
-            send(rank, parts.root, ranks, other.part.0, most);
+            send(rank, parts.root, parts.ranks, one.part.0, least);
+            send(rank, parts.root, parts.ranks, other.part.0, most);
             return Ok(true);
         }
     }
@@ -128,20 +118,15 @@ fn exchange(
 /// The ranks of the parts after exchanges, as long as there are any.
 pub fn exchanged(
     alloc: Global,
-    parts: PartAmounts<'_>,
-    ranks: RankSet,
+    parts: &PartAmounts<'_>,
     rank: &[Rank],
 ) -> Result<Vec<Rank>, AllocError>
-    requires order { IsByHeat parts.heats.now parts.order.now }
-    requires pinned { length parts.pinned.now ≡ 64 }
-    requires small { All (λ n. n ≤ 2 ^ 57) parts.pinned.now }
-    requires total { sum_below (length parts.heats.now) (slice_index parts.heats.now) ≤ 2 ^ 56 }
-    requires ranks { HaveRanks ranks parts.heats.now parts.root rank.now }
-    ensures { IfOk result (λ found. HaveRanks ranks parts.entry.heats.now parts.entry.root found.items) }
+    requires ranks { HaveRanks parts.now.ranks parts.now.heats.now parts.now.root rank.now }
+    ensures { IfOk result (λ found. HaveRanks parts.now.ranks parts.now.heats.now parts.now.root found.items) }
 {
     let mut found = rank.to_vec(alloc)?;
     for _ in 0..MOST_EXCHANGES {
-        if !exchange(alloc, parts, ranks, &mut found)? {
+        if !exchange(alloc, parts, &mut found)? {
             return Ok(found);
         }
     }

@@ -84,29 +84,20 @@ fn moved(rows: &[ProblemRow], part: &[u32], rank: &[Rank]) -> u64
 /// The packing of parts where a load may pass by `keep` percent the greatest of the packing by heat only.
 fn packing_of(
     alloc: Global,
-    parts: PartAmounts<'_>,
-    ranks: RankSet,
+    parts: &PartAmounts<'_>,
     even: &Choice,
     keep: u8,
 ) -> Result<Packing, AllocError>
-    requires few { length parts.heats.now ≤ 65536 }
-    requires inodes { length parts.inodes.now ≡ length parts.heats.now * 64 }
-    requires order { IsByHeat parts.heats.now parts.order.now }
-    requires root { parts.root < length parts.heats.now }
-    requires pinned { length parts.pinned.now ≡ 64 }
-    requires small { All (λ n. n ≤ 2 ^ 57) parts.pinned.now }
-    requires total { sum_below (length parts.heats.now) (slice_index parts.heats.now) ≤ 2 ^ 56 }
-    requires zero { has_rank ranks 0 ≡ true }
-    requires even { IsEvenPacking ranks parts.pinned.now parts.heats.now parts.root even.now.rank.items }
+    requires even { IsEvenPacking parts.now.ranks parts.now.pinned.now parts.now.heats.now parts.now.root even.now.rank.items }
     requires greatest { even.now.greatest
-        ≡ greatest_by ranks parts.pinned.now parts.heats.now even.now.rank.items }
-    ensures parts { IfOk result (IsPartsPacking ranks parts.entry.pinned.now parts.entry.heats.now
-        parts.entry.inodes.now parts.entry.root even.now.rank.items) }
+        ≡ greatest_by parts.now.ranks parts.now.pinned.now parts.now.heats.now even.now.rank.items }
+    ensures parts { IfOk result (IsPartsPacking parts.now.ranks parts.now.pinned.now parts.now.heats.now
+        parts.now.inodes.now parts.now.root even.now.rank.items) }
     ensures keep { IfOk result (λ packing. packing.keep ≡ keep) }
     ensures even { IfOk result (λ packing. packing.even ≡ even.now.greatest) }
 {
-    let choice = kept_choice(alloc, parts, ranks, even, keep)?;
-    let load = loads(alloc, parts.heats, &choice.rank, parts.pinned)?;
+    let choice = kept_choice(alloc, parts, even, keep)?;
+    let load = loads(alloc, parts, &choice.rank)?;
     Ok(Packing {
         rank: choice.rank,
         load,
@@ -149,11 +140,12 @@ pub fn pack(
         inodes: &inodes,
         root: part[0],
         pinned,
+        ranks,
     };
-    let even = even_choice(alloc, parts, ranks)?;
+    let even = even_choice(alloc, &parts)?;
     let mut each = Vec::with_capacity(alloc, TOLERANCES.len())?;
     for keep in TOLERANCES {
-        let packing = packing_of(alloc, parts, ranks, &even, *keep)?;
+        let packing = packing_of(alloc, &parts, &even, *keep)?;
         let moved = moved(rows, part, &packing.rank);
         each.push(Packed { packing, moved })?;
     }

@@ -5,7 +5,7 @@ ghost use Rattle.mds_types.specs.Division.{part_heat};
 ghost use Rattle.mds_types.specs.Problem.{IsForest};
 ghost use Rattle.mds_types.specs.RankSet.{has_rank};
 ghost use Rattle.mds_types.specs.Sums.{sum_below};
-ghost use Rattle.ceph_plan.specs.Balance.{HaveRanks, IsByHeat, IsEvenPacking, IsEvened, IsHomeRank};
+ghost use Rattle.ceph_plan.specs.Balance.{ArePartAmounts, HaveRanks, IsByHeat, IsEvenPacking, IsEvened, IsHomeRank};
 ghost use Rattle.ceph_plan.specs.Balance.{IsKeptPacking, IsKeptWithin};
 ghost use Rattle.ceph_plan.specs.Balance.{IsNearMean, IsSent, allowed, greatest_by, inodes_there, part_inodes_at};
 
@@ -67,8 +67,8 @@ pub fn part_inodes(
     Ok(inodes)
 }
 
-/// What is packed.
-#[derive(Clone, Copy)]
+/// What is packed, and on which ranks.
+#[derive(Drop)]
 pub struct PartAmounts<'a> {
     /// The heat of each part.
     pub heats: &'a [u64],
@@ -80,6 +80,9 @@ pub struct PartAmounts<'a> {
     pub root: u32,
     /// The heat that is pinned to each rank.
     pub pinned: &'a [u64],
+    /// The ranks that may have a part, with rank 0.
+    pub ranks: RankSet,
+    pub ghost are: { ArePartAmounts heats.now order.now inodes.now root pinned.now ranks },
 }
 
 /// The least loaded rank of the set; among equals the one that has most of the part's inodes.
@@ -159,26 +162,13 @@ pub(crate) struct Choice {
 }
 
 /// Packs the parts, the hottest first. A part stays where most of it is while the load there is within the limit.
-fn packed_within(
-    alloc: Global,
-    parts: PartAmounts<'_>,
-    ranks: RankSet,
-    limit: u64,
-) -> Result<Choice, AllocError>
-    requires few { length parts.heats.now ≤ 65536 }
-    requires inodes { length parts.inodes.now ≡ length parts.heats.now * 64 }
-    requires order { IsByHeat parts.heats.now parts.order.now }
-    requires root { parts.root < length parts.heats.now }
-    requires pinned { length parts.pinned.now ≡ 64 }
-    requires small { All (λ n. n ≤ 2 ^ 57) parts.pinned.now }
-    requires total { sum_below (length parts.heats.now) (slice_index parts.heats.now) ≤ 2 ^ 56 }
-    requires zero { has_rank ranks 0 ≡ true }
-    ensures kept { IfOk result (λ choice. IsKeptWithin ranks parts.entry.pinned.now parts.entry.heats.now
-        parts.entry.inodes.now parts.entry.root limit choice.rank.items) }
-    ensures near_mean { limit ≡ 0 → IfOk result (λ choice. IsNearMean ranks parts.entry.pinned.now
-        parts.entry.heats.now parts.entry.root choice.greatest) }
+fn packed_within(alloc: Global, parts: &PartAmounts<'_>, limit: u64) -> Result<Choice, AllocError>
+    ensures kept { IfOk result (λ choice. IsKeptWithin parts.now.ranks parts.now.pinned.now parts.now.heats.now
+        parts.now.inodes.now parts.now.root limit choice.rank.items) }
+    ensures near_mean { limit ≡ 0 → IfOk result (λ choice. IsNearMean parts.now.ranks parts.now.pinned.now
+        parts.now.heats.now parts.now.root choice.greatest) }
     ensures greatest { IfOk result (λ choice. choice.greatest
-        ≡ greatest_by ranks parts.entry.pinned.now parts.entry.heats.now choice.rank.items) }
+        ≡ greatest_by parts.now.ranks parts.now.pinned.now parts.now.heats.now choice.rank.items) }
 {
     let (heats, inodes, root) = (parts.heats, parts.inodes, parts.root as usize);
     let count = heats.len();
@@ -192,13 +182,13 @@ fn packed_within(
         left -= 1;
         let part = parts.order[left] as usize;
         if !done[part] {
-            let to = rank_for(&loads, inodes, part, heats[part], limit, ranks);
+            let to = rank_for(&loads, inodes, part, heats[part], limit, parts.ranks);
             loads[usize::from(to.number())] += heats[part];
             rank[part] = to;
             done[part] = true;
         }
     }
-    let greatest = most(&loads, ranks);
+    let greatest = most(&loads, parts.ranks);
     Ok(Choice { rank, greatest })
 }
 
@@ -213,29 +203,24 @@ fn with_percent(load: u64, keep: u8) -> u64
 /// A packing with parts exchanged, if that is cooler. It stays as it is if its greatest load is at most this.
 fn evened(
     alloc: Global,
-    parts: PartAmounts<'_>,
-    ranks: RankSet,
+    parts: &PartAmounts<'_>,
     enough: u64,
     packed: Choice,
 ) -> Result<Choice, AllocError>
-    requires order { IsByHeat parts.heats.now parts.order.now }
-    requires pinned { length parts.pinned.now ≡ 64 }
-    requires small { All (λ n. n ≤ 2 ^ 57) parts.pinned.now }
-    requires total { sum_below (length parts.heats.now) (slice_index parts.heats.now) ≤ 2 ^ 56 }
-    requires ranks { HaveRanks ranks parts.heats.now parts.root packed.rank.items }
+    requires ranks { HaveRanks parts.now.ranks parts.now.heats.now parts.now.root packed.rank.items }
     requires greatest { packed.greatest
-        ≡ greatest_by ranks parts.pinned.now parts.heats.now packed.rank.items }
-    ensures evened { IfOk result (λ choice. IsEvened ranks parts.entry.pinned.now parts.entry.heats.now
-        parts.entry.root enough packed.rank.items choice.rank.items) }
+        ≡ greatest_by parts.now.ranks parts.now.pinned.now parts.now.heats.now packed.rank.items }
+    ensures evened { IfOk result (λ choice. IsEvened parts.now.ranks parts.now.pinned.now parts.now.heats.now
+        parts.now.root enough packed.rank.items choice.rank.items) }
     ensures greatest { IfOk result (λ choice. choice.greatest
-        ≡ greatest_by ranks parts.entry.pinned.now parts.entry.heats.now choice.rank.items) }
+        ≡ greatest_by parts.now.ranks parts.now.pinned.now parts.now.heats.now choice.rank.items) }
 {
     if packed.greatest <= enough {
         return Ok(packed);
     }
-    let rank = exchanged(alloc, parts, ranks, &packed.rank)?;
-    let loads = loads(alloc, parts.heats, &rank, parts.pinned)?;
-    let greatest = most(&loads, ranks);
+    let rank = exchanged(alloc, parts, &packed.rank)?;
+    let loads = loads(alloc, parts, &rank)?;
+    let greatest = most(&loads, parts.ranks);
     if greatest < packed.greatest {
         Ok(Choice { rank, greatest })
     } else {
@@ -244,26 +229,14 @@ fn evened(
 }
 
 /// The packing by heat only: largest first, with parts exchanged.
-pub(crate) fn even_choice(
-    alloc: Global,
-    parts: PartAmounts<'_>,
-    ranks: RankSet,
-) -> Result<Choice, AllocError>
-    requires few { length parts.heats.now ≤ 65536 }
-    requires inodes { length parts.inodes.now ≡ length parts.heats.now * 64 }
-    requires order { IsByHeat parts.heats.now parts.order.now }
-    requires root { parts.root < length parts.heats.now }
-    requires pinned { length parts.pinned.now ≡ 64 }
-    requires small { All (λ n. n ≤ 2 ^ 57) parts.pinned.now }
-    requires total { sum_below (length parts.heats.now) (slice_index parts.heats.now) ≤ 2 ^ 56 }
-    requires zero { has_rank ranks 0 ≡ true }
-    ensures even { IfOk result (λ choice. IsEvenPacking ranks parts.entry.pinned.now parts.entry.heats.now
-        parts.entry.root choice.rank.items) }
+pub(crate) fn even_choice(alloc: Global, parts: &PartAmounts<'_>) -> Result<Choice, AllocError>
+    ensures even { IfOk result (λ choice. IsEvenPacking parts.now.ranks parts.now.pinned.now parts.now.heats.now
+        parts.now.root choice.rank.items) }
     ensures greatest { IfOk result (λ choice. choice.greatest
-        ≡ greatest_by ranks parts.entry.pinned.now parts.entry.heats.now choice.rank.items) }
+        ≡ greatest_by parts.now.ranks parts.now.pinned.now parts.now.heats.now choice.rank.items) }
 {
-    let plain = packed_within(alloc, parts, ranks, 0)?;
-    evened(alloc, parts, ranks, 0, plain)
+    let plain = packed_within(alloc, parts, 0)?;
+    evened(alloc, parts, 0, plain)
 }
 
 /// A rank of the set for each part: rank 0 for the root's part.
@@ -272,29 +245,20 @@ pub(crate) fn even_choice(
 /// greatest load of `even`, the packing by heat only.
 pub(crate) fn kept_choice(
     alloc: Global,
-    parts: PartAmounts<'_>,
-    ranks: RankSet,
+    parts: &PartAmounts<'_>,
     even: &Choice,
     keep: u8,
 ) -> Result<Choice, AllocError>
-    requires few { length parts.heats.now ≤ 65536 }
-    requires inodes { length parts.inodes.now ≡ length parts.heats.now * 64 }
-    requires order { IsByHeat parts.heats.now parts.order.now }
-    requires root { parts.root < length parts.heats.now }
-    requires pinned { length parts.pinned.now ≡ 64 }
-    requires small { All (λ n. n ≤ 2 ^ 57) parts.pinned.now }
-    requires total { sum_below (length parts.heats.now) (slice_index parts.heats.now) ≤ 2 ^ 56 }
-    requires zero { has_rank ranks 0 ≡ true }
     requires greatest { even.now.greatest
-        ≡ greatest_by ranks parts.pinned.now parts.heats.now even.now.rank.items }
-    ensures kept { IfOk result (λ choice. IsKeptPacking ranks parts.entry.pinned.now parts.entry.heats.now
-        parts.entry.inodes.now parts.entry.root keep even.now.rank.items choice.rank.items) }
+        ≡ greatest_by parts.now.ranks parts.now.pinned.now parts.now.heats.now even.now.rank.items }
+    ensures kept { IfOk result (λ choice. IsKeptPacking parts.now.ranks parts.now.pinned.now parts.now.heats.now
+        parts.now.inodes.now parts.now.root keep even.now.rank.items choice.rank.items) }
     ensures greatest { IfOk result (λ choice. choice.greatest
-        ≡ greatest_by ranks parts.entry.pinned.now parts.entry.heats.now choice.rank.items) }
+        ≡ greatest_by parts.now.ranks parts.now.pinned.now parts.now.heats.now choice.rank.items) }
 {
     let limit = with_percent(even.greatest, keep);
-    let kept = packed_within(alloc, parts, ranks, limit)?;
-    let near = evened(alloc, parts, ranks, limit, kept)?;
+    let kept = packed_within(alloc, parts, limit)?;
+    let near = evened(alloc, parts, limit, kept)?;
     if near.greatest <= limit {
         return Ok(near);
     }

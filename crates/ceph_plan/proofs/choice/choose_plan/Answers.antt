@@ -6,8 +6,7 @@ use Rattle.mds_types.specs.declared.problem.ProblemRow.{ProblemRow}
 use Rattle.ceph_plan.specs.declared.plan.PackedDivision.{PackedDivision}
 use Rattle.ceph_plan.specs.Choice.{AreTried}
 use Rattle.ceph_plan.specs.Refusals.{IsPlannable}
-use Rattle.ceph_plan.proofs.Chosen.{counts-refused}
-use Rattle.ceph_plan.proofs.Taken.{are-cool, divisions-tried, plan-taken, some-tried}
+use Rattle.ceph_plan.proofs.Taken.{are-cool, divisions-tried, plan-taken}
 use Rattle.ceph_plan.proofs.choice.choose_plan.Goals as goal
 
 positive : (n : ℕ) → (n == 0) ≡ false → 0 < n

@@ -1,4 +1,4 @@
-use Rattle.std.proofs.Common.{◌≡◌, ◌<◌, ◌≤◌, ◌*◌, ◌/◌, ℕ, List, arith, length, subst}
+use Rattle.std.proofs.Common.{◌<◌, ◌≤◌, ◌*◌, ◌/◌, ℕ, List, arith, length, subst}
 use Rattle.std.proofs.Math.Nat.{le-add_right}
 use Rattle.ceph_plan.specs.declared.packing.Packed.{Packed}
 use Rattle.ceph_plan.specs.declared.plan.PackedDivision.{PackedDivision}

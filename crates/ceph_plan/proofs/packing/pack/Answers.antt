@@ -1,24 +1,35 @@
-use Rattle.std.proofs.Common.{◌≡◌, ◌<◌, ◌≤◌, ◌+◌, ◌++◌, ◌∷◌, ◌^◌, ◌∙◌, [], ℕ, suc, List, ap, arith, length, refl, slice_index, subst, sym, take}
+use Rattle.std.proofs.Common.{◌≡◌, ◌<◌, ◌≤◌, ◌+◌, ◌*◌, ◌++◌, ◌∷◌, ◌^◌, ◌∙◌, [], ℕ, suc, List, ap, arith, length, refl, slice_index, subst, sym, take}
 use Rattle.std.proofs.Math.Seq.{take-length, take-suc}
 use Rattle.mds_types.specs.Sums.{sum_below}
 use Rattle.ceph_plan.specs.declared.packing.Packed.{Packed}
 use Rattle.ceph_plan.specs.declared.packing.Packing.{Packing}
 use Rattle.ceph_plan.specs.declared.packing.TheConstants.{TOLERANCES}
-use Rattle.ceph_plan.specs.Balance.{IsEvenPacking, IsPartsPacking}
+use Rattle.ceph_plan.specs.Balance.{IsByHeat, IsEvenPacking, IsPartsPacking}
 use Rattle.ceph_plan.specs.Plans.{moved_inodes}
 use Rattle.ceph_plan.proofs.PackedRows.{AreOfParts, AreSoFar, packed-evenly, packed-rows, packings-more, parts-same}
 use Rattle.ceph_plan.proofs.PartSums.{heats-small}
 use Rattle.ceph_plan.proofs.packing.pack.Goals as goal
 
-pub even_choice-requires-clause-total : goal.even_choice-requires-clause-total
-even_choice-requires-clause-total c =
-    subst (λ (heats : List ℕ). sum_below (length heats) (slice_index heats) ≤ 2 ^ 56) (sym c.deref-2.ensures.value)
-    (heats-small c.args.rows.now c.args.part.now c.in_ok-heats.heats.items c.args.count c.requires.forest c.in_ok-heats.ensures.size c.requires.below c.in_ok-heats.ensures.heats)
-
-pub packing_of-requires-clause-total : goal.packing_of-requires-clause-total
-packing_of-requires-clause-total c =
-    subst (λ (heats : List ℕ). sum_below (length heats) (slice_index heats) ≤ 2 ^ 56) (sym c.deref-2.ensures.value)
-    (heats-small c.args.rows.now c.args.part.now c.in_ok-heats.heats.items c.args.count c.requires.forest c.in_ok-heats.ensures.size c.requires.below c.in_ok-heats.ensures.heats)
+pub invariant_of-parts : goal.invariant_of-parts
+invariant_of-parts c =
+    let heats : List ℕ = c.in_ok-heats.heats.items in
+    let size : length c.deref-2.result.now ≡ c.args.count = ap length c.deref-2.ensures.value ∙ c.in_ok-heats.ensures.size in
+    record {
+      are =
+          record {
+            few = omega (arith, size, c.requires.few);
+            inodes_size = ap length c.deref-4.ensures.value ∙ (c.in_ok-inodes.ensures.size ∙ ap (λ (n : ℕ). n * 64) (sym size));
+            by_heat = subst (λ (xs : List ℕ). IsByHeat xs c.deref-3.result.now) (c.deref.ensures.value ∙ sym c.deref-2.ensures.value)
+                (subst (λ (order : List ℕ). IsByHeat c.deref.result.now order) (sym c.deref-3.ensures.value) c.in_ok-order.ensures);
+            inside = omega (arith, c.requires.below 0 c.requires.some, size);
+            pinned_size = c.requires.size;
+            small = c.requires.small;
+            total =
+                subst (λ (heats : List ℕ). sum_below (length heats) (slice_index heats) ≤ 2 ^ 56) (sym c.deref-2.ensures.value)
+                (heats-small c.args.rows.now c.args.part.now heats c.args.count c.requires.forest c.in_ok-heats.ensures.size c.requires.below c.in_ok-heats.ensures.heats);
+            zero = c.requires.zero;
+          };
+    }
 
 pub moved-moved-requires-clause-below : goal.moved-moved-requires-clause-below
 moved-moved-requires-clause-below c = λ i lt.

@@ -7,11 +7,11 @@ use Rattle.ceph_plan.proofs.rank_choice.evened.Goals as goal
 pub returns-then-greatest-packed-clause-greatest :
     goal.returns-then-greatest-packed-clause-greatest
 returns-then-greatest-packed-clause-greatest c =
-    let pinned : List ℕ = c.args.parts.pinned.now in
-    let heats : List ℕ = c.args.parts.heats.now in
+    let pinned : List ℕ = c.args.parts.now.pinned.now in
+    let heats : List ℕ = c.args.parts.now.heats.now in
     c.most-greatest.ensures
-    ∙ (ap (λ (xs : List ℕ). greatest_of c.args.ranks (slice_index xs)) c.deref-3.ensures.value
-    ∙ greatest-same c.args.ranks (slice_index c.in_ok-loads.loads.items) (load_of_parts pinned heats c.in_ok-rank.rank.items)
+    ∙ (ap (λ (xs : List ℕ). greatest_of c.args.parts.now.ranks (slice_index xs)) c.deref-3.ensures.value
+    ∙ greatest-same c.args.parts.now.ranks (slice_index c.in_ok-loads.loads.items) (load_of_parts pinned heats c.in_ok-rank.rank.items)
     (λ r l. c.in_ok-loads.ensures.loads r l ∙ ap (λ (xs : List ℕ). load_of_parts pinned heats xs r) c.deref-2.ensures.value))
 
 pub returns-then-greatest-packed-clause-evened : goal.returns-then-greatest-packed-clause-evened
