@@ -2,7 +2,7 @@
 use Rattle.std.proofs.Common.{◌≡◌, ℕ, ◌+◌, ◌-◌, ◌<◌, ◌≤◌, List, length, cond, nat_lt, Option, Some, None, refl, ap, sym, ◌∙◌, arith, ⊎_elim, ◌⊎◌, inl, inr}
 use Rattle.std.proofs.lemmas.Bool.{cases_lt, lt-ltb, le-ltb}
 use Rattle.ceph_plan.specs.declared.row.PinRow.{PinRow}
-use Rattle.ceph_plan.specs.Rule.{AreRows, IsFree, IsNearest, climb, first_of}
+use Rattle.ceph_plan.specs.Rule.{AreRows, IsAt, IsFree, IsNearest, climb, first_of}
 use Rattle.ceph_plan.specs.Changes.{while_set, while_unset}
 use Rattle.ceph_plan.proofs.Climbs.{climb-add, climb-le, some_none}
 
@@ -97,3 +97,12 @@ unset_once rows old new at i r are l near =
       })
     ])
     (cases_lt (climb rows near.steps i) at)
+
+-- the same where no pin may hold the row
+pub set_at : (rows : List PinRow) (old new : ℕ → Option ℕ) (at i r : ℕ) → AreRows rows → i < length rows → IsAt rows (while_set old new at) i r → IsAt rows old i r ⊎ IsAt rows new i r
+set_at rows old new at i r are l (inl near) = elim (set_once rows old new at i r are l near) [ inl before ↦ inl (inl before) | inr after ↦ inr (inl after) ]
+set_at rows old new at i r are l (inr free) = inl (inr (set_free rows old new at i free.0, free.1))
+
+pub unset_at : (rows : List PinRow) (old new : ℕ → Option ℕ) (at i r : ℕ) → AreRows rows → i < length rows → IsAt rows (while_unset old new at) i r → IsAt rows old i r ⊎ IsAt rows new i r
+unset_at rows old new at i r are l (inl near) = elim (unset_once rows old new at i r are l near) [ inl before ↦ inl (inl before) | inr after ↦ inr (inl after) ]
+unset_at rows old new at i r are l (inr free) = inr (inr (unset_free rows old new at i free.0, free.1))

@@ -7,7 +7,7 @@ use Rattle.ceph_plan.specs.declared.hold.Hold.{Hold}
 use Rattle.ceph_plan.specs.Rule.{AreRows, IsAt, IsNearest, climb, first_of, row_at, target_at}
 use Rattle.ceph_plan.specs.Holds.{hold_at}
 use Rattle.ceph_plan.specs.Changes.{applied, changed, drops_from, is_dropped, is_set, sets_below, while_set, while_unset}
-use Rattle.ceph_plan.proofs.Moves.{set_once, unset_once}
+use Rattle.ceph_plan.proofs.Moves.{set_at, unset_at}
 
 -- the same pins at each row
 pub record AreSame (own other : ℕ → Option ℕ) : Type 0 where
@@ -170,22 +170,22 @@ zero_side a b c j = rw (le-ltb j 0 (omega arith)) refl
 
 -- the theorem on the whole list
 pub once : (rows : List PinRow) (holds : List Hold) (old new : ℕ → Option ℕ) (k i r : ℕ) → AreRows rows → AreStates rows holds old new → AreSame old (while_set old new (length rows)) → i < length rows
-    → IsNearest rows (applied old (take k (sets_below rows holds (length rows) ++ drops_from rows holds (length rows) 0))) i r
-    → IsNearest rows old i r ⊎ IsNearest rows new i r
+    → IsAt rows (applied old (take k (sets_below rows holds (length rows) ++ drops_from rows holds (length rows) 0))) i r
+    → IsAt rows old i r ⊎ IsAt rows new i r
 once rows holds old new k i r are states start l near =
     elim (take_two k (sets_below rows holds (length rows)) (drops_from rows holds (length rows) 0)) [
       | inl is ↦
           let far = sets_so_far rows holds old new old (length rows) k states start in
-          set_once rows old new far.0 i r are l
-          (same_near rows (applied old (take k (sets_below rows holds (length rows)))) (while_set old new far.0) i r far.1
-          (subst (λ (cs : List PinChange). IsNearest rows (applied old cs) i r) is near))
+          set_at rows old new far.0 i r are l
+          (same_at rows (applied old (take k (sets_below rows holds (length rows)))) (while_set old new far.0) i r far.1
+          (subst (λ (cs : List PinChange). IsAt rows (applied old cs) i r) is near))
       | inr is ↦
           let all : AreSame (applied old (sets_below rows holds (length rows))) (while_unset old new 0) = record { same = λ j. (sets_all rows holds old new old (length rows) states start).same j ∙ zero_side (old j) (new j) (first_of (new j) (old j)) j } in
           let far = drops_so_far rows holds old new (applied old (sets_below rows holds (length rows))) (length rows) 0 is.0 states all in
-          unset_once rows old new far.0 i r are l
-          (same_near rows (applied (applied old (sets_below rows holds (length rows))) (take is.0 (drops_from rows holds (length rows) 0))) (while_unset old new far.0) i r far.1
-          (subst (λ (own : ℕ → Option ℕ). IsNearest rows own i r) (applied-append old (sets_below rows holds (length rows)) (take is.0 (drops_from rows holds (length rows) 0)))
-          (subst (λ (cs : List PinChange). IsNearest rows (applied old cs) i r) is.1 near)))
+          unset_at rows old new far.0 i r are l
+          (same_at rows (applied (applied old (sets_below rows holds (length rows))) (take is.0 (drops_from rows holds (length rows) 0))) (while_unset old new far.0) i r far.1
+          (subst (λ (own : ℕ → Option ℕ). IsAt rows own i r) (applied-append old (sets_below rows holds (length rows)) (take is.0 (drops_from rows holds (length rows) 0)))
+          (subst (λ (cs : List PinChange). IsAt rows (applied old cs) i r) is.1 near)))
     ]
 
 pub ends : (rows : List PinRow) (holds : List Hold) (old new : ℕ → Option ℕ) → AreStates rows holds old new → AreSame old (while_set old new (length rows)) → AreSame (applied old (sets_below rows holds (length rows) ++ drops_from rows holds (length rows) 0)) (while_unset old new (0 + length rows))

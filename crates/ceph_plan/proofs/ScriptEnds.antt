@@ -9,9 +9,9 @@ use Rattle.ceph_plan.specs.declared.row.Pin.{Pin}
 use Rattle.ceph_plan.specs.declared.row.PinChange.{PinChange}
 use Rattle.ceph_plan.specs.declared.hold.Hold.{Hold}
 use Rattle.ceph_plan.specs.declared.hold.Hold.TheVariants.{Foreign, Free, Own}
-use Rattle.ceph_plan.specs.Rule.{AreRows, IsNearest, IsRealized, first_of, foreign_at, no_row, own_pin, parent_at, row_at, target_at, without}
+use Rattle.ceph_plan.specs.Rule.{AreRows, IsAt, IsRealized, first_of, foreign_at, no_row, own_pin, parent_at, row_at, target_at, without}
 use Rattle.ceph_plan.specs.Holds.{AreHolds, hold_at, hold_of, is_own, pins_below, rests_at}
-use Rattle.ceph_plan.specs.Changes.{AreForced, AreNeeded, AreUntouched, StillHolds, applied, before_pin, drops_from, is_dropped, is_set, sets_below, stands, while_set, while_unset}
+use Rattle.ceph_plan.specs.Changes.{AreForced, AreNeeded, AreUntouched, MovesOnce, StillHolds, applied, before_pin, drops_from, is_dropped, is_set, sets_below, stands, while_set, while_unset}
 use Rattle.ceph_plan.proofs.Held.{IsHeld, IsOwnBy, own_below, own_by, own_held, own_inside}
 use Rattle.ceph_plan.proofs.Held as held
 use Rattle.ceph_plan.proofs.Found as found
@@ -142,14 +142,14 @@ realized rows holds changes f i ours =
     same_at rows (new_pin rows holds) (applied (before_pin rows) changes) i (target_at rows i) (back (applied (before_pin rows) changes) (new_pin rows holds) (in_the_end rows holds changes f))
     (held.realized rows holds (new_pin rows holds) f.are f.holds_are (own_by rows holds f.size) i ours)
 
-pub moves_once : (rows : List PinRow) (holds : List Hold) (changes : List PinChange) → AreChanges rows holds changes → (k i r : ℕ) → i < length rows → IsNearest rows (applied (before_pin rows) (take k changes)) i r → IsNearest rows (before_pin rows) i r ⊎ IsNearest rows (applied (before_pin rows) changes) i r
+pub moves_once : (rows : List PinRow) (holds : List Hold) (changes : List PinChange) → AreChanges rows holds changes → MovesOnce rows changes
 moves_once rows holds changes f k i r l near =
     let is = states rows holds f.are f.holds_are f.size in
     let begin = start rows holds (before_pin rows) (new_pin rows holds) f.size is in
     elim (once rows holds (before_pin rows) (new_pin rows holds) k i r f.are is begin l
-    (subst (λ (cs : List PinChange). IsNearest rows (applied (before_pin rows) (take k cs)) i r) f.changes_are near)) [
+    (subst (λ (cs : List PinChange). IsAt rows (applied (before_pin rows) (take k cs)) i r) f.changes_are near)) [
       | inl before ↦ inl before
-      | inr after ↦ inr (same_near rows (new_pin rows holds) (applied (before_pin rows) changes) i r (back (applied (before_pin rows) changes) (new_pin rows holds) (in_the_end rows holds changes f)) after)
+      | inr after ↦ inr (same_at rows (new_pin rows holds) (applied (before_pin rows) changes) i r (back (applied (before_pin rows) changes) (new_pin rows holds) (in_the_end rows holds changes f)) after)
     ]
 
 sets-split : (rows : List PinRow) (holds : List Hold) (i : ℕ) → 0 < i → sets_below rows holds i ≡ cond (is_set (row_at rows (i - 1)) (hold_at holds (i - 1))) (record { row = i - 1; pin = Some (target_at rows (i - 1)) } ∷ []) [] ++ sets_below rows holds (i - 1)

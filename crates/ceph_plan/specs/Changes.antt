@@ -1,10 +1,10 @@
 -- The rows' own pins while they are changed.
-use Rattle.std.specs.Prelude.{◌≡◌, ◌≢◌, All, ℕ, zero, suc, Bool, ◌==◌, ◌&&◌, ◌++◌, not, is_some, is_none}
-use Rattle.std.specs.Prelude.{List, [], ◌∷◌, Option, Some, None, nat_lt, if◌then◌else◌}
+use Rattle.std.specs.Prelude.{◌≡◌, ◌≢◌, ◌<◌, ◌⊎◌, All, ℕ, zero, suc, Bool, ◌==◌, ◌&&◌, ◌++◌, not, is_some, is_none}
+use Rattle.std.specs.Prelude.{List, [], ◌∷◌, length, take, Option, Some, None, nat_lt, if◌then◌else◌}
 use Rattle.ceph_plan.specs.declared.hold.Hold.{Hold}
 use Rattle.ceph_plan.specs.declared.row.PinChange.{PinChange}
 use Rattle.ceph_plan.specs.declared.row.PinRow.{PinRow}
-use Rattle.ceph_plan.specs.Rule.{IsAt, IsNearest, first_of, foreign_at, row_at, target_at, without}
+use Rattle.ceph_plan.specs.Rule.{IsAt, IsNearest, IsRealized, first_of, foreign_at, row_at, target_at, without}
 use Rattle.ceph_plan.specs.Holds.{hold_at, is_own, rests_at}
 
 -- the rows' own pins before: foreign ones, and those of an earlier plan
@@ -35,6 +35,24 @@ AreForced rows own =
 -- what a pin holds that is to stay, it holds with these pins
 abbrev pub StillHolds : List PinRow → (ℕ → Option ℕ) → Type 0
 StillHolds rows own = (i r : ℕ) → IsNearest rows (foreign_at rows) i r → IsNearest rows own i r
+
+-- after any first k changes each row is where it was, or where it is in the end
+abbrev pub MovesOnce : List PinRow → List PinChange → Type 0
+MovesOnce rows changes =
+    (k i r : ℕ) → i < length rows → IsAt rows (applied (before_pin rows) (take k changes)) i r
+    → IsAt rows (before_pin rows) i r ⊎ IsAt rows (applied (before_pin rows) changes) i r
+
+-- once all changes are made, each row that no foreign pin holds is at its target, whether a pin puts it there or it
+-- rests there; once some are made, each row is where it was or where it is in the end. Each change gives its row
+-- another pin than it had, and without any pin of ours that is there in the end its row is elsewhere. None is of a row
+-- whose pin is to stay, and what such a pin holds it still holds
+pub record AreChangesFor (rows : List PinRow) (changes : List PinChange) : Type 0 where
+  pub realized : IsRealized rows (applied (before_pin rows) changes)
+  pub once : MovesOnce rows changes
+  pub needed : AreNeeded rows changes
+  pub fewest : AreForced rows (applied (before_pin rows) changes)
+  pub untouched : AreUntouched rows changes
+  pub kept : StillHolds rows (applied (before_pin rows) changes)
 
 -- the new pins are set at the rows from this one on; the old ones are still there
 abbrev pub while_set : (ℕ → Option ℕ) → (ℕ → Option ℕ) → ℕ → ℕ → Option ℕ

@@ -1,9 +1,7 @@
 //! The changes from the pins of an earlier plan to those of a new one.
 ghost use Rattle.std.specs.Prelude.{◌≡◌, ◌<◌, ◌≤◌, ◌⊎◌, ◌++◌, ◌^◌, ℕ, length, take, IfOk, OnOk};
-ghost use Rattle.ceph_plan.specs.Rule.{AreRows, IsNearest, IsRealized};
-ghost use Rattle.ceph_plan.specs.Changes.{AreForced, AreNeeded, AreUntouched, StillHolds};
-ghost use Rattle.ceph_plan.specs.Changes.{applied, before_pin, drops_from};
-ghost use Rattle.ceph_plan.specs.Changes.{is_dropped, is_set, sets_below, stands};
+ghost use Rattle.ceph_plan.specs.Rule.{AreRows};
+ghost use Rattle.ceph_plan.specs.Changes.{AreChangesFor, drops_from, is_dropped, is_set, sets_below, stands};
 
 use crate::hold::{Hold, holds_of};
 use crate::row::{PinChange, PinRow};
@@ -80,20 +78,7 @@ fn push_drops(
 /// is there already is left as it is.
 pub fn changes_for(alloc: Global, rows: &[PinRow]) -> Result<Vec<PinChange>, AllocError>
     requires { AreRows rows.now }
-    // once all are made, each row of ours is at its target
-    ensures realized { IfOk result (λ changes. IsRealized rows.now (applied (before_pin rows.now) changes.items)) }
-    // once some are made, the nearest pin of each row is where it was, or where it is in the end
-    ensures once { IfOk result (λ changes. (k i r : ℕ) → i < length rows.now
-        → IsNearest rows.now (applied (before_pin rows.now) (take k changes.items)) i r
-        → IsNearest rows.now (before_pin rows.now) i r
-        ⊎ IsNearest rows.now (applied (before_pin rows.now) changes.items) i r) }
-    // each changes its row's pin
-    ensures needed { IfOk result (λ changes. AreNeeded rows.now changes.items) }
-    // without any pin of ours that is there in the end its row is elsewhere
-    ensures forced { IfOk result (λ changes. AreForced rows.now (applied (before_pin rows.now) changes.items)) }
-    // none is of a row whose pin is to stay, and what such a pin holds it still holds
-    ensures untouched { IfOk result (λ changes. AreUntouched rows.now changes.items) }
-    ensures kept { IfOk result (λ changes. StillHolds rows.now (applied (before_pin rows.now) changes.items)) }
+    ensures { IfOk result (λ changes. AreChangesFor rows.now changes.items) }
 {
     let holds = holds_of(alloc, rows)?;
     let mut changes = Vec::new(alloc);

@@ -36,7 +36,8 @@ pub struct Wanted {
     /// move.
     pub keep: u8,
     /// Whether a directory without a pin at or above it stays where it is, as it does while Ceph's balancer is off.
-    /// Then only those get a pin that move, or that would move with the one above.
+    /// Then only those get a pin that move, or that would move with the one above, and a pin of an earlier plan that
+    /// has its directory away from the one above is kept or changed.
     pub rests: bool,
 }
 

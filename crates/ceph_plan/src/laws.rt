@@ -8,20 +8,15 @@ ghost use Rattle.ceph_plan.specs.declared.plan.PackedDivision.{PackedDivision};
 ghost use Rattle.ceph_plan.specs.declared.plan.Planned.{Planned};
 ghost use Rattle.ceph_plan.specs.Choice.{IsTaken};
 ghost use Rattle.ceph_plan.specs.declared.row.PinRow.{PinRow};
-ghost use Rattle.ceph_plan.specs.Rule.{AreRows, IsFree, IsNearest};
+ghost use Rattle.ceph_plan.specs.Rule.{AreRows, IsAt};
 ghost use Rattle.ceph_plan.specs.Changes.{while_set, while_unset};
 
-/// At each moment the nearest pin of each row is on the rank that it was on before, or on the one that it is on in the
-/// end; and where there is none, there was none before, or is none in the end.
+/// At each moment each row is where it was before, or where it is in the end.
 pub fn each_row_moves_once()
     ensures set { (rows : List PinRow) (old new : ℕ → Option ℕ) (at i r : ℕ) → AreRows rows → i < length rows
-        → IsNearest rows (while_set old new at) i r → IsNearest rows old i r ⊎ IsNearest rows new i r }
-    ensures set_free { (rows : List PinRow) (old new : ℕ → Option ℕ) (at i : ℕ) → IsFree rows (while_set old new at) i
-        → IsFree rows old i }
+        → IsAt rows (while_set old new at) i r → IsAt rows old i r ⊎ IsAt rows new i r }
     ensures unset { (rows : List PinRow) (old new : ℕ → Option ℕ) (at i r : ℕ) → AreRows rows → i < length rows
-        → IsNearest rows (while_unset old new at) i r → IsNearest rows old i r ⊎ IsNearest rows new i r }
-    ensures unset_free { (rows : List PinRow) (old new : ℕ → Option ℕ) (at i : ℕ)
-        → IsFree rows (while_unset old new at) i → IsFree rows new i }
+        → IsAt rows (while_unset old new at) i r → IsAt rows old i r ⊎ IsAt rows new i r }
 {}
 
 /// Of the same divisions, with a larger tolerance no more inodes move. What is tried doesn't depend on the tolerance.

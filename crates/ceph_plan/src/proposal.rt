@@ -1,6 +1,7 @@
 //! The changes of export pins that bring each directory to the rank that a plan gives it.
-ghost use Rattle.std.specs.Prelude.{◌≡◌, ◌==◌, ◌<◌, ℕ, length, slice_index, IfErr, IfOk, None, Some, if◌then◌else◌};
-ghost use Rattle.ceph_plan.specs.Asked.{ArePinRows};
+ghost use Rattle.std.specs.Prelude.{◌≡◌, ◌==◌, ◌<◌, ℕ, length, slice_index, IfErr, IfOk};
+ghost use Rattle.mds_types.specs.Problem.{IsForest};
+ghost use Rattle.ceph_plan.specs.Asked.{ArePinRows, rest_where};
 ghost use Rattle.ceph_plan.specs.Proposals.{IsProposal};
 ghost use Rattle.ceph_plan.specs.Refusals.{IsProposalRefusal};
 
@@ -34,12 +35,17 @@ pub struct Proposal {
 }
 
 /// Where a row is while no pin holds it, as far as that is known.
-fn rest_of(now: Rank, row: usize, rests: bool) -> Option<Rank>
-    ensures { result ≡ (if row == 0 then Some 0 else if rests then Some now else None) }
+fn rest_of(rows: &[ProblemRow], row: usize, earlier: Option<Rank>, rests: bool) -> Option<Rank>
+    requires forest { IsForest rows.now }
+    requires inside { row < length rows.now }
+    ensures { result ≡ rest_where rows.now earlier rests row }
 {
     if row == 0 {
-        Some(Rank::default())
-    } else if rests {
+        return Some(Rank::default());
+    }
+    let now = rows[row].now;
+    let above = rows[rows[row].parent as usize].now;
+    if rests && (earlier.is_none() || now == above) {
         Some(now)
     } else {
         None
@@ -47,7 +53,7 @@ fn rest_of(now: Rank, row: usize, rests: bool) -> Option<Rank>
 }
 
 /// What is asked of each row: to be at the rank of its part, wherever it is now. The root is known to stay where it
-/// is, and the others too if `rests`.
+/// is, and if `rests` so are the others, but for those that an earlier pin has away from the row above.
 fn pin_rows(
     alloc: Global,
     rows: &[ProblemRow],
@@ -56,6 +62,7 @@ fn pin_rows(
     own: &[OwnPins],
     rests: bool,
 ) -> Result<Vec<PinRow>, AllocError>
+    requires forest { IsForest rows.now }
     requires parts { length part.now ≡ length rows.now }
     requires own { length own.now ≡ length rows.now }
     requires below { (i : ℕ) → i < length rows.now → slice_index part.now i < length rank.now }
@@ -69,7 +76,7 @@ fn pin_rows(
             target: rank[part[i] as usize],
             foreign: own[i].foreign,
             earlier: own[i].earlier,
-            rest: rest_of(row.now, i, rests),
+            rest: rest_of(rows, i, own[i].earlier, rests),
         })?;
     }
     Ok(found)

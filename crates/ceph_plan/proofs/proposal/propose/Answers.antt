@@ -5,9 +5,9 @@ use Rattle.ceph_plan.specs.declared.plan.Planned.{Planned}
 use Rattle.ceph_plan.specs.declared.proposal.OwnPins.{OwnPins}
 use Rattle.ceph_plan.specs.declared.row.PinChange.{PinChange}
 use Rattle.ceph_plan.specs.declared.row.PinRow.{PinRow}
-use Rattle.ceph_plan.specs.Rule.{AreRows, IsRealized}
-use Rattle.ceph_plan.specs.Changes.{AreForced, AreNeeded, AreUntouched, StillHolds, applied, before_pin}
-use Rattle.ceph_plan.specs.Asked.{ArePinRows, MovesOnce, own_at}
+use Rattle.ceph_plan.specs.Rule.{AreRows}
+use Rattle.ceph_plan.specs.Changes.{AreChangesFor}
+use Rattle.ceph_plan.specs.Asked.{ArePinRows, own_at}
 use Rattle.ceph_plan.proofs.AskedRows.{asked-rows, same-asked}
 use Rattle.ceph_plan.proofs.proposal.propose.Goals as goal
 
@@ -44,10 +44,5 @@ returns-clause-proposal c =
       chosen = c.in_ok-plan.ensures.chosen;
       targets = same-asked rows plan.part.items _ plan.packing.rank.items _ c.args.own.now (length rows) c.args.wanted.rests c.in_ok-asked.asked.items
           c.deref.ensures.value c.deref-2.ensures.value c.in_ok-asked.ensures;
-      realized = subst (λ (asked : List PinRow). IsRealized asked (applied (before_pin asked) changes)) c.deref-4.ensures.value c.in_ok-changes.ensures.realized;
-      once = subst (λ (asked : List PinRow). MovesOnce asked changes) c.deref-4.ensures.value c.in_ok-changes.ensures.once;
-      needed = subst (λ (asked : List PinRow). AreNeeded asked changes) c.deref-4.ensures.value c.in_ok-changes.ensures.needed;
-      untouched = subst (λ (asked : List PinRow). AreUntouched asked changes) c.deref-4.ensures.value c.in_ok-changes.ensures.untouched;
-      fewest = subst (λ (asked : List PinRow). AreForced asked (applied (before_pin asked) changes)) c.deref-4.ensures.value c.in_ok-changes.ensures.forced;
-      kept = subst (λ (asked : List PinRow). StillHolds asked (applied (before_pin asked) changes)) c.deref-4.ensures.value c.in_ok-changes.ensures.kept;
+      changes = subst (λ (asked : List PinRow). AreChangesFor asked changes) c.deref-4.ensures.value c.in_ok-changes.ensures;
     }
