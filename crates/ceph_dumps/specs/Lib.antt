@@ -1,3 +1,4 @@
+pub mod Balancer
 pub mod Cluster
 pub mod Complete
 pub mod OwnList

@@ -46,6 +46,9 @@ pub enum DumpError {
     /// The file `complete` isn't the one line that the collector writes.
     #[error("expected one line `NAME FSID`")]
     Complete,
+    /// The file `balancer` isn't what the collector writes.
+    #[error("expected the seconds of mds_bal_interval, and at most a line of balance_automate")]
+    Balancer,
 }
 
 impl From<AllocError> for DumpError {

@@ -1,6 +1,7 @@
 //! What the collector wrote of a live CephFS: which file says what, and how it is read.
 #![tactic(auto)]
 
+pub mod balancer;
 pub mod cluster;
 pub mod dump_error;
 pub mod file_system;
@@ -12,6 +13,7 @@ pub mod own_list;
 pub mod rank_sets;
 pub mod subtrees;
 
+pub use balancer::read_balancer;
 pub use cluster::{FileSystemRanks, read_cluster};
 pub use dump_error::DumpError;
 pub use file_system::{FileSystem, read_complete};
