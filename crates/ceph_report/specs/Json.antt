@@ -7,8 +7,8 @@ use Rattle.ceph_plan.specs.declared.row.PinChange.{PinChange}
 use Rattle.ceph_snapshot.specs.declared.directory.Directory.{Directory}
 use Rattle.ceph_report.specs.Left.{left_at}
 use Rattle.ceph_report.specs.Text.{comma, field, json_string, lines_below}
-use Rattle.ceph_report.specs.Told.{bound_term, hottest_bound, hottest_place, hottest_planned, into_of, is_told}
-use Rattle.ceph_report.specs.Told.{now_of, out_of, pinned_of, planned_of}
+use Rattle.ceph_report.specs.Told.{bound_term, hottest_bound, hottest_planned, into_of, is_told}
+use Rattle.ceph_report.specs.Told.{now_of, out_of, pinned_of, planned_of, planned_roots_of, roots_of}
 use Rattle.ceph_report.specs.declared.facts.BoundTerm.{BoundTerm}
 use Rattle.ceph_report.specs.declared.facts.BoundTerm.TheVariants.{Hottest, Mean, Pinned}
 use Rattle.ceph_report.specs.declared.facts.Facts.{Facts}
@@ -22,7 +22,7 @@ unfoldable pub plan_head : Facts → Bool → List ℕ
 plan_head facts is_proposed =
     codes "{\"format\":1,\"proposed\":" ++ truth is_proposed
     ++ field (codes ",\n\"directories\":") (length facts.directories.now) ++ field (codes ",\"folded\":") facts.folded
-    ++ field (codes ",\"samples\":") facts.samples
+    ++ field (codes ",\"samples\":") facts.samples ++ codes ",\"balancer\":" ++ truth facts.balances
 
 -- the term that makes the bound, and the hottest directory
 abbrev pub term_name : BoundTerm → List ℕ
@@ -38,7 +38,7 @@ plan_totals facts =
 unfoldable pub bound_members : Facts → List ℕ
 bound_members facts =
     codes ",\n\"bound_by\":\"" ++ term_name (bound_term facts) ++ codes "\",\"hottest_directory\":"
-    ++ json_string (path_at facts.directories.now (hottest_place facts))
+    ++ json_string facts.hottest.now.path.items
 
 unfoldable pub plan_numbers : Facts → List ℕ
 plan_numbers facts = plan_totals facts ++ bound_members facts
@@ -51,10 +51,14 @@ rank_numbers facts r =
 unfoldable pub inode_numbers : Facts → ℕ → List ℕ
 inode_numbers facts r =
     field (codes ",\"inodes_in\":") (into_of facts r) ++ field (codes ",\"inodes_out\":") (out_of facts r)
+
+unfoldable pub root_numbers : Facts → ℕ → List ℕ
+root_numbers facts r =
+    field (codes ",\"roots\":") (roots_of facts r) ++ field (codes ",\"roots_planned\":") (planned_roots_of facts r)
     ++ codes "}"
 
 unfoldable pub rank_object : Facts → ℕ → List ℕ
-rank_object facts r = rank_numbers facts r ++ inode_numbers facts r
+rank_object facts r = rank_numbers facts r ++ inode_numbers facts r ++ root_numbers facts r
 
 -- a rank that is reported, after `before` others
 unfoldable pub rank_entry : Facts → ℕ → ℕ → List ℕ

@@ -5,6 +5,7 @@ pub mod Left
 pub mod Moves
 pub mod Picture
 pub mod Report
+pub mod Roots
 pub mod Staying
 pub mod Text
 pub mod Told

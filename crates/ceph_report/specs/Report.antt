@@ -6,17 +6,18 @@ use Rattle.mds_types.specs.Sums.{count_below}
 use Rattle.mds_types.specs.declared.limits.TheConstants.{HEAT_LIMIT}
 use Rattle.ceph_snapshot.specs.declared.directory.Directory.{Directory}
 use Rattle.ceph_snapshot.specs.Holding.{heat_at}
+use Rattle.ceph_snapshot.specs.Shown.{shown_path}
 use Rattle.ceph_report.specs.Left.{left_at}
 use Rattle.ceph_report.specs.Staying.{is_left}
 use Rattle.ceph_report.specs.Text.{columns, field, heat_text, lines_below, per_mille, percent_text, place_text}
-use Rattle.ceph_report.specs.Told.{bound_term, free_heat, hottest_place}
+use Rattle.ceph_report.specs.Told.{heat_of_ranks, bound_term, free_heat, is_over}
 use Rattle.ceph_report.specs.Told.{hottest_bound, hottest_now, hottest_planned, into_of, is_told, now_of, out_of}
-use Rattle.ceph_report.specs.Told.{pinned_of, planned_of}
+use Rattle.ceph_report.specs.Told.{pinned_of, planned_of, planned_roots_of, roots_of}
 use Rattle.ceph_report.specs.declared.facts.BoundTerm.{BoundTerm}
 use Rattle.ceph_report.specs.declared.facts.BoundTerm.TheVariants.{Hottest, Mean, Pinned}
 use Rattle.ceph_report.specs.declared.facts.Facts.{Facts}
 use Rattle.ceph_report.specs.declared.moves.Move.{Move}
-use Rattle.ceph_report.specs.declared.report.TheConstants.{CAVEAT, LINES_EACH, NOTHING}
+use Rattle.ceph_report.specs.declared.report.TheConstants.{CAVEAT, LINES_EACH, NOTHING, OVER}
 use Rattle.ceph_report.specs.declared.staying.Stay.{Stay}
 use Rattle.ceph_report.specs.declared.staying_text.LeftForm.TheVariants.{Line}
 
@@ -36,17 +37,22 @@ rank_heats facts r =
 
 -- the inodes that come to it, and those that go from it
 unfoldable pub rank_inodes : Facts → ℕ → List ℕ
-rank_inodes facts r = columns 12 (into_of facts r) ++ columns 12 (out_of facts r) ++ codes "\n"
+rank_inodes facts r = columns 12 (into_of facts r) ++ columns 12 (out_of facts r)
+
+-- its roots of subtrees: now, and as planned
+unfoldable pub rank_roots : Facts → ℕ → List ℕ
+rank_roots facts r = columns 12 (roots_of facts r) ++ columns 12 (planned_roots_of facts r) ++ codes "\n"
 
 unfoldable pub rank_row : Facts → ℕ → List ℕ
-rank_row facts r = rank_heats facts r ++ rank_inodes facts r
+rank_row facts r = rank_heats facts r ++ rank_inodes facts r ++ rank_roots facts r
 
 unfoldable pub told_line : Facts → ℕ → List ℕ
 told_line facts r = if is_told facts r then rank_row facts r else []
 
 unfoldable pub rank_table : Facts → List ℕ
 rank_table facts =
-    codes "rank         now     planned      pinned   inodes in  inodes out\n" ++ lines_below (told_line facts) 64
+    codes "rank         now     planned      pinned   inodes in  inodes out   roots now  roots then\n"
+    ++ lines_below (told_line facts) 64
 
 abbrev pub term_text : BoundTerm → List ℕ
 term_text Mean = codes "the mean load"
@@ -69,11 +75,22 @@ heat_lines facts =
 unfoldable pub bound_lines : Facts → List ℕ
 bound_lines facts = heat_lines facts ++ codes ": " ++ term_text (bound_term facts)
 
--- the hottest directory that is planned: no pin divides it
+-- the hottest directory that was collected: no pin divides it
 unfoldable pub hottest_line : Facts → List ℕ
 hottest_line facts =
-    heat_text (codes "\nhottest directory    ") (free_heat facts (hottest_place facts)) ++ codes "  "
-    ++ place_text facts.directories.now (hottest_place facts)
+    heat_text (codes "\nhottest directory    ") facts.hottest.now.heat ++ codes "  "
+    ++ shown_path facts.hottest.now.path.items ++ codes "\n"
+
+-- the line of a directory that is hotter than a fair share, with what Ceph has for it
+unfoldable pub over_text : Facts → ℕ → List ℕ
+over_text facts i =
+    heat_text OVER.now (free_heat facts i) ++ codes "  " ++ place_text facts.directories.now i
+
+unfoldable pub over_line : Facts → ℕ → ℕ → List ℕ
+over_line facts all i = if is_over facts all i then over_text facts i else []
+
+unfoldable pub over_lines : Facts → List ℕ
+over_lines facts = lines_below (over_line facts (heat_of_ranks facts 64)) (length facts.directories.now)
 
 unfoldable pub standing_text : ℕ → List ℕ
 standing_text count = if nat_lt 0 count then field (codes ", ") count ++ codes " pins are set already" else []
@@ -83,6 +100,12 @@ count_line facts =
     field CAVEAT.now facts.plan.now.count ++ field (codes " parts, ") facts.plan.now.moved
     ++ field (codes " inodes move, ") facts.changes ++ codes " changes of pins" ++ standing_text facts.standing
     ++ codes "\n"
+
+-- what is known of directories without a pin
+abbrev pub mode_text : Bool → List ℕ
+mode_text balances =
+    if balances then codes "Ceph's balancer counts as on: no directory is taken to stay where it is without a pin\n"
+    else codes "Ceph's balancer is off: a directory without a pin stays where it is\n"
 
 -- the line of a move: the inodes and the heat that a pin brings, its rank, and the directory that is pinned
 unfoldable pub brought_text : List Directory → Move → List ℕ
@@ -150,13 +173,13 @@ capped_lines directories = lines_below (capped_line directories) (length directo
 unfoldable pub plan_text : Facts → List ℕ
 plan_text facts =
     head_line facts ++ rank_table facts ++ bound_lines facts ++ hottest_line facts ++ count_line facts
-    ++ moves_text facts.directories.now facts.moves.now
+    ++ mode_text facts.balances ++ moves_text facts.directories.now facts.moves.now
 
 -- what was left out, or has no single rank
 unfoldable pub left_out : Facts → List ℕ
 left_out facts =
-    folded_line facts.folded ++ absent_lines facts ++ left_lines facts.directories.now facts.stays.now
-    ++ capped_lines facts.directories.now
+    folded_line facts.folded ++ over_lines facts ++ absent_lines facts
+    ++ left_lines facts.directories.now facts.stays.now ++ capped_lines facts.directories.now
 
 unfoldable pub report : Facts → Bool → List ℕ
 report facts is_proposed =

@@ -1,14 +1,16 @@
 -- What is reported of a plan.
-use Rattle.std.specs.Prelude.{◌==◌, ◌||◌, ◌+◌, ℕ, zero, suc, Bool, List, length, max, min, nat_le, nat_lt, slice_index}
-use Rattle.std.specs.Prelude.{if◌then◌else◌}
-use Rattle.mds_types.specs.RankSet.{has_rank}
-use Rattle.mds_types.specs.Sums.{max_below}
-use Rattle.mds_types.specs.declared.limits.TheConstants.{HEAT_LIMIT}
+use Rattle.std.specs.Prelude.{◌≡◌, ◌==◌, ◌||◌, ◌+◌, ◌*◌, ℕ, zero, suc, Bool, List, length, max, min}
+use Rattle.std.specs.Prelude.{nat_le, nat_lt, slice_index, if◌then◌else◌}
+use Rattle.mds_types.specs.RankSet.{has_rank, rank_count}
+use Rattle.mds_types.specs.Sums.{max_below, sum_below}
+use Rattle.ceph_pins.specs.PinsScript.{path_at}
+use Rattle.ceph_snapshot.specs.declared.directory.Directory.{Directory}
 use Rattle.ceph_snapshot.specs.Holding.{heat_at, held_at, most_heat}
 use Rattle.ceph_snapshot.specs.Rows.{is_free}
 use Rattle.ceph_report.specs.declared.facts.BoundTerm.{BoundTerm}
 use Rattle.ceph_report.specs.declared.facts.BoundTerm.TheVariants.{Hottest, Mean, Pinned}
 use Rattle.ceph_report.specs.declared.facts.Facts.{Facts}
+use Rattle.ceph_report.specs.declared.facts.HottestDirectory.{HottestDirectory}
 
 -- the heat at rank r, and the inodes that come to it and go from it
 abbrev pub now_of : Facts → ℕ → ℕ
@@ -25,6 +27,13 @@ into_of facts r = slice_index facts.sums.now.into.items r
 
 abbrev pub out_of : Facts → ℕ → ℕ
 out_of facts r = slice_index facts.sums.now.out.items r
+
+-- and how many roots of subtrees it has now and as planned
+abbrev pub roots_of : Facts → ℕ → ℕ
+roots_of facts r = slice_index facts.roots.now.now.items r
+
+abbrev pub planned_roots_of : Facts → ℕ → ℕ
+planned_roots_of facts r = slice_index facts.roots.now.planned.items r
 
 -- a rank is reported if it may have a part, or something is there now
 abbrev pub is_told : Facts → ℕ → Bool
@@ -53,9 +62,21 @@ abbrev pub top_below : (ℕ → ℕ) → ℕ → ℕ
 top_below f zero = 0
 top_below f (suc n) = if nat_lt (f (top_below f n)) (f n) then n else top_below f n
 
--- the hottest directory that is planned
-abbrev pub hottest_place : Facts → ℕ
-hottest_place facts = top_below (free_heat facts) (length facts.directories.now)
+-- the place of the hottest of directories that have these heats, and that directory
+abbrev pub hottest_place : List ℕ → ℕ
+hottest_place heats = top_below (slice_index heats) (length heats)
+
+pub record IsHottest (directories : List Directory) (heats : List ℕ) (hottest : HottestDirectory) : Type 0 where
+  pub heat : hottest.heat ≡ slice_index heats (hottest_place heats)
+  pub path : hottest.path.items ≡ path_at directories (hottest_place heats)
+
+-- the heat at the ranks below n
+abbrev pub heat_of_ranks : Facts → ℕ → ℕ
+heat_of_ranks facts n = sum_below n (now_of facts)
+
+-- a directory that is planned is hotter than a fair share of all this heat for each rank
+abbrev pub is_over : Facts → ℕ → ℕ → Bool
+is_over facts all i = nat_lt all (free_heat facts i * rank_count facts.ranks)
 
 -- of the ranks below n that may have a part, the least that is pinned to one
 abbrev pub least_pinned : Facts → ℕ → ℕ
@@ -63,12 +84,12 @@ least_pinned facts zero = most_heat
 least_pinned facts (suc n) =
     if has_rank facts.ranks n then min (pinned_of facts n) (least_pinned facts n) else least_pinned facts n
 
--- the heat of the hottest directory, as far as a plan counts it, with the least that is pinned to a rank
+-- the heat of the hottest directory that was collected, with the least that is pinned to a rank
 unfoldable pub single_load : Facts → ℕ
-single_load facts = min most_heat (min (free_heat facts (hottest_place facts)) HEAT_LIMIT + least_pinned facts 64)
+single_load facts = min most_heat (facts.hottest.now.heat + least_pinned facts 64)
 
 -- the term that makes the bound: what is pinned to one rank or the hottest directory, where that comes to the bound,
--- otherwise the mean load. A directory that folding made hotter than the bound doesn't make it
+-- otherwise the mean load
 unfoldable pub bound_term : Facts → BoundTerm
 bound_term facts =
     if nat_le (hottest_bound facts) (hottest facts.pinned.now) then Pinned

@@ -1,15 +1,18 @@
 //! What is reported of a plan, as text and as JSON.
-ghost use Rattle.std.specs.Prelude.{◌≡◌, ◌<◌, slice_index};
+ghost use Rattle.std.specs.Prelude.{◌≡◌, ◌<◌, IfOk, slice_index};
 ghost use Rattle.mds_types.specs.RankSet.{has_rank};
-ghost use Rattle.ceph_report.specs.Told.{bound_term, free_heat, hottest, hottest_bound, hottest_now};
-ghost use Rattle.ceph_report.specs.Told.{hottest_place, hottest_planned, is_told, least_pinned, single_load};
+ghost use Rattle.ceph_report.specs.Told.{IsHottest, heat_of_ranks, bound_term, free_heat, hottest, hottest_bound};
+ghost use Rattle.ceph_report.specs.Told.{hottest_now, hottest_place, hottest_planned, is_over, is_told};
+ghost use Rattle.ceph_report.specs.Told.{least_pinned, single_load};
 
 use crate::moves::{Move, Sums};
+use crate::roots::Roots;
 use crate::staying::Stay;
 use ceph_plan::Planned;
 use ceph_snapshot::{Directory, Held};
-use mds_types::limits::{HEAT_LIMIT, RANK_LIMIT};
+use mds_types::limits::RANK_LIMIT;
 use mds_types::{Rank, RankSet};
+use std::alloc::{AllocError, Global};
 
 /// What is reported of a plan.
 #[derive(Clone, Copy)]
@@ -30,6 +33,8 @@ pub struct Facts<'a> {
     pub active: RankSet,
     /// The ranks that may have a part.
     pub ranks: RankSet,
+    /// Whether Ceph's balancer is on.
+    pub balances: bool,
     /// The plan.
     pub plan: &'a Planned,
     /// What no assignment of the collected directories to the ranks that may have a part can get below, in thousandths.
@@ -38,6 +43,10 @@ pub struct Facts<'a> {
     pub sums: &'a Sums,
     /// The heat that is held at each rank by pins of others, in thousandths.
     pub pinned: &'a [u64],
+    /// The hottest of the collected directories that nothing holds.
+    pub hottest: &'a HottestDirectory,
+    /// How many roots of subtrees each rank has.
+    pub roots: &'a Roots,
     /// What each new pin brings.
     pub moves: &'a [Move],
     /// Of each directory whether it is left where it is, and why.
@@ -46,6 +55,15 @@ pub struct Facts<'a> {
     pub changes: usize,
     /// How many pins of an earlier plan stay as they are.
     pub standing: usize,
+}
+
+/// A directory that is hottest.
+#[derive(Drop)]
+pub struct HottestDirectory {
+    /// Its path.
+    pub path: Vec<u8>,
+    /// Its heat, in thousandths.
+    pub heat: u64,
 }
 
 /// Which of its terms makes the bound.
@@ -68,6 +86,36 @@ pub fn hottest(heats: &[u64]) -> u64
         greatest = (*heat).max(greatest);
     }
     greatest
+}
+
+/// The place of the greatest number, the first one of several.
+fn greatest_place(numbers: &[u64]) -> usize
+    ensures { result ≡ hottest_place numbers.now }
+{
+    let mut greatest = 0;
+    for at in 0..numbers.len() {
+        if numbers.get(greatest).copied().unwrap_or(0) < numbers[at] {
+            greatest = at;
+        }
+    }
+    greatest
+}
+
+/// The hottest of directories that have these heats.
+pub fn hottest_of(
+    alloc: Global,
+    directories: &[Directory],
+    heats: &[u64],
+) -> Result<HottestDirectory, AllocError>
+    ensures { IfOk result (IsHottest directories.now heats.now) }
+{
+    let place = greatest_place(heats);
+    let path = match directories.get(place) {
+        Some(directory) => directory.path.as_slice().to_vec(alloc)?,
+        None => Vec::new(alloc),
+    };
+    let heat = heats.get(place).copied().unwrap_or(0);
+    Ok(HottestDirectory { path, heat })
 }
 
 /// The number at a place, 0 where there is none.
@@ -110,17 +158,22 @@ impl Facts<'_> {
         }
     }
 
-    /// The place of the hottest directory that is planned.
-    pub(crate) fn hottest_place(&self) -> usize
-        ensures { result ≡ hottest_place self.now }
+    /// The heat at all ranks now, in thousandths.
+    pub(crate) fn heat_now(&self) -> u128
+        ensures { result ≡ heat_of_ranks self.now 64 }
     {
-        let mut hottest = 0;
-        for at in 0..self.directories.len() {
-            if self.free_heat(hottest) < self.free_heat(at) {
-                hottest = at;
-            }
+        let mut all = 0u128;
+        for number in 0..RANK_LIMIT {
+            all += u128::from(number_at(&self.sums.now, number));
         }
-        hottest
+        all
+    }
+
+    /// Whether a directory that is planned is hotter than a fair share of all this heat for each rank.
+    pub(crate) fn is_over(&self, all: u128, at: usize) -> bool
+        ensures { result ≡ is_over self.now all at }
+    {
+        u128::from(self.free_heat(at)) * u128::from(self.ranks.len()) > all
     }
 
     /// The least heat that is pinned to a rank that may have a part, in thousandths.
@@ -136,13 +189,12 @@ impl Facts<'_> {
         least
     }
 
-    /// The heat of the hottest directory, as far as a plan counts it, with the least that is pinned to a rank.
+    /// The heat of the hottest directory with the least that is pinned to a rank.
     #[tactic(auto, unfolding(crate::specs::Told::single_load))]
     fn single_load(&self) -> u64
         ensures { result ≡ single_load self.now }
     {
-        let hottest = self.free_heat(self.hottest_place()).min(HEAT_LIMIT);
-        hottest.saturating_add(self.least_pinned())
+        self.hottest.heat.saturating_add(self.least_pinned())
     }
 
     /// Which of its terms makes the bound.

@@ -6,7 +6,7 @@ ghost use Rattle.std.specs.Prelude.{slice_index_or, if◌then◌else◌};
 ghost use Rattle.ceph_pins.specs.PinsScript.{path_at, pin_text};
 ghost use Rattle.ceph_report.specs.Json.{bound_members, inode_numbers, json, part_list, part_member, pin_list};
 ghost use Rattle.ceph_report.specs.Json.{pin_member, pin_object, plan_head, plan_numbers, plan_totals, rank_entry};
-ghost use Rattle.ceph_report.specs.Json.{rank_list, rank_numbers, rank_object, term_name, truth};
+ghost use Rattle.ceph_report.specs.Json.{rank_list, rank_numbers, rank_object, root_numbers, term_name, truth};
 ghost use Rattle.ceph_report.specs.Json.{stay_list};
 ghost use Rattle.ceph_report.specs.Text.{json_string};
 ghost use Rattle.ceph_report.specs.Told.{is_told};
@@ -37,7 +37,9 @@ fn push_head(text: &mut Vec<u8>, facts: &Facts, is_proposed: bool) -> Result<(),
     push_text(text, truth(is_proposed))?;
     push_number(text, ",\n\"directories\":", facts.directories.len() as u64)?;
     push_number(text, ",\"folded\":", facts.folded as u64)?;
-    push_number(text, ",\"samples\":", facts.samples)
+    push_number(text, ",\"samples\":", facts.samples)?;
+    push_text(text, ",\"balancer\":")?;
+    push_text(text, truth(facts.balances))
 }
 
 /// Adds what the plan comes to.
@@ -62,7 +64,7 @@ fn term_name(term: BoundTerm) -> &'static str
     }
 }
 
-/// Adds which term makes the bound, and the hottest directory that is planned.
+/// Adds which term makes the bound, and the hottest directory that was collected.
 #[tactic(auto, unfolding(crate::specs::Json::bound_members))]
 fn push_bound(text: &mut Vec<u8>, facts: &Facts) -> Result<(), AllocError>
     ensures { OnOk result (text.new.items ≡ text.old.items ++ bound_members facts.now) }
@@ -70,7 +72,7 @@ fn push_bound(text: &mut Vec<u8>, facts: &Facts) -> Result<(), AllocError>
     push_text(text, ",\n\"bound_by\":\"")?;
     push_text(text, term_name(facts.bound_term()))?;
     push_text(text, "\",\"hottest_directory\":")?;
-    push_place(text, facts.directories, facts.hottest_place())
+    push_string(text, &facts.hottest.path)
 }
 
 /// Adds what the plan comes to, and what makes the bound.
@@ -100,7 +102,17 @@ fn push_rank_inodes(text: &mut Vec<u8>, facts: &Facts, number: u8) -> Result<(),
     ensures { OnOk result (text.new.items ≡ text.old.items ++ inode_numbers facts.now number) }
 {
     push_number(text, ",\"inodes_in\":", number_at(&facts.sums.into, number))?;
-    push_number(text, ",\"inodes_out\":", number_at(&facts.sums.out, number))?;
+    push_number(text, ",\"inodes_out\":", number_at(&facts.sums.out, number))
+}
+
+/// Adds how many roots of subtrees a rank has, now and as planned.
+#[tactic(auto, unfolding(crate::specs::Json::root_numbers))]
+fn push_rank_roots(text: &mut Vec<u8>, facts: &Facts, number: u8) -> Result<(), AllocError>
+    ensures { OnOk result (text.new.items ≡ text.old.items ++ root_numbers facts.now number) }
+{
+    push_number(text, ",\"roots\":", number_at(&facts.roots.now, number))?;
+    let planned = number_at(&facts.roots.planned, number);
+    push_number(text, ",\"roots_planned\":", planned)?;
     push_text(text, "}")
 }
 
@@ -110,7 +122,8 @@ fn push_rank(text: &mut Vec<u8>, facts: &Facts, number: u8) -> Result<(), AllocE
     ensures { OnOk result (text.new.items ≡ text.old.items ++ rank_object facts.now number) }
 {
     push_rank_heats(text, facts, number)?;
-    push_rank_inodes(text, facts, number)
+    push_rank_inodes(text, facts, number)?;
+    push_rank_roots(text, facts, number)
 }
 
 /// Adds a rank if it is reported, after `before` others. Gives how many there are now.

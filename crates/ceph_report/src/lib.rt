@@ -10,15 +10,17 @@ pub mod moves;
 pub mod picture;
 mod places;
 pub mod report;
+pub mod roots;
 pub mod staying;
 pub mod staying_text;
 mod text;
 
 pub use check::{PinCheck, check_pins};
-pub use facts::{Facts, hottest};
+pub use facts::{Facts, HottestDirectory, hottest, hottest_of};
 pub use json::make_json;
 pub use mdbal_script::make_script;
 pub use moves::{Move, Sums, goals_of, moves_of, sums_of};
 pub use picture::make_picture;
 pub use report::make_report;
+pub use roots::{Roots, roots_of};
 pub use staying::{Stay, stays_of};

@@ -5,9 +5,10 @@ ghost use Rattle.ceph_snapshot.specs.Holding.{heat_at};
 ghost use Rattle.ceph_report.specs.Report.{absence, absent_line, absent_lines, bound_lines, brought_line};
 ghost use Rattle.ceph_report.specs.Report.{brought_lines, brought_text, capped_line, capped_lines, capped_text};
 ghost use Rattle.ceph_report.specs.Report.{count_line, folded_line, head_line, heat_lines, hot_count, hottest_line};
-ghost use Rattle.ceph_report.specs.Report.{left_out, more_line, moves_table};
-ghost use Rattle.ceph_report.specs.Report.{moves_text, plan_text, rank_heats, rank_inodes, rank_row};
-ghost use Rattle.ceph_report.specs.Report.{rank_table, report, standing_text, term_text, told_line};
+ghost use Rattle.ceph_report.specs.Report.{left_out, mode_text, more_line, moves_table, over_line, over_lines};
+ghost use Rattle.ceph_report.specs.Report.{moves_text, over_text, plan_text, rank_heats, rank_inodes};
+ghost use Rattle.ceph_report.specs.Report.{rank_roots, rank_row, rank_table, report, standing_text, term_text};
+ghost use Rattle.ceph_report.specs.Report.{told_line};
 ghost use Rattle.ceph_report.specs.Text.{place_text};
 
 use crate::facts::{BoundTerm, Facts, has_number, number_at};
@@ -65,7 +66,16 @@ fn push_rank_inodes(text: &mut Vec<u8>, facts: &Facts, number: u8) -> Result<(),
     ensures { OnOk result (text.new.items ≡ text.old.items ++ rank_inodes facts.now number) }
 {
     push_columns(text, number_at(&facts.sums.into, number), 12)?;
-    push_columns(text, number_at(&facts.sums.out, number), 12)?;
+    push_columns(text, number_at(&facts.sums.out, number), 12)
+}
+
+/// Adds how many roots of subtrees a rank has, now and as planned.
+#[tactic(auto, unfolding(crate::specs::Report::rank_roots))]
+fn push_rank_roots(text: &mut Vec<u8>, facts: &Facts, number: u8) -> Result<(), AllocError>
+    ensures { OnOk result (text.new.items ≡ text.old.items ++ rank_roots facts.now number) }
+{
+    push_columns(text, number_at(&facts.roots.now, number), 12)?;
+    push_columns(text, number_at(&facts.roots.planned, number), 12)?;
     push_text(text, "\n")
 }
 
@@ -75,7 +85,8 @@ fn push_rank(text: &mut Vec<u8>, facts: &Facts, number: u8) -> Result<(), AllocE
     ensures { OnOk result (text.new.items ≡ text.old.items ++ rank_row facts.now number) }
 {
     push_rank_heats(text, facts, number)?;
-    push_rank_inodes(text, facts, number)
+    push_rank_inodes(text, facts, number)?;
+    push_rank_roots(text, facts, number)
 }
 
 /// Adds the line of a rank, if it has one.
@@ -98,7 +109,7 @@ fn push_ranks(text: &mut Vec<u8>, facts: &Facts) -> Result<(), AllocError>
 {
     push_text(
         text,
-        "rank         now     planned      pinned   inodes in  inodes out\n",
+        "rank         now     planned      pinned   inodes in  inodes out   roots now  roots then\n",
     )?;
     for number in 0..RANK_LIMIT {
         push_told(text, facts, number)?;
@@ -151,15 +162,15 @@ fn push_bound(text: &mut Vec<u8>, facts: &Facts) -> Result<(), AllocError>
     push_text(text, term_text(facts.bound_term()))
 }
 
-/// Adds the hottest directory that is planned.
+/// Adds the hottest directory that was collected.
 #[tactic(auto, unfolding(crate::specs::Report::hottest_line))]
 fn push_hottest(text: &mut Vec<u8>, facts: &Facts) -> Result<(), AllocError>
     ensures { OnOk result (text.new.items ≡ text.old.items ++ hottest_line facts.now) }
 {
-    let at = facts.hottest_place();
-    push_heat(text, "\nhottest directory    ", facts.free_heat(at))?;
+    push_heat(text, "\nhottest directory    ", facts.hottest.heat)?;
     push_text(text, "  ")?;
-    push_place(text, facts.directories, at)
+    push_path(text, &facts.hottest.path)?;
+    push_text(text, "\n")
 }
 
 /// Adds how many pins of an earlier plan stay as they are.
@@ -174,6 +185,10 @@ fn push_standing(text: &mut Vec<u8>, count: usize) -> Result<(), AllocError>
     push_text(text, " pins are set already")
 }
 
+/// What comes before the heat of a directory that is hotter than a fair share.
+const OVER: &str =
+    "hotter than a fair share, and no pin divides it (ceph.dir.pin.distributed spreads its fragments):";
+
 /// Adds how many parts there are, and what changes.
 #[tactic(auto, unfolding(crate::specs::Report::count_line))]
 fn push_counts(text: &mut Vec<u8>, facts: &Facts) -> Result<(), AllocError>
@@ -185,6 +200,17 @@ fn push_counts(text: &mut Vec<u8>, facts: &Facts) -> Result<(), AllocError>
     push_text(text, " changes of pins")?;
     push_standing(text, facts.standing)?;
     push_text(text, "\n")
+}
+
+/// What is known of directories without a pin.
+fn mode_text(balances: bool) -> &'static str
+    ensures { result.now ≡ mode_text balances }
+{
+    if balances {
+        "Ceph's balancer counts as on: no directory is taken to stay where it is without a pin\n"
+    } else {
+        "Ceph's balancer is off: a directory without a pin stays where it is\n"
+    }
 }
 
 /// Adds the path of a directory, and ends the line.
@@ -306,6 +332,40 @@ fn push_folded(text: &mut Vec<u8>, count: usize) -> Result<(), AllocError>
     push_text(text, " directories were folded into their parents\n")
 }
 
+/// Adds the line of a directory that is hotter than a fair share, with what Ceph has for it.
+#[tactic(auto, unfolding(crate::specs::Report::over_text))]
+fn push_over_text(text: &mut Vec<u8>, facts: &Facts, at: usize) -> Result<(), AllocError>
+    ensures { OnOk result (text.new.items ≡ text.old.items ++ over_text facts.now at) }
+{
+    push_heat(text, OVER, facts.free_heat(at))?;
+    push_text(text, "  ")?;
+    push_place(text, facts.directories, at)
+}
+
+/// Adds the line of a directory, if it is hotter than a fair share of all this heat.
+#[tactic(auto, unfolding(crate::specs::Report::over_line))]
+fn push_over(text: &mut Vec<u8>, facts: &Facts, all: u128, at: usize) -> Result<(), AllocError>
+    ensures { OnOk result (text.new.items ≡ text.old.items ++ over_line facts.now all at) }
+{
+    if facts.is_over(all, at) {
+        push_over_text(text, facts, at)
+    } else {
+        Ok(())
+    }
+}
+
+/// Adds the directories that are hotter than a fair share: fewer than there are ranks.
+#[tactic(auto, unfolding(crate::specs::Report::over_lines))]
+fn push_all_over(text: &mut Vec<u8>, facts: &Facts) -> Result<(), AllocError>
+    ensures { OnOk result (text.new.items ≡ text.old.items ++ over_lines facts.now) }
+{
+    let all = facts.heat_now();
+    for at in 0..facts.directories.len() {
+        push_over(text, facts, all, at)?;
+    }
+    Ok(())
+}
+
 /// Why a rank below `max_mds` can't have a part; empty where it can.
 #[tactic(auto, unfolding(crate::specs::Report::absence))]
 fn absence(facts: &Facts, number: u8) -> &'static str
@@ -405,6 +465,7 @@ fn push_plan(text: &mut Vec<u8>, facts: &Facts) -> Result<(), AllocError>
     push_bound(text, facts)?;
     push_hottest(text, facts)?;
     push_counts(text, facts)?;
+    push_text(text, mode_text(facts.balances))?;
     push_moves(text, facts.directories, facts.moves)
 }
 
@@ -414,6 +475,7 @@ fn push_left_out(text: &mut Vec<u8>, facts: &Facts) -> Result<(), AllocError>
     ensures { OnOk result (text.new.items ≡ text.old.items ++ left_out facts.now) }
 {
     push_folded(text, facts.folded)?;
+    push_all_over(text, facts)?;
     push_all_absent(text, facts)?;
     push_all_left(text, facts.directories, facts.stays)?;
     push_all_capped(text, facts.directories)
