@@ -1,7 +1,7 @@
 //! Whether Ceph's balancer is on: the file `balancer` of the collector.
 //!
-//! Its first line is the interval of the balancer in seconds (`mds_bal_interval`). From Ceph 18 on a second line has the
-//! flag `balance_automate` of the file system.
+//! Its first line is the interval of the balancer in seconds (`mds_bal_interval`). From Ceph 18 on a second line has
+//! the flag `balance_automate` of the file system.
 ghost use Rattle.std.specs.Prelude.{◌≡◌, ◌<◌, ◌≤◌, ℕ, Bool, length, slice_index, true, false, IfErr, IfOk};
 ghost use Rattle.std.specs.Prelude.{MatchOption, Option};
 ghost use Rattle.ceph_dumps.specs.Balancer.{IsBalancer, flag_text, has_time, is_digit};

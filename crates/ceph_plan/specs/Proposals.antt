@@ -9,7 +9,8 @@ use Rattle.ceph_plan.specs.Asked.{ArePinRows}
 use Rattle.ceph_plan.specs.Choice.{IsPlanChoice}
 
 -- the plan is the one that is chosen of all numbers of parts, or of the number that is asked for; what is asked of the
--- pins is what was planned, wherever rows without a pin are, or with these staying where they are; and the changes do it
+-- pins is what was planned, wherever rows without a pin are, or with these staying where they are; and the changes
+-- do it
 pub record IsProposal (ranks : ℕ) (pinned : List ℕ) (rows : List ProblemRow) (wanted : Wanted) (own : List OwnPins)
     (found : Proposal) : Type 0 where
   pub chosen : IsPlanChoice ranks pinned rows wanted found.plan

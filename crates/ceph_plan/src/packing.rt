@@ -88,7 +88,8 @@ fn packing_of(
     even: &Choice,
     keep: u8,
 ) -> Result<Packing, AllocError>
-    requires even { IsEvenPacking parts.now.ranks parts.now.pinned.now parts.now.heats.now parts.now.root even.now.rank.items }
+    requires even { IsEvenPacking parts.now.ranks parts.now.pinned.now parts.now.heats.now parts.now.root
+        even.now.rank.items }
     requires greatest { even.now.greatest
         ≡ greatest_by parts.now.ranks parts.now.pinned.now parts.now.heats.now even.now.rank.items }
     ensures parts { IfOk result (IsPartsPacking parts.now.ranks parts.now.pinned.now parts.now.heats.now
