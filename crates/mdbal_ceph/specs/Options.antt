@@ -1,5 +1,5 @@
 -- The options as they are read of the words, and what is planned by them.
-use Rattle.std.specs.Prelude.{◌≡◌, ◌*◌, ℕ, true, false, List, Option, Some, None, codes, is_some, length}
+use Rattle.std.specs.Prelude.{◌≡◌, ◌*◌, ℕ, Bool, true, false, List, [], Option, Some, None, codes, is_some, length, not}
 use Rattle.std.specs.Prelude.{string_bytes}
 use Rattle.std.specs.Prelude.{if◌then◌else◌}
 use Rattle.std.specs.Option.{option_map, unwrap_or}
@@ -7,6 +7,7 @@ use Rattle.std.specs.Str.{bytes_eq}
 use Rattle.std.specs.Str.Parse.{digits_value, without_leading_plus}
 use Rattle.clap.specs.Words.{Row, first_of, one_of}
 use Rattle.ceph_plan.specs.declared.choice.PartCount.{PartCount}
+use Rattle.ceph_plan.specs.declared.choice.Wanted.{Wanted}
 use Rattle.ceph_plan.specs.declared.worth.LeastGain.{LeastGain}
 use Rattle.ceph_plan.specs.declared.choice.PartCount.TheVariants.{AtMost, Auto}
 use Rattle.ceph_report.specs.Check.{all_hold, check_text}
@@ -46,13 +47,12 @@ least_named rows =
       each_thousand = option_number (value_or rows (codes "least-by-inodes") (codes "0")) * 1000;
     }
 
--- each setting is the value of the option of its name; no option says that what has no pin stays where it is
+-- each setting is the value of the option of its name
 pub record AreRead (rows : List Row) (settings : PlanSettings) : Type 0 where
   pub folder : settings.folder.now ≡ value_or rows (codes "folder") (codes ".")
-  pub parts : settings.wanted.parts
+  pub parts : settings.parts
       ≡ parts_named (value_or rows (codes "parts") (codes "auto")) (value_or rows (codes "most-pins") (codes "1000"))
-  pub keep : settings.wanted.keep ≡ option_number (value_or rows (codes "keep") (codes "5"))
-  pub rests : settings.wanted.rests ≡ false
+  pub keep : settings.keep ≡ option_number (value_or rows (codes "keep") (codes "5"))
   pub least : settings.least ≡ least_named rows
   pub mask : settings.mask ≡ mask_named (first_of (codes "mask") rows)
   pub mount : settings.mount.now ≡ value_or rows (codes "mount") (codes "/mnt/cephfs")
@@ -64,15 +64,22 @@ pub record AreRead (rows : List Row) (settings : PlanSettings) : Type 0 where
   pub json : one_of (codes "json") rows ≡ Some (codes "true") → settings.is_json ≡ true
   pub no_json : one_of (codes "json") rows ≡ Some (codes "false") → settings.is_json ≡ false
 
+-- the plan that is wanted by the settings. While the balancer is off, what has no pin stays where it is
+abbrev pub wanted_by : PlanSettings → Bool → Wanted
+wanted_by settings balances = record { parts = settings.parts; keep = settings.keep; rests = not balances }
+
 -- what is written is that of a plan of what was collected: of its directories, by the settings, for the ranks of the
--- mask that is asked for or else of the cluster's own, and with the list of pins where one is asked for
+-- mask that is asked for or else of the cluster's own, with the list of pins where one is asked for, and with all that
+-- has no pin staying where it is if the balancer is off
 pub record IsPlanWritten (settings : PlanSettings) (output : PlanOutput) : Type 0 where
   pub collected : Collected
   pub outcome : Outcome
   pub own : is_some collected.own ≡ is_some settings.own
   pub ours : HasOurPins collected
   pub ranks : AreUsable settings.mask (option_map string_bytes collected.cluster.mask) collected.cluster outcome.ranks
-  pub of : IsOutcome collected.snapshot.directories.items collected.snapshot.spread.items settings.wanted outcome
+  pub of : IsOutcome collected.snapshot.directories.items collected.snapshot.spread.items
+      (wanted_by settings collected.balances) outcome
+  pub balances : outcome.balances ≡ collected.balances
   pub file_system : outcome.file_system ≡ collected.file_system
   pub written : IsWritten settings outcome output
 

@@ -15,6 +15,8 @@ use Rattle.ceph_plan.specs.declared.proposal.OwnPins.{OwnPins}
 use Rattle.ceph_plan.specs.declared.proposal.Proposal.{Proposal}
 use Rattle.ceph_plan.specs.Proposals.{IsProposal}
 use Rattle.ceph_report.specs.Amounts.{AreAmounts, goal_at, heat_now, inodes_from, inodes_to}
+use Rattle.ceph_report.specs.Told.{IsHottest}
+use Rattle.ceph_report.specs.declared.facts.HottestDirectory.{HottestDirectory}
 use Rattle.ceph_pins.specs.OwnPins.{AreOwnPins}
 use Rattle.mdbal_ceph.specs.declared.outcome.Decision.{Decision}
 use Rattle.mdbal_ceph.specs.declared.outcome.Outcome.{Outcome}
@@ -62,6 +64,12 @@ pub record AreFreeHeats (collected : List Directory) (heats : List ℕ) : Type 0
   pub size : length heats ≡ length collected
   pub free : (i : ℕ) → i < length collected → slice_index heats i ≡ free_heat collected holds i
 
+-- the hottest of the collected directories that nothing holds
+pub record IsHottestOfAll (collected : List Directory) (hottest : HottestDirectory) : Type 0 where
+  pub heats : List ℕ
+  pub are : AreFreeHeats collected heats
+  pub is : IsHottest collected heats hottest
+
 -- whichever of the ranks each collected directory goes to that nothing holds, one rank has at least this load, with
 -- what is held there. If their heat is at most 2^62 in all, the bound is no less than the mean load, than each
 -- directory with the least that is held at a rank, and than what is held at each
@@ -74,7 +82,8 @@ pub record IsBoundOfAll (collected : List Directory) (pinned : List ℕ) (ranks 
 
 -- what was collected of directories, with this heat by rank of what is spread, and what came of it: as many
 -- directories as the planner takes, all that were collected where they are no more than that, with all their heat and
--- inodes, each that may not be pinned among them, what is decided for these, and the bound of all that were collected
+-- inodes, each that may not be pinned among them, what is decided for these, and the hottest and the bound of all that
+-- were collected
 pub record IsOutcome
     (collected : List Directory) (spread : List ℕ) (wanted : Wanted) (outcome : Outcome) : Type 0 where
   pub few : length outcome.directories.items ≡ min (length collected) DIR_LIMIT
@@ -83,4 +92,5 @@ pub record IsOutcome
   pub count : length outcome.directories.items + outcome.folded ≡ length collected
   pub unpinnable : KeepUnpinnable collected → StillKeepUnpinnable collected outcome.directories.items
   pub decided : IsDecision outcome.directories.items spread outcome.ranks wanted outcome.decision
+  pub hottest : IsHottestOfAll collected outcome.hottest
   pub bound : IsBoundOfAll collected outcome.decision.pinned.items outcome.ranks outcome.bound

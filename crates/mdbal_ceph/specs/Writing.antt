@@ -12,6 +12,7 @@ use Rattle.ceph_pins.specs.Standing.{is_standing}
 use Rattle.ceph_report.specs.Json.{json}
 use Rattle.ceph_report.specs.Moves.{AreMoves}
 use Rattle.ceph_report.specs.Report.{report}
+use Rattle.ceph_report.specs.Roots.{AreRoots}
 use Rattle.ceph_report.specs.Staying.{AreStays}
 use Rattle.ceph_report.specs.Told.{hottest}
 use Rattle.ceph_report.specs.declared.facts.Facts.{Facts}
@@ -60,7 +61,9 @@ pub record AreFacts (outcome : Outcome) (count : ℕ) (facts : Facts) : Type 0 w
   pub there : facts.there ≡ outcome.there
   pub active : facts.active ≡ outcome.active
   pub ranks : facts.ranks ≡ outcome.ranks
+  pub balances : facts.balances ≡ outcome.balances
   pub plan : facts.plan.now ≡ outcome.decision.proposal.plan
+  pub hottest : facts.hottest.now ≡ outcome.hottest
   pub bound : facts.bound ≡ outcome.bound
   pub sums : facts.sums.now ≡ outcome.decision.sums
   pub pinned : facts.pinned.now ≡ outcome.decision.pinned.items
@@ -73,13 +76,15 @@ standing_count outcome =
     count_below (length outcome.decision.proposal.rows.items)
     (is_standing outcome.decision.proposal.rows.items outcome.decision.proposal.changes.items)
 
--- the text is the report of the outcome's facts, or the plan as JSON, with what each pin brings and what is left where
--- it is
+-- the text is the report of the outcome's facts, or the plan as JSON, with what each pin brings, the roots of subtrees,
+-- and what is left where it is
 pub record IsTold (outcome : Outcome) (is_json is_proposed : Bool) (text : List ℕ) : Type 0 where
   pub facts : Facts
   pub of : AreFacts outcome (standing_count outcome) facts
   pub moves : AreMoves outcome.directories.items outcome.decision.holds.items outcome.decision.proposal.rows.items
       outcome.decision.proposal.changes.items facts.moves.now
+  pub roots : AreRoots outcome.directories.items outcome.decision.proposal.rows.items
+      outcome.decision.proposal.changes.items outcome.decision.goals.items facts.roots.now
   pub stays : AreStays outcome.directories.items facts.stays.now
   pub told : text
       ≡ (if is_json then json facts (proposed_changes outcome is_proposed) is_proposed else report facts is_proposed)

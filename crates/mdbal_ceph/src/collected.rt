@@ -6,8 +6,8 @@ ghost use Rattle.mdbal_ceph.specs.Collections.{HasOurPins};
 use crate::progress::Progress;
 use anyhow::{Context, Error, bail};
 use ceph_dumps::{
-    DumpError, FileSystem, FileSystemRanks, OwnPin, read_cluster, read_complete, read_listing,
-    read_loads, read_own_list, read_subtrees,
+    DumpError, FileSystem, FileSystemRanks, OwnPin, read_balancer, read_cluster, read_complete,
+    read_listing, read_loads, read_own_list, read_subtrees,
 };
 use ceph_snapshot::{Gathering, Snapshot};
 use mds_types::limits::RANK_LIMIT;
@@ -27,6 +27,8 @@ pub struct Collected {
     pub file_system: FileSystem,
     /// The ranks of the file system.
     pub cluster: FileSystemRanks,
+    /// Whether Ceph's balancer is on.
+    pub balances: bool,
     /// How many samples of heat each rank gave.
     pub samples: u64,
     /// The pins of an earlier plan, where their list is asked for.
@@ -155,6 +157,13 @@ fn cluster_of<R: Files + AllocGlobal>(rt: &R, folder: &str) -> Result<FileSystem
     read_file(rt, path.as_str(), read_cluster)
 }
 
+/// Whether Ceph's balancer is on, as it counts where the collector didn't ask.
+fn balances<R: Files + AllocGlobal>(rt: &R, folder: &str) -> Result<bool, Error> {
+    let path = format!(in rt.alloc(); "{folder}/balancer")?;
+    let found = read_if_there(rt, path.as_str(), |_, bytes| read_balancer(bytes))?;
+    Ok(found.unwrap_or(true))
+}
+
 /// Adds the dumps of all ranks.
 fn add_ranks<R: Files + AllocGlobal + Clock + Eprint>(
     rt: &R,
@@ -224,6 +233,7 @@ pub fn read_collected<R: Files + AllocGlobal + Clock + Eprint>(
 {
     let file_system = file_system_of(rt, folder)?;
     let cluster = cluster_of(rt, folder)?;
+    let balances = balances(rt, folder)?;
     let samples = sample_count(rt, folder)?;
     let mut gathering = Gathering::new(rt.alloc())?;
     let ranks = cluster.ranks;
@@ -233,6 +243,7 @@ pub fn read_collected<R: Files + AllocGlobal + Clock + Eprint>(
     Ok(Collected {
         file_system,
         cluster,
+        balances,
         samples,
         own,
         snapshot,

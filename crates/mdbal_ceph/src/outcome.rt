@@ -3,6 +3,7 @@ ghost use Rattle.std.specs.Prelude.{◌≡◌, ◌≤◌, ◌+◌, IfOk, IsOkAnd
 ghost use Rattle.std.specs.Option.{option_map};
 ghost use Rattle.ceph_snapshot.specs.Folding.{IsFolded};
 ghost use Rattle.ceph_snapshot.specs.Policies.{KeepUnpinnable, StillKeepUnpinnable};
+ghost use Rattle.mdbal_ceph.specs.Options.{wanted_by};
 ghost use Rattle.mdbal_ceph.specs.Outcomes.{AreFreeHeats, IsDecision, IsOutcome};
 ghost use Rattle.mdbal_ceph.specs.Usable.{AreUsable};
 
@@ -12,8 +13,8 @@ use crate::settings::PlanSettings;
 use anyhow::{Error, bail};
 use ceph_dumps::{FileSystem, FileSystemRanks};
 use ceph_pins::own_pins;
-use ceph_plan::{Proposal, heats_bound, propose};
-use ceph_report::{Sums, goals_of, sums_of};
+use ceph_plan::{Proposal, Wanted, heats_bound, propose};
+use ceph_report::{HottestDirectory, Sums, goals_of, hottest_of, sums_of};
 use ceph_snapshot::{Directory, Held, SnapshotError, fold, free_heats, held_heat, holds, rows_of};
 use mds_types::limits::DIR_LIMIT;
 use mds_types::{Rank, RankSet};
@@ -47,6 +48,8 @@ pub(crate) struct Outcome {
     pub active: RankSet,
     /// The ranks that may have a part.
     pub ranks: RankSet,
+    /// Whether Ceph's balancer is on.
+    pub balances: bool,
     /// How many samples of heat each rank gave.
     pub samples: u64,
     /// The directories that were planned.
@@ -55,6 +58,8 @@ pub(crate) struct Outcome {
     pub folded: usize,
     /// What was decided for them.
     pub decision: Decision,
+    /// The hottest of the collected directories that nothing holds.
+    pub hottest: HottestDirectory,
     /// What no assignment of the collected directories to the ranks can get below, in thousandths of heat.
     pub bound: u64,
 }
@@ -75,23 +80,33 @@ fn usable(settings: &PlanSettings, cluster: &FileSystemRanks) -> Result<RankSet,
     Ok(ranks_of(mask, cluster))
 }
 
+/// What plan is wanted. While Ceph's balancer is off, what has no pin stays where it is.
+fn wanted_by(settings: &PlanSettings, balances: bool) -> Wanted
+    ensures { result ≡ wanted_by settings.now balances }
+{
+    Wanted {
+        parts: settings.parts,
+        keep: settings.keep,
+        rests: !balances,
+    }
+}
+
 /// Plans directories for these ranks, where `spread[r]` is the heat at rank r of what is spread.
 fn decided(
     alloc: Global,
-    settings: &PlanSettings,
+    wanted: Wanted,
     ranks: RankSet,
     directories: &[Directory],
     spread: &[u64],
 ) -> Result<Decision, Error>
     requires { length spread.now ≡ 64 }
-    ensures { IfOk result (IsDecision directories.now spread.now ranks settings.now.wanted) }
+    ensures { IfOk result (IsDecision directories.now spread.now ranks wanted) }
 {
     let holds = holds(alloc, directories)?;
     let held = holds.as_slice();
     let pinned = held_heat(alloc, directories, held, spread)?;
     let rows = rows_of(alloc, directories, held)?;
     let own = own_pins(alloc, directories)?;
-    let wanted = settings.wanted;
     let proposal = propose(alloc, &rows, wanted, &pinned, ranks, &own)?;
     let goals = goals_of(alloc, held, &proposal.rows)?;
     let sums = sums_of(alloc, directories, held, &goals, spread)?;
@@ -137,18 +152,20 @@ pub fn planned(
 ) -> Result<Outcome, Error>
     requires { length collected.snapshot.spread.items ≡ 64 }
     ensures outcome { IfOk result (IsOutcome collected.snapshot.directories.items collected.snapshot.spread.items
-        settings.now.wanted) }
+        (wanted_by settings.now collected.balances)) }
     ensures ranks { IfOk result (λ outcome. AreUsable settings.now.mask
         (option_map string_bytes collected.cluster.mask) collected.cluster outcome.ranks) }
     ensures there { IfOk result (λ outcome. outcome.there ≡ collected.cluster.ranks) }
     ensures active { IfOk result (λ outcome. outcome.active ≡ collected.cluster.active) }
     ensures file_system { IfOk result (λ outcome. outcome.file_system ≡ collected.file_system) }
     ensures size { IfOk result (λ outcome. outcome.size ≡ collected.cluster.size) }
+    ensures balances { IfOk result (λ outcome. outcome.balances ≡ collected.balances) }
     ensures samples { IfOk result (λ outcome. outcome.samples ≡ collected.samples) }
 {
     let Collected {
         file_system,
         cluster,
+        balances,
         samples,
         own: _,
         snapshot,
@@ -156,8 +173,10 @@ pub fn planned(
     let ranks = usable(settings, &cluster)?;
     let spread = snapshot.spread;
     let heats = collected_heats(alloc, &snapshot.directories)?;
+    let hottest = hottest_of(alloc, &snapshot.directories, &heats)?;
     let (directories, folded) = folded(alloc, snapshot.directories)?;
-    let decision = decided(alloc, settings, ranks, &directories, &spread)?;
+    let wanted = wanted_by(settings, balances);
+    let decision = decided(alloc, wanted, ranks, &directories, &spread)?;
     let bound = heats_bound(&heats, &decision.pinned, ranks);
     Ok(Outcome {
         file_system,
@@ -165,10 +184,12 @@ pub fn planned(
         there: cluster.ranks,
         active: cluster.active,
         ranks,
+        balances,
         samples,
         directories,
         folded,
         decision,
+        hottest,
         bound,
     })
 }

@@ -8,7 +8,7 @@ ghost use Rattle.mdbal_ceph.specs.Options.{AreRead, least_named, mask_named, opt
 ghost use Rattle.mdbal_ceph.specs.Options.{parts_named, value_or};
 
 use crate::input::mask_named;
-use ceph_plan::{LeastGain, PartCount, Wanted};
+use ceph_plan::{LeastGain, PartCount};
 use clap::error::ErrorKind;
 use clap::{Arg, ArgAction, ArgMatches, Command, Error};
 use mds_types::RankSet;
@@ -23,9 +23,10 @@ const VERSION: &str = "0.1.0";
 pub struct PlanSettings<'a> {
     /// The folder that `ceph/collect` wrote.
     pub folder: &'a str,
-    /// Into how many parts the directories are divided, and by how many percent a load may pass the greatest so that a
-    /// part stays where it is.
-    pub wanted: Wanted,
+    /// Into how many parts the directories are divided.
+    pub parts: PartCount,
+    /// By how many percent a load may pass the greatest so that a part stays where it is.
+    pub keep: u8,
     /// The ranks that may have a part; where there is none, those of the cluster's own mask.
     pub mask: Option<RankSet>,
     /// The list of pins that this program set before.
@@ -393,11 +394,8 @@ fn found<'a>(matches: &ArgMatches<'a>) -> Result<PlanSettings<'a>, Refused>
     let keep = percent_of(value_or(matches, "keep", "5"))?;
     Ok(PlanSettings {
         folder: value_or(matches, "folder", "."),
-        wanted: Wanted {
-            parts,
-            keep,
-            rests: false,
-        },
+        parts,
+        keep,
         mask,
         own: value_of(matches, "own"),
         check: value_of(matches, "check"),

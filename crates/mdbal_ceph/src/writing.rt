@@ -13,8 +13,8 @@ use ceph_pins::{
 };
 use ceph_plan::{Gain, PinChange, is_worth_it};
 use ceph_report::{
-    Facts, Move, Stay, hottest, make_json, make_picture, make_report, make_script, moves_of,
-    stays_of,
+    Facts, Move, Roots, Stay, hottest, make_json, make_picture, make_report, make_script, moves_of,
+    roots_of, stays_of,
 };
 use ceph_snapshot::Directory;
 use std::alloc::{AllocError, Global};
@@ -72,11 +72,13 @@ fn gain_of(outcome: &Outcome) -> Gain
 fn facts_of<'a>(
     outcome: &'a Outcome,
     moves: &'a [Move],
+    roots: &'a Roots,
     stays: &'a [Option<Stay>],
     standing: usize,
 ) -> Facts<'a>
     ensures facts { AreFacts outcome.now standing result }
     ensures moves { result.moves.now ≡ moves.now }
+    ensures roots { result.roots.now ≡ roots.entry.now }
     ensures stays { result.stays.now ≡ stays.now }
 {
     Facts {
@@ -88,10 +90,13 @@ fn facts_of<'a>(
         there: outcome.there,
         active: outcome.active,
         ranks: outcome.ranks,
+        balances: outcome.balances,
         plan: &outcome.decision.proposal.plan,
         bound: outcome.bound,
         sums: &outcome.decision.sums,
         pinned: &outcome.decision.pinned,
+        hottest: &outcome.hottest,
+        roots,
         moves,
         stays,
         changes: outcome.decision.proposal.changes.len(),
@@ -115,7 +120,8 @@ fn told(
     let (rows, changes) = (&proposal.rows, &proposal.changes);
     let standing = standing_pins(alloc, rows, changes)?;
     let moves = moves_of(alloc, directories, holds, rows, changes)?;
-    let facts = facts_of(outcome, &moves, stays, standing);
+    let roots = roots_of(alloc, directories, rows, changes, &outcome.decision.goals)?;
+    let facts = facts_of(outcome, &moves, &roots, stays, standing);
     if is_json {
         make_json(alloc, &facts, changes_of(outcome, is_proposed), is_proposed)
     } else {

@@ -8,6 +8,7 @@ returns g c = record {
   ours = c.in_ok-collected.ensures.ours;
   ranks = c.in_ok-outcome.ensures.ranks;
   of = c.in_ok-outcome.ensures.outcome;
+  balances = c.in_ok-outcome.ensures.balances;
   file_system = c.in_ok-outcome.ensures.file_system;
   written = c.in_ok-output.ensures;
 }

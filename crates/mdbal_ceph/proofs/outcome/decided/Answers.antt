@@ -24,7 +24,7 @@ returns c =
     let held_is : c.as_slice-held.result.now ≡ holds = c.as_slice-held.ensures.value in
     let rows_of : AreRowsOf directories holds n rows = subst (λ (others : List Held). AreRowsOf directories others n rows) held_is c.in_ok-rows.ensures in
     let proposal : Proposal = c.in_ok-proposal.proposal in
-    let wanted : Wanted = c.args.settings.now.wanted in
+    let wanted : Wanted = c.args.wanted in
     let proposed : IsProposal c.args.ranks pinned rows wanted own proposal =
     subst (λ (pins : List OwnPins). IsProposal c.args.ranks pinned rows wanted pins proposal) c.deref-3.ensures.value
     (subst (λ (heats : List ℕ). IsProposal c.args.ranks heats rows wanted c.deref-3.result.now proposal) c.deref-2.ensures.value
@@ -46,7 +46,7 @@ returns c =
         proposed = proposed;
       };
       untouched = untouched directories rows proposal.plan.part.items proposal.plan.packing.rank.items own (length rows) wanted.rests proposal.rows.items proposal.changes.items
-          rows_of.size c.in_ok-own.ensures proposed.targets proposed.untouched;
+          rows_of.size c.in_ok-own.ensures proposed.targets proposed.changes.untouched;
       goals = λ i l. rw (held_is, c.deref-4.ensures.value) at (c.in_ok-goals.ensures.goals i (let inside : i < length c.deref-4.result.now = omega (arith, l, ap length c.deref-4.ensures.value, proposed.targets.size, rows_of.size) in inside));
       now = c.in_ok-sums.ensures.now;
       into =

@@ -1,17 +1,18 @@
 use Rattle.std.proofs.Common.{◌≡◌, ◌∙◌, ◌≤◌, ◌^◌, All, ℕ, List, ap, length, slice_index, subst, sym}
 use Rattle.mds_types.specs.Sums.{sum_below}
 use Rattle.ceph_snapshot.specs.declared.directory.Directory.{Directory}
+use Rattle.ceph_plan.specs.declared.choice.Wanted.{Wanted}
 use Rattle.ceph_plan.specs.Packing.{IsAsGreat, IsBoundOf}
 use Rattle.mdbal_ceph.specs.Outcomes.{AreFreeHeats, IsBoundOfAll, IsDecision}
 use Rattle.mdbal_ceph.specs.declared.outcome.Decision.{Decision}
 use Rattle.mdbal_ceph.proofs.outcome.planned.Goals as goal
 
 pub heats_bound-bound-requires-clause-size : goal.heats_bound-bound-requires-clause-size
-heats_bound-bound-requires-clause-size c = ap length c.deref-5.ensures.value ∙ c.in_ok-decision.ensures.pinned.size
+heats_bound-bound-requires-clause-size c = ap length c.deref-7.ensures.value ∙ c.in_ok-decision.ensures.pinned.size
 
 pub heats_bound-bound-requires-clause-small : goal.heats_bound-bound-requires-clause-small
 heats_bound-bound-requires-clause-small c =
-    subst (All (λ n. n ≤ 2 ^ 57)) (sym c.deref-5.ensures.value) c.in_ok-decision.ensures.planned.proposed.chosen.plannable.held.small
+    subst (All (λ n. n ≤ 2 ^ 57)) (sym c.deref-7.ensures.value) c.in_ok-decision.ensures.planned.proposed.chosen.plannable.held.small
 
 pub heats_bound-bound-requires-clause-zero : goal.heats_bound-bound-requires-clause-zero
 heats_bound-bound-requires-clause-zero c = c.in_ok-decision.ensures.planned.proposed.chosen.plannable.zero
@@ -44,9 +45,15 @@ returns-clause-outcome c =
       count = c.in_ok-directories.ensures.count;
       unpinnable = c.in_ok-directories.ensures.unpinnable;
       decided =
-          subst (λ (heats : List ℕ). IsDecision directories heats c.in_ok-ranks.ranks c.args.settings.now.wanted decision) c.deref-3.ensures.value
-          (subst (λ (others : List Directory). IsDecision others c.deref-3.result.now c.in_ok-ranks.ranks c.args.settings.now.wanted decision) c.deref-2.ensures.value c.in_ok-decision.ensures);
-      bound = bound_of_all collected heats c.deref-4.result.now decision.pinned.items c.deref-5.result.now c.in_ok-ranks.ranks c.heats_bound-bound.result
-          (subst (λ (those : List Directory). AreFreeHeats those heats) c.deref.ensures.value c.in_ok-heats.ensures) c.deref-4.ensures.value c.deref-5.ensures.value
+          subst (λ (wanted : Wanted). IsDecision directories spread c.in_ok-ranks.ranks wanted decision) c.wanted_by-wanted.ensures
+          (subst (λ (heats : List ℕ). IsDecision directories heats c.in_ok-ranks.ranks c.wanted_by-wanted.result decision) c.deref-5.ensures.value
+          (subst (λ (others : List Directory). IsDecision others c.deref-5.result.now c.in_ok-ranks.ranks c.wanted_by-wanted.result decision) c.deref-4.ensures.value c.in_ok-decision.ensures));
+      hottest = record {
+        heats = heats;
+        are = subst (λ (those : List Directory). AreFreeHeats those heats) c.deref.ensures.value c.in_ok-heats.ensures;
+        is = rw (c.deref-2.ensures.value, c.deref-3.ensures.value) at c.in_ok-hottest.ensures;
+      };
+      bound = bound_of_all collected heats c.deref-6.result.now decision.pinned.items c.deref-7.result.now c.in_ok-ranks.ranks c.heats_bound-bound.result
+          (subst (λ (those : List Directory). AreFreeHeats those heats) c.deref.ensures.value c.in_ok-heats.ensures) c.deref-6.ensures.value c.deref-7.ensures.value
           c.heats_bound-bound.ensures.lower c.heats_bound-bound.ensures.three;
     }

@@ -1,11 +1,13 @@
-use Rattle.std.proofs.Common.{◌≡◌, ◌∙◌, ℕ, List, Option, ap, length, refl, subst, sym}
+use Rattle.std.proofs.Common.{◌≡◌, ◌∙◌, ℕ, List, Option, ap, subst, sym}
 use Rattle.std.proofs.lemmas.Result.{IfOk-weaker}
 use Rattle.ceph_plan.specs.declared.row.PinChange.{PinChange}
 use Rattle.ceph_report.specs.Json.{json}
 use Rattle.ceph_report.specs.Moves.{AreMoves}
+use Rattle.ceph_report.specs.Roots.{AreRoots}
 use Rattle.ceph_report.specs.Staying.{AreStays}
 use Rattle.ceph_report.specs.declared.facts.Facts.{Facts}
 use Rattle.ceph_report.specs.declared.moves.Move.{Move}
+use Rattle.ceph_report.specs.declared.roots.Roots.{Roots}
 use Rattle.ceph_report.specs.declared.staying.Stay.{Stay}
 use Rattle.mdbal_ceph.specs.Writing.{AreFacts, standing_count}
 use Rattle.mdbal_ceph.specs.declared.outcome.Outcome.{Outcome}
@@ -18,11 +20,14 @@ returns-then-is_json c =
     let standing : c.in_ok-standing.standing ≡ standing_count o = rw (c.deref.ensures.value, c.deref-2.ensures.value) at c.in_ok-standing.ensures in
     let moved : AreMoves o.directories.items o.decision.holds.items o.decision.proposal.rows.items o.decision.proposal.changes.items c.in_ok-moves.moves.items =
     rw (c.deref-3.ensures.value, c.deref-4.ensures.value, c.deref-5.ensures.value, c.deref-6.ensures.value) at c.in_ok-moves.ensures in
+    let rooted : AreRoots o.directories.items o.decision.proposal.rows.items o.decision.proposal.changes.items o.decision.goals.items c.in_ok-roots.roots =
+    rw (c.deref-7.ensures.value, c.deref-8.ensures.value, c.deref-9.ensures.value, c.deref-10.ensures.value) at c.in_ok-roots.ensures in
     IfOk-weaker c.make_json.result _ _
     (λ text e. record {
       facts = facts;
       of = subst (λ (n : ℕ). AreFacts o n facts) standing c.facts_of-facts.ensures.facts;
-      moves = subst (λ (ms : List Move). AreMoves o.directories.items o.decision.holds.items o.decision.proposal.rows.items o.decision.proposal.changes.items ms) (sym (c.facts_of-facts.ensures.moves ∙ c.deref-7.ensures.value)) moved;
+      moves = subst (λ (ms : List Move). AreMoves o.directories.items o.decision.holds.items o.decision.proposal.rows.items o.decision.proposal.changes.items ms) (sym (c.facts_of-facts.ensures.moves ∙ c.deref-11.ensures.value)) moved;
+      roots = subst (λ (rs : Roots). AreRoots o.directories.items o.decision.proposal.rows.items o.decision.proposal.changes.items o.decision.goals.items rs) (sym c.facts_of-facts.ensures.roots) rooted;
       stays = subst (λ (ss : List (Option Stay)). AreStays o.directories.items ss) (sym c.facts_of-facts.ensures.stays) c.requires;
       told = rw (c.if-is_json.true) (e ∙ ap (λ (changes : List PinChange). json facts changes c.args.is_proposed) c.changes_of.ensures);
     })
@@ -35,11 +40,14 @@ returns c =
     let standing : c.in_ok-standing.standing ≡ standing_count o = rw (c.deref.ensures.value, c.deref-2.ensures.value) at c.in_ok-standing.ensures in
     let moved : AreMoves o.directories.items o.decision.holds.items o.decision.proposal.rows.items o.decision.proposal.changes.items c.in_ok-moves.moves.items =
     rw (c.deref-3.ensures.value, c.deref-4.ensures.value, c.deref-5.ensures.value, c.deref-6.ensures.value) at c.in_ok-moves.ensures in
+    let rooted : AreRoots o.directories.items o.decision.proposal.rows.items o.decision.proposal.changes.items o.decision.goals.items c.in_ok-roots.roots =
+    rw (c.deref-7.ensures.value, c.deref-8.ensures.value, c.deref-9.ensures.value, c.deref-10.ensures.value) at c.in_ok-roots.ensures in
     IfOk-weaker c.make_report.result _ _
     (λ text e. record {
       facts = facts;
       of = subst (λ (n : ℕ). AreFacts o n facts) standing c.facts_of-facts.ensures.facts;
-      moves = subst (λ (ms : List Move). AreMoves o.directories.items o.decision.holds.items o.decision.proposal.rows.items o.decision.proposal.changes.items ms) (sym (c.facts_of-facts.ensures.moves ∙ c.deref-7.ensures.value)) moved;
+      moves = subst (λ (ms : List Move). AreMoves o.directories.items o.decision.holds.items o.decision.proposal.rows.items o.decision.proposal.changes.items ms) (sym (c.facts_of-facts.ensures.moves ∙ c.deref-11.ensures.value)) moved;
+      roots = subst (λ (rs : Roots). AreRoots o.directories.items o.decision.proposal.rows.items o.decision.proposal.changes.items o.decision.goals.items rs) (sym c.facts_of-facts.ensures.roots) rooted;
       stays = subst (λ (ss : List (Option Stay)). AreStays o.directories.items ss) (sym c.facts_of-facts.ensures.stays) c.requires;
       told = rw (c.if-is_json.false) e;
     })
