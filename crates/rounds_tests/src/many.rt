@@ -81,10 +81,10 @@ fn all_stand<J: Naming, M: Publisher<J>>(rt: &impl Abort, board: &Board<J, M>) {
 
 #[test]
 fn each_of_many_exports_is_done(rt: HostRuntime) {
-    on_board(&rt, &rt, rt.alloc(), Trial::Many)
+    on_board(&rt, &rt, Trial::Many)
 }
 
 #[test]
 fn many_failed_phases_leave_nothing_to_look_at(rt: HostRuntime) {
-    on_board(&rt, &rt, rt.alloc(), Trial::Failed)
+    on_board(&rt, &rt, Trial::Failed)
 }

@@ -237,6 +237,6 @@ const MOVES: &[(&str, &[Act])] = &[
 #[test]
 fn orders_are_done_aborted_refused_and_taken_up(rt: HostRuntime) {
     for (name, acts) in MOVES {
-        on_board(&rt, &rt, rt.alloc(), Trial::Moves(name, acts));
+        on_board(&rt, &rt, Trial::Moves(name, acts));
     }
 }

@@ -4,27 +4,27 @@
 
 use crate::boards::{Trial, on_board};
 use crate::same::{Sure, holds_in, same, same_in};
-use crate::steps::{rank, stand};
+use crate::steps::{orders, rank, stand};
 use authority_map::Publisher;
 use board_state::BoardError;
 use export_machine::{ExporterState, ImporterState};
 use export_rounds::{Outcome, Unsettled, carry_out_orders_from};
 use mds_board::Board;
-use mds_types::{Dir, Dirs, Order, Rank};
+use mds_types::{Dir, Order, Rank};
 use naming::Naming;
 use std::alloc::{AllocError, Global};
 use std::process::Abort;
 
 /// What a board says that a phase changes.
 #[derive(Clone, Copy, PartialEq, Eq)]
-struct Reading {
+pub(crate) struct Reading {
     history: usize,
     sent: u32,
     authorities: [Option<Rank>; 3],
     exports: [Option<(ExporterState, ImporterState)>; 3],
 }
 
-fn read<J: Naming, M: Publisher<J>>(board: &Board<J, M>) -> Reading {
+pub(crate) fn read<J: Naming, M: Publisher<J>>(board: &Board<J, M>) -> Reading {
     let cluster = board.cluster();
     Reading {
         history: board.history().len(),
@@ -38,31 +38,19 @@ fn read<J: Naming, M: Publisher<J>>(board: &Board<J, M>) -> Reading {
     }
 }
 
-/// An order that gives a directory of rank 0 to rank 1.
-fn order(alloc: Global, dir: u32) -> Result<Order, AllocError> {
-    Ok(Order {
-        from: rank(0),
-        to: rank(1),
-        dirs: Dirs::new(vec![in alloc; Dir::new(dir)]?),
-    })
-}
-
-fn orders(alloc: Global) -> Result<Vec<Order>, AllocError> {
-    let mut orders = Vec::new(alloc);
-    orders.push(order(alloc, 1)?)?;
-    orders.push(order(alloc, 2)?)?;
-    Ok(orders)
-}
-
-fn orders_at_last(alloc: Global) -> Result<Vec<Order>, AllocError> {
-    match orders(alloc) {
+/// Orders that give directories of rank 0 to rank 1.
+pub(crate) fn orders_at_last(
+    alloc: Global,
+    rows: &[(u8, u8, u32)],
+) -> Result<Vec<Order>, AllocError> {
+    match orders(alloc, rows) {
         Ok(orders) => Ok(orders),
-        Err(_) => orders(alloc),
+        Err(_) => orders(alloc, rows),
     }
 }
 
 /// Makes a directory below the root. Where a growth is refused nothing has changed, and the next call makes it.
-fn made_at_last<J: Naming, M: Publisher<J>>(
+pub(crate) fn made_at_last<J: Naming, M: Publisher<J>>(
     rt: &impl Abort,
     alloc: Global,
     board: &mut Board<J, M>,
@@ -79,7 +67,11 @@ fn made_at_last<J: Naming, M: Publisher<J>>(
 
 /// Whether the outcome is what became of the order for a directory: where a growth
 /// was refused, it may be any but a named refusal.
-fn is_told<J: Naming, M: Publisher<J>>(board: &Board<J, M>, dir: u32, outcome: Outcome) -> bool {
+pub(crate) fn is_told<J: Naming, M: Publisher<J>>(
+    board: &Board<J, M>,
+    dir: u32,
+    outcome: Outcome,
+) -> bool {
     let authority = board.cluster().authority(Dir::new(dir));
     match outcome {
         Outcome::Done(export) => {
@@ -123,7 +115,7 @@ pub(crate) fn phases<J: Naming, M: Publisher<J>>(
 ) {
     made_at_last(rt, alloc, board, "a");
     made_at_last(rt, alloc, board, "b");
-    let orders = orders_at_last(alloc).sure(rt);
+    let orders = orders_at_last(alloc, &[(0, 1, 1), (0, 1, 2)]).sure(rt);
     let mut unsettled = Unsettled::new(alloc);
     first_phase(rt, alloc, board, &mut unsettled, &orders);
     for _ in 0..2 {
@@ -134,5 +126,5 @@ pub(crate) fn phases<J: Naming, M: Publisher<J>>(
 
 #[test]
 fn a_refused_growth_is_made_up_for(rt: HostRuntime) {
-    on_board(&rt, &rt, rt.alloc(), Trial::RefusedGrowth)
+    on_board(&rt, &rt, Trial::RefusedGrowth)
 }

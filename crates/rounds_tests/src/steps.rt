@@ -62,13 +62,8 @@ pub(crate) fn play<J: Naming, M: Publisher<J>>(
     }
 }
 
-/// Moves directories, each by an order of its own: the rank that gives it, the rank that takes it, and the directory.
-pub(crate) fn moved<J: Naming, M: Publisher<J>>(
-    alloc: Global,
-    board: &mut Board<J, M>,
-    unsettled: &mut Unsettled,
-    rows: &[(u8, u8, u32)],
-) -> Result<Vec<Outcome>, AllocError> {
+/// Orders of one directory each: the rank that gives it, the rank that takes it, and the directory.
+pub(crate) fn orders(alloc: Global, rows: &[(u8, u8, u32)]) -> Result<Vec<Order>, AllocError> {
     let mut orders = Vec::with_capacity(alloc, rows.len())?;
     for (from, to, dir) in rows {
         orders.push(Order {
@@ -77,7 +72,17 @@ pub(crate) fn moved<J: Naming, M: Publisher<J>>(
             dirs: dirs(alloc, *dir)?,
         })?;
     }
-    carry_out_orders_from(board, alloc, &orders, unsettled)
+    Ok(orders)
+}
+
+/// Moves directories, each by an order of its own.
+pub(crate) fn moved<J: Naming, M: Publisher<J>>(
+    alloc: Global,
+    board: &mut Board<J, M>,
+    unsettled: &mut Unsettled,
+    rows: &[(u8, u8, u32)],
+) -> Result<Vec<Outcome>, AllocError> {
+    carry_out_orders_from(board, alloc, &orders(alloc, rows)?, unsettled)
 }
 
 /// Makes directories /a, /b and so on, numbered from 1.

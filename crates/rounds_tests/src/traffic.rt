@@ -1,0 +1,158 @@
+//! Requests while a directory goes from rank 0 to rank 1.
+
+use crate::boards::{Trial, on_board};
+use crate::gates::{HeldGate, JitterGate};
+use crate::phase::{Seats, phase, scripts, total};
+use crate::recorded::replay;
+use crate::same::{Sure, holds_in, same};
+use crate::steps::{Do, make, moved, orders, play, rank};
+use authority_map::{Found, MapReader, Publisher};
+use export_threads::{OrderOutcome, Outcome};
+use mds_board::{Board, History, Shown};
+use mds_types::Dir;
+use naming::Naming;
+use std::alloc::Global;
+use std::marker::{Send, Sync};
+use std::process::Abort;
+use std::sync::Wait;
+use std::thread::Threads;
+use traffic_threads::WorkAnswer;
+use traffic_threads::phase::Tasks;
+
+/// Directory 1 goes from rank 0 to rank 1.
+pub(crate) const MOVE: &[(u8, u8, u32)] = &[(0, 1, 1)];
+
+/// An export meets a request, on which it can't freeze the directory. Nothing of it can be so where all is done by one
+/// thread, or where the exports are carried out before the requests or after them: one of both would wait in vain.
+pub(crate) fn hold<
+    J: Naming + Send + Sync,
+    M: Publisher<J> + Send,
+    R: Abort + Threads + Wait + Sync,
+>(rt: &R, alloc: Global, board: Board<J, M>, seats: Seats<J>) {
+    let mut board = board;
+    make(rt, alloc, &mut board, &["a"]);
+    let scripts = scripts(alloc, &[(1, 5), (0, 2)], 1).sure(rt);
+    let orders = orders(alloc, MOVE).sure(rt);
+    let tasks = Tasks {
+        scripts: &scripts,
+        orders: &orders,
+    };
+    let gate = HeldGate::new();
+    let (board, _seats, told) = phase(rt, alloc, board, seats, tasks, &gate);
+    same(rt, &gate.met(), &2);
+    same(rt, &total(&told.answers), &(7, 2));
+    let aborted = [OrderOutcome::TakenUp(Outcome::Aborted(0))];
+    same(rt, &told.outcomes.as_slice(), &aborted.as_slice());
+    let counted = (board.counted(Dir::new(1)), board.counted(Dir::ROOT));
+    same(rt, &counted, &(5, 2));
+    replay(rt, alloc, &board);
+    board.end();
+}
+
+#[test]
+fn an_export_runs_beside_a_request(rt: HostRuntime) {
+    on_board(&rt, &rt, Trial::Held)
+}
+
+// Whether the export of the one order was started.
+fn is_started(outcomes: &[OrderOutcome]) -> bool {
+    match outcomes.first() {
+        Some(OrderOutcome::TakenUp(outcome)) => matches!(
+            *outcome,
+            Outcome::Done(0) | Outcome::Aborted(0) | Outcome::Open(0)
+        ),
+        _ => false,
+    }
+}
+
+// The board counts on directory 1 so many hits and requests. A reader that learns what the board tells finds the
+// authority, and what is recorded leads to it, too.
+fn check<J: Naming, M: Publisher<J>>(
+    rt: &impl Abort,
+    alloc: Global,
+    board: &Board<J, M>,
+    readers: &mut [MapReader<J>],
+    wanted: (u64, u64),
+) {
+    let dir = Dir::new(1);
+    same(rt, &(board.counted(dir), board.begun(dir)), &wanted);
+    let authority = board.cluster().authority(dir).unwrap_or(rank(63));
+    for reader in readers {
+        reader.learn(board.tell());
+        same(rt, &reader.find(dir), &Found::Rank(authority));
+    }
+    replay(rt, alloc, board);
+}
+
+/// Two ranks ask 1,000 times each for the directory that moves, and again when a rank has stopped.
+pub(crate) fn serve_and_move<
+    J: Naming + Send + Sync,
+    M: Publisher<J> + Send,
+    R: Abort + Threads + Wait + Sync,
+>(rt: &R, alloc: Global, board: Board<J, M>, seats: Seats<J>, stopped: u8) {
+    let mut board = board;
+    make(rt, alloc, &mut board, &["a"]);
+    assert!(rt; board.publish());
+    let scripts = scripts(alloc, &[(1, 3), (1, 2)], 1_000).sure(rt);
+    let orders = orders(alloc, MOVE).sure(rt);
+    let tasks = Tasks {
+        scripts: &scripts,
+        orders: &orders,
+    };
+    let (mut board, mut seats, told) = phase(rt, alloc, board, seats, tasks, &JitterGate);
+    holds_in(rt, is_started(&told.outcomes), &told.outcomes);
+    let first = total(&told.answers);
+    check(rt, alloc, &board, &mut seats.readers, first);
+    play(rt, alloc, &mut board, "between", &[Do::Stop(stopped)]);
+    let (board, mut seats, told) = phase(rt, alloc, board, seats, tasks, &JitterGate);
+    let (hits, begun) = total(&told.answers);
+    let both = (first.0.wrapping_add(hits), first.1.wrapping_add(begun));
+    check(rt, alloc, &board, &mut seats.readers, both);
+    board.end();
+}
+
+#[test]
+fn requests_are_served_while_a_directory_moves(rt: HostRuntime) {
+    for _ in 0..50 {
+        on_board(&rt, &rt, Trial::AtOnce(0));
+        on_board(&rt, &rt, Trial::AtOnce(1));
+    }
+}
+
+// How many requests on directory 1 began at a rank.
+fn begun_at(history: &History, rank: u8) -> u32 {
+    let mut begun: u32 = 0;
+    for number in 0..history.len() {
+        if let Shown::Began(at, dir, _) = history.at(number) {
+            let is_there = at.number() == rank && dir.number() == 1;
+            begun = begun.wrapping_add(u32::from(is_there));
+        }
+    }
+    begun
+}
+
+/// The thread of rank 0 asks at rank 1 for what rank 1 has, and at rank 0 for what nobody has.
+pub(crate) fn ask_by_map<
+    J: Naming + Send + Sync,
+    M: Publisher<J> + Send,
+    R: Abort + Threads + Wait + Sync,
+>(rt: &R, alloc: Global, board: Board<J, M>, seats: Seats<J>) {
+    let (mut board, mut seats) = (board, seats);
+    make(rt, alloc, &mut board, &["a"]);
+    let _outcomes = moved(alloc, &mut board, &mut seats.unsettled, MOVE).sure(rt);
+    let scripts = scripts(alloc, &[(1, 3), (7, 2)], 1).sure(rt);
+    let tasks = Tasks {
+        scripts: &scripts,
+        orders: &[],
+    };
+    let (board, _seats, told) = phase(rt, alloc, board, seats, tasks, &JitterGate);
+    same(rt, &total(&told.answers), &(3, 1));
+    same(rt, &begun_at(board.history(), 1), &1);
+    replay(rt, alloc, &board);
+    board.end();
+}
+
+#[test]
+fn requests_are_asked_where_the_map_says(rt: HostRuntime) {
+    on_board(&rt, &rt, Trial::ByMap)
+}
