@@ -1,6 +1,5 @@
 //! The list of the pins that a plan set before: a line `RANK NAME` each, with names as `getfattr` writes them.
-ghost use Rattle.std.specs.Prelude.{◌≡◌, ◌≤◌, ◌++◌, ◌∷◌, All, IfOk, IfSome, OnOk, drop, length, map, take};
-ghost use Rattle.std.specs.Prelude.{slice_index};
+ghost use Rattle.std.specs.Prelude.{◌≡◌, ◌≤◌, ◌++◌, ◌∷◌, IfOk, IfSome, OnOk, drop, length, map, take};
 ghost use Rattle.std.specs.Str.Parse.{digits_value};
 ghost use Rattle.ceph_dumps.specs.OwnList.{ArePinsOfList, IsPinLine, behind_digits, digit_count, line_pins, list_lines};
 ghost use Rattle.ceph_dumps.specs.OwnList.{named_bytes, rank_path};
