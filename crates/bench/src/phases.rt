@@ -3,6 +3,8 @@
 //! `serve RANKS HITS` serves 10,000 requests of HITS hits, which the ranks share evenly, rank k on its directory k;
 //! with no hits there is no request. `export RANKS` moves directories from each rank to the next, 65,536 in all. Each
 //! prints a line for a thread a rank and a line for one thread: nanoseconds of wall time, the least of several runs.
+//! `both RANKS HITS` serves such requests, and moves a second directory of each rank to the next: a line for both at
+//! once, and one for a phase of requests and then one of exports, all in threads.
 
 mod opened;
 mod timing;
@@ -38,7 +40,16 @@ fn work_of(word: &str, hits: u32) -> Option<Work> {
     match word {
         "serve" => Some(Work::Serve(hits)),
         "export" => Some(Work::Export),
+        "both" => Some(Work::Both(hits)),
         _ => None,
+    }
+}
+
+// The names of the two times.
+fn names_of(work: Work) -> (&'static str, &'static str) {
+    match work {
+        Work::Both(_) => ("at_once", "in_turn"),
+        _ => ("threads", "one_thread"),
     }
 }
 
@@ -56,12 +67,9 @@ pub fn run<R: Threads + Wait + Clock + Sync, W: Write>(
     if ranks < 1 || ranks > 64 {
         return Ok(());
     }
-    for (name, by_threads) in [("threads", true), ("one_thread", false)] {
-        print(
-            out,
-            name,
-            least(rt, alloc, ranks, Phase { work, by_threads }),
-        )?;
+    let (first, second) = names_of(work);
+    for (name, at_once) in [(first, true), (second, false)] {
+        print(out, name, least(rt, alloc, ranks, Phase { work, at_once }))?;
     }
     Ok(())
 }

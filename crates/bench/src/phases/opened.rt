@@ -1,8 +1,8 @@
 //! Boards that are opened for what is timed.
 ghost use Rattle.std.specs.Prelude.{◌≡◌, ◌≤◌};
 
-use crate::phases::timing::{Phase, time_phase};
-use authority_map::{MapWriter, NewMap, Publisher};
+use crate::phases::timing::{Phase, Seats, time_phase};
+use authority_map::{MapReader, MapWriter, NewMap, Publisher};
 use board_state::BoardParts;
 use heat_ledger::NewBook;
 use mds_board::Board;
@@ -18,6 +18,7 @@ fn time_parts<J: Naming + Send + Sync, M: Publisher<J> + Send, R: Threads + Wait
     rt: &R,
     alloc: Global,
     parts: BoardParts<J, M>,
+    readers: Vec<MapReader<J>>,
     ranks: u8,
     phase: Phase,
 ) -> u64
@@ -25,7 +26,9 @@ fn time_parts<J: Naming + Send + Sync, M: Publisher<J> + Send, R: Threads + Wait
     requires ranks { (1 ≤ ranks) × (ranks ≤ 64) }
 {
     match Board::new(alloc, parts, DIR_LIMIT, ranks) {
-        Ok((board, shares)) => time_phase(rt, alloc, board, shares, ranks, phase),
+        Ok((board, shares)) => {
+            time_phase(rt, alloc, board, Seats { shares, readers }, ranks, phase)
+        }
         Err(parts) => {
             parts.end();
             u64::MAX
@@ -47,9 +50,16 @@ fn time_opened<J: Naming + Send + Sync, R: Threads + Wait + Clock + Sync>(
     requires limit { J.limit ≡ DIR_LIMIT }
     requires ranks { (1 ≤ ranks) × (ranks ≤ 64) }
 {
-    match MapWriter::<J, &R>::open(rt, alloc, map, DIR_LIMIT, 1) {
-        Ok((writer, _readers)) => {
-            time_parts(rt, alloc, BoardParts::new(book, writer), ranks, phase)
+    match MapWriter::<J, &R>::open(rt, alloc, map, DIR_LIMIT, ranks) {
+        Ok((writer, readers)) => {
+            time_parts(
+                rt,
+                alloc,
+                BoardParts::new(book, writer),
+                readers,
+                ranks,
+                phase,
+            )
         }
         Err(_) => u64::MAX,
     }

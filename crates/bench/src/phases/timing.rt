@@ -1,11 +1,13 @@
 //! Phases on a new board.
 ghost use Rattle.std.specs.Prelude.{◌≡◌, ◌≤◌};
 
-use crate::phases::work::{Work, asked, deal, parent_of, pass_on, rank, scripts};
+use crate::phases::work::{
+    Work, asked, deal, first_of, parent_of, pass_on, pass_second, rank, scripts,
+};
 use crate::times::nanos;
-use authority_map::Publisher;
+use authority_map::{MapReader, Publisher};
 use export_machine::{Event, Reply};
-use export_rounds::carry_out_orders;
+use export_rounds::{Unsettled, carry_out_orders};
 use export_threads::export_phase;
 use heat_ledger::Share;
 use mds_board::Board;
@@ -18,12 +20,21 @@ use std::marker::{Send, Sync};
 use std::sync::Wait;
 use std::thread::Threads;
 use std::time::{Clock, Duration};
+use traffic_threads::phase::Tasks;
+use traffic_threads::traffic_phase;
 
-/// A phase, in threads or on one thread.
+/// A phase: of all ranks at once, in threads, or on one thread. Two kinds of work go on at once, or one after the other.
 #[derive(Clone, Copy)]
 pub struct Phase {
     pub work: Work,
-    pub by_threads: bool,
+    pub at_once: bool,
+}
+
+/// The share and the reader of each rank.
+#[derive(Drop)]
+pub struct Seats<J: Naming> {
+    pub shares: Vec<Share<J>>,
+    pub readers: Vec<MapReader<J>>,
 }
 
 // The wall time, or nothing where the system doesn't give it.
@@ -90,9 +101,9 @@ fn serve<J: Naming + Send + Sync, M: Publisher<J> + Send, R: Threads + Wait + Sy
     mut board: Board<J, M>,
     scripts: &[Vec<rank_threads::Work>],
     mut shares: Vec<Share<J>>,
-    by_threads: bool,
+    at_once: bool,
 ) -> Board<J, M> {
-    if by_threads && scripts.len() <= 64 && shares.len() == scripts.len() {
+    if at_once && scripts.len() <= 64 && shares.len() == scripts.len() {
         let (after, _ranks) = serve_phase(rt, alloc, board, &OpenGate, scripts, shares);
         return after;
     }
@@ -104,11 +115,11 @@ fn serve<J: Naming + Send + Sync, M: Publisher<J> + Send, R: Threads + Wait + Sy
     board
 }
 
-// How many hits the board counts on the directories of the ranks.
-fn counted<J: Naming, M: Publisher<J>>(board: &Board<J, M>, ranks: u8) -> u64 {
+// How many hits the board counts on the first directory of each rank, which has so many.
+fn counted<J: Naming, M: Publisher<J>>(board: &Board<J, M>, ranks: u8, each: u32) -> u64 {
     let mut counted: u64 = 0;
     for number in 0..ranks {
-        counted = counted.saturating_add(board.counted(Dir::new(u32::from(number) + 1)));
+        counted = counted.saturating_add(board.counted(first_of(number, each)));
     }
     counted
 }
@@ -121,12 +132,12 @@ fn time_serve<J: Naming + Send + Sync, M: Publisher<J> + Send, R: Threads + Wait
     shares: Vec<Share<J>>,
     scripts: &[Vec<rank_threads::Work>],
     wanted: u64,
-    by_threads: bool,
+    at_once: bool,
 ) -> u64 {
     let start = wall(rt);
-    let board = serve(rt, alloc, board, scripts, shares, by_threads);
+    let board = serve(rt, alloc, board, scripts, shares, at_once);
     let time = wall_since(rt, start);
-    let is_served = counted(&board, scripts.len().min(64) as u8) == wanted;
+    let is_served = counted(&board, scripts.len().min(64) as u8, 1) == wanted;
     board.end();
     if is_served { time } else { u64::MAX }
 }
@@ -136,9 +147,9 @@ fn export<J: Naming + Send + Sync, M: Publisher<J> + Send, R: Threads + Wait + S
     alloc: Global,
     mut board: Board<J, M>,
     orders: &[Order],
-    by_threads: bool,
+    at_once: bool,
 ) -> Board<J, M> {
-    if by_threads {
+    if at_once {
         let (after, _outcomes) = export_phase(rt, alloc, board, &OpenGate, orders);
         return after;
     }
@@ -163,14 +174,63 @@ fn time_export<J: Naming + Send + Sync, M: Publisher<J> + Send, R: Threads + Wai
     alloc: Global,
     board: Board<J, M>,
     orders: &[Order],
-    by_threads: bool,
+    at_once: bool,
 ) -> u64 {
     let start = wall(rt);
-    let board = export(rt, alloc, board, orders, by_threads);
+    let board = export(rt, alloc, board, orders, at_once);
     let time = wall_since(rt, start);
     let is_done = are_there(&board, orders);
     board.end();
     if is_done { time } else { u64::MAX }
+}
+
+fn serve_and_export<J: Naming + Send + Sync, M: Publisher<J> + Send, R: Threads + Wait + Sync>(
+    rt: &R,
+    alloc: Global,
+    board: Board<J, M>,
+    seats: Seats<J>,
+    tasks: Tasks<'_>,
+    at_once: bool,
+) -> Board<J, M> {
+    let Seats { shares, readers } = seats;
+    let ranks = tasks.scripts.len();
+    if at_once && ranks <= 64 && shares.len() == ranks && readers.len() == ranks {
+        let mut unsettled = Unsettled::new(alloc);
+        let (gate, rounds) = (&OpenGate, &OpenGate);
+        let (after, _left) = traffic_phase(
+            rt,
+            alloc,
+            board,
+            shares,
+            readers,
+            tasks,
+            gate,
+            rounds,
+            &mut unsettled,
+        );
+        return after;
+    }
+    let board = serve(rt, alloc, board, tasks.scripts, shares, true);
+    export(rt, alloc, board, tasks.orders, true)
+}
+
+// The time of requests and exports, each of which has to be served or done.
+fn time_both<J: Naming + Send + Sync, M: Publisher<J> + Send, R: Threads + Wait + Clock + Sync>(
+    rt: &R,
+    alloc: Global,
+    board: Board<J, M>,
+    seats: Seats<J>,
+    tasks: Tasks<'_>,
+    wanted: u64,
+    at_once: bool,
+) -> u64 {
+    let start = wall(rt);
+    let board = serve_and_export(rt, alloc, board, seats, tasks, at_once);
+    let time = wall_since(rt, start);
+    let is_served = counted(&board, tasks.scripts.len().min(64) as u8, 2) == wanted;
+    let is_done = are_there(&board, tasks.orders);
+    board.end();
+    if is_served && is_done { time } else { u64::MAX }
 }
 
 /// The nanoseconds of wall time of a phase on a new board, and the board's end. In a phase of exports each rank gives
@@ -179,27 +239,20 @@ pub fn time_phase<
     J: Naming + Send + Sync,
     M: Publisher<J> + Send,
     R: Threads + Wait + Clock + Sync,
->(
-    rt: &R,
-    alloc: Global,
-    mut board: Board<J, M>,
-    shares: Vec<Share<J>>,
-    ranks: u8,
-    phase: Phase,
-) -> u64 {
+>(rt: &R, alloc: Global, mut board: Board<J, M>, seats: Seats<J>, ranks: u8, phase: Phase) -> u64 {
     match phase.work {
         Work::Serve(hits) => {
-            if let Ok(scripts) = scripts(alloc, ranks, hits)
+            if let Ok(scripts) = scripts(alloc, ranks, hits, 1)
                 && make(alloc, &mut board, ranks, u32::from(ranks) + 1)
             {
                 return time_serve(
                     rt,
                     alloc,
                     board,
-                    shares,
+                    seats.shares,
                     &scripts,
                     asked(ranks, hits),
-                    phase.by_threads,
+                    phase.at_once,
                 );
             }
         }
@@ -207,7 +260,20 @@ pub fn time_phase<
             if let Ok(orders) = pass_on(alloc, ranks, DIR_LIMIT)
                 && make(alloc, &mut board, ranks, DIR_LIMIT)
             {
-                return time_export(rt, alloc, board, &orders, phase.by_threads);
+                return time_export(rt, alloc, board, &orders, phase.at_once);
+            }
+        }
+        Work::Both(hits) => {
+            if let Ok(scripts) = scripts(alloc, ranks, hits, 2)
+                && let Ok(orders) = pass_second(alloc, ranks)
+                && make(alloc, &mut board, ranks, u32::from(ranks) * 2 + 1)
+            {
+                let tasks = Tasks {
+                    scripts: &scripts,
+                    orders: &orders,
+                };
+                let wanted = asked(ranks, hits);
+                return time_both(rt, alloc, board, seats, tasks, wanted, phase.at_once);
             }
         }
     }

@@ -14,6 +14,8 @@ pub enum Work {
     Serve(u32),
     /// Exports.
     Export,
+    /// Requests, each of this many hits, and exports of other directories.
+    Both(u32),
 }
 
 /// A rank of this number.
@@ -79,6 +81,25 @@ pub fn pass_on(alloc: Global, ranks: u8, dirs: u32) -> Result<Vec<Order>, AllocE
     Ok(orders)
 }
 
+/// The first directory of a rank, where each rank has so many.
+pub fn first_of(rank: u8, each: u32) -> Dir {
+    Dir::new(u32::from(rank).saturating_mul(each).saturating_add(1))
+}
+
+/// An order from each rank to the next for the second of its two directories.
+pub fn pass_second(alloc: Global, ranks: u8) -> Result<Vec<Order>, AllocError> {
+    let mut orders = Vec::new(alloc);
+    for number in 0..ranks {
+        let second = first_of(number, 2).number().saturating_add(1);
+        orders.push(Order {
+            from: rank(number),
+            to: rank(number.wrapping_add(1) % ranks.max(1)),
+            dirs: Dirs::new(vec![in alloc; Dir::new(second)]?),
+        })?;
+    }
+    Ok(orders)
+}
+
 // How many requests each rank has.
 fn requests_of(ranks: u8, hits: u32) -> u32 {
     if hits == 0 {
@@ -105,12 +126,17 @@ fn script(alloc: Global, count: u32, request: Request) -> Result<Vec<Request>, A
     Ok(script)
 }
 
-/// The requests of each rank on its directory.
-pub fn scripts(alloc: Global, ranks: u8, hits: u32) -> Result<Vec<Vec<Request>>, AllocError> {
+/// The requests of each rank on the first of its directories, of which it has so many.
+pub fn scripts(
+    alloc: Global,
+    ranks: u8,
+    hits: u32,
+    each: u32,
+) -> Result<Vec<Vec<Request>>, AllocError> {
     let count = requests_of(ranks, hits);
     let mut scripts = Vec::new(alloc);
     for number in 0..ranks {
-        let dir = Dir::new(u32::from(number) + 1);
+        let dir = first_of(number, each);
         scripts.push(script(alloc, count, Request { dir, hits })?)?;
     }
     Ok(scripts)
