@@ -22,8 +22,9 @@ use traffic_threads::phase::Tasks;
 /// Directory 1 goes from rank 0 to rank 1.
 pub(crate) const MOVE: &[(u8, u8, u32)] = &[(0, 1, 1)];
 
-/// An export meets a request, on which it can't freeze the directory. Nothing of it can be so where all is done by one
-/// thread, or where the exports are carried out before the requests or after them: one of both would wait in vain.
+/// An export meets a request, on which it can't freeze the directory. One of both would wait in vain where one thread
+/// does all, where the exports are carried out before the requests or after them, or where the board stays locked while
+/// hits are counted.
 pub(crate) fn hold<
     J: Naming + Send + Sync,
     M: Publisher<J> + Send,
