@@ -1,8 +1,8 @@
 //! Times what whole scripts don't show: readers of the published map, and phases of the ranks' threads. The scripts
 //! bench/paths and bench/threads at the top run it.
 //!
-//! The first word is `map`, `serve`, `export` or `both`. The modules `map` and `phases` say what follows and what is printed.
-//! Without a word it prints nothing. A line that it prints is a name and its numbers.
+//! The first word is `map`, `serve`, `export` or `both`. The modules `map` and `phases` say what follows and what is
+//! printed. Without a word it prints nothing. A line that it prints is a name and its numbers.
 #![tactic(auto)]
 
 mod map;

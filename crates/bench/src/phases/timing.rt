@@ -23,7 +23,8 @@ use std::time::{Clock, Duration};
 use traffic_threads::phase::Tasks;
 use traffic_threads::traffic_phase;
 
-/// A phase: of all ranks at once, in threads, or on one thread. Two kinds of work go on at once, or one after the other.
+/// A phase: of all ranks at once, in threads, or on one thread. Two kinds of work go on at once, or one after the
+/// other.
 #[derive(Clone, Copy)]
 pub struct Phase {
     pub work: Work,
