@@ -40,6 +40,8 @@ pub(crate) enum Trial {
     AtOnce(u8),
     /// A request on a directory that another rank has.
     ByMap,
+    /// Requests for a caller that has all shares.
+    Totals,
     /// Requests and an export while a growth or threads are refused, and how many of them may not be done.
     Scarce(u32),
 }
@@ -105,6 +107,7 @@ fn try_on<J: Naming + Send + Sync, M: Publisher<J> + Send, R: Abort + Threads + 
         Trial::Held => return traffic::hold(rt, alloc, board, seats),
         Trial::AtOnce(rank) => return traffic::serve_and_move(rt, alloc, board, seats, rank),
         Trial::ByMap => return traffic::ask_by_map(rt, alloc, board, seats),
+        Trial::Totals => panic!(rt; "its board is its own"),
         Trial::Scarce(most) => return scarce::serve_and_move(rt, alloc, board, seats, most),
     }
     board.end();
@@ -120,6 +123,9 @@ fn on_parts<J: Naming + Send + Sync, M: Publisher<J> + Send, R: Abort + Threads 
 )
     requires limit { (limit ≡ J.limit) × (1 ≤ limit) × (limit ≤ 65536) }
 {
+    if let Trial::Totals = trial {
+        return traffic::add_up(rt, alloc, parts, readers, limit);
+    }
     let (board, shares) = board_of(rt, alloc, parts, limit, trial.ranks());
     let seats = Seats {
         shares,

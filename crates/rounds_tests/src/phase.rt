@@ -12,8 +12,7 @@ use std::marker::{Send, Sync};
 use std::process::Abort;
 use std::sync::Wait;
 use std::thread::Threads;
-use traffic_threads::phase::Tasks;
-use traffic_threads::{OrderOutcome, Traffic, Work, WorkAnswer, traffic_phase};
+use traffic_threads::{OrderOutcome, Tasks, Traffic, Work, WorkAnswer, traffic_phase};
 
 /// What is kept from one phase to the next beside the board.
 #[derive(Drop)]

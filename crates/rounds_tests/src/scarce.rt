@@ -21,8 +21,7 @@ use std::marker::{Send, Sync};
 use std::process::Abort;
 use std::sync::Wait;
 use std::thread::Threads;
-use traffic_threads::phase::Tasks;
-use traffic_threads::{Work, WorkAnswer};
+use traffic_threads::{Tasks, Work, WorkAnswer};
 
 fn scripts_at_last(alloc: Global) -> Result<Vec<Vec<Work>>, AllocError> {
     let rows = [(0, 3), (0, 2)];

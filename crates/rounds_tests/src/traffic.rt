@@ -1,4 +1,6 @@
 //! Requests while a directory goes from rank 0 to rank 1.
+ghost use Rattle.std.specs.Prelude.{◌≡◌, ◌≤◌, vec_len};
+ghost use Rattle.heat_ledger.specs.Ledger.{weight_of};
 
 use crate::boards::{Trial, on_board};
 use crate::gates::{HeldGate, JitterGate};
@@ -7,7 +9,10 @@ use crate::recorded::replay;
 use crate::same::{Sure, holds_in, same};
 use crate::steps::{Do, make, moved, orders, play, rank};
 use authority_map::{Found, MapReader, Publisher};
+use board_state::BoardParts;
+use export_rounds::Unsettled;
 use export_threads::{OrderOutcome, Outcome};
+use heat_ledger::Share;
 use mds_board::{Board, History, Shown};
 use mds_types::Dir;
 use naming::Naming;
@@ -16,8 +21,7 @@ use std::marker::{Send, Sync};
 use std::process::Abort;
 use std::sync::Wait;
 use std::thread::Threads;
-use traffic_threads::WorkAnswer;
-use traffic_threads::phase::Tasks;
+use traffic_threads::{Tasks, traffic_with_totals};
 
 /// Directory 1 goes from rank 0 to rank 1.
 pub(crate) const MOVE: &[(u8, u8, u32)] = &[(0, 1, 1)];
@@ -156,4 +160,50 @@ pub(crate) fn ask_by_map<
 #[test]
 fn requests_are_asked_where_the_map_says(rt: HostRuntime) {
     on_board(&rt, &rt, Trial::ByMap)
+}
+
+fn serve_whole<J: Naming + Send + Sync, M: Publisher<J> + Send, R: Abort + Threads + Wait + Sync>(
+    rt: &R,
+    alloc: Global,
+    board: Board<J, M>,
+    shares: Vec<Share<J>>,
+    readers: Vec<MapReader<J>>,
+)
+    requires shares { vec_len shares ≡ 2 }
+    requires whole { weight_of shares.items ≡ board.shares }
+{
+    let scripts = scripts(alloc, &[(0, 5), (0, 2)], 1).sure(rt);
+    let tasks = Tasks {
+        scripts: &scripts,
+        orders: &[],
+    };
+    let mut none = Unsettled::new(alloc);
+    let gate = &JitterGate;
+    assert!(rt; scripts.len() == 2 && readers.len() == 2);
+    let (board, done) = traffic_with_totals(
+        rt, alloc, board, shares, readers, tasks, gate, gate, &mut none,
+    );
+    let totals = (board.begun(Dir::ROOT), board.counted(Dir::ROOT));
+    board.end();
+    assert!(rt; done.is_ok());
+    same(rt, &totals, &(2, 7));
+}
+
+/// The board counts what the requests of a phase begin and hit, for a caller that has all shares.
+pub(crate) fn add_up<
+    J: Naming + Send + Sync,
+    M: Publisher<J> + Send,
+    R: Abort + Threads + Wait + Sync,
+>(rt: &R, alloc: Global, parts: BoardParts<J, M>, readers: Vec<MapReader<J>>, limit: u32)
+    requires limit { (limit ≡ J.limit) × (1 ≤ limit) × (limit ≤ 65536) }
+{
+    match Board::new(alloc, parts, limit, 2) {
+        Ok((board, shares)) => serve_whole(rt, alloc, board, shares, readers),
+        Err(_parts) => panic!(rt; "no board"),
+    }
+}
+
+#[test]
+fn totals_rise_by_the_answers(rt: HostRuntime) {
+    on_board(&rt, &rt, Trial::Totals)
 }
