@@ -20,10 +20,9 @@ use std::marker::{Send, Sync};
 use std::sync::Wait;
 use std::thread::Threads;
 use std::time::{Clock, Duration};
-use traffic_threads::phase::Tasks;
-use traffic_threads::traffic_phase;
+use traffic_threads::{Tasks, traffic_phase};
 
-/// A phase: of all ranks at once, in threads, or on one thread. Two kinds of work go on at once, or one after the
+/// A phase: of all ranks at once, in threads, or on one thread. Both kinds of work go on at once, or one after the
 /// other.
 #[derive(Clone, Copy)]
 pub struct Phase {
