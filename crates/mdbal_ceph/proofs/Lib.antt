@@ -1,4 +1,5 @@
 pub mod Ours
+pub mod OwnLines
 pub mod Parents
 pub mod Simple
 pub mod Untouched

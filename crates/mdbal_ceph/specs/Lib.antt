@@ -2,5 +2,6 @@ pub mod Collections
 pub mod CommandLine
 pub mod Options
 pub mod Outcomes
+pub mod OwnListPins
 pub mod Usable
 pub mod Writing

@@ -4,6 +4,7 @@
 mod collected;
 mod files;
 mod input;
+mod laws;
 mod outcome;
 mod progress;
 mod settings;
