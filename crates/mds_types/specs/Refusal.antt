@@ -56,6 +56,7 @@ name refusal.HistoryFull = codes "33 HistoryFull"
 name refusal.NoReader = codes "34 NoReader"
 name refusal.Pinned = codes "35 Pinned"
 name refusal.NoThread = codes "36 NoThread"
+name refusal.BadWeight = codes "37 BadWeight"
 
 -- the value after it, where there is one
 abbrev pub value_of : Refusal → RefusalValue

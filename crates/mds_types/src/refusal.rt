@@ -116,6 +116,8 @@ pub enum Refusal {
     Pinned,
     /// The system gave no thread for the rank.
     NoThread,
+    /// A weight of reads or writes isn't 1 to 16.
+    BadWeight,
 }
 
 /// What is printed after a refusal's name.
@@ -172,6 +174,7 @@ impl Refusal {
             Refusal::NoReader => "34 NoReader",
             Refusal::Pinned => "35 Pinned",
             Refusal::NoThread => "36 NoThread",
+            Refusal::BadWeight => "37 BadWeight",
         }
     }
 
