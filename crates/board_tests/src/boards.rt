@@ -61,7 +61,7 @@ fn is_done(rt: &impl Abort, alloc: Global, board: &mut Board, step: &Step) -> bo
             .tree
             .make(alloc, Dir::new(*parent), name, *inodes)
             .is_ok(),
-        Step::Heat(dir, hits) => add(&mut board.heat, *dir, *hits),
+        Step::Heat(dir, hits) => add(&mut board.heat, *dir, u128::from(*hits)),
         Step::Pin(dir, rank) => set_pin(rt, board, *dir, *rank).is_ok(),
         Step::Remove(dir) => board.tree.remove(Dir::new(*dir)).is_ok(),
     }

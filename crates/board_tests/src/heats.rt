@@ -17,7 +17,7 @@ const DIRS: u32 = 4;
 /// A change of the heats of directories, which are given by their numbers.
 #[derive(Drop)]
 enum Change {
-    Add(u32, u64),
+    Add(u32, u128),
     Clear(u32),
     /// This many ticks.
     Tick(u32),
@@ -67,7 +67,7 @@ const SCHEDULES: &[Schedule] = &[
         0,
         &[
             (
-                Change::Add(1, HEAT_LIMIT),
+                Change::Add(1, HEAT_LIMIT as u128),
                 true,
                 1,
                 HEAT_LIMIT,
@@ -85,7 +85,7 @@ const SCHEDULES: &[Schedule] = &[
         &[
             (Change::Add(1, 1), true, 1, 1, (1, 0)),
             (
-                Change::Add(1, u64::MAX),
+                Change::Add(1, 1 << 68),
                 true,
                 1,
                 1_099_511_627_776,
@@ -101,7 +101,7 @@ const SCHEDULES: &[Schedule] = &[
         0,
         &[
             (
-                Change::Add(1, HEAT_LIMIT),
+                Change::Add(1, HEAT_LIMIT as u128),
                 true,
                 1,
                 HEAT_LIMIT,
@@ -167,7 +167,7 @@ fn begun_at_last(rt: &impl Abort, alloc: Global, ticks: u64) -> Heat {
 }
 
 /// Adds hits; whether there is such a directory.
-pub(crate) fn add(heat: &mut Heat, dir: u32, hits: u64) -> bool {
+pub(crate) fn add(heat: &mut Heat, dir: u32, hits: u128) -> bool {
     let is_there = dir < heat.limit();
     if is_there {
         heat.add(Dir::new(dir), hits);
@@ -270,7 +270,8 @@ fn change_list(plain: &mut [u64; 4], change: &Change) {
     match change {
         Change::Add(dir, hits) => {
             let before = plain.get(*dir as usize).copied().unwrap_or(0);
-            set(plain, *dir, before.saturating_add(*hits).min(HEAT_LIMIT));
+            let sum = hits.saturating_add(u128::from(before));
+            set(plain, *dir, sum.min(HEAT_LIMIT as u128) as u64);
         }
         Change::Clear(dir) => set(plain, *dir, 0),
         Change::Tick(ticks) => {
@@ -285,7 +286,10 @@ fn change_list(plain: &mut [u64; 4], change: &Change) {
 fn random_change(random: &mut Random) -> Change {
     let dir = random.below(4) as u32;
     match random.below(8) {
-        0..4 => Change::Add(dir, random.next() >> random.below(64)),
+        0..4 => {
+            let hits = u128::from(random.next() >> random.below(64));
+            Change::Add(dir, hits * u128::from(random.below(17)))
+        }
         4 => Change::Clear(dir),
         _ => Change::Tick(random.below(8) as u32),
     }

@@ -29,7 +29,7 @@ fn random_board(rt: &impl Abort, alloc: Global, random: &mut Random) -> Board {
     }
     for dir in 0..ROOM {
         let _refused = set_pin(rt, &mut board, dir, random.below(24) as i32 - 1);
-        add(&mut board.heat, dir, random.below(1000));
+        add(&mut board.heat, dir, u128::from(random.below(1000)));
     }
     board
 }

@@ -11,7 +11,7 @@ pub record Heats : Type 0 where
 
 -- the heat after this many more accesses
 abbrev pub after_deposit : ℕ → ℕ → ℕ
-after_deposit heat hits = min (2 ^ 40) (heat + hits)
+after_deposit heat accesses = min (2 ^ 40) (heat + accesses)
 
 -- the heat after a tick
 abbrev pub after_tick : ℕ → ℕ

@@ -1,6 +1,6 @@
 //! A heat for each directory number.
 //!
-//! A deposit of n hits makes a heat `min(2^40, heat + n)`, a tick makes it `heat / 2`, rounded
+//! A deposit of n accesses makes a heat `min(2^40, heat + n)`, a tick makes it `heat / 2`, rounded
 //! down. So a directory that nobody uses is cold after 41 ticks. The heat of a set of directories
 //! is the sum: a directory's own heat doesn't hold that of the directories below it. After the
 //! decaying counters of Weil et al., "Ceph", OSDI 2006.
@@ -81,14 +81,15 @@ impl Heat {
         self.touches[dir.number() as usize] = Touch { heat, tick };
     }
 
-    /// Deposits hits on a directory.
-    pub fn add(&mut self, dir: Dir, hits: u64)
+    /// Adds accesses to a directory's heat, which is cut off at the greatest heat.
+    pub fn add(&mut self, dir: Dir, accesses: u128)
         requires { dir < self.old.limit }
-        ensures heats { self.new ≡ touched self.old dir (after_deposit (slice_index self.old.heats dir) hits) }
-        ensures here { slice_index self.new.heats dir ≡ after_deposit (slice_index self.old.heats dir) hits }
+        ensures heats { self.new ≡ touched self.old dir (after_deposit (slice_index self.old.heats dir) accesses) }
+        ensures here { slice_index self.new.heats dir ≡ after_deposit (slice_index self.old.heats dir) accesses }
     {
-        let heat = self.heat(dir);
-        self.touch(dir, heat.saturating_add(hits).min(HEAT_LIMIT));
+        let room = HEAT_LIMIT - self.heat(dir);
+        let more = accesses.min(u128::from(room)) as u64;
+        self.touch(dir, HEAT_LIMIT - room + more);
     }
 
     /// Halves all heats. It goes to no directory: what is kept of each stays as it was.
