@@ -2,7 +2,8 @@
 use Rattle.std.proofs.Common.{◌≡◌, ℕ, ◌+◌, ◌-◌, ◌*◌, ◌≤◌, List, [], ◌∷◌, ◌++◌, sum_by, refl, ap, ◌∙◌, true, ⊎_elim, arith}
 use Rattle.std.proofs.lemmas.List.Sums.{sum_by_push}
 use Rattle.heat_ledger.specs.declared.tally.TokenState.{TokenState}
-use Rattle.heat_ledger.specs.Rows.{at}
+use Rattle.mds_types.specs.declared.kind.Kind.TheVariants.{Read}
+use Rattle.heat_ledger.specs.Rows.{at, entry}
 use Rattle.heat_ledger.specs.Tally.{most, both_of, share_state}
 use Rattle.heat_ledger.specs.Ledger.{ShareData, hit_slot, begun_slot, laid_out, IsShare}
 use Rattle.heat_ledger.specs.Gathering.{IsAudited}
@@ -65,10 +66,11 @@ rest_backed limit v u w x weight hits pending begun left s is audited mine k =
     let m = mine k in
     omega arith
 
-pub audited_more : (limit : ℕ) (v u w x z : TokenState) (all left : List ShareData) (share : ShareData) → IsShare limit u share.weight share.hits share.pending share.begun → w ≡ both_of v u → IsAudited w x left → all ≡ left ++ share ∷ []
-    → z.has_totals ≡ true → z.parts + share.weight ≡ x.parts → ((k : ℕ) → at z.amounts k + at (laid_out share.hits share.pending share.begun) k ≡ at x.amounts k) → ((k : ℕ) → at z.totals k ≡ at x.totals k)
+-- The authority has one share more. The amounts are by entry, and the share has those of each directory.
+pub audited_more : (limit : ℕ) (v u w x z : TokenState) (all left : List ShareData) (share : ShareData) (begun : List ℕ) → IsShare limit u share.weight share.hits share.pending begun → ((d : ℕ) → at begun (entry d Read) ≡ at share.begun d) → w ≡ both_of v u → IsAudited w x left → all ≡ left ++ share ∷ []
+    → z.has_totals ≡ true → z.parts + share.weight ≡ x.parts → ((k : ℕ) → at z.amounts k + at (laid_out share.hits share.pending begun) k ≡ at x.amounts k) → ((k : ℕ) → at z.totals k ≡ at x.totals k)
     → IsAudited v z all
-audited_more limit v u w x z all left share s is audited order has_totals parts amounts totals =
+audited_more limit v u w x z all left share begun s same is audited order has_totals parts amounts totals =
     let weighs = s.weighs in
     let p : w.parts ≡ v.parts + u.parts = ap (λ (h : TokenState). h.parts) is in
     let q = audited.parts in
@@ -78,7 +80,7 @@ audited_more limit v u w x z all left share s is audited order has_totals parts 
     record {
       has_totals = has_totals;
       parts = omega arith;
-      amounts = λ k. (let a = amounts k in let b = audited.amounts k in let c = amount k in let l = laid_amounts limit u share.weight share.hits share.pending share.begun s k in omega arith);
+      amounts = λ k. (let a = amounts k in let b = audited.amounts k in let c = amount k in let l = laid_amounts limit u share.weight share.hits share.pending begun s k in omega arith);
       totals = λ k. (let a = totals k in let b = audited.totals k in let c = total k in omega arith);
       hits = λ every d.
           let weight = sum (λ s. s.weight) in
@@ -93,8 +95,9 @@ audited_more limit v u w x z all left share s is audited order has_totals parts 
           let weight = sum (λ s. s.weight) in
           let h = sum (λ s. at s.begun d) in
           let e = audited.begun (omega arith) d in
-          let a = amount (begun_slot d) in
-          let t = total (begun_slot d) in
-          let f = s.begins d in
+          let a = amount (begun_slot (entry d Read)) in
+          let t = total (begun_slot (entry d Read)) in
+          let f = s.begins (entry d Read) in
+          let own = same d in
           omega arith;
     }

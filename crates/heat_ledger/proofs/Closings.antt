@@ -3,16 +3,17 @@ use Rattle.std.proofs.Common.{◌≡◌, ℕ, zero, suc, ◌+◌, ◌-◌, ◌*�
 use Rattle.std.proofs.lemmas.List.Sums.{sum_by_push}
 use Rattle.std.proofs.lemmas.List.Elements.{All-append}
 use Rattle.heat_ledger.specs.declared.tally.TokenState.{TokenState}
-use Rattle.heat_ledger.specs.Rows.{at}
+use Rattle.mds_types.specs.declared.kind.Kind.TheVariants.{Read}
+use Rattle.heat_ledger.specs.Rows.{at, entry}
 use Rattle.heat_ledger.specs.Tally.{most, all_parts, both_of, after_issue, IsLearned}
-use Rattle.heat_ledger.specs.Ledger.{ShareData, IsClean, weight_of, hits_of, begun_of, hit_slot, begun_slot, IsShare, IsBook}
+use Rattle.heat_ledger.specs.Ledger.{ShareData, IsClean, weight_of, hits_of, begun_of, hit_slot, begun_slot, IsShareToken, IsBook}
 use Rattle.heat_ledger.specs.Gathering.{IsGathered}
 use Rattle.heat_ledger.proofs.RowLemmas.{at_sums}
 
 -- the authority has one share more
-pub gathered_more : (limit parts : ℕ) (v u w : TokenState) (all rest left : List ShareData) (x : ShareData) → rest ≡ left ++ x ∷ [] → IsGathered parts v all rest → IsClean x
-    → IsShare limit u x.weight x.hits x.pending x.begun → ((k : ℕ) → at u.amounts k ≤ u.parts * most) → w ≡ both_of v u → IsGathered parts w all left
-gathered_more limit parts v u w all rest left x is g clean s back now =
+pub gathered_more : (parts : ℕ) (v u w : TokenState) (all rest left : List ShareData) (x : ShareData) → rest ≡ left ++ x ∷ [] → IsGathered parts v all rest → IsClean x
+    → IsShareToken u x → ((k : ℕ) → at u.amounts k ≤ u.parts * most) → w ≡ both_of v u → IsGathered parts w all left
+gathered_more parts v u w all rest left x is g clean s back now =
     let weighs = s.weighs in
     let np : w.parts ≡ v.parts + u.parts = ap (λ (h : TokenState). h.parts) now in
     let sum : (f : ShareData → ℕ) → sum_by f rest ≡ sum_by f left + f x = λ f. ap (sum_by f) is ∙ sum_by_push f left x in
@@ -20,7 +21,7 @@ gathered_more limit parts v u w all rest left x is g clean s back now =
     record {
       weights = (let a = g.weights in let s = sum (λ s. s.weight) in omega arith);
       hits = λ d. (let a = g.hits d in let t = sum (λ s. at s.hits d) in let m = amount (hit_slot d) in let k = s.known d in let c = clean d in omega arith);
-      begun = λ d. (let a = g.begun d in let t = sum (λ s. at s.begun d) in let m = amount (begun_slot d) in let k = s.begins d in omega arith);
+      begun = λ d. (let a = g.begun d in let t = sum (λ s. at s.begun d) in let m = amount (begun_slot (entry d Read)) in let k = s.begins d in omega arith);
       backed = λ k. (let a = g.backed k in let m = amount k in let b = back k in let e : w.parts * most ≡ (v.parts + u.parts) * most = ap (λ n. n * most) np in omega arith);
     }
 
@@ -28,8 +29,8 @@ gathered_more limit parts v u w all rest left x is g clean s back now =
 pub record IsClosed (shares : ℕ) (counted started : List ℕ) (state : TokenState) (all : List ShareData) : Type 0 where
   pub weights : weight_of all ≡ shares
   pub parts : state.parts ≡ all_parts
-  pub hits : (dir : ℕ) → at counted dir ≡ hits_of all dir
-  pub begun : (dir : ℕ) → at started dir ≡ begun_of all dir
+  pub hits : (e : ℕ) → at counted e ≡ hits_of all e
+  pub begun : (dir : ℕ) → at started (entry dir Read) ≡ begun_of all dir
   pub backed : (k : ℕ) → at state.amounts k ≤ shares * most
 
 pub closed : (limit : ℕ) (v w : TokenState) (shares : ℕ) (counted begun : List ℕ) (all : List ShareData) → IsBook limit v shares counted begun → IsGathered v.parts w all [] → w.has_totals ≡ true → w.totals ≡ v.totals → IsLearned w
@@ -43,7 +44,7 @@ closed limit v w shares counted begun all b g has_totals totals l left =
       weights = omega arith;
       parts = full;
       hits = λ d. (let a = b.known d in let t : at w.totals (hit_slot d) ≡ at v.totals (hit_slot d) = ap (λ xs. at xs (hit_slot d)) totals in let h = g.hits d in let e = l.whole has_totals full (hit_slot d) in omega arith);
-      begun = λ d. (let a = b.begins d in let t : at w.totals (begun_slot d) ≡ at v.totals (begun_slot d) = ap (λ xs. at xs (begun_slot d)) totals in let h = g.begun d in let e = l.whole has_totals full (begun_slot d) in omega arith);
+      begun = λ d. (let k = begun_slot (entry d Read) in let a = b.begins (entry d Read) in let t : at w.totals k ≡ at v.totals k = ap (λ xs. at xs k) totals in let h = g.begun d in let e = l.whole has_totals full k in omega arith);
       backed = λ k. (let a = g.backed k in let m : v.parts * most + shares * most ≡ w.parts * most = omega (arith, ap (λ n. n * most) p, ap (λ n. n * most) full) in omega arith);
     }
 

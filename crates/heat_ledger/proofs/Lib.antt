@@ -1,5 +1,6 @@
 pub mod RowLemmas
 pub mod Padding
+pub mod Pairs
 pub mod Placing
 pub mod CountsLemmas
 pub mod Marks

@@ -1,14 +1,15 @@
 -- The directories that have a count, as a list of rows.
-use Rattle.std.proofs.Common.{◌≡◌, ◌≢◌, ℕ, zero, suc, ◌+◌, ◌-◌, ◌<◌, ◌≤◌, ◌==◌, Bool, true, cond, List, [], ◌∷◌, ◌++◌, map, filter, fold, nat_lt, set, length, refl, sym, ap, ◌∙◌, arith, subst, append_assoc}
+use Rattle.std.proofs.Common.{◌≡◌, ◌≢◌, ℕ, zero, suc, ◌+◌, ◌-◌, ◌<◌, ◌≤◌, ◌==◌, Bool, true, false, cond, List, [], ◌∷◌, ◌++◌, map, filter, fold, nat_lt, set, length, refl, sym, ap, ◌∙◌, arith, subst, append_assoc, length-append}
 use Rattle.std.proofs.lemmas.List.{set_at, get_or_at, length_push}
 use Rattle.std.proofs.lemmas.List.Recursion.{is_count_by}
 use Rattle.std.proofs.lemmas.List.Sorted.{sum_by-IsPermutation}
 use Rattle.std.specs.List.Sorted.{IsPermutation, IsNonDecreasing}
 use Rattle.std.proofs.lemmas.Bool.Decides.{nat_tests}
 use native.Mathlib.Decide.{ℕ_discrete}
-use Rattle.heat_ledger.specs.Rows.{at, sums, numbered, counted_rows, with_row}
-use Rattle.heat_ledger.specs.Touched.{times, mark, IsTracked}
-use Rattle.heat_ledger.proofs.Marks.{times_same, times_other, times_more, times_at, tracked_once}
+use Rattle.heat_ledger.specs.declared.dir_hits.DirHits.{DirHits}
+use Rattle.heat_ledger.specs.Rows.{at, sums, raised_by, dir_row, numbered, counted_rows, with_row}
+use Rattle.heat_ledger.specs.Touched.{times, mark, pair_sums, IsTracked}
+use Rattle.heat_ledger.proofs.Marks.{times_same, times_other, times_more, times_at, mark_some, tracked_once}
 
 -- they rise, from this number on
 abbrev pub RisesFrom : ℕ → List ℕ → Type 0
@@ -37,33 +38,46 @@ first_is d from ds up some = step (ℕ_discrete d from)
     step (yes s) = s
     step (no n) = absurd (omega (arith, times_other d from ds n, none_before ds (d + 1) from up.1 (omega (arith, up.0))))
 
-abbrev listed : ℕ → List ℕ → List (ℕ × ℕ)
-listed from xs = filter (λ row. nat_lt 0 row.1) (numbered from xs)
+abbrev listed : ℕ → List ℕ → List DirHits
+listed from xs = filter (λ row. nat_lt 0 (row.reads + row.writes)) (numbered from xs)
 
-kept : (from x : ℕ) (xs : List ℕ) → listed from (suc x ∷ xs) ≡ (from, suc x) ∷ listed (from + 1) xs
-kept from x xs = let some : nat_lt 0 (suc x) ≡ true = grind (arith, nat_tests) in ap (λ (b : Bool). cond b ((from, suc x) ∷ listed (from + 1) xs) (listed (from + 1) xs)) some
+abbrev row : ℕ → ℕ → ℕ → DirHits
+row dir reads writes = record { dir = dir; reads = reads; writes = writes }
 
--- a rising list of the directories that have a count is that of the rows
-pub rows_are : (xs : List ℕ) (from : ℕ) (ds : List ℕ) (count : ℕ → ℕ) → RisesFrom from ds → ((i : ℕ) → times ds (from + i) ≡ mark (at xs i)) → ((i : ℕ) → count (from + i) ≡ at xs i)
-    → map (λ d. (d, count d)) ds ≡ listed from xs
-rows_are [] from [] count up noted is = refl
-rows_are [] from (d ∷ ds) count up noted is =
+kept : (from x y : ℕ) (xs : List ℕ) → 1 ≤ x + y → listed from (x ∷ y ∷ xs) ≡ row from x y ∷ listed (from + 1) xs
+kept from x y xs h = let some : nat_lt 0 (x + y) ≡ true = grind (arith, nat_tests) in ap (λ (b : Bool). cond b (row from x y ∷ listed (from + 1) xs) (listed (from + 1) xs)) some
+
+left_out : (from x y : ℕ) (xs : List ℕ) → x + y ≡ 0 → listed from (x ∷ y ∷ xs) ≡ listed (from + 1) xs
+left_out from x y xs h = let none : nat_lt 0 (x + y) ≡ false = grind (arith, nat_tests) in ap (λ (b : Bool). cond b (row from x y ∷ listed (from + 1) xs) (listed (from + 1) xs)) none
+
+-- none of the directories from this number on is in the list
+unlisted : (from : ℕ) (ds : List ℕ) → RisesFrom from ds → ((i : ℕ) → times ds (from + i) ≡ 0) → ds ≡ []
+unlisted from [] up noted = refl
+unlisted from (d ∷ ds) up noted =
     let far : from + (d - from) ≡ d = omega (arith, up.0) in
     absurd (omega (arith, times_same d ds, ap (times (d ∷ ds)) far, noted (d - from)))
-rows_are (zero ∷ xs) from ds count up noted is =
-    rows_are xs (from + 1) ds count (rises_later ds from up (ap (times ds) (omega arith) ∙ noted 0)) (λ i. (let e : from + 1 + i ≡ from + suc i = omega arith in ap (times ds) e ∙ noted (suc i)))
-    (λ i. (let e : from + 1 + i ≡ from + suc i = omega arith in ap count e ∙ is (suc i)))
-rows_are (suc x ∷ xs) from [] count up noted is = absurd (omega (arith, noted 0))
-rows_are (suc x ∷ xs) from (d ∷ ds) count up noted is =
-    let here : from ≡ from + 0 = omega arith in
-    let some : times (d ∷ ds) from ≡ 1 = ap (times (d ∷ ds)) here ∙ noted 0 in
-    let first : d ≡ from = first_is d from ds up (omega arith) in
-    let found : count d ≡ suc x = ap count (first ∙ here) ∙ is 0 in
-    let rest : map (λ d. (d, count d)) ds ≡ listed (from + 1) xs = rows_are xs (from + 1) ds count (subst (λ (k : ℕ). RisesFrom (k + 1) ds) first up.1)
-    (λ i. (let e : from + 1 + i ≡ from + suc i = omega arith in let n : d ≢ from + 1 + i = (λ s. absurd (omega arith)) in sym (times_other d (from + 1 + i) ds n) ∙ ap (times (d ∷ ds)) e ∙ noted (suc i)))
-    (λ i. (let e : from + 1 + i ≡ from + suc i = omega arith in ap count e ∙ is (suc i))) in
-    let listing = kept from x xs in
-    cc
+
+-- a rising list of the directories that have a count is that of the rows
+pub rows_are : (xs : List ℕ) (from : ℕ) (ds : List ℕ) (of : ℕ → DirHits) → RisesFrom from ds → ((i : ℕ) → times ds (from + i) ≡ mark (at (pair_sums xs) i)) → ((d k : ℕ) → k + (from + from) ≡ d + d → of d ≡ row d (at xs k) (at xs (suc k)))
+    → map of ds ≡ listed from xs
+rows_are [] from ds of up noted is = ap (map of) (unlisted from ds up noted)
+rows_are (x ∷ []) from ds of up noted is = ap (map of) (unlisted from ds up noted)
+rows_are (x ∷ y ∷ xs) from ds of up noted is = step (λ ds up noted. rows_are xs (from + 1) ds of up noted (λ d k e. is d (suc (suc k)) (omega arith))) ds up noted (ℕ_discrete (x + y) 0)
+  where
+    step : ((ds : List ℕ) → RisesFrom (from + 1) ds → ((i : ℕ) → times ds (from + 1 + i) ≡ mark (at (pair_sums xs) i)) → map of ds ≡ listed (from + 1) xs)
+        → (ds : List ℕ) → RisesFrom from ds → ((i : ℕ) → times ds (from + i) ≡ mark (at ((x + y) ∷ pair_sums xs) i)) → Dec (x + y ≡ 0) → map of ds ≡ listed from (x ∷ y ∷ xs)
+    step rest ds up noted (yes none) =
+        rest ds (rises_later ds from up (ap (times ds) (omega arith) ∙ noted 0 ∙ ap mark none)) (λ i. (let e : from + 1 + i ≡ from + suc i = omega arith in ap (times ds) e ∙ noted (suc i)))
+        ∙ sym (left_out from x y xs none)
+    step rest [] up noted (no some) = absurd (omega (arith, noted 0, mark_some (x + y) (omega arith)))
+    step rest (d ∷ ds) up noted (no some) =
+        let here : from ≡ from + 0 = omega arith in
+        let once : times (d ∷ ds) from ≡ 1 = ap (times (d ∷ ds)) here ∙ noted 0 ∙ mark_some (x + y) (omega arith) in
+        let first : d ≡ from = first_is d from ds up (omega arith) in
+        let found : of d ≡ row from x y = is d 0 (omega arith) ∙ ap (λ (e : ℕ). row e x y) first in
+        let tail : map of ds ≡ listed (from + 1) xs = rest ds (subst (λ (k : ℕ). RisesFrom (k + 1) ds) first up.1)
+        (λ i. (let e : from + 1 + i ≡ from + suc i = omega arith in let n : d ≢ from + 1 + i = (λ s. absurd (omega arith)) in sym (times_other d (from + 1 + i) ds n) ∙ ap (times (d ∷ ds)) e ∙ noted (suc i))) in
+        ap (λ (r : DirHits). r ∷ map of ds) found ∙ ap (λ (l : List DirHits). row from x y ∷ l) tail ∙ sym (kept from x y xs (omega arith))
 
 sorted_tail : (d : ℕ) (ds : List ℕ) → IsNonDecreasing (d ∷ ds) → IsNonDecreasing ds
 sorted_tail d ds up i j e le less = up (suc i) (suc j) e (omega arith) (omega arith)
@@ -83,25 +97,44 @@ times-permutation xs ys d p =
     ∙ sym (is_count_by (λ (ds : List ℕ). times ds d) (λ x. x == d) refl (λ x xs. refl) xs)
 
 -- the noted directories, in order
-pub sorted_rows : (counts touched dirs : List ℕ) → IsTracked counts touched → IsPermutation touched dirs → IsNonDecreasing dirs → map (λ d. (d, at counts d)) dirs ≡ counted_rows counts
+pub sorted_rows : (counts touched dirs : List ℕ) → IsTracked (pair_sums counts) touched → IsPermutation touched dirs → IsNonDecreasing dirs → map (dir_row counts) dirs ≡ counted_rows counts
 sorted_rows counts touched dirs t p up =
-    rows_are counts 0 dirs (at counts) (sorted_rises dirs 0 up (λ e. omega (arith, times-permutation touched dirs e p, tracked_once counts touched t e)) (λ j less. omega arith))
-    (λ i. (let e : 0 + i ≡ i = omega arith in ap (times dirs) e ∙ times-permutation touched dirs i p ∙ t.once i)) (λ i. ap (at counts) (omega arith))
+    rows_are counts 0 dirs (dir_row counts) (sorted_rises dirs 0 up (λ e. omega (arith, times-permutation touched dirs e p, tracked_once (pair_sums counts) touched t e)) (λ j less. omega arith))
+    (λ i. (let e : 0 + i ≡ i = omega arith in ap (times dirs) e ∙ times-permutation touched dirs i p ∙ t.once i)) (λ d k e. read d k (omega arith))
+  where
+    read : (d k : ℕ) → d + d ≡ k → dir_row counts d ≡ row d (at counts k) (at counts (suc k))
+    read d k e = let next : d + d + 1 ≡ suc k = omega arith in ap (λ (n : ℕ). row d (at counts n) (at counts (d + d + 1))) e ∙ ap (λ (n : ℕ). row d (at counts k) (at counts n)) next
+
+raised_at : (front : List ℕ) (b : ℕ) (back : List ℕ) (k x : ℕ) → length front ≡ k → raised_by (front ++ b ∷ back) k x ≡ front ++ (b + x) ∷ back
+raised_at front b back k x e = ap (λ (y : ℕ). set (front ++ b ∷ back) k (y + x)) (get_or_at front b back 0 k e) ∙ set_at front b back (b + x) k e
+
+row_added : (front : List ℕ) (b c : ℕ) (back : List ℕ) (from x y : ℕ) → length front ≡ from + from → with_row (front ++ b ∷ c ∷ back) (row from x y) ≡ front ++ (b + x) ∷ (c + y) ∷ back
+row_added front b c back from x y e =
+    let long : length (front ++ (b + x) ∷ []) ≡ from + from + 1 = length_push front (b + x) ∙ ap (λ (n : ℕ). n + 1) e in
+    ap (λ (l : List ℕ). raised_by l (from + from + 1) y) (raised_at front b (c ∷ back) (from + from) x e ∙ sym (append_assoc front ((b + x) ∷ []) (c ∷ back)))
+    ∙ raised_at (front ++ (b + x) ∷ []) c back (from + from + 1) y long ∙ append_assoc front ((b + x) ∷ []) ((c + y) ∷ back)
 
 -- rows that are added one by one add up to the sums
-rows_add : (xs front back : List ℕ) (from : ℕ) → length front ≡ from → length back ≡ length xs → fold with_row (front ++ back) (listed from xs) ≡ front ++ sums back xs
-rows_add [] front [] from e f = refl
-rows_add [] front (b ∷ back) from e f = absurd (omega arith)
-rows_add (x ∷ xs) front [] from e f = absurd (omega arith)
-rows_add (zero ∷ xs) front (b ∷ back) from e f =
-    let same : b + 0 ≡ b = omega arith in
-    let rest : fold with_row ((front ++ b ∷ []) ++ back) (listed (from + 1) xs) ≡ (front ++ b ∷ []) ++ sums back xs = rows_add xs (front ++ b ∷ []) back (from + 1) (length_push front b ∙ ap (λ (n : ℕ). n + 1) e) (omega arith) in
-    ap (λ (l : List ℕ). fold with_row l (listed (from + 1) xs)) (sym (append_assoc front (b ∷ []) back)) ∙ rest ∙ append_assoc front (b ∷ []) (sums back xs) ∙ ap (λ (y : ℕ). front ++ y ∷ sums back xs) (sym same)
-rows_add (suc x ∷ xs) front (b ∷ back) from e f =
-    let count : at (front ++ b ∷ back) from ≡ b = get_or_at front b back 0 from e in
-    let changed : with_row (front ++ b ∷ back) (from, suc x) ≡ front ++ (b + suc x) ∷ back = ap (λ (y : ℕ). set (front ++ b ∷ back) from (y + suc x)) count ∙ set_at front b back (b + suc x) from e in
-    let rest : fold with_row ((front ++ (b + suc x) ∷ []) ++ back) (listed (from + 1) xs) ≡ (front ++ (b + suc x) ∷ []) ++ sums back xs = rows_add xs (front ++ (b + suc x) ∷ []) back (from + 1) (length_push front (b + suc x) ∙ ap (λ (n : ℕ). n + 1) e) (omega arith) in
-    ap (fold with_row (front ++ b ∷ back)) (kept from x xs) ∙ ap (λ (l : List ℕ). fold with_row l (listed (from + 1) xs)) (changed ∙ sym (append_assoc front ((b + suc x) ∷ []) back)) ∙ rest ∙ append_assoc front ((b + suc x) ∷ []) (sums back xs)
+rows_add : (xs front back : List ℕ) (from n : ℕ) → length front ≡ from + from → length back ≡ length xs → length xs ≡ n + n → fold with_row (front ++ back) (listed from xs) ≡ front ++ sums back xs
+rows_add [] front [] from n e f even = refl
+rows_add [] front (b ∷ back) from n e f even = absurd (omega arith)
+rows_add (x ∷ xs) front [] from n e f even = absurd (omega arith)
+rows_add (x ∷ []) front (b ∷ back) from n e f even = absurd (omega arith)
+rows_add (x ∷ y ∷ xs) front (b ∷ []) from n e f even = absurd (omega arith)
+rows_add (x ∷ y ∷ xs) front (b ∷ c ∷ back) from zero e f even = absurd (omega arith)
+rows_add (x ∷ y ∷ xs) front (b ∷ c ∷ back) from (suc n) e f even =
+    let pair = (b + x) ∷ (c + y) ∷ [] in
+    let long : length (front ++ pair) ≡ from + 1 + (from + 1) = omega (arith, length-append front pair) in
+    let rest : fold with_row ((front ++ pair) ++ back) (listed (from + 1) xs) ≡ (front ++ pair) ++ sums back xs = rows_add xs (front ++ pair) back (from + 1) n long (omega arith) (omega arith) in
+    step (ℕ_discrete (x + y) 0) ∙ ap (λ (l : List ℕ). fold with_row l (listed (from + 1) xs)) (sym (append_assoc front pair back)) ∙ rest ∙ append_assoc front pair (sums back xs)
+  where
+    step : Dec (x + y ≡ 0) → fold with_row (front ++ b ∷ c ∷ back) (listed from (x ∷ y ∷ xs)) ≡ fold with_row (front ++ (b + x) ∷ (c + y) ∷ back) (listed (from + 1) xs)
+    step (yes none) =
+        let same_reads : b ≡ b + x = omega arith in
+        let same_writes : c ≡ c + y = omega arith in
+        ap (fold with_row (front ++ b ∷ c ∷ back)) (left_out from x y xs none)
+        ∙ ap (λ (k : ℕ). fold with_row (front ++ k ∷ c ∷ back) (listed (from + 1) xs)) same_reads ∙ ap (λ (k : ℕ). fold with_row (front ++ (b + x) ∷ k ∷ back) (listed (from + 1) xs)) same_writes
+    step (no some) = ap (fold with_row (front ++ b ∷ c ∷ back)) (kept from x y xs (omega arith)) ∙ ap (λ (l : List ℕ). fold with_row l (listed (from + 1) xs)) (row_added front b c back from x y e)
 
-pub rows_add_up : (counts counted : List ℕ) → length counted ≡ length counts → fold with_row counted (counted_rows counts) ≡ sums counted counts
-rows_add_up counts counted e = rows_add counts [] counted 0 refl e
+pub rows_add_up : (counts counted : List ℕ) (n : ℕ) → length counts ≡ n + n → length counted ≡ length counts → fold with_row counted (counted_rows counts) ≡ sums counted counts
+rows_add_up counts counted n even e = rows_add counts [] counted 0 n refl e even

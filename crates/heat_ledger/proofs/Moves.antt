@@ -6,7 +6,7 @@ use Rattle.atomic_table.specs.Table.{Step, Me, Act, Allows, Splits, Joins}
 use Rattle.atomic_table.proofs.Lists.{at_set, at_snoc, set_again}
 use Rattle.heat_ledger.specs.declared.tally.TokenState.{TokenState}
 use Rattle.heat_ledger.specs.Rows.{at}
-use Rattle.heat_ledger.specs.Tally.{total, share_state, authority_state, all_parts, most, IsBalanced, IsBalancedTable, both_of, after_issue, IsLearned, Learns}
+use Rattle.heat_ledger.specs.Tally.{sum_over, share_state, authority_state, all_parts, most, IsBalanced, IsBalancedTable, both_of, after_issue, IsLearned, Learns}
 use Rattle.heat_ledger.proofs.RowLemmas.{at_sums}
 use Rattle.heat_ledger.proofs.Totals.{total_set, total_snoc, total_get, total_scaled}
 
@@ -21,7 +21,7 @@ begins = record {
   backed = two;
 }
   where
-    one : (by : ℕ) (v : TokenState) → get_elem? (authority_state all_parts [] ∷ []) by ≡ some v → v.has_totals ≡ true → (by ≡ 0) × ((k : ℕ) → total (λ u. at u.amounts k) (authority_state all_parts [] ∷ []) ≡ at v.totals k)
+    one : (by : ℕ) (v : TokenState) → get_elem? (authority_state all_parts [] ∷ []) by ≡ some v → v.has_totals ≡ true → (by ≡ 0) × ((k : ℕ) → sum_over (λ u. at u.amounts k) (authority_state all_parts [] ∷ []) ≡ at v.totals k)
     one zero v e y = (refl, λ k. ap (λ (u : TokenState). at u.totals k) (some-injective (authority_state all_parts []) v e))
     one (suc by) v e y = absurd (some-ne-none v (sym e))
 
@@ -39,7 +39,7 @@ issues id v parts amounts rest extra has_totals fits same backed left views b he
     let w = after_issue parts rest extra v in
     let n = share_state parts amounts in
     let mine = b.sums id v here has_totals in
-    let sum : (f : TokenState → ℕ) → total f (set views id w ++ n ∷ []) + f v ≡ total f views + f w + f n = λ f. (let s = total_set f views id v w here in let t = total_snoc f (set views id w) n in omega arith) in
+    let sum : (f : TokenState → ℕ) → sum_over f (set views id w ++ n ∷ []) + f v ≡ sum_over f views + f w + f n = λ f. (let s = total_set f views id v w here in let t = total_snoc f (set views id w) n in omega arith) in
     record {
       token = b.token;
       whole = (let s = sum (λ u. u.parts) in let a = b.whole in omega arith);
@@ -47,7 +47,7 @@ issues id v parts amounts rest extra has_totals fits same backed left views b he
           (λ old. ⊎_elim
           (λ (x : (by ≡ id) × (w ≡ u)). (
             x.0 ∙ mine.0,
-            λ k. subst (λ (z : TokenState). total (λ q. at q.amounts k) (set views id w ++ n ∷ []) ≡ at z.totals k) x.1
+            λ k. subst (λ (z : TokenState). sum_over (λ q. at q.amounts k) (set views id w ++ n ∷ []) ≡ at z.totals k) x.1
                 (let s = sum (λ q. at q.amounts k) in let t = mine.1 k in let a = at_sums v.totals extra k in let d = same k in omega arith),
           ))
           (λ (x : (by ≢ id) × (get_elem? views by ≡ some u)). absurd (x.0 ((b.sums by u x.1 y).0 ∙ sym mine.0)))
@@ -78,8 +78,8 @@ joins id v other w held s b here apart there =
     let none = share_state 0 [] in
     let mid = set views id one in
     let theirs : get_elem? views other ≡ some w = ⊎_elim (λ (t : (other ≡ id) × (one ≡ w)). absurd (apart t.0)) (λ (t : (other ≢ id) × (get_elem? views other ≡ some w)). t.1) (at_set views id other one w there) in
-    let sum : (f : TokenState → ℕ) → total f (set mid other none) + f w + f v ≡ total f views + f one + f none = λ f. (let p = total_set f views id v one here in let q = total_set f mid other w none there in omega arith) in
-    let amount : (k : ℕ) → total (λ q. at q.amounts k) (set mid other none) ≡ total (λ q. at q.amounts k) views = λ k. (let p = sum (λ q. at q.amounts k) in let a = at_sums v.amounts w.amounts k in omega arith) in
+    let sum : (f : TokenState → ℕ) → sum_over f (set mid other none) + f w + f v ≡ sum_over f views + f one + f none = λ f. (let p = total_set f views id v one here in let q = total_set f mid other w none there in omega arith) in
+    let amount : (k : ℕ) → sum_over (λ q. at q.amounts k) (set mid other none) ≡ sum_over (λ q. at q.amounts k) views = λ k. (let p = sum (λ q. at q.amounts k) in let a = at_sums v.amounts w.amounts k in omega arith) in
     record {
       token = b.token;
       whole = (let p = sum (λ u. u.parts) in let a = b.whole in omega arith);

@@ -1,7 +1,7 @@
 -- Entries of rows.
 use Rattle.std.proofs.Common.{◌≡◌, ◌≢◌, ℕ, zero, suc, ◌+◌, ◌-◌, ◌<◌, ◌≤◌, List, [], ◌∷◌, set, length, replicate, refl, sym, ap, ◌∙◌, arith, length-set, get_or}
 use native.Mathlib.Decide.{ℕ_discrete}
-use Rattle.heat_ledger.specs.Rows.{at, sums, differences, raised, raised_by, IsZero}
+use Rattle.heat_ledger.specs.Rows.{at, sums, differences, raised, raised_by, evens, IsZero}
 
 pub at_set_same : (xs : List ℕ) (d y : ℕ) → d < length xs → at (set xs d y) d ≡ y
 at_set_same [] d y h = absurd (omega arith)
@@ -108,3 +108,62 @@ emptied_next from noted d j k is within before less = entry (ℕ_discrete (at no
     entry (yes e) _ = ap (at (set from d 0)) e ∙ at_set_same from d 0 within
     entry (no n) (yes e) = absurd (n (ap (at noted) e ∙ sym is))
     entry (no n) (no m) = at_set_other from d 0 (at noted k) n ∙ before (omega arith)
+
+at_evens_from : (xs : List ℕ) (d k : ℕ) → k ≡ d + d → at (evens xs) d ≡ at xs k
+at_evens_from [] d k e = refl
+at_evens_from (x ∷ []) zero zero e = refl
+at_evens_from (x ∷ []) zero (suc k) e = absurd (omega arith)
+at_evens_from (x ∷ []) (suc d) zero e = absurd (omega arith)
+at_evens_from (x ∷ []) (suc d) (suc k) e = refl
+at_evens_from (x ∷ y ∷ xs) zero zero e = refl
+at_evens_from (x ∷ y ∷ xs) zero (suc k) e = absurd (omega arith)
+at_evens_from (x ∷ y ∷ xs) (suc d) zero e = absurd (omega arith)
+at_evens_from (x ∷ y ∷ xs) (suc d) (suc zero) e = absurd (omega arith)
+at_evens_from (x ∷ y ∷ xs) (suc d) (suc (suc k)) e = at_evens_from xs d k (omega arith)
+
+-- every second entry is a directory's entry for reads
+pub at_evens : (xs : List ℕ) (d : ℕ) → at (evens xs) d ≡ at xs (d + d)
+at_evens xs d = at_evens_from xs d (d + d) refl
+
+pub length-evens : (xs : List ℕ) (n : ℕ) → length xs ≡ n + n → length (evens xs) ≡ n
+length-evens [] n e = omega arith
+length-evens (x ∷ []) n e = absurd (omega arith)
+length-evens (x ∷ y ∷ xs) zero e = absurd (omega arith)
+length-evens (x ∷ y ∷ xs) (suc n) e = ap suc (length-evens xs n (omega arith))
+
+evens_set : (xs : List ℕ) (d k v : ℕ) → k ≡ d + d → evens (set xs k v) ≡ set (evens xs) d v
+evens_set [] d k v e = refl
+evens_set (x ∷ []) zero zero v e = refl
+evens_set (x ∷ []) zero (suc k) v e = absurd (omega arith)
+evens_set (x ∷ []) (suc d) zero v e = absurd (omega arith)
+evens_set (x ∷ []) (suc d) (suc k) v e = refl
+evens_set (x ∷ y ∷ xs) zero zero v e = refl
+evens_set (x ∷ y ∷ xs) zero (suc k) v e = absurd (omega arith)
+evens_set (x ∷ y ∷ xs) (suc d) zero v e = absurd (omega arith)
+evens_set (x ∷ y ∷ xs) (suc d) (suc zero) v e = absurd (omega arith)
+evens_set (x ∷ y ∷ xs) (suc d) (suc (suc k)) v e = ap (λ (l : List ℕ). x ∷ l) (evens_set xs d k v (omega arith))
+
+pub evens_raised : (xs : List ℕ) (d : ℕ) → evens (raised xs (d + d)) ≡ raised (evens xs) d
+evens_raised xs d = evens_set xs d (d + d) (at xs (d + d) + 1) refl ∙ ap (λ (x : ℕ). set (evens xs) d (x + 1)) (sym (at_evens xs d))
+
+-- the same, as the code writes it
+pub evens_raised_at : (xs : List ℕ) (d k a : ℕ) → k ≡ d + d → a ≡ at xs (d + d) → evens (set xs k (a + 1)) ≡ raised (evens xs) d
+evens_raised_at xs d k a ek ea = rw (ek, ea) (evens_raised xs d)
+
+pub evens_sums : (xs ys : List ℕ) → length ys ≡ length xs → evens (sums xs ys) ≡ sums (evens xs) (evens ys)
+evens_sums [] ys e = refl
+evens_sums (x ∷ xs) [] e = absurd (omega arith)
+evens_sums (x ∷ []) (y ∷ []) e = refl
+evens_sums (x ∷ []) (y ∷ y' ∷ ys) e = absurd (omega arith)
+evens_sums (x ∷ x' ∷ xs) (y ∷ []) e = absurd (omega arith)
+evens_sums (x ∷ x' ∷ xs) (y ∷ y' ∷ ys) e = ap (λ (l : List ℕ). (x + y) ∷ l) (evens_sums xs ys (omega arith))
+
+evens_zeros_from : (n k : ℕ) → k ≡ n + n → evens (replicate k 0) ≡ replicate n 0
+evens_zeros_from zero zero e = refl
+evens_zeros_from zero (suc k) e = absurd (omega arith)
+evens_zeros_from (suc n) zero e = absurd (omega arith)
+evens_zeros_from (suc n) (suc zero) e = absurd (omega arith)
+evens_zeros_from (suc n) (suc (suc k)) e = ap (λ (l : List ℕ). 0 ∷ l) (evens_zeros_from n k (omega arith))
+
+pub evens_zeros : (n : ℕ) → evens (replicate (n + n) 0) ≡ replicate n 0
+evens_zeros n = evens_zeros_from n (n + n) refl

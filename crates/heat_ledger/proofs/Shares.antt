@@ -1,12 +1,37 @@
 -- What keeps a share a share.
-use Rattle.std.proofs.Common.{◌≡◌, ◌≢◌, ℕ, ◌+◌, ◌*◌, ◌<◌, ◌≤◌, List, replicate, refl, sym, ap, ◌∙◌, arith}
+use Rattle.std.proofs.Common.{◌≡◌, ◌≢◌, ℕ, ◌+◌, ◌*◌, ◌<◌, ◌≤◌, List, length, replicate, refl, sym, ap, ◌∙◌, arith}
 use native.Mathlib.Decide.{ℕ_discrete}
 use Rattle.heat_ledger.specs.declared.tally.TokenState.{TokenState}
-use Rattle.heat_ledger.specs.Rows.{at, sums, raised}
+use Rattle.heat_ledger.specs.Counts.{CountsData, no_counts}
+use Rattle.heat_ledger.specs.Rows.{at, sums, raised, evens}
 use Rattle.heat_ledger.specs.Tally.{most, both_of, share_state, IsLearned}
-use Rattle.heat_ledger.specs.Ledger.{hit_slot, begun_slot, spread, unit, IsShare}
-use Rattle.heat_ledger.proofs.RowLemmas.{at_sums, at_raised_same, at_raised_other, at_replicate, length-raised, length-sums, length-replicate}
+use Rattle.heat_ledger.specs.Ledger.{ShareData, hit_slot, begun_slot, spread, unit, IsShare}
+use Rattle.heat_ledger.specs.Opening.{fresh_share}
+use Rattle.heat_ledger.proofs.RowLemmas.{at_sums, at_raised_same, at_raised_other, at_replicate, length-raised, length-sums, length-replicate, evens_raised, evens_sums, evens_zeros}
 use Rattle.heat_ledger.proofs.Slots.{at_spread_hits, at_spread_begun, at_unit_same, at_unit_other}
+
+-- what a share shows of its counts, which has those of begun requests by directory
+abbrev pub shown : ℕ → CountsData → ShareData
+shown weight counts = record { weight = weight; hits = counts.hits; pending = counts.pending; begun = evens counts.begun }
+
+abbrev pub with_begun : ShareData → List ℕ → ShareData
+with_begun share begun = record share { begun = begun }
+
+-- a share that has begun a request, and one that took in another
+pub begin_shown : (weight dir : ℕ) (counts now : CountsData) (share : ShareData) → now ≡ record counts { begun = raised counts.begun (dir + dir) } → shown weight counts ≡ share → shown weight now ≡ with_begun share (raised share.begun dir)
+begin_shown weight dir counts now share is view = ap (shown weight) is ∙ ap (with_begun (shown weight counts)) (evens_raised counts.begun dir) ∙ ap (λ (s : ShareData). with_begun s (raised s.begun dir)) view
+
+abbrev pub joined : ShareData → ShareData → ShareData
+joined s t = record { weight = s.weight + t.weight; hits = sums s.hits t.hits; pending = sums s.pending t.pending; begun = sums s.begun t.begun }
+
+pub join_shown : (n m : ℕ) (counts others now : CountsData) (s t : ShareData) → now ≡ record { hits = sums counts.hits others.hits; pending = sums counts.pending others.pending; begun = sums counts.begun others.begun } → length others.begun ≡ length counts.begun
+    → shown n counts ≡ s → shown m others ≡ t → shown (n + m) now ≡ joined s t
+join_shown n m counts others now s t is long mine theirs =
+    ap (shown (n + m)) is ∙ ap (with_begun (joined (shown n counts) (shown m others))) (evens_sums counts.begun others.begun long) ∙ ap (λ (s : ShareData). joined s (shown m others)) mine ∙ ap (joined s) theirs
+
+-- a share that has counted nothing
+pub fresh_shown : (limit : ℕ) (counts : CountsData) → counts ≡ no_counts (limit + limit) → shown 1 counts ≡ fresh_share limit
+fresh_shown limit counts none = ap (shown 1) none ∙ ap (with_begun (fresh_share limit)) (evens_zeros limit)
 
 -- what a directory's counts are at most
 pub hits_fit : (limit : ℕ) (state : TokenState) (weight : ℕ) (hits pending begun : List ℕ) → IsShare limit state weight hits pending begun → (d : ℕ) → (at hits d ≤ 65 * most) × (at pending d ≤ 65 * most)

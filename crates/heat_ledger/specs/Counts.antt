@@ -1,7 +1,7 @@
--- What a share counts by directory.
+-- What a share counts by entry.
 use Rattle.std.specs.Prelude.{ℕ, List, replicate}
 
--- for each directory below a limit: the hits, those of them that the book doesn't know yet, and the begun requests
+-- for each entry below a limit: the hits, those of them that the book doesn't know yet, and the begun requests
 pub record CountsData : Type 0 where
   pub hits : List ℕ
   pub pending : List ℕ

@@ -3,17 +3,18 @@ use Rattle.std.specs.Prelude.{◌≡◌, ℕ, zero, suc, ◌+◌, ◌*◌, ◌�
 use Rattle.atomic_table.specs.Seated.{TableId}
 use Rattle.atomic_table.specs.declared.shared.Seat.{Seat}
 use Rattle.heat_ledger.specs.declared.tally.TokenState.{TokenState}
-use Rattle.heat_ledger.specs.Rows.{at, sums, differences, IsZero}
+use Rattle.mds_types.specs.declared.kind.Kind.TheVariants.{Read}
+use Rattle.heat_ledger.specs.Rows.{at, entry, sums, differences, IsZero}
 use Rattle.heat_ledger.specs.Tally.{most, all_parts}
 
--- what a share has counted: all hits, those that the book doesn't know yet, and begun requests, by directory
+-- what a share has counted: by entry all hits and those that the book doesn't know yet, by directory begun requests
 pub record ShareData : Type 0 where
   pub weight : ℕ
   pub hits : List ℕ
   pub pending : List ℕ
   pub begun : List ℕ
 
--- what the book of these shares has counted: deposited hits and begun requests, by directory
+-- what the book of these shares has counted: deposited hits by entry, and begun requests by directory
 pub record BookData : Type 0 where
   pub is_open : Bool
   pub shares : ℕ
@@ -28,36 +29,36 @@ IsClean share = IsZero share.pending
 abbrev pub weight_of : List ShareData → ℕ
 weight_of shares = sum_by (λ share. share.weight) shares
 
--- the hits on a directory that these shares have counted
+-- the hits at an entry that these shares have counted
 abbrev pub hits_of : List ShareData → ℕ → ℕ
-hits_of shares dir = sum_by (λ share. at share.hits dir) shares
+hits_of shares e = sum_by (λ share. at share.hits e) shares
 
--- the hits on a directory that these shares haven't deposited
+-- the hits at an entry that these shares haven't deposited
 abbrev pub pending_of : List ShareData → ℕ → ℕ
-pending_of shares dir = sum_by (λ share. at share.pending dir) shares
+pending_of shares e = sum_by (λ share. at share.pending e) shares
 
 -- the requests on a directory that these shares have begun
 abbrev pub begun_of : List ShareData → ℕ → ℕ
 begun_of shares dir = sum_by (λ share. at share.begun dir) shares
 
--- the entry of a directory's hits
+-- the place of an entry's hits among a token's amounts
 abbrev pub hit_slot : ℕ → ℕ
-hit_slot dir = dir + dir
+hit_slot e = e + e
 
--- the entry of a directory's begun requests
+-- the place of an entry's begun requests: those of a directory are at its entry for reads
 abbrev pub begun_slot : ℕ → ℕ
-begun_slot dir = dir + dir + 1
+begun_slot e = e + e + 1
 
--- the counts of a row, at the entries for hits
+-- the counts of a row, at the places for hits
 abbrev pub spread : List ℕ → List ℕ
 spread [] = []
 spread (x ∷ xs) = x ∷ 0 ∷ spread xs
 
--- deposited hits and begun requests, each at its entry
+-- deposited hits and begun requests, each at its place
 abbrev pub laid_out : List ℕ → List ℕ → List ℕ → List ℕ
 laid_out hits pending begun = sums (spread (differences hits pending)) (0 ∷ spread begun)
 
--- 1 only at this entry
+-- 1 only at this place
 abbrev pub unit : ℕ → List ℕ
 unit zero = 1 ∷ []
 unit (suc k) = 0 ∷ unit k
@@ -68,27 +69,34 @@ pub record IsTokenOf (tokens : TableId) (token : Seat ℕ TokenState) : Type 0 w
   pub table : token.table_id ≡ tokens
   pub none_out : token.me.1 ≡ []
 
--- What was deposited, and what is pending, are the hits. A share's hits rest on its weight.
+-- What was deposited, and what is pending, are the hits. A share's hits rest on its weight. All counts are by entry.
 pub record IsShare (limit : ℕ) (state : TokenState) (weight : ℕ) (hits pending begun : List ℕ) : Type 0 where
   pub holds : state.has_totals ≡ false
   pub weighs : state.parts ≡ weight
   pub some : 1 ≤ weight
   pub light : weight ≤ all_parts
-  pub known : (dir : ℕ) → at state.amounts (hit_slot dir) + at pending dir ≡ at hits dir
-  pub begins : (dir : ℕ) → at state.amounts (begun_slot dir) ≡ at begun dir
-  pub room : (dir : ℕ) → at hits dir ≤ weight * most
+  pub known : (e : ℕ) → at state.amounts (hit_slot e) + at pending e ≡ at hits e
+  pub begins : (e : ℕ) → at state.amounts (begun_slot e) ≡ at begun e
+  pub room : (e : ℕ) → at hits e ≤ weight * most
   pub as_hits : length hits ≡ limit
   pub as_pending : length pending ≡ limit
   pub as_begun : length begun ≡ limit
 
--- What the book counted is what all shares deposited.
+-- a token of a share has what the share deposited, and what it began
+pub record IsShareToken (state : TokenState) (share : ShareData) : Type 0 where
+  pub holds : state.has_totals ≡ false
+  pub weighs : state.parts ≡ share.weight
+  pub known : (e : ℕ) → at state.amounts (hit_slot e) + at share.pending e ≡ at share.hits e
+  pub begins : (dir : ℕ) → at state.amounts (begun_slot (entry dir Read)) ≡ at share.begun dir
+
+-- What the book counted is what all shares deposited. All counts are by entry.
 pub record IsBook (limit : ℕ) (state : TokenState) (shares : ℕ) (counted begun : List ℕ) : Type 0 where
   pub has_totals : state.has_totals ≡ true
   pub all_out : state.amounts ≡ []
   pub parts : state.parts + shares ≡ all_parts
   pub some : 1 ≤ shares
-  pub known : (dir : ℕ) → at state.totals (hit_slot dir) ≡ at counted dir
-  pub begins : (dir : ℕ) → at state.totals (begun_slot dir) ≡ at begun dir
+  pub known : (e : ℕ) → at state.totals (hit_slot e) ≡ at counted e
+  pub begins : (e : ℕ) → at state.totals (begun_slot e) ≡ at begun e
   pub as_counted : length counted ≡ limit
   pub as_begun : length begun ≡ limit
 

@@ -7,9 +7,9 @@ use Rattle.heat_ledger.specs.declared.tally.TokenState.{TokenState}
 use Rattle.heat_ledger.specs.Rows.{at, sums}
 
 -- the values of f on the tokens' states, added up
-abbrev pub total : (TokenState → ℕ) → List TokenState → ℕ
-total f [] = 0
-total f (v ∷ vs) = f v + total f vs
+abbrev pub sum_over : (TokenState → ℕ) → List TokenState → ℕ
+sum_over f [] = 0
+sum_over f (v ∷ vs) = f v + sum_over f vs
 
 -- what a holder's token knows
 abbrev pub share_state : ℕ → List ℕ → TokenState
@@ -30,9 +30,9 @@ most = 72057594037927936
 -- There is one authority at most, and its totals are the sums of all amounts. A token's amounts rest on its parts.
 pub record IsBalanced (views : List TokenState) : Type 0 where
   pub token : ℕ
-  pub whole : total (λ v. v.parts) views ≡ all_parts
+  pub whole : sum_over (λ v. v.parts) views ≡ all_parts
   pub sums : (by : ℕ) (v : TokenState) → get_elem? views by ≡ some v → v.has_totals ≡ true
-      → (by ≡ token) × ((k : ℕ) → total (λ u. at u.amounts k) views ≡ at v.totals k)
+      → (by ≡ token) × ((k : ℕ) → sum_over (λ u. at u.amounts k) views ≡ at v.totals k)
   pub backed : (by : ℕ) (v : TokenState) → get_elem? views by ≡ some v → (k : ℕ) → at v.amounts k ≤ v.parts * most
 
 abbrev pub IsBalancedTable : State ℕ TokenState → Type 0

@@ -3,20 +3,21 @@
 use crate::auditing::audit_all;
 use crate::closing::{gather, missing, none_left};
 use crate::counts::Counts;
+use crate::dir_hits::entry_of;
 use crate::missing::Missing;
 use crate::new_book::NewBook;
 use crate::opening::{Room, lay_out, open_shares};
 use crate::share::Share;
 use crate::tally::{Token, TokenTable, grant, issue, learn, reissue};
-use mds_types::Dir;
 use mds_types::limits::DIR_LIMIT;
+use mds_types::{Dir, Kind};
 use naming::Naming;
 use std::alloc::{AllocFailed, Global};
 use std::marker::{Brand, Model, PhantomData};
 use std::sync::Arc;
 
-/// What the shares of one board have counted together: deposited hits and begun requests, by
-/// directory.
+/// What the shares of one board have counted together: deposited hits by directory and kind, and
+/// begun requests by directory.
 ///
 /// For a caller that has the book and all its shares, the counted and the pending hits of the shares
 /// are the hits of the shares, and the begun requests are those of the shares: `audit` says so
@@ -34,8 +35,9 @@ pub struct Book<J: Naming> {
 }
 
 impl<J: Naming> Model for Book<J> {
-    ghost use Rattle.std.specs.Prelude.{◌≡◌};
+    ghost use Rattle.std.specs.Prelude.{◌≡◌, ◌+◌};
     ghost use Rattle.std.specs.Arc.{arc_value};
+    ghost use Rattle.heat_ledger.specs.Rows.{evens};
     ghost use Rattle.heat_ledger.specs.Ledger.{BookData, IsTokenOf, IsBook, IsClosedPart};
 
     ghost Value = { BookData };
@@ -44,12 +46,12 @@ impl<J: Naming> Model for Book<J> {
       is_open = book.is_open;
       shares = book.shares;
       counted = book.counted.items;
-      begun = book.begun.items;
+      begun = evens book.begun.items;
     } };
 
     ghost invariant = { λ book. IsTokenOf (arc_value book.tokens).shared.table_id book.token
         × ((arc_value book.tokens).shared.table_id ≡ J.ledger)
-        × IsBook J.limit book.token.me.0 book.shares book.counted.items book.begun.items
+        × IsBook (J.limit + J.limit) book.token.me.0 book.shares book.counted.items book.begun.items
         × IsTokenOf (arc_value book.tokens).shared.table_id book.closed
         × IsClosedPart book.closed.me.0 book.is_open book.shares };
 }
@@ -57,7 +59,7 @@ impl<J: Naming> Model for Book<J> {
 impl<J: Naming> Book<J> {
     ghost use Rattle.std.specs.Prelude.{◌≡◌, ℕ, ◌+◌, ◌^◌, ◌<◌, ◌≤◌, true, false, All, IsErr};
     ghost use Rattle.std.specs.Prelude.{IfOk, IfErr, OnOk, OnErr, length, replicate};
-    ghost use Rattle.heat_ledger.specs.Rows.{at, sums, raised};
+    ghost use Rattle.heat_ledger.specs.Rows.{at, entry, sums, raised};
     ghost use Rattle.heat_ledger.specs.Ledger.{IsClean, weight_of, hits_of, pending_of, begun_of};
 
     /// A book for the directories below the limit, with this many shares. Where memory is refused,
@@ -74,19 +76,19 @@ impl<J: Naming> Book<J> {
         ensures book { IfOk result (λ r. r.0 ≡ record {
           is_open = true;
           shares = shares;
-          counted = replicate limit 0;
+          counted = replicate (limit + limit) 0;
           begun = replicate limit 0;
         }) }
         ensures shares { IfOk result (λ r. r.1.items
             ≡ replicate shares (record {
               weight = 1;
-              hits = replicate limit 0;
-              pending = replicate limit 0;
+              hits = replicate (limit + limit) 0;
+              pending = replicate (limit + limit) 0;
               begun = replicate limit 0;
             })) }
         ensures err { IfErr result (λ e. e.value ≡ opened) }
     {
-        let Ok(room) = lay_out::<J>(alloc, &opened.tokens, limit, shares) else {
+        let Ok(room) = lay_out::<J>(alloc, &opened.tokens, 2 * limit, shares) else {
             return Err(AllocFailed { value: opened });
         };
         let Room {
@@ -111,35 +113,35 @@ impl<J: Naming> Book<J> {
         Ok((book, all))
     }
 
-    /// The hits on a directory that were deposited.
-    pub fn counted(&self, dir: Dir) -> u64
-        ensures { result ≡ at self.now.counted dir }
+    /// The hits of a kind on a directory that were deposited.
+    pub fn counted(&self, dir: Dir, kind: Kind) -> u64
+        ensures { result ≡ at self.now.counted (entry dir kind) }
     {
-        let row = dir.number() as usize;
-        self.counted.get(row).copied().unwrap_or(0)
+        let entry = entry_of(dir, kind);
+        self.counted.get(entry).copied().unwrap_or(0)
     }
 
     /// The requests on a directory that were begun.
     pub fn begun(&self, dir: Dir) -> u64
         ensures { result ≡ at self.now.begun dir }
     {
-        let row = dir.number() as usize;
-        self.begun.get(row).copied().unwrap_or(0)
+        let entry = entry_of(dir, Kind::Read);
+        self.begun.get(entry).copied().unwrap_or(0)
     }
 
     /// The number that directories are below.
     pub fn limit(&self) -> usize
         ensures limit { result ≡ J.limit }
-        ensures rows { (length self.now.counted ≡ J.limit) × (length self.now.begun ≡ J.limit) }
+        ensures rows { (length self.now.counted ≡ J.limit + J.limit) × (length self.now.begun ≡ J.limit) }
     {
-        self.counted.len()
+        self.counted.len() / 2
     }
 
     /// Counts what the share has pending. It takes time for the directories that the share has
     /// counted since its last deposit.
     pub fn deposit(&mut self, share: &mut Share<J>)
         ensures book { self.new ≡ record self.old { counted = sums self.old.counted share.old.pending } }
-        ensures share { share.new ≡ record share.old { pending = replicate J.limit 0 } }
+        ensures share { share.new ≡ record share.old { pending = replicate (J.limit + J.limit) 0 } }
     {
         reissue::<Brand, Counts>(
             &self.tokens.shared,
@@ -158,17 +160,16 @@ impl<J: Naming> Book<J> {
         ensures share { share.new ≡ record share.old { begun = raised share.old.begun dir } }
     {
         reissue::<Brand, Dir>(&self.tokens.shared, &mut self.token, &mut share.token, &dir);
-        let row = dir.number() as usize;
-        self.begun[row] += 1;
-        share.counts.raise_begun(dir, 1);
+        let entry = entry_of(dir, Kind::Read);
+        self.begun[entry] += 1;
+        share.counts.raise_begun(entry, 1);
     }
 
     /// The totals of a book and all its shares, at any time until the book is closed. Nothing
     /// changes.
     pub fn audit(&mut self, shares: &mut Vec<Share<J>>)
         requires { weight_of shares.old.items ≡ self.old.shares }
-        ensures hits { (dir : ℕ) → at self.new.counted dir + pending_of shares.new.items dir
-            ≡ hits_of shares.new.items dir }
+        ensures hits { (e : ℕ) → at self.new.counted e + pending_of shares.new.items e ≡ hits_of shares.new.items e }
         ensures begun { (dir : ℕ) → at self.new.begun dir ≡ begun_of shares.new.items dir }
         ensures same { (self.new ≡ self.old) × (shares.new.items ≡ shares.old.items) }
     {
@@ -182,7 +183,7 @@ impl<J: Naming> Book<J> {
         requires { All IsClean shares.items }
         ensures ok { OnOk result ((self.old.is_open ≡ true) × (self.new ≡ record self.old { is_open = false })) }
         ensures all { OnOk result (weight_of shares.items ≡ self.old.shares) }
-        ensures hits { OnOk result ((dir : ℕ) → at self.new.counted dir ≡ hits_of shares.items dir) }
+        ensures hits { OnOk result ((e : ℕ) → at self.new.counted e ≡ hits_of shares.items e) }
         ensures begun { OnOk result ((dir : ℕ) → at self.new.begun dir ≡ begun_of shares.items dir) }
         ensures missing { IfErr result (λ e. (1 ≤ e.0.0) × (e.0.0 + weight_of shares.items ≡ self.old.shares)) }
         ensures handed_back { IfErr result (λ e. e.1.items ≡ shares.items) }

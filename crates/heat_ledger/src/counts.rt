@@ -1,26 +1,27 @@
-//! What a share counts, by directory.
+//! What a share counts, by entry. A directory has two: one for reads, one for writes.
 //!
-//! A directory gets a place at its first count, one for all three counts. What is done with all counts takes time for
-//! the directories that were counted, and not for all that there could be.
+//! An entry gets a place at its first count, one for all three counts. What is done with all counts takes time for
+//! the entries that were counted, and not for all that there could be.
 ghost use Rattle.std.specs.Prelude.{◌≡◌, ℕ, ◌+◌, ◌^◌, ◌<◌, ◌≤◌, IfOk, List, length, map, slice_set};
 ghost use Rattle.std.specs.Prelude.{vec_capacity, vec_len};
-ghost use Rattle.heat_ledger.specs.Rows.{at, padded, IsZero};
+ghost use Rattle.heat_ledger.specs.Rows.{at, padded, dir_row, IsZero};
 ghost use Rattle.heat_ledger.specs.Placed.{IsPlaced, counts_at};
-ghost use Rattle.heat_ledger.specs.Touched.{IsTracked};
+ghost use Rattle.heat_ledger.specs.Touched.{IsTracked, pair_sums};
 
+use crate::dir_hits::{DirHits, entry_of};
 use crate::places::{Columns, count_at, place_of, take_count};
-use mds_types::Dir;
+use mds_types::{Dir, Kind};
 use std::alloc::{AllocError, Global};
 use std::marker::Model;
 
-/// The hits, the pending hits and the begun requests of each directory below a limit.
+/// The hits, the pending hits and the begun requests of each entry below a limit.
 #[derive(Drop)]
 pub(crate) struct Counts {
     limit: u32,
-    // The place of each directory's counts, up to the last directory that was counted, or not as far. 0 is none.
+    // The place of each entry's counts, up to the last entry that was counted, or not as far. 0 is none.
     places: Vec<u32>,
     columns: Columns,
-    // The directories that have pending hits, in the order of their first ones.
+    // The entries that have pending hits, in the order of their first ones.
     unsettled: Vec<u32>,
 }
 
@@ -68,7 +69,7 @@ impl Counts {
         })
     }
 
-    /// How many directories there are room for.
+    /// How many entries there are room for.
     pub(crate) fn len(&self) -> usize
         ensures hits { result ≡ length self.now.hits }
         ensures pending { result ≡ length self.now.pending }
@@ -77,47 +78,47 @@ impl Counts {
         self.limit as usize
     }
 
-    /// The hits of a directory.
-    pub(crate) fn hits(&self, dir: Dir) -> u64
-        ensures { result ≡ at self.now.hits dir }
+    /// The hits of an entry.
+    pub(crate) fn hits(&self, entry: usize) -> u64
+        ensures { result ≡ at self.now.hits entry }
     {
-        count_at(&self.places, &self.columns.hits, dir.number())
+        count_at(&self.places, &self.columns.hits, entry)
     }
 
-    /// The pending hits of a directory.
-    pub(crate) fn pending(&self, dir: Dir) -> u64
-        ensures { result ≡ at self.now.pending dir }
+    /// The pending hits of an entry.
+    pub(crate) fn pending(&self, entry: usize) -> u64
+        ensures { result ≡ at self.now.pending entry }
     {
-        count_at(&self.places, &self.columns.pending, dir.number())
+        count_at(&self.places, &self.columns.pending, entry)
     }
 
-    /// The begun requests of a directory.
-    pub(crate) fn begun(&self, dir: Dir) -> u64
-        ensures { result ≡ at self.now.begun dir }
+    /// The begun requests of an entry.
+    pub(crate) fn begun(&self, entry: usize) -> u64
+        ensures { result ≡ at self.now.begun entry }
     {
-        count_at(&self.places, &self.columns.begun, dir.number())
+        count_at(&self.places, &self.columns.begun, entry)
     }
 
-    /// Adds `more` hits of a directory.
-    pub(crate) fn raise_hits(&mut self, dir: Dir, more: u64)
-        requires inside { dir < length self.old.hits }
-        requires fits { at self.old.hits dir + more < 2 ^ 64 }
-        ensures { self.new ≡ record self.old { hits = raised_by self.old.hits dir more } }
+    /// Adds `more` hits of an entry.
+    pub(crate) fn raise_hits(&mut self, entry: usize, more: u64)
+        requires inside { entry < length self.old.hits }
+        requires fits { at self.old.hits entry + more < 2 ^ 64 }
+        ensures { self.new ≡ record self.old { hits = raised_by self.old.hits entry more } }
     {
         let place = place_of(
             &mut self.places,
             &mut self.columns,
             self.limit,
-            dir.number(),
+            entry as u32,
         );
         self.columns.hits[place] += more;
     }
 
-    /// Adds `more` pending hits of a directory, which may be none.
-    pub(crate) fn raise_pending(&mut self, dir: Dir, more: u64)
-        requires inside { dir < length self.old.pending }
-        requires fits { at self.old.pending dir + more < 2 ^ 64 }
-        ensures { self.new ≡ record self.old { pending = raised_by self.old.pending dir more } }
+    /// Adds `more` pending hits of an entry, which may be none.
+    pub(crate) fn raise_pending(&mut self, entry: usize, more: u64)
+        requires inside { entry < length self.old.pending }
+        requires fits { at self.old.pending entry + more < 2 ^ 64 }
+        ensures { self.new ≡ record self.old { pending = raised_by self.old.pending entry more } }
     {
         if more == 0 {
             return;
@@ -126,41 +127,41 @@ impl Counts {
             &mut self.places,
             &mut self.columns,
             self.limit,
-            dir.number(),
+            entry as u32,
         );
         let count = self.columns.pending[place];
-        note(&mut self.unsettled, dir.number(), count);
+        note(&mut self.unsettled, entry as u32, count);
         self.columns.pending[place] = count + more;
     }
 
-    /// Adds `more` begun requests of a directory.
-    pub(crate) fn raise_begun(&mut self, dir: Dir, more: u64)
-        requires inside { dir < length self.old.begun }
-        requires fits { at self.old.begun dir + more < 2 ^ 64 }
-        ensures { self.new ≡ record self.old { begun = raised_by self.old.begun dir more } }
+    /// Adds `more` begun requests of an entry.
+    pub(crate) fn raise_begun(&mut self, entry: usize, more: u64)
+        requires inside { entry < length self.old.begun }
+        requires fits { at self.old.begun entry + more < 2 ^ 64 }
+        ensures { self.new ≡ record self.old { begun = raised_by self.old.begun entry more } }
     {
         let place = place_of(
             &mut self.places,
             &mut self.columns,
             self.limit,
-            dir.number(),
+            entry as u32,
         );
         self.columns.begun[place] += more;
     }
 
-    /// Whether no directory has pending hits.
+    /// Whether no entry has pending hits.
     pub(crate) fn is_settled(&self) -> bool
         ensures { IsTrue result ↔ IsZero self.now.pending }
     {
         self.unsettled.is_empty()
     }
 
-    /// The directories that have pending hits, rising, each with their number.
-    pub(crate) fn pending_rows(&self, alloc: Global) -> Result<Vec<(Dir, u64)>, AllocError>
+    /// The directories that have pending hits, rising, each with their reads and writes.
+    pub(crate) fn pending_rows(&self, alloc: Global) -> Result<Vec<DirHits>, AllocError>
+        requires { (n : ℕ) × (length self.now.pending ≡ n + n) }
         ensures { IfOk result (λ rows. rows.items ≡ counted_rows self.now.pending) }
     {
-        let mut dirs = Vec::new(alloc);
-        dirs.extend_from_slice(self.unsettled.as_slice())?;
+        let mut dirs = dirs_of(alloc, self.unsettled.as_slice(), self)?;
         dirs.sort_unstable();
         with_pending(alloc, dirs.as_slice(), self)
     }
@@ -191,15 +192,15 @@ impl Counts {
         } }
     {
         for j in 0..other.columns.dirs.len() {
-            let dir = Dir::new(other.columns.dirs[j]);
-            self.raise_hits(dir, other.hits(dir));
-            self.raise_pending(dir, other.pending(dir));
-            self.raise_begun(dir, other.begun(dir));
+            let entry = other.columns.dirs[j] as usize;
+            self.raise_hits(entry, other.hits(entry));
+            self.raise_pending(entry, other.pending(entry));
+            self.raise_begun(entry, other.begun(entry));
         }
     }
 }
 
-// Notes a directory that has no count yet and gets one.
+// Notes an entry that has no count yet and gets one.
 fn note(noted: &mut Vec<u32>, dir: u32, count: u64)
     requires room { count ≡ 0 → vec_len noted.old < vec_capacity noted.old }
     ensures tracked { (counts : List ℕ) (now : ℕ) → IsTracked counts noted.old.items → dir < length counts
@@ -211,7 +212,7 @@ fn note(noted: &mut Vec<u32>, dir: u32, count: u64)
     }
 }
 
-// Moves the counts of the directories that have one.
+// Moves the counts of the entries that have one.
 fn move_all(
     into: &mut Vec<u64>,
     places: &Vec<u32>,
@@ -238,14 +239,34 @@ fn move_all(
     }
 }
 
-// These directories, each with its pending hits.
-fn with_pending(alloc: Global, dirs: &[u32], counts: &Counts) -> Result<Vec<(Dir, u64)>, AllocError>
-    ensures { IfOk result (λ rows. rows.items ≡ map (λ d. (d, at counts.now.pending d)) dirs.now) }
+// The directories of these entries, each once: a directory's writes name it where it has no reads.
+fn dirs_of(alloc: Global, entries: &[u32], counts: &Counts) -> Result<Vec<u32>, AllocError>
+    requires { (n : ℕ) × (length counts.now.pending ≡ n + n) }
+    ensures { IfOk result (λ dirs. IsTracked counts.now.pending entries.now
+        → IsTracked (pair_sums counts.now.pending) dirs.items) }
+{
+    let mut dirs = Vec::with_capacity(alloc, entries.len())?;
+    for entry in entries {
+        let is_write = entry % 2 == 1;
+        if !is_write || counts.pending(*entry as usize - 1) == 0 {
+            dirs.push(entry / 2)?;
+        }
+    }
+    Ok(dirs)
+}
+
+// These directories, each with its pending reads and writes.
+fn with_pending(alloc: Global, dirs: &[u32], counts: &Counts) -> Result<Vec<DirHits>, AllocError>
+    ensures { IfOk result (λ rows. rows.items ≡ map (dir_row counts.now.pending) dirs.now) }
 {
     let mut rows = Vec::with_capacity(alloc, dirs.len())?;
     for dir in dirs {
         let dir = Dir::new(*dir);
-        rows.push((dir, counts.pending(dir)))?;
+        rows.push(DirHits {
+            dir,
+            reads: counts.pending(entry_of(dir, Kind::Read)),
+            writes: counts.pending(entry_of(dir, Kind::Write)),
+        })?;
     }
     Ok(rows)
 }

@@ -44,12 +44,12 @@ impl Columns {
     }
 }
 
-/// The count of a directory, and 0 where there is none.
-pub(crate) fn count_at(places: &Vec<u32>, kept: &Vec<u64>, dir: u32) -> u64
+/// The count of an entry, and 0 where there is none.
+pub(crate) fn count_at(places: &Vec<u32>, kept: &Vec<u64>, entry: usize) -> u64
     requires { IsPlaced kept.now.items places.now.items }
-    ensures { result ≡ at kept.now.items (at places.now.items dir) }
+    ensures { result ≡ at kept.now.items (at places.now.items entry) }
 {
-    let place = places.get(dir as usize).copied().unwrap_or(0);
+    let place = places.get(entry).copied().unwrap_or(0);
     kept[place as usize]
 }
 

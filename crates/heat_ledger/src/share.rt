@@ -1,24 +1,25 @@
 //! A share of the counting, which one thread has at a time.
 
 use crate::counts::Counts;
+use crate::dir_hits::{DirHits, entry_of};
 use crate::hit_error::HitError;
 use crate::tally::{Token, TokenTable, learn, merge};
-use mds_types::Dir;
+use mds_types::{Dir, Kind};
 use naming::Naming;
 use std::alloc::{AllocError, Global};
 use std::marker::{Model, PhantomData};
 use std::sync::Arc;
 
-/// How many hits of one directory a share counts.
+/// How many hits of one kind on one directory a share counts.
 pub const HIT_LIMIT: u64 = 1 << 56;
 
-/// Counts of one thread: hits, those of them that the book doesn't know yet, and begun requests,
-/// by directory. A share that was opened has the weight 1, and shares that were joined have the
+/// Counts of one thread: hits by directory and kind, those of them that the book doesn't know yet,
+/// and begun requests by directory. A share that was opened has the weight 1, and shares that were joined have the
 /// sum of their weights.
 ///
-/// `J` names the board whose book it is. All memory was asked for when the book was opened: 36 bytes
-/// a directory. Of them a share writes 4 for each directory up to the last one that it counted, and
-/// at most 32 for each that it counted, so one that counts nothing takes up only address space.
+/// `J` names the board whose book it is. All memory was asked for when the book was opened: 72 bytes
+/// a directory. Of them a share writes 8 for each directory up to the last one that it counted, and
+/// at most 32 for each kind of hits on each, so one that counts nothing takes up only address space.
 #[derive(Drop)]
 pub struct Share<J: Naming> {
     pub(crate) tokens: Arc<TokenTable, Global>,
@@ -29,8 +30,9 @@ pub struct Share<J: Naming> {
 }
 
 impl<J: Naming> Model for Share<J> {
-    ghost use Rattle.std.specs.Prelude.{◌≡◌};
+    ghost use Rattle.std.specs.Prelude.{◌≡◌, ◌+◌};
     ghost use Rattle.std.specs.Arc.{arc_value};
+    ghost use Rattle.heat_ledger.specs.Rows.{evens};
     ghost use Rattle.heat_ledger.specs.Ledger.{ShareData, IsTokenOf, IsShare};
 
     ghost Value = { ShareData };
@@ -39,40 +41,41 @@ impl<J: Naming> Model for Share<J> {
       weight = share.weight;
       hits = share.counts.hits;
       pending = share.counts.pending;
-      begun = share.counts.begun;
+      begun = evens share.counts.begun;
     } };
 
     ghost invariant = { λ share. IsTokenOf (arc_value share.tokens).shared.table_id share.token
         × ((arc_value share.tokens).shared.table_id ≡ J.ledger)
-        × IsShare J.limit share.token.me.0 share.weight share.counts.hits share.counts.pending share.counts.begun };
+        × IsShare (J.limit + J.limit) share.token.me.0 share.weight share.counts.hits share.counts.pending
+        share.counts.begun };
 }
 
 impl<J: Naming> Share<J> {
     ghost use Rattle.std.specs.Prelude.{◌≡◌, ℕ, List, ◌+◌, ◌-◌, ◌^◌, ◌<◌, ◌≤◌, ◌↔◌, IsTrue};
     ghost use Rattle.std.specs.Prelude.{IsErrOf, IfOk, OnOk, OnErr, length, min, fold};
-    ghost use Rattle.heat_ledger.specs.Rows.{at, sums, raised, raised_by, counted_rows, with_row};
-    ghost use Rattle.heat_ledger.specs.Ledger.{IsClean, IsTokenOf, IsShare};
+    ghost use Rattle.heat_ledger.specs.Rows.{at, entry, sums, raised, raised_by, counted_rows, with_row};
+    ghost use Rattle.heat_ledger.specs.Ledger.{IsClean, IsShareToken, IsTokenOf};
 
-    /// The hits on a directory that this share has counted, deposited or not.
-    pub fn hits(&self, dir: Dir) -> u64
-        ensures { result ≡ at self.now.hits dir }
+    /// The hits of a kind on a directory that this share has counted, deposited or not.
+    pub fn hits(&self, dir: Dir, kind: Kind) -> u64
+        ensures { result ≡ at self.now.hits (entry dir kind) }
     {
-        self.counts.hits(dir)
+        self.counts.hits(entry_of(dir, kind))
     }
 
-    /// The hits on a directory that aren't deposited.
-    pub fn pending(&self, dir: Dir) -> u64
-        ensures { result ≡ at self.now.pending dir }
+    /// The hits of a kind on a directory that aren't deposited.
+    pub fn pending(&self, dir: Dir, kind: Kind) -> u64
+        ensures { result ≡ at self.now.pending (entry dir kind) }
     {
-        self.counts.pending(dir)
+        self.counts.pending(entry_of(dir, kind))
     }
 
-    /// The directories with hits that aren't deposited, rising, each with their number. To add the
-    /// rows to counts one by one gives what a deposit makes of the counts. It takes time for
+    /// The directories with hits that aren't deposited, rising, each with their reads and writes. To
+    /// add the rows to counts one by one gives what a deposit makes of the counts. It takes time for
     /// only these directories, and asks for memory first.
-    pub fn pending_rows(&self, alloc: Global) -> Result<Vec<(Dir, u64)>, AllocError>
+    pub fn pending_rows(&self, alloc: Global) -> Result<Vec<DirHits>, AllocError>
         ensures rows { IfOk result (λ rows. rows.items ≡ counted_rows self.now.pending) }
-        ensures sums { (counted : List ℕ) → length counted ≡ J.limit
+        ensures sums { (counted : List ℕ) → length counted ≡ J.limit + J.limit
             → fold with_row counted (counted_rows self.now.pending) ≡ sums counted self.now.pending }
     {
         self.counts.pending_rows(alloc)
@@ -82,7 +85,7 @@ impl<J: Naming> Share<J> {
     pub fn begun(&self, dir: Dir) -> u64
         ensures { result ≡ at self.now.begun dir }
     {
-        self.counts.begun(dir)
+        self.counts.begun(entry_of(dir, Kind::Read))
     }
 
     /// How many opened shares this one represents.
@@ -96,10 +99,10 @@ impl<J: Naming> Share<J> {
     /// The number that directories are below.
     pub fn limit(&self) -> usize
         ensures limit { result ≡ J.limit }
-        ensures rows { (length self.now.hits ≡ J.limit) × (length self.now.pending ≡ J.limit)
+        ensures rows { (length self.now.hits ≡ J.limit + J.limit) × (length self.now.pending ≡ J.limit + J.limit)
             × (length self.now.begun ≡ J.limit) }
     {
-        self.counts.len()
+        self.counts.len() / 2
     }
 
     /// Whether all hits are deposited.
@@ -110,36 +113,43 @@ impl<J: Naming> Share<J> {
     }
 
     /// Counts a hit.
-    pub fn hit(&mut self, dir: Dir) -> Result<(), HitError>
-        ensures ok { OnOk result (self.new ≡ record self.old
-            { hits = raised self.old.hits dir; pending = raised self.old.pending dir }) }
+    pub fn hit(&mut self, dir: Dir, kind: Kind) -> Result<(), HitError>
+        ensures ok { OnOk result (self.new ≡ record self.old {
+          hits = raised self.old.hits (entry dir kind);
+          pending = raised self.old.pending (entry dir kind);
+        }) }
         ensures no_dir { IsErrOf result HitError.NoDir ↔ (J.limit ≤ dir) }
-        ensures full { IsErrOf result HitError.ShareFull ↔ ((dir < J.limit) × (2 ^ 56 ≤ at self.old.hits dir)) }
+        ensures full { IsErrOf result HitError.ShareFull
+            ↔ ((dir < J.limit) × (2 ^ 56 ≤ at self.old.hits (entry dir kind))) }
         ensures err { OnErr result (self.new ≡ self.old) }
     {
-        if dir.number() as usize >= self.counts.len() {
+        let entry = entry_of(dir, kind);
+        if entry >= self.counts.len() {
             return Err(HitError::NoDir);
         }
-        if self.counts.hits(dir) >= HIT_LIMIT {
+        if self.counts.hits(entry) >= HIT_LIMIT {
             return Err(HitError::ShareFull);
         }
-        self.counts.raise_hits(dir, 1);
-        self.counts.raise_pending(dir, 1);
+        self.counts.raise_hits(entry, 1);
+        self.counts.raise_pending(entry, 1);
         Ok(())
     }
 
     /// Counts `hits` hits of a directory as `hit` would, which refuses those that find no room
     /// below 2^56, and says how many were counted. However many they are, it is one addition.
-    pub fn count(&mut self, dir: Dir, hits: u32) -> u32
+    pub fn count(&mut self, dir: Dir, kind: Kind, hits: u32) -> u32
         requires inside { dir < J.limit }
-        ensures counted { result ≡ min hits (2 ^ 56 - at self.old.hits dir) }
-        ensures share { self.new ≡ record self.old
-            { hits = raised_by self.old.hits dir result; pending = raised_by self.old.pending dir result } }
+        ensures counted { result ≡ min hits (2 ^ 56 - at self.old.hits (entry dir kind)) }
+        ensures share { self.new ≡ record self.old {
+          hits = raised_by self.old.hits (entry dir kind) result;
+          pending = raised_by self.old.pending (entry dir kind) result;
+        } }
     {
-        let room = HIT_LIMIT.saturating_sub(self.counts.hits(dir));
+        let entry = entry_of(dir, kind);
+        let room = HIT_LIMIT.saturating_sub(self.counts.hits(entry));
         let counted = u64::from(hits).min(room);
-        self.counts.raise_hits(dir, counted);
-        self.counts.raise_pending(dir, counted);
+        self.counts.raise_hits(entry, counted);
+        self.counts.raise_pending(entry, counted);
         counted as u32
     }
 
@@ -168,7 +178,7 @@ impl<J: Naming> Share<J> {
     /// The share's token, with all that is known of it.
     pub(crate) fn into_token(self) -> Token
         ensures of_table { IsTokenOf J.ledger result }
-        ensures share { IsShare J.limit result.me.0 self.weight self.hits self.pending self.begun }
+        ensures share { IsShareToken result.me.0 self }
     {
         let Share {
             tokens: _tokens,

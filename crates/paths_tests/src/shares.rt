@@ -3,8 +3,8 @@ ghost use Rattle.std.specs.Prelude.{◌≡◌, ◌<◌, ◌≤◌, All, IfOk};
 ghost use Rattle.heat_ledger.specs.Ledger.{IsClean, weight_of};
 
 use crate::same::{Sure, same};
-use heat_ledger::{Book, HitError, Missing, NewBook, Share};
-use mds_types::Dir;
+use heat_ledger::{Book, DirHits, HitError, Missing, NewBook, Share};
+use mds_types::{Dir, Kind};
 use naming::Naming;
 use std::alloc::{AllocError, AllocFailed, Global};
 use std::marker::Brand;
@@ -12,9 +12,10 @@ use std::process::Abort;
 use std::thread;
 use std::thread::Threads;
 
+// A share with this many more reads.
 fn worked<J: Naming>(mut share: Share<J>, dir: Dir, times: u32) -> Share<J> {
     for _hit in 0..times {
-        if share.hit(dir).is_err() {
+        if share.hit(dir, Kind::Read).is_err() {
             return share;
         }
     }
@@ -82,14 +83,23 @@ fn deposit<J: Naming>(book: &mut Book<J>, share: &mut Share<J>) {
     book.deposit(share);
 }
 
-// Of a directory: hits, pending hits and begun requests of the share, deposited hits and begun requests.
+// Of a directory: reads, pending reads and begun requests of the share, deposited reads and begun requests.
 fn said<J: Naming>(book: &Book<J>, share: &Share<J>, dir: Dir) -> [u64; 5] {
     [
-        share.hits(dir),
-        share.pending(dir),
+        share.hits(dir, Kind::Read),
+        share.pending(dir, Kind::Read),
         share.begun(dir),
-        book.counted(dir),
+        book.counted(dir, Kind::Read),
         book.begun(dir),
+    ]
+}
+
+// Of a directory: writes and pending writes of the share, deposited writes.
+fn said_of_writes<J: Naming>(book: &Book<J>, share: &Share<J>, dir: Dir) -> [u64; 3] {
+    [
+        share.hits(dir, Kind::Write),
+        share.pending(dir, Kind::Write),
+        book.counted(dir, Kind::Write),
     ]
 }
 
@@ -160,7 +170,7 @@ fn count_seven<J: Naming + Send + Sync + 'static, R: Threads + Abort + Sync>(
     deposit(&mut book, &mut first);
     deposit(&mut book, &mut second);
     assert!(rt; close_clean(alloc, &mut book, first, second, third).sure(rt));
-    same(rt, &book.counted(dir), &7);
+    same(rt, &book.counted(dir, Kind::Read), &7);
 }
 
 // A share with three hits and a request joins one with two hits.
@@ -194,9 +204,17 @@ fn close_joined<J: Naming, R: Abort>(rt: &R, alloc: Global, opened: NewBook)
     same(rt, &said(&book, &share, dir), &[5, 5, 1, 0, 1]);
     deposit(&mut book, &mut share);
     same(rt, &said(&book, &share, dir), &[5, 0, 1, 5, 1]);
-    same(rt, &share.hit(Dir::new(4)), &Err(HitError::NoDir));
+    same(
+        rt,
+        &share.hit(Dir::new(4), Kind::Write),
+        &Err(HitError::NoDir),
+    );
     assert!(rt; close_over(alloc, &mut book, share).sure(rt));
-    same(rt, &(book.counted(dir), book.begun(dir)), &(5, 1));
+    same(
+        rt,
+        &(book.counted(dir, Kind::Read), book.begun(dir)),
+        &(5, 1),
+    );
 }
 
 #[test]
@@ -240,9 +258,47 @@ fn count_surely<J: Naming, R: Abort>(rt: &R, alloc: Global, opened: NewBook)
     );
     hold_what_was_counted(rt, &mut book, &mut share);
     same(rt, &(book.limit(), share.weight()), &(4, 1));
-    same(rt, &share.count(Dir::new(3), 1_000_000), &1_000_000);
+    same(
+        rt,
+        &share.count(Dir::new(3), Kind::Read, 1_000_000),
+        &1_000_000,
+    );
     let counted = said(&book, &share, Dir::new(3));
     same(rt, &counted, &[1_000_003, 1_000_000, 1, 3, 1]);
+}
+
+// Two reads and three writes of 2, and four writes of 0: what is pending is said by directory, rising.
+fn count_kinds<J: Naming, R: Abort>(rt: &R, alloc: Global, opened: NewBook)
+    requires name { opened ≡ J.ledger }
+    requires limit { J.limit ≡ 4 }
+{
+    let (both, written, none) = (Dir::new(2), Dir::new(0), Dir::new(1));
+    let (mut book, mut shares) = open::<J>(alloc, opened, 1).sure(rt);
+    let mut share = worked(taken(rt, &mut shares), both, 2);
+    same(rt, &share.count(both, Kind::Write, 3), &3);
+    same(rt, &share.count(written, Kind::Write, 3), &3);
+    same(rt, &share.hit(written, Kind::Write), &Ok(()));
+    let rows = share.pending_rows(alloc).sure(rt);
+    let wanted = [row(written, 0, 4), row(both, 2, 3)];
+    same(rt, &rows.as_slice(), &wanted.as_slice());
+    same(rt, &said_of_writes(&book, &share, both), &[3, 3, 0]);
+    deposit(&mut book, &mut share);
+    assert!(rt; share.pending_rows(alloc).sure(rt).is_empty());
+    same(rt, &said(&book, &share, both), &[2, 0, 0, 2, 0]);
+    same(rt, &said_of_writes(&book, &share, both), &[3, 0, 3]);
+    same(rt, &said(&book, &share, written), &[0, 0, 0, 0, 0]);
+    same(rt, &said_of_writes(&book, &share, written), &[4, 0, 4]);
+    same(rt, &said_of_writes(&book, &share, none), &[0, 0, 0]);
+}
+
+fn row(dir: Dir, reads: u64, writes: u64) -> DirHits {
+    DirHits { dir, reads, writes }
+}
+
+#[test]
+fn writes_are_counted_apart_from_reads(rt: HostRuntime) {
+    let alloc: Global = rt.alloc();
+    count_kinds::<Brand, HostRuntime>(&rt, alloc, NewBook::new(alloc).sure(&rt));
 }
 
 // With `rt try --test --fail-alloc N`, the N-th growth is refused.

@@ -11,7 +11,7 @@ one_less v w n m was now next = let p : v.parts ≡ all_parts - n = ap (λ (u : 
 pub loop-unopened-preserved : goal.loop-unopened-preserved
 loop-unopened-preserved g c =
     let inv = c.loop-unopened.invariant in
-    let P = IsUnopened g.J.Naming.ledger g.J.Naming.limit in
+    let P = IsUnopened g.J.Naming.ledger (g.J.Naming.limit + g.J.Naming.limit) in
     let order : c.loop-unopened.unopened_shares.items ≡ c.pop.new.self.items ++ c.in-Some.unopened ∷ [] = search rules in
     let F = fresh_share g.J.Naming.limit in
     let items : c.push_reserved.new.self.items ≡ replicate (vec_len c.loop-unopened.shares) F ++ F ∷ [] = cc (inv.3, c.open_share.ensures.share, c.push_reserved.ensures.items) in

@@ -10,7 +10,7 @@ invariant-loop-unopened g l =
     × IsTokenOf g.J.Naming.ledger l.authority
     × (vec_len l.shares + vec_len l.unopened_shares ≡ vec_len l.fn.unopened_shares)
     × (l.shares.items ≡ replicate (vec_len l.shares) (fresh_share g.J.Naming.limit))
-    × All (IsUnopened g.J.Naming.ledger g.J.Naming.limit) l.unopened_shares.items
+    × All (IsUnopened g.J.Naming.ledger (g.J.Naming.limit + g.J.Naming.limit)) l.unopened_shares.items
     × (vec_len l.fn.unopened_shares ≤ vec_capacity l.shares)
 
 abbrev pub decreases-loop-unopened : goal.decreases-loop-unopened
