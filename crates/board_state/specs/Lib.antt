@@ -1,3 +1,4 @@
 pub mod Refused
+pub mod Weights
 pub mod State
 pub mod Steps

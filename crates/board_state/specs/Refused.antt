@@ -21,6 +21,7 @@ refusal_of error.NoProblem = refusal.NoProblem
 refusal_of (error.Changed event) = refusal.Changed event
 refusal_of error.NotBest = refusal.NotBest
 refusal_of error.HistoryFull = refusal.HistoryFull
+refusal_of error.BadWeight = refusal.BadWeight
 
 abbrev pub tree_refused : TreeError → BoardError
 tree_refused tree_error.Memory = error.Memory

@@ -1,6 +1,6 @@
 -- What a board holds, when each change is refused, and what it does.
 use Rattle.std.specs.Option.{option_and_then}
-use Rattle.std.specs.Prelude.{ℕ, ◌+◌, ◌==◌, nat_le, Bool, true, false, if◌then◌else◌, List, [], ◌∷◌, ◌++◌}
+use Rattle.std.specs.Prelude.{ℕ, ◌+◌, ◌==◌, nat_le, Bool, true, false, not, ◌&&◌, if◌then◌else◌, List, [], ◌∷◌, ◌++◌}
 use Rattle.std.specs.Prelude.{length, map, slice_get, slice_index, replicate, fold, Option, Some, None}
 use Rattle.authority_map.specs.Operations.{Operation, SetTo, Clear}
 use Rattle.dir_pins.specs.declared.pin_error.PinError.{PinError}
@@ -18,6 +18,7 @@ use Rattle.export_machine.specs.Entries.{logs_export}
 use Rattle.export_machine.specs.Step as machine
 use Rattle.board_problem.specs.ProblemRows.{problem_rows}
 use Rattle.heat_decay.specs.Heat.{Heats, after_deposit, after_tick, all_cold, touched}
+use Rattle.heat_ledger.specs.declared.dir_hits.DirHits.{DirHits}
 use Rattle.heat_ledger.specs.Rows.{raised, with_row}
 use Rattle.mds_types.specs.declared.order.Order.{Order}
 use Rattle.mds_types.specs.declared.plan.Plan.{Plan}
@@ -25,14 +26,17 @@ use Rattle.mds_types.specs.Problem.{ProblemData}
 use Rattle.mds_types.specs.RankSet.{below_rank, rank_count}
 use Rattle.move_orders.specs.Orders.{orders}
 use Rattle.board_state.specs.declared.board_error.BoardError.{BoardError}
-use Rattle.board_state.specs.declared.board_error.BoardError.TheVariants.{BalancerOff, NoProblem, Changed, HistoryFull}
+use Rattle.board_state.specs.declared.board_error.BoardError.TheVariants.{BalancerOff, NoProblem, Changed}
+use Rattle.board_state.specs.declared.board_error.BoardError.TheVariants.{HistoryFull, BadWeight}
 use Rattle.board_state.specs.declared.board_error.BoardError.TheVariants as error
 use Rattle.board_state.specs.declared.change.Answer.{Answer}
 use Rattle.board_state.specs.declared.change.Answer.TheVariants as answer
 use Rattle.board_state.specs.declared.change.Change.{Change}
 use Rattle.board_state.specs.declared.change.Change.TheVariants.{Make, Remove, Mask, Deposit, Tick, Step, Open, Adopt}
 use Rattle.board_state.specs.declared.change.Change.TheVariants as change
+use Rattle.board_state.specs.declared.weights.Weights.{Weights}
 use Rattle.board_state.specs.Refused.{tree_refused}
+use Rattle.board_state.specs.Weights.{even_weights, is_weight, weighed}
 
 -- the problem that is open, the directories of its rows, and the first event since that changed what it was made of
 pub record Opened : Type 0 where
@@ -46,12 +50,13 @@ pub record Force : Type 0 where
   pub dirs : List ℕ
   pub event : ℕ
 
--- counted and begun are by directory: deposited hits and requests that began; the mask is a bit map of ranks; map has
--- all operations on the map from directory to rank
+-- counted is by directory and kind: the deposited hits; begun is by directory: the requests that began; the mask is a
+-- bit map of ranks; map has all operations on the map from directory to rank
 pub record State : Type 0 where
   pub directories : Directories
   pub pins : PinTable
   pub heats : Heats
+  pub weights : Weights
   pub mask : ℕ
   pub counted : List ℕ
   pub begun : List ℕ
@@ -72,8 +77,9 @@ start limit active = record {
   directories = record { limit = limit; entries = Some tree.root ∷ [] };
   pins = pins.no_pins limit active;
   heats = all_cold limit 0;
+  weights = even_weights;
   mask = 0;
-  counted = replicate limit 0;
+  counted = replicate (limit + limit) 0;
   begun = replicate limit 0;
   cluster = machine.start limit active;
   map = first_operations true;
@@ -124,6 +130,7 @@ cause s (Remove d) =
     or_cause (of_tree (tree.remove_refusal s.directories d)) (of_step (machine.refusal s.cluster (Gone d)))
 cause s (change.Pin d value) = of_pin (pins.pin_refusal s.pins.active s.directories.entries d value)
 cause s (Mask bits) = None
+cause s (change.Weights read write) = when (not (is_weight read && is_weight write)) BadWeight
 cause s (Deposit hits) = None
 cause s Tick = None
 cause s (Step e) = of_step (machine.refusal s.cluster e)
@@ -177,9 +184,10 @@ begun_with begun (Begin rank d) = raised begun d
 begun_with begun _ = begun
 
 -- a directory's hits give heat while it is there
-abbrev pub warmed : List (Option tree.Entry) → Heats → ℕ × ℕ → Heats
-warmed entries h hit =
-    if tree.is_there entries hit.0 then touched h hit.0 (after_deposit (slice_index h.heats hit.0) hit.1) else h
+abbrev pub warmed : Weights → List (Option tree.Entry) → Heats → DirHits → Heats
+warmed weights entries h hits =
+    if tree.is_there entries hits.dir
+    then touched h hits.dir (after_deposit (slice_index h.heats hits.dir) (weighed weights hits)) else h
 
 -- the authority of each directory, and 0 where there is none
 abbrev pub rank_or_0 : Option ℕ → ℕ
@@ -269,9 +277,10 @@ happens s (Remove d) =
 happens s (change.Pin d value) =
     done (record s { pins = pins.with_pin s.pins d value; opened = marked s.opened s.events })
 happens s (Mask bits) = done (record s { mask = bits; opened = marked s.opened s.events })
+happens s (change.Weights read write) = done (record s { weights = record { read = read; write = write } })
 happens s (Deposit hits) =
     done (record s {
-      heats = fold (warmed s.directories.entries) s.heats hits;
+      heats = fold (warmed s.weights s.directories.entries) s.heats hits;
       counted = fold with_row s.counted hits;
     })
 happens s Tick =

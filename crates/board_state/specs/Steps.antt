@@ -21,6 +21,7 @@ use Rattle.board_state.specs.declared.board_error.BoardError.TheVariants.{Memory
 use Rattle.board_state.specs.declared.change.Answer.{Answer}
 use Rattle.board_state.specs.declared.change.Change.{Change}
 use Rattle.board_state.specs.declared.change.Change.TheVariants.{Open, Adopt}
+use Rattle.board_state.specs.declared.weights.Weights.{Weights}
 use Rattle.board_state.specs.State.{State, Opened, Force, refusal, happens, next, problem_of, dirs_of, plan_orders}
 
 -- The state, whether the ledger is open, how many shares it has, and how much of the map is published.
@@ -96,13 +97,14 @@ set_by None = []
 set_by (Some order) = SetTo order.dirs order.to ∷ []
 
 -- what contracts see of a board's fields
-abbrev pub present_of : Directories → PinTable → Heats → ℕ → BookData → World → List Operation → List Operation
-    → Option Opened → Option Force → ℕ → Present
-present_of directories pins heats mask book cluster published pending opened in_force events = record {
+abbrev pub present_of : Directories → PinTable → Heats → Weights → ℕ → BookData → World → List Operation
+    → List Operation → Option Opened → Option Force → ℕ → Present
+present_of directories pins heats weights mask book cluster published pending opened in_force events = record {
   state = record {
     directories = directories;
     pins = pins;
     heats = heats;
+    weights = weights;
     mask = mask;
     counted = book.counted;
     begun = book.begun;

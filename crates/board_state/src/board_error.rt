@@ -30,6 +30,8 @@ pub enum BoardError {
     NotBest,
     /// As many events as can be were accepted.
     HistoryFull,
+    /// A weight of reads or writes isn't 1 to 16.
+    BadWeight,
 }
 
 impl From<BoardError> for Refusal {
@@ -49,6 +51,7 @@ impl From<BoardError> for Refusal {
             BoardError::Changed(event) => Refusal::Changed(event),
             BoardError::NotBest => Refusal::NotBest,
             BoardError::HistoryFull => Refusal::HistoryFull,
+            BoardError::BadWeight => Refusal::BadWeight,
         }
     }
 }

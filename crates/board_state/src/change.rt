@@ -2,21 +2,24 @@
 
 use dirtree::Name;
 use export_machine::{Event, Reply};
+use heat_ledger::DirHits;
 use mds_types::{Dir, Order, Plan, Problem, RankSet};
 use std::alloc::{AllocError, Global};
 use std::marker::Model;
 use std::sync::Arc;
 
-/// Hits on directories, by rising directory, none of them 0. To a contract it is the list of them.
+/// Hits on directories, by rising directory, none of them without reads and writes. To a contract it is the list of
+/// them.
 #[derive(Drop)]
 pub struct Hits {
-    rows: Vec<(Dir, u64)>,
+    rows: Vec<DirHits>,
 }
 
 impl Model for Hits {
-    ghost use Rattle.std.specs.Prelude.{List, ℕ};
+    ghost use Rattle.std.specs.Prelude.{List};
+    ghost use Rattle.heat_ledger.specs.declared.dir_hits.DirHits.{DirHits};
 
-    ghost Value = { List (ℕ × ℕ) };
+    ghost Value = { List DirHits };
 
     ghost view = { λ hits. hits.rows.items };
 }
@@ -25,14 +28,14 @@ impl Hits {
     ghost use Rattle.std.specs.Prelude.{◌≡◌};
 
     /// The hits of a list.
-    pub fn new(rows: Vec<(Dir, u64)>) -> Hits
+    pub fn new(rows: Vec<DirHits>) -> Hits
         ensures { result ≡ rows.items }
     {
         Hits { rows }
     }
 
     /// Each directory with its hits.
-    pub fn as_slice(&self) -> &[(Dir, u64)]
+    pub fn as_slice(&self) -> &[DirHits]
         ensures { result.now ≡ self.now }
     {
         &self.rows
@@ -203,6 +206,8 @@ pub enum Change {
     Pin(Dir, i32),
     /// The ranks that the balancer may use are set.
     Mask(RankSet),
+    /// How much a read and a write count is set.
+    Weights(u8, u8),
     /// A share of the ledger deposits the hits that it has pending.
     Deposit(Hits),
     /// All heats are halved.

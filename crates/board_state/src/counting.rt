@@ -1,21 +1,23 @@
 //! Shares of the ledger deposit hits, and requests begin.
 ghost use Rattle.std.specs.Prelude.{◌≡◌, ◌≤◌, ◌+◌, ℕ, List, All, true, false, IsErr};
 ghost use Rattle.std.specs.Prelude.{IfErr, IfOk, OnOk, OnErr, fold, replicate};
+ghost use Rattle.heat_ledger.specs.declared.dir_hits.DirHits.{DirHits};
 ghost use Rattle.heat_ledger.specs.Ledger.{IsClean, begun_of, hits_of, pending_of, weight_of};
-ghost use Rattle.heat_ledger.specs.Rows.{at, counted_rows, raised};
+ghost use Rattle.heat_ledger.specs.Rows.{at, counted_rows, entry, raised};
 ghost use Rattle.board_state.specs.State.{refusal, happens, warmed};
 ghost use Rattle.board_state.specs.Steps.{IsStep, spelled};
 
 use crate::board_error::BoardError;
 use crate::change::{Answer, Change, Hits};
 use crate::state::BoardState;
+use crate::weights::Weights;
 use authority_map::Publisher;
 use dirtree::Tree;
 use export_machine::laws::recorded;
 use export_machine::{Event, Reply};
 use heat_decay::Heat;
-use heat_ledger::{Missing, Share};
-use mds_types::{Dir, Rank};
+use heat_ledger::{DirHits, Missing, Share};
+use mds_types::{Dir, Kind, Rank};
 use naming::Naming;
 use std::alloc::Global;
 
@@ -23,7 +25,7 @@ impl<J: Naming, M: Publisher<J>> BoardState<J, M> {
     /// Why a deposit is refused.
     #[tactic(auto, unfolding(crate::specs::State::refusal))]
     pub fn deposit_refusal(&self) -> Option<BoardError>
-        ensures { (hits : List (ℕ × ℕ)) → result ≡ refusal self.now.state (Change.Deposit hits) }
+        ensures { (hits : List DirHits) → result ≡ refusal self.now.state (Change.Deposit hits) }
     {
         if self.is_full() {
             return Some(BoardError::HistoryFull);
@@ -31,14 +33,14 @@ impl<J: Naming, M: Publisher<J>> BoardState<J, M> {
         None
     }
 
-    /// Counts the pending hits of a share, which give heat to the directories that are there, and returns them. It
-    /// takes time only for these directories.
+    /// Counts the pending hits of a share, which give heat to the directories that are there, by the weights of now,
+    /// and returns them. It takes time only for these directories.
     #[tactic(auto, unfolding(crate::specs::State::happens))]
     pub fn deposit(&mut self, alloc: Global, share: &mut Share<J>) -> Result<Hits, BoardError>
         ensures step { IsStep self.old (Change.Deposit (counted_rows share.old.pending))
             (spelled (λ _. Answer.Done) result) self.new }
         ensures hits { IfOk result (λ hits. hits ≡ counted_rows share.old.pending) }
-        ensures share { OnOk result (share.new ≡ record share.old { pending = replicate J.limit 0 }) }
+        ensures share { OnOk result (share.new ≡ record share.old { pending = replicate (J.limit + J.limit) 0 }) }
         ensures unchanged { OnErr result (share.new ≡ share.old) }
     {
         if let Some(error) = self.deposit_refusal() {
@@ -47,7 +49,7 @@ impl<J: Naming, M: Publisher<J>> BoardState<J, M> {
         let Ok(rows) = share.pending_rows(alloc) else {
             return Err(BoardError::Memory);
         };
-        warm(&mut self.heat, &self.tree, &rows);
+        warm(&mut self.heat, self.weights, &self.tree, &rows);
         let _rows = self.book.limit();
         self.book.deposit(share);
         self.events += 1;
@@ -97,8 +99,8 @@ impl<J: Naming, M: Publisher<J>> BoardState<J, M> {
     /// the begun requests are theirs. It changes nothing.
     pub fn audit(&mut self, shares: &mut Vec<Share<J>>)
         requires { weight_of shares.old.items ≡ self.old.shares }
-        ensures hits { (dir : ℕ) → at self.new.state.counted dir + pending_of shares.new.items dir
-            ≡ hits_of shares.new.items dir }
+        ensures hits { (e : ℕ) → at self.new.state.counted e + pending_of shares.new.items e
+            ≡ hits_of shares.new.items e }
         ensures begun { (dir : ℕ) → at self.new.state.begun dir ≡ begun_of shares.new.items dir }
         ensures same { (self.new ≡ self.old) × (shares.new.items ≡ shares.old.items) }
     {
@@ -111,7 +113,7 @@ impl<J: Naming, M: Publisher<J>> BoardState<J, M> {
         requires { All IsClean shares.items }
         ensures ok { OnOk result ((self.old.is_open ≡ true) × (self.new ≡ record self.old { is_open = false })) }
         ensures all { OnOk result (weight_of shares.items ≡ self.old.shares) }
-        ensures hits { OnOk result ((dir : ℕ) → at self.new.state.counted dir ≡ hits_of shares.items dir) }
+        ensures hits { OnOk result ((e : ℕ) → at self.new.state.counted e ≡ hits_of shares.items e) }
         ensures begun { OnOk result ((dir : ℕ) → at self.new.state.begun dir ≡ begun_of shares.items dir) }
         ensures missing { IfErr result (λ e. (1 ≤ e.0.0) × (e.0.0 + weight_of shares.items ≡ self.old.shares)) }
         ensures handed_back { IfErr result (λ e. e.1.items ≡ shares.items) }
@@ -121,11 +123,11 @@ impl<J: Naming, M: Publisher<J>> BoardState<J, M> {
         self.book.close(shares)
     }
 
-    /// The hits on a directory that were deposited.
-    pub fn counted(&self, dir: Dir) -> u64
-        ensures { result ≡ at self.now.state.counted dir }
+    /// The hits of a kind on a directory that were deposited.
+    pub fn counted(&self, dir: Dir, kind: Kind) -> u64
+        ensures { result ≡ at self.now.state.counted (entry dir kind) }
     {
-        self.book.counted(dir)
+        self.book.counted(dir, kind)
     }
 
     /// The requests on a directory that were begun.
@@ -137,14 +139,14 @@ impl<J: Naming, M: Publisher<J>> BoardState<J, M> {
 }
 
 // Deposits hits on the directories that are there.
-fn warm(heat: &mut Heat, tree: &Tree, rows: &[(Dir, u64)])
+fn warm(heat: &mut Heat, weights: Weights, tree: &Tree, rows: &[DirHits])
     requires { tree.now.limit ≤ heat.old.limit }
-    ensures heats { heat.new ≡ fold (warmed tree.now.entries) heat.old rows.now }
+    ensures heats { heat.new ≡ fold (warmed weights tree.now.entries) heat.old rows.now }
     ensures same { (heat.new.limit ≡ heat.old.limit) × (heat.new.ticks ≡ heat.old.ticks) }
 {
-    for &(dir, hits) in rows {
-        if tree.contains(dir) {
-            heat.add(dir, hits);
+    for hits in rows {
+        if tree.contains(hits.dir) {
+            heat.add(hits.dir, weights.weigh(hits));
         }
     }
 }

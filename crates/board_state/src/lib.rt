@@ -1,5 +1,5 @@
-//! What a board holds, and its changes: tree, pins, heats, mask, ledger, exports, map, the problem that is open and
-//! the plan in force. Each change is refused for the first cause that applies, or happens whole.
+//! What a board holds, and its changes: tree, pins, heats, weights, mask, ledger, exports, map, the problem that is
+//! open and the plan in force. Each change is refused for the first cause that applies, or happens whole.
 #![tactic(auto)]
 
 pub mod balancing;
@@ -16,6 +16,7 @@ mod settings;
 pub mod solver;
 pub mod state;
 mod stepping;
+mod weights;
 
 pub use balancing::Balanced;
 pub use board_error::BoardError;
@@ -25,3 +26,4 @@ pub use opening::{InForce, OpenProblem};
 pub use solver::Solver;
 pub use state::{BoardState, HISTORY_LIMIT, or_memory};
 pub use stepping::is_inner;
+pub use weights::Weights;

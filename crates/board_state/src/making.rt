@@ -8,6 +8,7 @@ ghost use Rattle.export_machine.specs.Step.{start as first_world};
 ghost use Rattle.board_state.specs.State.{first_operations, start};
 
 use crate::state::BoardState;
+use crate::weights::Weights;
 use authority_map::Publisher;
 use dir_pins::Pins;
 use dirtree::{NameKey, Tree};
@@ -127,6 +128,7 @@ impl<J: Naming, M: Publisher<J>> BoardState<J, M> {
             tree,
             pins,
             heat,
+            weights: Weights { read: 1, write: 1 },
             mask: RankSet::from_bits(0),
             book,
             cluster,

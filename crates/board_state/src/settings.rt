@@ -1,4 +1,4 @@
-//! Pins, the mask and ticks.
+//! Pins, the mask, weights and ticks.
 ghost use Rattle.std.specs.Prelude.{◌≡◌, IfErr, OnOk, None};
 ghost use Rattle.board_state.specs.State.{refusal, happens};
 ghost use Rattle.board_state.specs.Steps.{IsStep, spelled};
@@ -6,6 +6,7 @@ ghost use Rattle.board_state.specs.Steps.{IsStep, spelled};
 use crate::board_error::BoardError;
 use crate::change::{Answer, Change};
 use crate::state::{BoardState, mark};
+use crate::weights::{Weights, is_weight};
 use authority_map::Publisher;
 use mds_types::{Dir, RankSet};
 use naming::Naming;
@@ -58,6 +59,33 @@ impl<J: Naming, M: Publisher<J>> BoardState<J, M> {
         }
         self.mask = mask;
         mark(&mut self.opened, self.events);
+        self.events += 1;
+        Ok(())
+    }
+
+    /// Why weights are refused.
+    #[tactic(auto, unfolding(crate::specs::State::refusal))]
+    pub fn weights_refusal(&self, read: u8, write: u8) -> Option<BoardError>
+        ensures { result ≡ refusal self.now.state (Change.Weights read write) }
+    {
+        if self.is_full() {
+            return Some(BoardError::HistoryFull);
+        }
+        if !(is_weight(read) && is_weight(write)) {
+            return Some(BoardError::BadWeight);
+        }
+        None
+    }
+
+    /// Says how much a read and a write count in the deposits from now on, in accesses: 1 to 16 each.
+    #[tactic(auto, unfolding(crate::specs::State::happens))]
+    pub fn set_weights(&mut self, read: u8, write: u8) -> Result<(), BoardError>
+        ensures { IsStep self.old (Change.Weights read write) (spelled (λ _. Answer.Done) result) self.new }
+    {
+        if let Some(error) = self.weights_refusal(read, write) {
+            return Err(error);
+        }
+        self.weights = Weights { read, write };
         self.events += 1;
         Ok(())
     }

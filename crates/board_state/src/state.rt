@@ -7,6 +7,7 @@ ghost use Rattle.authority_map.specs.Operations.{Operation};
 
 use crate::board_error::BoardError;
 use crate::opening::{InForce, OpenProblem};
+use crate::weights::Weights;
 use authority_map::{Published, Publisher};
 use dir_pins::Pins;
 use dirtree::Tree;
@@ -29,6 +30,7 @@ pub struct BoardState<J: Naming, M: Publisher<J>> {
     pub(crate) tree: Tree,
     pub(crate) pins: Pins,
     pub(crate) heat: Heat,
+    pub(crate) weights: Weights,
     pub(crate) mask: RankSet,
     pub(crate) book: Book<J>,
     pub(crate) cluster: Cluster,
@@ -44,10 +46,10 @@ impl<J: Naming, M: Publisher<J>> Model for BoardState<J, M> {
 
     ghost Value = { Present };
 
-    ghost view = { λ b. present_of b.tree b.pins b.heat b.mask b.book b.cluster.world (M.published b.map)
+    ghost view = { λ b. present_of b.tree b.pins b.heat b.weights b.mask b.book b.cluster.world (M.published b.map)
         (M.pending b.map) b.opened b.in_force b.events };
 
-    ghost invariant = { λ b. IsFitting (present_of b.tree b.pins b.heat b.mask b.book b.cluster.world
+    ghost invariant = { λ b. IsFitting (present_of b.tree b.pins b.heat b.weights b.mask b.book b.cluster.world
         (M.published b.map) (M.pending b.map) b.opened b.in_force b.events).state × (b.tree.limit ≡ J.limit) };
 }
 
@@ -170,6 +172,7 @@ impl<J: Naming, M: Publisher<J>> BoardState<J, M> {
             tree: _tree,
             pins: _pins,
             heat: _heat,
+            weights: _weights,
             mask: _mask,
             book: _book,
             cluster: _cluster,

@@ -120,11 +120,12 @@ publishes false old new h = subst (λ w. IsFurther old w) (sym h) (stays old)
 change_keeps : (s : State) (c : Change) → IsInner c → KeepsRest s (next s c)
 change_keeps s (Step e) h =
     subst (λ t. KeepsRest s t) (sym (after_step s e h))
-    (record { directories = refl; pins = refl; heats = refl; mask = refl; counted = refl; begun = refl; in_force = refl })
+    (record { directories = refl; pins = refl; heats = refl; weights = refl; mask = refl; counted = refl; begun = refl; in_force = refl })
 change_keeps s (Make parent name inodes) h = absurd h
 change_keeps s (Remove d) h = absurd h
 change_keeps s (change.Pin d value) h = absurd h
 change_keeps s (Mask bits) h = absurd h
+change_keeps s (change.Weights read write) h = absurd h
 change_keeps s (Deposit hits) h = absurd h
 change_keeps s Tick h = absurd h
 change_keeps s Open h = absurd h
@@ -135,6 +136,7 @@ both_keep s t u h k = record {
   directories = k.directories ∙ h.directories;
   pins = k.pins ∙ h.pins;
   heats = k.heats ∙ h.heats;
+  weights = k.weights ∙ h.weights;
   mask = k.mask ∙ h.mask;
   counted = k.counted ∙ h.counted;
   begun = k.begun ∙ h.begun;
@@ -144,7 +146,7 @@ both_keep s t u h k = record {
 replay_keeps : (s : State) (es : List Entry) (t : State) → All (λ (e : Entry). IsInner e.change) es → IsReplay s es t → KeepsRest s t
 replay_keeps s [] t inner h =
     subst (λ u. KeepsRest s u) (sym h)
-    (record { directories = refl; pins = refl; heats = refl; mask = refl; counted = refl; begun = refl; in_force = refl })
+    (record { directories = refl; pins = refl; heats = refl; weights = refl; mask = refl; counted = refl; begun = refl; in_force = refl })
 replay_keeps s (e ∷ es) t inner h =
     both_keep s (next s e.change) t (change_keeps s e.change (head_has (λ (it : Entry). IsInner it.change) e es inner))
     (replay_keeps (next s e.change) es t (tail_have (λ (it : Entry). IsInner it.change) e es inner) h.3)

@@ -55,6 +55,7 @@ change_orders s (Make parent name inodes) h = absurd h
 change_orders s (Remove d) h = absurd h
 change_orders s (change.Pin d value) h = absurd h
 change_orders s (Mask bits) h = absurd h
+change_orders s (change.Weights read write) h = absurd h
 change_orders s (Deposit hits) h = absurd h
 change_orders s Tick h = absurd h
 change_orders s Open h = absurd h

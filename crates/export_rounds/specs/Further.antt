@@ -30,11 +30,12 @@ pub record IsFurther (old new : World) : Type 0 where
   pub shares : new.shares ≡ old.shares
   pub published : IsPublished old more new.published
 
--- tree, pins, heats, mask, counts and the plan in force are as they were
+-- tree, pins, heats, weights, mask, counts and the plan in force are as they were
 pub record KeepsRest (old new : State) : Type 0 where
   pub directories : new.directories ≡ old.directories
   pub pins : new.pins ≡ old.pins
   pub heats : new.heats ≡ old.heats
+  pub weights : new.weights ≡ old.weights
   pub mask : new.mask ≡ old.mask
   pub counted : new.counted ≡ old.counted
   pub begun : new.begun ≡ old.begun

@@ -10,7 +10,7 @@ use board_state::{Answer, BoardError};
 use export_machine::{Event, Reply};
 use heat_ledger::Share;
 use mds_board::{Board, Shown};
-use mds_types::{CutProof, Dir, DualProof, Order, Plan, RankSet};
+use mds_types::{CutProof, Dir, DualProof, Kind, Order, Plan, RankSet};
 use naming::Naming;
 use std::alloc::{AllocError, Global};
 use std::process::Abort;
@@ -42,10 +42,10 @@ fn set_up<J: Naming, M: Publisher<J>>(
     let a = Dir::new(1);
     same(rt, &board.make(alloc, Dir::ROOT, "a", 10), &Ok(a));
     for _ in 0..5 {
-        same(rt, &share.hit(a), &Ok(()));
+        same(rt, &share.hit(a, Kind::Read), &Ok(()));
     }
     same(rt, &board.deposit(alloc, share), &Ok(()));
-    same(rt, &board.counted(a), &5);
+    same(rt, &board.counted(a, Kind::Read), &5);
     same(rt, &board.set_mask(RankSet::from_bits(2)), &Ok(()));
 }
 

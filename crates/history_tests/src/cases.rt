@@ -8,7 +8,7 @@ use crate::boards::board_of;
 use crate::lists::Given;
 use crate::said::Reading;
 use crate::same::Sure;
-use crate::{adopting, changes, full, lists, refused};
+use crate::{adopting, changes, full, lists, refused, weighing};
 use authority_map::{MapReader, MapWriter, NewMap, Publisher};
 use board_state::BoardParts;
 use heat_ledger::{NewBook, Share};
@@ -37,6 +37,8 @@ pub(crate) enum Case {
     Listed,
     /// Refused growths in the changes.
     RefusedGrowth,
+    /// Weights of reads and writes.
+    Weighing,
 }
 
 fn on_board<J: Naming, M: Publisher<J>, R: Abort + Threads + Sync>(
@@ -57,6 +59,7 @@ fn on_board<J: Naming, M: Publisher<J>, R: Abort + Threads + Sync>(
         Case::Full => full::on_board(rt, alloc, board, shares, readers),
         Case::Listed => return Some(lists::answers(rt, alloc, board, shares, readers, true)),
         Case::RefusedGrowth => refused::on_board(rt, alloc, board, shares, readers),
+        Case::Weighing => weighing::on_board(rt, alloc, board, shares, readers),
     }
     None
 }

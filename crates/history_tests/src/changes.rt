@@ -11,7 +11,7 @@ use dirtree::TreeError;
 use export_machine::{Reply, StepError};
 use heat_ledger::Share;
 use mds_board::{Board, History, Shown};
-use mds_types::{Dir, RankSet};
+use mds_types::{Dir, Kind, RankSet};
 use naming::Naming;
 use std::alloc::Global;
 use std::process::Abort;
@@ -56,10 +56,10 @@ fn use_it<J: Naming, M: Publisher<J>>(
 ) {
     let a = Dir::new(1);
     for _ in 0..5 {
-        same(rt, &share.hit(a), &Ok(()));
+        same(rt, &share.hit(a, Kind::Read), &Ok(()));
     }
     same(rt, &board.deposit(alloc, share), &Ok(()));
-    same(rt, &share.pending(a), &0);
+    same(rt, &share.pending(a, Kind::Read), &0);
     same(rt, &board.tick(), &Ok(()));
     let begun = board.begin(share, rank(0), a);
     same(rt, &begun, &Ok(Reply::Ticket(0)));
@@ -92,6 +92,7 @@ fn word_of(change: &Change) -> &'static str {
         Change::Remove(_) => "remove",
         Change::Pin(_, _) => "pin",
         Change::Mask(_) => "mask",
+        Change::Weights(_, _) => "weights",
         Change::Deposit(_) => "deposit",
         Change::Tick => "tick",
         Change::Step(_) => "step",

@@ -46,6 +46,7 @@ fn refuse_settings<J: Naming, M: Publisher<J>>(
     same(rt, &board.remove(none), &Err(FULL));
     same(rt, &board.set_pin(none, 9), &Err(FULL));
     same(rt, &board.set_mask(RankSet::from_bits(3)), &Err(FULL));
+    same(rt, &board.set_weights(0, 17), &Err(FULL));
 }
 
 fn refuse_events<J: Naming, M: Publisher<J>>(

@@ -19,3 +19,5 @@ mod refused;
 mod said;
 #[cfg(test)]
 mod same;
+#[cfg(test)]
+mod weighing;

@@ -14,7 +14,7 @@ use dirtree::Name;
 use export_machine::Event;
 use heat_ledger::{Missing, Share};
 use mds_board::{Board, BoardCommand};
-use mds_types::{Dir, Plan, Problem, Rank, RankSet};
+use mds_types::{Dir, Kind, Plan, Problem, Rank, RankSet};
 use naming::Naming;
 use planner::solve;
 use std::alloc::{AllocError, Global};
@@ -66,6 +66,8 @@ fn settings(alloc: Global) -> Result<Vec<BoardCommand>, AllocError>
     let list = with(list, BoardCommand::Pin(Dir::new(1), 2))?;
     let list = with(list, BoardCommand::Balance)?;
     let list = with(list, BoardCommand::Mask(RankSet::from_bits(3)))?;
+    let list = with(list, BoardCommand::Weights(0, 4))?;
+    let list = with(list, BoardCommand::Weights(1, 4))?;
     with(list, BoardCommand::Tick)
 }
 
@@ -103,6 +105,7 @@ fn asked<J: Naming, M: Publisher<J>, R: Threads + Sync>(
         BoardCommand::Remove(dir) => done(board.remove(*dir)),
         BoardCommand::Pin(dir, pin) => done(board.set_pin(*dir, *pin)),
         BoardCommand::Mask(mask) => done(board.set_mask(*mask)),
+        BoardCommand::Weights(read, write) => done(board.set_weights(*read, *write)),
         BoardCommand::Tick => done(board.tick()),
         BoardCommand::Step(event) => step(alloc, board, event),
         BoardCommand::Balance => match board.balance(rt, alloc, &Planner) {
@@ -205,14 +208,14 @@ fn a_list_of_commands_answers_as_single_calls(rt: HostRuntime) {
         panic!(rt; "no answers");
     };
     let ((listed, after_list), (single, after_calls)) = (listed, called);
-    same(&rt, &(listed.len(), single.len()), &(14, 14));
+    same(&rt, &(listed.len(), single.len()), &(16, 16));
     for (at, (one, other)) in listed.iter().zip(single.iter()).enumerate() {
         holds_in(&rt, is_same(one, other), &at);
     }
     let refused = listed.iter().filter(|answer| answer.is_err()).count();
-    same(&rt, &refused, &5);
+    same(&rt, &refused, &6);
     assert!(rt; after_list == after_calls);
-    same(&rt, &after_list.history, &10);
+    same(&rt, &after_list.history, &11);
 }
 
 fn with_share<J: Naming>(
@@ -276,7 +279,7 @@ fn close<J: Naming, M: Publisher<J>>(
     assert!(rt; board.close(shares).is_ok());
     miss_both(rt, alloc, board);
     same(rt, &board.history().len(), &before);
-    same(rt, &(board.counted(a), board.begun(a)), &(3, 1));
+    same(rt, &(board.counted(a, Kind::Read), board.begun(a)), &(3, 1));
     go_on(rt, alloc, board);
 }
 
@@ -291,7 +294,7 @@ fn use_it<J: Naming, M: Publisher<J>>(
 {
     let a = Dir::new(1);
     same(rt, &board.make(alloc, Dir::ROOT, "a", 10), &Ok(a));
-    same(rt, &share.count(a, 3), &3);
+    same(rt, &share.count(a, Kind::Read, 3), &3);
     assert!(rt; board.begin(share, Rank::default(), a).is_ok());
     same(rt, &board.deposit(alloc, share), &Ok(()));
 }

@@ -15,7 +15,7 @@ use board_state::BoardError;
 use export_machine::Event;
 use heat_ledger::Share;
 use mds_board::{Board, BoardCommand};
-use mds_types::{Dir, Dirs, Plan, RankSet};
+use mds_types::{Dir, Dirs, Kind, Plan, RankSet};
 use naming::Naming;
 use std::alloc::{AllocError, Global};
 use std::marker::Sync;
@@ -29,8 +29,9 @@ enum Do {
     Remove(u32),
     Pin(u32, i32),
     Mask(u64),
+    Weights(u8, u8),
     Tick,
-    Hit(u32),
+    Hit(u32, Kind),
     Deposit,
     Begin(u8, u32),
     Open,
@@ -62,17 +63,18 @@ enum Step {
 
 /// A list in which each change is accepted: the root and /a move to rank 1 by a plan,
 /// one export is aborted, and one is asked about. Two more plans move nothing.
-const CHANGES: [Do; 55] = [
+const CHANGES: [Do; 56] = [
     Do::Make(0, "a"),
-    Do::Hit(1),
-    Do::Hit(1),
-    Do::Hit(1),
-    Do::Hit(1),
-    Do::Hit(1),
+    Do::Hit(1, Kind::Read),
+    Do::Hit(1, Kind::Read),
+    Do::Hit(1, Kind::Read),
+    Do::Hit(1, Kind::Read),
+    Do::Hit(1, Kind::Read),
     Do::Deposit,
     Do::Mask(2),
     Do::Publish,
     Do::Open,
+    Do::Weights(1, 6),
     Do::Adopt,
     Do::Step(Step::Start(0, 1, &[0, 1])),
     Do::Step(Step::Deliver(0)),
@@ -109,7 +111,7 @@ const CHANGES: [Do; 55] = [
     Do::Step(Step::Start(1, 0, &[0])),
     Do::Step(Step::Abort(2)),
     Do::Open,
-    Do::Hit(1),
+    Do::Hit(1, Kind::Write),
     Do::Begin(1, 1),
     Do::Tick,
     Do::Make(1, "c"),
@@ -177,6 +179,7 @@ fn set<J: Naming, M: Publisher<J>>(
         Do::Remove(dir) => board.remove(Dir::new(dir)),
         Do::Pin(dir, pin) => board.set_pin(Dir::new(dir), pin),
         Do::Mask(bits) => board.set_mask(RankSet::from_bits(bits)),
+        Do::Weights(read, write) => board.set_weights(read, write),
         Do::Tick => board.tick(),
         _ => Ok(()),
     }
@@ -190,8 +193,8 @@ fn count<J: Naming, M: Publisher<J>>(
     change: Do,
 ) -> Result<(), BoardError> {
     match change {
-        Do::Hit(dir) => {
-            let _hit = share.hit(Dir::new(dir));
+        Do::Hit(dir, kind) => {
+            let _hit = share.hit(Dir::new(dir), kind);
             Ok(())
         }
         Do::Deposit => board.deposit(alloc, share),
@@ -273,7 +276,7 @@ fn change_once<J: Naming, M: Publisher<J>, R: Abort + Threads + Sync>(
     change: Do,
 ) -> Result<(), BoardError> {
     match change {
-        Do::Hit(_) | Do::Deposit | Do::Begin(_, _) => count(alloc, board, share, change),
+        Do::Hit(_, _) | Do::Deposit | Do::Begin(_, _) => count(alloc, board, share, change),
         Do::Open | Do::Adopt | Do::Balance | Do::Run => plan_on(rt, alloc, board, change),
         Do::Publish | Do::Step(_) | Do::Events(_) | Do::PinOrders(_) => {
             go_on(rt, alloc, board, change)
@@ -324,15 +327,16 @@ fn change_all<J: Naming, M: Publisher<J>, R: Abort + Threads + Sync>(
 /// The board is as without a refused growth.
 fn look_back<J: Naming, M: Publisher<J>>(rt: &impl Abort, board: &Board<J, M>) {
     let a = Dir::new(1);
-    same(rt, &board.history().len(), &45);
+    same(rt, &board.history().len(), &46);
     same(rt, &board.tree().numbers(), &4);
-    same(rt, &(board.counted(a), board.begun(a)), &(6, 1));
+    let counted = (board.counted(a, Kind::Read), board.counted(a, Kind::Write));
+    same(rt, &(counted, board.begun(a)), &((5, 1), 1));
     same(rt, &board.cluster().authority(a), &Some(rank(1)));
     same(rt, &board.cluster().sent(), &17);
     same(
         rt,
         &board.plan_in_force().map(|plan| plan.greatest),
-        &Some(2),
+        &Some(7),
     );
 }
 

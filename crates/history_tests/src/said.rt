@@ -4,7 +4,7 @@ use authority_map::{MapReader, Publisher};
 use export_machine::{ExporterState, ImporterState};
 use heat_ledger::Share;
 use mds_board::Board;
-use mds_types::{Dir, Rank, RankSet};
+use mds_types::{Dir, Kind, Rank, RankSet};
 use naming::Naming;
 
 /// What is said of a directory.
@@ -12,10 +12,11 @@ use naming::Naming;
 pub(crate) struct DirSaid {
     pin: Option<Rank>,
     heat: u64,
-    counted: u64,
+    /// Deposited reads and writes.
+    counted: [u64; 2],
     begun: u64,
-    /// The hits that the share has pending.
-    pending: u64,
+    /// The reads and writes that the share has pending.
+    pending: [u64; 2],
     authority: Option<Rank>,
     named: Option<Rank>,
     published: Option<Rank>,
@@ -47,9 +48,15 @@ fn dir_said<J: Naming, M: Publisher<J>>(
     Some(DirSaid {
         pin: board.pin_of(dir),
         heat: board.heat_of(dir),
-        counted: board.counted(dir),
+        counted: [
+            board.counted(dir, Kind::Read),
+            board.counted(dir, Kind::Write),
+        ],
         begun: board.begun(dir),
-        pending: share.pending(dir),
+        pending: [
+            share.pending(dir, Kind::Read),
+            share.pending(dir, Kind::Write),
+        ],
         authority: board.cluster().authority(dir),
         named: board.cluster().named(dir),
         published: board.find_published(reader, dir),

@@ -101,6 +101,7 @@ counted_next limit s (Remove d) h ok =
     record { within = within_after limit s.cluster (Gone d) h.within (may_remove s d ok).1; counts = h.counts }
 counted_next limit s (change.Pin d value) h ok = record { within = h.within; counts = h.counts }
 counted_next limit s (Mask bits) h ok = record { within = h.within; counts = h.counts }
+counted_next limit s (change.Weights read write) h ok = record { within = h.within; counts = h.counts }
 counted_next limit s (Deposit hits) h ok = record { within = h.within; counts = h.counts }
 counted_next limit s Tick h ok = record { within = h.within; counts = h.counts }
 counted_next limit s (Step e) h ok =
@@ -143,6 +144,7 @@ begun_next limit s (Make parent name inodes) h ok d = none_more (at s.begun d)
 begun_next limit s (Remove g) h ok d = none_more (at s.begun d)
 begun_next limit s (change.Pin g value) h ok d = none_more (at s.begun d)
 begun_next limit s (Mask bits) h ok d = none_more (at s.begun d)
+begun_next limit s (change.Weights read write) h ok d = none_more (at s.begun d)
 begun_next limit s (Deposit hits) h ok d = none_more (at s.begun d)
 begun_next limit s Tick h ok d = none_more (at s.begun d)
 begun_next limit s (Step (Begin r g)) h ok d =

@@ -32,6 +32,7 @@ shown_next all s (Make parent name inodes) reply h at best = h
 shown_next all s (Remove d) reply h at best = h
 shown_next all s (change.Pin d value) reply h at best = h
 shown_next all s (Mask bits) reply h at best = h
+shown_next all s (change.Weights read write) reply h at best = h
 shown_next all s (Deposit hits) reply h at best = h
 shown_next all s Tick reply h at best = h
 shown_next all s (Step e) reply h at best = h

@@ -90,6 +90,8 @@ opened_next before s (Remove d) reply is h = marked_opened before s.opened s.eve
 opened_next before s (change.Pin d value) reply is h =
     marked_opened before s.opened s.events (record { change = change.Pin d value; reply = reply }) h
 opened_next before s (Mask bits) reply is h = marked_opened before s.opened s.events (record { change = Mask bits; reply = reply }) h
+opened_next before s (change.Weights read write) reply is h =
+    still_opened before s.opened (record { change = change.Weights read write; reply = reply }) refl h
 opened_next before s (Deposit hits) reply is h = still_opened before s.opened (record { change = Deposit hits; reply = reply }) refl h
 opened_next before s Tick reply is h = still_opened before s.opened (record { change = Tick; reply = reply }) refl h
 opened_next before s (Step e) reply is h =
@@ -152,6 +154,7 @@ tree_next s (Make parent name inodes) tree h = made_tree s.directories parent na
 tree_next s (Remove d) tree h = removed_tree s.directories d tree (may_remove s d h).0
 tree_next s (change.Pin d value) tree h = tree
 tree_next s (Mask bits) tree h = tree
+tree_next s (change.Weights read write) tree h = tree
 tree_next s (Deposit hits) tree h = tree
 tree_next s Tick tree h = tree
 tree_next s (Step e) tree h = tree
@@ -189,6 +192,7 @@ ran s (Make parent name inodes) h = stepped s.cluster (Made parent) (may_make s 
 ran s (Remove d) h = stepped s.cluster (Gone d) (may_remove s d h).1
 ran s (change.Pin d value) h = refl
 ran s (Mask bits) h = refl
+ran s (change.Weights read write) h = refl
 ran s (Deposit hits) h = refl
 ran s Tick h = refl
 ran s (Step e) h = stepped s.cluster e (may_step s e h)

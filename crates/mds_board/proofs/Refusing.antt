@@ -26,6 +26,7 @@ believed s (change.Make parent name inodes) allowed belied = belied
 believed s (change.Remove d) allowed belied = belied
 believed s (change.Pin d value) allowed belied = belied
 believed s (change.Mask bits) allowed belied = belied
+believed s (change.Weights read write) allowed belied = belied
 believed s (change.Deposit hits) allowed belied = belied
 believed s change.Tick allowed belied = belied
 believed s (change.Step e) allowed belied = belied

@@ -36,6 +36,7 @@ IsCarriedOut old (command.Make parent name inodes) answer new = IsAnswer old (ch
 IsCarriedOut old (command.Remove d) answer new = IsAnswer old (change.Remove d) answer new
 IsCarriedOut old (command.Pin d value) answer new = IsAnswer old (change.Pin d value) answer new
 IsCarriedOut old (command.Mask bits) answer new = IsAnswer old (change.Mask bits) answer new
+IsCarriedOut old (command.Weights read write) answer new = IsAnswer old (change.Weights read write) answer new
 IsCarriedOut old command.Tick answer new = IsAnswer old change.Tick answer new
 IsCarriedOut old (command.Step e) answer new = IsAnswer old (change.Step e) answer new
 IsCarriedOut old command.Balance answer new = IsBalanced old answer new

@@ -16,6 +16,7 @@ use Rattle.board_state.specs.declared.change.Answer.{Answer}
 use Rattle.board_state.specs.declared.change.Answer.TheVariants as answer
 use Rattle.board_state.specs.declared.change.Change.{Change}
 use Rattle.board_state.specs.declared.change.Change.TheVariants.{Make, Remove, Deposit, Tick, Step, Open, Adopt}
+use Rattle.board_state.specs.declared.change.Change.TheVariants as change
 use Rattle.board_state.specs.State.{State, start, problem_of, usable}
 use Rattle.board_state.specs.Steps.{IsFitting}
 use Rattle.mds_board.specs.declared.entry.Entry.{Entry}
@@ -40,13 +41,14 @@ OpensDirectories first history =
 
 -- a change that leaves the tree, the pins, the mask and the problem that is open as they are
 abbrev pub leaves_problem : Change → Bool
+leaves_problem (change.Weights read write) = true
 leaves_problem (Deposit hits) = true
 leaves_problem Tick = true
 leaves_problem (Step e) = true
 leaves_problem _ = false
 
--- Each plan in a history was adopted after a problem was opened, with only deposits, ticks and events of the cluster
--- in between. It is best for this problem, and its proofs hold.
+-- Each plan in a history was adopted after a problem was opened, with only weights, deposits, ticks and events of the
+-- cluster in between. It is best for this problem, and its proofs hold.
 abbrev pub AdoptsBest : List Entry → Type 0
 AdoptsBest history =
     (before more : List Entry) (plan : Plan) (reply : Answer)

@@ -146,11 +146,25 @@ impl<J: Naming, M: Publisher<J>> Board<J, M> {
         Ok(())
     }
 
-    /// Counts the hits that a share has pending, which give heat to the directories that are there.
+    /// Says how much a read and a write count in the deposits from now on, in accesses: 1 to 16 each. Heats stay, and
+    /// so does the problem that is open.
+    pub fn set_weights(&mut self, read: u8, write: u8) -> Result<(), BoardError>
+        ensures { IsAnswer self.old (Change.Weights read write) (spelled (λ _. Answer.Done) result) self.new }
+    {
+        if self.history.reserve(1).is_err() {
+            return Err(or_memory(self.state.weights_refusal(read, write)));
+        }
+        self.state.set_weights(read, write)?;
+        self.history
+            .keep(Change::Weights(read, write), Answer::Done);
+        Ok(())
+    }
+
+    /// Counts the hits that a share has pending. Weighed, they give heat to the directories that are there.
     pub fn deposit(&mut self, alloc: Global, share: &mut Share<J>) -> Result<(), BoardError>
         ensures answer { IsAnswer self.old (Change.Deposit (counted_rows share.old.pending))
             (spelled (λ _. Answer.Done) result) self.new }
-        ensures share { OnOk result (share.new ≡ record share.old { pending = replicate J.limit 0 }) }
+        ensures share { OnOk result (share.new ≡ record share.old { pending = replicate (J.limit + J.limit) 0 }) }
         ensures unchanged { OnErr result (share.new ≡ share.old) }
     {
         if self.history.reserve(1).is_err() {
@@ -281,8 +295,8 @@ impl<J: Naming, M: Publisher<J>> Board<J, M> {
     /// the begun requests are theirs. It changes nothing, and is no event.
     pub fn audit(&mut self, shares: &mut Vec<Share<J>>)
         requires { weight_of shares.old.items ≡ self.old.shares }
-        ensures hits { (dir : ℕ) → at self.new.state.counted dir + pending_of shares.new.items dir
-            ≡ hits_of shares.new.items dir }
+        ensures hits { (e : ℕ) → at self.new.state.counted e + pending_of shares.new.items e
+            ≡ hits_of shares.new.items e }
         ensures begun { (dir : ℕ) → at self.new.state.begun dir ≡ begun_of shares.new.items dir }
         ensures same { (self.new ≡ self.old) × (shares.new.items ≡ shares.old.items) }
     {
@@ -295,7 +309,7 @@ impl<J: Naming, M: Publisher<J>> Board<J, M> {
         requires { All IsClean shares.items }
         ensures ok { OnOk result ((self.old.is_open ≡ true) × (self.new ≡ record self.old { is_open = false })) }
         ensures all { OnOk result (weight_of shares.items ≡ self.old.shares) }
-        ensures hits { OnOk result ((dir : ℕ) → at self.new.state.counted dir ≡ hits_of shares.items dir) }
+        ensures hits { OnOk result ((e : ℕ) → at self.new.state.counted e ≡ hits_of shares.items e) }
         ensures begun { OnOk result ((dir : ℕ) → at self.new.state.begun dir ≡ begun_of shares.items dir) }
         ensures missing { IfErr result (λ e. (1 ≤ e.0.0) × (e.0.0 + weight_of shares.items ≡ self.old.shares)) }
         ensures handed_back { IfErr result (λ e. e.1.items ≡ shares.items) }

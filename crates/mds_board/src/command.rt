@@ -16,6 +16,8 @@ pub enum BoardCommand {
     Pin(Dir, i32),
     /// Says which ranks the balancer may use.
     Mask(RankSet),
+    /// Says how much a read and a write count.
+    Weights(u8, u8),
     /// Halves all heats.
     Tick,
     /// An event of the cluster that neither makes nor removes a directory nor begins a request.

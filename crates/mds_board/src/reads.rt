@@ -1,7 +1,7 @@
 //! What a board says.
 ghost use Rattle.std.specs.Prelude.{◌≡◌, ◌++◌, IfOk, MatchOption, None, OnOk};
 ghost use Rattle.std.specs.Option.{option_map};
-ghost use Rattle.heat_ledger.specs.Rows.{at};
+ghost use Rattle.heat_ledger.specs.Rows.{at, entry};
 ghost use Rattle.board_state.specs.State.{pin_orders, usable};
 ghost use Rattle.mds_board.specs.InForce.{IsBestInForce, adopted, adopted_at, plan_in_force};
 ghost use Rattle.export_machine.specs.Step.{run, start};
@@ -16,7 +16,7 @@ use dir_pins::Pins;
 use dirtree::Tree;
 use export_machine::{Cluster, Event};
 use heat_decay::Heat;
-use mds_types::{Dir, Order, Plan, RankSet};
+use mds_types::{Dir, Kind, Order, Plan, RankSet};
 use naming::Naming;
 use std::alloc::{AllocError, Global};
 
@@ -119,11 +119,11 @@ impl<J: Naming, M: Publisher<J>> Board<J, M> {
         self.state.pin_orders(alloc)
     }
 
-    /// The hits on a directory that were deposited.
-    pub fn counted(&self, dir: Dir) -> u64
-        ensures { result ≡ at self.now.state.counted dir }
+    /// The hits of a kind on a directory that were deposited.
+    pub fn counted(&self, dir: Dir, kind: Kind) -> u64
+        ensures { result ≡ at self.now.state.counted (entry dir kind) }
     {
-        self.state.counted(dir)
+        self.state.counted(dir, kind)
     }
 
     /// The requests on a directory that were begun.

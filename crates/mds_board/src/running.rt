@@ -62,6 +62,10 @@ impl<J: Naming, M: Publisher<J>> Board<J, M> {
                 self.set_mask(*mask)?;
                 Ok(Answer::Done)
             }
+            BoardCommand::Weights(read, write) => {
+                self.set_weights(*read, *write)?;
+                Ok(Answer::Done)
+            }
             BoardCommand::Tick => {
                 self.tick()?;
                 Ok(Answer::Done)

@@ -1,4 +1,4 @@
-use Rattle.std.proofs.Common.{◌≡◌, None, refl, arith}
+use Rattle.std.proofs.Common.{None, refl, arith}
 use Rattle.std.proofs.lemmas.List.{length-replicate}
 use Rattle.export_machine.specs.Step as machine
 use Rattle.board_state.proofs.Fitting.{none_begun}
