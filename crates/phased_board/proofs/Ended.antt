@@ -7,6 +7,7 @@ use Rattle.export_machine.specs.Cluster as cluster
 use Rattle.export_machine.specs.Step as machine
 use Rattle.export_machine.specs.declared.event.Event.{Event}
 use Rattle.export_machine.proofs.Frame.{delivered_frame}
+use Rattle.heat_ledger.specs.declared.dir_hits.DirHits.{DirHits}
 use Rattle.board_state.proofs.Mapping.{after_step}
 use Rattle.export_rounds.specs.Adding.{IsOfPhase}
 use Rattle.export_machine.specs.declared.event.Event.TheVariants.{Made, Gone, Begin, End, Start, Deliver, Froze, Notify, Abort, Stop, Restart, Ask}
@@ -23,10 +24,11 @@ use Rattle.board_state.specs.declared.change.Change.TheVariants.{Make, Remove, M
 use Rattle.board_state.specs.declared.change.Change.TheVariants as change
 use Rattle.board_state.specs.State as state
 use Rattle.board_state.specs.State.{State}
-use Rattle.board_state.specs.Steps.{IsDue}
+use Rattle.board_state.specs.Steps.{IsDue, is_inner}
 use Rattle.export_rounds.proofs.Going.{head_has, tail_have}
 use Rattle.mds_board.specs.declared.entry.Entry.{Entry}
 use Rattle.mds_board.specs.History.{World, IsAnswer, IsReplay, entry_of}
+use Rattle.phased_board.proofs.Requests.{by_requests}
 use Rattle.phased_board.specs.Begun.{IsEndMet}
 use Rattle.phased_board.specs.Going.{IsOfKind, WentOnBy, added, is_of_requests}
 
@@ -138,7 +140,7 @@ pub begin_reply : (s : State) (r d : ℕ) → (state.happens s (Step (Begin r d)
 unfolding state.happens machine.happens
 begin_reply s r d = refl
 
-pub deposit_tickets : (s : State) (hits : List (ℕ × ℕ)) → (state.next s (Deposit hits)).cluster.tickets ≡ s.cluster.tickets
+pub deposit_tickets : (s : State) (hits : List DirHits) → (state.next s (Deposit hits)).cluster.tickets ≡ s.cluster.tickets
 unfolding state.happens
 deposit_tickets s hits = refl
 
@@ -157,64 +159,58 @@ event_tickets w n (End t) h = absurd h
 event_tickets w n (Stop r) h = absurd h
 event_tickets w n (Restart r) h = absurd h
 
+-- a phase neither makes nor removes a directory nor begins a request
+inner : (n : ℕ) (e : Event) → IsOfPhase n (Step e) → is_inner e ≡ true
+inner n (Made p) h = absurd h
+inner n (Gone d) h = absurd h
+inner n (Begin r d) h = absurd h
+inner n (End t) h = refl
+inner n (Start from to dirs) h = refl
+inner n (Deliver m) h = refl
+inner n (Froze x) h = refl
+inner n (Notify x) h = refl
+inner n (Abort x) h = refl
+inner n (Stop r) h = refl
+inner n (Restart r) h = refl
+inner n (Ask x) h = refl
+
 pub phase_tickets : (s : State) (n : ℕ) (c : Change) → IsOfPhase n c → (state.next s c).cluster.tickets ≡ s.cluster.tickets
-phase_tickets s n (Step (Start from to dirs)) h = ap (λ (t : State). t.cluster.tickets) (after_step s (Start from to dirs) refl) ∙ event_tickets s.cluster n (Start from to dirs) h
-phase_tickets s n (Step (Deliver m)) h = ap (λ (t : State). t.cluster.tickets) (after_step s (Deliver m) refl) ∙ event_tickets s.cluster n (Deliver m) h
-phase_tickets s n (Step (Froze x)) h = ap (λ (t : State). t.cluster.tickets) (after_step s (Froze x) refl) ∙ event_tickets s.cluster n (Froze x) h
-phase_tickets s n (Step (Notify x)) h = ap (λ (t : State). t.cluster.tickets) (after_step s (Notify x) refl) ∙ event_tickets s.cluster n (Notify x) h
-phase_tickets s n (Step (Abort x)) h = ap (λ (t : State). t.cluster.tickets) (after_step s (Abort x) refl) ∙ event_tickets s.cluster n (Abort x) h
-phase_tickets s n (Step (Ask x)) h = ap (λ (t : State). t.cluster.tickets) (after_step s (Ask x) refl) ∙ event_tickets s.cluster n (Ask x) h
-phase_tickets s n (Step (Made p)) h = absurd h
-phase_tickets s n (Step (Gone d)) h = absurd h
-phase_tickets s n (Step (Begin r d)) h = absurd h
-phase_tickets s n (Step (End t)) h = absurd h
-phase_tickets s n (Step (Stop r)) h = absurd h
-phase_tickets s n (Step (Restart r)) h = absurd h
+phase_tickets s n (Step e) h = ap (λ (t : State). t.cluster.tickets) (after_step s e (inner n e h)) ∙ event_tickets s.cluster n e h
 phase_tickets s n (Make parent name inodes) h = absurd h
 phase_tickets s n (Remove d) h = absurd h
 phase_tickets s n (change.Pin d value) h = absurd h
 phase_tickets s n (Mask bits) h = absurd h
+phase_tickets s n (change.Weights read write) h = absurd h
 phase_tickets s n (Deposit hits) h = absurd h
 phase_tickets s n Tick h = absurd h
 phase_tickets s n Open h = absurd h
 phase_tickets s n (Adopt plan) h = absurd h
 
 -- a ticket from here on is given later, or its request is over
-one_over : (now : World) (s : State) (c : Change) (told : Answer) → is_of_requests c ≡ true → told ≡ (state.happens s c).reply
+one_over : (now : World) (s : State) (told : Answer)
     → ((t : ℕ) → told ≡ answer.Reply (Ticket t) → request_of now.state.cluster t ≡ None) → (t : ℕ) → length s.cluster.tickets ≤ t
+    → (c : Change) → is_of_requests c ≡ true → told ≡ (state.happens s c).reply
     → (length (state.next s c).cluster.tickets ≤ t) ⊎ (request_of now.state.cluster t ≡ None)
-one_over now s (Step (Begin r d)) told is reply over t low =
-    let long = ap (λ (ts : List (Option Request)). length ts) (begin_tickets s r d) ∙ length-append s.cluster.tickets (Some (record { rank = r; dir = d }) ∷ []) in
-    elim (at_or_below (length s.cluster.tickets) t low) [
-      | inl less ↦ inl (omega arith)
-      | inr same ↦ inr (over t (reply ∙ (begin_reply s r d ∙ ap (λ (n : ℕ). answer.Reply (Ticket n)) (sym same))))
-    ]
-one_over now s (Step (End ticket)) told is reply over t low =
-    let long = ap (λ (ts : List (Option Request)). length ts) (next_tickets s ticket) ∙ as_long s.cluster.tickets ticket in inl (omega arith)
-one_over now s (Deposit hits) told is reply over t low = let long = ap (λ (ts : List (Option Request)). length ts) (deposit_tickets s hits) in inl (omega arith)
-one_over now s (Make parent name inodes) told is reply over t low = absurd (cc)
-one_over now s (Remove d) told is reply over t low = absurd (cc)
-one_over now s (change.Pin d value) told is reply over t low = absurd (cc)
-one_over now s (Mask bits) told is reply over t low = absurd (cc)
-one_over now s Tick told is reply over t low = absurd (cc)
-one_over now s Open told is reply over t low = absurd (cc)
-one_over now s (Adopt plan) told is reply over t low = absurd (cc)
-one_over now s (Step (Made parent)) told is reply over t low = absurd (cc)
-one_over now s (Step (Gone d)) told is reply over t low = absurd (cc)
-one_over now s (Step (Start from to dirs)) told is reply over t low = absurd (cc)
-one_over now s (Step (Deliver message)) told is reply over t low = absurd (cc)
-one_over now s (Step (Froze x)) told is reply over t low = absurd (cc)
-one_over now s (Step (Notify x)) told is reply over t low = absurd (cc)
-one_over now s (Step (Abort x)) told is reply over t low = absurd (cc)
-one_over now s (Step (Stop rank)) told is reply over t low = absurd (cc)
-one_over now s (Step (Restart rank)) told is reply over t low = absurd (cc)
-one_over now s (Step (Ask x)) told is reply over t low = absurd (cc)
+one_over now s told over t low =
+    by_requests (λ (c : Change). (told ≡ (state.happens s c).reply → (length (state.next s c).cluster.tickets ≤ t) ⊎ (request_of now.state.cluster t ≡ None)))
+    begins
+    (λ ticket reply. (let long = ap (λ (ts : List (Option Request)). length ts) (next_tickets s ticket) ∙ as_long s.cluster.tickets ticket in inl (omega arith)))
+    (λ hits reply. (let long = ap (λ (ts : List (Option Request)). length ts) (deposit_tickets s hits) in inl (omega arith)))
+  where
+    begins : (r d : ℕ) → told ≡ (state.happens s (Step (Begin r d))).reply
+        → (length (state.next s (Step (Begin r d))).cluster.tickets ≤ t) ⊎ (request_of now.state.cluster t ≡ None)
+    begins r d reply =
+        let long = ap (λ (ts : List (Option Request)). length ts) (begin_tickets s r d) ∙ length-append s.cluster.tickets (Some (record { rank = r; dir = d }) ∷ []) in
+        elim (at_or_below (length s.cluster.tickets) t low) [
+          | inl less ↦ inl (omega arith)
+          | inr same ↦ inr (over t (reply ∙ (begin_reply s r d ∙ ap (λ (n : ℕ). answer.Reply (Ticket n)) (sym same))))
+        ]
 
 kind_over : (exports : Bool) (n : ℕ) (now : World) (s : State) (c : Change) (told : Answer) → IsOfKind exports n c → told ≡ (state.happens s c).reply
     → ((t : ℕ) → told ≡ answer.Reply (Ticket t) → request_of now.state.cluster t ≡ None) → (t : ℕ) → length s.cluster.tickets ≤ t
     → (length (state.next s c).cluster.tickets ≤ t) ⊎ (request_of now.state.cluster t ≡ None)
-kind_over false n now s c told is reply over t low = one_over now s c told is reply over t low
-kind_over true n now s c told (inl is) reply over t low = one_over now s c told is reply over t low
+kind_over false n now s c told is reply over t low = one_over now s told over t low c is reply
+kind_over true n now s c told (inl is) reply over t low = one_over now s told over t low c is reply
 kind_over true n now s c told (inr phase) reply over t low = let same = ap (λ (ts : List (Option Request)). length ts) (phase_tickets s n c phase) in inl (omega arith)
 
 -- the requests that began by these entries are over

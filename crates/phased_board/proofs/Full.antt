@@ -5,14 +5,12 @@ use Rattle.std.proofs.lemmas.List.{append_cancel_left}
 use Rattle.std.specs.List.{All}
 use Rattle.std.specs.Prelude.{nat_le}
 use mathlib.Core.List.{IsPrefix}
-use Rattle.export_machine.specs.declared.event.Event.TheVariants.{Made, Gone, Begin, End, Start, Deliver, Froze, Notify, Abort, Stop, Restart, Ask}
+use Rattle.export_machine.specs.declared.event.Event.TheVariants.{Begin, End}
 use Rattle.export_machine.specs.declared.step_error.StepError.{StepError}
 use Rattle.export_machine.specs.Step as machine
 use Rattle.board_state.specs.declared.board_error.BoardError.{BoardError}
 use Rattle.board_state.specs.declared.board_error.BoardError.TheVariants as error
 use Rattle.board_state.specs.declared.change.Change.{Change}
-use Rattle.board_state.specs.declared.change.Change.TheVariants.{Make, Remove, Mask, Deposit, Tick, Step, Open, Adopt}
-use Rattle.board_state.specs.declared.change.Change.TheVariants as change
 use Rattle.board_state.specs.State as state
 use Rattle.board_state.specs.State.{State}
 use Rattle.board_state.specs.Steps.{IsDue}
@@ -22,6 +20,7 @@ use Rattle.mds_board.specs.History.{World, IsReplay}
 use Rattle.mds_board.specs.Promises.{IsKept}
 use Rattle.export_rounds.specs.Moments.{IsMet}
 use Rattle.phased_board.proofs.GoingOn.{parts_of}
+use Rattle.phased_board.proofs.Requests.{by_requests}
 use Rattle.phased_board.specs.Going.{WentOn, added, is_of_requests}
 
 -- How one goes on to another.
@@ -68,26 +67,9 @@ of_step None h = cc
 of_step (Some x) h = cc
 
 other_cause : (s : State) (c : Change) → is_of_requests c ≡ true → state.cause s c ≡ Some error.HistoryFull → ⊥
-other_cause s (Step (Begin r d)) is h = of_step (machine.refusal s.cluster (Begin r d)) h
-other_cause s (Step (End t)) is h = of_step (machine.refusal s.cluster (End t)) h
-other_cause s (Deposit hits) is h = cc
-other_cause s (Make parent name inodes) is h = cc
-other_cause s (Remove d) is h = cc
-other_cause s (change.Pin d value) is h = cc
-other_cause s (Mask bits) is h = cc
-other_cause s Tick is h = cc
-other_cause s Open is h = cc
-other_cause s (Adopt plan) is h = cc
-other_cause s (Step (Made parent)) is h = cc
-other_cause s (Step (Gone d)) is h = cc
-other_cause s (Step (Start from to dirs)) is h = cc
-other_cause s (Step (Deliver message)) is h = cc
-other_cause s (Step (Froze x)) is h = cc
-other_cause s (Step (Notify x)) is h = cc
-other_cause s (Step (Abort x)) is h = cc
-other_cause s (Step (Stop rank)) is h = cc
-other_cause s (Step (Restart rank)) is h = cc
-other_cause s (Step (Ask x)) is h = cc
+other_cause s =
+    by_requests (λ (c : Change). (state.cause s c ≡ Some error.HistoryFull → ⊥)) (λ r d. of_step (machine.refusal s.cluster (Begin r d)))
+    (λ t. of_step (machine.refusal s.cluster (End t))) (λ hits h. cc)
 
 by_limit : (events : ℕ) (full : Bool) (cause : Option BoardError) → nat_le state.event_limit events ≡ full → state.or_cause (state.when full error.HistoryFull) cause ≡ Some error.HistoryFull
     → (cause ≡ Some error.HistoryFull → ⊥) → 1048576 ≤ events

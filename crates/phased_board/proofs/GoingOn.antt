@@ -3,14 +3,11 @@ use Rattle.std.proofs.Common.{◌≡◌, ◌≤◌, ◌+◌, ℕ, Bool, MatchBoo
 use Rattle.std.proofs.lemmas.List.{take-append-drop, append_cancel_left}
 use Rattle.std.proofs.lemmas.List.Elements.{All-append}
 use Rattle.std.specs.List.{count_by}
-use Rattle.export_machine.specs.declared.event.Event.TheVariants.{Made, Gone, Begin, End, Start, Deliver, Froze, Notify, Abort, Stop, Restart, Ask}
 use Rattle.export_machine.specs.declared.event.Request.{Request}
 use Rattle.export_machine.specs.Step as machine
 use Rattle.board_state.specs.declared.board_error.BoardError.{BoardError}
 use Rattle.board_state.specs.declared.change.Answer.{Answer}
 use Rattle.board_state.specs.declared.change.Change.{Change}
-use Rattle.board_state.specs.declared.change.Change.TheVariants.{Make, Remove, Mask, Deposit, Tick, Step, Open, Adopt}
-use Rattle.board_state.specs.declared.change.Change.TheVariants as change
 use Rattle.board_state.specs.State.{State, happens, next}
 use Rattle.export_rounds.specs.Adding.{GoesOnBy, IsOfPhase}
 use Rattle.export_rounds.specs.Asked.{AreAsked, is_begun}
@@ -23,6 +20,7 @@ use Rattle.mds_board.specs.declared.entry.Entry.{Entry}
 use Rattle.mds_board.specs.History.{World, IsReplay, IsAnswer, entry_of, recorded}
 use Rattle.mds_types.specs.declared.order.Order.{Order}
 use Rattle.phased_board.specs.Going.{IsMapAfter, IsOfKind, IsOnTheWay, WentOnBy, added, is_of_requests}
+use Rattle.phased_board.proofs.Requests.{by_requests}
 use Rattle.phased_board.proofs.Ended.{as_long, begin_tickets, deposit_tickets, next_tickets, phase_tickets}
 
 -- Lists.
@@ -93,49 +91,14 @@ of_requests true earlier c is = inl is
 
 request_orders : (s : State) (c : Change) → is_of_requests c ≡ true → (next s c).cluster.orders ≡ s.cluster.orders
 unfolding happens machine.happens
-request_orders s (Step (Begin r d)) is = refl
-request_orders s (Step (End t)) is = refl
-request_orders s (Deposit hits) is = refl
-request_orders s (Make parent name inodes) is = absurd (cc)
-request_orders s (Remove d) is = absurd (cc)
-request_orders s (change.Pin d value) is = absurd (cc)
-request_orders s (Mask bits) is = absurd (cc)
-request_orders s Tick is = absurd (cc)
-request_orders s Open is = absurd (cc)
-request_orders s (Adopt plan) is = absurd (cc)
-request_orders s (Step (Made parent)) is = absurd (cc)
-request_orders s (Step (Gone d)) is = absurd (cc)
-request_orders s (Step (Start from to dirs)) is = absurd (cc)
-request_orders s (Step (Deliver message)) is = absurd (cc)
-request_orders s (Step (Froze x)) is = absurd (cc)
-request_orders s (Step (Notify x)) is = absurd (cc)
-request_orders s (Step (Abort x)) is = absurd (cc)
-request_orders s (Step (Stop rank)) is = absurd (cc)
-request_orders s (Step (Restart rank)) is = absurd (cc)
-request_orders s (Step (Ask x)) is = absurd (cc)
+request_orders s = by_requests (λ (c : Change). (next s c).cluster.orders ≡ s.cluster.orders) (λ r d. refl) (λ t. refl) (λ hits. refl)
 
 request_tickets : (s : State) (c : Change) → is_of_requests c ≡ true → length s.cluster.tickets ≤ length (next s c).cluster.tickets
-request_tickets s (Step (Begin r d)) is =
-    let long = ap (λ (ts : List (Option Request)). length ts) (begin_tickets s r d) ∙ length-append s.cluster.tickets (Some (record { rank = r; dir = d }) ∷ []) in omega arith
-request_tickets s (Step (End t)) is = let long = ap (λ (ts : List (Option Request)). length ts) (next_tickets s t) ∙ as_long s.cluster.tickets t in omega arith
-request_tickets s (Deposit hits) is = let long = ap (λ (ts : List (Option Request)). length ts) (deposit_tickets s hits) in omega arith
-request_tickets s (Make parent name inodes) is = absurd (cc)
-request_tickets s (Remove d) is = absurd (cc)
-request_tickets s (change.Pin d value) is = absurd (cc)
-request_tickets s (Mask bits) is = absurd (cc)
-request_tickets s Tick is = absurd (cc)
-request_tickets s Open is = absurd (cc)
-request_tickets s (Adopt plan) is = absurd (cc)
-request_tickets s (Step (Made parent)) is = absurd (cc)
-request_tickets s (Step (Gone d)) is = absurd (cc)
-request_tickets s (Step (Start from to dirs)) is = absurd (cc)
-request_tickets s (Step (Deliver message)) is = absurd (cc)
-request_tickets s (Step (Froze x)) is = absurd (cc)
-request_tickets s (Step (Notify x)) is = absurd (cc)
-request_tickets s (Step (Abort x)) is = absurd (cc)
-request_tickets s (Step (Stop rank)) is = absurd (cc)
-request_tickets s (Step (Restart rank)) is = absurd (cc)
-request_tickets s (Step (Ask x)) is = absurd (cc)
+request_tickets s =
+    by_requests (λ (c : Change). length s.cluster.tickets ≤ length (next s c).cluster.tickets)
+    (λ r d. (let long = ap (λ (ts : List (Option Request)). length ts) (begin_tickets s r d) ∙ length-append s.cluster.tickets (Some (record { rank = r; dir = d }) ∷ []) in omega arith))
+    (λ t. (let long = ap (λ (ts : List (Option Request)). length ts) (next_tickets s t) ∙ as_long s.cluster.tickets t in omega arith))
+    (λ hits. (let long = ap (λ (ts : List (Option Request)). length ts) (deposit_tickets s hits) in omega arith))
 
 one_request : (exports : Bool) (first : World) (orders : List Order) (old : World) (standings : List Standing) (given : ℕ) (c : Change)
     → IsOnTheWay exports first orders old standings given → is_of_requests c ≡ true → IsReplay old.state (entry_of old.state c ∷ []) (next old.state c)

@@ -3,3 +3,4 @@ pub mod Ended
 pub mod Full
 pub mod GoingOn
 pub mod Later
+pub mod Requests

@@ -178,7 +178,7 @@ impl<J: Naming, M: Publisher<J>, K: Phase> Phased<J, M, K> {
         ensures seen { IsPrefix known.old.seen known.new.seen × IsPrefix of_rank.seen known.new.seen }
         ensures tickets { known.new.tickets ≡ known.old.tickets ++ of_rank.tickets }
         ensures apart { AreApart known.new.tickets }
-        ensures share { OnOk result (share.new ≡ record share.old { pending = replicate J.limit 0 }) }
+        ensures share { OnOk result (share.new ≡ record share.old { pending = replicate (J.limit + J.limit) 0 }) }
         ensures unchanged { OnErr result (share.new ≡ share.old) }
     {
         let deposited = self.board.deposit(alloc, share);

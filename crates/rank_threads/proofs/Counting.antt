@@ -1,55 +1,45 @@
 -- What answers count in a share, one after another.
-use Rattle.std.proofs.Common.{◌≡◌, ◌≢◌, ℕ, zero, suc, ◌+◌, ◌<◌, ◌==◌, Bool, true, false, List, [], ◌∷◌, ◌++◌, length, set, Some, refl, sym, ap, ◌∙◌, arith}
+use Rattle.std.proofs.Common.{◌≡◌, ◌≢◌, ℕ, ◌+◌, ◌<◌, ◌==◌, Bool, true, false, List, [], ◌∷◌, ◌++◌, length, Some, refl, sym, ◌∙◌, arith}
 use Rattle.std.proofs.lemmas.Bool.Decides.{nat_tests}
 use Rattle.std.specs.Prelude.{if◌then◌else◌}
 use Rattle.heat_ledger.specs.Ledger.{ShareData}
-use Rattle.heat_ledger.specs.Rows.{at, raised, with_row}
-use Rattle.heat_ledger.proofs.RowLemmas.{at_set_same, at_set_other}
+use Rattle.heat_ledger.specs.Rows.{at, entry, raised, raised_by}
+use Rattle.heat_ledger.proofs.RowLemmas.{at_set_same, at_set_other, raised_by_none}
 use Rattle.rank_threads.specs.declared.work.Work.{Work}
 use Rattle.rank_threads.specs.declared.work.WorkAnswer.{WorkAnswer}
 use Rattle.rank_threads.proofs.Returning.{all_short_stay, zip_length, zip_more}
 use Rattle.rank_threads.specs.Serving.{Fits, IsServed, IsShort, Counted, after_hits, hits_on, begun_on}
 
-set_none : (xs : List ℕ) (d : ℕ) → set xs d (at xs d + 0) ≡ xs
-set_none [] d = refl
-set_none (x ∷ xs) zero = let same : x + 0 ≡ x = omega arith in ap (λ (y : ℕ). y ∷ xs) same
-set_none (x ∷ xs) (suc d) = ap (λ (ys : List ℕ). x ∷ ys) (set_none xs d)
+pub hits_none : (share : ShareData) (e : ℕ) → share ≡ after_hits share e 0
+hits_none share e = rw (raised_by_none share.hits e, raised_by_none share.pending e) refl
 
-set_more : (xs : List ℕ) (d n : ℕ) → raised (set xs d (at xs d + n)) d ≡ set xs d (at xs d + (n + 1))
-set_more [] d n = refl
-set_more (x ∷ xs) zero n = let same : x + n + 1 ≡ x + (n + 1) = omega arith in ap (λ (y : ℕ). y ∷ xs) same
-set_more (x ∷ xs) (suc d) n = ap (λ (ys : List ℕ). x ∷ ys) (set_more xs d n)
-
-pub hits_none : (share : ShareData) (d : ℕ) → share ≡ after_hits share d 0
-hits_none share d = rw (set_none share.hits d, set_none share.pending d) refl
-
--- a row with more on one directory
-row_at : (xs : List ℕ) (k n d : ℕ) → d < length xs → at (with_row xs (k, n)) d ≡ at xs d + (if k == d then n else 0)
+-- a row with more at one entry
+row_at : (xs : List ℕ) (k n d : ℕ) → d < length xs → at (raised_by xs k n) d ≡ at xs d + (if k == d then n else 0)
 row_at xs k n d inside = on (k == d) refl
   where
-    on : (b : Bool) → (k == d) ≡ b → at (with_row xs (k, n)) d ≡ at xs d + (if b then n else 0)
+    on : (b : Bool) → (k == d) ≡ b → at (raised_by xs k n) d ≡ at xs d + (if b then n else 0)
     on true is = let here : k ≡ d = grind (arith, nat_tests) in rw here (at_set_same xs d (at xs d + n) inside)
     on false is =
         let other : d ≢ k = λ here. (let there : k ≡ d = sym here in let bad : (k == d) ≡ true = grind (arith, nat_tests) in let no = sym is ∙ bad in cc) in
         let none : at xs d + 0 ≡ at xs d = omega arith in at_set_other xs k (at xs k + n) d other ∙ sym none
 
 -- a request that began
-pub counted_one : (limit n t : ℕ) (s : ShareData) (w : Work) (a : WorkAnswer) → length s.hits ≡ limit → length s.pending ≡ limit → length s.begun ≡ limit
+pub counted_one : (limit n t : ℕ) (s : ShareData) (w : Work) (a : WorkAnswer) → length s.hits ≡ limit + limit → length s.pending ≡ limit + limit → length s.begun ≡ limit
     → a.ticket ≡ Some t → a.hits ≡ n
-    → Counted limit s (w ∷ []) (a ∷ []) (after_hits (record s { begun = raised s.begun w.dir }) w.dir n)
+    → Counted limit s (w ∷ []) (a ∷ []) (after_hits (record s { begun = raised s.begun w.dir }) (entry w.dir w.kind) n)
 counted_one limit n t s w a lh lp lb ticket hits = record {
   weight = refl;
-  hits = λ d inside. (let near : d < length s.hits = omega arith in let e = row_at s.hits w.dir n d near in rw hits (omega arith));
-  pending = λ d inside. (let near : d < length s.pending = omega arith in let e = row_at s.pending w.dir n d near in rw hits (omega arith));
-  begun = λ d inside. (let near : d < length s.begun = omega arith in let e = row_at s.begun w.dir 1 d near in rw ticket (omega arith));
+  hits = λ e inside. (let near : e < length s.hits = omega arith in let more = row_at s.hits (entry w.dir w.kind) n e near in rw hits (omega arith));
+  pending = λ e inside. (let near : e < length s.pending = omega arith in let more = row_at s.pending (entry w.dir w.kind) n e near in rw hits (omega arith));
+  begun = λ d inside. (let near : d < length s.begun = omega arith in let more = row_at s.begun w.dir 1 d near in rw ticket (omega arith));
 }
 
-hits_on_more : (d : ℕ) (works : List Work) (answers : List WorkAnswer) (w : Work) (a : WorkAnswer) → length works ≡ length answers
-    → hits_on d (works ++ w ∷ []) (answers ++ a ∷ []) ≡ hits_on d works answers + hits_on d (w ∷ []) (a ∷ [])
-hits_on_more d [] [] w a same = omega arith
-hits_on_more d [] (b ∷ answers) w a same = absurd (cc)
-hits_on_more d (v ∷ works) [] w a same = absurd (cc)
-hits_on_more d (v ∷ works) (b ∷ answers) w a same = let rest : length works ≡ length answers = omega arith in let e = hits_on_more d works answers w a rest in omega arith
+hits_on_more : (e : ℕ) (works : List Work) (answers : List WorkAnswer) (w : Work) (a : WorkAnswer) → length works ≡ length answers
+    → hits_on e (works ++ w ∷ []) (answers ++ a ∷ []) ≡ hits_on e works answers + hits_on e (w ∷ []) (a ∷ [])
+hits_on_more e [] [] w a same = omega arith
+hits_on_more e [] (b ∷ answers) w a same = absurd (cc)
+hits_on_more e (v ∷ works) [] w a same = absurd (cc)
+hits_on_more e (v ∷ works) (b ∷ answers) w a same = let rest : length works ≡ length answers = omega arith in let more = hits_on_more e works answers w a rest in omega arith
 
 begun_on_more : (d : ℕ) (works : List Work) (answers : List WorkAnswer) (w : Work) (a : WorkAnswer) → length works ≡ length answers
     → begun_on d (works ++ w ∷ []) (answers ++ a ∷ []) ≡ begun_on d works answers + begun_on d (w ∷ []) (a ∷ [])
@@ -64,8 +54,8 @@ served_none limit s = record {
   short = tt;
   counted = record {
     weight = refl;
-    hits = λ d inside. omega arith;
-    pending = λ d inside. omega arith;
+    hits = λ e inside. omega arith;
+    pending = λ e inside. omega arith;
     begun = λ d inside. omega arith;
   };
 }
@@ -77,16 +67,16 @@ served_empty limit s (w ∷ works) none = absurd (cc)
 
 -- one request more
 pub served_more : (limit : ℕ) (old mid new : ShareData) (works : List Work) (answers : List WorkAnswer) (w : Work) (a : WorkAnswer)
-    → IsServed limit old works answers mid → Fits w a → IsShort limit new w.dir a.refused → Counted limit mid (w ∷ []) (a ∷ []) new → IsServed limit old (works ++ w ∷ []) (answers ++ a ∷ []) new
+    → IsServed limit old works answers mid → Fits w a → IsShort limit new w.dir w.kind a.refused → Counted limit mid (w ∷ []) (a ∷ []) new → IsServed limit old (works ++ w ∷ []) (answers ++ a ∷ []) new
 served_more limit old mid new works answers w a h fits short one =
     let same = zip_length Fits works answers h.fits in record {
       fits = zip_more Fits works answers w a h.fits fits;
-      short = zip_more (λ v b. IsShort limit new v.dir b.refused) works answers w a
-          (all_short_stay limit mid new works answers (λ d inside. (let q = one.hits d inside in omega arith)) h.short) short;
+      short = zip_more (λ v b. IsShort limit new v.dir v.kind b.refused) works answers w a
+          (all_short_stay limit mid new works answers (λ e inside. (let q = one.hits e inside in omega arith)) h.short) short;
       counted = record {
         weight = one.weight ∙ h.counted.weight;
-        hits = λ d inside. (let p = h.counted.hits d inside in let q = one.hits d inside in let e = hits_on_more d works answers w a same in omega arith);
-        pending = λ d inside. (let p = h.counted.pending d inside in let q = one.pending d inside in let e = hits_on_more d works answers w a same in omega arith);
+        hits = λ e inside. (let p = h.counted.hits e inside in let q = one.hits e inside in let more = hits_on_more e works answers w a same in omega arith);
+        pending = λ e inside. (let p = h.counted.pending e inside in let q = one.pending e inside in let more = hits_on_more e works answers w a same in omega arith);
         begun = λ d inside. (let p = h.counted.begun d inside in let q = one.begun d inside in let e = begun_on_more d works answers w a same in omega arith);
       };
     }

@@ -1,5 +1,5 @@
 -- What holds of answers by a log holds by a longer one, and what a board answers holds by its own history.
-use Rattle.std.proofs.Common.{ℕ, List, [], ◌∷◌, Option, Some, None, Result, Ok, Err, inl, inr, append-nil}
+use Rattle.std.proofs.Common.{ℕ, List, [], ◌∷◌, Option, Some, None, Result, Ok, Err, inl, inr}
 use Rattle.std.specs.List.{AllZip}
 use mathlib.Core.List.{IsPrefix}
 use Rattle.board_state.specs.declared.board_error.BoardError.{BoardError}
@@ -15,9 +15,6 @@ use Rattle.phased_board.proofs.Later.{begun_later}
 use Rattle.rank_threads.specs.Answered.{AreAnswered, IsAnswered, IsDepositTold, IsRankAnswered, IsReply}
 use Rattle.rank_threads.specs.Asking.{AreServed}
 use Rattle.rank_threads.specs.Ways.{Hand, Way, hands_of}
-
-pub whole : (xs : List Entry) → IsPrefix xs xs
-whole xs = ([], append-nil xs)
 
 reply_later : (before : World) (log longer : List Entry) (rank dir : ℕ) (ticket : Option ℕ) (refused : Option WorkError) → IsPrefix log longer
     → IsReply before log rank dir ticket refused → IsReply before longer rank dir ticket refused

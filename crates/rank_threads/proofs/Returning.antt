@@ -1,10 +1,12 @@
 -- Shares come back in rank order.
-use Rattle.std.proofs.Common.{◌≡◌, ℕ, suc, ◌<◌, ◌≤◌, Option, Some, None, List, [], ◌∷◌, ◌++◌, length, Vec, Global, refl, sym, ap, arith, ◌∙◌, subst, inl, inr}
+use Rattle.std.proofs.Common.{◌≡◌, ℕ, suc, ◌+◌, ◌<◌, ◌≤◌, Option, Some, None, List, [], ◌∷◌, ◌++◌, length, Vec, Global, refl, sym, ap, arith, ◌∙◌, subst, inl, inr}
 use Rattle.std.specs.List.{All, AllZip}
 use Rattle.std.proofs.lemmas.List.Elements.{All-push}
 use Rattle.heat_ledger.specs.declared.hit_error.HitError.TheVariants as hit
 use Rattle.heat_ledger.specs.Ledger.{ShareData, IsClean}
-use Rattle.heat_ledger.specs.Rows.{at}
+use Rattle.heat_ledger.specs.Rows.{at, entry}
+use Rattle.mds_types.specs.declared.kind.Kind.{Kind}
+use Rattle.mds_types.specs.declared.kind.Kind.TheVariants.{Read, Write}
 use Rattle.mds_board.specs.declared.entry.Entry.{Entry}
 use Rattle.mds_board.specs.History.{World}
 use Rattle.rank_threads.specs.declared.work.Work.{Work}
@@ -16,21 +18,26 @@ use Rattle.rank_threads.specs.Asking.{IsRoomFor}
 use Rattle.rank_threads.specs.Ways.{Hand, HoldsAsMuch}
 use Rattle.rank_threads.specs.Serving.{AreReturned, AreShort, IsDeposited, IsReturned, IsServed, IsShort}
 
--- a share that counts no less is as full
-pub short_stays : (limit : ℕ) (mid new : ShareData) (dir : ℕ) (e : Option WorkError) → ((d : ℕ) → d < limit → at mid.hits d ≤ at new.hits d)
-    → IsShort limit mid dir e → IsShort limit new dir e
-short_stays limit mid new dir None more h = tt
-short_stays limit mid new dir (Some (error.Board e)) more h = tt
-short_stays limit mid new dir (Some error.NoThread) more h = tt
-short_stays limit mid new dir (Some (error.Share hit.NoDir)) more h = h
-short_stays limit mid new dir (Some (error.Share hit.ShareFull)) more h = let grows = more dir h.0 in let full = h.1 in (h.0, omega (arith, grows, full))
+entry_inside : (limit dir : ℕ) (kind : Kind) → dir < limit → entry dir kind < limit + limit
+entry_inside limit dir Read inside = omega arith
+entry_inside limit dir Write inside = omega arith
 
-pub all_short_stay : (limit : ℕ) (mid new : ShareData) (works : List Work) (answers : List WorkAnswer) → ((d : ℕ) → d < limit → at mid.hits d ≤ at new.hits d)
+-- a share that counts no less is as full
+pub short_stays : (limit : ℕ) (mid new : ShareData) (dir : ℕ) (kind : Kind) (refused : Option WorkError) → ((e : ℕ) → e < limit + limit → at mid.hits e ≤ at new.hits e)
+    → IsShort limit mid dir kind refused → IsShort limit new dir kind refused
+short_stays limit mid new dir kind None more h = tt
+short_stays limit mid new dir kind (Some (error.Board e)) more h = tt
+short_stays limit mid new dir kind (Some error.NoThread) more h = tt
+short_stays limit mid new dir kind (Some (error.Share hit.NoDir)) more h = h
+short_stays limit mid new dir kind (Some (error.Share hit.ShareFull)) more h =
+    let grows = more (entry dir kind) (entry_inside limit dir kind h.0) in let full = h.1 in (h.0, omega (arith, grows, full))
+
+pub all_short_stay : (limit : ℕ) (mid new : ShareData) (works : List Work) (answers : List WorkAnswer) → ((e : ℕ) → e < limit + limit → at mid.hits e ≤ at new.hits e)
     → AreShort limit mid works answers → AreShort limit new works answers
 all_short_stay limit mid new [] [] more h = tt
 all_short_stay limit mid new [] (a ∷ answers) more h = absurd h
 all_short_stay limit mid new (w ∷ works) [] more h = absurd h
-all_short_stay limit mid new (w ∷ works) (a ∷ answers) more h = (short_stays limit mid new w.dir a.refused more h.0, all_short_stay limit mid new works answers more h.1)
+all_short_stay limit mid new (w ∷ works) (a ∷ answers) more h = (short_stays limit mid new w.dir w.kind a.refused more h.0, all_short_stay limit mid new works answers more h.1)
 
 pub returned : (limit : ℕ) (old mid new : ShareData) (works : List Work) (answers : List WorkAnswer) → IsServed limit old works answers mid → IsDeposited mid new
     → IsReturned limit old works answers new

@@ -58,8 +58,8 @@ begun_after limit old new olds scripts answers news h before after d inside =
     after d ∙ (rise ∙ ap (λ n. n + over_ranks (begun_on d) scripts answers) (sym (before d)))
 
 pub hits_after : (limit : ℕ) (old new : World) (olds : List ShareData) (scripts : List (List Work)) (answers : List (List WorkAnswer)) (news : List ShareData) → AreReturned limit olds scripts answers news
-    → ((d : ℕ) → at old.state.counted d + pending_of olds d ≡ hits_of olds d) → ((d : ℕ) → at new.state.counted d + pending_of news d ≡ hits_of news d)
-    → (d : ℕ) → d < limit → at new.state.counted d + pending_of news d ≡ (at old.state.counted d + pending_of olds d) + over_ranks (hits_on d) scripts answers
-hits_after limit old new olds scripts answers news h before after d inside =
-    let rise = sums_rise limit (λ s. at s.hits d) (hits_on d) (λ s w a t r. r.hits d inside) olds scripts answers news h in
-    after d ∙ (rise ∙ ap (λ n. n + over_ranks (hits_on d) scripts answers) (sym (before d)))
+    → ((e : ℕ) → at old.state.counted e + pending_of olds e ≡ hits_of olds e) → ((e : ℕ) → at new.state.counted e + pending_of news e ≡ hits_of news e)
+    → (e : ℕ) → e < limit + limit → at new.state.counted e + pending_of news e ≡ (at old.state.counted e + pending_of olds e) + over_ranks (hits_on e) scripts answers
+hits_after limit old new olds scripts answers news h before after e inside =
+    let rise = sums_rise limit (λ s. at s.hits e) (hits_on e) (λ s w a t r. r.hits e inside) olds scripts answers news h in
+    after e ∙ (rise ∙ ap (λ n. n + over_ranks (hits_on e) scripts answers) (sym (before e)))

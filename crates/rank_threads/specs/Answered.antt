@@ -3,6 +3,7 @@ use Rattle.std.specs.Prelude.{◌≡◌, ◌⊎◌, ℕ, List, [], ◌∷◌, Op
 use Rattle.std.specs.Prelude.{None, All, Result, Ok, Err}
 use Rattle.std.specs.List.{AllZip}
 use Rattle.export_machine.specs.declared.event.Event.TheVariants.{Begin}
+use Rattle.heat_ledger.specs.declared.dir_hits.DirHits.{DirHits}
 use Rattle.export_rounds.specs.Moments.{IsMet}
 use Rattle.board_state.specs.declared.board_error.BoardError.{BoardError}
 use Rattle.board_state.specs.declared.change.Change.TheVariants.{Deposit, Step}
@@ -56,4 +57,4 @@ AreAnswered _ _ _ _ _ _ = ⊥
 -- All was deposited, or a deposit was refused so.
 abbrev pub IsDepositTold : World → List Entry → Result Unit BoardError → Type 0
 IsDepositTold before log (Ok done) = Unit {0}
-IsDepositTold before log (Err error) = (rows : List (ℕ × ℕ)) × IsMet before log (Deposit rows) error
+IsDepositTold before log (Err error) = (rows : List DirHits) × IsMet before log (Deposit rows) error

@@ -3,7 +3,8 @@ use Rattle.std.specs.Prelude.{◌≡◌, ◌⊎◌, ℕ, ◌+◌, ◌^◌, ◌<�
 use Rattle.std.specs.List.{AllZip}
 use Rattle.heat_ledger.specs.declared.hit_error.HitError.TheVariants.{NoDir, ShareFull}
 use Rattle.heat_ledger.specs.Ledger.{ShareData, IsClean}
-use Rattle.heat_ledger.specs.Rows.{at, with_row}
+use Rattle.heat_ledger.specs.Rows.{at, entry, raised_by}
+use Rattle.mds_types.specs.declared.kind.Kind.{Kind}
 use Rattle.rank_threads.specs.declared.work.Work.{Work}
 use Rattle.rank_threads.specs.declared.work.WorkAnswer.{WorkAnswer}
 use Rattle.rank_threads.specs.declared.work.WorkError.{WorkError}
@@ -34,45 +35,46 @@ abbrev pub one_if : Option ℕ → ℕ
 one_if None = 0
 one_if (Some ticket) = 1
 
--- a number that counts only for one directory
-abbrev pub if_on : ℕ → Work → ℕ → ℕ
-if_on d work n = if work.dir == d then n else 0
+-- a number that counts only where these are the same
+abbrev pub if_same : ℕ → ℕ → ℕ → ℕ
+if_same one other n = if one == other then n else 0
 
--- the hits on a directory that the answers to these requests name
+-- the hits at an entry, of a directory and a kind, that the answers to these requests name
 abbrev pub hits_on : ℕ → List Work → List WorkAnswer → ℕ
-hits_on d [] answers = 0
-hits_on d (w ∷ works) [] = 0
-hits_on d (w ∷ works) (a ∷ answers) = if_on d w a.hits + hits_on d works answers
+hits_on e [] answers = 0
+hits_on e (w ∷ works) [] = 0
+hits_on e (w ∷ works) (a ∷ answers) = if_same (entry w.dir w.kind) e a.hits + hits_on e works answers
 
 -- the requests on a directory that began, by their answers
 abbrev pub begun_on : ℕ → List Work → List WorkAnswer → ℕ
 begun_on d [] answers = 0
 begun_on d (w ∷ works) [] = 0
-begun_on d (w ∷ works) (a ∷ answers) = if_on d w (one_if a.ticket) + begun_on d works answers
+begun_on d (w ∷ works) (a ∷ answers) = if_same w.dir d (one_if a.ticket) + begun_on d works answers
 
--- the share, with n hits more on a directory
+-- the share, with n hits more at an entry
 abbrev pub after_hits : ShareData → ℕ → ℕ → ShareData
-after_hits share d n = record share { hits = with_row share.hits (d, n); pending = with_row share.pending (d, n) }
+after_hits share e n = record share { hits = raised_by share.hits e n; pending = raised_by share.pending e n }
 
--- On each directory below the limit a share counts what the answers name.
+-- On each directory below the limit a share counts what the answers name, the hits of each kind by themselves.
 pub record Counted (limit : ℕ) (old : ShareData) (works : List Work) (answers : List WorkAnswer)
     (new : ShareData) : Type 0 where
   pub weight : new.weight ≡ old.weight
-  pub hits : (d : ℕ) → d < limit → at new.hits d ≡ at old.hits d + hits_on d works answers
-  pub pending : (d : ℕ) → d < limit → at new.pending d ≡ at old.pending d + hits_on d works answers
+  pub hits : (e : ℕ) → e < limit + limit → at new.hits e ≡ at old.hits e + hits_on e works answers
+  pub pending : (e : ℕ) → e < limit + limit → at new.pending e ≡ at old.pending e + hits_on e works answers
   pub begun : (d : ℕ) → d < limit → at new.begun d ≡ at old.begun d + begun_on d works answers
 
--- A hit is refused beyond the limit of directories, and where the share has counted 2^56 hits on its directory.
-abbrev pub IsShort : ℕ → ShareData → ℕ → Option WorkError → Type 0
-IsShort limit share dir (Some (Share NoDir)) = limit ≤ dir
-IsShort limit share dir (Some (Share ShareFull)) = (dir < limit) × (2 ^ 56 ≤ at share.hits dir)
-IsShort limit share dir (Some (Board e)) = Unit {0}
-IsShort limit share dir (Some NoThread) = Unit {0}
-IsShort limit share dir None = Unit {0}
+-- A hit is refused beyond the limit of directories, and where the share has counted 2^56 hits of its kind on its
+-- directory.
+abbrev pub IsShort : ℕ → ShareData → ℕ → Kind → Option WorkError → Type 0
+IsShort limit share dir kind (Some (Share NoDir)) = limit ≤ dir
+IsShort limit share dir kind (Some (Share ShareFull)) = (dir < limit) × (2 ^ 56 ≤ at share.hits (entry dir kind))
+IsShort limit share dir kind (Some (Board e)) = Unit {0}
+IsShort limit share dir kind (Some NoThread) = Unit {0}
+IsShort limit share dir kind None = Unit {0}
 
 -- Where a request has fewer hits than it asked for, there was no room for more.
 abbrev pub AreShort : ℕ → ShareData → List Work → List WorkAnswer → Type 0
-AreShort limit share works answers = AllZip (λ w a. IsShort limit share w.dir a.refused) works answers
+AreShort limit share works answers = AllZip (λ w a. IsShort limit share w.dir w.kind a.refused) works answers
 
 -- Each request has an answer, in order, and the share counts what these name.
 pub record IsServed (limit : ℕ) (old : ShareData) (works : List Work) (answers : List WorkAnswer)
@@ -86,16 +88,17 @@ abbrev pub IsDeposited : ShareData → ShareData → Type 0
 IsDeposited old new =
     ((new.hits ≡ old.hits) × (new.begun ≡ old.begun) × (new.weight ≡ old.weight)) × (IsClean new ⊎ (new ≡ old))
 
--- What a phase makes of a rank's share: each request has an answer, in order; on each directory below the limit hits
--- and begun requests rise by what these name; and the hits are deposited, or pending.
+-- What a phase makes of a rank's share: each request has an answer, in order; on each directory below the limit the
+-- hits of each kind and the begun requests rise by what these name; and the hits are deposited, or pending.
 pub record IsReturned (limit : ℕ) (old : ShareData) (works : List Work) (answers : List WorkAnswer)
     (new : ShareData) : Type 0 where
   pub fits : AllZip Fits works answers
   pub short : AreShort limit new works answers
   pub weight : new.weight ≡ old.weight
-  pub hits : (d : ℕ) → d < limit → at new.hits d ≡ at old.hits d + hits_on d works answers
+  pub hits : (e : ℕ) → e < limit + limit → at new.hits e ≡ at old.hits e + hits_on e works answers
   pub begun : (d : ℕ) → d < limit → at new.begun d ≡ at old.begun d + begun_on d works answers
-  pub pending : IsClean new ⊎ ((d : ℕ) → d < limit → at new.pending d ≡ at old.pending d + hits_on d works answers)
+  pub pending : IsClean new
+      ⊎ ((e : ℕ) → e < limit + limit → at new.pending e ≡ at old.pending e + hits_on e works answers)
 
 -- the same of the shares of all ranks, in their order
 abbrev pub AreReturned : ℕ → List ShareData → List (List Work) → List (List WorkAnswer) → List ShareData → Type 0

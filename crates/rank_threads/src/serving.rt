@@ -2,6 +2,7 @@
 ghost use Rattle.std.specs.Prelude.{◌≡◌, ◌<◌, ◌≤◌, [], ◌∷◌, ◌++◌, IsNone, IsSome, Some};
 ghost use Rattle.std.specs.Prelude.{false, length, true, vec_capacity};
 ghost use Rattle.std.specs.Option.{option_map};
+ghost use Rattle.heat_ledger.specs.Rows.{entry};
 ghost use Rattle.rank_threads.specs.Answered.{IsAnswered, IsRankServed};
 ghost use Rattle.rank_threads.specs.Serving.{Counted, Fits, IsShort, after_hits, no_thread};
 ghost use Rattle.rank_threads.specs.Tickets.{ticket_named};
@@ -14,18 +15,23 @@ use crate::work::{Work, WorkAnswer, WorkError};
 use authority_map::Publisher;
 use export_rounds::Gate;
 use heat_ledger::{HitError, Share};
-use mds_types::{Dir, Rank};
+use mds_types::{Dir, Kind, Rank};
 use naming::Naming;
 use phased_board::Phase;
 use std::marker::{Send, Sync};
 use std::sync::Wait;
 
 // Counts the hits on a directory for which there is room, and says how many these are and why not all.
-fn count<J: Naming>(share: &mut Share<J>, dir: Dir, hits: u32) -> (u32, Option<HitError>)
+fn count<J: Naming>(
+    share: &mut Share<J>,
+    dir: Dir,
+    kind: Kind,
+    hits: u32,
+) -> (u32, Option<HitError>)
     ensures all { IsNone result.1 → result.0 ≡ hits }
     ensures fewer { IsSome result.1 → result.0 < hits }
-    ensures short { IsShort J.limit share.new dir (option_map WorkError.Share result.1) }
-    ensures share { share.new ≡ after_hits share.old dir result.0 }
+    ensures short { IsShort J.limit share.new dir kind (option_map WorkError.Share result.1) }
+    ensures share { share.new ≡ after_hits share.old (entry dir kind) result.0 }
 {
     if hits == 0 {
         return (0, None);
@@ -33,7 +39,7 @@ fn count<J: Naming>(share: &mut Share<J>, dir: Dir, hits: u32) -> (u32, Option<H
     if dir.number() as usize >= share.limit() {
         return (0, Some(HitError::NoDir));
     }
-    let counted = share.count(dir, hits);
+    let counted = share.count(dir, kind, hits);
     if counted < hits {
         (counted, Some(HitError::ShareFull))
     } else {
@@ -75,7 +81,7 @@ impl<
     ) -> WorkAnswer
         ensures fits { Fits work result }
         ensures counted { Counted J.limit done.old.share (work ∷ []) (result ∷ []) done.new.share }
-        ensures short { IsShort J.limit done.new.share work.dir result.refused }
+        ensures short { IsShort J.limit done.new.share work.dir work.kind result.refused }
         ensures answered { IsAnswered K.before done.new.known.seen (W.way done.old.way) (W.way done.new.way) work
             result }
         ensures given { done.new.known.tickets ≡ done.old.known.tickets ++ ticket_named result.ticket }
@@ -92,7 +98,7 @@ impl<
         self.gate.before(rank, number as u64);
         let answer = match begun {
             Ok(ticket) => {
-                let (hits, refused) = count(&mut done.share, work.dir, work.hits);
+                let (hits, refused) = count(&mut done.share, work.dir, work.kind, work.hits);
                 // where this is refused, it is tried once more when all threads have joined
                 let _end = self.cell.lock(self.rt).end(self.alloc, ticket);
                 counted(ticket, hits, refused)
@@ -114,7 +120,7 @@ impl<
     ) -> WorkAnswer
         ensures fits { Fits work result }
         ensures counted { Counted J.limit done.old.share (work ∷ []) (result ∷ []) done.new.share }
-        ensures short { IsShort J.limit done.new.share work.dir result.refused }
+        ensures short { IsShort J.limit done.new.share work.dir work.kind result.refused }
         ensures answered { has_thread ≡ true → IsAnswered K.before done.new.known.seen (W.way done.old.way)
             (W.way done.new.way) work result }
         ensures refused { has_thread ≡ false → result ≡ no_thread }

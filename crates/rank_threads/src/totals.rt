@@ -49,10 +49,10 @@ pub fn serve_with_totals<
     ensures begun { IfOk result.1 (λ ranks. (d : ℕ) → d < J.limit → at result.0.state.begun d
         ≡ at board.state.begun d
         + over_ranks (begun_on d) (map (λ s. s.items) scripts.now) (map (λ a. a.items) ranks.answers.items)) }
-    ensures hits { IfOk result.1 (λ ranks. (d : ℕ) → d < J.limit
-        → at result.0.state.counted d + pending_of ranks.shares.items d
-        ≡ (at board.state.counted d + pending_of shares.items d)
-        + over_ranks (hits_on d) (map (λ s. s.items) scripts.now) (map (λ a. a.items) ranks.answers.items)) }
+    ensures hits { IfOk result.1 (λ ranks. (e : ℕ) → e < J.limit + J.limit
+        → at result.0.state.counted e + pending_of ranks.shares.items e
+        ≡ (at board.state.counted e + pending_of shares.items e)
+        + over_ranks (hits_on e) (map (λ s. s.items) scripts.now) (map (λ a. a.items) ranks.answers.items)) }
     ensures ended { IfOk result.1 (λ ranks. IsEndTold board result.0 ranks.ended) }
     ensures memory { IfErr result.1 (λ e. e.value.items ≡ shares.items) }
     ensures unchanged { OnErr result.1 (result.0 ≡ board) }
@@ -77,8 +77,8 @@ pub fn audited<J: Naming, M: Publisher<J>>(
 ) -> (Board<J, M>, Ranks<J>)
     requires whole { weight_of ranks.shares.items ≡ board.shares }
     ensures begun { (d : ℕ) → at result.0.state.begun d ≡ begun_of ranks.shares.items d }
-    ensures hits { (d : ℕ) → at result.0.state.counted d + pending_of ranks.shares.items d
-        ≡ hits_of ranks.shares.items d }
+    ensures hits { (e : ℕ) → at result.0.state.counted e + pending_of ranks.shares.items e
+        ≡ hits_of ranks.shares.items e }
     ensures board { result.0 ≡ board }
     ensures shares { result.1.shares.items ≡ ranks.shares.items }
     ensures answers { result.1.answers.items ≡ ranks.answers.items }

@@ -2,17 +2,19 @@
 
 use board_state::BoardError;
 use heat_ledger::HitError;
-use mds_types::{Dir, Rank, Refusal};
+use mds_types::{Dir, Kind, Rank, Refusal};
 use std::error::Error;
 use std::fmt;
 
-/// A request on a directory, with its hits.
+/// A request on a directory, with its hits, which are all of its kind.
 #[derive(Clone, Copy, Debug, PartialEq, Eq)]
 pub struct Work {
     /// The directory.
     pub dir: Dir,
     /// How often it is hit.
     pub hits: u32,
+    /// What it does to the directory.
+    pub kind: Kind,
 }
 
 /// Why a request isn't served, or not whole.

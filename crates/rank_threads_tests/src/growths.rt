@@ -11,7 +11,7 @@ use export_machine::StepError;
 use export_threads::{OrderOutcome, Outcome, export_phase};
 use heat_ledger::Share;
 use mds_board::Board;
-use mds_types::{Dir, Order, Rank};
+use mds_types::{Dir, Kind, Order, Rank};
 use naming::Naming;
 use rank_threads::{OpenGate, Ranks, Work, WorkAnswer, WorkError, serve_phase};
 use std::alloc::{AllocError, Global};
@@ -25,7 +25,7 @@ fn are_fresh<J: Naming>(shares: &[Share<J>]) -> bool {
     let dir = Dir::new(1);
     let mut fresh = true;
     for share in shares {
-        fresh &= share.hits(dir) == 0 && share.begun(dir) == 0 && share.pending(dir) == 0;
+        fresh &= share.hits(dir, Kind::Read) == 0 && share.begun(dir) == 0 && share.is_clean();
     }
     fresh && shares.len() == 2
 }
@@ -61,8 +61,8 @@ fn counted<J: Naming>(shares: &[Share<J>]) -> (u64, u64) {
     let mut hits: u64 = 0;
     let mut pending: u64 = 0;
     for share in shares {
-        hits = hits.wrapping_add(share.hits(Dir::new(1)));
-        pending = pending.wrapping_add(share.pending(Dir::new(1)));
+        hits = hits.wrapping_add(share.hits(Dir::new(1), Kind::Read));
+        pending = pending.wrapping_add(share.pending(Dir::new(1), Kind::Read));
     }
     (hits, pending)
 }

@@ -10,7 +10,7 @@ use board_state::BoardError;
 use export_machine::{Event, StepError};
 use heat_ledger::Share;
 use mds_board::Board;
-use mds_types::{Dir, Rank};
+use mds_types::{Dir, Kind, Rank};
 use naming::Naming;
 use rank_threads::{Gate, Work, WorkAnswer, WorkError};
 use std::alloc::{AllocError, Global};
@@ -23,10 +23,12 @@ fn rank(rt: &impl Abort, number: u8) -> Rank {
     Rank::new(number).ok_or("no rank").sure(rt)
 }
 
+/// A read of a directory.
 pub(crate) fn work(dir: u32, hits: u32) -> Work {
     Work {
         dir: Dir::new(dir),
         hits,
+        kind: Kind::Read,
     }
 }
 

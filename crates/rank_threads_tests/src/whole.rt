@@ -10,7 +10,7 @@ use authority_map::Publisher;
 use board_state::BoardParts;
 use heat_ledger::Share;
 use mds_board::Board;
-use mds_types::Dir;
+use mds_types::{Dir, Kind};
 use naming::Naming;
 use rank_threads::serve_with_totals;
 use std::alloc::Global;
@@ -34,7 +34,8 @@ fn serve_on<J: Naming + Send + Sync, M: Publisher<J> + Send, R: Abort + Threads 
     let mut board = board;
     board.make(alloc, Dir::ROOT, "a", 1).sure(rt);
     let (board, done) = serve_with_totals(rt, alloc, board, &JitterGate, &all, shares);
-    let totals = (board.begun(Dir::new(1)), board.counted(Dir::new(1)));
+    let dir = Dir::new(1);
+    let totals = (board.begun(dir), board.counted(dir, Kind::Read));
     board.end();
     assert!(rt; done.is_ok());
     totals

@@ -5,7 +5,7 @@ use authority_map::{MapReader, Publisher};
 use export_rounds::{Gate, Unsettled};
 use heat_ledger::Share;
 use mds_board::Board;
-use mds_types::Dir;
+use mds_types::{Dir, Kind};
 use naming::Naming;
 use std::alloc::{AllocError, Global};
 use std::marker::{Send, Sync};
@@ -36,6 +36,7 @@ fn script(alloc: Global, dir: u32, hits: u32, times: u32) -> Result<Vec<Work>, A
         script.push(Work {
             dir: Dir::new(dir),
             hits,
+            kind: Kind::Read,
         })?;
     }
     Ok(script)
@@ -71,8 +72,8 @@ pub(crate) fn total(answers: &[Vec<WorkAnswer>]) -> (u64, u64) {
 pub(crate) fn counts<J: Naming>(shares: &[Share<J>], dir: Dir) -> (u64, u64, u64) {
     let (mut hits, mut pending, mut begun): (u64, u64, u64) = (0, 0, 0);
     for share in shares {
-        hits = hits.wrapping_add(share.hits(dir));
-        pending = pending.wrapping_add(share.pending(dir));
+        hits = hits.wrapping_add(share.hits(dir, Kind::Read));
+        pending = pending.wrapping_add(share.pending(dir, Kind::Read));
         begun = begun.wrapping_add(share.begun(dir));
     }
     (hits, pending, begun)

@@ -13,7 +13,7 @@ use authority_map::Publisher;
 use board_state::BoardError;
 use export_threads::{OpenGate, OrderOutcome, Outcome};
 use mds_board::Board;
-use mds_types::Dir;
+use mds_types::{Dir, Kind};
 use naming::Naming;
 use rank_threads::WorkError;
 use std::alloc::{AllocError, Global};
@@ -78,7 +78,7 @@ pub(crate) fn serve_and_move<
     let (mut board, mut seats, told) = phase(rt, alloc, board, seats, tasks, &OpenGate);
     let (hits, pending, begun) = counts(&seats.shares, Dir::ROOT);
     same(rt, &(hits, begun), &total(&told.answers));
-    let counted = board.counted(Dir::ROOT).wrapping_add(pending);
+    let counted = board.counted(Dir::ROOT, Kind::Read).wrapping_add(pending);
     same(rt, &(counted, board.begun(Dir::ROOT)), &(hits, begun));
     holds_in(rt, stands(&board, &told.outcomes), &told.outcomes);
     let lacking = lacking(rt, &told);

@@ -14,7 +14,7 @@ use export_rounds::Unsettled;
 use export_threads::{OrderOutcome, Outcome};
 use heat_ledger::Share;
 use mds_board::{Board, History, Shown};
-use mds_types::Dir;
+use mds_types::{Dir, Kind};
 use naming::Naming;
 use std::alloc::Global;
 use std::marker::{Send, Sync};
@@ -48,8 +48,8 @@ pub(crate) fn hold<
     same(rt, &total(&told.answers), &(7, 2));
     let aborted = [OrderOutcome::TakenUp(Outcome::Aborted(0))];
     same(rt, &told.outcomes.as_slice(), &aborted.as_slice());
-    let counted = (board.counted(Dir::new(1)), board.counted(Dir::ROOT));
-    same(rt, &counted, &(5, 2));
+    same(rt, &board.counted(Dir::new(1), Kind::Read), &5);
+    same(rt, &board.counted(Dir::ROOT, Kind::Read), &2);
     replay(rt, alloc, &board);
     board.end();
 }
@@ -80,7 +80,8 @@ fn check<J: Naming, M: Publisher<J>>(
     wanted: (u64, u64),
 ) {
     let dir = Dir::new(1);
-    same(rt, &(board.counted(dir), board.begun(dir)), &wanted);
+    let counts = (board.counted(dir, Kind::Read), board.begun(dir));
+    same(rt, &counts, &wanted);
     let authority = board.cluster().authority(dir).unwrap_or(rank(63));
     for reader in readers {
         reader.learn(board.tell());
@@ -183,7 +184,7 @@ fn serve_whole<J: Naming + Send + Sync, M: Publisher<J> + Send, R: Abort + Threa
     let (board, done) = traffic_with_totals(
         rt, alloc, board, shares, readers, tasks, gate, gate, &mut none,
     );
-    let totals = (board.begun(Dir::ROOT), board.counted(Dir::ROOT));
+    let totals = (board.begun(Dir::ROOT), board.counted(Dir::ROOT, Kind::Read));
     board.end();
     assert!(rt; done.is_ok());
     same(rt, &totals, &(2, 7));

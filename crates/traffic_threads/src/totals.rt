@@ -58,10 +58,10 @@ pub fn traffic_with_totals<
     ensures begun { IfOk result.1 (λ t. (d : ℕ) → d < J.limit → at result.0.state.begun d
         ≡ at board.state.begun d + over_ranks (begun_on d) (map (λ s. s.items) tasks.entry.scripts.now)
         (map (λ a. a.items) t.ranks.answers.items)) }
-    ensures hits { IfOk result.1 (λ t. (d : ℕ) → d < J.limit
-        → at result.0.state.counted d + pending_of t.ranks.shares.items d
-        ≡ (at board.state.counted d + pending_of shares.items d)
-        + over_ranks (hits_on d) (map (λ s. s.items) tasks.entry.scripts.now)
+    ensures hits { IfOk result.1 (λ t. (e : ℕ) → e < J.limit + J.limit
+        → at result.0.state.counted e + pending_of t.ranks.shares.items e
+        ≡ (at board.state.counted e + pending_of shares.items e)
+        + over_ranks (hits_on e) (map (λ s. s.items) tasks.entry.scripts.now)
         (map (λ a. a.items) t.ranks.answers.items)) }
     ensures ended { IfOk result.1 (λ t. IsEndTold board result.0 t.ranks.ended) }
     ensures outcomes { IfOk result.1 (λ t. AreTold board result.0 tasks.entry.orders.now t.outcomes.items) }

@@ -12,7 +12,7 @@ use export_threads::export_phase;
 use heat_ledger::Share;
 use mds_board::Board;
 use mds_types::limits::DIR_LIMIT;
-use mds_types::{Dir, Order};
+use mds_types::{Dir, Kind, Order};
 use naming::Naming;
 use rank_threads::{OpenGate, serve_phase};
 use std::alloc::Global;
@@ -87,7 +87,7 @@ fn serve_alone<J: Naming, M: Publisher<J>>(
     for work in script {
         if let Ok(Reply::Ticket(ticket)) = board.begin(share, rank(number), work.dir) {
             for _ in 0..work.hits {
-                let _ = share.hit(work.dir);
+                let _ = share.hit(work.dir, work.kind);
             }
             let _ = board.step(alloc, Event::End(ticket));
         }
@@ -119,7 +119,7 @@ fn serve<J: Naming + Send + Sync, M: Publisher<J> + Send, R: Threads + Wait + Sy
 fn counted<J: Naming, M: Publisher<J>>(board: &Board<J, M>, ranks: u8, each: u32) -> u64 {
     let mut counted: u64 = 0;
     for number in 0..ranks {
-        counted = counted.saturating_add(board.counted(first_of(number, each)));
+        counted = counted.saturating_add(board.counted(first_of(number, each), Kind::Read));
     }
     counted
 }

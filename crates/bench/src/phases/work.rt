@@ -1,6 +1,6 @@
 //! What is done in a phase: orders, and requests with hits.
 
-use mds_types::{Dir, Dirs, Order, Rank};
+use mds_types::{Dir, Dirs, Kind, Order, Rank};
 use rank_threads::Work as Request;
 use std::alloc::{AllocError, Global};
 
@@ -121,6 +121,7 @@ fn script(alloc: Global, count: u32, request: Request) -> Result<Vec<Request>, A
         script.push(Request {
             dir: request.dir,
             hits: request.hits,
+            kind: request.kind,
         })?;
     }
     Ok(script)
@@ -136,8 +137,12 @@ pub fn scripts(
     let count = requests_of(ranks, hits);
     let mut scripts = Vec::new(alloc);
     for number in 0..ranks {
-        let dir = first_of(number, each);
-        scripts.push(script(alloc, count, Request { dir, hits })?)?;
+        let request = Request {
+            dir: first_of(number, each),
+            hits,
+            kind: Kind::Read,
+        };
+        scripts.push(script(alloc, count, request)?)?;
     }
     Ok(scripts)
 }
