@@ -22,7 +22,9 @@ Commands of a script, one a line:
   dir PATH INODES   make a directory
   rmdir PATH        remove a directory that has no child
   pin PATH RANK     set the export pin of a directory; RANK -1 removes it
-  load PATH HITS    queue a request with that many hits
+  load PATH HITS [KIND]
+                    queue a request with that many hits: reads, or writes if KIND is w
+  weight READ WRITE set how much a read and a write count, 1 to 16 each
   go                serve the queued requests
   tick              halve all heats
   cost [PATH ..]    print what the division at these directories costs

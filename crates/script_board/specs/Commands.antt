@@ -5,6 +5,7 @@ use Rattle.dirtree.specs.declared.tree_error.TreeError.{TreeError}
 use Rattle.dirtree.specs.declared.tree_error.TreeError.TheVariants.{BadName}
 use Rattle.dirtree.specs.Path as path
 use Rattle.export_machine.specs.declared.event.Event.TheVariants.{Stop, Restart}
+use Rattle.mds_types.specs.declared.kind.Kind.{Kind}
 use Rattle.mds_types.specs.Mask.{mask_bits}
 use Rattle.board_state.specs.declared.change.Change.{Change}
 use Rattle.board_state.specs.declared.change.Change.TheVariants.{Make, Remove, Mask, Tick, Step}
@@ -73,8 +74,13 @@ abbrev pub set_mask : BoardData → List ℕ → Result BoardData Fault
 set_mask b text = masked b (mask_bits text)
 
 -- a request waits
-abbrev pub load : BoardData → List ℕ → ℕ → Result BoardData Fault
-load b text hits = find b text >>= λ d. Ok (record b { loads = b.loads ++ record { dir = d; hits = hits } ∷ [] })
+abbrev pub load : BoardData → List ℕ → ℕ → Kind → Result BoardData Fault
+load b text hits kind =
+    find b text >>= λ d. Ok (record b { loads = b.loads ++ record { dir = d; hits = hits; kind = kind } ∷ [] })
+
+-- how much a read and a write count in deposits from now on
+abbrev pub set_weights : BoardData → ℕ → ℕ → Result BoardData Fault
+set_weights b read write = changed b (change.Weights read write)
 
 -- all heats are halved
 abbrev pub tick : BoardData → Result BoardData Fault

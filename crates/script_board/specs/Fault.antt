@@ -23,6 +23,7 @@ board_fault board.NoProblem = Refused board.NoProblem
 board_fault (board.Changed event) = Refused (board.Changed event)
 board_fault board.NotBest = Refused board.NotBest
 board_fault board.HistoryFull = Refused board.HistoryFull
+board_fault board.BadWeight = Refused board.BadWeight
 
 abbrev pub tree_fault : TreeError → Fault
 tree_fault e = board_fault (tree_refused e)

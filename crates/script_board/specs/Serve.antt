@@ -36,7 +36,7 @@ abbrev pub asked_rank : World → ℕ → ℕ → ℕ
 asked_rank w ranks d = if nat_lt (or_0 (rank_after w.published d)) ranks then or_0 (rank_after w.published d) else 0
 
 abbrev pub work_of : Load → Work
-work_of l = record { dir = l.dir; hits = l.hits }
+work_of l = record { dir = l.dir; hits = l.hits; kind = l.kind }
 
 -- the requests that are asked of a rank, in their order
 abbrev pub works_at : World → ℕ → ℕ → List Load → List Work
@@ -91,8 +91,9 @@ unless_done (Ok done) = []
 unless_done (Err error) = board_fault error ∷ []
 
 -- The waiting requests were served and the shares deposited, by a thread a rank. Each request has an answer, which is
--- what the board said when it was asked; the shares count what the answers name; and these refusals were met: those
--- of requests in the order of their loads, the first of an end, and the first of a deposit.
+-- what the board said when it was asked; the shares count what the answers name, the hits of each kind by themselves;
+-- and these refusals were met: those of requests in the order of their loads, the first of an end, and the first of a
+-- deposit.
 pub record IsServed (old : BoardData) (refused : List Fault) (new : BoardData) : Type 0 where
   pub scripts : List (List Work)
   pub seats : List Seat
@@ -106,8 +107,9 @@ pub record IsServed (old : BoardData) (refused : List Fault) (new : BoardData) :
   pub went : WentOn old.world new.world
   pub begun : (d : ℕ) → d < old.world.state.directories.limit → at new.world.state.begun d
       ≡ at old.world.state.begun d + over_ranks (begun_on d) scripts answers
-  pub counted : (d : ℕ) → d < old.world.state.directories.limit → at new.world.state.counted d + pending_of new.shares d
-      ≡ (at old.world.state.counted d + pending_of old.shares d) + over_ranks (hits_on d) scripts answers
+  pub counted : (e : ℕ) → e < old.world.state.directories.limit + old.world.state.directories.limit
+      → at new.world.state.counted e + pending_of new.shares e
+      ≡ (at old.world.state.counted e + pending_of old.shares e) + over_ranks (hits_on e) scripts answers
   pub told : refused ≡ refusals answers seats ++ unless_done ended ++ unless_done deposited
 
 -- The waiting requests were served, and none waits any more.

@@ -2,7 +2,7 @@
 ghost use Rattle.std.specs.Prelude.{◌≡◌, ◌<◌, IfErr, IfOk, OnErr, OnOk, Ok, Err, true};
 ghost use Rattle.dirtree.specs.Tree.{is_there};
 ghost use Rattle.script_board.specs.Commands.{find, load, make_dir, parent_path, remove_dir, replanned};
-ghost use Rattle.script_board.specs.Commands.{restart, set_mask, set_pin, stop, tick};
+ghost use Rattle.script_board.specs.Commands.{restart, set_mask, set_pin, set_weights, stop, tick};
 ghost use Rattle.script_board.specs.Fault.{IsDue};
 
 use crate::fault::Fault;
@@ -12,7 +12,7 @@ use authority_map::Publisher;
 use board_state::Change;
 use dirtree::TreeError;
 use export_machine::Event;
-use mds_types::{Dir, Rank, RankSet};
+use mds_types::{Dir, Kind, Rank, RankSet};
 use naming::Naming;
 use std::alloc::Global;
 
@@ -111,13 +111,23 @@ impl<J: Naming, M: Publisher<J>> ScriptBoard<J, M> {
     }
 
     /// Lets a request wait.
-    pub fn load(&mut self, path: &str, hits: u32) -> Result<(), Fault>
-        ensures done { OnOk result (load self.old path.now hits ≡ Ok self.new) }
-        ensures fault { IfErr result (IsDue (load self.old path.now hits)) }
+    pub fn load(&mut self, path: &str, hits: u32, kind: Kind) -> Result<(), Fault>
+        ensures done { OnOk result (load self.old path.now hits kind ≡ Ok self.new) }
+        ensures fault { IfErr result (IsDue (load self.old path.now hits kind)) }
         ensures unchanged { OnErr result (self.new ≡ self.old) }
     {
         let dir = self.find(path)?;
-        self.loads.push(Load { dir, hits })?;
+        self.loads.push(Load { dir, hits, kind })?;
+        Ok(())
+    }
+
+    /// Says how much a read and a write count in deposits from now on. The heat of earlier deposits stays.
+    pub fn set_weights(&mut self, read: u8, write: u8) -> Result<(), Fault>
+        ensures done { OnOk result (set_weights self.old read write ≡ Ok self.new) }
+        ensures fault { IfErr result (IsDue (set_weights self.old read write)) }
+        ensures unchanged { OnErr result (self.new ≡ self.old) }
+    {
+        self.board.set_weights(read, write)?;
         Ok(())
     }
 

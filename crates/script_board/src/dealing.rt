@@ -75,6 +75,7 @@ impl Dealt {
         script.push(Work {
             dir: load.dir,
             hits: load.hits,
+            kind: load.kind,
         })?;
         self.seats.push(Seat { rank, number })?;
         Ok(())

@@ -24,7 +24,7 @@ pub enum Fault {
     Mask,
     /// The board refused the change.
     Refused(BoardError),
-    /// The share of the rank that serves has counted 2^56 hits on the directory.
+    /// The share of the rank that serves has counted 2^56 hits of the request's kind on the directory.
     ShareFull,
     /// The system gave no thread for the rank.
     NoThread,

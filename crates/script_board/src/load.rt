@@ -1,6 +1,6 @@
 //! A request that waits to be served.
 
-use mds_types::Dir;
+use mds_types::{Dir, Kind};
 
 /// Hits on a directory that wait for the next `go`.
 #[derive(Clone, Copy, Debug, PartialEq, Eq)]
@@ -9,4 +9,6 @@ pub struct Load {
     pub dir: Dir,
     /// How many hits.
     pub hits: u32,
+    /// What they do to the directory.
+    pub kind: Kind,
 }

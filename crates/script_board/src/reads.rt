@@ -1,16 +1,17 @@
 //! What a report and a plan read of the board.
 ghost use Rattle.std.specs.Prelude.{◌≡◌, ◌<◌, ◌≤◌, [], IsTrue, OnErr, OnOk, length, slice_index};
-ghost use Rattle.std.specs.Prelude.{slice_index_or, string_bytes, true};
+ghost use Rattle.std.specs.Prelude.{string_bytes, true};
 ghost use Rattle.authority_map.specs.Operations.{rank_after};
 ghost use Rattle.dirtree.specs.Path.{path_of};
 ghost use Rattle.dirtree.specs.Tree.{is_there};
 ghost use Rattle.dir_pins.specs.Pins.{nearest_pin};
+ghost use Rattle.heat_ledger.specs.Rows.{at, entry};
 ghost use Rattle.board_state.specs.State.{usable};
 
 use crate::script_board::ScriptBoard;
 use authority_map::Publisher;
 use mds_board::Board;
-use mds_types::{Dir, Rank, RankSet};
+use mds_types::{Dir, Kind, Rank, RankSet};
 use naming::Naming;
 use std::alloc::{AllocError, Global};
 
@@ -81,11 +82,11 @@ impl<J: Naming, M: Publisher<J>> ScriptBoard<J, M> {
         self.board.heat_of(dir)
     }
 
-    /// The hits on a directory that were deposited.
-    pub fn hits_of(&self, dir: Dir) -> u64
-        ensures { result ≡ slice_index_or self.now.world.state.counted dir 0 }
+    /// The hits of a kind on a directory that were deposited.
+    pub fn hits_of(&self, dir: Dir, kind: Kind) -> u64
+        ensures { result ≡ at self.now.world.state.counted (entry dir kind) }
     {
-        self.board.counted(dir)
+        self.board.counted(dir, kind)
     }
 
     /// The rank that a reader of the map finds for a directory.

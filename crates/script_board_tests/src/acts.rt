@@ -8,7 +8,7 @@ use dirtree::TreeError;
 use export_machine::StepError;
 use export_rounds::Outcome;
 use export_threads::OrderOutcome;
-use mds_types::{Dir, Rank};
+use mds_types::{Dir, Kind, Rank};
 use naming::Naming;
 use script_board::{Fault, ScriptBoard};
 use std::alloc::Global;
@@ -24,7 +24,9 @@ pub(crate) enum Do {
     Remove(&'static str),
     Pin(&'static str, i32),
     Mask(&'static str),
-    Load(&'static str, u32),
+    Read(&'static str, u32),
+    Write(&'static str, u32),
+    Weigh(u8, u8),
     Tick,
     Stop(u8),
     Restart(u8),
@@ -35,6 +37,7 @@ pub(crate) enum Do {
 /// Why it is refused.
 #[derive(Clone, Copy)]
 pub(crate) enum Told {
+    BadWeight,
     BalancerOff,
     HistoryFull,
     NoDir,
@@ -54,8 +57,8 @@ pub(crate) enum Act {
     Go(&'static [Told]),
     /// This many orders are carried out, and each is done.
     Move(usize),
-    /// The hits on a directory.
-    Hits(u32, u64),
+    /// The reads and the writes of a directory.
+    Hits(u32, u64, u64),
     /// The rank that the map has for a directory.
     Named(u32, u8),
 }
@@ -67,6 +70,7 @@ pub(crate) fn number(number: u8) -> Rank {
 
 fn fault(told: Told) -> Fault {
     Fault::Refused(match told {
+        Told::BadWeight => BoardError::BadWeight,
         Told::BalancerOff => BoardError::BalancerOff,
         Told::HistoryFull => BoardError::HistoryFull,
         Told::NoDir => BoardError::Tree(TreeError::NoDir),
@@ -86,7 +90,9 @@ pub(crate) fn command<J: Naming, M: Publisher<J>, R: Threads + Sync>(
         Do::Remove(path) => board.remove_dir(path),
         Do::Pin(path, pin) => board.set_pin(path, pin),
         Do::Mask(text) => board.set_mask(text),
-        Do::Load(path, hits) => board.load(path, hits),
+        Do::Read(path, hits) => board.load(path, hits, Kind::Read),
+        Do::Write(path, hits) => board.load(path, hits, Kind::Write),
+        Do::Weigh(read, write) => board.set_weights(read, write),
         Do::Tick => board.tick(),
         Do::Stop(at) => board.stop(alloc, number(at)),
         Do::Restart(at) => board.restart(alloc, number(at)),
@@ -178,7 +184,14 @@ fn done<J: Naming + Send + Sync, M: Publisher<J> + Send, R: Abort + Threads + Wa
         Act::Ticks(ticks) => tick_often(&mut board, ticks),
         Act::Go(told) => board = gone(rt, alloc, board, row, told),
         Act::Move(count) => board = moved(rt, alloc, board, row, count),
-        Act::Hits(dir, hits) => same_in(rt, &board.hits_of(Dir::new(dir)), &hits, &row),
+        Act::Hits(dir, reads, writes) => {
+            let dir = Dir::new(dir);
+            let found = (
+                board.hits_of(dir, Kind::Read),
+                board.hits_of(dir, Kind::Write),
+            );
+            same_in(rt, &found, &(reads, writes), &row);
+        }
         Act::Named(dir, at) => {
             let named = board.rank_of(Dir::new(dir));
             same_in(rt, &named, &Some(number(at)), &row);
@@ -200,20 +213,23 @@ pub(crate) fn on_board<
     board.end();
 }
 
-/// Hits are counted once and heat their directory. A directory that isn't there takes none. A stopped rank refuses its
-/// requests, whose hits aren't counted, and serves again after its restart.
+/// Hits are counted once, those of each kind by themselves. A directory that isn't there takes none. A stopped rank
+/// refuses its requests, whose hits aren't counted, and serves again after its restart. Weights are 1 to 16.
 pub(crate) const HITS_AND_STOPS: &[Act] = &[
-    Act::Accepted(&[Do::Make("/a"), Do::Publish, Do::Load("/a", 5)]),
-    Act::Refused(Do::Load("/b", 5), Told::NoDir),
+    Act::Accepted(&[Do::Make("/a"), Do::Publish, Do::Read("/a", 5)]),
+    Act::Refused(Do::Write("/b", 5), Told::NoDir),
     Act::Go(&[]),
-    Act::Hits(1, 5),
+    Act::Hits(1, 5, 0),
     Act::Go(&[]),
-    Act::Hits(1, 5),
-    Act::Accepted(&[Do::Stop(0), Do::Load("/a", 2)]),
-    Act::Go(&[Told::Stopped(0)]),
-    Act::Accepted(&[Do::Restart(0), Do::Load("/a", 2)]),
+    Act::Hits(1, 5, 0),
+    Act::Accepted(&[Do::Stop(0), Do::Read("/a", 2), Do::Write("/a", 2)]),
+    Act::Go(&[Told::Stopped(0), Told::Stopped(0)]),
+    Act::Refused(Do::Weigh(0, 1), Told::BadWeight),
+    Act::Refused(Do::Weigh(1, 17), Told::BadWeight),
+    Act::Accepted(&[Do::Restart(0), Do::Weigh(16, 1)]),
+    Act::Accepted(&[Do::Write("/a", 3), Do::Read("/a", 2)]),
     Act::Go(&[]),
-    Act::Hits(1, 7),
+    Act::Hits(1, 7, 3),
 ];
 
 #[test]
@@ -221,14 +237,15 @@ fn hits_are_counted_where_a_rank_serves(rt: HostRuntime) {
     try_case(&rt, Case::HitsAndStops)
 }
 
-/// A pin moves a directory, and so does a plan, which needs a mask. The orders of a plan are carried out once.
+/// A pin moves a directory, and so does a plan, which needs a mask. The orders of a plan are carried out once, also
+/// after new weights.
 pub(crate) const PINS_AND_PLANS: &[Act] = &[
     Act::Accepted(&[Do::Make("/a"), Do::Make("/b"), Do::Pin("/a", 1)]),
     Act::Move(1),
     Act::Accepted(&[Do::Publish]),
     Act::Named(1, 1),
     Act::Refused(Do::Plan, Told::BalancerOff),
-    Act::Accepted(&[Do::Mask("0x2"), Do::Plan]),
+    Act::Accepted(&[Do::Mask("0x2"), Do::Plan, Do::Weigh(2, 2)]),
     Act::Move(1),
     Act::Move(0),
 ];
@@ -238,11 +255,13 @@ fn pins_and_plans_move_directories(rt: HostRuntime) {
     try_case(&rt, Case::PinsAndPlans)
 }
 
-/// A request's begin is the last event that has room in the history: its end is refused, and so are the deposits.
+/// A request's begin is the last event that has room in the history: its end is refused, and so are the deposits and
+/// all weights.
 pub(crate) const FULL_HISTORY: &[Act] = &[
     Act::Ticks(1_048_575),
-    Act::Accepted(&[Do::Load("/", 3)]),
+    Act::Accepted(&[Do::Read("/", 3)]),
     Act::Go(&[Told::HistoryFull, Told::HistoryFull]),
+    Act::Refused(Do::Weigh(0, 0), Told::HistoryFull),
 ];
 
 #[test]

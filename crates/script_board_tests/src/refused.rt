@@ -7,7 +7,7 @@ use crate::acts::{Do, command, number};
 use crate::cases::{Case, try_case};
 use crate::same::{holds_in, same, same_in};
 use authority_map::Publisher;
-use mds_types::{Dir, Rank, RankSet};
+use mds_types::{Dir, Kind, Rank, RankSet};
 use naming::Naming;
 use script_board::{Fault, ScriptBoard};
 use std::alloc::{AllocError, Global};
@@ -22,17 +22,18 @@ struct Reading {
     history: usize,
     numbers: u32,
     usable: RankSet,
-    dirs: [(u64, Option<Rank>, Option<Rank>); 3],
+    dirs: [(u64, u64, Option<Rank>, Option<Rank>); 3],
 }
 
-// The hits on a directory, its authority, and the rank that the map names.
+// The reads and the writes of a directory, its authority, and the rank that the map names.
 fn read_dir<J: Naming, M: Publisher<J>>(
     board: &mut ScriptBoard<J, M>,
     dir: Dir,
-) -> (u64, Option<Rank>, Option<Rank>) {
+) -> (u64, u64, Option<Rank>, Option<Rank>) {
     let named = board.rank_of(dir);
     (
-        board.hits_of(dir),
+        board.hits_of(dir, Kind::Read),
+        board.hits_of(dir, Kind::Write),
         board.board().cluster().authority(dir),
         named,
     )
@@ -123,7 +124,7 @@ fn served<J: Naming + Send + Sync, M: Publisher<J> + Send, R: Abort + Threads + 
     board: ScriptBoard<J, M>,
 ) -> ScriptBoard<J, M> {
     let mut board = board;
-    commands(rt, alloc, &mut board, &[Do::Publish, Do::Load("/b", 5)]);
+    commands(rt, alloc, &mut board, &[Do::Publish, Do::Write("/b", 5)]);
     let (board, refused) = gone(rt, alloc, board);
     let refused = refused.unwrap_or(Vec::new(alloc));
     assert!(rt;
@@ -132,12 +133,12 @@ fn served<J: Naming + Send + Sync, M: Publisher<J> + Send, R: Abort + Threads + 
             .all(|fault| matches!(*fault, Fault::Memory | Fault::NoThread))
     );
     let mut board = all_gone(rt, alloc, board);
-    if board.hits_of(Dir::new(2)) == 0 {
+    if board.hits_of(Dir::new(2), Kind::Write) == 0 {
         same(rt, &refused.len(), &1);
-        same(rt, &board.load("/b", 5), &Ok(()));
+        same(rt, &board.load("/b", 5, Kind::Write), &Ok(()));
         board = all_gone(rt, alloc, board);
     }
-    same(rt, &board.hits_of(Dir::new(2)), &5);
+    same(rt, &board.hits_of(Dir::new(2), Kind::Write), &5);
     board
 }
 
@@ -188,6 +189,7 @@ const BEGIN: &[Do] = &[
     Do::Remove("/a/c"),
     Do::Pin("/a", 1),
     Do::Mask("0x2"),
+    Do::Weigh(1, 4),
     Do::Stop(1),
     Do::Restart(1),
 ];

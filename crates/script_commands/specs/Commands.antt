@@ -3,8 +3,10 @@ use Rattle.std.specs.Prelude.{ℕ, ℤ, pos, negsuc, ◌+◌, ◌*◌, ◌-◌, 
 use Rattle.std.specs.Prelude.{if◌then◌else◌, ◌==◌, nat_lt, nat_le, List, [], ◌∷◌, filter, codes, Option, Some}
 use Rattle.std.specs.Prelude.{None}
 use Rattle.std.specs.List.{slice_split, list_all}
-use Rattle.std.specs.Option.{option_map}
+use Rattle.std.specs.Option.{option_and_then, option_map}
 use Rattle.std.specs.Str.{bytes_eq, all_ascii_digits}
+use Rattle.mds_types.specs.declared.kind.Kind.{Kind}
+use Rattle.mds_types.specs.declared.kind.Kind.TheVariants.{Read, Write}
 
 -- a space, a tab or a carriage return
 abbrev pub is_blank : ℕ → Bool
@@ -52,7 +54,8 @@ pub data Command : Type 0 where
   MakeDir : List ℕ → ℕ → Command
   RemoveDir : List ℕ → Command
   Pin : List ℕ → ℤ → Command
-  Load : List ℕ → ℕ → Command
+  Load : List ℕ → ℕ → Kind → Command
+  Weight : ℕ → ℕ → Command
   Go : Command
   Tick : Command
   Cost : List (List ℕ) → Command
@@ -83,9 +86,26 @@ abbrev pub pin : List (List ℕ) → Option Command
 pin (path ∷ value ∷ []) = option_map (Pin path) (pin_value value)
 pin fields = None
 
+-- the kind that a field names
+abbrev pub kind_named : List ℕ → Option Kind
+kind_named field =
+    if bytes_eq field (codes "r") then Some Read else if bytes_eq field (codes "w") then Some Write else None
+
+-- the kind of hits by the fields after their number; where it is left out, they are reads
+abbrev pub kind_of : List (List ℕ) → Option Kind
+kind_of [] = Some Read
+kind_of (field ∷ []) = kind_named field
+kind_of fields = None
+
 abbrev pub load : List (List ℕ) → Option Command
-load (path ∷ n ∷ []) = option_map (Load path) (number 1 1000000 n)
+load (path ∷ n ∷ rest) =
+    option_and_then (λ hits. option_map (Load path hits) (kind_of rest)) (number 1 1000000 n)
 load fields = None
+
+abbrev pub weight : List (List ℕ) → Option Command
+weight (read ∷ write ∷ []) =
+    option_and_then (λ r. option_map (Weight r) (number 0 255 write)) (number 0 255 read)
+weight fields = None
 
 -- the number of a rank
 abbrev pub rank_of : List ℕ → Option ℕ
@@ -113,6 +133,7 @@ command (word ∷ rest) =
     else if bytes_eq word (codes "rmdir") then remove_dir rest
     else if bytes_eq word (codes "pin") then pin rest
     else if bytes_eq word (codes "load") then load rest
+    else if bytes_eq word (codes "weight") then weight rest
     else if bytes_eq word (codes "go") then alone Go rest
     else if bytes_eq word (codes "tick") then alone Tick rest
     else if bytes_eq word (codes "cost") then Some (Cost rest)

@@ -2,14 +2,15 @@
 ghost use Rattle.std.specs.Prelude.{◌≡◌, ◌∷◌, bytes_eq, codes, map, IfOk, false, true};
 ghost use Rattle.std.specs.List.{list_all};
 ghost use Rattle.std.specs.Option.{option_map};
-ghost use Rattle.script_commands.specs.Commands.{alone, command, fields, is_plain, load, make_dir, mask, pin};
+ghost use Rattle.script_commands.specs.Commands.{alone, command, fields, is_plain, kind_named, kind_of};
+ghost use Rattle.script_commands.specs.Commands.{load, make_dir, mask, pin, weight};
 ghost use Rattle.script_commands.specs.Commands.{rank_of, ranks, remove_dir, restart, stop};
 ghost use Rattle.script_commands.specs.View.{view};
 
-use crate::fields::{fields, is_blank_line, one_field, text, two_fields};
+use crate::fields::{fields, is_blank_line, one_field, split_field, text, two_fields};
 use crate::number::{number, pin_value};
 use crate::rank_count::RankCount;
-use mds_types::Rank;
+use mds_types::{Kind, Rank};
 use std::alloc::{AllocError, Global};
 
 /// A command, with its texts as they are in the line.
@@ -24,8 +25,10 @@ pub enum Command<'a> {
     RemoveDir(&'a str),
     /// An export pin: a rank, or -1 to take the directory's own pin away.
     Pin(&'a str, i32),
-    /// One request that waits, with its hits, 1 to 1000000.
-    Load(&'a str, u32),
+    /// One request that waits, with its hits, 1 to 1000000, and their kind.
+    Load(&'a str, u32, Kind),
+    /// How much a read and a write count.
+    Weight(u8, u8),
     /// The waiting requests are served.
     Go,
     /// All heats are halved.
@@ -111,13 +114,45 @@ fn pin(rest: &[u8]) -> Option<Command<'_>>
     Some(Command::Pin(text(path), value))
 }
 
+/// The kind that a field names.
+pub(crate) fn kind_named(field: &[u8]) -> Option<Kind>
+    ensures { result ≡ kind_named field.now }
+{
+    match field {
+        b"r" => Some(Kind::Read),
+        b"w" => Some(Kind::Write),
+        _ => None,
+    }
+}
+
+// The kind of hits by what comes after their number.
+fn kind(rest: &[u8]) -> Option<Kind>
+    ensures { result ≡ kind_of (fields rest.now) }
+{
+    if is_blank_line(rest) {
+        return Some(Kind::Read);
+    }
+    kind_named(one_field(rest)?)
+}
+
 fn load(rest: &[u8]) -> Option<Command<'_>>
     requires { list_all (list_all is_plain) (fields rest.now) ≡ true }
     ensures { option_map view result ≡ load (fields rest.now) }
 {
-    let (path, hits) = two_fields(rest)?;
+    let (path, rest) = split_field(rest)?;
+    let (hits, rest) = split_field(rest)?;
     let hits = number(hits, 1, 1_000_000)?;
-    Some(Command::Load(text(path), hits))
+    let kind = kind(rest)?;
+    Some(Command::Load(text(path), hits, kind))
+}
+
+fn weight(rest: &[u8]) -> Option<Command<'_>>
+    ensures { option_map view result ≡ weight (fields rest.now) }
+{
+    let (read, write) = two_fields(rest)?;
+    let read = number(read, 0, 255)?;
+    let write = number(write, 0, 255)?;
+    Some(Command::Weight(read as u8, write as u8))
 }
 
 /// A command that has no fields after its word.
@@ -191,6 +226,8 @@ fn find_rarer_command<'a>(word: &[u8], rest: &'a [u8]) -> Option<Command<'a>>
         remove_dir(rest)
     } else if word == b"pin".as_slice() {
         pin(rest)
+    } else if word == b"weight".as_slice() {
+        weight(rest)
     } else if word == b"go".as_slice() {
         alone(Command::Go, rest)
     } else if word == b"tick".as_slice() {

@@ -2,94 +2,216 @@
 ghost use Rattle.std.specs.Prelude.{◌≡◌, ◌↔◌, IfOk, IsSome};
 ghost use Rattle.script_commands.specs.Commands.{Syntax, asked};
 
+use crate::command::kind_named;
 use crate::fields::{is_blank, is_field, is_plain_line};
 use crate::line::{Asked, read_line};
+use crate::number::{number, pin_value};
 use std::alloc::{AllocError, Global};
 use std::fmt;
 use std::fmt::Write as _;
 
+/// What a field may be.
+#[derive(Clone, Copy, Debug, PartialEq, Eq)]
+enum Rule {
+    /// Any text.
+    Any,
+    /// A number from one to another.
+    Within(u32, u32),
+    /// The value of an export pin.
+    PinValue,
+    /// The kind of hits, which can be left out.
+    KindName,
+}
+
+impl Rule {
+    fn allows(&self, field: &[u8]) -> bool {
+        match *self {
+            Rule::Any => true,
+            Rule::Within(low, high) => number(field, low, high).is_some(),
+            Rule::PinValue => pin_value(field).is_some(),
+            Rule::KindName => kind_named(field).is_some(),
+        }
+    }
+}
+
+impl fmt::Display for Rule {
+    fn fmt<W: fmt::Write>(&self, f: &mut fmt::Formatter<W>) -> fmt::Result {
+        match *self {
+            Rule::Any => f.write_str("any text"),
+            Rule::Within(low, high) => write!(f, "{low} to {high}"),
+            Rule::PinValue => f.write_str("-1, or 0 to 2147483647"),
+            Rule::KindName => f.write_str("r or w"),
+        }
+    }
+}
+
+/// A field after a command's word.
+#[derive(Clone, Copy, Debug, PartialEq, Eq)]
+struct Field {
+    name: &'static str,
+    rule: Rule,
+}
+
+impl Field {
+    fn can_be_left_out(&self) -> bool {
+        matches!(self.rule, Rule::KindName)
+    }
+}
+
+const PATH: Field = Field {
+    name: "PATH",
+    rule: Rule::Any,
+};
+
+const ACTIVE: Field = Field {
+    name: "N",
+    rule: Rule::Within(1, 64),
+};
+
+const MASK: Field = Field {
+    name: "MASK",
+    rule: Rule::Any,
+};
+
+const INODES: Field = Field {
+    name: "INODES",
+    rule: Rule::Within(0, u32::MAX),
+};
+
+const PIN: Field = Field {
+    name: "RANK",
+    rule: Rule::PinValue,
+};
+
+const HITS: Field = Field {
+    name: "HITS",
+    rule: Rule::Within(1, 1_000_000),
+};
+
+const KIND: Field = Field {
+    name: "KIND",
+    rule: Rule::KindName,
+};
+
+const READ: Field = Field {
+    name: "READ",
+    rule: Rule::Within(0, 255),
+};
+
+const WRITE: Field = Field {
+    name: "WRITE",
+    rule: Rule::Within(0, 255),
+};
+
+const RANK: Field = Field {
+    name: "RANK",
+    rule: Rule::Within(0, 63),
+};
+
 /// What a line of a command has.
 #[derive(Clone, Copy, Debug, PartialEq, Eq)]
 pub struct Form {
-    /// The command's word, and a name for each field after it.
-    usage: &'static str,
-    /// What the last field may be, where that is a number, otherwise nothing.
-    number: &'static str,
+    word: &'static str,
+    /// The fields after the word.
+    fields: &'static [Field],
 }
 
 // A line of `cost` has any number of fields, so none is faulty.
-const FORMS: [Form; 13] = [
+const FORMS: [Form; 14] = [
     Form {
-        usage: "ranks N",
-        number: "1 to 64",
+        word: "ranks",
+        fields: &[ACTIVE],
     },
     Form {
-        usage: "mask MASK",
-        number: "",
+        word: "mask",
+        fields: &[MASK],
     },
     Form {
-        usage: "dir PATH INODES",
-        number: "0 to 4294967295",
+        word: "dir",
+        fields: &[PATH, INODES],
     },
     Form {
-        usage: "rmdir PATH",
-        number: "",
+        word: "rmdir",
+        fields: &[PATH],
     },
     Form {
-        usage: "pin PATH RANK",
-        number: "-1, or 0 to 2147483647",
+        word: "pin",
+        fields: &[PATH, PIN],
     },
     Form {
-        usage: "load PATH HITS",
-        number: "1 to 1000000",
+        word: "load",
+        fields: &[PATH, HITS, KIND],
     },
     Form {
-        usage: "go",
-        number: "",
+        word: "weight",
+        fields: &[READ, WRITE],
     },
     Form {
-        usage: "tick",
-        number: "",
+        word: "go",
+        fields: &[],
     },
     Form {
-        usage: "plan",
-        number: "",
+        word: "tick",
+        fields: &[],
     },
     Form {
-        usage: "move",
-        number: "",
+        word: "plan",
+        fields: &[],
     },
     Form {
-        usage: "stop RANK",
-        number: "0 to 63",
+        word: "move",
+        fields: &[],
     },
     Form {
-        usage: "restart RANK",
-        number: "0 to 63",
+        word: "stop",
+        fields: &[RANK],
     },
     Form {
-        usage: "stat",
-        number: "",
+        word: "restart",
+        fields: &[RANK],
+    },
+    Form {
+        word: "stat",
+        fields: &[],
     },
 ];
 
 impl Form {
-    fn word(&self) -> &'static str {
-        self.usage.split(' ').next().unwrap_or("")
+    // How many fields a line has at least, with the word.
+    fn least_count(&self) -> usize {
+        let mut least = 1usize;
+        for field in self.fields {
+            if !field.can_be_left_out() {
+                least = least.saturating_add(1);
+            }
+        }
+        least
     }
 
-    fn last_name(&self) -> &'static str {
-        self.usage.split(' ').last().unwrap_or("")
+    // How many fields a line has at most, with the word.
+    fn most_count(&self) -> usize {
+        self.fields.len().saturating_add(1)
     }
+}
 
-    fn field_count(&self) -> usize {
-        self.usage.split(' ').count()
+impl fmt::Display for Form {
+    fn fmt<W: fmt::Write>(&self, f: &mut fmt::Formatter<W>) -> fmt::Result {
+        f.write_str(self.word)?;
+        for field in self.fields {
+            let name = field.name;
+            if field.can_be_left_out() {
+                write!(f, " [{name}]")?;
+            } else {
+                write!(f, " {name}")?;
+            }
+        }
+        Ok(())
     }
 }
 
 fn form_of(word: &[u8]) -> Option<Form> {
     for form in FORMS {
-        if form.word().as_bytes() == word {
+        if form.word.as_bytes() == word {
             return Some(form);
         }
     }
@@ -105,8 +227,15 @@ pub enum LineFault<'a> {
     Unknown(&'a [u8]),
     /// A line of this form has another number of fields than are there.
     FieldCount(Form, usize),
-    /// This field is no number that the form allows.
-    Number(Form, &'a [u8]),
+    /// The form doesn't allow what is in the place of this field.
+    Refused(Form, RefusedField<'a>),
+}
+
+/// A field, and what is in its place.
+#[derive(Clone, Copy, Debug, PartialEq, Eq)]
+pub struct RefusedField<'a> {
+    field: Field,
+    found: &'a [u8],
 }
 
 // The fault of a line that spells no command.
@@ -126,11 +255,31 @@ fn fault_of(line: &[u8]) -> LineFault<'_> {
         count = count.saturating_add(1);
     }
     let word = word.unwrap_or(b"");
-    match form_of(word) {
-        None => LineFault::Unknown(word),
-        Some(form) if form.field_count() != count => LineFault::FieldCount(form, count),
-        Some(form) => LineFault::Number(form, last),
+    let Some(form) = form_of(word) else {
+        return LineFault::Unknown(word);
+    };
+    if count >= form.least_count() && count <= form.most_count() {
+        if let Some(refused) = first_refused(&form, line) {
+            return LineFault::Refused(form, refused);
+        }
     }
+    LineFault::FieldCount(form, count)
+}
+
+// The first field that a form doesn't allow.
+fn first_refused<'a>(form: &Form, line: &'a [u8]) -> Option<RefusedField<'a>> {
+    let found = line
+        .split(|byte| is_blank(*byte))
+        .filter(|part| is_field(part));
+    for (field, found) in form.fields.iter().zip(found.skip(1)) {
+        if !field.rule.allows(found) {
+            return Some(RefusedField {
+                field: *field,
+                found,
+            });
+        }
+    }
+    None
 }
 
 /// Why a line spells no command, where it is none and isn't skipped. Only memory can be refused.
@@ -183,10 +332,12 @@ impl fmt::Display for LineFault<'_> {
                 write!(f, "unknown command \"{field}\"")
             }
             LineFault::FieldCount(form, count) => write_field_count(f, &form, count),
-            LineFault::Number(form, field) => {
-                let (usage, name, rule) = (form.usage, form.last_name(), form.number);
-                let field = Quoted { field };
-                write!(f, "{usage}: {name} is {field}, and must be {rule}")
+            LineFault::Refused(form, refused) => {
+                let (name, rule) = (refused.field.name, refused.field.rule);
+                let field = Quoted {
+                    field: refused.found,
+                };
+                write!(f, "{form}: {name} is {field}, and must be {rule}")
             }
         }
     }
@@ -197,15 +348,12 @@ fn write_field_count<W: fmt::Write>(
     form: &Form,
     count: usize,
 ) -> fmt::Result {
-    let (usage, needed) = (form.usage, form.field_count());
-    let needed_verb = if needed == 1 {
-        "field is"
-    } else {
-        "fields are"
-    };
+    let (least, most) = (form.least_count(), form.most_count());
+    write!(f, "{form}: {least} ")?;
+    if least < most {
+        write!(f, "or {most} ")?;
+    }
+    let needed_verb = if most == 1 { "field is" } else { "fields are" };
     let verb = if count == 1 { "is" } else { "are" };
-    write!(
-        f,
-        "{usage}: {needed} {needed_verb} needed, {count} {verb} there"
-    )
+    write!(f, "{needed_verb} needed, {count} {verb} there")
 }

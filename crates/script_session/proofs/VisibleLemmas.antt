@@ -93,7 +93,8 @@ module _ (b : BoardData) (ops : List Operation) where
   like_on_board (line.MakeDir path inodes) sure = like_silent _ _ (like_made inodes (last_slash path))
   like_on_board (line.RemoveDir path) sure = like_silent _ _ (like_bound (find b path) _ _ (λ d. like_replanned (change.Remove d)))
   like_on_board (line.Pin path value) sure = like_silent _ _ (like_bound (find b path) _ _ (λ d. like_replanned (change.Pin d value)))
-  like_on_board (line.Load path hits) sure = like_silent _ _ (like_bound (find b path) _ _ (λ d. (ops, refl)))
+  like_on_board (line.Load path hits kind) sure = like_silent _ _ (like_bound (find b path) _ _ (λ d. (ops, refl)))
+  like_on_board (line.Weight read write) sure = like_silent _ _ (like_changed _)
   like_on_board line.Go sure = cc
   like_on_board line.Tick sure = like_silent _ _ (like_changed change.Tick)
   like_on_board (line.Cost paths) sure = like_cost paths

@@ -9,7 +9,8 @@ use Rattle.script_commands.specs.Commands.{Command}
 use Rattle.script_board.specs.declared.fault.Fault.{Fault}
 use Rattle.script_board.specs.declared.fault.Fault.TheVariants.{RanksAgain, Memory}
 use Rattle.script_board.specs.Board.{BoardData}
-use Rattle.script_board.specs.Commands.{load, make_dir, remove_dir, restart, set_mask, set_pin, stop, tick}
+use Rattle.script_board.specs.Commands.{load, make_dir, remove_dir, restart, set_mask, set_pin, set_weights}
+use Rattle.script_board.specs.Commands.{stop, tick}
 use Rattle.script_board.specs.Cost.{cost}
 use Rattle.script_board.specs.Move.{IsMoved}
 use Rattle.script_board.specs.Plan.{IsPlanned, plan_due}
@@ -47,7 +48,8 @@ meaning (line.Mask text) = Changes (λ b. set_mask b text)
 meaning (line.MakeDir path inodes) = Changes (λ b. make_dir b path inodes)
 meaning (line.RemoveDir path) = Changes (λ b. remove_dir b path)
 meaning (line.Pin path value) = Changes (λ b. set_pin b path value)
-meaning (line.Load path hits) = Changes (λ b. load b path hits)
+meaning (line.Load path hits kind) = Changes (λ b. load b path hits kind)
+meaning (line.Weight read write) = Changes (λ b. set_weights b read write)
 meaning line.Go = Serves
 meaning line.Tick = Changes tick
 meaning (line.Cost paths) = Prints (λ b. costed b (cost b paths))

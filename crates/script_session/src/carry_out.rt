@@ -86,7 +86,8 @@ pub fn change<J: Naming, M: Publisher<J>, R: Threads + Sync>(
         Command::MakeDir(path, inodes) => board.make_dir(alloc, path, inodes)?,
         Command::RemoveDir(path) => board.remove_dir(path)?,
         Command::Pin(path, pin) => board.set_pin(path, pin)?,
-        Command::Load(path, hits) => board.load(path, hits)?,
+        Command::Load(path, hits, kind) => board.load(path, hits, kind)?,
+        Command::Weight(read, write) => board.set_weights(read, write)?,
         Command::Tick => board.tick()?,
         Command::Stop(rank) => board.stop(alloc, rank)?,
         Command::Restart(rank) => board.restart(alloc, rank)?,
@@ -118,7 +119,7 @@ pub fn change_quietly<J: Naming, M: Publisher<J>>(
 {
     match command {
         Command::MakeDir(path, inodes) => Some(board.make_dir(alloc, path, *inodes)),
-        Command::Load(path, hits) => Some(board.load(path, *hits)),
+        Command::Load(path, hits, kind) => Some(board.load(path, *hits, *kind)),
         _ => None,
     }
 }

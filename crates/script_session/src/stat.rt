@@ -6,7 +6,7 @@ ghost use Rattle.script_session.specs.Stat.{cluster_line, dir_line, rank_text};
 
 use authority_map::Publisher;
 use itoa::Buffer;
-use mds_types::{Dir, Rank};
+use mds_types::{Dir, Kind, Rank};
 use naming::Naming;
 use script_board::ScriptBoard;
 use std::alloc::{AllocError, Global};
@@ -46,11 +46,13 @@ pub(crate) fn dir_line<J: Naming, M: Publisher<J>>(
     let pin = rank_text(&mut pin_buffer, board.pin_of(dir));
     let rank = rank_text(&mut rank_buffer, board.rank_of(dir));
     let heat = board.heat_of(dir);
-    let hits = board.hits_of(dir);
+    let reads = board.hits_of(dir, Kind::Read);
+    let writes = board.hits_of(dir, Kind::Write);
+    let hits = reads as u128 + writes as u128;
     line.clear();
     write!(
         line,
-        "dir {number} {path} pin {pin} rank {rank} heat {heat} hits {hits}\n"
+        "dir {number} {path} pin {pin} rank {rank} heat {heat} hits {hits} writes {writes}\n"
     )
 }
 

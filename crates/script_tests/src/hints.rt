@@ -38,19 +38,43 @@ const FAULTS: &[(&[u8], &str)] = &[
     ),
     (
         b"load /a 0",
-        "load PATH HITS: HITS is 0, and must be 1 to 1000000",
+        "load PATH HITS [KIND]: HITS is 0, and must be 1 to 1000000",
     ),
     (
         b"load /a +7",
-        "load PATH HITS: HITS is +7, and must be 1 to 1000000",
+        "load PATH HITS [KIND]: HITS is +7, and must be 1 to 1000000",
     ),
     (
         b"load /a 1000001",
-        "load PATH HITS: HITS is 1000001, and must be 1 to 1000000",
+        "load PATH HITS [KIND]: HITS is 1000001, and must be 1 to 1000000",
     ),
     (
         b"load /a 7 7",
-        "load PATH HITS: 3 fields are needed, 4 are there",
+        "load PATH HITS [KIND]: KIND is 7, and must be r or w",
+    ),
+    (
+        b"load /a 0 w",
+        "load PATH HITS [KIND]: HITS is 0, and must be 1 to 1000000",
+    ),
+    (
+        b"load /a",
+        "load PATH HITS [KIND]: 3 or 4 fields are needed, 2 are there",
+    ),
+    (
+        b"load /a 7 r w",
+        "load PATH HITS [KIND]: 3 or 4 fields are needed, 5 are there",
+    ),
+    (
+        b"weight 1",
+        "weight READ WRITE: 3 fields are needed, 2 are there",
+    ),
+    (
+        b"weight 256 x",
+        "weight READ WRITE: READ is 256, and must be 0 to 255",
+    ),
+    (
+        b"weight 0 256",
+        "weight READ WRITE: WRITE is 256, and must be 0 to 255",
     ),
     (b"go /a", "go: 1 field is needed, 2 are there"),
     (b"tick 1", "tick: 1 field is needed, 2 are there"),
@@ -103,6 +127,8 @@ const FAULTLESS: &[&[u8]] = &[
     b"ranks 064",
     b"pin /a -1",
     b"load /a 1000000",
+    b"load /a 1 w",
+    b"weight 0 255",
     b"cost",
     b"mask none",
 ];

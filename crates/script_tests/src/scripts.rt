@@ -117,21 +117,21 @@ const ANSWERS: &[(&str, bool, &str)] = &[
     (
         "ranks 2\nmask 0x3\ndir /p 1\ndir /p/q 1\npin /p 1\npin /p/q 0\npin /p/q -1\nstat\n",
         true,
-        "stat ranks 2 usable 2 directories 3\ndir 0 / pin - rank 0 heat 0 hits 0\n\
-         dir 1 /p pin 1 rank 0 heat 0 hits 0\ndir 2 /p/q pin 1 rank 0 heat 0 hits 0\n",
+        "stat ranks 2 usable 2 directories 3\ndir 0 / pin - rank 0 heat 0 hits 0 writes 0\n\
+         dir 1 /p pin 1 rank 0 heat 0 hits 0 writes 0\ndir 2 /p/q pin 1 rank 0 heat 0 hits 0 writes 0\n",
     ),
     (
         "ranks 2\nmask -1\ndir /a 1\nload /a 7\ngo\ntick\nstat\ntick\ntick\nstat\n",
         true,
-        "stat ranks 2 usable 2 directories 2\ndir 0 / pin - rank 0 heat 0 hits 0\n\
-         dir 1 /a pin - rank 0 heat 3 hits 7\nstat ranks 2 usable 2 directories 2\n\
-         dir 0 / pin - rank 0 heat 0 hits 0\ndir 1 /a pin - rank 0 heat 0 hits 7\n",
+        "stat ranks 2 usable 2 directories 2\ndir 0 / pin - rank 0 heat 0 hits 0 writes 0\n\
+         dir 1 /a pin - rank 0 heat 3 hits 7 writes 0\nstat ranks 2 usable 2 directories 2\n\
+         dir 0 / pin - rank 0 heat 0 hits 0 writes 0\ndir 1 /a pin - rank 0 heat 0 hits 7 writes 0\n",
     ),
     (
         "ranks 2\nload / 5\ngo\nmask 0x1\nstat\nmask 0xfC\nstat\n",
         true,
-        "stat ranks 2 usable 1 directories 1\ndir 0 / pin - rank 0 heat 5 hits 5\n\
-         stat ranks 2 usable 0 directories 1\ndir 0 / pin - rank 0 heat 5 hits 5\n",
+        "stat ranks 2 usable 1 directories 1\ndir 0 / pin - rank 0 heat 5 hits 5 writes 0\n\
+         stat ranks 2 usable 0 directories 1\ndir 0 / pin - rank 0 heat 5 hits 5 writes 0\n",
     ),
     (
         "ranks 2\ndir /a 1\ndir /a 1\ndir /a/b 1\nrmdir /a\nrmdir /\nrmdir /c\nmask 0x\nmask 0x+1\nmask\n\
@@ -145,8 +145,31 @@ const ANSWERS: &[(&str, bool, &str)] = &[
     (
         "ranks 1\ndir /a 1\nload /a 3\nload / 2\nrmdir /a\ngo\ndir /a 1\nstat\n",
         true,
-        "stat ranks 1 usable 0 directories 2\ndir 0 / pin - rank 0 heat 2 hits 2\n\
-         dir 2 /a pin - rank 0 heat 0 hits 0\n",
+        "stat ranks 1 usable 0 directories 2\ndir 0 / pin - rank 0 heat 2 hits 2 writes 0\n\
+         dir 2 /a pin - rank 0 heat 0 hits 0 writes 0\n",
+    ),
+    // A write counts as 4 accesses. The weights set after `go` leave the heat as it is.
+    (
+        "ranks 2\nmask 0x3\ndir /a 1\nweight 1 4\nload /a 3\nload /a 2 w\ngo\nweight 16 16\nstat\nweight 0 4\n",
+        false,
+        "stat ranks 2 usable 2 directories 2\ndir 0 / pin - rank 0 heat 0 hits 0 writes 0\n\
+         dir 1 /a pin - rank 0 heat 11 hits 5 writes 2\nline 10: refused 37 BadWeight\n",
+    ),
+    (
+        "weight 1 1\nranks 2\ndir /a 1\nload /a 3 x\nload /a 3 r\nload /a 1 w w\nweight 256 1\nweight 1\n\
+         weight 17 1\nweight 1 0\nweight 16 255\nweight 16 16\ngo\nstat\n",
+        false,
+        "line 1: no ranks\nline 4: syntax\nline 6: syntax\nline 7: syntax\nline 8: syntax\n\
+         line 9: refused 37 BadWeight\nline 10: refused 37 BadWeight\nline 11: refused 37 BadWeight\n\
+         stat ranks 2 usable 0 directories 2\ndir 0 / pin - rank 0 heat 0 hits 0 writes 0\n\
+         dir 1 /a pin - rank 0 heat 48 hits 3 writes 0\n",
+    ),
+    // Hits are weighed when they are deposited: with 1 and 4 first, and then with 5 and 1.
+    (
+        "ranks 1\nweight 1 4\nload / 2\nload / 3 w\ngo\nweight 5 1\ngo\nstat\nload / 2\nload / 3 w\ngo\nstat\n",
+        true,
+        "stat ranks 1 usable 0 directories 1\ndir 0 / pin - rank 0 heat 14 hits 5 writes 3\n\
+         stat ranks 1 usable 0 directories 1\ndir 0 / pin - rank 0 heat 27 hits 10 writes 6\n",
     ),
 ];
 

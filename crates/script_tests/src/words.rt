@@ -108,6 +108,8 @@ const HELP_WORDS: &[&str] = &[
     "--strict         End the run with the first faulty line",
     "--proofs <FILE>  File to write the certificates",
     "--quiet          Write no hints",
+    "load PATH HITS [KIND]",
+    "weight READ WRITE set how much a read and a write count",
     "stat              print a report",
     "3  a read or a write failed",
 ];

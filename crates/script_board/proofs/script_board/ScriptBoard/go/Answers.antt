@@ -1,4 +1,4 @@
-use Rattle.std.proofs.Common.{◌≡◌, ◌<◌, ◌≤◌, ℕ, List, Vec, Global, [], ◌++◌, length, map, refl, sym, subst, ap, arith, ◌∙◌}
+use Rattle.std.proofs.Common.{◌≡◌, ◌<◌, ◌≤◌, ◌+◌, ℕ, List, Vec, Global, [], ◌++◌, length, map, refl, sym, subst, ap, arith, ◌∙◌}
 use Rattle.std.proofs.lemmas.List.{length-map}
 use Rattle.heat_ledger.specs.Ledger.{ShareData, weight_of}
 use Rattle.mds_board.specs.History.{World}
@@ -59,7 +59,7 @@ returns-clause-done g c =
         end_told = rw c.in-Ok-done.is at c.serve_with_totals-board.ensures.ended;
         went = c.serve_with_totals-board.ensures.board;
         begun = λ d inside. (let all = rw c.in-Ok-done.is at c.serve_with_totals-board.ensures.begun in all d (subst (λ (n : ℕ). d < n) (sym limit) inside));
-        counted = λ d inside. (let all = rw c.in-Ok-done.is at c.serve_with_totals-board.ensures.hits in all d (subst (λ (n : ℕ). d < n) (sym limit) inside));
+        counted = λ e inside. (let all = rw c.in-Ok-done.is at c.serve_with_totals-board.ensures.hits in all e (subst (λ (n : ℕ). e < n + n) (sym limit) inside));
         told = c.told-shares.ensures.told;
       },
       c.clear.ensures.items,
