@@ -1,5 +1,5 @@
 //! Heat of directory fragments: what a rank answers to `dump loads`.
-ghost use Rattle.std.specs.Prelude.{◌≤◌, All, IfOk};
+ghost use Rattle.std.specs.Prelude.{◌*◌, ◌≤◌, All, IfOk};
 ghost use Rattle.mds_types.specs.declared.limits.TheConstants.{HEAT_LIMIT};
 
 use crate::dump_error::DumpError;
@@ -13,6 +13,9 @@ use std::num::saturating_f64_to_u64;
 
 /// What Ceph's balancer makes of reads, writes, readdirs, fetches and stores.
 const WEIGHTS: [f64; 5] = [1.0, 2.0, 1.0, 2.0, 4.0];
+
+/// How many writes, of a weight of 2 each, are in each of them.
+const WRITES: [f64; 5] = [0.0, 1.0, 0.0, 0.0, 2.0];
 
 /// The counters of a fragment: reads, writes, readdirs, fetches and stores.
 type Counters = Objects<Member<f64>>;
@@ -65,9 +68,10 @@ impl Members for Fragment {
     ) -> Result<FragmentHeat, F::Error> {
         let path = present(self.path.as_deref(), "path", from)?;
         let counters = present(self.counters.as_ref(), "pop_me", from)?;
-        let heat = heat_of(counters.0.0.as_slice());
+        let heat = heat_of(counters.0.0.as_slice(), &WEIGHTS);
+        let writes = heat_of(counters.0.0.as_slice(), &WRITES);
         match narrowed(alloc, path.as_bytes()) {
-            Ok(path) => Ok(FragmentHeat { path, heat }),
+            Ok(path) => Ok(FragmentHeat { path, heat, writes }),
             Err(_) => Err(from.no_memory()),
         }
     }
@@ -94,29 +98,34 @@ pub struct FragmentHeat {
     pub path: Vec<u8>,
     /// Its own heat, without what is below, in thousandths.
     pub heat: u64,
+    /// What of it comes from writes, before weighing, in thousandths. In the heat it counts twice.
+    pub writes: u64,
 }
 
-/// The heat of five counters, in thousandths.
-fn heat_of(counters: &[Member<f64>]) -> u64 {
+/// The heat of five counters by these weights, in thousandths.
+fn heat_of(counters: &[Member<f64>], weights: &[f64]) -> u64 {
     let mut heat = 0.0;
-    for (counter, weight) in counters.iter().zip(WEIGHTS.as_slice()) {
+    for (counter, weight) in counters.iter().zip(weights) {
         heat += counter.0 * *weight;
     }
     saturating_f64_to_u64(heat * 1000.0)
 }
 
-/// Puts each heat that is past the limit at the limit.
+/// Puts each heat that is past the limit at the limit, and lets no more of it come from writes than there is.
 fn limit(fragments: &mut [FragmentHeat])
-    ensures { All (λ fragment. fragment.heat ≤ HEAT_LIMIT) fragments.new }
+    ensures heat { All (λ fragment. fragment.heat ≤ HEAT_LIMIT) fragments.new }
+    ensures writes { All (λ fragment. 2 * fragment.writes ≤ fragment.heat) fragments.new }
 {
     for fragment in fragments {
         fragment.heat = fragment.heat.min(HEAT_LIMIT);
+        fragment.writes = fragment.writes.min(fragment.heat / 2);
     }
 }
 
 /// The heat of each directory fragment that a rank names.
 pub fn read_loads(alloc: Global, bytes: &[u8]) -> Result<Vec<FragmentHeat>, DumpError>
-    ensures { IfOk result (λ found. All (λ fragment. fragment.heat ≤ HEAT_LIMIT) found.items) }
+    ensures heat { IfOk result (λ found. All (λ fragment. fragment.heat ≤ HEAT_LIMIT) found.items) }
+    ensures writes { IfOk result (λ found. All (λ fragment. 2 * fragment.writes ≤ fragment.heat) found.items) }
 {
     let Member(Objects(mut found)): Member<Objects<FragmentHeat>> = read_json(alloc, bytes)?;
     limit(&mut found);

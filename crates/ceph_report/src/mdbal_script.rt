@@ -1,7 +1,7 @@
 //! The same directories as a script of `mdbal`.
 //!
 //! Names hold bytes from 0x21 to 0x7e there: others, and `%`, are written as `%` and
-//! two hexadecimal digits. Heat is in hundredths.
+//! two hexadecimal digits. Heat is in hundredths: reads and twice the writes.
 
 use crate::text::{push_hexadecimal, push_number, push_text};
 use ceph_snapshot::{Directory, Held};
@@ -22,8 +22,14 @@ fn push_byte(script: &mut Vec<u8>, byte: u8) -> Result<(), AllocError> {
     }
 }
 
-/// Adds a line: a word, a path and a number.
-fn push_line(script: &mut Vec<u8>, word: &str, path: &[u8], number: u64) -> Result<(), AllocError> {
+/// Adds a line: a word, a path, a number and how it ends.
+fn push_line(
+    script: &mut Vec<u8>,
+    word: &str,
+    path: &[u8],
+    number: u64,
+    end: &str,
+) -> Result<(), AllocError> {
     push_text(script, word)?;
     if path.is_empty() {
         push_text(script, "/")?;
@@ -32,7 +38,7 @@ fn push_line(script: &mut Vec<u8>, word: &str, path: &[u8], number: u64) -> Resu
         push_byte(script, *byte)?;
     }
     push_number(script, " ", number)?;
-    push_text(script, "\n")
+    push_text(script, end)
 }
 
 /// Adds the lines that make a directory, and pin it where it is held but its parent isn't.
@@ -46,24 +52,34 @@ fn push_directory(
     let above = above.unwrap_or(Held::Free);
     let path = directory.path.as_slice();
     let inodes = directory.inodes.min(u64::from(u32::MAX));
-    push_line(script, "dir ", path, inodes)?;
+    push_line(script, "dir ", path, inodes, "\n")?;
     match hold.rank() {
-        Some(rank) if hold != above => push_line(script, "pin ", path, u64::from(rank.number())),
+        Some(rank) if hold != above => {
+            push_line(script, "pin ", path, u64::from(rank.number()), "\n")
+        }
         _ => Ok(()),
     }
 }
 
-/// Adds the lines that load a directory, as many as its heat takes.
-fn push_load(script: &mut Vec<u8>, path: &[u8], heat: u64) -> Result<(), AllocError> {
-    let hits = heat / 10;
+/// Adds the lines that load a directory with hits of one kind, as many as they take.
+fn push_hits(script: &mut Vec<u8>, path: &[u8], hits: u64, end: &str) -> Result<(), AllocError> {
     let (full, rest) = (hits / HITS_LIMIT, hits % HITS_LIMIT);
     for _ in 0..full {
-        push_line(script, "load ", path, HITS_LIMIT)?;
+        push_line(script, "load ", path, HITS_LIMIT, end)?;
     }
     if rest == 0 {
         return Ok(());
     }
-    push_line(script, "load ", path, rest)
+    push_line(script, "load ", path, rest, end)
+}
+
+/// Adds the lines that load a directory with its reads and its writes, of which one is as much heat as two reads.
+fn push_load(script: &mut Vec<u8>, directory: &Directory) -> Result<(), AllocError> {
+    let path = directory.path.as_slice();
+    let hits = directory.heat / 10;
+    let writes = (directory.writes / 10).min(hits / 2);
+    push_hits(script, path, hits - 2 * writes, "\n")?;
+    push_hits(script, path, writes, " w\n")
 }
 
 /// A script that makes these directories with their heat and what holds them, and plans them for `ranks` ranks.
@@ -75,14 +91,14 @@ pub fn make_script(
 ) -> Result<Vec<u8>, AllocError> {
     let mut script = Vec::new(alloc);
     push_number(&mut script, "ranks ", u64::from(ranks))?;
-    push_text(&mut script, "\nmask -1\n")?;
+    push_text(&mut script, "\nmask -1\nweight 1 2\n")?;
     for at in 1..directories.len() {
         if let Some(hold) = holds.get(at) {
             push_directory(&mut script, &directories[at], holds, *hold)?;
         }
     }
     for directory in directories {
-        push_load(&mut script, &directory.path, directory.heat)?;
+        push_load(&mut script, directory)?;
     }
     push_text(&mut script, "go\nplan\n")?;
     Ok(script)

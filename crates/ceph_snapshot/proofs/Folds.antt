@@ -8,8 +8,8 @@ use Rattle.std.proofs.lemmas.List.Sums.{sum_by-cons}
 use Rattle.mds_types.specs.Sums.{sum_below}
 use Rattle.mds_types.proofs.SumsLemmas.{count_below-le, sum_below-fewer, sum_below-only, sum_below-pick, sum_below-same, sum_below-swap, sum_below-zero}
 use Rattle.ceph_snapshot.specs.declared.directory.Directory.{Directory}
-use Rattle.ceph_snapshot.specs.Folding.{HasLeft, IsFolded, IsHome, all_heat, all_inodes, brought, is_marked, kept_below, put_together, with_amounts}
-use Rattle.ceph_snapshot.specs.Holding.{climb, heat_at, inodes_at, parent_at}
+use Rattle.ceph_snapshot.specs.Folding.{HasLeft, IsFolded, IsHome, all_heat, all_inodes, all_writes, brought, is_marked, kept_below, put_together, with_amounts}
+use Rattle.ceph_snapshot.specs.Holding.{climb, heat_at, inodes_at, parent_at, writes_at}
 use Rattle.ceph_snapshot.proofs.Keys.{sum_front}
 
 apart : {X : Type 0} (b : Bool) → b ≡ true → b ≡ false → X
@@ -68,23 +68,23 @@ pub kept_lt : (gone : ℕ → Bool) (i n : ℕ) → i < n → gone i ≡ false �
 kept_lt gone i n l kept = omega (arith, kept_more gone i kept, kept_le gone (i + 1) n (let le : i + 1 ≤ n = omega (arith, l) in le))
 
 -- one more directory that is kept is put to its place
-pub put_more : (old before after : List Directory) (gone : List Bool) (parents heats inodes : List ℕ) (at kept : ℕ) → is_marked gone at ≡ false → kept ≡ kept_below (is_marked gone) at
-    → ((i : ℕ) → i < at → is_marked gone i ≡ false → slice_get before (kept_below (is_marked gone) i) ≡ put_together old parents heats inodes i)
+pub put_more : (old before after : List Directory) (gone : List Bool) (parents heats writes inodes : List ℕ) (at kept : ℕ) → is_marked gone at ≡ false → kept ≡ kept_below (is_marked gone) at
+    → ((i : ℕ) → i < at → is_marked gone i ≡ false → slice_get before (kept_below (is_marked gone) i) ≡ put_together old parents heats writes inodes i)
     → ((i : ℕ) → i < kept → slice_get after i ≡ slice_get before i)
-    → slice_get after kept ≡ put_together old parents heats inodes at
-    → (i : ℕ) → i < at + 1 → is_marked gone i ≡ false → slice_get after (kept_below (is_marked gone) i) ≡ put_together old parents heats inodes i
-put_more old before after gone parents heats inodes at kept stays is put same here i l keeps =
+    → slice_get after kept ≡ put_together old parents heats writes inodes at
+    → (i : ℕ) → i < at + 1 → is_marked gone i ≡ false → slice_get after (kept_below (is_marked gone) i) ≡ put_together old parents heats writes inodes i
+put_more old before after gone parents heats writes inodes at kept stays is put same here i l keeps =
     ⊎_elim (λ (last : i ≡ at).
-    ap (λ (k : ℕ). slice_get after k) (ap (kept_below (is_marked gone)) last ∙ sym is) ∙ (here ∙ ap (put_together old parents heats inodes) (sym last)))
+    ap (λ (k : ℕ). slice_get after k) (ap (kept_below (is_marked gone)) last ∙ sym is) ∙ (here ∙ ap (put_together old parents heats writes inodes) (sym last)))
     (λ (other : i ≢ at).
     let inside : i < at = omega (arith, other, l) in
     same (kept_below (is_marked gone) i) (omega (arith, kept_lt (is_marked gone) i at inside keeps, is)) ∙ put i inside keeps)
     (cases_eq i at)
 
-pub put_same : (old before : List Directory) (gone : List Bool) (parents heats inodes : List ℕ) (at : ℕ) → is_marked gone at ≡ true
-    → ((i : ℕ) → i < at → is_marked gone i ≡ false → slice_get before (kept_below (is_marked gone) i) ≡ put_together old parents heats inodes i)
-    → (i : ℕ) → i < at + 1 → is_marked gone i ≡ false → slice_get before (kept_below (is_marked gone) i) ≡ put_together old parents heats inodes i
-put_same old before gone parents heats inodes at goes put i l keeps =
+pub put_same : (old before : List Directory) (gone : List Bool) (parents heats writes inodes : List ℕ) (at : ℕ) → is_marked gone at ≡ true
+    → ((i : ℕ) → i < at → is_marked gone i ≡ false → slice_get before (kept_below (is_marked gone) i) ≡ put_together old parents heats writes inodes i)
+    → (i : ℕ) → i < at + 1 → is_marked gone i ≡ false → slice_get before (kept_below (is_marked gone) i) ≡ put_together old parents heats writes inodes i
+put_same old before gone parents heats writes inodes at goes put i l keeps =
     ⊎_elim (λ (last : i ≡ at). apart (is_marked gone at) goes (sym (ap (is_marked gone) last) ∙ keeps))
     (λ (other : i ≢ at). put i (omega (arith, other, l)) keeps)
     (cases_eq i at)
@@ -111,16 +111,17 @@ pub handed_back : {X : Type 0} (xs ys : List X) (n : ℕ) → length xs ≡ n �
 handed_back xs ys n size = ap (λ (k : ℕ). take k (xs ++ ys)) (sym size) ∙ take_front xs ys
 
 -- what is left once the places are closed up and cut
-pub has_left : (ds closed left : List Directory) (gone : List Bool) (homes parents heats inodes : List ℕ) (kept : ℕ)
+pub has_left : (ds closed left : List Directory) (gone : List Bool) (homes parents heats writes inodes : List ℕ) (kept : ℕ)
     → ((i : ℕ) → i < length ds → IsHome ds (is_marked gone) i (slice_index homes i))
     → ((i : ℕ) → i < length ds → slice_index homes i < length ds)
     → kept ≡ kept_below (is_marked gone) (length ds)
-    → ((i : ℕ) → i < length ds → is_marked gone i ≡ false → slice_get closed (kept_below (is_marked gone) i) ≡ put_together ds parents heats inodes i)
+    → ((i : ℕ) → i < length ds → is_marked gone i ≡ false → slice_get closed (kept_below (is_marked gone) i) ≡ put_together ds parents heats writes inodes i)
     → ((i : ℕ) → i < length ds → slice_index parents i ≡ kept_below (is_marked gone) (parent_at ds i))
     → ((i : ℕ) → i < length ds → slice_index heats i ≡ brought (heat_at ds) (slice_index homes) (length ds) i)
+    → ((i : ℕ) → i < length ds → slice_index writes i ≡ brought (writes_at ds) (slice_index homes) (length ds) i)
     → ((i : ℕ) → i < length ds → slice_index inodes i ≡ brought (inodes_at ds) (slice_index homes) (length ds) i)
     → length closed ≡ length ds → left ≡ take kept closed → HasLeft ds left (is_marked gone) (slice_index homes)
-has_left ds closed left gone homes parents heats inodes kept nearest inside count closes ups warm many all is = record {
+has_left ds closed left gone homes parents heats writes inodes kept nearest inside count closes ups warm wrote many all is = record {
   nearest = nearest;
   inside = inside;
   size = ap length is ∙ (length_take closed kept (omega (arith, all, count, count_below-le (length ds) (λ i. not (is_marked gone i)))) ∙ count);
@@ -128,21 +129,21 @@ has_left ds closed left gone homes parents heats inodes kept nearest inside coun
       let low : kept_below (is_marked gone) i < kept = omega (arith, kept_lt (is_marked gone) i (length ds) l keeps, count) in
       ap (λ (xs : List Directory). slice_get xs (kept_below (is_marked gone) i)) is
       ∙ (slice_get_take closed kept (kept_below (is_marked gone) i) low ∙ (closes i l keeps
-      ∙ all_three (slice_get ds i) _ _ _ _ _ _ (ups i l) (warm i l) (many i l)));
+      ∙ all_four (slice_get ds i) _ _ _ _ _ _ _ _ (ups i l) (warm i l) (wrote i l) (many i l)));
 }
   where
-    all_three : (o : Option Directory) (p q h k m n : ℕ) → p ≡ q → h ≡ k → m ≡ n → option_map (with_amounts p h m) o ≡ option_map (with_amounts q k n) o
-    all_three o p q h k m n up warm many = rw (up, warm, many) refl
+    all_four : (o : Option Directory) (p q h k w v m n : ℕ) → p ≡ q → h ≡ k → w ≡ v → m ≡ n → option_map (with_amounts p h w m) o ≡ option_map (with_amounts q k v n) o
+    all_four o p q h k w v m n up warm wrote many = rw (up, warm, wrote, many) refl
 
 -- nothing is gone
 all_kept : (n : ℕ) → kept_below (λ i. false) n ≡ n
 all_kept zero = refl
 all_kept (suc n) = omega (arith, all_kept n)
 
-same_amounts : (o : Option Directory) (parent heat inodes : ℕ) → parent ≡ option_map_or (λ (d : Directory). d.parent) o 0 → heat ≡ option_map_or (λ (d : Directory). d.heat) o 0
-    → inodes ≡ option_map_or (λ (d : Directory). d.inodes) o 0 → o ≡ option_map (with_amounts parent heat inodes) o
-same_amounts None parent heat inodes up warm many = refl
-same_amounts (Some d) parent heat inodes up warm many = rw (up, warm, many) refl
+same_amounts : (o : Option Directory) (parent heat writes inodes : ℕ) → parent ≡ option_map_or (λ (d : Directory). d.parent) o 0 → heat ≡ option_map_or (λ (d : Directory). d.heat) o 0
+    → writes ≡ option_map_or (λ (d : Directory). d.writes) o 0 → inodes ≡ option_map_or (λ (d : Directory). d.inodes) o 0 → o ≡ option_map (with_amounts parent heat writes inodes) o
+same_amounts None parent heat writes inodes up warm wrote many = refl
+same_amounts (Some d) parent heat writes inodes up warm wrote many = rw (up, warm, wrote, many) refl
 
 pub nothing_folded : (ds : List Directory) → IsFolded ds ds
 nothing_folded ds = (
@@ -153,8 +154,8 @@ nothing_folded ds = (
     nearest = λ i l. home_here ds (λ i. false) i refl;
     inside = λ i l. l;
     size = sym (all_kept (length ds));
-    kept = λ i l is. ap (λ (k : ℕ). slice_get ds k) (all_kept i) ∙ same_amounts (slice_get ds i) _ _ _ (all_kept (parent_at ds i))
-        (sum_below-picked (length ds) i (heat_at ds) l) (sum_below-picked (length ds) i (inodes_at ds) l);
+    kept = λ i l is. ap (λ (k : ℕ). slice_get ds k) (all_kept i) ∙ same_amounts (slice_get ds i) _ _ _ _ (all_kept (parent_at ds i))
+        (sum_below-picked (length ds) i (heat_at ds) l) (sum_below-picked (length ds) i (writes_at ds) l) (sum_below-picked (length ds) i (inodes_at ds) l);
   },
 )
   where
@@ -215,9 +216,14 @@ total f ds left gone home has here =
 pub same_heat : (ds left : List Directory) (gone : ℕ → Bool) (home : ℕ → ℕ) → HasLeft ds left gone home → all_heat left ≡ all_heat ds
 same_heat ds left gone home has = total (λ d. d.heat) ds left gone home has (λ i l keeps.
     let at = there ds i l in
-    ap (λ (o : Option Directory). option_map_or (λ (d : Directory). d.heat) o 0) (has.kept i l keeps ∙ ap (λ (o : Option Directory). option_map (with_amounts (kept_below gone (parent_at ds i)) (brought (heat_at ds) home (length ds) i) (brought (inodes_at ds) home (length ds) i)) o) at.1))
+    ap (λ (o : Option Directory). option_map_or (λ (d : Directory). d.heat) o 0) (has.kept i l keeps ∙ ap (λ (o : Option Directory). option_map (with_amounts (kept_below gone (parent_at ds i)) (brought (heat_at ds) home (length ds) i) (brought (writes_at ds) home (length ds) i) (brought (inodes_at ds) home (length ds) i)) o) at.1))
+
+pub same_writes : (ds left : List Directory) (gone : ℕ → Bool) (home : ℕ → ℕ) → HasLeft ds left gone home → all_writes left ≡ all_writes ds
+same_writes ds left gone home has = total (λ d. d.writes) ds left gone home has (λ i l keeps.
+    let at = there ds i l in
+    ap (λ (o : Option Directory). option_map_or (λ (d : Directory). d.writes) o 0) (has.kept i l keeps ∙ ap (λ (o : Option Directory). option_map (with_amounts (kept_below gone (parent_at ds i)) (brought (heat_at ds) home (length ds) i) (brought (writes_at ds) home (length ds) i) (brought (inodes_at ds) home (length ds) i)) o) at.1))
 
 pub same_inodes : (ds left : List Directory) (gone : ℕ → Bool) (home : ℕ → ℕ) → HasLeft ds left gone home → all_inodes left ≡ all_inodes ds
 same_inodes ds left gone home has = total (λ d. d.inodes) ds left gone home has (λ i l keeps.
     let at = there ds i l in
-    ap (λ (o : Option Directory). option_map_or (λ (d : Directory). d.inodes) o 0) (has.kept i l keeps ∙ ap (λ (o : Option Directory). option_map (with_amounts (kept_below gone (parent_at ds i)) (brought (heat_at ds) home (length ds) i) (brought (inodes_at ds) home (length ds) i)) o) at.1))
+    ap (λ (o : Option Directory). option_map_or (λ (d : Directory). d.inodes) o 0) (has.kept i l keeps ∙ ap (λ (o : Option Directory). option_map (with_amounts (kept_below gone (parent_at ds i)) (brought (heat_at ds) home (length ds) i) (brought (writes_at ds) home (length ds) i) (brought (inodes_at ds) home (length ds) i)) o) at.1))

@@ -27,17 +27,17 @@ root-stays ds gone are some =
     (λ (stays : gone 0 ≡ false). stays)
     (cases_Bool (gone 0))
 
-path-same : (o : Option Directory) (p h m : ℕ) → option_map_or (λ (d : Directory). d.path.items) (option_map (with_amounts p h m) o) [] ≡ option_map_or (λ (d : Directory). d.path.items) o []
-path-same None p h m = refl
-path-same (Some d) p h m = refl
+path-same : (o : Option Directory) (p h w m : ℕ) → option_map_or (λ (d : Directory). d.path.items) (option_map (with_amounts p h w m) o) [] ≡ option_map_or (λ (d : Directory). d.path.items) o []
+path-same None p h w m = refl
+path-same (Some d) p h w m = refl
 
-policy-same : (o : Option Directory) (p h m : ℕ) → option_map_or (λ (d : Directory). d.policy) (option_map (with_amounts p h m) o) None ≡ option_map_or (λ (d : Directory). d.policy) o None
-policy-same None p h m = refl
-policy-same (Some d) p h m = refl
+policy-same : (o : Option Directory) (p h w m : ℕ) → option_map_or (λ (d : Directory). d.policy) (option_map (with_amounts p h w m) o) None ≡ option_map_or (λ (d : Directory). d.policy) o None
+policy-same None p h w m = refl
+policy-same (Some d) p h w m = refl
 
-kept-same : (o : Option Directory) (p h m : ℕ) → option_map_or (λ (d : Directory). d.is_kept) (option_map (with_amounts p h m) o) false ≡ option_map_or (λ (d : Directory). d.is_kept) o false
-kept-same None p h m = refl
-kept-same (Some d) p h m = refl
+kept-same : (o : Option Directory) (p h w m : ℕ) → option_map_or (λ (d : Directory). d.is_kept) (option_map (with_amounts p h w m) o) false ≡ option_map_or (λ (d : Directory). d.is_kept) o false
+kept-same None p h w m = refl
+kept-same (Some d) p h w m = refl
 
 left-kept : (ds left : List Directory) (gone : ℕ → Bool) (home : ℕ → ℕ) (i : ℕ) → AreGone ds gone → HasLeft ds left gone home → 0 < i → i < length ds
     → is_kept_at ds i ≡ true → IsLeftKept ds left i
@@ -50,9 +50,9 @@ left-kept ds left gone home i are has later inside kept =
       place = kept_below gone i;
       below = omega (arith, root);
       inside = omega (arith, past, has.size);
-      path = ap (λ (o : Option Directory). option_map_or (λ (d : Directory). d.path.items) o []) is ∙ path-same (slice_get ds i) _ _ _;
-      policy = ap (λ (o : Option Directory). option_map_or (λ (d : Directory). d.policy) o None) is ∙ policy-same (slice_get ds i) _ _ _;
-      kept = ap (λ (o : Option Directory). option_map_or (λ (d : Directory). d.is_kept) o false) is ∙ (kept-same (slice_get ds i) _ _ _ ∙ kept);
+      path = ap (λ (o : Option Directory). option_map_or (λ (d : Directory). d.path.items) o []) is ∙ path-same (slice_get ds i) _ _ _ _;
+      policy = ap (λ (o : Option Directory). option_map_or (λ (d : Directory). d.policy) o None) is ∙ policy-same (slice_get ds i) _ _ _ _;
+      kept = ap (λ (o : Option Directory). option_map_or (λ (d : Directory). d.is_kept) o false) is ∙ (kept-same (slice_get ds i) _ _ _ _ ∙ kept);
     }
 
 pub still-kept : (ds left : List Directory) → IsFolded ds left → KeepUnpinnable ds → StillKeepUnpinnable ds left

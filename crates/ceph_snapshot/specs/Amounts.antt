@@ -2,12 +2,13 @@
 use Rattle.std.specs.Prelude.{ℕ, List, slice_get}
 use Rattle.std.specs.Option.{option_map_or}
 use Rattle.ceph_snapshot.specs.declared.amounts.Amount.{Amount}
-use Rattle.ceph_snapshot.specs.declared.amounts.Amount.TheVariants.{Heat, Inodes}
+use Rattle.ceph_snapshot.specs.declared.amounts.Amount.TheVariants.{Heat, Inodes, Writes}
 use Rattle.ceph_snapshot.specs.declared.directory.Directory.{Directory}
 
 -- how much of it a directory has
 abbrev pub amount_of : Amount → Directory → ℕ
 amount_of Heat d = d.heat
+amount_of Writes d = d.writes
 amount_of Inodes d = d.inodes
 
 -- and directory i; past the last one, none

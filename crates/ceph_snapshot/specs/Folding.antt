@@ -6,10 +6,13 @@ use Rattle.std.specs.Option.{option_map}
 use Rattle.mds_types.specs.Sums.{count_below, sum_below}
 use Rattle.ceph_snapshot.specs.declared.directory.Directory.{Directory}
 use Rattle.ceph_snapshot.specs.Holding.{climb, earlier_at, heat_at, inodes_at, is_holding, is_spread_at, most_heat}
-use Rattle.ceph_snapshot.specs.Holding.{now_at, parent_at}
+use Rattle.ceph_snapshot.specs.Holding.{now_at, parent_at, writes_at}
 
 abbrev pub all_heat : List Directory → ℕ
 all_heat directories = sum_by (λ d. d.heat) directories
+
+abbrev pub all_writes : List Directory → ℕ
+all_writes directories = sum_by (λ d. d.writes) directories
 
 abbrev pub all_inodes : List Directory → ℕ
 all_inodes directories = sum_by (λ d. d.inodes) directories
@@ -73,15 +76,17 @@ pub record IsHome (directories : List Directory) (gone : ℕ → Bool) (i home :
 abbrev pub brought : (ℕ → ℕ) → (ℕ → ℕ) → ℕ → ℕ → ℕ
 brought amount home n there = sum_below n (λ i. if home i == there then amount i else 0)
 
--- a kept directory with the heat and the inodes of all whose home it is, and its parent by its new place
-abbrev pub with_amounts : ℕ → ℕ → ℕ → Directory → Directory
-with_amounts parent heat inodes d = record d { parent = parent; heat = heat; inodes = inodes }
+-- a kept directory with the heat, the writes and the inodes of all whose home it is, and its parent by its new place
+abbrev pub with_amounts : ℕ → ℕ → ℕ → ℕ → Directory → Directory
+with_amounts parent heat writes inodes d =
+    record d { parent = parent; heat = heat; writes = writes; inodes = inodes }
 
 abbrev pub folded : List Directory → (ℕ → Bool) → (ℕ → ℕ) → ℕ → Option Directory
 folded directories gone home i =
     option_map (with_amounts
     (kept_below gone (parent_at directories i))
     (brought (heat_at directories) home (length directories) i)
+    (brought (writes_at directories) home (length directories) i)
     (brought (inodes_at directories) home (length directories) i))
     (slice_get directories i)
 
@@ -105,7 +110,11 @@ IsFolded directories left =
     (gone : ℕ → Bool) × (home : ℕ → ℕ) × AreGone directories gone × HasLeft directories left gone home
 
 -- directory i with another parent and these amounts
-abbrev pub put_together : List Directory → List ℕ → List ℕ → List ℕ → ℕ → Option Directory
-put_together directories parents heats inodes i =
-    option_map (with_amounts (slice_index parents i) (slice_index heats i) (slice_index inodes i))
+abbrev pub put_together : List Directory → List ℕ → List ℕ → List ℕ → List ℕ → ℕ → Option Directory
+put_together directories parents heats writes inodes i =
+    option_map (with_amounts
+    (slice_index parents i)
+    (slice_index heats i)
+    (slice_index writes i)
+    (slice_index inodes i))
     (slice_get directories i)

@@ -14,6 +14,9 @@ parent_at directories i = option_map_or (λ (d : Directory). d.parent) (slice_ge
 abbrev pub heat_at : List Directory → ℕ → ℕ
 heat_at directories i = option_map_or (λ (d : Directory). d.heat) (slice_get directories i) 0
 
+abbrev pub writes_at : List Directory → ℕ → ℕ
+writes_at directories i = option_map_or (λ (d : Directory). d.writes) (slice_get directories i) 0
+
 abbrev pub inodes_at : List Directory → ℕ → ℕ
 inodes_at directories i = option_map_or (λ (d : Directory). d.inodes) (slice_get directories i) 0
 

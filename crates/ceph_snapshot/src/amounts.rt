@@ -26,6 +26,8 @@ pub fn own_heats(alloc: Global, directories: &[Directory]) -> Result<Vec<u64>, A
 pub enum Amount {
     /// Their heat.
     Heat,
+    /// What of it comes from writes.
+    Writes,
     /// Their inodes.
     Inodes,
 }
@@ -37,6 +39,7 @@ impl Amount {
     {
         match self {
             Amount::Heat => directory.heat,
+            Amount::Writes => directory.writes,
             Amount::Inodes => directory.inodes,
         }
     }

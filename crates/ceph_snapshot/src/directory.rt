@@ -14,6 +14,8 @@ pub struct Directory {
     pub parent: u32,
     /// Its own heat, without what is below, in thousandths.
     pub heat: u64,
+    /// What of its heat comes from writes, before weighing, in thousandths.
+    pub writes: u64,
     /// Its files and directories, at least 1.
     pub inodes: u64,
     /// The rank that has it; where it lies at several ranks, the one that has most of its heat.

@@ -2,8 +2,8 @@
 ghost use Rattle.std.specs.Prelude.{◌≡◌, ◌+◌, ◌<◌, ◌≤◌, ◌^◌, ℕ, IsTrue, false, true};
 ghost use Rattle.std.specs.Prelude.{length, min, slice_get, slice_index, IfOk, IsOkAnd};
 ghost use Rattle.std.specs.Option.{option_map};
-ghost use Rattle.ceph_snapshot.specs.Folding.{HasLeft, IsFolded, IsHome, all_heat, all_inodes, is_marked};
-ghost use Rattle.ceph_snapshot.specs.Folding.{kept_below, put_together, with_amounts};
+ghost use Rattle.ceph_snapshot.specs.Folding.{HasLeft, IsFolded, IsHome, all_heat, all_inodes, all_writes};
+ghost use Rattle.ceph_snapshot.specs.Folding.{is_marked, kept_below, put_together, with_amounts};
 ghost use Rattle.ceph_snapshot.specs.Holding.{AreParentsFirst, parent_at};
 ghost use Rattle.ceph_snapshot.specs.Policies.{KeepUnpinnable, StillKeepUnpinnable};
 
@@ -87,21 +87,22 @@ fn new_parents(
     Ok(parents)
 }
 
-/// Puts a directory to an earlier place or leaves it at its own, with a new parent, heat and inodes.
-fn put(directories: &mut [Directory], from: usize, to: usize, parent: u32, heat: u64, inodes: u64)
+/// Puts a directory to an earlier place or leaves it at its own, with a new parent and this heat, writes and inodes.
+fn put(directories: &mut [Directory], from: usize, to: usize, parent: u32, has: (u64, u64, u64))
     requires inside { from < length directories.old }
     requires earlier { to ≤ from }
     ensures size { length directories.new ≡ length directories.old }
     ensures there { slice_get directories.new to
-        ≡ option_map (with_amounts parent heat inodes) (slice_get directories.old from) }
+        ≡ option_map (with_amounts parent has.0 has.1 has.2) (slice_get directories.old from) }
     ensures before { (i : ℕ) → i < to → slice_get directories.new i ≡ slice_get directories.old i }
     ensures behind { (i : ℕ) → from < i → slice_get directories.new i ≡ slice_get directories.old i }
 {
     directories.swap(to, from);
     let directory = &mut directories[to];
     directory.parent = parent;
-    directory.heat = heat;
-    directory.inodes = inodes;
+    directory.heat = has.0;
+    directory.writes = has.1;
+    directory.inodes = has.2;
 }
 
 /// Puts the kept directories one after another, each with its new parent and what came to it. Gives their number.
@@ -110,22 +111,25 @@ fn close_up(
     gone: &[bool],
     parents: &[u32],
     heats: &[u64],
+    writes: &[u64],
     inodes: &[u64],
 ) -> usize
     requires gone { length gone.now ≡ length directories.old }
     requires parents { length parents.now ≡ length directories.old }
     requires heats { length heats.now ≡ length directories.old }
+    requires writes { length writes.now ≡ length directories.old }
     requires inodes { length inodes.now ≡ length directories.old }
     ensures size { length directories.new ≡ length directories.old }
     ensures count { result ≡ kept_below (is_marked gone.now) (length directories.old) }
     ensures kept { (i : ℕ) → i < length directories.old → is_marked gone.now i ≡ false
         → slice_get directories.new (kept_below (is_marked gone.now) i)
-        ≡ put_together directories.old parents.now heats.now inodes.now i }
+        ≡ put_together directories.old parents.now heats.now writes.now inodes.now i }
 {
     let mut kept = 0;
     for at in 0..directories.len() {
         if !gone[at] {
-            put(directories, at, kept, parents[at], heats[at], inodes[at]);
+            let has = (heats[at], writes[at], inodes[at]);
+            put(directories, at, kept, parents[at], has);
             kept += 1;
         }
     }
@@ -148,15 +152,16 @@ fn folded(
     let homes = homes(alloc, before, gone)?;
     let at_home = homes.as_slice();
     let heats = brought_home(alloc, before, at_home, Amount::Heat)?;
+    let writes = brought_home(alloc, before, at_home, Amount::Writes)?;
     let inodes = brought_home(alloc, before, at_home, Amount::Inodes)?;
     let parents = new_parents(alloc, before, gone)?;
-    let kept = close_up(&mut directories, gone, &parents, &heats, &inodes);
+    let kept = close_up(&mut directories, gone, &parents, &heats, &writes, &inodes);
     directories.truncate(kept);
     Ok(directories)
 }
 
-/// Folds the coldest directories, each with all below it, until `limit` are left: their heat and inodes go to the
-/// nearest directory above them that is kept. Gives how many were folded. Directories that aren't plain stay.
+/// Folds the coldest directories, each with all below it, until `limit` are left: their heat, writes and inodes go to
+/// the nearest directory above them that is kept. Gives how many were folded. Directories that aren't plain stay.
 pub fn fold(
     alloc: Global,
     directories: Vec<Directory>,
@@ -166,6 +171,7 @@ pub fn fold(
     ensures folded { IfOk result (λ found. IsFolded directories.items found.0.items) }
     ensures same { length directories.items ≤ limit → IsOkAnd result (λ found. found.0.items ≡ directories.items) }
     ensures heat { IfOk result (λ found. all_heat found.0.items ≡ all_heat directories.items) }
+    ensures writes { IfOk result (λ found. all_writes found.0.items ≡ all_writes directories.items) }
     ensures inodes { IfOk result (λ found. all_inodes found.0.items ≡ all_inodes directories.items) }
     ensures unpinnable { KeepUnpinnable directories.items
         → IfOk result (λ found. StillKeepUnpinnable directories.items found.0.items) }

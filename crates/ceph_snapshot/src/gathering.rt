@@ -1,7 +1,6 @@
-//! Gathers what the dumps of all ranks say.
-//! A directory has its heat from the rank that has authority: the nearest subtree root at or above it decides. Where
-//! that root is in fragments at several ranks, there is no such rank: the directory, and what is below it with no
-//! root of its own, is spread.
+//! Gathers what the dumps of all ranks say. A directory has its heat from the rank that has authority: the nearest
+//! subtree root at or above it decides. Where that root is in fragments at several ranks, there is no such rank: the
+//! directory, and what is below it with no root of its own, is spread.
 ghost use Rattle.std.specs.Prelude.{◌≡◌, ◌||◌, ◌<◌, ◌≤◌, ℕ, List, Some, None, true, false, max};
 ghost use Rattle.std.specs.Prelude.{IfOk, IsErrOf, IsSome, OnOk};
 ghost use Rattle.std.specs.List.{IsAmong};
@@ -23,6 +22,7 @@ pub(crate) struct Sighting {
     pub directory: u32,
     pub rank: Rank,
     pub heat: u64,
+    pub writes: u64,
 }
 
 /// What a rank says of another one: that it has authority over a directory.
@@ -64,12 +64,10 @@ pub struct Gathering {
 impl Gathering {
     /// Only the root, at rank 0.
     pub fn new(alloc: Global) -> Result<Gathering, SnapshotError> {
-        let mut nodes = Vec::new(alloc);
-        nodes.push(unknown(Vec::new(alloc), 0))?;
         Ok(Gathering {
             alloc,
             names: Names::new(alloc)?,
-            nodes,
+            nodes: vec![in alloc; unknown(Vec::new(alloc), 0)]?,
             sightings: Vec::new(alloc),
             hearsay: Vec::new(alloc),
             fragments: Names::new(alloc)?,
@@ -129,15 +127,6 @@ impl Gathering {
         Ok(Some(number))
     }
 
-    /// What is known of a path, where it is in a tree of users.
-    fn node(&mut self, path: &[u8]) -> Result<Option<&mut Node>, SnapshotError> {
-        let number = self.number(path)?;
-        match number {
-            Some(number) => Ok(self.nodes.get_mut(number as usize)),
-            None => Ok(None),
-        }
-    }
-
     /// Adds a sample of the heat that a rank has seen.
     pub fn add_loads(&mut self, rank: Rank, loads: &[FragmentHeat]) -> Result<(), SnapshotError> {
         for fragment in loads {
@@ -146,6 +135,7 @@ impl Gathering {
                     directory,
                     rank,
                     heat: fragment.heat,
+                    writes: fragment.writes,
                 })?;
             }
         }
@@ -243,8 +233,10 @@ impl Gathering {
     pub fn add_listing(&mut self, listing: &[ListedDir]) -> Result<(), SnapshotError> {
         self.is_listed = true;
         for listed in listing {
-            if let Some(node) = self.node(listed.path.as_slice())? {
-                add_value(node, listed.value);
+            if let Some(number) = self.number(listed.path.as_slice())? {
+                if let Some(node) = self.nodes.get_mut(number as usize) {
+                    add_value(node, listed.value);
+                }
             }
         }
         Ok(())
@@ -265,6 +257,7 @@ fn unknown(path: Vec<u8>, parent: u32) -> Node {
             path,
             parent,
             heat: 0,
+            writes: 0,
             inodes: 1,
             now: Rank::default(),
             pin: None,
@@ -287,9 +280,7 @@ fn add_root(node: &mut Node, rank: Rank, root: &SubtreeRoot)
 {
     if root.is_here {
         let is_elsewhere = node.root.is_some_and(|other| other != rank);
-        if is_elsewhere || root.is_spread {
-            node.directory.is_spread = true;
-        }
+        node.directory.is_spread |= is_elsewhere || root.is_spread;
         node.root = Some(rank);
     }
     if let Some(pin) = root.pin {
@@ -306,8 +297,6 @@ fn add_value(node: &mut Node, value: ListedValue)
     match value {
         ListedValue::Entries(count) => node.directory.inodes = count.max(1),
         ListedValue::Pin(pin) => node.pinned = pin.or(node.pinned),
-        ListedValue::Policy(policy) => {
-            node.directory.policy = policy.or(node.directory.policy);
-        }
+        ListedValue::Policy(policy) => node.directory.policy = policy.or(node.directory.policy),
     }
 }

@@ -7,7 +7,6 @@ ghost use Rattle.ceph_snapshot.specs.Holding.{hold_below, is_at, most_heat};
 
 use crate::directory::Directory;
 use mds_types::Rank;
-use mds_types::limits::RANK_LIMIT;
 use std::alloc::{AllocError, Global};
 
 /// What holds a directory.

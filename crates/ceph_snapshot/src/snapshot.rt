@@ -77,11 +77,12 @@ fn place_all(nodes: &mut Vec<Node>) -> Result<(), SnapshotError>
     Ok(())
 }
 
-/// Adds the heat that a rank has seen at a directory, if the rank has authority or the directory is spread. Gives
-/// what of it counts as spread.
+/// Adds what a rank has seen at a directory, if it has authority or that is spread. Gives the heat that is spread.
 fn sight(node: &mut Node, seen: Sighting) -> u64
     ensures spread { result ≡ (if node.old.directory.is_spread then seen.heat else 0) }
     ensures heat { node.new.directory.heat ≡ seen_heat node.old.directory.heat seen.heat
+        (node.old.directory.is_spread || (node.old.directory.now == seen.rank)) }
+    ensures writes { node.new.directory.writes ≡ seen_heat node.old.directory.writes seen.writes
         (node.old.directory.is_spread || (node.old.directory.now == seen.rank)) }
     ensures place { node.old.directory.is_spread ≡ false → node.new.directory.now ≡ node.old.directory.now }
     ensures pinned { path_pin node.new ≡ path_pin node.old }
@@ -89,6 +90,7 @@ fn sight(node: &mut Node, seen: Sighting) -> u64
     let directory = &mut node.directory;
     if directory.is_spread {
         directory.heat = directory.heat.saturating_add(seen.heat);
+        directory.writes = directory.writes.saturating_add(seen.writes);
         if seen.heat > node.most {
             node.most = seen.heat;
             directory.now = seen.rank;
@@ -97,6 +99,7 @@ fn sight(node: &mut Node, seen: Sighting) -> u64
     }
     if directory.now == seen.rank {
         directory.heat = directory.heat.saturating_add(seen.heat);
+        directory.writes = directory.writes.saturating_add(seen.writes);
     }
     0
 }
@@ -147,11 +150,12 @@ fn pins_of(pinned: Option<u64>, own: Option<u64>, ranks: RankSet) -> Pins
     Pins { pin, idle, earlier }
 }
 
-/// The directory of a node, with the mean heat of `samples` samples and its pins, where these ranks are there. This
-/// program pinned it to the rank `own` before.
+/// The directory of a node, with the mean heat and writes of `samples` samples and its pins, where these ranks are
+/// there. This program pinned it to the rank `own` before.
 fn finished(node: Node, own: Option<u64>, samples: u64, ranks: RankSet) -> Directory
     requires { 0 < samples }
     ensures heat { result.heat ≡ min (node.directory.heat / samples) HEAT_LIMIT }
+    ensures writes { result.writes ≡ min (node.directory.writes / samples) HEAT_LIMIT }
     ensures now { result.now ≡ node.directory.now }
     ensures path { result.path ≡ node.directory.path }
     ensures pin { result.pin ≡ foreign_pin node.pinned own ranks }
@@ -162,6 +166,7 @@ fn finished(node: Node, own: Option<u64>, samples: u64, ranks: RankSet) -> Direc
     let Pins { pin, idle, earlier } = pins_of(node.pinned, own, ranks);
     let mut directory = node.directory;
     directory.heat = (directory.heat / samples).min(HEAT_LIMIT);
+    directory.writes = (directory.writes / samples).min(HEAT_LIMIT);
     directory.pin = pin;
     directory.idle = idle;
     directory.earlier = earlier;
@@ -219,8 +224,7 @@ fn hold_tops(nodes: &mut Vec<Node>, tops: &[u32], is_listed: bool)
     }
     for top in tops {
         if let Some(node) = nodes.get_mut(*top as usize) {
-            let policy = node.directory.policy;
-            node.directory.policy = policy.or(Some(EphemeralPin::Unknown));
+            node.directory.policy = node.directory.policy.or(Some(EphemeralPin::Unknown));
         }
     }
 }

@@ -19,16 +19,19 @@ const LOADS: &[u8] = b"\n{\"dirfrags\":[{\"path\":\"\",\"dirfrag\":\"0x1\",\
 {\"path\":\"/h/new\\nline \\\"-inf\\\"\",\"pop_me\":{\"Decay Counters\":[]}}],\
 \"mds_load\":{\"mds.0\":{\"halflife\":-inf}}}";
 
-/// What it says: paths and heats.
-const HEATS: &[(&[u8], u64)] = &[
-    (b"", 5500),
-    (b"/h/bad-\xff\xc3", 1000),
-    (b"/h/new\nline \"-inf\"", 0),
+/// A path with its heat, and what of it comes from writes.
+pub(crate) type Written<'a> = (&'a [u8], (u64, u64));
+
+/// What it says.
+const HEATS: &[Written<'static>] = &[
+    (b"", (5500, 2000)),
+    (b"/h/bad-\xff\xc3", (1000, 500)),
+    (b"/h/new\nline \"-inf\"", (0, 0)),
 ];
 
-impl<'a> Row<(&'a [u8], u64)> for FragmentHeat {
-    fn is_as(&self, row: &(&'a [u8], u64)) -> bool {
-        self.path.as_slice() == row.0 && self.heat == row.1
+impl<'a> Row<Written<'a>> for FragmentHeat {
+    fn is_as(&self, row: &Written<'a>) -> bool {
+        self.path.as_slice() == row.0 && (self.heat, self.writes) == row.1
     }
 }
 
@@ -119,7 +122,7 @@ fn loads_of(rt: &impl Abort, alloc: Global, path: &[u8]) -> Vec<u8> {
 fn reads_path(rt: &impl Abort, alloc: Global, path: &[u8]) {
     let text = loads_of(rt, alloc, path);
     let found = read_loads(alloc, &text).sure(rt);
-    same_rows(rt, &found, &[(path, 3000)], "long names");
+    same_rows(rt, &found, &[(path, (3000, 0))], "long names");
 }
 
 #[test]

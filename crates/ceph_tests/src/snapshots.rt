@@ -1,5 +1,6 @@
 //! Snapshots from dumps, and what pins hold in them.
 
+use crate::dumps::Written;
 use crate::given::rank;
 use crate::same::{Row, Sure, same, same_rows};
 use ceph_dumps::{FragmentHeat, OwnPin, SubtreeRoot, read_listing};
@@ -8,18 +9,13 @@ use mds_types::{Rank, RankSet};
 use std::alloc::Global;
 use std::process::Abort;
 
-/// Adds heats at a rank.
-fn add_loads(
-    rt: &impl Abort,
-    alloc: Global,
-    all: &mut Gathering,
-    at: Rank,
-    given: &[(&[u8], u64)],
-) {
+/// Adds heats and writes at a rank.
+fn add_loads(rt: &impl Abort, alloc: Global, all: &mut Gathering, at: Rank, given: &[Written<'_>]) {
     let mut loads = Vec::new(alloc);
-    for (path, heat) in given {
+    for (path, counted) in given {
         let path = Vec::from_slice(alloc, path).sure(rt);
-        loads.push(FragmentHeat { path, heat: *heat }).sure(rt);
+        let (heat, writes) = *counted;
+        loads.push(FragmentHeat { path, heat, writes }).sure(rt);
     }
     all.add_loads(at, &loads).sure(rt);
 }
@@ -53,16 +49,20 @@ const FIRST_ROOTS: &[(&[u8], Option<i64>)] = &[(b"", None), (b"/u", None)];
 
 const SECOND_ROOTS: &[(&[u8], Option<i64>)] = &[(b"/a", Some(1)), (b"/u", None)];
 
-/// The heat that they have seen.
-const FIRST_LOADS: &[(&[u8], u64)] = &[
-    (b"", 100),
-    (b"/a", 900),
-    (b"/b", 300),
-    (b"/u", 40),
-    (b"~mds0", 7),
+/// The heat that they have seen, and what of it comes from writes.
+const FIRST_LOADS: &[Written<'static>] = &[
+    (b"", (100, 0)),
+    (b"/a", (900, 450)),
+    (b"/b", (300, 20)),
+    (b"/u", (40, 5)),
+    (b"~mds0", (7, 1)),
 ];
 
-const SECOND_LOADS: &[(&[u8], u64)] = &[(b"/a", 700), (b"/a/x", 200), (b"/u", 60)];
+const SECOND_LOADS: &[Written<'static>] = &[
+    (b"/a", (700, 30)),
+    (b"/a/x", (200, 100)),
+    (b"/u", (60, 2)),
+];
 
 /// Rank 0 has the root and a fragment of `/u`, rank 1 has `/a`, which is pinned, and the other fragment of `/u`.
 fn gathered(rt: &impl Abort, alloc: Global) -> Snapshot {
@@ -86,23 +86,23 @@ fn add_entries(rt: &impl Abort, alloc: Global, all: &mut Gathering) {
     all.add_listing(&listing).sure(rt);
 }
 
-/// A path with parent, heat, inodes, rank, and whether it is spread.
-type Seen<'a> = (&'a [u8], (u32, u64, u64, u8, bool));
+/// A path with parent, heat and writes, inodes, rank, and whether it is spread.
+type Seen<'a> = (&'a [u8], (u32, (u64, u64), u64, u8, bool));
 
 impl<'a> Row<Seen<'a>> for Directory {
     fn is_as(&self, row: &Seen<'a>) -> bool {
-        let (heat, inodes) = (self.heat, self.inodes);
+        let (heat, inodes) = ((self.heat, self.writes), self.inodes);
         let told = (self.parent, heat, inodes, self.now.number(), self.is_spread);
         self.path.as_slice() == row.0 && told == row.1
     }
 }
 
 const SEEN: &[Seen<'static>] = &[
-    (b"", (0, 100, 1, 0, false)),
-    (b"/u", (0, 100, 1, 1, true)),
-    (b"/a", (0, 700, 1, 1, false)),
-    (b"/b", (0, 300, 12, 0, false)),
-    (b"/a/x", (2, 200, 1, 1, false)),
+    (b"", (0, (100, 0), 1, 0, false)),
+    (b"/u", (0, (100, 7), 1, 1, true)),
+    (b"/a", (0, (700, 30), 1, 1, false)),
+    (b"/b", (0, (300, 20), 12, 0, false)),
+    (b"/a/x", (2, (200, 100), 1, 1, false)),
 ];
 
 #[test]
@@ -139,14 +139,20 @@ fn pinned_and_spread_heat_is_held(rt: HostRuntime) {
     same_held_heat(&rt, rt.alloc(), &snapshot, &holds);
 }
 
-/// Five directories with their heat.
-const LEAVES: &[(&[u8], u64)] = &[(b"", 1), (b"/a/c", 5), (b"/b", 3), (b"/a", 7), (b"/d", 9)];
+/// Five directories with their heat and writes.
+const LEAVES: &[Written<'static>] = &[
+    (b"", (1, 0)),
+    (b"/a/c", (5, 2)),
+    (b"/b", (3, 1)),
+    (b"/a", (7, 3)),
+    (b"/d", (9, 4)),
+];
 
 /// Those that are left of them.
 const LEFT: &[Seen<'static>] = &[
-    (b"", (0, 4, 2, 0, false)),
-    (b"/a", (0, 12, 2, 0, false)),
-    (b"/d", (0, 9, 1, 0, false)),
+    (b"", (0, (4, 1), 2, 0, false)),
+    (b"/a", (0, (12, 5), 2, 0, false)),
+    (b"/d", (0, (9, 4), 1, 0, false)),
 ];
 
 fn leaves(rt: &impl Abort, alloc: Global) -> Vec<Directory> {
@@ -234,7 +240,7 @@ const TOPS: &[Pinned<'static>] = &[
 fn without_a_walk_the_whole_top_is_held(rt: HostRuntime) {
     let mut all = Gathering::new(rt.alloc()).sure(&rt);
     add_roots(&rt, rt.alloc(), &mut all, rank(0), &[(b"/k/x", None)], true);
-    add_loads(&rt, rt.alloc(), &mut all, rank(0), &[(b"/m", 3)]);
+    add_loads(&rt, rt.alloc(), &mut all, rank(0), &[(b"/m", (3, 1))]);
     let snapshot = all.snapshot(&[], 1, RankSet::from_bits(1)).sure(&rt);
     same_rows(&rt, &snapshot.directories, TOPS, "tops");
 }

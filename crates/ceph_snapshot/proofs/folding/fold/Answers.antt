@@ -1,7 +1,7 @@
 use Rattle.std.proofs.Common.{Bool, List, subst}
 use Rattle.ceph_snapshot.specs.declared.directory.Directory.{Directory}
 use Rattle.ceph_snapshot.specs.Folding.{AreGone, HasLeft, is_marked}
-use Rattle.ceph_snapshot.proofs.Folds.{nothing_folded, same_heat, same_inodes}
+use Rattle.ceph_snapshot.proofs.Folds.{nothing_folded, same_heat, same_inodes, same_writes}
 use Rattle.ceph_snapshot.proofs.StillKept.{still-kept}
 use Rattle.ceph_snapshot.proofs.folding.fold.Goals as goal
 
@@ -10,6 +10,9 @@ returns-then-count-limit-clause-folded c = nothing_folded c.args.directories.ite
 
 pub returns-clause-heat : goal.returns-clause-heat
 returns-clause-heat c = same_heat _ _ _ _ c.in_ok-left.ensures.1
+
+pub returns-clause-writes : goal.returns-clause-writes
+returns-clause-writes c = same_writes _ _ _ _ c.in_ok-left.ensures.1
 
 pub returns-clause-inodes : goal.returns-clause-inodes
 returns-clause-inodes c = same_inodes _ _ _ _ c.in_ok-left.ensures.1
