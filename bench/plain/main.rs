@@ -36,15 +36,14 @@ fn mix(parent: u32, name: &[u8]) -> usize {
     (hash ^ hash >> 29) as usize % PLACES
 }
 
-/// A rank's counts: hits, and those that aren't deposited, by directory.
+/// A rank's counts: hits, and those that aren't deposited. The reads of a directory are at twice its number, its writes behind.
 struct Share {
     hits: Vec<u64>,
     pending: Vec<u64>,
 }
 
 impl Share {
-    fn hit(&mut self, dir: u32) -> bool {
-        let row = dir as usize;
+    fn hit(&mut self, row: usize) -> bool {
         if row >= self.hits.len() || self.hits[row] >= 1 << 56 {
             return false;
         }
@@ -60,13 +59,15 @@ struct Counts {
     mask: u64,
     shares: Vec<Share>,
     counted: Vec<u64>,
+    /// What a read and a write count.
+    weights: [u64; 2],
 }
 
 impl Counts {
     fn open(ranks: u32) -> Counts {
-        let row = || vec![0; LIMIT];
+        let row = || vec![0; 2 * LIMIT];
         let shares = (0..ranks).map(|_| Share { hits: row(), pending: row() }).collect();
-        Counts { ranks, mask: 0, shares, counted: row() }
+        Counts { ranks, mask: 0, shares, counted: row(), weights: [1; 2] }
     }
 
     fn usable(&self) -> u32 {
@@ -175,7 +176,9 @@ impl Tree {
                 -1 => put(out, &[b" pin -"]),
                 pin => put(out, &[b" pin ", &digits(pin as u64)]),
             }
-            put(out, &[b" rank 0 heat ", &digits(self.heats[number]), b" hits ", &digits(counts.counted[number]), b"\n"]);
+            let (reads, writes) = (counts.counted[2 * number], counts.counted[2 * number + 1]);
+            put(out, &[b" rank 0 heat ", &digits(self.heats[number]), b" hits ", &digits(reads + writes)]);
+            put(out, &[b" writes ", &digits(writes), b"\n"]);
         }
     }
 
@@ -212,11 +215,11 @@ impl Tree {
         }
     }
 
-    fn serve(&mut self, counts: &mut Counts, dir: u32, hits: u64) {
-        let share = &mut counts.shares[0];
-        let counted = (0..hits).take_while(|_| share.hit(dir)).count() as u64;
+    fn serve(&mut self, counts: &mut Counts, (dir, hits, kind): Load) {
+        let (share, row) = (&mut counts.shares[0], 2 * dir as usize + kind);
+        let counted = (0..hits).take_while(|_| share.hit(row)).count() as u64;
         let heat = &mut self.heats[dir as usize];
-        *heat = (*heat + counted).min(1 << 40);
+        *heat = (*heat + counts.weights[kind] * counted).min(1 << 40);
     }
 
     fn cost(&self, tops: &[u32], out: &mut Vec<u8>) {
@@ -304,7 +307,7 @@ fn main() {
     let mut input = BufReader::with_capacity(1 << 16, io::stdin().lock());
     let mut tree = Tree::new();
     let mut counts = Counts::default();
-    let (mut loads, mut out): (Vec<(u32, u64)>, _) = (vec![], vec![]);
+    let (mut loads, mut out): (Vec<Load>, _) = (vec![], vec![]);
     let mut line = vec![];
     while input.read_until(b'\n', &mut line).unwrap() > 0 {
         answer(line.strip_suffix(b"\n").unwrap_or(&line), &mut tree, &mut counts, &mut loads, &mut out);
@@ -313,12 +316,19 @@ fn main() {
     io::stdout().write_all(&out).unwrap();
 }
 
-fn answer(line: &[u8], tree: &mut Tree, counts: &mut Counts, loads: &mut Vec<(u32, u64)>, out: &mut Vec<u8>) {
+/// A directory, its hits, and 0 for reads or 1 for writes.
+type Load = (u32, u64, usize);
+
+fn answer(line: &[u8], tree: &mut Tree, counts: &mut Counts, loads: &mut Vec<Load>, out: &mut Vec<u8>) {
     let mut fields = Vec::with_capacity(4);
     part(line, &mut fields);
     match fields.as_slice() {
         [b"dir", path, inodes] => tree.make(path, number(inodes) as u64).unwrap(),
-        [b"load", path, hits] => loads.push((tree.find(path).unwrap(), number(hits) as u64)),
+        [b"load", path, hits, kind @ ..] => {
+            let kind = usize::from(kind == [b"w"]);
+            loads.push((tree.find(path).unwrap(), number(hits) as u64, kind));
+        }
+        [b"weight", read, write] => counts.weights = [number(read) as u64, number(write) as u64],
         [b"pin", path, rank] => {
             let dir = tree.find(path).unwrap();
             tree.pins[dir as usize] = number(rank);
@@ -326,11 +336,11 @@ fn answer(line: &[u8], tree: &mut Tree, counts: &mut Counts, loads: &mut Vec<(u3
         [b"ranks", ranks] => *counts = Counts::open(number(ranks) as u32),
         [b"mask", b"-1"] => counts.mask = u64::MAX,
         [b"go"] => {
-            let waiting: Vec<(u32, u64)> = std::mem::take(loads);
-            waiting.iter().for_each(|(dir, hits)| tree.serve(counts, *dir, *hits));
-            waiting.iter().for_each(|(dir, _)| {
-                let pending = &mut counts.shares[0].pending[*dir as usize];
-                counts.counted[*dir as usize] += std::mem::take(pending);
+            let waiting = std::mem::take(loads);
+            waiting.iter().for_each(|load| tree.serve(counts, *load));
+            waiting.iter().for_each(|(dir, _, kind)| {
+                let row = 2 * *dir as usize + kind;
+                counts.counted[row] += std::mem::take(&mut counts.shares[0].pending[row]);
             });
         }
         [b"tick"] => tree.heats.iter_mut().for_each(|heat| *heat /= 2),
