@@ -17,7 +17,7 @@ _mdbal_ceph() {
         --most-pins|--least-gain|--least-heat|--least-by-inodes|--keep) return ;;
     esac
     case $cur in
-        -*) COMPREPLY=($(compgen -W '--parts --most-pins --mask --own --check --least-gain --least-heat --least-by-inodes --keep --mount --pins --svg --script --json --help --version' -- "$cur")) ;;
+        -*) COMPREPLY=($(compgen -W '--parts --most-pins --mask --own --check --least-gain --least-heat --least-by-inodes --keep --mount --pins --subvolumes --svg --script --json --paths0 --help --version' -- "$cur")) ;;
         *) COMPREPLY=($(compgen -d -- "$cur")) ;;
     esac
 }

@@ -1,29 +1,41 @@
 -- The script that sets pins, byte by byte.
-use Rattle.std.specs.Prelude.{◌<◌, ◌++◌, All, ℕ, List, [], ◌∷◌, codes, decimal, length, slice_get, Option, Some, None}
-use Rattle.std.specs.List.{flat_map}
-use Rattle.std.specs.Option.{option_map_or}
+use Rattle.std.specs.Prelude.{◌<◌, ◌++◌, All, ℕ, Bool, not, List, [], ◌∷◌, codes, length, slice_get, Option}
+use Rattle.std.specs.Prelude.{is_some, if◌then◌else◌}
+use Rattle.std.specs.List.{flat_map, list_any}
+use Rattle.std.specs.Option.{option_map_or, unwrap_or}
 use Rattle.ceph_plan.specs.Words.{quoted_word}
 use Rattle.ceph_plan.specs.declared.row.PinChange.{PinChange}
 use Rattle.ceph_snapshot.specs.declared.directory.Directory.{Directory}
-use Rattle.ceph_pins.specs.declared.pins_script.TheConstants.{HEAD, CHECKS, FOOT, NO_CHANGE}
+use Rattle.ceph_pins.specs.declared.pins_script.TheConstants.{HEAD, CHECKS, CEPH, FOOT, NO_CHANGE}
+use Rattle.ceph_pins.specs.Volumes.{ceph_line, pin_text}
 
 -- the path of directory i; nothing past the last one
 abbrev pub path_at : List Directory → ℕ → List ℕ
 path_at directories i = option_map_or (λ (d : Directory). d.path.items) (slice_get directories i) []
-
--- the value of `ceph.dir.pin`: -1 removes a pin
-abbrev pub pin_text : Option ℕ → List ℕ
-pin_text None = codes "-1"
-pin_text (Some rank) = decimal rank
 
 -- the line that gives the directory at this place this pin
 abbrev pub pin_line : Option ℕ → List ℕ → List ℕ
 pin_line pin place =
     codes "run setfattr -h -n ceph.dir.pin -v " ++ pin_text pin ++ codes " -- " ++ quoted_word place ++ 10 ∷ []
 
+-- the line of Ceph's own command for a change, if that is wanted and the command names the directory
+abbrev pub change_command : Bool → List Directory → PinChange → Option (List ℕ)
+change_command by_ceph directories change = ceph_line by_ceph change.pin (path_at directories change.row)
+
 -- the line of a change, where the file system is mounted at `mount`
-abbrev pub change_line : List ℕ → List Directory → PinChange → List ℕ
-change_line mount directories change = pin_line change.pin (mount ++ path_at directories change.row)
+abbrev pub change_line : List ℕ → Bool → List Directory → PinChange → List ℕ
+change_line mount by_ceph directories change =
+    unwrap_or (change_command by_ceph directories change)
+    (pin_line change.pin (mount ++ path_at directories change.row))
+
+-- some change is made by Ceph's own command
+abbrev pub needs_ceph : Bool → List Directory → List PinChange → Bool
+needs_ceph by_ceph directories changes = list_any (λ change. is_some (change_command by_ceph directories change)) changes
+
+-- some change is made over the mount
+abbrev pub needs_mount : Bool → List Directory → List PinChange → Bool
+needs_mount by_ceph directories changes =
+    list_any (λ change. not (is_some (change_command by_ceph directories change))) changes
 
 -- the lines that say which file system is meant
 abbrev pub variable_lines : List ℕ → List ℕ → List ℕ → List ℕ
@@ -31,12 +43,14 @@ variable_lines mount name fsid =
     codes "mount=" ++ quoted_word mount ++ codes "\nname=" ++ quoted_word name ++ codes "\nfsid="
     ++ quoted_word fsid ++ codes "\n"
 
--- the script of these changes
-abbrev pub pins_script : List ℕ → List ℕ → List ℕ → List Directory → List PinChange → List ℕ
-pins_script mount name fsid directories [] = NO_CHANGE.now
-pins_script mount name fsid directories (change ∷ changes) =
-    HEAD.now ++ variable_lines mount name fsid ++ CHECKS.now
-    ++ flat_map (change_line mount directories) (change ∷ changes) ++ FOOT.now
+-- the script of these changes: it looks at the mount and at the cluster that `ceph` asks where it needs them
+abbrev pub pins_script : List ℕ → List ℕ → List ℕ → Bool → List Directory → List PinChange → List ℕ
+pins_script mount name fsid by_ceph directories [] = NO_CHANGE.now
+pins_script mount name fsid by_ceph directories (change ∷ changes) =
+    HEAD.now ++ variable_lines mount name fsid
+    ++ (if needs_mount by_ceph directories (change ∷ changes) then CHECKS.now else [])
+    ++ (if needs_ceph by_ceph directories (change ∷ changes) then CEPH.now else [])
+    ++ flat_map (change_line mount by_ceph directories) (change ∷ changes) ++ FOOT.now
 
 abbrev pub HasNoNul : List ℕ → Type 0
 HasNoNul bytes = All (λ byte. 0 < byte) bytes

@@ -8,6 +8,7 @@ pub mod own_list;
 pub mod pins;
 pub mod pins_script;
 pub mod script_error;
+pub mod volumes;
 
 pub use back::changes_back;
 pub use foreign::own_pins;

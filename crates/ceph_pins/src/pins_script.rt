@@ -1,14 +1,16 @@
-//! The shell script that makes changes of pins, one `setfattr` a line.
+//! The shell script that makes changes of pins, a line each: one `setfattr`, or Ceph's own command for a subvolume.
 //!
 //! Each path is quoted for `sh` whatever its bytes.
-ghost use Rattle.std.specs.Prelude.{◌≡◌, ◌++◌, All, IfErr, IfOk, OnOk};
+ghost use Rattle.std.specs.Prelude.{◌≡◌, ◌++◌, All, IfErr, IfOk, OnOk, is_some};
 ghost use Rattle.std.specs.List.{flat_map};
 ghost use Rattle.ceph_plan.specs.Words.{quoted_word};
-ghost use Rattle.ceph_pins.specs.PinsScript.{AreWritable, HasNoNul, IsChangeWritable, change_line, pin_line};
-ghost use Rattle.ceph_pins.specs.PinsScript.{pin_text, pins_script, variable_lines};
+ghost use Rattle.ceph_pins.specs.PinsScript.{AreWritable, HasNoNul, IsChangeWritable, change_command, change_line};
+ghost use Rattle.ceph_pins.specs.PinsScript.{needs_ceph, needs_mount, pin_line, pins_script, variable_lines};
+ghost use Rattle.ceph_pins.specs.Volumes.{pin_text};
 ghost use Rattle.ceph_pins.specs.declared.script_error.ScriptError.TheVariants as cause;
 
 use crate::script_error::ScriptError;
+use crate::volumes::{ceph_line, push_pin};
 use ceph_plan::{PinChange, quoted};
 use ceph_snapshot::Directory;
 use mds_types::Rank;
@@ -23,6 +25,18 @@ pub struct MountedFileSystem<'a> {
     pub name: &'a [u8],
     /// The identifier of its cluster; empty where it is unknown.
     pub fsid: &'a [u8],
+    /// Whether subvolumes and their groups get their pins by Ceph's own commands, and not over the mount.
+    pub by_ceph: bool,
+}
+
+/// Lines that make changes, and what they need.
+#[derive(Drop)]
+struct ChangeLines {
+    text: Vec<u8>,
+    /// Some of them need the mount.
+    need_mount: bool,
+    /// Some of them are commands of `ceph`.
+    need_ceph: bool,
 }
 
 /// The begin of the script: its words, and its functions.
@@ -70,6 +84,25 @@ const CHECKS: &str = "if [ -z \"$only_print\" ]; then
 fi
 ";
 
+/// How the script runs a command of `ceph`, and what it asks the cluster before it changes anything.
+const CEPH: &str =
+    "# Runs a command of ceph, which ends with status 2 where a subvolume or group is gone.
+run_ceph() {
+  if [ -n \"$only_print\" ]; then show \"ceph $*\"; return; fi
+  reason=$(timeout 60 ceph \"$@\" 2>&1)
+  case $? in
+    0) changed=$((changed + 1)) ;;
+    2) show \"gone: ceph $*\" >&2; gone=$((gone + 1)) ;;
+    *) show \"failed: ceph $*: $reason\" >&2; failed=$((failed + 1)) ;;
+  esac
+}
+if [ -z \"$only_print\" ]; then
+  found=$(timeout 60 ceph fsid 2>/dev/null) || { show 'ceph fsid: the cluster does not answer' >&2; exit 1; }
+  [ -z \"$fsid\" ] || [ \"$found\" = \"$fsid\" ] ||
+    { show \"ceph asks cluster $found, and the plan is for $name in cluster $fsid\" >&2; exit 1; }
+fi
+";
+
 /// The end of the script.
 const FOOT: &str = "[ -n \"$only_print\" ] ||
   printf '%s pins changed, %s directories gone, %s failed\\n' \"$changed\" \"$gone\" \"$failed\"
@@ -95,19 +128,6 @@ fn push_word(alloc: Global, script: &mut Vec<u8>, bytes: &[u8]) -> Result<(), Sc
     Ok(())
 }
 
-/// Adds the value of a pin.
-fn push_pin(alloc: Global, script: &mut Vec<u8>, pin: Option<Rank>) -> Result<(), AllocError>
-    ensures { OnOk result (script.new.items ≡ script.old.items ++ pin_text pin) }
-{
-    match pin {
-        Some(rank) => {
-            let number = format!(in alloc; "{}", rank.number())?;
-            script.extend_from_slice(number.as_bytes())
-        }
-        None => script.extend_from_slice(b"-1"),
-    }
-}
-
 /// Adds the line that gives the directory at this place a pin.
 fn push_line(
     alloc: Global,
@@ -126,43 +146,62 @@ fn push_line(
     Ok(())
 }
 
-/// Adds the line of a change.
+/// Adds the line of a change. Returns whether Ceph's own command makes it.
 fn push_change(
     alloc: Global,
     script: &mut Vec<u8>,
-    mount: &[u8],
+    mounted: MountedFileSystem,
     directories: &[Directory],
     change: PinChange,
-) -> Result<(), ScriptError>
-    ensures line { OnOk result (script.new.items ≡ script.old.items ++ change_line mount.now directories.now change) }
-    ensures refused { HasNoNul mount.now → IsChangeWritable directories.now change
+) -> Result<bool, ScriptError>
+    ensures line { OnOk result (script.new.items ≡ script.old.items
+        ++ change_line mounted.entry.mount.now mounted.entry.by_ceph directories.now change) }
+    ensures way { IfOk result (λ by_ceph. by_ceph ≡ is_some (change_command mounted.entry.by_ceph directories.now change)) }
+    ensures refused { HasNoNul mounted.entry.mount.now → IsChangeWritable directories.now change
         → IfErr result (λ error. error ≡ cause.Memory) }
 {
     let Some(directory) = directories.get(change.row as usize) else {
         return Err(ScriptError::NoDirectory(change.row));
     };
-    let mut place = Vec::from_slice(alloc, mount)?;
+    if let Some(line) = ceph_line(alloc, mounted.by_ceph, change.pin, &directory.path)? {
+        script.extend_from_slice(&line)?;
+        return Ok(true);
+    }
+    let mut place = Vec::from_slice(alloc, mounted.mount)?;
     place.extend_from_slice(&directory.path)?;
-    push_line(alloc, script, change.pin, &place)
+    push_line(alloc, script, change.pin, &place)?;
+    Ok(false)
 }
 
-/// Adds the lines of these changes, in their order.
-fn push_changes(
+/// The lines of these changes, in their order.
+fn change_lines(
     alloc: Global,
-    script: &mut Vec<u8>,
-    mount: &[u8],
+    mounted: MountedFileSystem,
     directories: &[Directory],
     changes: &[PinChange],
-) -> Result<(), ScriptError>
-    ensures lines { OnOk result (script.new.items ≡ script.old.items
-        ++ flat_map (change_line mount.now directories.now) changes.now) }
-    ensures refused { HasNoNul mount.now → All (IsChangeWritable directories.now) changes.now
+) -> Result<ChangeLines, ScriptError>
+    ensures text { IfOk result (λ lines. lines.text.items
+        ≡ flat_map (change_line mounted.entry.mount.now mounted.entry.by_ceph directories.now) changes.now) }
+    ensures mount { IfOk result (λ lines. lines.need_mount
+        ≡ needs_mount mounted.entry.by_ceph directories.now changes.now) }
+    ensures ceph { IfOk result (λ lines. lines.need_ceph
+        ≡ needs_ceph mounted.entry.by_ceph directories.now changes.now) }
+    ensures refused { HasNoNul mounted.entry.mount.now → All (IsChangeWritable directories.now) changes.now
         → IfErr result (λ error. error ≡ cause.Memory) }
 {
+    let mut text = Vec::new(alloc);
+    let mut need_mount = false;
+    let mut need_ceph = false;
     for change in changes {
-        push_change(alloc, script, mount, directories, *change)?;
+        let by_ceph = push_change(alloc, &mut text, mounted, directories, *change)?;
+        need_mount = need_mount || !by_ceph;
+        need_ceph = need_ceph || by_ceph;
     }
-    Ok(())
+    Ok(ChangeLines {
+        text,
+        need_mount,
+        need_ceph,
+    })
 }
 
 /// Adds the lines that say which file system is meant.
@@ -194,7 +233,7 @@ pub fn make_pins_script(
     changes: &[PinChange],
 ) -> Result<Vec<u8>, ScriptError>
     ensures script { IfOk result (λ script. script.items ≡ pins_script mounted.entry.mount.now mounted.entry.name.now
-        mounted.entry.fsid.now directories.now changes.now) }
+        mounted.entry.fsid.now mounted.entry.by_ceph directories.now changes.now) }
     // where everything can be written, only memory is refused
     ensures refused { AreWritable mounted.entry.mount.now mounted.entry.name.now mounted.entry.fsid.now directories.now
         changes.now → IfErr result (λ error. error ≡ cause.Memory) }
@@ -202,10 +241,16 @@ pub fn make_pins_script(
     if changes.is_empty() {
         return Ok(Vec::from_slice(alloc, NO_CHANGE.as_bytes())?);
     }
+    let lines = change_lines(alloc, mounted, directories, changes)?;
     let mut script = Vec::from_slice(alloc, HEAD.as_bytes())?;
     push_variables(alloc, &mut script, mounted)?;
-    script.extend_from_slice(CHECKS.as_bytes())?;
-    push_changes(alloc, &mut script, mounted.mount, directories, changes)?;
+    if lines.need_mount {
+        script.extend_from_slice(CHECKS.as_bytes())?;
+    }
+    if lines.need_ceph {
+        script.extend_from_slice(CEPH.as_bytes())?;
+    }
+    script.extend_from_slice(&lines.text)?;
     script.extend_from_slice(FOOT.as_bytes())?;
     Ok(script)
 }

@@ -1,5 +1,6 @@
 -- The command line of `mdbal_ceph`, as a command of `clap`.
-use Rattle.std.specs.Prelude.{List, [], ◌∷◌, Some, None, codes, Option, true}
+use Rattle.std.specs.Prelude.{List, [], ◌∷◌, Some, None, codes, Option, true, is_some}
+use Rattle.std.specs.Prelude.{if◌then◌else◌}
 use Rattle.std.specs.List.{fold}
 use Rattle.std.specs.Option.{option_map}
 use Rattle.clap.specs.Words.{App, Rule, Text, matches_of, new_app, new_rule, with_rule}
@@ -12,9 +13,9 @@ use Rattle.mdbal_ceph.specs.Options.{AreRead}
 abbrev pub folder_rule : Rule
 folder_rule = record (new_rule (codes "folder")) { value_names = 1; required = true }
 
--- `--json`, with no value
-abbrev pub json_rule : Rule
-json_rule = record (new_rule (codes "json")) { long = Some (codes "json"); action = Some SetTrue }
+-- an option with no value
+abbrev pub flag_rule : Text → Rule
+flag_rule name = record (new_rule name) { long = Some name; action = Some SetTrue }
 
 -- an option with a value, and the value where it isn't there, if that has one
 abbrev pub value_rule : Text → List Text → Rule
@@ -27,14 +28,18 @@ option_rules =
     ∷ value_rule (codes "least-gain") (codes "5" ∷ []) ∷ value_rule (codes "least-heat") (codes "0" ∷ [])
     ∷ value_rule (codes "least-by-inodes") (codes "0" ∷ []) ∷ value_rule (codes "keep") (codes "5" ∷ [])
     ∷ value_rule (codes "mount") (codes "/mnt/cephfs" ∷ []) ∷ value_rule (codes "pins") []
-    ∷ value_rule (codes "svg") [] ∷ value_rule (codes "script") [] ∷ []
+    ∷ flag_rule (codes "subvolumes") ∷ value_rule (codes "svg") [] ∷ value_rule (codes "script") []
+    ∷ flag_rule (codes "json") ∷ flag_rule (codes "paths0") ∷ []
 
 abbrev pub defaults_of : Option Text → List Text
 defaults_of None = []
 defaults_of (Some text) = text ∷ []
 
 abbrev pub option_rule : PlanOption → Rule
-option_rule option = value_rule option.name.now (defaults_of (option_map (λ text. text.now) option.default))
+option_rule option =
+    if is_some option.value
+    then value_rule option.name.now (defaults_of (option_map (λ text. text.now) option.default))
+    else flag_rule option.name.now
 
 abbrev pub with_options : App → List PlanOption → App
 with_options app options = fold (λ one option. with_rule one (option_rule option)) app options
@@ -45,7 +50,7 @@ plan_command = let app = new_app (codes "mdbal_ceph") in record app { top = reco
 
 -- `mdbal_ceph DIR [options]`
 abbrev pub mdbal_ceph : App
-mdbal_ceph = with_rule (fold with_rule (with_rule plan_command folder_rule) option_rules) json_rule
+mdbal_ceph = fold with_rule (with_rule plan_command folder_rule) option_rules
 
 -- the settings are those of the words of the command line
 abbrev pub AreSettings : List Text → PlanSettings → Type 0

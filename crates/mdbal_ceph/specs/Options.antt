@@ -1,22 +1,26 @@
 -- The options as they are read of the words, and what is planned by them.
-use Rattle.std.specs.Prelude.{◌≡◌, ◌*◌, ℕ, Bool, true, false, List, [], Option, Some, None, codes, is_some, length, not}
+use Rattle.std.specs.Prelude.{◌≡◌, ◌*◌, ℕ, Bool, true, false, List, [], Option, Some, None, codes, is_some, length, not, Vec}
 use Rattle.std.specs.Prelude.{string_bytes}
 use Rattle.std.specs.Prelude.{if◌then◌else◌}
-use Rattle.std.specs.Option.{option_map, unwrap_or}
+use Rattle.std.specs.Global.{Global}
+use Rattle.std.specs.Option.{option_map, option_map_or, unwrap_or}
 use Rattle.std.specs.Str.{bytes_eq}
 use Rattle.std.specs.Str.Parse.{digits_value, without_leading_plus}
 use Rattle.clap.specs.Words.{Row, first_of, one_of}
+use Rattle.ceph_dumps.specs.declared.own_list.OwnPin.{OwnPin}
 use Rattle.ceph_plan.specs.declared.choice.PartCount.{PartCount}
 use Rattle.ceph_plan.specs.declared.choice.Wanted.{Wanted}
 use Rattle.ceph_plan.specs.declared.worth.LeastGain.{LeastGain}
 use Rattle.ceph_plan.specs.declared.choice.PartCount.TheVariants.{AtMost, Auto}
 use Rattle.ceph_report.specs.Check.{all_hold, check_text}
 use Rattle.ceph_report.specs.declared.check.PinCheck.{PinCheck}
+use Rattle.ceph_snapshot.specs.declared.directory.Directory.{Directory}
 use Rattle.mdbal_ceph.specs.declared.collected.Collected.{Collected}
 use Rattle.mdbal_ceph.specs.declared.outcome.Outcome.{Outcome}
 use Rattle.mdbal_ceph.specs.declared.settings.PlanSettings.{PlanSettings}
 use Rattle.mdbal_ceph.specs.declared.writing.PlanOutput.{PlanOutput}
 use Rattle.mdbal_ceph.specs.Collections.{HasOurPins, listed_pins}
+use Rattle.mdbal_ceph.specs.Named.{paths0}
 use Rattle.mdbal_ceph.specs.Outcomes.{IsOutcome}
 use Rattle.mdbal_ceph.specs.Usable.{AreUsable, asked_mask}
 use Rattle.mdbal_ceph.specs.Writing.{IsWritten}
@@ -47,6 +51,11 @@ least_named rows =
       each_thousand = option_number (value_or rows (codes "least-by-inodes") (codes "0")) * 1000;
     }
 
+-- whether the words have an option that takes no value
+pub record IsFlag (rows : List Row) (option : List ℕ) (is_given : Bool) : Type 0 where
+  pub given : one_of option rows ≡ Some (codes "true") → is_given ≡ true
+  pub left_out : one_of option rows ≡ Some (codes "false") → is_given ≡ false
+
 -- each setting is the value of the option of its name
 pub record AreRead (rows : List Row) (settings : PlanSettings) : Type 0 where
   pub folder : settings.folder.now ≡ value_or rows (codes "folder") (codes ".")
@@ -61,8 +70,9 @@ pub record AreRead (rows : List Row) (settings : PlanSettings) : Type 0 where
   pub pins : option_map (λ text. text.now) settings.pins ≡ first_of (codes "pins") rows
   pub svg : option_map (λ text. text.now) settings.svg ≡ first_of (codes "svg") rows
   pub script : option_map (λ text. text.now) settings.script ≡ first_of (codes "script") rows
-  pub json : one_of (codes "json") rows ≡ Some (codes "true") → settings.is_json ≡ true
-  pub no_json : one_of (codes "json") rows ≡ Some (codes "false") → settings.is_json ≡ false
+  pub subvolumes : IsFlag rows (codes "subvolumes") settings.subvolumes
+  pub json : IsFlag rows (codes "json") settings.is_json
+  pub paths0 : IsFlag rows (codes "paths0") settings.paths0
 
 -- the plan that is wanted by the settings. While the balancer is off, what has no pin stays where it is
 abbrev pub wanted_by : PlanSettings → Bool → Wanted
@@ -94,3 +104,10 @@ pub record IsChecked (found : PinCheck) : Type 0 where
   pub ours : HasOurPins collected
   pub text : found.text.items ≡ check_text collected.snapshot.directories.items (listed_count collected)
   pub holds : found.all_hold ≡ all_hold collected.snapshot.directories.items (listed_count collected)
+
+-- what is printed are the paths of the directories that the dumps name, and of the list of pins where one is asked for
+pub record AreNamed (is_asked : Bool) (text : List ℕ) : Type 0 where
+  pub directories : List Directory
+  pub own : Option (Vec OwnPin Global)
+  pub asked : is_some own ≡ is_asked
+  pub paths : text ≡ paths0 directories (option_map_or (λ pins. pins.items) own [])

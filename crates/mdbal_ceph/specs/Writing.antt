@@ -40,15 +40,16 @@ abbrev pub proposed_changes : Outcome → Bool → List PinChange
 proposed_changes outcome is_proposed = if is_proposed then outcome.decision.proposal.changes.items else []
 
 -- the script of these changes of the directories of a plan
-abbrev pub script_of : List ℕ → Outcome → List PinChange → List ℕ
-script_of mount outcome changes =
-    pins_script mount (string_bytes outcome.file_system.name) (string_bytes outcome.file_system.fsid)
-    outcome.directories.items changes
+abbrev pub script_of : PlanSettings → Outcome → List PinChange → List ℕ
+script_of settings outcome changes =
+    pins_script settings.mount.now (string_bytes outcome.file_system.name) (string_bytes outcome.file_system.fsid)
+    settings.subvolumes outcome.directories.items changes
 
 -- the script of the changes, the one that undoes them, and the pins of this program once the first has run
-pub record ArePinFiles (mount : List ℕ) (outcome : Outcome) (changes : List PinChange) (files : PinFiles) : Type 0 where
-  pub script : files.script.items ≡ script_of mount outcome changes
-  pub back : files.back.items ≡ script_of mount outcome (inverted outcome.decision.proposal.rows.items changes)
+pub record ArePinFiles
+    (settings : PlanSettings) (outcome : Outcome) (changes : List PinChange) (files : PinFiles) : Type 0 where
+  pub script : files.script.items ≡ script_of settings outcome changes
+  pub back : files.back.items ≡ script_of settings outcome (inverted outcome.decision.proposal.rows.items changes)
   pub own : files.own.items ≡ own_list outcome.directories.items outcome.decision.proposal.rows.items changes
 
 -- the facts of the report are those of the outcome
@@ -95,4 +96,4 @@ pub record IsWritten (settings : PlanSettings) (outcome : Outcome) (output : Pla
   pub proposed : IsTrue output.is_proposed ↔ IsWorthMoving (gain_of outcome) settings.least
   pub text : IsTold outcome settings.is_json output.is_proposed output.text.items
   pub asked : is_some output.pins ≡ is_some settings.pins
-  pub pins : IfSome output.pins (ArePinFiles settings.mount.now outcome (proposed_changes outcome output.is_proposed))
+  pub pins : IfSome output.pins (ArePinFiles settings outcome (proposed_changes outcome output.is_proposed))

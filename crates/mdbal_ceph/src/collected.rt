@@ -2,7 +2,9 @@
 ghost use Rattle.std.specs.Prelude.{◌≡◌, ◌<◌, [], length, IfOk, is_some};
 ghost use Rattle.std.specs.Option.{option_map_or};
 ghost use Rattle.mdbal_ceph.specs.Collections.{HasOurPins};
+ghost use Rattle.mdbal_ceph.specs.Options.{AreNamed};
 
+use crate::named::paths0;
 use crate::progress::Progress;
 use anyhow::{Context, Error, bail};
 use ceph_dumps::{
@@ -197,19 +199,6 @@ fn sample_count<R: Files + AllocGlobal>(rt: &R, folder: &str) -> Result<u64, Err
     Ok(SAMPLE_LIMIT)
 }
 
-/// Adds the dumps of these ranks, and what was listed over a mount.
-fn add_all<R: Files + AllocGlobal + Clock + Eprint>(
-    rt: &R,
-    progress: &mut Progress,
-    gathering: &mut Gathering,
-    folder: &str,
-    ranks: RankSet,
-    samples: u64,
-) -> Result<(), Error> {
-    add_ranks(rt, progress, gathering, folder, ranks, samples)?;
-    add_listing(rt, gathering, folder)
-}
-
 /// The pins of a list, and none where there is no list.
 pub fn listed(own: &Option<Vec<OwnPin>>) -> &[OwnPin]
     ensures { result.now ≡ option_map_or (λ pins. pins.items) own.now [] }
@@ -218,6 +207,37 @@ pub fn listed(own: &Option<Vec<OwnPin>>) -> &[OwnPin]
         Some(pins) => pins.as_slice(),
         None => &[],
     }
+}
+
+/// Reads the dumps of these ranks.
+fn read_dumps<R: Files + AllocGlobal + Clock + Eprint>(
+    rt: &R,
+    progress: &mut Progress,
+    folder: &str,
+    ranks: RankSet,
+    samples: u64,
+) -> Result<Gathering, Error> {
+    let mut gathering = Gathering::new(rt.alloc())?;
+    add_ranks(rt, progress, &mut gathering, folder, ranks, samples)?;
+    Ok(gathering)
+}
+
+/// The paths of the directories that the dumps of a folder name, and of a list of pins where it is asked for.
+pub fn read_named<R: Files + AllocGlobal + Clock + Eprint>(
+    rt: &R,
+    folder: &str,
+    own: Option<&str>,
+) -> Result<Vec<u8>, Error>
+    ensures { IfOk result (λ text. AreNamed (is_some own.entry) text.items) }
+{
+    let mut progress = Progress::begin(rt);
+    let ranks = cluster_of(rt, folder)?.ranks;
+    let samples = sample_count(rt, folder)?;
+    let gathering = read_dumps(rt, &mut progress, folder, ranks, samples)?;
+    let own = own_pins(rt, own)?;
+    let snapshot = gathering.snapshot(listed(&own), samples, ranks)?;
+    let text = paths0(rt.alloc(), &snapshot.directories, listed(&own))?;
+    Ok(text)
 }
 
 /// Reads a folder, and the list of pins of an earlier plan if there is one.
@@ -235,9 +255,9 @@ pub fn read_collected<R: Files + AllocGlobal + Clock + Eprint>(
     let cluster = cluster_of(rt, folder)?;
     let balances = balances(rt, folder)?;
     let samples = sample_count(rt, folder)?;
-    let mut gathering = Gathering::new(rt.alloc())?;
     let ranks = cluster.ranks;
-    add_all(rt, progress, &mut gathering, folder, ranks, samples)?;
+    let mut gathering = read_dumps(rt, progress, folder, ranks, samples)?;
+    add_listing(rt, &mut gathering, folder)?;
     let own = own_pins(rt, own)?;
     let snapshot = gathering.snapshot(listed(&own), samples, ranks)?;
     Ok(Collected {

@@ -5,12 +5,14 @@ mod collected;
 mod files;
 mod input;
 mod laws;
+mod named;
 mod outcome;
 mod progress;
 mod settings;
 mod writing;
 
 use anyhow::{Context, Error};
+use collected::read_named;
 use files::{carry_out, checked};
 use settings::{PlanSettings, settings_of};
 use std::env::Env;
@@ -31,7 +33,7 @@ fn print<R: Print>(rt: &R, text: &[u8]) -> Result<(), Error> {
     written.context("standard output")
 }
 
-/// Plans, or checks pins, and prints the report. Returns the status.
+/// Plans, checks pins or lists paths, and prints what comes of it. Returns the status.
 fn run<R: Files + AllocGlobal + Clock + Print + Eprint>(
     rt: &R,
     settings: &PlanSettings,
@@ -40,6 +42,10 @@ fn run<R: Files + AllocGlobal + Clock + Print + Eprint>(
         let found = checked(rt, settings.folder, list)?;
         print(rt, &found.text)?;
         return Ok(found.status());
+    }
+    if settings.paths0 {
+        print(rt, &read_named(rt, settings.folder, settings.own)?)?;
+        return Ok(0);
     }
     let output = carry_out(rt, settings)?;
     print(rt, &output.text)?;

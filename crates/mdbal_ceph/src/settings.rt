@@ -1,10 +1,10 @@
 //! What the words of the command line ask for.
-ghost use Rattle.std.specs.Prelude.{◌≡◌, ◌*◌, IfOk, Some, codes, false, map, true};
+ghost use Rattle.std.specs.Prelude.{◌≡◌, ◌*◌, IfOk, false, map};
 ghost use Rattle.std.specs.Option.{option_map};
-ghost use Rattle.clap.specs.Words.{app_of, first_of, found_of, one_of, rows_of, rule_of, with_rule};
-ghost use Rattle.mdbal_ceph.specs.CommandLine.{AreSettings, folder_rule, json_rule, mdbal_ceph, option_rule};
+ghost use Rattle.clap.specs.Words.{app_of, first_of, found_of, rows_of, rule_of, with_rule};
+ghost use Rattle.mdbal_ceph.specs.CommandLine.{AreSettings, folder_rule, mdbal_ceph, option_rule};
 ghost use Rattle.mdbal_ceph.specs.CommandLine.{option_rules, plan_command, with_options};
-ghost use Rattle.mdbal_ceph.specs.Options.{AreRead, least_named, mask_named, option_number};
+ghost use Rattle.mdbal_ceph.specs.Options.{AreRead, IsFlag, least_named, mask_named, option_number};
 ghost use Rattle.mdbal_ceph.specs.Options.{parts_named, value_or};
 
 use crate::input::mask_named;
@@ -39,12 +39,16 @@ pub struct PlanSettings<'a> {
     pub mount: &'a str,
     /// Where the script that sets the pins goes.
     pub pins: Option<&'a str>,
+    /// Whether that script pins subvolumes and their groups by Ceph's own commands.
+    pub subvolumes: bool,
     /// Where the picture goes.
     pub svg: Option<&'a str>,
     /// Where the directories go as a script of `mdbal`.
     pub script: Option<&'a str>,
     /// Whether the report is JSON.
     pub is_json: bool,
+    /// Whether only the paths of the directories are printed, and nothing is planned.
+    pub paths0: bool,
 }
 
 /// Why there is nothing to do.
@@ -91,131 +95,139 @@ impl Refused {
     }
 }
 
-/// An option that takes a value.
+/// An option.
 #[derive(Clone, Copy)]
 struct PlanOption {
     name: &'static str,
     /// The value where the option isn't there, if that has one.
     default: Option<&'static str>,
-    /// How the help calls the value.
-    value: &'static str,
+    /// How the help calls the value, if the option takes one.
+    value: Option<&'static str>,
     help: &'static str,
 }
 
-/// The options that take a value, in the order of the help.
+/// The options, in the order of the help.
 const OPTIONS: &[PlanOption] = &[
     PlanOption {
         name: "parts",
         default: Some("auto"),
-        value: "auto|N",
+        value: Some("auto|N"),
         help: "Into how many connected parts the directories are divided, 1 to 65535, or auto",
     },
     PlanOption {
         name: "most-pins",
         default: Some("1000"),
-        value: "N",
+        value: Some("N"),
         help: "The most connected parts that --parts auto tries, 1 to 65535: each may take a pin",
     },
     PlanOption {
         name: "mask",
         default: None,
-        value: "MASK",
+        value: Some("MASK"),
         help: "The ranks that may have a part: all, --mask=-1 for all, too, or hexadecimal digits, as 0x3",
     },
     PlanOption {
         name: "own",
         default: None,
-        value: "FILE",
+        value: Some("FILE"),
         help: "The list of pins that an earlier run wrote; they count as unpinned",
     },
     PlanOption {
         name: "check",
         default: None,
-        value: "FILE",
+        value: Some("FILE"),
         help: "Plan nothing, and report which pins of this list are not set or do not hold",
     },
     PlanOption {
         name: "least-gain",
         default: Some("5"),
-        value: "PERCENT",
+        value: Some("PERCENT"),
         help: "Propose nothing if the hottest rank gets cooler by less",
     },
     PlanOption {
         name: "least-heat",
         default: Some("0"),
-        value: "HEAT",
+        value: Some("HEAT"),
         help: "Propose nothing if the hottest rank has less heat",
     },
     PlanOption {
         name: "least-by-inodes",
         default: Some("0"),
-        value: "HEAT",
+        value: Some("HEAT"),
         help: "Propose nothing if the hottest rank gets cooler by less for each thousand inodes that move",
     },
     PlanOption {
         name: "keep",
         default: Some("5"),
-        value: "PERCENT",
+        value: Some("PERCENT"),
         help: "By how much the hottest rank may pass that of the coolest plan, so that fewer inodes move",
     },
     PlanOption {
         name: "mount",
         default: Some("/mnt/cephfs"),
-        value: "PATH",
+        value: Some("PATH"),
         help: "Where the file system is mounted on the machine that sets the pins",
     },
     PlanOption {
         name: "pins",
         default: None,
-        value: "FILE",
+        value: Some("FILE"),
         help: "Write a shell script that sets the pins to FILE, one that restores the pins of now to FILE.back, and \
                the list of the pins to FILE.own",
     },
     PlanOption {
+        name: "subvolumes",
+        default: None,
+        value: None,
+        help: "Let the script of --pins call `ceph fs subvolume pin` and `ceph fs subvolumegroup pin` for directories \
+               of /volumes, which needs no mount",
+    },
+    PlanOption {
         name: "svg",
         default: None,
-        value: "FILE",
+        value: Some("FILE"),
         help: "Write a picture of the directories, as SVG",
     },
     PlanOption {
         name: "script",
         default: None,
-        value: "FILE",
+        value: Some("FILE"),
         help: "Write the directories as a script of mdbal",
+    },
+    PlanOption {
+        name: "json",
+        default: None,
+        value: None,
+        help: "Print the plan as JSON in place of the report",
+    },
+    PlanOption {
+        name: "paths0",
+        default: None,
+        value: None,
+        help: "Plan nothing, and print `.` and the path of each directory of the dumps and of --own, with a NUL after each",
     },
 ];
 
-/// The options that take a value.
+/// The options.
 fn options() -> &'static [PlanOption]
     ensures { map option_rule result.now ≡ option_rules }
 {
     OPTIONS
 }
 
-/// An option with a value, as `clap` knows it.
+/// An option, as `clap` knows it.
 fn option_arg<'a>(alloc: Global, option: PlanOption) -> Arg<'a>
     ensures rule { rule_of result ≡ option_rule option }
     ensures local { result.global ≡ false }
 {
     let arg = Arg::new(alloc, option.name)
         .long(option.name)
-        .value_name(option.value)
         .help(option.help);
-    match option.default {
-        Some(default) => arg.default_value(default),
-        None => arg,
+    match (option.value, option.default) {
+        (None, _) => arg.action(ArgAction::SetTrue),
+        (Some(value), None) => arg.value_name(value),
+        (Some(value), Some(default)) => arg.value_name(value).default_value(default),
     }
-}
-
-/// The option without a value, as `clap` knows it.
-fn json_arg<'a>(alloc: Global) -> Arg<'a>
-    ensures rule { rule_of result ≡ json_rule }
-    ensures local { result.global ≡ false }
-{
-    Arg::new(alloc, "json")
-        .long("json")
-        .action(ArgAction::SetTrue)
-        .help("Print the plan as JSON in place of the report")
 }
 
 /// The folder, as `clap` knows it.
@@ -271,7 +283,7 @@ fn command<'a>(alloc: Global) -> Result<Command<'a>, AllocError>
     ensures { IfOk result (λ c. app_of c ≡ mdbal_ceph) }
 {
     let command = plain_command(alloc).arg(folder_arg(alloc))?;
-    with_options(alloc, command, options())?.arg(json_arg(alloc))
+    with_options(alloc, command, options())
 }
 
 /// The number of parts that a text names.
@@ -365,13 +377,11 @@ fn value_of<'a>(matches: &ArgMatches<'a>, option: &str) -> Option<&'a str>
     matches.get_str(option)
 }
 
-/// Whether the words have `--json`.
-fn has_json(matches: &ArgMatches<'_>) -> bool
-    ensures given { one_of (codes "json") (rows_of (found_of matches.now)) ≡ Some (codes "true") → result ≡ true }
-    ensures left_out { one_of (codes "json") (rows_of (found_of matches.now)) ≡ Some (codes "false")
-        → result ≡ false }
+/// Whether the words have this option, which takes no value.
+fn has_flag(matches: &ArgMatches<'_>, option: &str) -> bool
+    ensures { IsFlag (rows_of (found_of matches.now)) option.now result }
 {
-    matches.get_flag("json")
+    matches.get_flag(option)
 }
 
 /// The value of an option, or this text where the option isn't there.
@@ -402,9 +412,11 @@ fn found<'a>(matches: &ArgMatches<'a>) -> Result<PlanSettings<'a>, Refused>
         least: least_of(matches)?,
         mount: mount_of(value_or(matches, "mount", "/mnt/cephfs"))?,
         pins: value_of(matches, "pins"),
+        subvolumes: has_flag(matches, "subvolumes"),
         svg: value_of(matches, "svg"),
         script: value_of(matches, "script"),
-        is_json: has_json(matches),
+        is_json: has_flag(matches, "json"),
+        paths0: has_flag(matches, "paths0"),
     })
 }
 

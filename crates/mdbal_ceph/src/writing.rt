@@ -148,7 +148,7 @@ fn script_of(
     changes: &[PinChange],
 ) -> Result<Vec<u8>, Error>
     ensures { IfOk result (λ script. script.items ≡ pins_script mounted.entry.mount.now mounted.entry.name.now
-        mounted.entry.fsid.now directories.now changes.now) }
+        mounted.entry.fsid.now mounted.entry.by_ceph directories.now changes.now) }
 {
     match make_pins_script(alloc, mounted, directories, changes) {
         Ok(script) => Ok(script),
@@ -163,19 +163,20 @@ fn script_of(
 /// The files of `--pins`.
 fn pin_files(
     alloc: Global,
-    mount: &str,
+    settings: &PlanSettings,
     outcome: &Outcome,
     is_proposed: bool,
 ) -> Result<PinFiles, Error>
-    ensures { IfOk result (ArePinFiles mount.now outcome.now (proposed_changes outcome.now is_proposed)) }
+    ensures { IfOk result (ArePinFiles settings.now outcome.now (proposed_changes outcome.now is_proposed)) }
 {
     let directories = outcome.directories.as_slice();
     let rows = outcome.decision.proposal.rows.as_slice();
     let changes = changes_of(outcome, is_proposed);
     let mounted = MountedFileSystem {
-        mount: mount.as_bytes(),
+        mount: settings.mount.as_bytes(),
         name: outcome.file_system.name.as_bytes(),
         fsid: outcome.file_system.fsid.as_bytes(),
+        by_ceph: settings.subvolumes,
     };
     let back = changes_back(alloc, rows, changes)?;
     Ok(PinFiles {
@@ -198,7 +199,7 @@ pub fn written(
     let stays = stays_of(alloc, directories)?;
     let text = told(alloc, outcome, &stays, settings.is_json, is_proposed)?;
     let pins = match settings.pins {
-        Some(_) => Some(pin_files(alloc, settings.mount, outcome, is_proposed)?),
+        Some(_) => Some(pin_files(alloc, settings, outcome, is_proposed)?),
         None => None,
     };
     let picture = match settings.svg {

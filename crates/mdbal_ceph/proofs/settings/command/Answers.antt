@@ -3,7 +3,7 @@ use Rattle.std.specs.List.{fold}
 use Rattle.std.proofs.lemmas.List.Folds.{fold-map}
 use Rattle.std.proofs.lemmas.Result.{IfOk-weaker}
 use Rattle.clap.specs.Words.{App, Rule, app_of, with_rule}
-use Rattle.mdbal_ceph.specs.CommandLine.{folder_rule, json_rule, option_rule, option_rules, plan_command}
+use Rattle.mdbal_ceph.specs.CommandLine.{folder_rule, option_rule, option_rules, plan_command}
 use Rattle.mdbal_ceph.proofs.settings.command.Goals as goal
 
 pub returns : goal.returns
@@ -11,11 +11,8 @@ returns c =
     let first : app_of c.in_ok-command.command ≡ with_rule plan_command folder_rule =
     c.in_ok-command.ensures.shape c.folder_arg.ensures.local
     ∙ (ap (λ (r : Rule). with_rule (app_of c.plain_command.result) r) c.folder_arg.ensures.rule ∙ ap (λ (a : App). with_rule a folder_rule) c.plain_command.ensures) in
-    let all : app_of c.in_ok-with_options.field-0 ≡ fold with_rule (with_rule plan_command folder_rule) option_rules =
-    c.in_ok-with_options.ensures
+    IfOk-weaker c.with_options.result _ _
+    (λ r adds. adds
     ∙ (sym (fold-map with_rule option_rule (app_of c.in_ok-command.command) c.options.result.now)
-    ∙ (ap (λ (rules : List Rule). fold with_rule (app_of c.in_ok-command.command) rules) c.options.ensures ∙ ap (λ (a : App). fold with_rule a option_rules) first)) in
-    IfOk-weaker c.arg-2.result _ _
-    (λ r adds. adds.shape c.json_arg.ensures.local
-    ∙ (ap (λ (rule : Rule). with_rule (app_of c.in_ok-with_options.field-0) rule) c.json_arg.ensures.rule ∙ ap (λ (a : App). with_rule a json_rule) all))
-    c.arg-2.ensures
+    ∙ (ap (λ (rules : List Rule). fold with_rule (app_of c.in_ok-command.command) rules) c.options.ensures ∙ ap (λ (a : App). fold with_rule a option_rules) first)))
+    c.with_options.ensures
