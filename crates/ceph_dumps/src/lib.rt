@@ -16,7 +16,7 @@ pub mod subtrees;
 pub use balancer::read_balancer;
 pub use cluster::{FileSystemRanks, read_cluster};
 pub use dump_error::DumpError;
-pub use file_system::{FileSystem, is_word_byte, read_complete};
+pub use file_system::{FileSystem, read_complete};
 pub use listing::{EphemeralPin, ListedDir, ListedValue, read_listing};
 pub use loads::{FragmentHeat, read_loads};
 pub use own_list::{OwnPin, read_own_list};

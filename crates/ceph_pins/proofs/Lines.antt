@@ -1,5 +1,6 @@
 -- Texts that grow line by line.
-use Rattle.std.proofs.Common.{◌≡◌, ◌∙◌, ◌==◌, ◌<◌, ◌+◌, ℕ, zero, suc, false, true, List, [], ◌∷◌, ◌++◌, All, Option, Some, None, get_or, length, take, slice_get, refl, ap, sym, arith, append_assoc}
+use Rattle.std.proofs.Common.{◌≡◌, ◌∙◌, ◌==◌, ◌<◌, ◌+◌, ℕ, Bool, zero, suc, false, true, List, [], ◌∷◌, ◌++◌, Option, get_or, length, take, slice_get, refl, ap, sym, arith}
+use Rattle.std.specs.Prelude.{if◌then◌else◌}
 use Rattle.std.specs.List.{flat_map}
 use Rattle.std.proofs.lemmas.Bool.{both_ways}
 use Rattle.std.proofs.lemmas.List.{flat_map_more, take_more}
@@ -7,8 +8,8 @@ use Rattle.std.proofs.lemmas.List.Elements.{All-append}
 use Rattle.ceph_plan.specs.declared.row.PinChange.{PinChange}
 use Rattle.ceph_snapshot.specs.declared.directory.Directory.{Directory}
 use Rattle.ceph_pins.specs.OwnList.{pin_line_of, own_lines}
-use Rattle.ceph_pins.specs.PinsScript.{HasNoNul, IsChangeWritable, change_line, path_at, pins_script, variable_lines}
-use Rattle.ceph_pins.specs.declared.pins_script.TheConstants.{HEAD, CHECKS, FOOT}
+use Rattle.ceph_pins.specs.PinsScript.{HasNoNul, change_line, needs_ceph, needs_mount, path_at, pins_script, variable_lines}
+use Rattle.ceph_pins.specs.declared.pins_script.TheConstants.{HEAD, CHECKS, CEPH, FOOT}
 
 -- one more element's text
 pub more_lines : {A : Type 0} (f : A → List ℕ) (old before after : List ℕ) (xs : List A) (i : ℕ) (d : A) → i < length xs
@@ -20,11 +21,12 @@ more_lines {A} f old before after xs i d inside before_is after_is =
     ∙ ap (λ (those : List A). old ++ flat_map f those) (sym (take_more xs i d inside))))
 
 -- the script of some changes
-pub script_of : (mount name fsid : List ℕ) (directories : List Directory) (changes : List PinChange) → (length changes == 0) ≡ false
-    → HEAD.now ++ variable_lines mount name fsid ++ CHECKS.now ++ flat_map (change_line mount directories) changes ++ FOOT.now
-    ≡ pins_script mount name fsid directories changes
-script_of mount name fsid directories [] some = absurd (both_ways true some refl)
-script_of mount name fsid directories (change ∷ changes) some = refl
+pub script_of : (mount name fsid : List ℕ) (by_ceph : Bool) (directories : List Directory) (changes : List PinChange) → (length changes == 0) ≡ false
+    → HEAD.now ++ variable_lines mount name fsid ++ (if needs_mount by_ceph directories changes then CHECKS.now else []) ++ (if needs_ceph by_ceph directories changes then CEPH.now else [])
+    ++ flat_map (change_line mount by_ceph directories) changes ++ FOOT.now
+    ≡ pins_script mount name fsid by_ceph directories changes
+script_of mount name fsid by_ceph directories [] some = absurd (both_ways true some refl)
+script_of mount name fsid by_ceph directories (change ∷ changes) some = refl
 
 -- a place without a NUL
 pub place_no_nul : (mount path place : List ℕ) → place ≡ mount ++ path → HasNoNul mount → HasNoNul path → HasNoNul place

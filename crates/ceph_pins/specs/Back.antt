@@ -1,5 +1,5 @@
 -- The changes that bring the pins back to what they were before other changes.
-use Rattle.std.specs.Prelude.{ℕ, List, map, reverse, Option}
+use Rattle.std.specs.Prelude.{List, map, reverse}
 use Rattle.ceph_plan.specs.Changes.{before_pin}
 use Rattle.ceph_plan.specs.declared.row.PinChange.{PinChange}
 use Rattle.ceph_plan.specs.declared.row.PinRow.{PinRow}

@@ -1,6 +1,6 @@
 -- The list of the pins of this program, byte by byte.
 use Rattle.std.specs.Prelude.{◌==◌, ◌++◌, ℕ, zero, suc, List, [], ◌∷◌, codes, decimal, length, slice_get, Option}
-use Rattle.std.specs.Prelude.{Some, None, if◌then◌else◌}
+use Rattle.std.specs.Prelude.{Some, if◌then◌else◌}
 use Rattle.std.specs.List.{flat_map}
 use Rattle.ceph_plan.specs.Changes.{applied}
 use Rattle.ceph_plan.specs.Rule.{row_at}

@@ -1,11 +1,13 @@
 //! The shell script that makes changes of pins, a line each: one `setfattr`, or Ceph's own command for a subvolume.
 //!
 //! Each path is quoted for `sh` whatever its bytes.
-ghost use Rattle.std.specs.Prelude.{◌≡◌, ◌++◌, All, IfErr, IfOk, OnOk, is_some};
+ghost use Rattle.std.specs.Prelude.{◌≡◌, ◌<◌, ◌++◌, [], All, IfErr, IfOk, OnOk, is_ok, is_some};
+ghost use Rattle.std.specs.Prelude.{length, true, if◌then◌else◌};
 ghost use Rattle.std.specs.List.{flat_map};
 ghost use Rattle.ceph_plan.specs.Words.{quoted_word};
 ghost use Rattle.ceph_pins.specs.PinsScript.{AreWritable, HasNoNul, IsChangeWritable, change_command, change_line};
-ghost use Rattle.ceph_pins.specs.PinsScript.{needs_ceph, needs_mount, pin_line, pins_script, variable_lines};
+ghost use Rattle.ceph_pins.specs.PinsScript.{needs_ceph, needs_mount, path_at, pin_line, pins_script};
+ghost use Rattle.ceph_pins.specs.PinsScript.{variable_lines};
 ghost use Rattle.ceph_pins.specs.Volumes.{pin_text};
 ghost use Rattle.ceph_pins.specs.declared.script_error.ScriptError.TheVariants as cause;
 
@@ -146,6 +148,33 @@ fn push_line(
     Ok(())
 }
 
+/// The path of the directory of a row.
+fn path_of(directories: &[Directory], row: u32) -> Result<&[u8], ScriptError>
+    ensures path { IfOk result (λ path. path.now ≡ path_at directories.now row) }
+    ensures there { row < length directories.now → is_ok result ≡ true }
+{
+    match directories.get(row as usize) {
+        Some(directory) => Ok(&directory.path),
+        None => Err(ScriptError::NoDirectory(row)),
+    }
+}
+
+/// Adds the line that gives the directory of a path a pin over the mount.
+fn push_mounted(
+    alloc: Global,
+    script: &mut Vec<u8>,
+    pin: Option<Rank>,
+    mount: &[u8],
+    path: &[u8],
+) -> Result<(), ScriptError>
+    ensures line { OnOk result (script.new.items ≡ script.old.items ++ pin_line pin (mount.now ++ path.now)) }
+    ensures refused { HasNoNul mount.now → HasNoNul path.now → IfErr result (λ error. error ≡ cause.Memory) }
+{
+    let mut place = Vec::from_slice(alloc, mount)?;
+    place.extend_from_slice(path)?;
+    push_line(alloc, script, pin, &place)
+}
+
 /// Adds the line of a change. Returns whether Ceph's own command makes it.
 fn push_change(
     alloc: Global,
@@ -156,21 +185,22 @@ fn push_change(
 ) -> Result<bool, ScriptError>
     ensures line { OnOk result (script.new.items ≡ script.old.items
         ++ change_line mounted.entry.mount.now mounted.entry.by_ceph directories.now change) }
-    ensures way { IfOk result (λ by_ceph. by_ceph ≡ is_some (change_command mounted.entry.by_ceph directories.now change)) }
+    ensures way { IfOk result (λ by_ceph. by_ceph
+        ≡ is_some (change_command mounted.entry.by_ceph directories.now change)) }
     ensures refused { HasNoNul mounted.entry.mount.now → IsChangeWritable directories.now change
         → IfErr result (λ error. error ≡ cause.Memory) }
 {
-    let Some(directory) = directories.get(change.row as usize) else {
-        return Err(ScriptError::NoDirectory(change.row));
-    };
-    if let Some(line) = ceph_line(alloc, mounted.by_ceph, change.pin, &directory.path)? {
-        script.extend_from_slice(&line)?;
-        return Ok(true);
+    let path = path_of(directories, change.row)?;
+    match ceph_line(alloc, mounted.by_ceph, change.pin, path)? {
+        Some(line) => {
+            script.extend_from_slice(&line)?;
+            Ok(true)
+        }
+        None => {
+            push_mounted(alloc, script, change.pin, mounted.mount, path)?;
+            Ok(false)
+        }
     }
-    let mut place = Vec::from_slice(alloc, mounted.mount)?;
-    place.extend_from_slice(&directory.path)?;
-    push_line(alloc, script, change.pin, &place)?;
-    Ok(false)
 }
 
 /// The lines of these changes, in their order.
@@ -194,8 +224,8 @@ fn change_lines(
     let mut need_ceph = false;
     for change in changes {
         let by_ceph = push_change(alloc, &mut text, mounted, directories, *change)?;
-        need_mount = need_mount || !by_ceph;
-        need_ceph = need_ceph || by_ceph;
+        need_mount |= !by_ceph;
+        need_ceph |= by_ceph;
     }
     Ok(ChangeLines {
         text,
@@ -225,6 +255,16 @@ fn push_variables(
     Ok(())
 }
 
+/// Adds a piece of the script where it is needed.
+fn push_if(script: &mut Vec<u8>, is_needed: bool, piece: &str) -> Result<(), AllocError>
+    ensures { OnOk result (script.new.items ≡ script.old.items ++ (if is_needed then piece.now else [])) }
+{
+    if is_needed {
+        script.extend_from_slice(piece.as_bytes())?;
+    }
+    Ok(())
+}
+
 /// The script that makes these changes, in their order.
 pub fn make_pins_script(
     alloc: Global,
@@ -244,12 +284,8 @@ pub fn make_pins_script(
     let lines = change_lines(alloc, mounted, directories, changes)?;
     let mut script = Vec::from_slice(alloc, HEAD.as_bytes())?;
     push_variables(alloc, &mut script, mounted)?;
-    if lines.need_mount {
-        script.extend_from_slice(CHECKS.as_bytes())?;
-    }
-    if lines.need_ceph {
-        script.extend_from_slice(CEPH.as_bytes())?;
-    }
+    push_if(&mut script, lines.need_mount, CHECKS)?;
+    push_if(&mut script, lines.need_ceph, CEPH)?;
     script.extend_from_slice(&lines.text)?;
     script.extend_from_slice(FOOT.as_bytes())?;
     Ok(script)

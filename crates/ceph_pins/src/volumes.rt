@@ -1,10 +1,11 @@
 //! Lines that pin subvolumes and their groups by Ceph's own commands, for which no mount is needed.
-ghost use Rattle.std.specs.Prelude.{◌≡◌, ◌++◌, IfOk, OnOk, map};
+ghost use Rattle.std.specs.Prelude.{◌≡◌, ◌==◌, ◌++◌, ◌∷◌, [], IfOk, OnOk, codes, map};
+ghost use Rattle.std.specs.List.{list_all, slice_split};
 ghost use Rattle.std.specs.Option.{option_map};
-ghost use Rattle.ceph_pins.specs.Volumes.{ceph_line, group_line, is_group, is_volume_name, named_line, pin_text};
-ghost use Rattle.ceph_pins.specs.Volumes.{subvolume_line, volume_names};
+ghost use Rattle.ceph_dumps.specs.Complete.{is_word_byte};
+ghost use Rattle.ceph_pins.specs.Volumes.{below_volumes, ceph_line, group_line, group_option, is_group};
+ghost use Rattle.ceph_pins.specs.Volumes.{is_volume_name, named_line, pin_text, subvolume_command, subvolume_line, volume_names};
 
-use ceph_dumps::is_word_byte;
 use mds_types::Rank;
 use std::alloc::{AllocError, Global};
 
@@ -25,21 +26,31 @@ pub(crate) fn push_pin(
     }
 }
 
+fn is_word_byte(byte: u8) -> bool
+    ensures { result ≡ is_word_byte byte }
+{
+    matches!(byte, b'0'..=b'9' | b'A'..=b'Z' | b'a'..=b'z' | b'_' | b'.' | b'-')
+}
+
+/// Whether each byte may be in such a name.
+fn has_word_bytes(name: &[u8]) -> bool
+    ensures { result ≡ list_all is_word_byte name.now }
+{
+    name.iter().all(|byte| is_word_byte(*byte))
+}
+
 /// Whether Ceph's commands take this name, and `sh` takes it as a word.
 fn is_volume_name(name: &[u8]) -> bool
     ensures { result ≡ is_volume_name name.now }
 {
-    match name {
-        [] | [b'-', ..] => false,
-        _ => name.iter().all(|byte| is_word_byte(*byte)),
-    }
+    !name.is_empty() && !name.starts_with(b"-") && has_word_bytes(name)
 }
 
 /// Whether this is the name of a group, and of none of Ceph's own.
 fn is_group(group: &[u8]) -> bool
     ensures { result ≡ is_group group.now }
 {
-    !group.starts_with(b"_") && is_volume_name(group)
+    is_volume_name(group) && !group.starts_with(b"_")
 }
 
 /// The line that pins a group.
@@ -52,6 +63,25 @@ fn group_line(alloc: Global, pin: Option<Rank>, group: &[u8]) -> Result<Vec<u8>,
     push_pin(alloc, &mut line, pin)?;
     line.push(b'\n')?;
     Ok(line)
+}
+
+/// Adds the option that names a group.
+fn push_option(line: &mut Vec<u8>, group: &[u8]) -> Result<(), AllocError>
+    ensures { OnOk result (line.new.items ≡ line.old.items ++ codes " --group_name " ++ group.now) }
+{
+    line.extend_from_slice(b" --group_name ")?;
+    line.extend_from_slice(group)
+}
+
+/// Adds the option that names the group of a subvolume, unless it is in none.
+fn push_group(line: &mut Vec<u8>, group: &[u8]) -> Result<(), AllocError>
+    ensures { OnOk result (line.new.items ≡ line.old.items ++ group_option group.now) }
+{
+    if group.is_empty() {
+        Ok(())
+    } else {
+        push_option(line, group)
+    }
 }
 
 /// The line that pins a subvolume of a group, or of none where that is empty.
@@ -67,22 +97,69 @@ fn subvolume_line(
     line.extend_from_slice(name)?;
     line.extend_from_slice(b" export ")?;
     push_pin(alloc, &mut line, pin)?;
-    if !group.is_empty() {
-        line.extend_from_slice(b" --group_name ")?;
-        line.extend_from_slice(group)?;
-    }
+    push_group(&mut line, group)?;
     line.push(b'\n')?;
     Ok(line)
+}
+
+/// What comes after `/volumes/` in a path.
+fn below_volumes(path: &[u8]) -> Option<&[u8]>
+    ensures { option_map (λ names. names.now) result ≡ below_volumes path.now }
+{
+    path.strip_prefix(b"/volumes/")
+}
+
+/// The parts between slashes.
+fn slash_parts(alloc: Global, names: &[u8]) -> Result<Vec<&[u8]>, AllocError>
+    ensures { IfOk result (λ parts. map (λ part. part.now) parts.items ≡ slice_split (λ byte. byte == 47) names.now) }
+{
+    names.split(|byte| *byte == b'/').collect(alloc)
 }
 
 /// The names on the way from `/volumes`, if a path leads there.
 fn volume_names(alloc: Global, path: &[u8]) -> Result<Vec<&[u8]>, AllocError>
     ensures { IfOk result (λ names. map (λ name. name.now) names.items ≡ volume_names path.now) }
 {
-    match path.strip_prefix(b"/volumes/") {
-        Some(names) => names.split(|byte| *byte == b'/').collect(alloc),
+    match below_volumes(path) {
+        Some(names) => slash_parts(alloc, names),
         None => Ok(Vec::new(alloc)),
     }
+}
+
+/// The line that pins a group, if it is none of Ceph's own.
+fn group_command(
+    alloc: Global,
+    pin: Option<Rank>,
+    group: &[u8],
+) -> Result<Option<Vec<u8>>, AllocError>
+    ensures { IfOk result (λ line. option_map (λ bytes. bytes.items) line ≡ named_line pin (group.now ∷ [])) }
+{
+    if is_group(group) {
+        Ok(Some(group_line(alloc, pin, group)?))
+    } else {
+        Ok(None)
+    }
+}
+
+/// The line that pins a subvolume, if Ceph's commands name it. Ceph keeps those without a group in `_nogroup`.
+fn subvolume_command(
+    alloc: Global,
+    pin: Option<Rank>,
+    group: &[u8],
+    name: &[u8],
+) -> Result<Option<Vec<u8>>, AllocError>
+    ensures { IfOk result (λ line. option_map (λ bytes. bytes.items) line ≡ subvolume_command pin group.now name.now) }
+{
+    if !is_volume_name(name) {
+        return Ok(None);
+    }
+    if is_group(group) {
+        return Ok(Some(subvolume_line(alloc, pin, group, name)?));
+    }
+    if group != b"_nogroup".as_slice() {
+        return Ok(None);
+    }
+    Ok(Some(subvolume_line(alloc, pin, b"", name)?))
 }
 
 /// The line that pins what these names lead to from `/volumes`, if Ceph's commands name it.
@@ -94,15 +171,11 @@ fn named_line(
     ensures { IfOk result (λ line. option_map (λ bytes. bytes.items) line
         ≡ named_line pin (map (λ name. name.now) names.now)) }
 {
-    let line = match names {
-        [group] if is_group(group) => group_line(alloc, pin, group)?,
-        [group, name] if is_volume_name(name) && is_group(group) => {
-            subvolume_line(alloc, pin, group, name)?
-        }
-        [b"_nogroup", name] if is_volume_name(name) => subvolume_line(alloc, pin, b"", name)?,
-        _ => return Ok(None),
-    };
-    Ok(Some(line))
+    match names {
+        [group] => group_command(alloc, pin, group),
+        [group, name] => subvolume_command(alloc, pin, group, name),
+        _ => Ok(None),
+    }
 }
 
 /// The line that pins the directory of a path by Ceph's own command, if that is wanted and the command names it.

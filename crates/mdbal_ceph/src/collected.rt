@@ -234,8 +234,8 @@ pub fn read_named<R: Files + AllocGlobal + Clock + Eprint>(
     let ranks = cluster_of(rt, folder)?.ranks;
     let samples = sample_count(rt, folder)?;
     let gathering = read_dumps(rt, &mut progress, folder, ranks, samples)?;
+    let snapshot = gathering.snapshot(&[], samples, ranks)?;
     let own = own_pins(rt, own)?;
-    let snapshot = gathering.snapshot(listed(&own), samples, ranks)?;
     let text = paths0(rt.alloc(), &snapshot.directories, listed(&own))?;
     Ok(text)
 }

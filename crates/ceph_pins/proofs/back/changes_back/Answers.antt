@@ -1,4 +1,4 @@
-use Rattle.std.proofs.Common.{◌≡◌, ◌∙◌, ℕ, List, ap, arith, map, reverse, take}
+use Rattle.std.proofs.Common.{◌≡◌, ◌∙◌, List, ap, arith, map, reverse, take}
 use Rattle.std.proofs.lemmas.List.{take_all}
 use Rattle.ceph_plan.specs.Changes.{applied, before_pin}
 use Rattle.ceph_plan.specs.declared.row.PinChange.{PinChange}

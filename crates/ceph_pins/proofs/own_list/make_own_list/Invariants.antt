@@ -1,6 +1,6 @@
-use Rattle.std.proofs.Common.{◌≡◌, ◌≤◌, ◌++◌, ℕ, List, length, slice_index_or}
+use Rattle.std.proofs.Common.{◌≡◌, ◌≤◌, ◌++◌, length, slice_index_or}
 use Rattle.std.specs.Prelude.{None}
-use Rattle.ceph_pins.specs.OwnList.{own_lines, own_list}
+use Rattle.ceph_pins.specs.OwnList.{own_lines}
 use Rattle.ceph_pins.proofs.own_list.make_own_list.Given as goal
 
 -- what is written, and the lines of the rows that are left, are the whole list

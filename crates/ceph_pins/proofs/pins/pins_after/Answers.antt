@@ -1,4 +1,4 @@
-use Rattle.std.proofs.Common.{◌≡◌, ◌∙◌, ◌==◌, ◌<◌, ℕ, List, Option, ap, sym, arith, take, cond}
+use Rattle.std.proofs.Common.{◌∙◌, ◌==◌, ℕ, List, Option, ap, sym, arith, take, cond}
 use Rattle.ceph_plan.specs.Changes.{applied, changed}
 use Rattle.ceph_plan.specs.declared.row.PinChange.{PinChange}
 use Rattle.ceph_pins.specs.OwnList.{earlier_pin}
