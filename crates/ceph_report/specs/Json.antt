@@ -2,7 +2,8 @@
 use Rattle.std.specs.Prelude.{◌++◌, ℕ, Bool, List, [], codes, length, slice_get, slice_index}
 use Rattle.std.specs.Prelude.{Option, Some, None, if◌then◌else◌}
 use Rattle.mds_types.specs.Sums.{count_below}
-use Rattle.ceph_pins.specs.PinsScript.{path_at, pin_text}
+use Rattle.ceph_pins.specs.PinsScript.{path_at}
+use Rattle.ceph_pins.specs.Volumes.{pin_text}
 use Rattle.ceph_plan.specs.declared.row.PinChange.{PinChange}
 use Rattle.ceph_snapshot.specs.declared.directory.Directory.{Directory}
 use Rattle.ceph_report.specs.Left.{left_at}

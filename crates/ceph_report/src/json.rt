@@ -3,7 +3,8 @@
 //! A path needn't be UTF-8: each of its bytes is one character there, U+0000 to U+00FF. Heat is in thousandths.
 ghost use Rattle.std.specs.Prelude.{◌≡◌, ◌<◌, ◌≤◌, ◌+◌, ◌++◌, None, OnOk, IfOk, length, slice_get};
 ghost use Rattle.std.specs.Prelude.{if◌then◌else◌};
-ghost use Rattle.ceph_pins.specs.PinsScript.{path_at, pin_text};
+ghost use Rattle.ceph_pins.specs.PinsScript.{path_at};
+ghost use Rattle.ceph_pins.specs.Volumes.{pin_text};
 ghost use Rattle.ceph_report.specs.Json.{bound_members, inode_numbers, json, part_list, part_member, pin_list};
 ghost use Rattle.ceph_report.specs.Json.{pin_member, pin_object, plan_head, plan_numbers, plan_totals, rank_entry};
 ghost use Rattle.ceph_report.specs.Json.{rank_list, rank_numbers, rank_object, root_numbers, term_name, truth};
