@@ -1,0 +1,5 @@
+//! The checker of certificates.
+
+mod judged;
+mod program;
+mod streams;
