@@ -1,6 +1,6 @@
 //! The plan of docs/CERTIFICATES.md that is checked by hand, and what becomes of it when one line is changed.
+use crate::certificates::report_of;
 use crate::same::{Sure, holds_in, same_in};
-use certificate_judge::report;
 use std::alloc::{AllocError, Global};
 use std::process::Abort;
 
@@ -92,17 +92,10 @@ fn changed(alloc: Global, number: usize, line: &str) -> Result<String, AllocErro
 /// A change of one line has this status, this output, and this text on standard error.
 fn reports_so(rt: &impl Abort, alloc: Global, change: (usize, &str), wanted: (u8, &str, &str)) {
     let text = changed(alloc, change.0, change.1).sure(rt);
-    let (mut writer, mut errors) = (Vec::new(alloc), Vec::new(alloc));
-    let status = report(
-        alloc,
-        "plan",
-        &mut text.as_bytes(),
-        &mut writer,
-        &mut errors,
-    );
-    same_in(rt, &status, &wanted.0, &change);
-    holds_in(rt, writer.as_slice() == wanted.1.as_bytes(), &change);
-    holds_in(rt, errors.as_slice() == wanted.2.as_bytes(), &change);
+    let found = report_of(alloc, &mut text.as_bytes());
+    same_in(rt, &found.status, &wanted.0, &change);
+    holds_in(rt, found.output.as_slice() == wanted.1.as_bytes(), &change);
+    holds_in(rt, found.errors.as_slice() == wanted.2.as_bytes(), &change);
 }
 
 #[test]
@@ -223,22 +216,15 @@ const NAMED: &[(&str, u32)] = &[
 /// A certificate with names holds, or its line is named.
 fn is_named(rt: &impl Abort, alloc: Global, row: &(&str, u32)) {
     let text = named(alloc, row.0).sure(rt);
-    let (mut writer, mut errors) = (Vec::new(alloc), Vec::new(alloc));
-    let status = report(
-        alloc,
-        "plan",
-        &mut text.as_bytes(),
-        &mut writer,
-        &mut errors,
-    );
+    let found = report_of(alloc, &mut text.as_bytes());
     let at = row.1;
     if at == 0 {
-        same_in(rt, &status, &0, row);
-        holds_in(rt, writer.as_slice() == YES.as_bytes(), row);
+        same_in(rt, &found.status, &0, row);
+        holds_in(rt, found.output.as_slice() == YES.as_bytes(), row);
     } else {
         let said = format!(in alloc; "plan:{at}: expected ").sure(rt);
-        same_in(rt, &status, &2, row);
-        holds_in(rt, errors.as_slice().starts_with(said.as_bytes()), row);
+        same_in(rt, &found.status, &2, row);
+        holds_in(rt, found.errors.starts_with(said.as_bytes()), row);
     }
 }
 
@@ -252,17 +238,10 @@ fn reads_names(rt: HostRuntime) {
 /// A file of two texts has this status, and is reported on standard error where that is 2, else on standard output.
 fn has_status(rt: &impl Abort, alloc: Global, first: &str, second: &str, wanted: u8) {
     let file = format!(in alloc; "{first}{second}").sure(rt);
-    let (mut writer, mut errors) = (Vec::new(alloc), Vec::new(alloc));
-    let status = report(
-        alloc,
-        "plan",
-        &mut file.as_bytes(),
-        &mut writer,
-        &mut errors,
-    );
-    same_in(rt, &status, &wanted, &file);
-    same_in(rt, &errors.is_empty(), &(wanted < 2), &file);
-    same_in(rt, &writer.is_empty(), &(wanted == 2), &file);
+    let found = report_of(alloc, &mut file.as_bytes());
+    same_in(rt, &found.status, &wanted, &file);
+    same_in(rt, &found.errors.is_empty(), &(wanted < 2), &file);
+    same_in(rt, &found.output.is_empty(), &(wanted == 2), &file);
 }
 
 #[test]

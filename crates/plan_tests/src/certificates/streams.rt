@@ -1,7 +1,7 @@
 //! Files that come in many reads, and files of many certificates.
 use crate::certificates::program::{Broken, EMPTY, YES};
+use crate::certificates::report_of;
 use crate::same::{Sure, holds_in, same_in};
-use certificate_judge::report;
 use std::alloc::{AllocError, Global};
 use std::io;
 use std::io::Read;
@@ -53,11 +53,11 @@ fn certificate_of(alloc: Global, rows: usize) -> Result<String, AllocError> {
 
 /// A reader's certificates have this status, this output, and this text at the front of standard error.
 fn reports_so<R: Read>(rt: &impl Abort, alloc: Global, reader: &mut R, wanted: (u8, &str, &str)) {
-    let (mut writer, mut errors) = (Vec::new(alloc), Vec::new(alloc));
-    let status = report(alloc, "plan", reader, &mut writer, &mut errors);
-    same_in(rt, &status, &wanted.0, &wanted.2);
-    holds_in(rt, writer.as_slice() == wanted.1.as_bytes(), &wanted.2);
-    holds_in(rt, errors.starts_with(wanted.2.as_bytes()), &wanted.2);
+    let found = report_of(alloc, reader);
+    let holds = found.output.as_slice() == wanted.1.as_bytes();
+    same_in(rt, &found.status, &wanted.0, &wanted.2);
+    holds_in(rt, holds, &wanted.2);
+    holds_in(rt, found.errors.starts_with(wanted.2.as_bytes()), &wanted.2);
 }
 
 /// Rows of certificates, one after another: some are longer than what is read first.

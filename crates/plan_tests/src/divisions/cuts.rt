@@ -46,58 +46,75 @@ const EQUALS: [Given; 5] = [
     (0, 4, 1, 0),
 ];
 
-// (rows, bound, parts, the part of each row, the table): the hottest rests go first, among equals the smaller row
-const CUTS: [(&[Given], u64, u32, &[u32], &[InTable]); 4] = [
-    (&STAR, 7, 3, &[0, 1, 2, 0], &STAR_TABLE),
-    (
-        &EQUALS,
-        13,
-        2,
-        &[0, 0, 1, 0, 0],
-        &[
+/// Rows that are cut within a bound: how many parts there are, the part of each row, and the table.
+#[derive(Drop)]
+struct Wanted {
+    rows: &'static [Given],
+    bound: u64,
+    count: u32,
+    part: &'static [u32],
+    table: &'static [InTable],
+}
+
+/// The hottest rests go first, among equals the smaller row.
+const CUTS: [&Wanted; 4] = [
+    &Wanted {
+        rows: &STAR,
+        bound: 7,
+        count: 3,
+        part: &[0, 1, 2, 0],
+        table: &STAR_TABLE,
+    },
+    &Wanted {
+        rows: &EQUALS,
+        bound: 13,
+        count: 2,
+        part: &[0, 0, 1, 0, 0],
+        table: &[
             (1, 13, 5, false),
             (0, 3, 0, false),
             (0, 5, 0, true),
             (0, 5, 0, false),
             (0, 4, 0, false),
         ],
-    ),
-    (
-        &EQUALS,
-        8,
-        3,
-        &[0, 0, 1, 2, 0],
-        &[
+    },
+    &Wanted {
+        rows: &EQUALS,
+        bound: 8,
+        count: 3,
+        part: &[0, 0, 1, 2, 0],
+        table: &[
             (2, 8, 5, false),
             (0, 3, 0, false),
             (0, 5, 0, true),
             (0, 5, 0, true),
             (0, 4, 0, false),
         ],
-    ),
-    (&[], 0, 0, &[], &[]),
+    },
+    &Wanted {
+        rows: &[],
+        bound: 0,
+        count: 0,
+        part: &[],
+        table: &[],
+    },
 ];
 
-/// The rows are cut so.
-fn is_cut_so(
-    rt: &impl Abort,
-    alloc: Global,
-    rows: &[Given],
-    bound: u64,
-    wanted: (u32, &[u32]),
-    table: &[InTable],
-) {
-    let (answer, passes) = cut_within(alloc, &problem(rt, alloc, rows, 1), bound);
+/// The rows are cut so, in one pass.
+fn is_cut_so(rt: &impl Abort, alloc: Global, wanted: &Wanted) {
+    let bound = wanted.bound;
+    let (answer, passes) = cut_within(alloc, &problem(rt, alloc, wanted.rows, 1), bound);
     let cut = answer.sure(rt);
-    same_in(rt, &(cut.count, cut.part.as_slice()), &wanted, &bound);
-    same_in(rt, &cut.rows, &entries(rt, alloc, table), &bound);
+    let found = (cut.count, cut.part.as_slice());
+    same_in(rt, &found, &(wanted.count, wanted.part), &bound);
+    same_in(rt, &cut.rows, &entries(rt, alloc, wanted.table), &bound);
     same_in(rt, &passes, &8, &bound);
 }
 
 #[test]
 fn cuts_the_hottest_pieces(rt: HostRuntime) {
-    for (rows, bound, count, part, table) in CUTS {
-        is_cut_so(&rt, rt.alloc(), rows, bound, (count, part), table);
+    for wanted in CUTS {
+        is_cut_so(&rt, rt.alloc(), wanted);
     }
 }
 

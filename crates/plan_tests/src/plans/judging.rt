@@ -2,9 +2,9 @@
 
 use crate::claims::{Claim, Shown, is_accepted, plan_of, plan_with, proof_of};
 use crate::divisions::cuts::{STAR, STAR_TABLE};
-use crate::given::{Given, problem};
+use crate::given::{Given, InTable, entries, problem};
 use crate::same::{Sure, holds_in, same_in};
-use mds_types::CutProof;
+use mds_types::{CutProof, CutTable};
 use plan_checker::check_cut;
 use std::alloc::Global;
 use std::process::Abort;
@@ -18,18 +18,21 @@ const FOUR: [Given; 4] = [(0, 1, 4, 1), (0, 0, 1, 2), (0, 1, 1, 0), (2, 0, 3, 1)
 /// Two directories below the root.
 const TWO: [Given; 3] = [(0, 0, 1, 0), (0, 4, 10, 0), (0, 6, 20, 0)];
 
+/// The table that no two parts of the chain are cooler than 6.
+const CHAIN_TABLE: [InTable; 4] = [
+    (2, 3, 3, false),
+    (2, 3, 3, false),
+    (1, 3, 3, true),
+    (0, 3, 0, true),
+];
+
 /// A plan for the chain and two ranks.
 const TRUE_CLAIM: Claim = Claim {
     part: &[0, 0, 1, 1],
     rank: &[0, 1],
     greatest: 6,
     moved: 2,
-    cut: &Shown::Table(&[
-        (2, 3, 3, false),
-        (2, 3, 3, false),
-        (1, 3, 3, true),
-        (0, 3, 0, true),
-    ]),
+    cut: &Shown::Table(&CHAIN_TABLE),
     part_price: &[2, 2],
     rank_price: &[-2, 0],
 };
@@ -280,12 +283,11 @@ const FORGED_PRICES: [(&[i64], &[i64], &str); 11] = [
 fn says_of_chain(
     rt: &impl Abort,
     alloc: Global,
-    shown: &Shown,
+    proof: CutProof,
     part_price: &[i64],
     rank_price: &[i64],
 ) -> bool {
     let chain = problem(rt, alloc, &CHAIN, 3);
-    let proof = proof_of(rt, alloc, shown);
     let plan = plan_with(rt, alloc, &TRUE_CLAIM, proof, part_price, rank_price);
     is_accepted(rt, alloc, &chain, &plan)
 }
@@ -293,220 +295,184 @@ fn says_of_chain(
 #[test]
 fn refuses_forged_prices(rt: HostRuntime) {
     for (part_price, rank_price, what) in FORGED_PRICES {
-        let yes = says_of_chain(&rt, rt.alloc(), TRUE_CLAIM.cut, part_price, rank_price);
+        let proof = proof_of(&rt, rt.alloc(), TRUE_CLAIM.cut);
+        let yes = says_of_chain(&rt, rt.alloc(), proof, part_price, rank_price);
         holds_in(&rt, !yes, &what);
     }
 }
 
-// (row, the proof of a plan for the chain, whether it is accepted)
-const FORGED_PROOFS: [(u8, &Shown, bool); 18] = [
+/// What the plan for the chain is shown with.
+enum Forged {
+    /// Another row in a place of the table.
+    Row(usize, InTable),
+    /// Another proof.
+    Proof(&'static Shown),
+}
+
+// (the proof of a plan for the chain, whether it is accepted)
+const FORGED_PROOFS: &[(Forged, bool)] = &[
+    (Forged::Row(3, (0, 3, 9, true)), true),
+    (Forged::Row(0, (2, 3, 4, false)), true),
+    (Forged::Row(1, (2, 3, 2, false)), false),
+    (Forged::Row(2, (1, 3, 4, true)), false),
+    (Forged::Row(2, (1, 3, 2, true)), false),
+    (Forged::Row(0, (2, 3, 3, true)), false),
+    (Forged::Row(3, (0, u64::MAX, 0, true)), false),
+    (Forged::Row(3, (u32::MAX, 3, 0, true)), false),
+    (Forged::Row(1, (2, 3, u64::MAX, false)), false),
+    (Forged::Row(2, (1, 2, 3, true)), false),
+    (Forged::Row(3, (0, 3, 0, false)), false),
     (
-        1,
-        &Shown::Table(&[
-            (2, 3, 3, false),
-            (2, 3, 3, false),
-            (1, 3, 3, true),
-            (0, 3, 9, true),
-        ]),
-        true,
-    ),
-    (
-        2,
-        &Shown::Table(&[
-            (2, 3, 4, false),
-            (2, 3, 3, false),
-            (1, 3, 3, true),
-            (0, 3, 0, true),
-        ]),
-        true,
-    ),
-    (
-        3,
-        &Shown::Table(&[
-            (2, 3, 3, false),
-            (2, 3, 2, false),
-            (1, 3, 3, true),
-            (0, 3, 0, true),
-        ]),
-        false,
-    ),
-    (
-        4,
-        &Shown::Table(&[
-            (2, 3, 3, false),
-            (2, 3, 3, false),
-            (1, 3, 4, true),
-            (0, 3, 0, true),
-        ]),
-        false,
-    ),
-    (
-        5,
-        &Shown::Table(&[
-            (2, 3, 3, false),
-            (2, 3, 3, false),
-            (1, 3, 2, true),
-            (0, 3, 0, true),
-        ]),
-        false,
-    ),
-    (
-        6,
-        &Shown::Table(&[
-            (2, 3, 3, true),
-            (2, 3, 3, false),
-            (1, 3, 3, true),
-            (0, 3, 0, true),
-        ]),
-        false,
-    ),
-    (
-        7,
-        &Shown::Table(&[
-            (2, 3, 3, false),
-            (2, 3, 3, false),
-            (1, 3, 3, true),
-            (0, u64::MAX, 0, true),
-        ]),
-        false,
-    ),
-    (
-        8,
-        &Shown::Table(&[
-            (2, 3, 3, false),
-            (2, 3, 3, false),
-            (1, 3, 3, true),
-            (u32::MAX, 3, 0, true),
-        ]),
-        false,
-    ),
-    (
-        9,
-        &Shown::Table(&[
-            (2, 3, 3, false),
-            (2, 3, u64::MAX, false),
-            (1, 3, 3, true),
-            (0, 3, 0, true),
-        ]),
-        false,
-    ),
-    (
-        10,
-        &Shown::Table(&[
-            (2, 3, 3, false),
-            (2, 3, 3, false),
-            (1, 2, 3, true),
-            (0, 3, 0, true),
-        ]),
-        false,
-    ),
-    (
-        11,
-        &Shown::Table(&[
-            (2, 3, 3, false),
-            (2, 3, 3, false),
-            (1, 3, 3, true),
-            (0, 3, 0, false),
-        ]),
-        false,
-    ),
-    (
-        12,
-        &Shown::Table(&[
+        Forged::Proof(&Shown::Table(&[
             (3, 3, 3, false),
             (3, 3, 3, false),
             (1, 3, 3, true),
             (0, 3, 0, true),
-        ]),
+        ])),
         false,
     ),
     (
-        13,
-        &Shown::Table(&[(u32::MAX, u64::MAX, u64::MAX, false); 4]),
+        Forged::Proof(&Shown::Table(&[(u32::MAX, u64::MAX, u64::MAX, false); 4])),
         false,
     ),
     (
-        14,
-        &Shown::Table(&[(2, 3, 3, false), (2, 3, 3, false), (1, 3, 3, true)]),
+        Forged::Proof(&Shown::Table(&[(2, 3, 3, false), (2, 3, 3, false), (1, 3, 3, true)])),
         false,
     ),
     (
-        15,
-        &Shown::Table(&[
+        Forged::Proof(&Shown::Table(&[
             (2, 3, 3, false),
             (2, 3, 3, false),
             (1, 3, 3, true),
             (0, 3, 0, true),
             (0, 0, 0, false),
-        ]),
+        ])),
         false,
     ),
-    (16, &Shown::Zero, false),
-    (17, &Shown::Heavy(1), false),
-    (18, &Shown::Heavy(9), false),
+    (Forged::Proof(&Shown::Zero), false),
+    (Forged::Proof(&Shown::Heavy(1)), false),
+    (Forged::Proof(&Shown::Heavy(9)), false),
 ];
 
-#[test]
-fn judges_forged_proofs(rt: HostRuntime) {
-    for (row, shown, accepted) in FORGED_PROOFS {
-        let yes = says_of_chain(&rt, rt.alloc(), shown, &[2, 2], &[-2, 0]);
-        same_in(&rt, &yes, &accepted, &row);
+fn forged_proof(rt: &impl Abort, alloc: Global, forged: &Forged) -> CutProof {
+    match forged {
+        Forged::Row(at, row) => {
+            let mut table = CHAIN_TABLE;
+            if let Some(place) = table.get_mut(*at) {
+                *place = *row;
+            }
+            CutProof::Table(CutTable::new(entries(rt, alloc, &table)))
+        }
+        Forged::Proof(shown) => proof_of(rt, alloc, shown),
     }
 }
 
-const TABLE: &Shown = &Shown::Table(&STAR_TABLE);
+#[test]
+fn judges_forged_proofs(rt: HostRuntime) {
+    for (row, (forged, accepted)) in FORGED_PROOFS.iter().enumerate() {
+        let proof = forged_proof(&rt, rt.alloc(), forged);
+        let yes = says_of_chain(&rt, rt.alloc(), proof, &[2, 2], &[-2, 0]);
+        same_in(&rt, &yes, accepted, &row);
+    }
+}
 
-// (row, ranks, the part of each row of the star, how many parts, greatest heat, proof, whether that is accepted)
-const CUTS: [(u8, u64, &[u32], u32, u64, &Shown, bool); 16] = [
-    (1, 3, &[0, 1, 0, 0], 2, 9, TABLE, true),
-    (2, 3, &[1, 0, 1, 1], 2, 9, TABLE, true),
-    (3, 3, &[0, 1, 0, 0], 2, 8, TABLE, false),
-    (4, 3, &[0, 1, 0, 0], 3, 9, TABLE, false),
-    (5, 3, &[0, 1, 1, 0], 2, 9, TABLE, false),
-    (6, 3, &[0, 2, 0, 0], 2, 9, TABLE, false),
-    (7, 3, &[0, u32::MAX, 0, 0], u32::MAX, 9, TABLE, false),
-    (8, 3, &[0, 1, 0, 0], 2, u64::MAX, TABLE, false),
-    (9, 3, &[0, 1, 0], 2, 9, TABLE, false),
-    (10, 3, &[0, 1, 0, 0, 0], 2, 9, TABLE, false),
-    (
-        11,
-        3,
-        &[0, 1, 0, 0],
-        2,
-        9,
-        &Shown::Table(&[(2, 5, 4, false), (0, 5, 0, true), (0, 4, 0, true)]),
-        false,
-    ),
-    (12, 3, &[0, 1, 0, 0], 2, 9, &Shown::Zero, false),
-    (13, 3, &[0, 1, 0, 0], 2, 9, &Shown::Heavy(1), false),
-    (14, 3, &[0, 1, 0, 0], 2, 9, &Shown::Heavy(u32::MAX), false),
-    (15, 7, &[0, 1, 2, 0], 3, 5, &Shown::Heavy(1), true),
-    (16, 3, &[0, 1, 2, 0], 3, 5, &Shown::Heavy(1), false),
-];
-
-/// What the checker says of parts of the star, with these ranks.
-fn says_of_parts(
-    rt: &impl Abort,
-    alloc: Global,
+/// What is said of the parts of a star.
+#[derive(Clone, Copy)]
+struct StarCut {
     ranks: u64,
-    part: &[u32],
+    /// The part of each row.
+    part: &'static [u32],
+    /// How many parts there are.
     count: u32,
     greatest: u64,
-    proof: &CutProof,
-) -> bool {
-    let star = problem(rt, alloc, &STAR, ranks);
-    match check_cut(alloc, &star, part, count, greatest, proof) {
+    shown: &'static Shown,
+}
+
+/// Two parts, the hottest child by itself.
+const STAR_CUT: StarCut = StarCut {
+    ranks: 3,
+    part: &[0, 1, 0, 0],
+    count: 2,
+    greatest: 9,
+    shown: &Shown::Table(&STAR_TABLE),
+};
+
+/// Three parts, the two hottest children by themselves.
+const THREE_PARTS: StarCut = StarCut {
+    ranks: 7,
+    part: &[0, 1, 2, 0],
+    count: 3,
+    greatest: 5,
+    shown: &Shown::Heavy(1),
+};
+
+/// What is changed of the two parts.
+enum Changed {
+    Part(&'static [u32]),
+    Parts(&'static [u32], u32),
+    Greatest(u64),
+    Proof(&'static Shown),
+    Nothing,
+    /// All, to the three parts, with these ranks.
+    Three(u64),
+}
+
+// (what is changed, whether that is accepted)
+const CUTS: &[(Changed, bool)] = &[
+    (Changed::Nothing, true),
+    (Changed::Part(&[1, 0, 1, 1]), true),
+    (Changed::Greatest(8), false),
+    (Changed::Parts(&[0, 1, 0, 0], 3), false),
+    (Changed::Part(&[0, 1, 1, 0]), false),
+    (Changed::Part(&[0, 2, 0, 0]), false),
+    (Changed::Parts(&[0, u32::MAX, 0, 0], u32::MAX), false),
+    (Changed::Greatest(u64::MAX), false),
+    (Changed::Part(&[0, 1, 0]), false),
+    (Changed::Part(&[0, 1, 0, 0, 0]), false),
+    (
+        Changed::Proof(&Shown::Table(&[(2, 5, 4, false), (0, 5, 0, true), (0, 4, 0, true)])),
+        false,
+    ),
+    (Changed::Proof(&Shown::Zero), false),
+    (Changed::Proof(&Shown::Heavy(1)), false),
+    (Changed::Proof(&Shown::Heavy(u32::MAX)), false),
+    (Changed::Three(7), true),
+    (Changed::Three(3), false),
+];
+
+fn cut_with(change: &Changed) -> StarCut {
+    let mut cut = STAR_CUT;
+    match change {
+        Changed::Part(part) => cut.part = *part,
+        Changed::Parts(part, count) => {
+            cut.part = *part;
+            cut.count = *count;
+        }
+        Changed::Greatest(greatest) => cut.greatest = *greatest,
+        Changed::Proof(shown) => cut.shown = *shown,
+        Changed::Nothing => {}
+        Changed::Three(ranks) => {
+            cut = THREE_PARTS;
+            cut.ranks = *ranks;
+        }
+    }
+    cut
+}
+
+/// What the checker says of the parts.
+fn says_of_parts(rt: &impl Abort, alloc: Global, cut: StarCut) -> bool {
+    let star = problem(rt, alloc, &STAR, cut.ranks);
+    let proof = proof_of(rt, alloc, cut.shown);
+    match check_cut(alloc, &star, cut.part, cut.count, cut.greatest, &proof) {
         Ok(yes) => yes,
-        Err(_) => check_cut(alloc, &star, part, count, greatest, proof).sure(rt),
+        Err(_) => check_cut(alloc, &star, cut.part, cut.count, cut.greatest, &proof).sure(rt),
     }
 }
 
 #[test]
 fn judges_the_parts_of_a_star(rt: HostRuntime) {
-    let alloc = rt.alloc();
-    for (row, ranks, part, count, greatest, shown, accepted) in CUTS {
-        let proof = proof_of(&rt, alloc, shown);
-        let yes = says_of_parts(&rt, alloc, ranks, part, count, greatest, &proof);
-        same_in(&rt, &yes, &accepted, &row);
+    for (row, (change, accepted)) in CUTS.iter().enumerate() {
+        let yes = says_of_parts(&rt, rt.alloc(), cut_with(change));
+        same_in(&rt, &yes, accepted, &row);
     }
 }
