@@ -9,7 +9,6 @@ use crate::map::refused_maps::give_many;
 use crate::map::watched::never_go_back;
 use crate::same::Sure;
 use authority_map::{Found, MapError, MapReader, MapWriter, NewMap, Publisher};
-use mds_types::Dir;
 use naming::Naming;
 use std::alloc::Global;
 use std::marker::Brand;

@@ -75,13 +75,23 @@ fn do_all(rt: &impl Abort, alloc: Global, board: &mut Board, steps: &[Step]) {
     }
 }
 
-/// The board that these steps make of an empty one.
-pub(crate) fn board_of(rt: &impl Abort, alloc: Global, steps: &[Step]) -> Board {
+/// /a has 10 inodes and heat 4, and /b 20 and 6.
+pub(crate) const TWO: &[Step] = &[
+    Step::Make(0, "a", 10),
+    Step::Make(0, "b", 20),
+    Step::Heat(1, 4),
+    Step::Heat(2, 6),
+];
+
+/// The board that these lists of steps make of an empty one.
+pub(crate) fn board_of(rt: &impl Abort, alloc: Global, lists: &[&[Step]]) -> Board {
     let mut board = match empty(alloc) {
         Ok(board) => board,
         Err(AllocError) => empty(alloc).sure(rt),
     };
-    do_all(rt, alloc, &mut board, steps);
+    for steps in lists {
+        do_all(rt, alloc, &mut board, steps);
+    }
     board
 }
 
@@ -104,9 +114,9 @@ fn same_boards(rt: &impl Abort, board: &Board, other: &Board) {
     }
 }
 
-/// The board is as only these steps make it.
-pub(crate) fn is_untouched(rt: &impl Abort, alloc: Global, board: &Board, steps: &[Step]) {
-    same_boards(rt, board, &board_of(rt, alloc, steps));
+/// The board is as only these lists of steps make it.
+pub(crate) fn is_untouched(rt: &impl Abort, alloc: Global, board: &Board, lists: &[&[Step]]) {
+    same_boards(rt, board, &board_of(rt, alloc, lists));
 }
 
 /// What opening a board answers, with directories at these ranks and a mask of usable ones.

@@ -1,36 +1,10 @@
 //! Parts below chosen tops.
 
-use crate::model::boards::{Board, Step, board_of, is_untouched};
+use crate::model::boards::{Board, Step, TWO, board_of, is_untouched};
 use crate::same::{Sure, same_in, same_rows};
 use division_cost::{Part, greatest_heat, parts};
 use std::alloc::{AllocError, Global};
 use std::process::Abort;
-
-/// /a has 10 inodes and heat 4, and /b 20 and 6.
-const TWO: &[Step] = &[
-    Step::Make(0, "a", 10),
-    Step::Make(0, "b", 20),
-    Step::Heat(1, 4),
-    Step::Heat(2, 6),
-];
-
-/// The same, with /b at rank 1.
-const PINNED: &[Step] = &[
-    Step::Make(0, "a", 10),
-    Step::Make(0, "b", 20),
-    Step::Heat(1, 4),
-    Step::Heat(2, 6),
-    Step::Pin(2, 1),
-];
-
-/// The same, with all at rank 0.
-const PINNED_ROOT: &[Step] = &[
-    Step::Make(0, "a", 10),
-    Step::Make(0, "b", 20),
-    Step::Heat(1, 4),
-    Step::Heat(2, 6),
-    Step::Pin(0, 0),
-];
 
 /// /a has 10 inodes and heat 4, /a/c 7 and heat 1, /a/c/d 5 and heat 2, and /b is removed.
 const CHAIN: &[Step] = &[
@@ -45,56 +19,64 @@ const CHAIN: &[Step] = &[
     Step::Remove(2),
 ];
 
-/// What is divided; the board; whether each directory is a top; top, heat and inodes of each part; the greatest heat.
-pub(crate) type Divided = (
-    &'static str,
-    &'static [Step],
-    &'static [bool],
-    &'static [(u32, u64, u64)],
-    u64,
-);
+/// A board that is divided.
+pub(crate) struct Divided {
+    pub(crate) name: &'static str,
+    pub(crate) lists: &'static [&'static [Step]],
+    /// Whether each directory is a top.
+    pub(crate) is_top: &'static [bool],
+    /// Top, heat and inodes of each part.
+    pub(crate) parts: &'static [(u32, u64, u64)],
+    pub(crate) greatest: u64,
+}
 
 const DIVIDED: &[Divided] = &[
-    (
-        "a whole tree",
-        TWO,
-        &[true, false, false],
-        &[(0, 10, 31)],
-        10,
-    ),
-    (
-        "beside a pin",
-        PINNED,
-        &[true, true, false],
-        &[(0, 0, 1), (1, 4, 10)],
-        4,
-    ),
-    (
-        "a pinned top",
-        PINNED,
-        &[true, true, true],
-        &[(0, 0, 1), (1, 4, 10)],
-        4,
-    ),
-    ("a pinned root", PINNED_ROOT, &[true, true, false], &[], 0),
-    (
-        "each to its nearest top",
-        CHAIN,
-        &[true, false, true, true, false],
-        &[(0, 4, 11), (3, 3, 12)],
-        4,
-    ),
-    (
-        "a top below a top",
-        CHAIN,
-        &[true, true, false, false, true],
-        &[(0, 0, 1), (1, 5, 17), (4, 2, 5)],
-        5,
-    ),
+    Divided {
+        name: "a whole tree",
+        lists: &[TWO],
+        is_top: &[true, false, false],
+        parts: &[(0, 10, 31)],
+        greatest: 10,
+    },
+    Divided {
+        name: "beside a pin",
+        lists: &[TWO, &[Step::Pin(2, 1)]],
+        is_top: &[true, true, false],
+        parts: &[(0, 0, 1), (1, 4, 10)],
+        greatest: 4,
+    },
+    Divided {
+        name: "a pinned top",
+        lists: &[TWO, &[Step::Pin(2, 1)]],
+        is_top: &[true, true, true],
+        parts: &[(0, 0, 1), (1, 4, 10)],
+        greatest: 4,
+    },
+    Divided {
+        name: "a pinned root",
+        lists: &[TWO, &[Step::Pin(0, 0)]],
+        is_top: &[true, true, false],
+        parts: &[],
+        greatest: 0,
+    },
+    Divided {
+        name: "each to its nearest top",
+        lists: &[CHAIN],
+        is_top: &[true, false, true, true, false],
+        parts: &[(0, 4, 11), (3, 3, 12)],
+        greatest: 4,
+    },
+    Divided {
+        name: "a top below a top",
+        lists: &[CHAIN],
+        is_top: &[true, true, false, false, true],
+        parts: &[(0, 0, 1), (1, 5, 17), (4, 2, 5)],
+        greatest: 5,
+    },
 ];
 
 /// What dividing a board below these tops answers.
-fn divided(
+fn make_parts(
     rt: &impl Abort,
     alloc: Global,
     board: &Board,
@@ -109,23 +91,22 @@ fn divided(
 }
 
 /// The parts in the end. Where memory was refused, the board is as one that was never divided.
-fn divided_at_last(rt: &impl Abort, alloc: Global, steps: &[Step], is_top: &[bool]) -> Vec<Part> {
-    let board = board_of(rt, alloc, steps);
-    match divided(rt, alloc, &board, is_top) {
+fn divided_at_last(rt: &impl Abort, alloc: Global, row: &Divided) -> Vec<Part> {
+    let board = board_of(rt, alloc, row.lists);
+    match make_parts(rt, alloc, &board, row.is_top) {
         Ok(found) => found,
         Err(AllocError) => {
-            is_untouched(rt, alloc, &board, steps);
-            divided(rt, alloc, &board, is_top).sure(rt)
+            is_untouched(rt, alloc, &board, row.lists);
+            make_parts(rt, alloc, &board, row.is_top).sure(rt)
         }
     }
 }
 
 /// The parts are as a row says.
 pub(crate) fn divides_so(rt: &impl Abort, alloc: Global, row: &Divided) {
-    let (name, steps, is_top, wanted, greatest) = row;
-    let found = divided_at_last(rt, alloc, steps, is_top);
-    same_rows(rt, &found, wanted, name);
-    same_in(rt, &greatest_heat(&found), greatest, name);
+    let found = divided_at_last(rt, alloc, row);
+    same_rows(rt, &found, row.parts, row.name);
+    same_in(rt, &greatest_heat(&found), &row.greatest, &row.name);
 }
 
 #[test]

@@ -1,9 +1,8 @@
 //! Pins: which pin holds a directory, which directories none holds, and what is refused.
 
-use crate::model::boards::{Board, ROOM, Step, board_of, pin_of, set_pin};
-use crate::same::{Sure, same, same_in, same_rows};
-use dir_pins::{PinError, Pins};
-use dirtree::Tree;
+use crate::model::boards::{Board, Step, board_of, pin_of, set_pin};
+use crate::same::{Sure, same_in, same_rows};
+use dir_pins::PinError;
 use mds_types::{Dir, Rank};
 use std::alloc::Global;
 use std::process::Abort;
@@ -84,7 +83,7 @@ fn are_held(rt: &impl Abort, board: &Board, ranks: &[i32], name: &str) {
 /// Directories are held as a row says.
 fn holds_so(rt: &impl Abort, alloc: Global, row: &Held) {
     let (name, own, ranks, free) = row;
-    let mut board = board_of(rt, alloc, SMALL);
+    let mut board = board_of(rt, alloc, &[SMALL]);
     pin_all(rt, &mut board, own);
     are_held(rt, &board, ranks, name);
     same_rows(rt, &unpinned(rt, alloc, &board), free, name);
@@ -97,16 +96,8 @@ fn the_nearest_pin_holds(rt: HostRuntime) {
     }
 }
 
-/// The small tree without /a/b/c, where /a has a pin on rank 0 and /a/b/c had one on rank 1.
-const ONE_GONE: &[Step] = &[
-    Step::Make(0, "a", 1),
-    Step::Make(1, "b", 1),
-    Step::Make(2, "c", 1),
-    Step::Make(0, "d", 1),
-    Step::Pin(1, 0),
-    Step::Pin(3, 1),
-    Step::Remove(3),
-];
+/// A pin of /a on rank 0. /a/b/c had one on rank 1, and is removed.
+const ONE_GONE: &[Step] = &[Step::Pin(1, 0), Step::Pin(3, 1), Step::Remove(3)];
 
 /// (directory, value, refusal)
 const REFUSED: &[(u32, i32, &str)] = &[
@@ -155,20 +146,6 @@ fn are_refused(rt: &impl Abort, alloc: Global, board: &mut Board) {
 
 #[test]
 fn refuses_what_is_not_there(rt: HostRuntime) {
-    let mut board = board_of(&rt, rt.alloc(), ONE_GONE);
+    let mut board = board_of(&rt, rt.alloc(), &[SMALL, ONE_GONE]);
     are_refused(&rt, rt.alloc(), &mut board);
-}
-
-/// Pins of four ranks can be set in the room that there is.
-fn can_be_set(rt: &impl Abort, tree: &Tree, pins: &Pins) {
-    same(rt, &pins.limit(), &ROOM);
-    same(rt, &pins.active(), &4);
-    same(rt, &pins.can_set(tree, Dir::new(4), 3), &Ok(()));
-    same(rt, &pins.can_set(tree, Dir::new(4), -1), &Ok(()));
-}
-
-#[test]
-fn what_can_be_set_is_told(rt: HostRuntime) {
-    let board = board_of(&rt, rt.alloc(), SMALL);
-    can_be_set(&rt, &board.tree, &board.pins);
 }

@@ -1,7 +1,7 @@
 //! Problems of small boards, and the parts of plans.
 
 use crate::model::boards::{
-    Board, Given, Shown, Step, board_of, is_untouched, opened, same_problem,
+    Board, Given, Shown, Step, TWO, board_of, is_untouched, opened, same_problem,
 };
 use crate::same::{Sure, same, same_in, same_rows};
 use arrayvec::ArrayVec;
@@ -9,23 +9,6 @@ use board_problem::{OpenError, Opened, PlanPart, parts};
 use mds_types::{CutProof, Dir, DualProof, Plan, Problem, ProblemRow, Rank, RankSet};
 use std::alloc::{AllocError, Global};
 use std::process::Abort;
-
-/// /a has 10 inodes and heat 4, and /b 20 and 6.
-const TWO: &[Step] = &[
-    Step::Make(0, "a", 10),
-    Step::Make(0, "b", 20),
-    Step::Heat(1, 4),
-    Step::Heat(2, 6),
-];
-
-/// The same, with /a at rank 1.
-const PINNED: &[Step] = &[
-    Step::Make(0, "a", 10),
-    Step::Make(0, "b", 20),
-    Step::Heat(1, 4),
-    Step::Heat(2, 6),
-    Step::Pin(1, 1),
-];
 
 /// /a has 5 inodes, /a/b and /a/b/c 1 each, and each heat 3. Below /p, which is pinned, is /p/q, and /r is removed.
 const CHAIN: &[Step] = &[
@@ -44,43 +27,52 @@ const CHAIN: &[Step] = &[
     Step::Remove(3),
 ];
 
-/// What is opened; the board; the first directory at rank 1, as are all later ones; the mask of usable ranks;
-/// the problem's rows and their directories.
-pub(crate) type Case = (
-    &'static str,
-    &'static [Step],
-    u32,
-    u64,
-    &'static [Given],
-    &'static [u32],
-);
+/// A board that is opened.
+pub(crate) struct Case {
+    pub(crate) name: &'static str,
+    pub(crate) lists: &'static [&'static [Step]],
+    /// The first directory at rank 1, as are all later ones.
+    pub(crate) moved: u32,
+    /// The mask of usable ranks.
+    pub(crate) mask: u64,
+    /// The problem's rows, and their directories.
+    pub(crate) rows: &'static [Given],
+    pub(crate) numbers: &'static [u32],
+}
 
 const OPENED: &[Case] = &[
-    (
-        "two directories",
-        TWO,
-        2,
-        3,
-        &[(0, 0, 1, 0), (0, 4, 10, 0), (0, 6, 20, 1)],
-        &[0, 1, 2],
-    ),
-    (
-        "what no pin holds",
-        PINNED,
-        2,
-        2,
-        &[(0, 0, 1, 0), (0, 6, 20, 1)],
-        &[0, 2],
-    ),
-    ("a pinned root", &[Step::Pin(0, 0)], 2, 3, &[], &[]),
-    (
-        "a chain",
-        CHAIN,
-        8,
-        3,
-        &[(0, 0, 1, 0), (0, 3, 5, 0), (1, 3, 1, 0), (2, 3, 1, 0)],
-        &[0, 2, 5, 6],
-    ),
+    Case {
+        name: "two directories",
+        lists: &[TWO],
+        moved: 2,
+        mask: 3,
+        rows: &[(0, 0, 1, 0), (0, 4, 10, 0), (0, 6, 20, 1)],
+        numbers: &[0, 1, 2],
+    },
+    Case {
+        name: "what no pin holds",
+        lists: &[TWO, &[Step::Pin(1, 1)]],
+        moved: 2,
+        mask: 2,
+        rows: &[(0, 0, 1, 0), (0, 6, 20, 1)],
+        numbers: &[0, 2],
+    },
+    Case {
+        name: "a pinned root",
+        lists: &[&[Step::Pin(0, 0)]],
+        moved: 2,
+        mask: 3,
+        rows: &[],
+        numbers: &[],
+    },
+    Case {
+        name: "a chain",
+        lists: &[CHAIN],
+        moved: 8,
+        mask: 3,
+        rows: &[(0, 0, 1, 0), (0, 3, 5, 0), (1, 3, 1, 0), (2, 3, 1, 0)],
+        numbers: &[0, 2, 5, 6],
+    },
 ];
 
 /// Ranks of 24 directories: those from `moved` on are at rank 1, and the others at rank 0.
@@ -96,24 +88,23 @@ fn ranks_now(moved: u32) -> [Rank; 24] {
 
 /// What is opened in the end. Where memory was refused, the board is as one that was never opened.
 pub(crate) fn opened_at_last(rt: &impl Abort, alloc: Global, board: &Board, case: &Case) -> Opened {
-    let (_name, steps, moved, mask, _rows, _numbers) = case;
-    let now = ranks_now(*moved);
-    match opened(rt, alloc, board, &now, *mask) {
+    let now = ranks_now(case.moved);
+    match opened(rt, alloc, board, &now, case.mask) {
         Ok(found) => found,
         Err(refusal) => {
             same(rt, &refusal, &OpenError::Memory);
-            is_untouched(rt, alloc, board, steps);
-            opened(rt, alloc, board, &now, *mask).sure(rt)
+            is_untouched(rt, alloc, board, case.lists);
+            opened(rt, alloc, board, &now, case.mask).sure(rt)
         }
     }
 }
 
 /// The problem of a board, which is as the case says.
 pub(crate) fn problem_of(rt: &impl Abort, alloc: Global, case: &Case) -> Opened {
-    let (name, steps, _moved, mask, rows, numbers) = case;
-    let found = opened_at_last(rt, alloc, &board_of(rt, alloc, steps), case);
-    same_problem(rt, &found, rows, numbers, name);
-    same_in(rt, &found.problem.ranks(), &RankSet::from_bits(*mask), name);
+    let found = opened_at_last(rt, alloc, &board_of(rt, alloc, case.lists), case);
+    same_problem(rt, &found, case.rows, case.numbers, case.name);
+    let ranks = RankSet::from_bits(case.mask);
+    same_in(rt, &found.problem.ranks(), &ranks, &case.name);
     found
 }
 
@@ -126,7 +117,7 @@ fn opens_boards(rt: HostRuntime) {
 
 #[test]
 fn opens_nothing_without_ranks(rt: HostRuntime) {
-    let board = board_of(&rt, rt.alloc(), TWO);
+    let board = board_of(&rt, rt.alloc(), &[TWO]);
     let off = opened(&rt, rt.alloc(), &board, &ranks_now(2), 0);
     same(&rt, &off.err(), &Some(OpenError::BalancerOff));
 }
@@ -183,39 +174,46 @@ fn problem_with(rt: &impl Abort, alloc: Global, given: &[(u32, u64, u32)]) -> Pr
     }
 }
 
-/// What the rows are; their parents, heats and inodes; their labels; the rank of each label; the parts, where row i is
-/// directory 10 i.
-type Named = (
-    &'static str,
-    &'static [(u32, u64, u32)],
-    &'static [u32],
-    &'static [u8],
-    &'static [Shown],
-);
+/// A plan whose parts are named. Row i is directory 10 i.
+struct Named {
+    name: &'static str,
+    /// Parent, heat and inodes of each row.
+    rows: &'static [(u32, u64, u32)],
+    /// The label of each row, and the rank of each label.
+    labels: &'static [u32],
+    ranks: &'static [u8],
+    parts: &'static [Shown],
+}
 
 const NAMED: &[Named] = &[
-    (
-        "two rows below the root",
-        &[(0, 0, 1), (0, 4, 10), (0, 6, 20)],
-        &[0, 0, 1],
-        &[1, 0],
-        &[(0, 1, 4, 11), (20, 0, 6, 20)],
-    ),
-    (
-        "a chain",
-        &[(0, 0, 1), (0, 3, 5), (1, 3, 1), (2, 3, 1)],
-        &[0, 0, 1, 1],
-        &[0, 1],
-        &[(0, 0, 3, 6), (20, 1, 6, 2)],
-    ),
-    (
-        "the root's label isn't the first",
-        &[(0, 0, 1), (0, 100, 5), (0, 1, 7)],
-        &[1, 0, 1],
-        &[1, 0],
-        &[(0, 0, 1, 8), (10, 1, 100, 5)],
-    ),
-    ("nothing", &[], &[], &[], &[]),
+    Named {
+        name: "two rows below the root",
+        rows: &[(0, 0, 1), (0, 4, 10), (0, 6, 20)],
+        labels: &[0, 0, 1],
+        ranks: &[1, 0],
+        parts: &[(0, 1, 4, 11), (20, 0, 6, 20)],
+    },
+    Named {
+        name: "a chain",
+        rows: &[(0, 0, 1), (0, 3, 5), (1, 3, 1), (2, 3, 1)],
+        labels: &[0, 0, 1, 1],
+        ranks: &[0, 1],
+        parts: &[(0, 0, 3, 6), (20, 1, 6, 2)],
+    },
+    Named {
+        name: "the root's label isn't the first",
+        rows: &[(0, 0, 1), (0, 100, 5), (0, 1, 7)],
+        labels: &[1, 0, 1],
+        ranks: &[1, 0],
+        parts: &[(0, 0, 1, 8), (10, 1, 100, 5)],
+    },
+    Named {
+        name: "nothing",
+        rows: &[],
+        labels: &[],
+        ranks: &[],
+        parts: &[],
+    },
 ];
 
 /// The parts of a plan of up to four rows, where row i is directory 10 i.
@@ -227,10 +225,9 @@ fn parts_by_tens(rt: &impl Abort, alloc: Global, problem: &Problem, plan: &Plan)
 
 /// The parts are named as a row says.
 fn names_so(rt: &impl Abort, alloc: Global, row: &Named) {
-    let (name, given, labels, ranks, wanted) = row;
-    let plan = plan_of(alloc, labels.to_vec(alloc).sure(rt), ranks);
-    let found = parts_by_tens(rt, alloc, &problem_with(rt, alloc, given), &plan);
-    same_rows(rt, &found, wanted, name);
+    let plan = plan_of(alloc, row.labels.to_vec(alloc).sure(rt), row.ranks);
+    let found = parts_by_tens(rt, alloc, &problem_with(rt, alloc, row.rows), &plan);
+    same_rows(rt, &found, row.parts, row.name);
 }
 
 #[test]

@@ -45,7 +45,14 @@ const ROWS: &[Given] = &[
 const NUMBERS: &[u32] = &[0, 1, 2, 4, 5, 8];
 
 /// All directories are at rank 0.
-const OPENED: &Case = &("eight directories", EIGHT, ROOM, 31, ROWS, NUMBERS);
+const OPENED: &Case = &Case {
+    name: "eight directories",
+    lists: &[EIGHT],
+    moved: ROOM,
+    mask: 31,
+    rows: ROWS,
+    numbers: NUMBERS,
+};
 
 /// The label of each row, and the rank of each label.
 const LABELS: &[u32] = &[0, 0, 1, 2, 3, 4];
@@ -61,13 +68,13 @@ const PARTS: &[Shown] = &[
     (8, 0, 9, 80),
 ];
 
-const DIVIDED: &Divided = &(
-    "three tops",
-    EIGHT,
-    &[true, false, true, false, true, false, false, false, false],
-    &[(0, 3, 11), (2, 9, 70), (4, 14, 120)],
-    14,
-);
+const DIVIDED: &Divided = &Divided {
+    name: "three tops",
+    lists: &[EIGHT],
+    is_top: &[true, false, true, false, true, false, false, false, false],
+    parts: &[(0, 3, 11), (2, 9, 70), (4, 14, 120)],
+    greatest: 14,
+};
 
 /// The plan in the end.
 fn plan_at_last(rt: &impl Abort, alloc: Global) -> Plan {

@@ -1,32 +1,15 @@
 //! Orders of random trees compared with the sets that grow from one directory.
-ghost use Rattle.std.specs.Prelude.{◌<◌};
-
 use crate::orders::trees::{is_order, new_tree, orders_of, ranks};
 use crate::same::{Sure, holds_in};
+use exhaustive::Random;
 use mds_types::Order;
 use std::alloc::{AllocError, Global};
 use std::process::Abort;
 
-/// Numbers that look random, from a fixed start.
-#[derive(Drop)]
-struct Random {
-    state: u32,
-}
-
-impl Random {
-    fn below(&mut self, bound: u32) -> u32
-        requires { 0 < bound }
-        ensures { result < bound }
-    {
-        self.state = self.state.wrapping_mul(1664525).wrapping_add(1013904223);
-        (self.state >> 16) % bound
-    }
-}
-
 fn random_parents(alloc: Global, random: &mut Random) -> Result<Vec<u32>, AllocError> {
     let mut parents = Vec::new(alloc);
     for above in 1..16 {
-        parents.push(random.below(above))?;
+        parents.push(random.below(above) as u32)?;
     }
     Ok(parents)
 }
@@ -129,7 +112,7 @@ fn is_grown_at_random(rt: &impl Abort, alloc: Global, random: &mut Random) -> bo
 
 #[test]
 fn orders_of_random_trees_are_grown_sets(rt: HostRuntime) {
-    let mut random = Random { state: 7 };
+    let mut random = Random::new(7);
     for round in 0..200 {
         holds_in(
             &rt,
