@@ -5,7 +5,6 @@ mod cases;
 mod changes;
 mod full;
 mod lists;
-mod opened;
 mod refused;
 mod said;
 mod weighing;

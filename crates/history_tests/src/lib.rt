@@ -4,6 +4,8 @@
 #[cfg(test)]
 mod boards;
 #[cfg(test)]
+mod given;
+#[cfg(test)]
 mod machine;
 #[cfg(test)]
 mod same;

@@ -5,7 +5,6 @@
 ghost use Rattle.std.specs.Prelude.{◌≡◌, ◌≤◌};
 
 use crate::boards::lists::Given;
-use crate::boards::opened::board_of;
 use crate::boards::said::Reading;
 use crate::boards::{adopting, changes, full, lists, refused, weighing};
 use crate::same::Sure;
@@ -64,6 +63,24 @@ fn on_board<J: Naming, M: Publisher<J>, R: Abort + Threads + Sync>(
     None
 }
 
+// A board with only the root, and a share for each rank.
+fn board_of<J: Naming, M: Publisher<J>>(
+    rt: &impl Abort,
+    alloc: Global,
+    parts: BoardParts<J, M>,
+) -> (Board<J, M>, Vec<Share<J>>)
+    requires limit { 8 ≡ J.limit }
+{
+    let parts = match Board::new(alloc, parts, 8, 2) {
+        Ok(opened) => return opened,
+        Err(parts) => parts,
+    };
+    match Board::new(alloc, parts, 8, 2) {
+        Ok(opened) => opened,
+        Err(_parts) => panic!(rt; "no board"),
+    }
+}
+
 fn on_parts<J: Naming, M: Publisher<J>, R: Abort + Threads + Sync>(
     rt: &R,
     alloc: Global,
@@ -73,7 +90,7 @@ fn on_parts<J: Naming, M: Publisher<J>, R: Abort + Threads + Sync>(
 ) -> Option<(Vec<Given>, Reading)>
     requires limit { 8 ≡ J.limit }
 {
-    let (board, shares) = board_of(rt, alloc, parts, 8, 2);
+    let (board, shares) = board_of(rt, alloc, parts);
     on_board(rt, alloc, board, shares, readers, case)
 }
 

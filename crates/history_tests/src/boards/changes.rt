@@ -2,7 +2,7 @@
 ghost use Rattle.std.specs.Prelude.{◌≤◌};
 
 use crate::boards::cases::{Case, try_case};
-use crate::boards::opened::rank;
+use crate::given::rank;
 use crate::same::same;
 use authority_map::{MapReader, Publisher};
 use board_state::{Answer, BoardError, Change};

@@ -5,8 +5,8 @@ ghost use Rattle.heat_ledger.specs.Ledger.{IsClean};
 ghost use Rattle.mds_board.specs.Commands.{is_fit};
 
 use crate::boards::cases::{Case, answers_in, try_case};
-use crate::boards::opened::rank;
 use crate::boards::said::{Reading, said};
+use crate::given::rank;
 use crate::same::{Sure, holds_in, same};
 use authority_map::{MapReader, Publisher};
 use board_state::{Answer, BoardError, Orders, Solver};

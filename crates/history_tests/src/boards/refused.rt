@@ -7,15 +7,15 @@ ghost use Rattle.board_state.specs.Steps.{is_inner};
 use crate::boards::adopting::plan;
 use crate::boards::cases::{Case, try_case};
 use crate::boards::lists::Planner;
-use crate::boards::opened::rank;
 use crate::boards::said::said;
+use crate::given::{dirs_at_last, rank};
 use crate::same::{Sure, holds_in, same, same_in};
 use authority_map::{MapReader, Publisher};
 use board_state::BoardError;
 use export_machine::Event;
 use heat_ledger::Share;
 use mds_board::{Board, BoardCommand};
-use mds_types::{Dir, Dirs, Kind, Plan, RankSet};
+use mds_types::{Dir, Kind, Plan, RankSet};
 use naming::Naming;
 use std::alloc::{AllocError, Global};
 use std::marker::Sync;
@@ -121,21 +121,6 @@ const CHANGES: [Do; 56] = [
     Do::Run,
     Do::Events(31),
 ];
-
-fn listed(alloc: Global, numbers: &[u32]) -> Result<Dirs, AllocError> {
-    let mut dirs = Vec::new(alloc);
-    for number in numbers {
-        dirs.push(Dir::new(*number))?;
-    }
-    Ok(Dirs::new(dirs))
-}
-
-fn dirs_at_last(alloc: Global, numbers: &[u32]) -> Result<Dirs, AllocError> {
-    match listed(alloc, numbers) {
-        Ok(dirs) => Ok(dirs),
-        Err(_) => listed(alloc, numbers),
-    }
-}
 
 fn plan_at_last(alloc: Global) -> Result<Plan, AllocError> {
     match plan(alloc, 5) {

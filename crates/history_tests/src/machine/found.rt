@@ -1,6 +1,7 @@
 //! What a cluster says after a schedule.
 
-use crate::machine::steps::{Row, after, rank, run_rows};
+use crate::given::rank;
+use crate::machine::steps::{Row, after, run_rows};
 use crate::same::holds_in;
 use export_machine::{Cluster, ExporterState, ImporterState, JournalEntry};
 use mds_types::{Dir, Rank};

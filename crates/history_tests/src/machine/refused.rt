@@ -1,6 +1,7 @@
 //! The order of refusals, and what they print.
 
-use crate::machine::steps::{Do, Row, cluster_of, rank, run_rows};
+use crate::given::rank;
+use crate::machine::steps::{Do, Row, cluster_of, run_rows};
 use crate::machine::told::{Told, printed};
 use crate::same::{Sure, same};
 use export_machine::{ExporterState, StepError};

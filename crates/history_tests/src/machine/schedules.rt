@@ -1,13 +1,12 @@
 //! Whole exports, aborts, and messages that come late or twice.
 
+use crate::given::rank;
 use crate::machine::found::{Found, Schedule, roots, run_schedules};
 use crate::machine::starts::{Room, prepare_and_run};
-use crate::machine::steps::{
-    Do, Row, TO_THE_LOG, after, cluster_of, event, rank, run_rows, written,
-};
+use crate::machine::steps::{Do, Row, TO_THE_LOG, after, cluster_of, event, run_rows, written};
 use crate::machine::told::{Told, same_as_told};
 use crate::same::{Sure, holds_in, same};
-use export_machine::{Cluster, Event, ExporterState, ImporterState, Reply, StepError};
+use export_machine::{Cluster, Event, ExporterState, ImporterState, StepError};
 use mds_types::Dir;
 use std::alloc::{AllocError, Global};
 use std::process::Abort;

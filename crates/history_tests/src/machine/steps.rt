@@ -5,19 +5,13 @@
 
 ghost use Rattle.std.specs.Prelude.{◌≤◌};
 
+use crate::given::{dirs_at_last, rank};
 use crate::machine::told::{Told, same_as_told};
 use crate::same::{Sure, same_in};
 use export_machine::{Cluster, Event, ExporterState, ImporterState, Reply, StepError};
-use mds_types::{Dir, Dirs, Rank};
+use mds_types::{Dir, Rank};
 use std::alloc::{AllocError, Global};
 use std::process::Abort;
-
-pub(crate) fn rank(number: u8) -> Rank {
-    match Rank::new(number) {
-        Some(rank) => rank,
-        None => Rank::default(),
-    }
-}
 
 /// The events of a schedule, with their numbers.
 #[derive(Clone, Copy)]
@@ -34,21 +28,6 @@ pub(crate) enum Do {
     Stop(u8),
     Restart(u8),
     Ask(u32),
-}
-
-fn listed(alloc: Global, numbers: &[u32]) -> Result<Dirs, AllocError> {
-    let mut dirs = Vec::new(alloc);
-    for number in numbers {
-        dirs.push(Dir::new(*number))?;
-    }
-    Ok(Dirs::new(dirs))
-}
-
-fn dirs_at_last(alloc: Global, numbers: &[u32]) -> Result<Dirs, AllocError> {
-    match listed(alloc, numbers) {
-        Ok(dirs) => Ok(dirs),
-        Err(_) => listed(alloc, numbers),
-    }
 }
 
 /// The event of a step.
