@@ -1,4 +1,5 @@
 //! The program over devices of its own.
+use crate::devices::{sink_of, source_of};
 use crate::same::{Sure, holds_in, same, same_in};
 use script_engine::{Input, Output};
 use script_program::start;
@@ -11,16 +12,6 @@ use std::process::Abort;
 use std::random::RandomSource;
 use std::sync::Wait;
 use std::thread::Threads;
-
-/// Fails at each read.
-#[derive(Drop)]
-struct Broken;
-
-impl Read for Broken {
-    fn read(&mut self, _buf: &mut [u8]) -> io::Result<usize> {
-        Err(io::Error::from(io::ErrorKind::BrokenPipe))
-    }
-}
 
 // The exit status, what is written, and what is said on standard error.
 fn ended<T: Threads + Wait + Files + RandomSource + Sync, R: Read + Drop>(
@@ -90,29 +81,6 @@ fn ends_with_its_status(rt: HostRuntime) {
     }
 }
 
-/// Takes some bytes of each write, and fails after `writes` writes.
-#[derive(Drop)]
-struct Failing {
-    bytes: Vec<u8>,
-    writes: usize,
-}
-
-impl Write for Failing {
-    fn write(&mut self, buf: &[u8]) -> io::Result<usize> {
-        if self.writes == 0 {
-            return Err(io::Error::from(io::ErrorKind::BrokenPipe));
-        }
-        self.writes -= 1;
-        let count = buf.len().min(30);
-        self.bytes.extend_from_slice(&buf[..count])?;
-        Ok(count)
-    }
-
-    fn flush(&mut self) -> io::Result<()> {
-        Ok(())
-    }
-}
-
 const HINTED: &str = "ranks 2\nlod /a 1\nstop 64\ncost\n";
 
 const HINTED_ANSWERS: &str =
@@ -127,8 +95,8 @@ fn loses_hints<T: Threads + Wait + Files + RandomSource + Sync + Abort>(
     alloc: Global,
     writes: usize,
 ) {
-    let bytes = Vec::new(alloc);
-    let mut errors = Failing { bytes, writes };
+    let mut errors = sink_of(alloc, 30);
+    errors.writes = writes;
     let mut input = Input::new(HINTED.as_bytes());
     let mut writer = Vec::new(alloc);
     let status = start(rt, alloc, &["mdbal"], &mut input, &mut writer, &mut errors);
@@ -150,7 +118,9 @@ fn a_lost_hint_changes_nothing(rt: HostRuntime) {
 
 #[test]
 fn says_that_a_read_failed(rt: HostRuntime) {
-    let (status, writer, errors) = ended(&rt, rt.alloc(), &["mdbal"], Broken);
+    let mut source = source_of(b"", 1);
+    source.reads = 0;
+    let (status, writer, errors) = ended(&rt, rt.alloc(), &["mdbal"], source);
     same(&rt, &status, &3);
     holds_in(&rt, writer.is_empty(), &"writer");
     holds_in(
