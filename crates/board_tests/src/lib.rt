@@ -1,23 +1,14 @@
-//! Tests of the crates that a board is made of, by their public calls.
+//! Tests of what a board is made of, by public calls: tree, pins, heats and problems, hits in shares, the published
+//! map, and orders.
 #![tactic(auto)]
 
 #[cfg(test)]
-mod boards;
+mod map;
 #[cfg(test)]
-mod divisions;
+mod model;
 #[cfg(test)]
-mod heats;
-#[cfg(test)]
-mod paths;
-#[cfg(test)]
-mod pins;
-#[cfg(test)]
-mod problems;
-#[cfg(test)]
-mod random_boards;
-#[cfg(test)]
-mod refused_boards;
+mod orders;
 #[cfg(test)]
 mod same;
 #[cfg(test)]
-mod trees;
+mod shares;

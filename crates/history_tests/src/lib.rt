@@ -1,23 +1,11 @@
-//! Tests of boards with their histories, by their public calls.
+//! Tests of the export machine, and of boards with their histories, by public calls.
 #![tactic(auto)]
 
 #[cfg(test)]
-mod adopting;
-#[cfg(test)]
 mod boards;
 #[cfg(test)]
-mod cases;
+mod given;
 #[cfg(test)]
-mod changes;
-#[cfg(test)]
-mod full;
-#[cfg(test)]
-mod lists;
-#[cfg(test)]
-mod refused;
-#[cfg(test)]
-mod said;
+mod machine;
 #[cfg(test)]
 mod same;
-#[cfg(test)]
-mod weighing;

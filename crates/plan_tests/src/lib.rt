@@ -1,25 +1,19 @@
-//! Tests of the crates that a plan is made by, by their public calls.
+//! Tests of problems, cuts, placings, plans and certificates, by public calls.
 #![tactic(auto)]
 
 #[cfg(test)]
-mod bounds;
+mod certificates;
 #[cfg(test)]
 mod claims;
 #[cfg(test)]
-mod copies;
-#[cfg(test)]
-mod cuts;
+mod divisions;
 #[cfg(test)]
 mod given;
 #[cfg(test)]
-mod judging;
-#[cfg(test)]
-mod masks;
-#[cfg(test)]
 mod placings;
 #[cfg(test)]
-mod refused_rows;
+mod plans;
+#[cfg(test)]
+mod problems;
 #[cfg(test)]
 mod same;
-#[cfg(test)]
-mod solving;

@@ -127,69 +127,89 @@ const FIVE: [Given; 5] = [
     (0, 0, u32::MAX, 63),
 ];
 
-// (rows, ranks, the part of each row, what each part moves at each rank, the fewest inodes that a placing moves, and
-// the rank of each part that does so)
-const DIVISIONS: [(&[Given], u64, &[u32], &[u64], u64, &[u8]); 6] = [
-    (&CHAIN, 3, &[0, 0, 1, 1], &[0, 6, 0, 2], 2, &[0, 1]),
-    (
-        &[(0, 0, 1, 0), (0, 4, 10, 0), (0, 6, 20, 0)],
-        3,
-        &[0, 0, 1],
-        &[0, 11, 0, 20],
-        11,
-        &[1, 0],
-    ),
-    (
-        &[(0, 1, 4, 1), (0, 0, 1, 2), (0, 1, 1, 0), (2, 0, 3, 1)],
-        7,
-        &[0, 0, 1, 1],
-        &[5, 1, 4, 3, 1, 4],
-        4,
-        &[1, 0],
-    ),
-    (
-        &FIVE,
-        7,
-        &[0, 0, 1, 1, 2],
-        &[5, 1, 4, 3, 1, 4, 4294967295, 4294967295, 4294967295],
-        4294967299,
-        &[1, 0, 2],
-    ),
-    (
-        &FIVE,
-        0x8000_0000_0000_0002,
-        &[0, 0, 1, 1, 1],
-        &[1, 5, 4294967296, 4],
-        5,
-        &[1, 63],
-    ),
-    (&FIVE, 4, &[0, 0, 0, 0, 0], &[4294967303], 4294967303, &[2]),
+/// A division, what it costs, and its best placing.
+#[derive(Drop)]
+struct Division {
+    rows: &'static [Given],
+    ranks: u64,
+    /// The part of each row.
+    part: &'static [u32],
+    /// What each part moves at each rank.
+    cells: &'static [u64],
+    /// The fewest inodes that a placing moves, and the rank of each part then.
+    moved: u64,
+    numbers: &'static [u8],
+}
+
+const CHAIN_IN_TWO: &Division = &Division {
+    rows: &CHAIN,
+    ranks: 3,
+    part: &[0, 0, 1, 1],
+    cells: &[0, 6, 0, 2],
+    moved: 2,
+    numbers: &[0, 1],
+};
+
+const DIVISIONS: [&Division; 6] = [
+    CHAIN_IN_TWO,
+    &Division {
+        rows: &[(0, 0, 1, 0), (0, 4, 10, 0), (0, 6, 20, 0)],
+        ranks: 3,
+        part: &[0, 0, 1],
+        cells: &[0, 11, 0, 20],
+        moved: 11,
+        numbers: &[1, 0],
+    },
+    &Division {
+        rows: &[(0, 1, 4, 1), (0, 0, 1, 2), (0, 1, 1, 0), (2, 0, 3, 1)],
+        ranks: 7,
+        part: &[0, 0, 1, 1],
+        cells: &[5, 1, 4, 3, 1, 4],
+        moved: 4,
+        numbers: &[1, 0],
+    },
+    &Division {
+        rows: &FIVE,
+        ranks: 7,
+        part: &[0, 0, 1, 1, 2],
+        cells: &[5, 1, 4, 3, 1, 4, 4294967295, 4294967295, 4294967295],
+        moved: 4294967299,
+        numbers: &[1, 0, 2],
+    },
+    &Division {
+        rows: &FIVE,
+        ranks: 0x8000_0000_0000_0002,
+        part: &[0, 0, 1, 1, 1],
+        cells: &[1, 5, 4294967296, 4],
+        moved: 5,
+        numbers: &[1, 63],
+    },
+    &Division {
+        rows: &FIVE,
+        ranks: 4,
+        part: &[0, 0, 0, 0, 0],
+        cells: &[4294967303],
+        moved: 4294967303,
+        numbers: &[2],
+    },
 ];
 
 /// A division costs so much, in one pass and in chunks, and its parts are placed so.
-fn costs_so<R: Abort + Threads + Sync>(
-    rt: &R,
-    alloc: Global,
-    problem: &Problem,
-    part: &[u32],
-    cells: &[u64],
-    moved: u64,
-    numbers: &[u8],
-) {
-    let count = numbers.len().min(64) as u32;
-    let costs = table(rt, alloc, problem, part, count);
+fn costs_so<R: Abort + Threads + Sync>(rt: &R, alloc: Global, division: &Division) {
+    let problem = problem(rt, alloc, division.rows, division.ranks);
+    let (part, cells) = (division.part, division.cells);
+    let count = division.numbers.len().min(64) as u32;
+    let costs = table(rt, alloc, &problem, part, count);
     same_in(rt, &costs.cells(), &cells, &part);
     same_in(rt, &costs.count(), &count, &part);
-    places_so(rt, alloc, &costs, moved, numbers);
-    chunks_give(rt, alloc, problem, part, count, cells);
+    places_so(rt, alloc, &costs, division.moved, division.numbers);
+    chunks_give(rt, alloc, &problem, part, count, cells);
 }
 
 #[test]
 fn costs_what_moves(rt: HostRuntime) {
-    let alloc = rt.alloc();
-    for (rows, ranks, part, cells, moved, numbers) in DIVISIONS {
-        let problem = problem(&rt, alloc, rows, ranks);
-        costs_so(&rt, alloc, &problem, part, cells, moved, numbers);
+    for division in DIVISIONS {
+        costs_so(&rt, rt.alloc(), division);
     }
 }
 
@@ -204,10 +224,8 @@ fn sums_so(rt: &impl Abort, alloc: Global, chain: &Problem) {
 
 #[test]
 fn a_refused_growth_is_asked_for_again(rt: HostRuntime) {
-    let alloc = rt.alloc();
-    let chain = problem(&rt, alloc, &CHAIN, 3);
-    costs_so(&rt, alloc, &chain, &[0, 0, 1, 1], &[0, 6, 0, 2], 2, &[0, 1]);
-    sums_so(&rt, alloc, &chain);
+    costs_so(&rt, rt.alloc(), CHAIN_IN_TWO);
+    sums_so(&rt, rt.alloc(), &problem(&rt, rt.alloc(), &CHAIN, 3));
 }
 
 // (a rank, how many of the set 0x8000_0000_0000_000d are smaller)

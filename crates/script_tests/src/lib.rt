@@ -1,19 +1,13 @@
-//! Tests of the script's crates by their public calls.
+//! Tests of the script's crates, by public calls.
 #![tactic(auto)]
 
 #[cfg(test)]
-mod certificates;
+mod board;
 #[cfg(test)]
 mod devices;
 #[cfg(test)]
-mod hints;
+mod lines;
 #[cfg(test)]
-mod pieces;
-#[cfg(test)]
-mod program;
+mod runs;
 #[cfg(test)]
 mod same;
-#[cfg(test)]
-mod scripts;
-#[cfg(test)]
-mod words;

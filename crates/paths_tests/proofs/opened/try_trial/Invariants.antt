@@ -1,6 +1,0 @@
-use Rattle.naming.specs.Names.{no_table}
-use Rattle.paths_tests.proofs.opened.try_trial.Given as goal
-
--- the map's name is that of what was opened for it
-abbrev pub ghosts-on_map : goal.ghosts-on_map
-ghosts-on_map g a = record { ledger = no_table; limit = 96; map = a.opened }

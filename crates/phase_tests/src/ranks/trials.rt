@@ -1,0 +1,158 @@
+//! What is tried on boards with room for 128 directories. Below the root there is one directory less than ranks.
+ghost use Rattle.std.specs.Prelude.{◌≡◌, ◌≤◌};
+
+use crate::opened::{Tried, board_of, on_board};
+use crate::ranks::rows::{BETWEEN_PHASES, PAST_A_STOP, THERE_AND_BACK};
+use crate::ranks::{exports, full, growths, many, requests, rows, threads, whole};
+use crate::same::Sure;
+use authority_map::Publisher;
+use board_state::BoardParts;
+use heat_ledger::Share;
+use mds_board::Board;
+use mds_types::Dir;
+use naming::Naming;
+use std::alloc::{AllocError, Global};
+use std::marker::{Send, Sync};
+use std::process::Abort;
+use std::sync::Wait;
+use std::thread::Threads;
+
+/// What is tried, each by the module that tests it.
+#[derive(Clone, Copy)]
+pub(crate) enum Trial {
+    /// Orders of three ranks.
+    Orders,
+    /// Orders of two ranks whose turns meet.
+    MeetingTurns,
+    /// An end without room in the history.
+    FullHistory,
+    /// A phase without requests.
+    NoRequests,
+    /// A refused growth while requests are served.
+    GrowthOfAnswers,
+    /// A refused growth while orders are carried out.
+    GrowthOfOutcomes,
+    /// Requests of 64 ranks.
+    ManyRequests,
+    /// Requests of two ranks.
+    Requests,
+    /// The same where one of them has stopped.
+    StoppedRank,
+    /// Requests of two ranks that meet.
+    Meeting,
+    /// Requests on a directory that goes to another rank and back.
+    ThereAndBack,
+    /// Requests where the rank has stopped that gave the directory away.
+    PastAStop,
+    /// Requests where a rank stops between two phases, and runs again.
+    BetweenPhases,
+    /// Requests for which there may be no thread, or for which there is one.
+    RankThreads(bool),
+    /// Orders for which there may be no thread, or for which there is one.
+    ExporterThreads(bool),
+    /// A phase for a caller that has all shares.
+    Totals,
+}
+
+impl Trial {
+    /// How many ranks its board has.
+    pub(crate) fn ranks(self) -> u8
+        ensures { (1 ≤ result) × (result ≤ 64) }
+    {
+        match self {
+            Trial::ManyRequests => 64,
+            Trial::Orders | Trial::GrowthOfOutcomes | Trial::ExporterThreads(_) => 3,
+            _ => 2,
+        }
+    }
+}
+
+fn make<J: Naming, M: Publisher<J>>(
+    alloc: Global,
+    board: &mut Board<J, M>,
+    dirs: u32,
+) -> Result<(), AllocError> {
+    for number in 0..dirs {
+        let name = format!(in alloc; "d{number}")?;
+        if board.make(alloc, Dir::ROOT, name.as_str(), 1).is_err() {
+            return Err(AllocError);
+        }
+    }
+    Ok(())
+}
+
+// Tries it on a board with its directories.
+fn try_on<J: Naming + Send + Sync, M: Publisher<J> + Send, R: Abort + Threads + Wait + Sync>(
+    rt: &R,
+    alloc: Global,
+    board: Board<J, M>,
+    shares: Vec<Share<J>>,
+    trial: Trial,
+) -> Result<(), AllocError>
+    requires limit { 128 ≤ J.limit }
+{
+    match trial {
+        Trial::GrowthOfAnswers => return growths::serve_on(rt, alloc, board, shares),
+        Trial::GrowthOfOutcomes => return growths::move_on(rt, alloc, board),
+        Trial::Orders => exports::go_and_come(rt, alloc, board),
+        Trial::MeetingTurns => exports::meet(rt, alloc, board),
+        Trial::FullHistory => full::end_without_room(rt, alloc, board, shares),
+        Trial::NoRequests => full::serve_nothing(rt, alloc, board, shares),
+        Trial::ManyRequests => many::serve_on(rt, alloc, board, shares),
+        Trial::Requests => requests::serve_with_jitter(rt, alloc, board, shares),
+        Trial::StoppedRank => requests::serve_stopped(rt, alloc, board, shares),
+        Trial::Meeting => requests::meet(rt, alloc, board, shares),
+        Trial::ThereAndBack => rows::play_on(rt, alloc, board, shares, THERE_AND_BACK),
+        Trial::PastAStop => rows::play_on(rt, alloc, board, shares, PAST_A_STOP),
+        Trial::BetweenPhases => rows::play_on(rt, alloc, board, shares, BETWEEN_PHASES),
+        Trial::RankThreads(is_sure) => threads::serve_on(rt, alloc, board, shares, is_sure),
+        Trial::ExporterThreads(is_sure) => threads::move_on(rt, alloc, board, is_sure),
+        Trial::Totals => panic!(rt; "its board is its own"),
+    }
+    Ok(())
+}
+
+/// Tries it on a board of these parts, if there is memory for its directories.
+pub(crate) fn on_parts<
+    J: Naming + Send + Sync,
+    M: Publisher<J> + Send,
+    R: Abort + Threads + Wait + Sync,
+>(
+    rt: &R,
+    alloc: Global,
+    parts: BoardParts<J, M>,
+    limit: u32,
+    trial: Trial,
+) -> Result<(), AllocError>
+    requires limit { (limit ≡ J.limit) × (128 ≤ limit) × (limit ≤ 65536) }
+{
+    if let Trial::Totals = trial {
+        whole::serve_audited(rt, alloc, parts, limit);
+        return Ok(());
+    }
+    let (mut board, shares) = board_of(rt, alloc, parts, limit, trial.ranks());
+    if make(alloc, &mut board, u32::from(trial.ranks()) - 1).is_err() {
+        board.end();
+        return Err(AllocError);
+    }
+    try_on(rt, alloc, board, shares, trial)
+}
+
+/// Tries it on a new board, if there is memory for its directories.
+pub(crate) fn try_once<R: Abort + AllocGlobal + Threads + Wait + Sync>(
+    rt: &R,
+    trial: Trial,
+) -> Result<(), AllocError> {
+    on_board(rt, Tried::Ranks(trial))
+}
+
+/// Tries it `times` times, each time on a new board.
+pub(crate) fn try_often<R: Abort + AllocGlobal + Threads + Wait + Sync>(
+    rt: &R,
+    trial: Trial,
+    times: u32,
+) {
+    for _ in 0..times {
+        try_once(rt, trial).sure(rt);
+    }
+}

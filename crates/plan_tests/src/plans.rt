@@ -1,0 +1,4 @@
+//! Plans: what the planner finds, and what the checker accepts.
+
+mod judging;
+mod solving;

@@ -1,0 +1,5 @@
+//! A script's board.
+
+mod acts;
+mod cases;
+mod refused;

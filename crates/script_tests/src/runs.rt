@@ -1,0 +1,6 @@
+//! Whole runs: command lines, scripts, certificates, and the program.
+
+mod certificates;
+mod program;
+mod scripts;
+mod words;
