@@ -3,6 +3,12 @@
 #![tactic(auto)]
 
 #[cfg(test)]
+mod gates;
+#[cfg(test)]
+mod given;
+#[cfg(test)]
+mod opened;
+#[cfg(test)]
 mod ranks;
 #[cfg(test)]
 mod rounds;

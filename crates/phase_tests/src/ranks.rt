@@ -4,11 +4,10 @@
 mod boards;
 mod exports;
 mod full;
-mod gates;
 mod growths;
 mod many;
 mod requests;
 mod rows;
 mod threads;
-mod trials;
+pub(crate) mod trials;
 mod whole;

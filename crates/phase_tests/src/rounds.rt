@@ -1,7 +1,5 @@
 //! Exports in rounds, alone or beside requests.
 
-mod boards;
-mod gates;
 mod many;
 mod moves;
 mod phase;
@@ -10,3 +8,4 @@ mod refused;
 mod scarce;
 mod steps;
 mod traffic;
+pub(crate) mod trials;

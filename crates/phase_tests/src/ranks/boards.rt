@@ -1,5 +1,5 @@
 //! Boards of several ranks, and phases on them.
-use crate::ranks::gates::JitterGate;
+use crate::gates::JitterGate;
 use authority_map::Publisher;
 use export_threads::{OrderOutcome, Outcome};
 use heat_ledger::Share;
@@ -11,26 +11,6 @@ use std::alloc::{AllocError, Global};
 use std::marker::{Send, Sync};
 use std::sync::Wait;
 use std::thread::Threads;
-
-/// The rank of a number, and rank 0 where that is none.
-pub(crate) fn rank(number: u8) -> Rank {
-    Rank::new(number).unwrap_or(Rank::default())
-}
-
-/// Orders of one directory each: from a rank, to a rank, the directory.
-pub(crate) fn orders(alloc: Global, rows: &[(u8, u8, u32)]) -> Result<Vec<Order>, AllocError> {
-    let mut orders = Vec::new(alloc);
-    for (from, to, dir) in rows {
-        let mut dirs = Vec::new(alloc);
-        dirs.push(Dir::new(*dir))?;
-        orders.push(Order {
-            from: rank(*from),
-            to: rank(*to),
-            dirs: Dirs::new(dirs),
-        })?;
-    }
-    Ok(orders)
-}
 
 /// What became of an order whose export is done.
 pub(crate) fn done(export: u32) -> OrderOutcome {

@@ -1,6 +1,7 @@
 //! Orders of three ranks, and what they leave on the board.
-use crate::ranks::boards::{authorities, done, orders, rank};
-use crate::ranks::gates::{JitterGate, RoundsGate};
+use crate::gates::{JitterGate, RoundsGate};
+use crate::given::{orders, rank};
+use crate::ranks::boards::{authorities, done};
 use crate::ranks::trials::{Trial, try_often};
 use crate::same::{Sure, same};
 use authority_map::Publisher;

@@ -1,7 +1,8 @@
 //! Phases that find no memory at one of their growths.
 ghost use Rattle.std.specs.Prelude.{◌≡◌};
 
-use crate::ranks::boards::{authorities, orders, rank, running};
+use crate::given::{counts, orders, rank};
+use crate::ranks::boards::{authorities, running};
 use crate::ranks::requests::{refused, scripts, work};
 use crate::ranks::trials::{Trial, try_once};
 use crate::same::{Sure, holds_in, same};
@@ -56,17 +57,6 @@ fn serve_at_last<J: Naming + Send + Sync, M: Publisher<J> + Send, R: Threads + W
     (board, done.ok(), unchanged)
 }
 
-// Hits on directory 1 that shares count, and those that wait for a deposit.
-fn counted<J: Naming>(shares: &[Share<J>]) -> (u64, u64) {
-    let mut hits: u64 = 0;
-    let mut pending: u64 = 0;
-    for share in shares {
-        hits = hits.wrapping_add(share.hits(Dir::new(1), Kind::Read));
-        pending = pending.wrapping_add(share.pending(Dir::new(1), Kind::Read));
-    }
-    (hits, pending)
-}
-
 // Two for a request that found no memory, and one for a request of a rank without a thread.
 fn lack(answer: &WorkAnswer) -> u32 {
     if *answer == WorkAnswer::refused(WorkError::Board(BoardError::Memory)) {
@@ -105,7 +95,7 @@ pub(crate) fn serve_on<
     M: Publisher<J> + Send,
     R: Abort + Threads + Wait + Sync,
 >(rt: &R, alloc: Global, board: Board<J, M>, shares: Vec<Share<J>>) -> Result<(), AllocError>
-    requires limit { J.limit ≡ 128 }
+    requires limit { 128 ≤ J.limit }
 {
     let scripts = match scripts(alloc, &[work(1, 3), work(1, 4)], &[work(7, 2)]) {
         Ok(scripts) => scripts,
@@ -123,7 +113,7 @@ pub(crate) fn serve_on<
     assert!(rt; unchanged);
     same(rt, &running, &0);
     let served = served_hits(rt, &ranks.answers);
-    let (hits, pending) = counted(&ranks.shares);
+    let (hits, pending, _begun) = counts(&ranks.shares, Dir::new(1));
     same(rt, &hits, &served);
     same(rt, &heat.wrapping_add(pending), &served);
     Ok(())

@@ -1,8 +1,9 @@
 //! Many requests of 64 ranks.
 ghost use Rattle.std.specs.Prelude.{◌≡◌};
 
-use crate::ranks::boards::{orders, running, serve};
-use crate::ranks::gates::JitterGate;
+use crate::gates::JitterGate;
+use crate::given::orders;
+use crate::ranks::boards::{running, serve};
 use crate::ranks::requests::work;
 use crate::ranks::trials::{Trial, try_often};
 use crate::same::{Sure, same, same_in};
@@ -75,7 +76,7 @@ pub(crate) fn serve_on<
     M: Publisher<J> + Send,
     R: Abort + Threads + Wait + Sync,
 >(rt: &R, alloc: Global, board: Board<J, M>, shares: Vec<Share<J>>)
-    requires limit { J.limit ≡ 128 }
+    requires limit { 128 ≤ J.limit }
 {
     let orders = spread(alloc).sure(rt);
     let scripts = scripts(alloc).sure(rt);

@@ -1,8 +1,9 @@
 //! Requests of two ranks, and what they leave on the board.
 ghost use Rattle.std.specs.Prelude.{◌≡◌, IfOk, vec_len};
 
+use crate::gates::{JitterGate, MeetingGate};
+use crate::given::rank;
 use crate::ranks::boards::serve_all;
-use crate::ranks::gates::{JitterGate, MeetingGate};
 use crate::ranks::trials::{Trial, try_often};
 use crate::same::{Sure, same};
 use authority_map::Publisher;
@@ -18,10 +19,6 @@ use std::marker::{Send, Sync};
 use std::process::Abort;
 use std::sync::Wait;
 use std::thread::Threads;
-
-fn rank(rt: &impl Abort, number: u8) -> Rank {
-    Rank::new(number).ok_or("no rank").sure(rt)
-}
 
 /// A read of a directory.
 pub(crate) fn work(dir: u32, hits: u32) -> Work {
@@ -45,8 +42,8 @@ pub(crate) fn refused(error: StepError) -> WorkAnswer {
 }
 
 // The answer to a request that rank 0 would serve.
-fn elsewhere(rt: &impl Abort) -> WorkAnswer {
-    refused(StepError::Elsewhere(rank(rt, 0)))
+fn elsewhere() -> WorkAnswer {
+    refused(StepError::Elsewhere(rank(0)))
 }
 
 /// The scripts of two ranks.
@@ -90,7 +87,7 @@ fn serve_two<
     scripts: &[Vec<Work>],
     stopped: Option<Rank>,
 ) -> Seen
-    requires limit { J.limit ≡ 128 }
+    requires limit { 128 ≤ J.limit }
 {
     let mut board = board;
     if let Some(rank) = stopped {
@@ -121,14 +118,14 @@ pub(crate) fn serve_with_jitter<
     M: Publisher<J> + Send,
     R: Abort + Threads + Wait + Sync,
 >(rt: &R, alloc: Global, board: Board<J, M>, shares: Vec<Share<J>>)
-    requires limit { J.limit ≡ 128 }
+    requires limit { 128 ≤ J.limit }
 {
     let one = [work(0, 3), work(1, 5), work(7, 1)];
     let all = scripts(alloc, &one, &[work(1, 2), work(7, 2)]).sure(rt);
     let seen = serve_two(rt, alloc, board, shares, &JitterGate, &all, None);
     let first = [served(0, 3), served(1, 5), refused(StepError::NoDir)];
     same(rt, &seen.first.as_slice(), &first.as_slice());
-    let second = [elsewhere(rt), refused(StepError::NoDir)];
+    let second = [elsewhere(), refused(StepError::NoDir)];
     same(rt, &seen.second.as_slice(), &second.as_slice());
     same(rt, &(seen.heat, seen.entries), &(5, 7));
 }
@@ -144,10 +141,10 @@ pub(crate) fn serve_stopped<
     M: Publisher<J> + Send,
     R: Abort + Threads + Wait + Sync,
 >(rt: &R, alloc: Global, board: Board<J, M>, shares: Vec<Share<J>>)
-    requires limit { J.limit ≡ 128 }
+    requires limit { 128 ≤ J.limit }
 {
     let all = scripts(alloc, &[work(1, 5)], &[work(1, 2)]).sure(rt);
-    let stop = rank(rt, 0);
+    let stop = rank(0);
     let seen = serve_two(rt, alloc, board, shares, &JitterGate, &all, Some(stop));
     let stopped = refused(StepError::Stopped(stop));
     same(rt, &seen.first.as_slice(), &[stopped].as_slice());
@@ -165,7 +162,7 @@ pub(crate) fn meet<
     M: Publisher<J> + Send,
     R: Abort + Threads + Wait + Sync,
 >(rt: &R, alloc: Global, board: Board<J, M>, shares: Vec<Share<J>>)
-    requires limit { J.limit ≡ 128 }
+    requires limit { 128 ≤ J.limit }
 {
     let all = scripts(alloc, &[work(1, 5)], &[work(1, 2)]).sure(rt);
     let gate = MeetingGate::new();

@@ -1,6 +1,7 @@
 //! Requests of two ranks on a directory that moves, and past stops.
-use crate::ranks::boards::{orders, rank, serve};
-use crate::ranks::gates::JitterGate;
+use crate::gates::JitterGate;
+use crate::given::{orders, rank};
+use crate::ranks::boards::serve;
 use crate::ranks::requests::{refused, scripts, served, work};
 use crate::ranks::trials::{Trial, try_often};
 use crate::same::{Sure, same, same_in};

@@ -1,7 +1,8 @@
 //! Phases for which the system may give no thread. `tools/refused_threads` runs them where it does not.
 ghost use Rattle.std.specs.Prelude.{◌≡◌};
 
-use crate::ranks::boards::{authorities, done, orders, rank, running, serve};
+use crate::given::{orders, rank};
+use crate::ranks::boards::{authorities, done, running, serve};
 use crate::ranks::requests::{refused, scripts, served, work};
 use crate::ranks::trials::{Trial, try_often};
 use crate::same::{Sure, same};
@@ -39,7 +40,7 @@ pub(crate) fn serve_on<
     M: Publisher<J> + Send,
     R: Abort + Threads + Wait + Sync,
 >(rt: &R, alloc: Global, board: Board<J, M>, shares: Vec<Share<J>>, is_sure: bool)
-    requires limit { J.limit ≡ 128 }
+    requires limit { 128 ≤ J.limit }
 {
     let scripts = scripts(alloc, &[work(1, 3), work(1, 5)], &[work(7, 2)]).sure(rt);
     let mut answers = Vec::with_capacity(alloc, 3).sure(rt);

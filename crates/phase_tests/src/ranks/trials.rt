@@ -1,18 +1,18 @@
-//! What is tried on a board, and the one place that opens boards for it: a function that knows the type of the map's
-//! writer takes long to prove, so all that is tried is generic in it.
+//! What is tried on boards with room for 128 directories. Below the root there is one directory less than ranks.
 ghost use Rattle.std.specs.Prelude.{◌≡◌, ◌≤◌};
 
+use crate::opened::{Tried, board_of, on_board};
 use crate::ranks::rows::{BETWEEN_PHASES, PAST_A_STOP, THERE_AND_BACK};
 use crate::ranks::{exports, full, growths, many, requests, rows, threads, whole};
 use crate::same::Sure;
-use authority_map::{MapWriter, NewMap, Publisher};
+use authority_map::Publisher;
 use board_state::BoardParts;
-use heat_ledger::{NewBook, Share};
+use heat_ledger::Share;
 use mds_board::Board;
 use mds_types::Dir;
 use naming::Naming;
 use std::alloc::{AllocError, Global};
-use std::marker::{Brand, Send, Sync};
+use std::marker::{Send, Sync};
 use std::process::Abort;
 use std::sync::Wait;
 use std::thread::Threads;
@@ -55,14 +55,14 @@ pub(crate) enum Trial {
 }
 
 impl Trial {
-    // How many ranks its board has, and how many directories from 1 on below the root.
-    fn room(self) -> (u8, u32)
-        ensures { (1 ≤ result.0) × (result.0 ≤ 64) }
+    /// How many ranks its board has.
+    pub(crate) fn ranks(self) -> u8
+        ensures { (1 ≤ result) × (result ≤ 64) }
     {
         match self {
-            Trial::ManyRequests => (64, 63),
-            Trial::Orders | Trial::GrowthOfOutcomes | Trial::ExporterThreads(_) => (3, 2),
-            _ => (2, 1),
+            Trial::ManyRequests => 64,
+            Trial::Orders | Trial::GrowthOfOutcomes | Trial::ExporterThreads(_) => 3,
+            _ => 2,
         }
     }
 }
@@ -89,7 +89,7 @@ fn try_on<J: Naming + Send + Sync, M: Publisher<J> + Send, R: Abort + Threads + 
     shares: Vec<Share<J>>,
     trial: Trial,
 ) -> Result<(), AllocError>
-    requires limit { J.limit ≡ 128 }
+    requires limit { 128 ≤ J.limit }
 {
     match trial {
         Trial::GrowthOfAnswers => return growths::serve_on(rt, alloc, board, shares),
@@ -112,77 +112,38 @@ fn try_on<J: Naming + Send + Sync, M: Publisher<J> + Send, R: Abort + Threads + 
     Ok(())
 }
 
-// The same on one that has only its root yet.
-fn try_filled<J: Naming + Send + Sync, M: Publisher<J> + Send, R: Abort + Threads + Wait + Sync>(
+/// Tries it on a board of these parts, if there is memory for its directories.
+pub(crate) fn on_parts<
+    J: Naming + Send + Sync,
+    M: Publisher<J> + Send,
+    R: Abort + Threads + Wait + Sync,
+>(
     rt: &R,
     alloc: Global,
-    board: Board<J, M>,
-    shares: Vec<Share<J>>,
-    dirs: u32,
+    parts: BoardParts<J, M>,
+    limit: u32,
     trial: Trial,
 ) -> Result<(), AllocError>
-    requires limit { J.limit ≡ 128 }
+    requires limit { (limit ≡ J.limit) × (128 ≤ limit) × (limit ≤ 65536) }
 {
-    let mut board = board;
-    if make(alloc, &mut board, dirs).is_err() {
+    if let Trial::Totals = trial {
+        whole::serve_audited(rt, alloc, parts, limit);
+        return Ok(());
+    }
+    let (mut board, shares) = board_of(rt, alloc, parts, limit, trial.ranks());
+    if make(alloc, &mut board, u32::from(trial.ranks()) - 1).is_err() {
         board.end();
         return Err(AllocError);
     }
     try_on(rt, alloc, board, shares, trial)
 }
 
-// The same with a book and a map's writer.
-fn try_with<J: Naming + Send + Sync, M: Publisher<J> + Send, R: Abort + Threads + Wait + Sync>(
-    rt: &R,
-    alloc: Global,
-    parts: BoardParts<J, M>,
-    room: (u8, u32),
-    trial: Trial,
-) -> Result<(), AllocError>
-    requires limit { J.limit ≡ 128 }
-    requires ranks { (1 ≤ room.0) × (room.0 ≤ 64) }
-{
-    if let Trial::Totals = trial {
-        whole::serve_audited(rt, alloc, parts);
-        return Ok(());
-    }
-    match Board::new(alloc, parts, 128, room.0) {
-        Ok((board, shares)) => try_filled(rt, alloc, board, shares, room.1, trial),
-        Err(parts) => {
-            parts.end();
-            Err(AllocError)
-        }
-    }
-}
-
-fn on_board<J: Naming + Send + Sync, R: Abort + Threads + Wait + Sync>(
-    rt: &R,
-    alloc: Global,
-    book: NewBook,
-    map: NewMap,
-    room: (u8, u32),
-    trial: Trial,
-) -> Result<(), AllocError>
-    requires book { book ≡ J.ledger }
-    requires map { map ≡ J.map }
-    requires limit { J.limit ≡ 128 }
-    requires ranks { (1 ≤ room.0) × (room.0 ≤ 64) }
-{
-    match MapWriter::<J, &R>::open(rt, alloc, map, 128, 1) {
-        Ok((writer, _readers)) => {
-            try_with(rt, alloc, BoardParts::new(book, writer), room, trial)
-        }
-        Err(_) => Err(AllocError),
-    }
-}
-
-/// Tries it on a new board, if there is memory for one.
+/// Tries it on a new board, if there is memory for its directories.
 pub(crate) fn try_once<R: Abort + AllocGlobal + Threads + Wait + Sync>(
     rt: &R,
     trial: Trial,
 ) -> Result<(), AllocError> {
-    let book = NewBook::new(rt.alloc())?;
-    on_board::<Brand, R>(rt, rt.alloc(), book, NewMap::new(), trial.room(), trial)
+    on_board(rt, Tried::Ranks(trial))
 }
 
 /// Tries it `times` times, each time on a new board.

@@ -2,7 +2,7 @@
 ghost use Rattle.std.specs.Prelude.{◌≡◌, vec_len};
 ghost use Rattle.heat_ledger.specs.Ledger.{weight_of};
 
-use crate::ranks::gates::JitterGate;
+use crate::gates::JitterGate;
 use crate::ranks::requests::{scripts, work};
 use crate::ranks::trials::{Trial, try_often};
 use crate::same::{Sure, same};
@@ -46,10 +46,10 @@ pub(crate) fn serve_audited<
     J: Naming + Send + Sync,
     M: Publisher<J> + Send,
     R: Abort + Threads + Wait + Sync,
->(rt: &R, alloc: Global, parts: BoardParts<J, M>)
-    requires limit { J.limit ≡ 128 }
+>(rt: &R, alloc: Global, parts: BoardParts<J, M>, limit: u32)
+    requires limit { (limit ≡ J.limit) × (128 ≤ limit) × (limit ≤ 65536) }
 {
-    match Board::new(alloc, parts, 128, 2) {
+    match Board::new(alloc, parts, limit, 2) {
         Ok((board, shares)) => same(rt, &serve_on(rt, alloc, board, shares), &(2, 7)),
         Err(_parts) => panic!(rt; "no board"),
     }

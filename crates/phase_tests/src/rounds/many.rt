@@ -1,7 +1,8 @@
 //! A phase of many exports, and many phases.
 
-use crate::rounds::boards::{Trial, on_board};
-use crate::rounds::steps::{make, moved, rank};
+use crate::given::rank;
+use crate::rounds::steps::{make, moved};
+use crate::rounds::trials::{Trial, on_board};
 use crate::same::{Sure, holds_in, same, same_in};
 use authority_map::Publisher;
 use export_machine::Event;
@@ -81,10 +82,10 @@ fn all_stand<J: Naming, M: Publisher<J>>(rt: &impl Abort, board: &Board<J, M>) {
 
 #[test]
 fn each_of_many_exports_is_done(rt: HostRuntime) {
-    on_board(&rt, &rt, Trial::Many)
+    on_board(&rt, Trial::Many)
 }
 
 #[test]
 fn many_failed_phases_leave_nothing_to_look_at(rt: HostRuntime) {
-    on_board(&rt, &rt, Trial::Failed)
+    on_board(&rt, Trial::Failed)
 }

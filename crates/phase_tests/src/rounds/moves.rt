@@ -1,7 +1,8 @@
 //! Moves that are done, aborted, refused and taken up again, on a board with /a and /b.
 
-use crate::rounds::boards::{Trial, on_board};
-use crate::rounds::steps::{Do, make, moved, play, rank, stand};
+use crate::given::rank;
+use crate::rounds::steps::{Do, make, moved, play, stand};
+use crate::rounds::trials::{Trial, on_board};
 use crate::same::{Sure, holds_in, same_in};
 use authority_map::Publisher;
 use board_state::BoardError;
@@ -237,6 +238,6 @@ const MOVES: &[(&str, &[Act])] = &[
 #[test]
 fn orders_are_done_aborted_refused_and_taken_up(rt: HostRuntime) {
     for (name, acts) in MOVES {
-        on_board(&rt, &rt, Trial::Moves(name, acts));
+        on_board(&rt, Trial::Moves(name, acts));
     }
 }

@@ -1,5 +1,6 @@
 //! A phase of requests and exports, and what it leaves.
 
+use crate::given::counts;
 use crate::rounds::refused::read;
 use authority_map::{MapReader, Publisher};
 use export_rounds::{Gate, Unsettled};
@@ -66,17 +67,6 @@ pub(crate) fn total(answers: &[Vec<WorkAnswer>]) -> (u64, u64) {
         }
     }
     (hits, begun)
-}
-
-/// What shares count on a directory: the hits, those that aren't deposited, and the requests that began.
-pub(crate) fn counts<J: Naming>(shares: &[Share<J>], dir: Dir) -> (u64, u64, u64) {
-    let (mut hits, mut pending, mut begun): (u64, u64, u64) = (0, 0, 0);
-    for share in shares {
-        hits = hits.wrapping_add(share.hits(dir, Kind::Read));
-        pending = pending.wrapping_add(share.pending(dir, Kind::Read));
-        begun = begun.wrapping_add(share.begun(dir));
-    }
-    (hits, pending, begun)
 }
 
 // Each reader learns what the board tells.

@@ -1,7 +1,8 @@
 //! What a board records leads a new cluster to the same state.
 
-use crate::rounds::boards::{Trial, on_board};
-use crate::rounds::steps::{make, rank, stand};
+use crate::given::rank;
+use crate::rounds::steps::{make, stand};
+use crate::rounds::trials::{Trial, on_board};
 use crate::same::{Sure, holds_in, same, same_in};
 use authority_map::Publisher;
 use export_machine::{Cluster, Event};
@@ -77,5 +78,5 @@ pub(crate) fn move_by_threads<
 
 #[test]
 fn recorded_events_lead_to_the_same_cluster(rt: HostRuntime) {
-    on_board(&rt, &rt, Trial::Recorded)
+    on_board(&rt, Trial::Recorded)
 }

@@ -2,8 +2,9 @@
 //!
 //! With `rt try --test --fail-alloc N`, the N-th growth is refused.
 
-use crate::rounds::boards::{Trial, on_board};
-use crate::rounds::steps::{orders, rank, stand};
+use crate::given::{orders, rank};
+use crate::rounds::steps::stand;
+use crate::rounds::trials::{Trial, on_board};
 use crate::same::{Sure, holds_in, same, same_in};
 use authority_map::Publisher;
 use board_state::BoardError;
@@ -126,5 +127,5 @@ pub(crate) fn phases<J: Naming, M: Publisher<J>>(
 
 #[test]
 fn a_refused_growth_is_made_up_for(rt: HostRuntime) {
-    on_board(&rt, &rt, Trial::RefusedGrowth)
+    on_board(&rt, Trial::RefusedGrowth)
 }

@@ -3,11 +3,12 @@
 //! The requests are on the root and the export is of /a, so that neither hinders the other. Threads are refused by
 //! `tools/refused_threads`.
 
-use crate::rounds::boards::{Trial, on_board};
-use crate::rounds::phase::{Seats, Told, counts, phase, scripts, total};
+use crate::given::{counts, rank};
+use crate::rounds::phase::{Seats, Told, phase, scripts, total};
 use crate::rounds::refused::{is_told, made_at_last, orders_at_last};
-use crate::rounds::steps::{moved, rank, stand};
+use crate::rounds::steps::{moved, stand};
 use crate::rounds::traffic::MOVE;
+use crate::rounds::trials::{Trial, on_board};
 use crate::same::{Sure, holds_in, same};
 use authority_map::Publisher;
 use board_state::BoardError;
@@ -92,16 +93,16 @@ pub(crate) fn serve_and_move<
 
 #[test]
 fn a_refused_growth_of_traffic_changes_nothing(rt: HostRuntime) {
-    on_board(&rt, &rt, Trial::Scarce(1))
+    on_board(&rt, Trial::Scarce(1))
 }
 
 #[test]
 fn traffic_without_a_thread_is_told(rt: HostRuntime) {
-    on_board(&rt, &rt, Trial::Scarce(3))
+    on_board(&rt, Trial::Scarce(3))
 }
 
 // With ample memory the requests of each rank, and its exports, have a thread.
 #[test]
 fn requests_and_exports_have_threads(rt: HostRuntime) {
-    on_board(&rt, &rt, Trial::Scarce(0))
+    on_board(&rt, Trial::Scarce(0))
 }

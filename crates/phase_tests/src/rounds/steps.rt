@@ -1,5 +1,6 @@
 //! What is done to a board in a test, and what is read of it.
 
+use crate::given::{dirs, orders, rank};
 use crate::same::{Sure, holds_in, same_in};
 use authority_map::Publisher;
 use export_machine::Event;
@@ -27,17 +28,6 @@ pub(crate) enum Do {
     Restart(u8),
 }
 
-/// The rank of a number, and rank 0 where that is none.
-pub(crate) fn rank(number: u8) -> Rank {
-    Rank::new(number).unwrap_or(Rank::default())
-}
-
-fn dirs(alloc: Global, dir: u32) -> Result<Dirs, AllocError> {
-    let mut list = Vec::new(alloc);
-    list.push(Dir::new(dir))?;
-    Ok(Dirs::new(list))
-}
-
 /// Makes the steps, each of which must be accepted.
 pub(crate) fn play<J: Naming, M: Publisher<J>>(
     rt: &impl Abort,
@@ -60,19 +50,6 @@ pub(crate) fn play<J: Naming, M: Publisher<J>>(
         };
         same_in(rt, &made.err(), &None, &(name, at));
     }
-}
-
-/// Orders of one directory each: the rank that gives it, the rank that takes it, and the directory.
-pub(crate) fn orders(alloc: Global, rows: &[(u8, u8, u32)]) -> Result<Vec<Order>, AllocError> {
-    let mut orders = Vec::with_capacity(alloc, rows.len())?;
-    for (from, to, dir) in rows {
-        orders.push(Order {
-            from: rank(*from),
-            to: rank(*to),
-            dirs: dirs(alloc, *dir)?,
-        })?;
-    }
-    Ok(orders)
 }
 
 /// Moves directories, each by an order of its own.

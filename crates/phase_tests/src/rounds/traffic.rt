@@ -2,11 +2,12 @@
 ghost use Rattle.std.specs.Prelude.{◌≡◌, ◌≤◌, vec_len};
 ghost use Rattle.heat_ledger.specs.Ledger.{weight_of};
 
-use crate::rounds::boards::{Trial, on_board};
-use crate::rounds::gates::{HeldGate, JitterGate};
+use crate::gates::{HeldGate, JitterGate};
+use crate::given::{orders, rank};
 use crate::rounds::phase::{Seats, phase, scripts, total};
 use crate::rounds::recorded::replay;
-use crate::rounds::steps::{Do, make, moved, orders, play, rank};
+use crate::rounds::steps::{Do, make, moved, play};
+use crate::rounds::trials::{Trial, on_board};
 use crate::same::{Sure, holds_in, same};
 use authority_map::{Found, MapReader, Publisher};
 use board_state::BoardParts;
@@ -56,7 +57,7 @@ pub(crate) fn hold<
 
 #[test]
 fn an_export_runs_beside_a_request(rt: HostRuntime) {
-    on_board(&rt, &rt, Trial::Held)
+    on_board(&rt, Trial::Held)
 }
 
 // Whether the export of the one order was started.
@@ -120,8 +121,8 @@ pub(crate) fn serve_and_move<
 #[test]
 fn requests_are_served_while_a_directory_moves(rt: HostRuntime) {
     for _ in 0..50 {
-        on_board(&rt, &rt, Trial::AtOnce(0));
-        on_board(&rt, &rt, Trial::AtOnce(1));
+        on_board(&rt, Trial::AtOnce(0));
+        on_board(&rt, Trial::AtOnce(1));
     }
 }
 
@@ -160,7 +161,7 @@ pub(crate) fn ask_by_map<
 
 #[test]
 fn requests_are_asked_where_the_map_says(rt: HostRuntime) {
-    on_board(&rt, &rt, Trial::ByMap)
+    on_board(&rt, Trial::ByMap)
 }
 
 fn serve_whole<J: Naming + Send + Sync, M: Publisher<J> + Send, R: Abort + Threads + Wait + Sync>(
@@ -196,7 +197,7 @@ pub(crate) fn add_up<
     M: Publisher<J> + Send,
     R: Abort + Threads + Wait + Sync,
 >(rt: &R, alloc: Global, parts: BoardParts<J, M>, readers: Vec<MapReader<J>>, limit: u32)
-    requires limit { (limit ≡ J.limit) × (1 ≤ limit) × (limit ≤ 65536) }
+    requires limit { (limit ≡ J.limit) × (128 ≤ limit) × (limit ≤ 65536) }
 {
     match Board::new(alloc, parts, limit, 2) {
         Ok((board, shares)) => serve_whole(rt, alloc, board, shares, readers),
@@ -206,5 +207,5 @@ pub(crate) fn add_up<
 
 #[test]
 fn totals_rise_by_the_answers(rt: HostRuntime) {
-    on_board(&rt, &rt, Trial::Totals)
+    on_board(&rt, Trial::Totals)
 }

@@ -1,12 +1,24 @@
-//! Gates at which threads wait or give way.
+//! Gates at which threads wait or give way, each for requests and for rounds: the numbers of requests begin at 0, and
+//! those of rounds at 1.
 
+use export_rounds::Gate;
 use mds_types::Rank;
-use rank_threads::Gate;
 use std::sync::atomic::{AtomicU64, Ordering};
 use std::thread;
 
 /// How often a thread gives way at most, until it goes on without the others.
 const TURNS: u64 = 100_000_000;
+
+// Gives way until a counter is above a number. It says whether it came to that.
+fn comes_above(counter: &AtomicU64, number: u64) -> bool {
+    for _ in 0..TURNS {
+        if counter.load(Ordering::SeqCst) > number {
+            return true;
+        }
+        thread::yield_now();
+    }
+    false
+}
 
 /// Threads give way now and then.
 pub(crate) struct JitterGate;
@@ -50,12 +62,8 @@ impl MeetingGate {
 impl Gate for MeetingGate {
     fn before(&self, _rank: Rank, _number: u64) {
         self.came.fetch_add(1, Ordering::SeqCst);
-        for _ in 0..TURNS {
-            if self.came.load(Ordering::SeqCst) > 1 {
-                self.met.fetch_add(1, Ordering::SeqCst);
-                return;
-            }
-            thread::yield_now();
+        if comes_above(&self.came, 1) {
+            self.met.fetch_add(1, Ordering::SeqCst);
         }
     }
 
@@ -100,5 +108,55 @@ impl Gate for RoundsGate {
 
     fn after(&self, _rank: Rank, number: u64) {
         self.over.fetch_add(number, Ordering::SeqCst);
+    }
+}
+
+/// The first request of rank 0's thread runs through all rounds: the first round of the rank waits for the request's
+/// begin, and the request for the end of the rank's last round.
+#[derive(Drop)]
+pub(crate) struct HeldGate {
+    begun: AtomicU64,
+    over: AtomicU64,
+    met: AtomicU64,
+}
+
+impl HeldGate {
+    /// Nobody came.
+    pub(crate) fn new() -> HeldGate {
+        HeldGate {
+            begun: AtomicU64::new(0),
+            over: AtomicU64::new(0),
+            met: AtomicU64::new(0),
+        }
+    }
+
+    /// How many saw what they waited for.
+    pub(crate) fn met(&self) -> u64 {
+        self.met.load(Ordering::SeqCst)
+    }
+
+    fn wait(&self, other: &AtomicU64) {
+        if comes_above(other, 0) {
+            self.met.fetch_add(1, Ordering::SeqCst);
+        }
+    }
+}
+
+impl Gate for HeldGate {
+    fn before(&self, rank: Rank, number: u64) {
+        match (rank.number(), number) {
+            (0, 0) => {
+                self.begun.store(1, Ordering::SeqCst);
+                self.wait(&self.over);
+            }
+            (0, 1) => self.wait(&self.begun),
+            _ => {}
+        }
+    }
+
+    fn after(&self, rank: Rank, number: u64) {
+        if rank.number() == 0 && number == 8 {
+            self.over.store(1, Ordering::SeqCst);
+        }
     }
 }

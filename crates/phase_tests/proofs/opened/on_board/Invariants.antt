@@ -1,4 +1,4 @@
-use Rattle.phase_tests.proofs.rounds.boards.on_board.Given as goal
+use Rattle.phase_tests.proofs.opened.on_board.Given as goal
 
 -- the board's name is that of what was opened for its book and for its map
 abbrev pub ghosts-on_names : goal.ghosts-on_names

@@ -1,22 +1,19 @@
-//! The boards of the tests: large ones of three ranks and with room for 65,536 directories, and small ones of two ranks
-//! and with room for 128.
-//!
-//! A board is opened in one place, and all that is tried is generic in the map's writer: a function that knows its type
-//! is dear to prove. What is opened is asked for again where memory was refused.
+//! What is tried on boards: large ones of three ranks with room for 65,536 directories, and small ones of two ranks with
+//! room for 128.
 ghost use Rattle.std.specs.Prelude.{◌≡◌, ◌≤◌};
 
+use crate::opened::{Tried, board_of, on_board as on_any_board};
 use crate::rounds::moves::Act;
 use crate::rounds::phase::Seats;
 use crate::rounds::{many, moves, recorded, refused, scarce, traffic};
 use crate::same::Sure;
-use authority_map::{MapReader, MapWriter, NewMap, Publisher};
+use authority_map::{MapReader, Publisher};
 use board_state::BoardParts;
 use export_rounds::Unsettled;
-use heat_ledger::{NewBook, Share};
 use mds_board::Board;
 use naming::Naming;
-use std::alloc::{AllocError, Global};
-use std::marker::{Brand, Send, Sync};
+use std::alloc::Global;
+use std::marker::{Send, Sync};
 use std::process::Abort;
 use std::sync::Wait;
 use std::thread::Threads;
@@ -55,38 +52,18 @@ impl Trial {
         )
     }
 
-    // How many directories its board has room for.
-    fn limit(self) -> u32
-        ensures { (1 ≤ result) × (result ≤ 65536) }
+    /// How many directories its board has room for.
+    pub(crate) fn limit(self) -> u32
+        ensures { (128 ≤ result) × (result ≤ 65536) }
     {
         if self.is_large() { 65_536 } else { 128 }
     }
 
-    // How many ranks its board has.
-    fn ranks(self) -> u8
+    /// How many ranks its board has.
+    pub(crate) fn ranks(self) -> u8
         ensures { (1 ≤ result) × (result ≤ 64) }
     {
         if self.is_large() { 3 } else { 2 }
-    }
-}
-
-fn board_of<J: Naming, M: Publisher<J>>(
-    rt: &impl Abort,
-    alloc: Global,
-    parts: BoardParts<J, M>,
-    limit: u32,
-    ranks: u8,
-) -> (Board<J, M>, Vec<Share<J>>)
-    requires limit { (limit ≡ J.limit) × (1 ≤ limit) × (limit ≤ 65536) }
-    requires ranks { (1 ≤ ranks) × (ranks ≤ 64) }
-{
-    let parts = match Board::new(alloc, parts, limit, ranks) {
-        Ok(opened) => return opened,
-        Err(parts) => parts,
-    };
-    match Board::new(alloc, parts, limit, ranks) {
-        Ok(opened) => opened,
-        Err(_parts) => panic!(rt; "no board"),
     }
 }
 
@@ -113,7 +90,12 @@ fn try_on<J: Naming + Send + Sync, M: Publisher<J> + Send, R: Abort + Threads + 
     board.end();
 }
 
-fn on_parts<J: Naming + Send + Sync, M: Publisher<J> + Send, R: Abort + Threads + Wait + Sync>(
+/// Tries it on a board of these parts.
+pub(crate) fn on_parts<
+    J: Naming + Send + Sync,
+    M: Publisher<J> + Send,
+    R: Abort + Threads + Wait + Sync,
+>(
     rt: &R,
     alloc: Global,
     parts: BoardParts<J, M>,
@@ -121,7 +103,7 @@ fn on_parts<J: Naming + Send + Sync, M: Publisher<J> + Send, R: Abort + Threads 
     limit: u32,
     trial: Trial,
 )
-    requires limit { (limit ≡ J.limit) × (1 ≤ limit) × (limit ≤ 65536) }
+    requires limit { (limit ≡ J.limit) × (128 ≤ limit) × (limit ≤ 65536) }
 {
     if let Trial::Totals = trial {
         return traffic::add_up(rt, alloc, parts, readers, limit);
@@ -135,43 +117,7 @@ fn on_parts<J: Naming + Send + Sync, M: Publisher<J> + Send, R: Abort + Threads 
     try_on(rt, alloc, board, seats, trial)
 }
 
-fn on_names<
-    J: Naming + Send + Sync,
-    W: Wait + Drop + Copy + Send + Sync,
-    R: Abort + Threads + Wait + Sync,
->(rt: &R, waits: W, alloc: Global, book: NewBook, map: NewMap, limit: u32, trial: Trial)
-    requires book { book ≡ J.ledger }
-    requires map { map ≡ J.map }
-    requires limit { (limit ≡ J.limit) × (1 ≤ limit) × (limit ≤ 65536) }
-{
-    let ranks = trial.ranks();
-    let opened = match MapWriter::<J, W>::open(waits, alloc, map, limit, ranks) {
-        Ok(opened) => Ok(opened),
-        Err((_error, map)) => MapWriter::<J, W>::open(waits, alloc, map, limit, ranks),
-    };
-    match opened {
-        Ok((writer, readers)) => {
-            let parts = BoardParts::new(book, writer);
-            on_parts(rt, alloc, parts, readers, limit, trial)
-        }
-        Err(_) => panic!(rt; "no map"),
-    }
-}
-
-fn book_at_last(alloc: Global) -> Result<NewBook, AllocError> {
-    match NewBook::new(alloc) {
-        Ok(book) => Ok(book),
-        Err(_) => NewBook::new(alloc),
-    }
-}
-
 /// Tries it on a new board.
-pub(crate) fn on_board<
-    W: Wait + Drop + Copy + Send + Sync,
-    R: Abort + AllocGlobal + Threads + Wait + Sync,
->(rt: &R, waits: W, trial: Trial) {
-    let alloc = rt.alloc();
-    let book = book_at_last(alloc).sure(rt);
-    let limit = trial.limit();
-    on_names::<Brand, W, R>(rt, waits, alloc, book, NewMap::new(), limit, trial)
+pub(crate) fn on_board<R: Abort + AllocGlobal + Threads + Wait + Sync>(rt: &R, trial: Trial) {
+    on_any_board(rt, Tried::Rounds(trial)).sure(rt);
 }
