@@ -1,6 +1,7 @@
 //! Boards with their histories.
 
 mod adopting;
+mod between;
 mod cases;
 mod changes;
 mod full;
@@ -8,4 +9,3 @@ mod lists;
 mod opened;
 mod refused;
 mod said;
-mod weighing;

@@ -5,5 +5,6 @@
 mod boards;
 #[cfg(test)]
 mod machine;
+pub mod memory_laws;
 #[cfg(test)]
 mod same;
