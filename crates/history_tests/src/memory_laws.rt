@@ -3,18 +3,24 @@
 //! Each function makes a call, and once more where memory was refused, and promises what the one call promises. No
 //! other call on a `Tree`, `Share`, `Book`, `Cluster`, `Pins`, `Heat` or the map takes memory and changes anything:
 //! `Tree::add` is what `make` calls, `reserve` takes room only, and the map's `open` hands back what the book's does.
+//! Of a board's changes `mds_board::laws::refused_once` says so, but for the share of a deposit.
 ghost use Rattle.std.specs.Prelude.{◌≡◌, ◌+◌, ◌≤◌, ◌++◌, [], Some, None, Err, IfErr, IfOk, IsOkUnless, OnErr, OnOk};
 ghost use Rattle.std.specs.Prelude.{length, replicate, true};
+ghost use Rattle.board_state.specs.Steps.{spelled};
 ghost use Rattle.dirtree.specs.Tree.{make_refusal, with_child};
 ghost use Rattle.export_machine.specs.Kept.{is_ready};
 ghost use Rattle.export_machine.specs.Room.{IsRefusal, KeepsRoom};
 ghost use Rattle.export_machine.specs.Step.{refusal};
 ghost use Rattle.export_machine.specs.View.{AreAnswers, IsAnswer};
+ghost use Rattle.heat_ledger.specs.Rows.{counted_rows};
+ghost use Rattle.mds_board.specs.History.{IsAnswer as IsBoardAnswer};
 
 use authority_map::{MapError, Publisher};
+use board_state::{Answer, BoardError, Change};
 use dirtree::{Tree, TreeError};
 use export_machine::{Cluster, Event, Reply, StepError};
 use heat_ledger::{Book, NewBook, Share};
+use mds_board::Board;
 use mds_types::Dir;
 use mds_types::limits::DIR_LIMIT;
 use naming::Naming;
@@ -122,5 +128,22 @@ pub fn run_again(
     match cluster.run(alloc, events) {
         Err(AllocError) => cluster.run(alloc, events),
         answers => answers,
+    }
+}
+
+/// Counts what a share has pending, as `Board::deposit`.
+pub fn deposit_again<J: Naming, M: Publisher<J>>(
+    board: &mut Board<J, M>,
+    alloc: Global,
+    share: &mut Share<J>,
+) -> Result<(), BoardError>
+    ensures answer { IsBoardAnswer board.old (Change.Deposit (counted_rows share.old.pending))
+        (spelled (λ _. Answer.Done) result) board.new }
+    ensures share { OnOk result (share.new ≡ record share.old { pending = replicate (J.limit + J.limit) 0 }) }
+    ensures unchanged { OnErr result (share.new ≡ share.old) }
+{
+    match board.deposit(alloc, share) {
+        Err(BoardError::Memory) => board.deposit(alloc, share),
+        answer => answer,
     }
 }
