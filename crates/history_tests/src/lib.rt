@@ -7,5 +7,6 @@ mod boards;
 mod given;
 #[cfg(test)]
 mod machine;
+pub mod memory_laws;
 #[cfg(test)]
 mod same;

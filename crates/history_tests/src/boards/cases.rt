@@ -4,9 +4,10 @@
 //! opened is asked for again where memory was refused.
 ghost use Rattle.std.specs.Prelude.{◌≡◌, ◌≤◌};
 
+use crate::boards::between::Between;
 use crate::boards::lists::Given;
 use crate::boards::said::Reading;
-use crate::boards::{adopting, changes, full, lists, refused, weighing};
+use crate::boards::{adopting, between, changes, full, lists, refused};
 use crate::same::Sure;
 use authority_map::{MapReader, MapWriter, NewMap, Publisher};
 use board_state::BoardParts;
@@ -24,6 +25,8 @@ use std::thread::Threads;
 pub(crate) enum Case {
     /// Plans that are adopted, and plans that aren't.
     Adopting,
+    /// Events between the opening of a problem and the plan for it.
+    Between(Between),
     /// One change of each kind.
     Changes,
     /// A board that is closed.
@@ -36,8 +39,6 @@ pub(crate) enum Case {
     Listed,
     /// Refused growths in the changes.
     RefusedGrowth,
-    /// Weights of reads and writes.
-    Weighing,
 }
 
 fn on_board<J: Naming, M: Publisher<J>, R: Abort + Threads + Sync>(
@@ -52,13 +53,13 @@ fn on_board<J: Naming, M: Publisher<J>, R: Abort + Threads + Sync>(
 {
     match case {
         Case::Adopting => adopting::on_board(rt, alloc, board, shares, readers),
+        Case::Between(between) => between::on_board(rt, alloc, board, shares, between),
         Case::Changes => changes::on_board(rt, alloc, board, shares, readers),
         Case::Closed => lists::on_board(rt, alloc, board, shares, readers),
         Case::Called => return Some(lists::answers(rt, alloc, board, shares, readers, false)),
         Case::Full => full::on_board(rt, alloc, board, shares, readers),
         Case::Listed => return Some(lists::answers(rt, alloc, board, shares, readers, true)),
         Case::RefusedGrowth => refused::on_board(rt, alloc, board, shares, readers),
-        Case::Weighing => weighing::on_board(rt, alloc, board, shares, readers),
     }
     None
 }

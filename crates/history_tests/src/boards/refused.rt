@@ -3,6 +3,7 @@
 //! With `rt try --test --fail-alloc N`, the N-th growth is refused.
 ghost use Rattle.std.specs.Prelude.{◌≡◌, ◌≤◌, IfOk, true};
 ghost use Rattle.board_state.specs.Steps.{is_inner};
+ghost use Rattle.mds_board.specs.Commands.{is_fit};
 
 use crate::boards::adopting::plan;
 use crate::boards::cases::{Case, try_case};
@@ -41,6 +42,8 @@ enum Do {
     Run,
     Publish,
     Step(Step),
+    /// A list of one command, of which the event is copied.
+    Listed(Step),
     /// The events of the cluster, which are this many.
     Events(usize),
     /// The orders of the pins, which are this many.
@@ -96,7 +99,7 @@ const CHANGES: [Do; 56] = [
     Do::Begin(1, 2),
     Do::Step(Step::End(0)),
     Do::Remove(2),
-    Do::Step(Step::Start(1, 0, &[1])),
+    Do::Listed(Step::Start(1, 0, &[1])),
     Do::Step(Step::Deliver(7)),
     Do::Step(Step::Deliver(8)),
     Do::Step(Step::Froze(1)),
@@ -188,13 +191,16 @@ fn count<J: Naming, M: Publisher<J>>(
     }
 }
 
-/// Has a board carry out a list of one command, which is to balance.
-fn run_balance<J: Naming, M: Publisher<J>, R: Threads + Sync>(
+/// Has a board carry out a list of one command.
+fn run_one<J: Naming, M: Publisher<J>, R: Threads + Sync>(
     rt: &R,
     alloc: Global,
     board: &mut Board<J, M>,
-) -> Result<(), BoardError> {
-    let Ok(answers) = board.run(rt, alloc, &Planner, &[BoardCommand::Balance]) else {
+    command: BoardCommand,
+) -> Result<(), BoardError>
+    requires { is_fit command ≡ true }
+{
+    let Ok(answers) = board.run(rt, alloc, &Planner, &[command]) else {
         return Err(BoardError::Memory);
     };
     for answer in answers {
@@ -214,7 +220,7 @@ fn plan_on<J: Naming, M: Publisher<J>, R: Abort + Threads + Sync>(
         Do::Open => done(board.open_problem(alloc)),
         Do::Adopt => done(board.adopt(alloc, plan_at_last(alloc).sure(rt))),
         Do::Balance => done(board.balance(rt, alloc, &Planner)),
-        _ => run_balance(rt, alloc, board),
+        _ => run_one(rt, alloc, board, BoardCommand::Balance),
     }
 }
 
@@ -263,6 +269,10 @@ fn change_once<J: Naming, M: Publisher<J>, R: Abort + Threads + Sync>(
     match change {
         Do::Hit(_, _) | Do::Deposit | Do::Begin(_, _) => count(alloc, board, share, change),
         Do::Open | Do::Adopt | Do::Balance | Do::Run => plan_on(rt, alloc, board, change),
+        Do::Listed(step) => {
+            let event = event(alloc, step).expect(rt, "it failed");
+            run_one(rt, alloc, board, BoardCommand::Step(event))
+        }
         Do::Publish | Do::Step(_) | Do::Events(_) | Do::PinOrders(_) => {
             go_on(rt, alloc, board, change)
         }
