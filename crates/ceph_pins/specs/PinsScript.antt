@@ -30,7 +30,8 @@ change_line mount by_ceph directories change =
 
 -- some change is made by Ceph's own command
 abbrev pub needs_ceph : Bool → List Directory → List PinChange → Bool
-needs_ceph by_ceph directories changes = list_any (λ change. is_some (change_command by_ceph directories change)) changes
+needs_ceph by_ceph directories changes =
+    list_any (λ change. is_some (change_command by_ceph directories change)) changes
 
 -- some change is made over the mount
 abbrev pub needs_mount : Bool → List Directory → List PinChange → Bool

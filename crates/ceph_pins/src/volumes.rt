@@ -4,7 +4,8 @@ ghost use Rattle.std.specs.List.{list_all, slice_split};
 ghost use Rattle.std.specs.Option.{option_map};
 ghost use Rattle.ceph_dumps.specs.Complete.{is_word_byte};
 ghost use Rattle.ceph_pins.specs.Volumes.{below_volumes, ceph_line, group_line, group_option, is_group};
-ghost use Rattle.ceph_pins.specs.Volumes.{is_volume_name, named_line, pin_text, subvolume_command, subvolume_line, volume_names};
+ghost use Rattle.ceph_pins.specs.Volumes.{is_volume_name, named_line, pin_text, subvolume_command};
+ghost use Rattle.ceph_pins.specs.Volumes.{subvolume_line, volume_names};
 
 use mds_types::Rank;
 use std::alloc::{AllocError, Global};
@@ -26,6 +27,7 @@ pub(crate) fn push_pin(
     }
 }
 
+/// Whether this is a letter, a digit, `_`, `.` or `-`.
 fn is_word_byte(byte: u8) -> bool
     ensures { result ≡ is_word_byte byte }
 {

@@ -204,7 +204,7 @@ const OPTIONS: &[PlanOption] = &[
         name: "paths0",
         default: None,
         value: None,
-        help: "Plan nothing, and print `.` and the path of each directory of the dumps and of --own, with a NUL after each",
+        help: "Plan nothing, and print a dot, the path and a NUL of each directory of the dumps and of --own",
     },
 ];
 
