@@ -2,9 +2,10 @@
 """Prints how well weights of Ceph's counters tell what the ranks serve: weights.py LOAD.jsonl WATCH.jsonl DUMPS..
 
 LOAD.jsonl is of load.py, WATCH.jsonl of watch.py, and DUMPS are folders that ceph/collect wrote meanwhile. A line for each choice
-of weights (read, write, readdir, fetch, store): how much of the heat is at another rank than the ranks' replies, and than the
-operations that the client did, on average over the folders; and greatest/mean of heat, replies and operations.
+of weights (read, write, readdir, fetch, store), averages over the folders: the part of the heat that lies at another rank than
+the replies, at another rank than the operations that the client did, and at another directory than these.
 """
+import collections
 import json
 import os
 import statistics
@@ -17,53 +18,53 @@ BEFORE = 5  # seconds: the half-life of the counters
 
 
 def counters(folder):
-    """For each rank the sums of the five counters over directories and samples; the time of the first and of the last sample."""
-    found, times = {}, []
+    """The five counters by rank and directory, summed over the samples, and when the samples were taken."""
+    found, times = collections.defaultdict(lambda: [0.0] * 5), []
     for file in filter(lambda it: it.startswith("loads."), os.listdir(folder)):
-        path = f"{folder}/{file}"
-        times.append(os.path.getmtime(path))
-        with open(path, "rb") as it:
+        times.append(os.path.getmtime(f"{folder}/{file}"))
+        with open(f"{folder}/{file}", "rb") as it:
             text = it.read().decode(errors="surrogateescape")
         # what follows this list isn't JSON in Ceph 16
         for fragment in json.JSONDecoder().raw_decode(text, text.index('"dirfrags":') + 11)[0]:
             if fragment["path"][:1] in ("", "/"):
-                total = found.setdefault(int(file.split(".")[1]), [0.0] * 5)
+                total = found[int(file.split(".")[1]), fragment["path"]]
                 for at, it in enumerate(next(iter(fragment["pop_me"].values()))[:5]):
                     total[at] += it["value"]
-    return found, min(times), max(times)
-
-
-def shares(loads):
-    return [it / max(1e-9, sum(loads)) for it in loads]
+    return found, times
 
 
 def apart(one, other):
-    return sum(abs(a - b) for a, b in zip(one, other)) / 2
+    """The part of the first that lies elsewhere than the second."""
+    sums = [sum(it.values()) or 1 for it in (one, other)]
+    return sum(abs(one.get(key, 0) / sums[0] - other.get(key, 0) / sums[1]) for key in {*one, *other}) / 2
 
 
-def compared(load, watch, folder):
-    """The five counters, the replies and the operations of each rank while a folder was collected."""
-    found, first, last = counters(folder)
-    rows = list(figures.rows_of(load, watch, first - BEFORE - load[0]["at"], last - load[0]["at"]))
-    if not rows:
-        return None
-    ranks = sorted(map(int, watch[0]["ranks"]))
-    offered, served = ([sum(it) for it in zip(*(row["ranks"][kind] for row in rows))] for kind in (0, 1))
-    return [found.get(rank, [0.0] * 5) for rank in ranks], served, offered
+def distances(counted, weights, served, offered, by_path):
+    ranks, paths = collections.Counter(), collections.Counter()
+    for (rank, path), values in counted.items():
+        heat = sum(weight * it for weight, it in zip(weights, values))
+        ranks[rank] += heat
+        paths[path] += heat
+    return apart(ranks, served), apart(ranks, offered), apart(paths, by_path)
+
+
+def seen(load, watch, folder):
+    """The counters of a folder, and the replies and operations by rank, and the operations by directory, of that time."""
+    counted, times = counters(folder)
+    first, last = min(times) - BEFORE, max(times)
+    rows = list(figures.rows_of(load, watch, first - load[0]["at"], last - load[0]["at"]))
+    offered, served = ({rank: sum(row["ranks"][kind][rank] for row in rows) for rank in range(len(watch[0]["ranks"]))} for kind in (0, 1))
+    by_path = sum((collections.Counter(it["offered"]) for it in load if first <= it["at"] < last), collections.Counter())
+    return counted, served, offered, by_path
 
 
 def main():
     load, watch = figures.read(sys.argv[1]), figures.read(sys.argv[2])
-    found = [it for it in (compared(load, watch, folder) for folder in sys.argv[3:]) if it]
+    found = [it for it in (seen(load, watch, folder) for folder in sys.argv[3:]) if it[3]]
     for name, weights in CHOICES.items():
-        rows = []
-        for counted, served, offered in found:
-            heat = [sum(weight * it for weight, it in zip(weights, rank)) for rank in counted]
-            rows.append((apart(shares(heat), shares(served)), apart(shares(heat), shares(offered)),
-                         figures.uneven(heat), figures.uneven(served), figures.uneven(offered)))
-        means = [statistics.mean(it) for it in zip(*rows)]
-        print(f"{name:16} {means[0]:.1%} from the replies, {means[1]:.1%} from the operations; greatest/mean: heat {means[2]:.3f}, "
-              f"replies {means[3]:.3f}, operations {means[4]:.3f}; {len(found)} folders")
+        means = [statistics.mean(it) for it in zip(*(distances(counted, weights, *rest) for counted, *rest in found))]
+        print(f"{name:16} {means[0]:.1%} at another rank than the replies, {means[1]:.1%} than the operations, "
+              f"{means[2]:.1%} at another directory; {len(found)} folders")
 
 
 if __name__ == "__main__":
