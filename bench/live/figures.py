@@ -88,4 +88,5 @@ def main():
           f"stolen {ticks[7] / max(1, sum(ticks)):.1%}")
 
 
-main()
+if __name__ == "__main__":
+    main()
