@@ -1,0 +1,197 @@
+//! What is tried on a board, and the one place that opens boards for it: a function that knows the type of the map's
+//! writer takes long to prove, so all that is tried is generic in it.
+ghost use Rattle.std.specs.Prelude.{◌≡◌, ◌≤◌};
+
+use crate::rows::{BETWEEN_PHASES, PAST_A_STOP, THERE_AND_BACK};
+use crate::same::Sure;
+use crate::{exports, full, growths, many, requests, rows, threads, whole};
+use authority_map::{MapWriter, NewMap, Publisher};
+use board_state::BoardParts;
+use heat_ledger::{NewBook, Share};
+use mds_board::Board;
+use mds_types::Dir;
+use naming::Naming;
+use std::alloc::{AllocError, Global};
+use std::marker::{Brand, Send, Sync};
+use std::process::Abort;
+use std::sync::Wait;
+use std::thread::Threads;
+
+/// What is tried, each by the module that tests it.
+#[derive(Clone, Copy)]
+pub(crate) enum Trial {
+    /// Orders of three ranks.
+    Orders,
+    /// Orders of two ranks whose turns meet.
+    MeetingTurns,
+    /// An end without room in the history.
+    FullHistory,
+    /// A phase without requests.
+    NoRequests,
+    /// A refused growth while requests are served.
+    GrowthOfAnswers,
+    /// A refused growth while orders are carried out.
+    GrowthOfOutcomes,
+    /// Requests of 64 ranks.
+    ManyRequests,
+    /// Requests of two ranks.
+    Requests,
+    /// The same where one of them has stopped.
+    StoppedRank,
+    /// Requests of two ranks that meet.
+    Meeting,
+    /// Requests on a directory that goes to another rank and back.
+    ThereAndBack,
+    /// Requests where the rank has stopped that gave the directory away.
+    PastAStop,
+    /// Requests where a rank stops between two phases, and runs again.
+    BetweenPhases,
+    /// Requests for which there may be no thread, or for which there is one.
+    RankThreads(bool),
+    /// Orders for which there may be no thread, or for which there is one.
+    ExporterThreads(bool),
+    /// A phase for a caller that has all shares.
+    Totals,
+}
+
+impl Trial {
+    // How many ranks its board has, and how many directories from 1 on below the root.
+    fn room(self) -> (u8, u32)
+        ensures { (1 ≤ result.0) × (result.0 ≤ 64) }
+    {
+        match self {
+            Trial::ManyRequests => (64, 63),
+            Trial::Orders | Trial::GrowthOfOutcomes | Trial::ExporterThreads(_) => (3, 2),
+            _ => (2, 1),
+        }
+    }
+}
+
+fn make<J: Naming, M: Publisher<J>>(
+    alloc: Global,
+    board: &mut Board<J, M>,
+    dirs: u32,
+) -> Result<(), AllocError> {
+    for number in 0..dirs {
+        let name = format!(in alloc; "d{number}")?;
+        if board.make(alloc, Dir::ROOT, name.as_str(), 1).is_err() {
+            return Err(AllocError);
+        }
+    }
+    Ok(())
+}
+
+// Tries it on a board with its directories.
+fn try_on<J: Naming + Send + Sync, M: Publisher<J> + Send, R: Abort + Threads + Wait + Sync>(
+    rt: &R,
+    alloc: Global,
+    board: Board<J, M>,
+    shares: Vec<Share<J>>,
+    trial: Trial,
+) -> Result<(), AllocError>
+    requires limit { J.limit ≡ 128 }
+{
+    match trial {
+        Trial::GrowthOfAnswers => return growths::serve_on(rt, alloc, board, shares),
+        Trial::GrowthOfOutcomes => return growths::move_on(rt, alloc, board),
+        Trial::Orders => exports::go_and_come(rt, alloc, board),
+        Trial::MeetingTurns => exports::meet(rt, alloc, board),
+        Trial::FullHistory => full::end_without_room(rt, alloc, board, shares),
+        Trial::NoRequests => full::serve_nothing(rt, alloc, board, shares),
+        Trial::ManyRequests => many::serve_on(rt, alloc, board, shares),
+        Trial::Requests => requests::serve_with_jitter(rt, alloc, board, shares),
+        Trial::StoppedRank => requests::serve_stopped(rt, alloc, board, shares),
+        Trial::Meeting => requests::meet(rt, alloc, board, shares),
+        Trial::ThereAndBack => rows::play_on(rt, alloc, board, shares, THERE_AND_BACK),
+        Trial::PastAStop => rows::play_on(rt, alloc, board, shares, PAST_A_STOP),
+        Trial::BetweenPhases => rows::play_on(rt, alloc, board, shares, BETWEEN_PHASES),
+        Trial::RankThreads(is_sure) => threads::serve_on(rt, alloc, board, shares, is_sure),
+        Trial::ExporterThreads(is_sure) => threads::move_on(rt, alloc, board, is_sure),
+        Trial::Totals => panic!(rt; "its board is its own"),
+    }
+    Ok(())
+}
+
+// The same on one that has only its root yet.
+fn try_filled<J: Naming + Send + Sync, M: Publisher<J> + Send, R: Abort + Threads + Wait + Sync>(
+    rt: &R,
+    alloc: Global,
+    board: Board<J, M>,
+    shares: Vec<Share<J>>,
+    dirs: u32,
+    trial: Trial,
+) -> Result<(), AllocError>
+    requires limit { J.limit ≡ 128 }
+{
+    let mut board = board;
+    if make(alloc, &mut board, dirs).is_err() {
+        board.end();
+        return Err(AllocError);
+    }
+    try_on(rt, alloc, board, shares, trial)
+}
+
+// The same with a book and a map's writer.
+fn try_with<J: Naming + Send + Sync, M: Publisher<J> + Send, R: Abort + Threads + Wait + Sync>(
+    rt: &R,
+    alloc: Global,
+    parts: BoardParts<J, M>,
+    room: (u8, u32),
+    trial: Trial,
+) -> Result<(), AllocError>
+    requires limit { J.limit ≡ 128 }
+    requires ranks { (1 ≤ room.0) × (room.0 ≤ 64) }
+{
+    if let Trial::Totals = trial {
+        whole::serve_audited(rt, alloc, parts);
+        return Ok(());
+    }
+    match Board::new(alloc, parts, 128, room.0) {
+        Ok((board, shares)) => try_filled(rt, alloc, board, shares, room.1, trial),
+        Err(parts) => {
+            parts.end();
+            Err(AllocError)
+        }
+    }
+}
+
+fn on_board<J: Naming + Send + Sync, R: Abort + Threads + Wait + Sync>(
+    rt: &R,
+    alloc: Global,
+    book: NewBook,
+    map: NewMap,
+    room: (u8, u32),
+    trial: Trial,
+) -> Result<(), AllocError>
+    requires book { book ≡ J.ledger }
+    requires map { map ≡ J.map }
+    requires limit { J.limit ≡ 128 }
+    requires ranks { (1 ≤ room.0) × (room.0 ≤ 64) }
+{
+    match MapWriter::<J, &R>::open(rt, alloc, map, 128, 1) {
+        Ok((writer, _readers)) => {
+            try_with(rt, alloc, BoardParts::new(book, writer), room, trial)
+        }
+        Err(_) => Err(AllocError),
+    }
+}
+
+/// Tries it on a new board, if there is memory for one.
+pub(crate) fn try_once<R: Abort + AllocGlobal + Threads + Wait + Sync>(
+    rt: &R,
+    trial: Trial,
+) -> Result<(), AllocError> {
+    let book = NewBook::new(rt.alloc())?;
+    on_board::<Brand, R>(rt, rt.alloc(), book, NewMap::new(), trial.room(), trial)
+}
+
+/// Tries it `times` times, each time on a new board.
+pub(crate) fn try_often<R: Abort + AllocGlobal + Threads + Wait + Sync>(
+    rt: &R,
+    trial: Trial,
+    times: u32,
+) {
+    for _ in 0..times {
+        try_once(rt, trial).sure(rt);
+    }
+}

@@ -1,0 +1,191 @@
+//! A phase of requests and exports, and what it leaves.
+
+use crate::refused::read;
+use authority_map::{MapReader, Publisher};
+use export_rounds::{Gate, Unsettled};
+use heat_ledger::Share;
+use mds_board::Board;
+use mds_types::{Dir, Kind};
+use naming::Naming;
+use std::alloc::{AllocError, Global};
+use std::marker::{Send, Sync};
+use std::process::Abort;
+use std::sync::Wait;
+use std::thread::Threads;
+use traffic_threads::{OrderOutcome, Tasks, Traffic, Work, WorkAnswer, traffic_phase};
+
+/// What is kept from one phase to the next beside the board.
+#[derive(Drop)]
+pub(crate) struct Seats<J: Naming> {
+    pub(crate) shares: Vec<Share<J>>,
+    pub(crate) readers: Vec<MapReader<J>>,
+    pub(crate) unsettled: Unsettled,
+}
+
+/// What a phase says of its requests and orders, and whether it was refused once.
+#[derive(Drop)]
+pub(crate) struct Told {
+    pub(crate) answers: Vec<Vec<WorkAnswer>>,
+    pub(crate) outcomes: Vec<OrderOutcome>,
+    pub(crate) refused: bool,
+}
+
+fn script(alloc: Global, dir: u32, hits: u32, times: u32) -> Result<Vec<Work>, AllocError> {
+    let mut script = Vec::new(alloc);
+    for _ in 0..times {
+        script.push(Work {
+            dir: Dir::new(dir),
+            hits,
+            kind: Kind::Read,
+        })?;
+    }
+    Ok(script)
+}
+
+/// A script for each rank: a request on this directory with so many hits, again and again.
+pub(crate) fn scripts(
+    alloc: Global,
+    rows: &[(u32, u32)],
+    times: u32,
+) -> Result<Vec<Vec<Work>>, AllocError> {
+    let mut scripts = Vec::new(alloc);
+    for (dir, hits) in rows {
+        scripts.push(script(alloc, *dir, *hits, times)?)?;
+    }
+    Ok(scripts)
+}
+
+/// The hits that answers name, and how many requests have a ticket.
+pub(crate) fn total(answers: &[Vec<WorkAnswer>]) -> (u64, u64) {
+    let mut hits: u64 = 0;
+    let mut begun: u64 = 0;
+    for list in answers {
+        for answer in list {
+            hits = hits.wrapping_add(u64::from(answer.hits));
+            begun = begun.wrapping_add(u64::from(answer.ticket.is_some()));
+        }
+    }
+    (hits, begun)
+}
+
+/// What shares count on a directory: the hits, those that aren't deposited, and the requests that began.
+pub(crate) fn counts<J: Naming>(shares: &[Share<J>], dir: Dir) -> (u64, u64, u64) {
+    let (mut hits, mut pending, mut begun): (u64, u64, u64) = (0, 0, 0);
+    for share in shares {
+        hits = hits.wrapping_add(share.hits(dir, Kind::Read));
+        pending = pending.wrapping_add(share.pending(dir, Kind::Read));
+        begun = begun.wrapping_add(share.begun(dir));
+    }
+    (hits, pending, begun)
+}
+
+// Each reader learns what the board tells.
+fn learn<J: Naming, M: Publisher<J>>(board: &Board<J, M>, readers: &mut [MapReader<J>]) {
+    for reader in readers {
+        reader.learn(board.tell());
+    }
+}
+
+// Whether each reader holds what the board tells, and nothing else.
+fn are_told<J: Naming, M: Publisher<J>>(board: &Board<J, M>, readers: &[MapReader<J>]) -> bool {
+    let mut told = true;
+    for reader in readers {
+        told &= reader.is_at(&board.tell());
+    }
+    told
+}
+
+// Tries a phase. Where it is refused memory, nothing is told.
+fn try_phase<
+    J: Naming + Send + Sync,
+    M: Publisher<J> + Send,
+    R: Abort + Threads + Wait + Sync,
+    G: Gate + Sync,
+>(
+    rt: &R,
+    alloc: Global,
+    board: Board<J, M>,
+    seats: Seats<J>,
+    tasks: Tasks<'_>,
+    gate: &G,
+) -> (Board<J, M>, Seats<J>, Option<Told>) {
+    let Seats {
+        shares,
+        readers,
+        mut unsettled,
+    } = seats;
+    let ranks = tasks.scripts.len();
+    assert!(rt; ranks <= 64 && shares.len() == ranks && readers.len() == ranks);
+    let (board, done) = traffic_phase(
+        rt,
+        alloc,
+        board,
+        shares,
+        readers,
+        tasks,
+        gate,
+        gate,
+        &mut unsettled,
+    );
+    let (shares, readers, told) = match done {
+        Ok(left) => taken(rt, left),
+        Err(refused) => (refused.value.0, refused.value.1, None),
+    };
+    let seats = Seats {
+        shares,
+        readers,
+        unsettled,
+    };
+    (board, seats, told)
+}
+
+// What a phase leaves, in which each request ended.
+fn taken<J: Naming>(
+    rt: &impl Abort,
+    left: Traffic<J>,
+) -> (Vec<Share<J>>, Vec<MapReader<J>>, Option<Told>) {
+    let Traffic {
+        ranks,
+        readers,
+        outcomes,
+    } = left;
+    assert!(rt; ranks.ended.is_ok());
+    let told = Told {
+        answers: ranks.answers,
+        outcomes,
+        refused: false,
+    };
+    (ranks.shares, readers, Some(told))
+}
+
+/// A phase for readers that know all that is published, with one gate for requests and rounds. Where it is refused
+/// memory, nothing has changed, and it is tried again.
+pub(crate) fn phase<
+    J: Naming + Send + Sync,
+    M: Publisher<J> + Send,
+    R: Abort + Threads + Wait + Sync,
+    G: Gate + Sync,
+>(
+    rt: &R,
+    alloc: Global,
+    board: Board<J, M>,
+    seats: Seats<J>,
+    tasks: Tasks<'_>,
+    gate: &G,
+) -> (Board<J, M>, Seats<J>, Told) {
+    let mut seats = seats;
+    learn(&board, &mut seats.readers);
+    let (before, counted) = (read(&board), counts(&seats.shares, Dir::ROOT));
+    let (board, seats, told) = try_phase(rt, alloc, board, seats, tasks, gate);
+    if let Some(told) = told {
+        return (board, seats, told);
+    }
+    assert!(rt; read(&board) == before && counts(&seats.shares, Dir::ROOT) == counted);
+    assert!(rt; are_told(&board, &seats.readers));
+    let (board, seats, told) = try_phase(rt, alloc, board, seats, tasks, gate);
+    let Some(mut told) = told else {
+        panic!(rt; "no memory")
+    };
+    told.refused = true;
+    (board, seats, told)
+}
