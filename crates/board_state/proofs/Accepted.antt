@@ -8,11 +8,11 @@ use Rattle.dir_pins.specs.declared.pin_error.PinError.{PinError}
 use Rattle.dir_pins.specs.Pins as pins
 use Rattle.dir_pins.specs.Pins.{below}
 use Rattle.mds_types.specs.RankSet.{rank_count}
-use Rattle.export_machine.specs.declared.event.Event.{Event}
-use Rattle.export_machine.specs.declared.event.Event.TheVariants.{Made, Gone}
-use Rattle.export_machine.specs.declared.step_error.StepError.{StepError}
-use Rattle.export_machine.specs.Step as machine
-use Rattle.export_machine.specs.declared.step_error.StepError.TheVariants as step_error
+use Rattle.export_protocol.specs.declared.event.Event.{Event}
+use Rattle.export_protocol.specs.declared.event.Event.TheVariants.{Made, Gone}
+use Rattle.export_protocol.specs.declared.step_error.StepError.{StepError}
+use Rattle.export_protocol.specs.Step as machine
+use Rattle.export_protocol.specs.declared.step_error.StepError.TheVariants as step_error
 use Rattle.export_machine.specs.Room.{IsRefusal}
 use Rattle.mds_types.specs.declared.plan.Plan.{Plan}
 use Rattle.board_state.specs.Refused.{step_refused}

@@ -3,8 +3,8 @@ use Rattle.std.proofs.Common.{◌≡◌, ℕ, zero, suc, ◌+◌, ◌≤◌, ◌
 use Rattle.std.specs.Option.{option_map}
 use Rattle.std.proofs.lemmas.List.{length-map}
 use Rattle.dirtree.specs.Tree.{Entry, is_there}
-use Rattle.export_machine.specs.Authority.{is_present}
-use Rattle.export_machine.specs.Cluster.{World}
+use Rattle.export_protocol.specs.Authority.{is_present}
+use Rattle.export_protocol.specs.Cluster.{World}
 use Rattle.heat_ledger.specs.Rows.{at, raised}
 use Rattle.board_state.specs.Steps.{parents_of}
 

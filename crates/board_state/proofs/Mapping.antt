@@ -4,18 +4,18 @@ use Rattle.std.proofs.lemmas.Bool.{ne_eqb}
 use Rattle.std.proofs.lemmas.Bool.Decides.{nat_tests}
 use Rattle.authority_map.proofs.CellLemmas.{rank_after-none, rank_after-snoc}
 use Rattle.authority_map.specs.Operations.{Operation, SetTo, Clear, names, entry_after, rank_after}
-use Rattle.export_machine.specs.Authority.{is_among, is_present, open_export, order_in, authority, named_of, from_of, to_of, exporter_of}
-use Rattle.export_machine.specs.Cluster.{World}
-use Rattle.export_machine.specs.declared.event.Event.{Event}
-use Rattle.export_machine.specs.declared.event.Event.TheVariants.{Made, Gone, Begin, End, Start, Deliver, Froze, Notify, Abort, Stop, Restart, Ask}
-use Rattle.export_machine.specs.declared.journal.JournalEntry.{JournalEntry}
-use Rattle.export_machine.specs.declared.step_error.StepError.{StepError}
+use Rattle.export_protocol.specs.Authority.{is_among, is_present, open_export, order_in, authority, named_of, from_of, to_of, exporter_of}
+use Rattle.export_protocol.specs.Cluster.{World}
+use Rattle.export_protocol.specs.declared.event.Event.{Event}
+use Rattle.export_protocol.specs.declared.event.Event.TheVariants.{Made, Gone, Begin, End, Start, Deliver, Froze, Notify, Abort, Stop, Restart, Ask}
+use Rattle.export_protocol.specs.declared.journal.JournalEntry.{JournalEntry}
+use Rattle.export_protocol.specs.declared.step_error.StepError.{StepError}
 use Rattle.heat_ledger.specs.Rows.{raised}
-use Rattle.export_machine.specs.Entries.{is_log, logs_export, unless_refused, Entry, accepted_entry, delivered_entry, entered_by, entry, named_after, named_by, IsRecorded, parents_after}
-use Rattle.export_machine.proofs.Entries.{delivered_named}
-use Rattle.export_machine.specs.Step as machine
-use Rattle.export_machine.specs.Step.{authority_stopped, history_limit, when, is_root, no_dir, any_at, is_child, no_export, late, is_logged, busy, not_yet, running_on, no_rank, rank_stopped, not_served}
-use Rattle.export_machine.specs.declared.step_error.StepError.TheVariants.{HistoryFull, IsRoot, NotEmpty, NoDir, NoExport}
+use Rattle.export_protocol.specs.Entries.{is_log, logs_export, unless_refused, Entry, accepted_entry, delivered_entry, entered_by, entry, named_after, named_by, IsRecorded, parents_after}
+use Rattle.export_protocol.proofs.Entries.{delivered_named}
+use Rattle.export_protocol.specs.Step as machine
+use Rattle.export_protocol.specs.Step.{authority_stopped, history_limit, when, is_root, no_dir, any_at, is_child, no_export, late, is_logged, busy, not_yet, running_on, no_rank, rank_stopped, not_served}
+use Rattle.export_protocol.specs.declared.step_error.StepError.TheVariants.{HistoryFull, IsRoot, NotEmpty, NoDir, NoExport}
 use Rattle.board_state.specs.declared.change.Change.TheVariants.{Step}
 use Rattle.board_state.specs.declared.change.Answer.TheVariants as answer
 use Rattle.board_state.specs.State.{State, after_event, happens, map_change, marked_if, next, set_for}

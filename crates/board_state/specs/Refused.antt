@@ -5,9 +5,9 @@ use Rattle.dirtree.specs.declared.tree_error.TreeError.{TreeError}
 use Rattle.dirtree.specs.declared.tree_error.TreeError.TheVariants as tree_error
 use Rattle.dirtree.specs.TreeError as of_tree
 use Rattle.dir_pins.specs.PinError as of_pin
-use Rattle.export_machine.specs.Refused as of_step
-use Rattle.export_machine.specs.declared.step_error.StepError.{StepError}
-use Rattle.export_machine.specs.declared.step_error.StepError.TheVariants as step_error
+use Rattle.export_protocol.specs.Refused as of_step
+use Rattle.export_protocol.specs.declared.step_error.StepError.{StepError}
+use Rattle.export_protocol.specs.declared.step_error.StepError.TheVariants as step_error
 use Rattle.board_state.specs.declared.board_error.BoardError.{BoardError}
 use Rattle.board_state.specs.declared.board_error.BoardError.TheVariants as error
 

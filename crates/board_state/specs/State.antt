@@ -9,13 +9,13 @@ use Rattle.dir_pins.specs.Pins.{PinTable, below}
 use Rattle.dirtree.specs.declared.tree_error.TreeError.{TreeError}
 use Rattle.dirtree.specs.Tree as tree
 use Rattle.dirtree.specs.Tree.{Directories}
-use Rattle.export_machine.specs.Authority.{authority, order_in, to_of}
-use Rattle.export_machine.specs.Cluster.{World}
-use Rattle.export_machine.specs.declared.event.Event.{Event}
-use Rattle.export_machine.specs.declared.event.Event.TheVariants.{Begin, Notify, Made, Gone}
-use Rattle.export_machine.specs.declared.step_error.StepError.{StepError}
-use Rattle.export_machine.specs.Entries.{logs_export}
-use Rattle.export_machine.specs.Step as machine
+use Rattle.export_protocol.specs.Authority.{authority, order_in, to_of}
+use Rattle.export_protocol.specs.Cluster.{World}
+use Rattle.export_protocol.specs.declared.event.Event.{Event}
+use Rattle.export_protocol.specs.declared.event.Event.TheVariants.{Begin, Notify, Made, Gone}
+use Rattle.export_protocol.specs.declared.step_error.StepError.{StepError}
+use Rattle.export_protocol.specs.Entries.{logs_export}
+use Rattle.export_protocol.specs.Step as machine
 use Rattle.board_problem.specs.ProblemRows.{problem_rows}
 use Rattle.heat_decay.specs.Heat.{Heats, after_deposit, after_tick, all_cold, touched}
 use Rattle.heat_ledger.specs.declared.dir_hits.DirHits.{DirHits}

@@ -8,9 +8,9 @@ use Rattle.dir_pins.specs.Pins.{PinTable}
 use Rattle.heat_decay.specs.Heat.{Heats}
 use Rattle.heat_ledger.specs.Ledger.{BookData}
 use Rattle.heat_ledger.specs.Rows.{at}
-use Rattle.export_machine.specs.Authority.{named_of}
-use Rattle.export_machine.specs.Cluster.{World}
-use Rattle.export_machine.specs.declared.event.Event.{Event}
+use Rattle.export_protocol.specs.Authority.{named_of}
+use Rattle.export_protocol.specs.Cluster.{World}
+use Rattle.export_protocol.specs.declared.event.Event.{Event}
 use Rattle.mds_types.specs.declared.order.Order.{Order}
 use Rattle.mds_types.specs.declared.plan.Plan.{Plan}
 use Rattle.mds_types.specs.Problem.{ProblemData}

@@ -2,7 +2,7 @@
 
 use dir_pins::PinError;
 use dirtree::TreeError;
-use export_machine::StepError;
+use export_protocol::StepError;
 use mds_types::Refusal;
 use std::error::Error;
 use std::fmt;

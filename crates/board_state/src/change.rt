@@ -1,7 +1,7 @@
 //! Changes of a board, and the replies to them.
 
 use dirtree::Name;
-use export_machine::{Event, Reply};
+use export_protocol::{Event, Reply};
 use heat_ledger::DirHits;
 use mds_types::{Dir, Order, Plan, Problem, RankSet};
 use std::alloc::{AllocError, Global};
@@ -92,7 +92,7 @@ pub struct KeptEvent {
 }
 
 impl Model for KeptEvent {
-    ghost use Rattle.export_machine.specs.declared.event.Event.{Event};
+    ghost use Rattle.export_protocol.specs.declared.event.Event.{Event};
 
     ghost Value = { Event };
 

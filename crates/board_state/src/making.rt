@@ -4,7 +4,7 @@ ghost use Rattle.dirtree.specs.Tree.{root};
 ghost use Rattle.dir_pins.specs.Pins.{no_pins};
 ghost use Rattle.heat_decay.specs.Heat.{all_cold};
 ghost use Rattle.heat_ledger.specs.Opening.{fresh_share};
-ghost use Rattle.export_machine.specs.Step.{start as first_world};
+ghost use Rattle.export_protocol.specs.Step.{start as first_world};
 ghost use Rattle.board_state.specs.State.{first_operations, start};
 
 use crate::state::BoardState;

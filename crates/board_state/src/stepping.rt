@@ -2,7 +2,7 @@
 ghost use Rattle.std.specs.Prelude.{◌≡◌, ◌<◌, ◌≤◌, ◌++◌, All, IfErr, IfOk, IfSome, None, OnOk, true};
 ghost use Rattle.export_machine.specs.Kept.{is_ready};
 ghost use Rattle.export_machine.specs.Room.{IsRefusal};
-ghost use Rattle.export_machine.specs.Step.{refusal as step_refusal};
+ghost use Rattle.export_protocol.specs.Step.{refusal as step_refusal};
 ghost use Rattle.board_state.specs.State.{refusal, happens, map_change, marked_if};
 ghost use Rattle.board_state.specs.Steps.{IsStep, is_inner, set_by, spelled};
 
@@ -11,8 +11,9 @@ use crate::change::{Answer, Change};
 use crate::opening::OpenProblem;
 use crate::state::{BoardState, mark};
 use authority_map::Publisher;
-use export_machine::laws::recorded;
-use export_machine::{Cluster, Event, Reply, StepError};
+use export_protocol::laws::recorded;
+use export_machine::Cluster;
+use export_protocol::{Event, Reply, StepError};
 use mds_types::Order;
 use naming::Naming;
 use std::alloc::{AllocError, Global};

@@ -7,9 +7,9 @@ use Rattle.std.specs.Result.{MatchResult}
 use Rattle.std.specs.Prelude.{is_ok, IsTrue}
 use Rattle.std.proofs.lemmas.Bool.{cases_lt, ne_eqb, or_from}
 use Rattle.std.proofs.lemmas.List.Sorted.{searched}
-use Rattle.export_machine.specs.Authority.{is_among}
-use Rattle.export_machine.specs.Step.{repeats}
-use Rattle.export_machine.proofs.Lists.{among_at}
+use Rattle.export_protocol.specs.Authority.{is_among}
+use Rattle.export_protocol.specs.Step.{repeats}
+use Rattle.export_protocol.proofs.Lists.{among_at}
 
 -- what comes later is greater
 

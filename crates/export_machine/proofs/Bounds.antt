@@ -4,29 +4,29 @@ use Rattle.std.proofs.lemmas.Bool.{and_parts, cases_eq}
 use Rattle.std.specs.List.{slice_get}
 use Rattle.std.specs.Result.{OnOk, OnErr}
 use Rattle.std.proofs.lemmas.List.{length-set}
-use Rattle.export_machine.specs.declared.exporter.ExporterState.{ExporterState}
-use Rattle.export_machine.specs.declared.importer.ImporterState.{ImporterState}
-use Rattle.export_machine.specs.declared.message.Message.{Message}
-use Rattle.export_machine.specs.declared.message.Message.TheVariants.{Discover}
-use Rattle.export_machine.specs.declared.journal.JournalEntry.{JournalEntry}
-use Rattle.export_machine.specs.declared.event.Reply.{Reply}
-use Rattle.export_machine.specs.declared.step_error.StepError.{StepError}
+use Rattle.export_protocol.specs.declared.exporter.ExporterState.{ExporterState}
+use Rattle.export_protocol.specs.declared.importer.ImporterState.{ImporterState}
+use Rattle.export_protocol.specs.declared.message.Message.{Message}
+use Rattle.export_protocol.specs.declared.message.Message.TheVariants.{Discover}
+use Rattle.export_protocol.specs.declared.journal.JournalEntry.{JournalEntry}
+use Rattle.export_protocol.specs.declared.event.Reply.{Reply}
+use Rattle.export_protocol.specs.declared.step_error.StepError.{StepError}
 use Rattle.export_machine.specs.declared.records.Records.{Records}
-use Rattle.export_machine.specs.Cluster.{World}
+use Rattle.export_protocol.specs.Cluster.{World}
 use Rattle.mds_types.specs.declared.order.Order.{Order}
-use Rattle.export_machine.specs.Authority.{no_order, order_in, exporter_of, importer_of, is_stopped, authority, open_export}
-use Rattle.export_machine.specs.declared.moves.Move.{Move}
-use Rattle.export_machine.specs.Step.{Outcome, refusal, happens, step, counted, comes, delivered, ignored, receiver, repeats, journaled_by, restarts, changed, move, moved, acts, about, exporter_moves, importer_moves, notes, replies}
-use Rattle.export_machine.specs.declared.event.Event.{Event}
-use Rattle.export_machine.specs.declared.event.Event.TheVariants.{Begin, End, Start, Deliver, Froze, Notify, Abort, Stop, Restart, Ask}
-use Rattle.export_machine.specs.View.{IsReached, IsAnswer}
+use Rattle.export_protocol.specs.Authority.{no_order, order_in, exporter_of, importer_of, is_stopped, authority, open_export}
+use Rattle.export_protocol.specs.declared.moves.Transition.{Transition}
+use Rattle.export_protocol.specs.Step.{Outcome, refusal, happens, step, counted, comes, delivered, ignored, receiver, repeats, journaled_by, restarts, changed, move, moved, acts, about, exporter_moves, importer_moves, notes, replies}
+use Rattle.export_protocol.specs.declared.event.Event.{Event}
+use Rattle.export_protocol.specs.declared.event.Event.TheVariants.{Begin, End, Start, Deliver, Froze, Notify, Abort, Stop, Restart, Ask}
+use Rattle.export_protocol.specs.View.{IsReached, IsAnswer}
 use Rattle.export_machine.specs.Room.{IsRefusal, IsAsRoomy, KeepsRoom}
 use Rattle.export_machine.specs.Columns.{has_spare}
 use Rattle.export_machine.specs.Kept.{world_of, indexes_of, IsKept, IsIndexed, has_room, has_entry_places, has_list_places, places_of, has_dir_places, has_export_places, is_spare, entered_at, is_ready, is_ready_entry, is_ready_list, state_of}
-use Rattle.export_machine.proofs.Views.{push_same, push_other, length_push, map_at_length}
-use Rattle.export_machine.proofs.Frame.{Framed, delivered_frame, happens_fixed}
-use Rattle.export_machine.proofs.Reached.{reached_step}
-use Rattle.export_machine.proofs.Accepted.{room_left, made_few}
+use Rattle.export_protocol.proofs.Views.{push_same, push_other, length_push, map_at_length}
+use Rattle.export_protocol.proofs.Frame.{Framed, delivered_frame, happens_fixed}
+use Rattle.export_protocol.proofs.Reached.{reached_step}
+use Rattle.export_protocol.proofs.Accepted.{room_left, made_few}
 use Rattle.export_machine.proofs.Starting.{start_distinct}
 
 -- at most one message more
@@ -41,7 +41,7 @@ one : (w v : World) (m : Message) → v.sent ≡ w.sent ++ m ∷ [] → v.events
 one w v m s e = record { sent = rw (s, length_push w.sent m) (omega arith); events = e }
 
 -- a move sends at most once
-moved_sends : (w : World) (x r : ℕ) (v : Move) → Sends w (moved w x r v).world
+moved_sends : (w : World) (x r : ℕ) (v : Transition) → Sends w (moved w x r v).world
 moved_sends w x r v = ends (notes (importer_moves (exporter_moves w x v.exporter) x v.importer) r v.entry) v.sends
     (noted (importer_moves (exporter_moves w x v.exporter) x v.importer) v.entry (states v.exporter v.importer).0 (states v.exporter v.importer).1).0
     (noted (importer_moves (exporter_moves w x v.exporter) x v.importer) v.entry (states v.exporter v.importer).0 (states v.exporter v.importer).1).1
@@ -59,7 +59,7 @@ moved_sends w x r v = ends (notes (importer_moves (exporter_moves w x v.exporter
     ends u (Some m) s e = one w (replies u (Some m)).world m (ap (λ ms. ms ++ m ∷ []) s) e
 
 module _ (w : World) where
-  acts_sends : (m : Message) (o : Option Move) → Sends w (acts w m o).world
+  acts_sends : (m : Message) (o : Option Transition) → Sends w (acts w m o).world
   acts_sends m None = none w w refl refl
   acts_sends m (Some v) = moved_sends w (about m) (receiver w m) v
 

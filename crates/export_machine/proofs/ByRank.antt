@@ -3,17 +3,17 @@ use Rattle.std.proofs.Common.{◌≡◌, ◌≢◌, ℕ, zero, suc, ◌+◌, ◌
 use Rattle.std.specs.Prelude.{filter, is_some, replicate}
 use Rattle.std.proofs.lemmas.Bool.{cases_lt, cases_eq, eqb-true, or_left, or_right, or_cases}
 use Rattle.std.proofs.lemmas.List.{get_or-set_same, get_or-set_other, get_or_past, length-set, take_all, map-set, get_or-map}
-use Rattle.export_machine.specs.declared.event.Request.{Request}
-use Rattle.export_machine.specs.Authority.{is_among}
-use Rattle.export_machine.specs.Step.{map_at, ends_at}
+use Rattle.export_protocol.specs.declared.event.Request.{Request}
+use Rattle.export_protocol.specs.Authority.{is_among}
+use Rattle.export_protocol.specs.Step.{map_at, ends_at}
 use Rattle.export_machine.specs.Kept.{AreByRank}
-use Rattle.export_machine.proofs.Events.{set_none}
-use Rattle.export_machine.proofs.Lists.{among_push, take_next}
-use Rattle.export_machine.proofs.Lookups.{itself}
-use Rattle.export_machine.proofs.Marks.{map_at_same, unchanged}
-use Rattle.export_machine.proofs.Halting.{same_here}
-use Rattle.export_machine.proofs.Tidy.{ended_elsewhere}
-use Rattle.export_machine.proofs.Views.{push_same, push_other, map_at_get, map_at_past}
+use Rattle.export_protocol.proofs.Events.{set_none}
+use Rattle.export_protocol.proofs.Lists.{among_push, take_next}
+use Rattle.export_protocol.proofs.Lookups.{itself}
+use Rattle.export_protocol.proofs.Marks.{map_at_same, unchanged}
+use Rattle.export_protocol.proofs.Halting.{same_here}
+use Rattle.export_protocol.proofs.Tidy.{ended_elsewhere}
+use Rattle.export_protocol.proofs.Views.{push_same, push_other, map_at_get, map_at_past}
 
 same_request : (p q : Request) → Some p ≡ Some q → p ≡ q
 same_request p q e = cc

@@ -2,8 +2,8 @@
 use Rattle.std.proofs.Common.{◌≡◌, ℕ, Bool, get_or, set, map, Vec, refl, ap, ◌∙◌}
 use Rattle.std.specs.Vec.{with_item}
 use Rattle.std.proofs.lemmas.List.{map-set}
-use Rattle.export_machine.specs.declared.exporter.ExporterState.{ExporterState}
-use Rattle.export_machine.specs.declared.importer.ImporterState.{ImporterState}
+use Rattle.export_protocol.specs.declared.exporter.ExporterState.{ExporterState}
+use Rattle.export_protocol.specs.declared.importer.ImporterState.{ImporterState}
 use Rattle.export_machine.specs.declared.export_table.ExportRow.{ExportRow}
 use Rattle.export_machine.specs.ExportColumns.{ExportColumns, export_columns}
 use Rattle.export_machine.proofs.Columns.{set_same}

@@ -1,25 +1,24 @@
 -- How the tables by directory follow a directory that is made or removed, and an export that starts.
-use Rattle.std.proofs.Common.{◌≡◌, ◌≢◌, ℕ, zero, suc, ◌+◌, ◌-◌, ◌<◌, ◌≤◌, Bool, true, false, ◌&&◌, not, eqb, cond, List, [], ◌∷◌, ◌++◌, length, get_or, set, Some, None, refl, sym, ap, ◌∙◌, subst, inl, inr, arith}
+use Rattle.std.proofs.Common.{◌≡◌, ◌≢◌, ℕ, zero, suc, ◌+◌, ◌-◌, ◌<◌, ◌≤◌, Bool, true, false, ◌&&◌, not, eqb, cond, List, [], ◌∷◌, ◌++◌, length, get_or, set, Some, None, refl, sym, ap, ◌∙◌, inl, inr, arith}
 use Rattle.std.specs.Prelude.{replicate}
-use Rattle.std.proofs.Math.Logic.{∥∥₁_elim}
 use Rattle.std.proofs.lemmas.Bool.{cases_lt, cases_eq, ne_eqb}
 use Rattle.std.proofs.lemmas.List.{get_or-set_same, get_or-set_other, get_or_past, length-set}
-use Rattle.export_machine.specs.declared.journal.JournalEntry.{JournalEntry}
-use Rattle.export_machine.specs.declared.event.Request.{Request}
-use Rattle.export_machine.specs.Cluster.{World}
-use Rattle.export_machine.specs.Authority.{authority, open_export, owns, request_of}
-use Rattle.export_machine.specs.Step.{start, journals, is_child, not_yet, running_on}
-use Rattle.export_machine.specs.View.{IsReached}
+use Rattle.export_protocol.specs.declared.journal.JournalEntry.{JournalEntry}
+use Rattle.export_protocol.specs.declared.event.Request.{Request}
+use Rattle.export_protocol.specs.Cluster.{World}
+use Rattle.export_protocol.specs.Authority.{authority, open_export, owns, request_of}
+use Rattle.export_protocol.specs.Step.{journals, is_child, not_yet, running_on}
+use Rattle.export_protocol.specs.View.{IsReached}
 use Rattle.export_machine.specs.Kept.{Indexes, IsIndexed, count_at, children_of}
-use Rattle.export_machine.proofs.Views.{push_same, push_other, length_push}
-use Rattle.export_machine.proofs.Safe.{Safe}
-use Rattle.export_machine.proofs.Lookups.{itself, authority_is, no_open, free_owner}
-use Rattle.export_machine.proofs.Events.{no_requests, elsewhere_dir}
-use Rattle.export_machine.proofs.Tidy.{Tidy, run_tidy, start_tidy}
+use Rattle.export_protocol.proofs.Views.{push_same, push_other, length_push}
+use Rattle.export_protocol.proofs.Safe.{Safe}
+use Rattle.export_protocol.proofs.Lookups.{itself, authority_is, no_open, free_owner}
+use Rattle.export_protocol.proofs.Events.{no_requests, elsewhere_dir}
 use Rattle.export_machine.proofs.Owners.{made_authority, made_others_authority, gone_authority, gone_others_authority}
-use Rattle.export_machine.proofs.Found.{options_by}
+use Rattle.export_protocol.proofs.Found.{options_by}
 use Rattle.export_machine.proofs.Listed.{entry_listed, entry_drops_none}
 use Rattle.export_machine.proofs.Indexing.{entry_open}
+use Rattle.export_protocol.proofs.Tidy.{by_tidy}
 
 pub replicate_push : {A : Type 0} (n : ℕ) (a : A) → replicate n a ++ a ∷ [] ≡ replicate (suc n) a
 replicate_push zero a = refl
@@ -159,9 +158,6 @@ pub children_are : (w : World) (i : Indexes) (p : ℕ) → IsIndexed w i → p <
 children_are w i p is l = push_other i.children 0 0 p (λ e. absurd (omega (arith, is.children_places))) ∙ is.children p
 
 -- a directory is removed
-
-pub by_tidy : (w : World) → IsReached w → (Tidy w → ⊥) → ⊥
-by_tidy w h k = ∥∥₁_elim h (λ x y. absurd x) (λ r. k (subst Tidy r.4 (run_tidy r.2 (start r.0 r.1) (start_tidy r.0 r.1))))
 
 pub parent_below : (w : World) → IsReached w → (d p : ℕ) → get_or w.parents d None ≡ Some p → d ≢ 0 → p < d
 parent_below w h d p e n = elim (cases_lt p d) [ inl l ↦ l | inr m ↦ absurd (by_tidy w h (λ t. (let l : p < d = t.smaller d p e n in absurd (omega arith)))) ]

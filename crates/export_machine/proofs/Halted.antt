@@ -1,52 +1,27 @@
 -- What a stop and a restart leave of the states.
-use Rattle.std.proofs.Common.{◌≡◌, ◌≢◌, ℕ, ◌<◌, Bool, true, false, ◌&&◌, not, eqb, cond, List, [], length, get_or, set, None, refl, sym, ap, ◌∙◌, subst, inl, inr, ◌⊎◌, arith}
+use Rattle.std.proofs.Common.{◌≡◌, ℕ, ◌<◌, Bool, true, false, ◌&&◌, not, eqb, cond, List, [], length, get_or, set, None, refl, sym, ap, ◌∙◌, subst, inl, inr, ◌⊎◌, arith}
 use Rattle.std.proofs.lemmas.Bool.{and_parts, cases_lt, cases_Bool, eqb-true, leb-false}
-use Rattle.export_machine.specs.declared.exporter.ExporterState.{ExporterState}
-use Rattle.export_machine.specs.declared.importer.ImporterState.{ImporterState}
-use Rattle.export_machine.specs.declared.journal.JournalEntry.{JournalEntry}
-use Rattle.export_machine.specs.declared.exporter.ExporterState.TheVariants.{Discovering, Freezing, Preparing, Exporting, Logged, Done, Aborted}
-use Rattle.export_machine.specs.declared.importer.ImporterState.TheVariants.{Unknown, Discovered, Prepared, Started, Imported, Dropped}
-use Rattle.export_machine.specs.Cluster.{World}
+use Rattle.export_protocol.specs.declared.exporter.ExporterState.{ExporterState}
+use Rattle.export_protocol.specs.declared.importer.ImporterState.{ImporterState}
+use Rattle.export_protocol.specs.declared.journal.JournalEntry.{JournalEntry}
+use Rattle.export_protocol.specs.declared.exporter.ExporterState.TheVariants.{Aborted}
+use Rattle.export_protocol.specs.declared.importer.ImporterState.TheVariants.{Unknown, Dropped}
+use Rattle.export_protocol.specs.Cluster.{World}
 use Rattle.mds_types.specs.declared.order.Order.{Order}
-use Rattle.export_machine.specs.Authority.{is_among, order_in, from_of, to_of, exporter_of, importer_of, has, authority, open_export}
-use Rattle.export_machine.specs.Step.{refusal, causes, map_at, is_before_log, exporter_by_journal, importer_by_journal, ends_at, recovered, stops}
-use Rattle.export_machine.specs.declared.event.Event.TheVariants.{Stop}
-use Rattle.export_machine.specs.View.{IsReached}
-use Rattle.export_machine.specs.Kept.{Indexes, IsIndexed, AreListed, is_passing, exporter_at_stop, importer_at_stop}
-use Rattle.export_machine.proofs.Safe.{Safe}
-use Rattle.export_machine.proofs.Reached.{by_safe}
-use Rattle.export_machine.proofs.Events.{not_refused}
-use Rattle.export_machine.proofs.Theorem.{not_refused_causes}
-use Rattle.export_machine.proofs.Stops.{exporter_journaled, importer_journaled}
-use Rattle.export_machine.proofs.Halting.{same_here}
-use Rattle.export_machine.proofs.Views.{map_at_get, map_at_past}
+use Rattle.export_protocol.specs.Authority.{is_among, order_in, from_of, to_of, exporter_of, importer_of, has, authority, open_export}
+use Rattle.export_protocol.specs.Step.{refusal, causes, map_at, is_before_log, exporter_by_journal, importer_by_journal, ends_at, recovered, stops}
+use Rattle.export_protocol.specs.declared.event.Event.TheVariants.{Stop}
+use Rattle.export_protocol.specs.View.{IsReached}
+use Rattle.export_machine.specs.Kept.{Indexes, IsIndexed, AreListed, is_passing}
+use Rattle.export_protocol.specs.Entries.{exporter_at_stop, importer_at_stop}
+use Rattle.export_protocol.proofs.Events.{not_refused}
+use Rattle.export_protocol.proofs.Theorem.{not_refused_causes}
+use Rattle.export_protocol.proofs.Stops.{exporter_journaled, importer_journaled}
+use Rattle.export_protocol.proofs.Halting.{same_here}
+use Rattle.export_protocol.proofs.Views.{map_at_get, map_at_past}
+use Rattle.export_protocol.proofs.Reached.{exporters_by, importers_by}
 
 -- states by the invariant
-
-pub same_exporter : (a b : ExporterState) → (a ≡ b) ⊎ (a ≢ b)
-same_exporter Discovering Discovering = inl refl
-same_exporter Freezing Freezing = inl refl
-same_exporter Preparing Preparing = inl refl
-same_exporter Exporting Exporting = inl refl
-same_exporter Logged Logged = inl refl
-same_exporter Done Done = inl refl
-same_exporter Aborted Aborted = inl refl
-same_exporter a b = inr (λ e. cc)
-
-pub same_importer : (a b : ImporterState) → (a ≡ b) ⊎ (a ≢ b)
-same_importer Unknown Unknown = inl refl
-same_importer Discovered Discovered = inl refl
-same_importer Prepared Prepared = inl refl
-same_importer Started Started = inl refl
-same_importer Imported Imported = inl refl
-same_importer Dropped Dropped = inl refl
-same_importer a b = inr (λ e. cc)
-
-pub exporters_by : (w : World) → IsReached w → (a b : ExporterState) → (Safe w → a ≡ b) → a ≡ b
-exporters_by w r a b f = elim (same_exporter a b) [ inl e ↦ e | inr n ↦ absurd (by_safe w r (λ safe. n (f safe))) ]
-
-pub importers_by : (w : World) → IsReached w → (a b : ImporterState) → (Safe w → a ≡ b) → a ≡ b
-importers_by w r a b f = elim (same_importer a b) [ inl e ↦ e | inr n ↦ absurd (by_safe w r (λ safe. n (f safe))) ]
 
 -- the changes of a stop, one after the other
 

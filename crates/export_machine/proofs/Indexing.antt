@@ -3,26 +3,25 @@ use Rattle.std.proofs.Common.{◌≡◌, ◌≢◌, ℕ, ◌+◌, ◌-◌, ◌<�
 use Rattle.std.specs.Prelude.{count_by, replicate}
 use Rattle.std.proofs.lemmas.Bool.{cases_lt, and_parts, cases_Bool, cases_eq, eqb-true, not-true}
 use Rattle.std.proofs.lemmas.List.{get_or-set_same, get_or-set_other, get_or_past, length-set}
-use Rattle.export_machine.specs.declared.exporter.ExporterState.{ExporterState}
-use Rattle.export_machine.specs.declared.importer.ImporterState.{ImporterState}
-use Rattle.export_machine.specs.declared.journal.JournalEntry.{JournalEntry}
-use Rattle.export_machine.specs.declared.event.Request.{Request}
-use Rattle.export_machine.specs.declared.message.Message.{Message}
-use Rattle.export_machine.specs.declared.exporter.ExporterState.TheVariants.{Freezing, Preparing, Aborted}
-use Rattle.export_machine.specs.Cluster.{World}
+use Rattle.export_protocol.specs.declared.exporter.ExporterState.{ExporterState}
+use Rattle.export_protocol.specs.declared.journal.JournalEntry.{JournalEntry}
+use Rattle.export_protocol.specs.declared.event.Request.{Request}
+use Rattle.export_protocol.specs.declared.message.Message.{Message}
+use Rattle.export_protocol.specs.declared.exporter.ExporterState.TheVariants.{Freezing, Preparing, Aborted}
+use Rattle.export_protocol.specs.Cluster.{World}
 use Rattle.mds_types.specs.declared.order.Order.{Order}
-use Rattle.export_machine.specs.Authority.{no_order, is_among, is_inside, from_of, to_of, exporter_of, importer_of, named_of, has, is_same, authority, first_below, is_open, is_aborted, open_export, runs_on}
-use Rattle.export_machine.specs.Step.{running_on, map_at, exporter_to, journals, is_before_log, is_child}
-use Rattle.export_machine.specs.View.{IsReached}
+use Rattle.export_protocol.specs.Authority.{no_order, is_among, is_inside, to_of, exporter_of, importer_of, named_of, has, is_same, authority, first_below, is_open, is_aborted, open_export, runs_on}
+use Rattle.export_protocol.specs.Step.{running_on, map_at, exporter_to, journals, is_before_log, is_child}
+use Rattle.export_protocol.specs.View.{IsReached}
 use Rattle.export_machine.specs.Kept.{Indexes, IsIndexed, AreByRank, AreListed, count_at}
-use Rattle.export_machine.proofs.Owning.{is_over, place}
-use Rattle.export_machine.proofs.Views.{map_at_get, map_at_past, map_at_length, has_adds}
-use Rattle.export_machine.proofs.Safe.{Safe, phase_by, phase_of}
-use Rattle.export_machine.proofs.Lookups.{itself, open_over}
+use Rattle.export_protocol.proofs.Owning.{is_over}
+use Rattle.export_protocol.proofs.Views.{map_at_get, map_at_past, map_at_length, has_adds}
+use Rattle.export_protocol.proofs.Safe.{Safe, phase_of}
+use Rattle.export_protocol.proofs.Lookups.{itself, open_over, before_over, inside_there}
 use Rattle.export_machine.proofs.Listed.{exporter_listed}
 use Rattle.export_machine.proofs.ByRank.{begin_filed, end_filed}
-use Rattle.export_machine.proofs.Lists.{running_begun, running_ended, runs_here}
-use Rattle.export_machine.proofs.Found.{orders_by, first_is_none, first_same, Safely, options_safely, orders_safely}
+use Rattle.export_machine.proofs.Counts.{running_begun, running_ended, runs_here}
+use Rattle.export_protocol.proofs.Found.{orders_by, first_is_none, first_same, Safely, options_safely, orders_safely}
 
 -- authorities and open exports stay, requests and parents too
 pub same_indexed : (w v : World) (i : Indexes) → IsIndexed w i → ((d : ℕ) → authority v d ≡ authority w d) → ((d : ℕ) → open_export v d ≡ open_export w d) →
@@ -110,16 +109,6 @@ entry_open w r e near h = open_stays w (journals w r e) refl (λ y. go y)
     go y = ap (λ b. not (is_aborted (exporter_of w y)) && not b)
         (has_adds w r e near (to_of w y) (JournalEntry.Imported y) ∙ none (has w (to_of w y) (JournalEntry.Imported y)) (eqb (to_of w y) r) (is_same e (JournalEntry.Imported y)) (h y))
 
--- an open export's directories are there
-pub inside_there : (w : World) → Safe w → (x : ℕ) → is_over (phase_of w x) ≡ false → (d : ℕ) → is_inside w x d ≡ true → d < length w.parents
-inside_there w safe x o d i = elim (cases_lt d (length w.parents)) [
-  | inl m ↦ m
-  | inr m ↦ absurd (differ (sym (get_or_past w.named d None (omega (arith, safe.numbered))) ∙ safe.owning.placed x d i o))
-]
-  where
-    differ : None ≡ Some (place (from_of w x) (to_of w x) (phase_of w x)) → ⊥
-    differ e = cc
-
 -- marked tables
 
 pub marked : (xs : List (Option ℕ)) (p : ℕ → Bool) (v : Option ℕ) (d : ℕ) → (p d ≡ true → d < length xs) →
@@ -187,9 +176,6 @@ froze_indexed w i x is e ms = same_indexed w (record (exporter_to w x Preparing)
     (exporter_listed w.ranks w.orders w.exporters w.importers w.journals i.open_at i.dropped is.listed x Preparing (λ k. rw e refl)) is.dropped_places
 
 -- Abort
-
-pub before_over : (e : ExporterState) (j : ImporterState) → is_before_log e ≡ true → is_over (phase_by e j) ≡ false
-before_over e j h = grind arith
 
 pub abort_there : (w : World) → Safely w → (x : ℕ) → is_before_log (exporter_of w x) ≡ true → (d : ℕ) → is_inside w x d ≡ true → d < length w.parents
 abort_there w r x b d i = orders_safely w r d (length w.parents) (λ safe. inside_there w safe x (before_over (exporter_of w x) (importer_of w x) b) d i)

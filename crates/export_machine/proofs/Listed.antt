@@ -3,22 +3,22 @@ use Rattle.std.proofs.Common.{◌≡◌, ◌≢◌, ℕ, zero, suc, ◌+◌, ◌
 use Rattle.std.specs.Prelude.{replicate, nat_lt}
 use Rattle.std.proofs.lemmas.Bool.{cases_lt, cases_eq, cases_Bool, or_left, or_right}
 use Rattle.std.proofs.lemmas.List.{get_or-set_same, get_or-set_other, get_or_past, length-set, take_all}
-use Rattle.export_machine.specs.declared.exporter.ExporterState.{ExporterState}
-use Rattle.export_machine.specs.declared.importer.ImporterState.{ImporterState}
-use Rattle.export_machine.specs.declared.journal.JournalEntry.{JournalEntry}
-use Rattle.export_machine.specs.declared.exporter.ExporterState.TheVariants.{Aborted}
-use Rattle.export_machine.specs.declared.importer.ImporterState.TheVariants.{Unknown, Dropped}
-use Rattle.export_machine.specs.Cluster.{World}
+use Rattle.export_protocol.specs.declared.exporter.ExporterState.{ExporterState}
+use Rattle.export_protocol.specs.declared.importer.ImporterState.{ImporterState}
+use Rattle.export_protocol.specs.declared.journal.JournalEntry.{JournalEntry}
+use Rattle.export_protocol.specs.declared.exporter.ExporterState.TheVariants.{Aborted}
+use Rattle.export_protocol.specs.declared.importer.ImporterState.TheVariants.{Unknown, Dropped}
+use Rattle.export_protocol.specs.Cluster.{World}
 use Rattle.mds_types.specs.declared.order.Order.{Order}
-use Rattle.export_machine.specs.Authority.{is_among, order_in, no_order, has, has_entry, is_same}
-use Rattle.export_machine.specs.Step.{map_at, is_before_log, journals, importer_to}
+use Rattle.export_protocol.specs.Authority.{is_among, order_in, no_order, has, has_entry, is_same}
+use Rattle.export_protocol.specs.Step.{map_at, is_before_log, journals, importer_to}
 use Rattle.export_machine.specs.Columns.{has_spare}
 use Rattle.export_machine.specs.Kept.{AreListed, is_passing, is_open_at, has_dropped, has_place}
-use Rattle.export_machine.proofs.Lists.{among_push, take_next}
-use Rattle.export_machine.proofs.Lookups.{itself}
-use Rattle.export_machine.proofs.Marks.{map_at_same, unchanged}
-use Rattle.export_machine.proofs.Halting.{same_here}
-use Rattle.export_machine.proofs.Views.{has_adds}
+use Rattle.export_protocol.proofs.Lists.{among_push, take_next}
+use Rattle.export_protocol.proofs.Lookups.{itself}
+use Rattle.export_protocol.proofs.Marks.{map_at_same, unchanged}
+use Rattle.export_protocol.proofs.Halting.{same_here}
+use Rattle.export_protocol.proofs.Views.{has_adds}
 
 -- what is listed stays so
 

@@ -4,10 +4,11 @@ use Rattle.std.specs.List.{list_all}
 use Rattle.std.specs.Prelude.{replicate, IfSome, MatchOption, Some}
 use Rattle.std.proofs.lemmas.Bool.{cases_lt, and_parts, cases_Bool, cases_eq, false≢true, ne_eqb, or_cases, or_from, or_left, or_right}
 use Rattle.std.proofs.lemmas.List.{get_or-set_same, get_or-set_other, get_or_past}
-use Rattle.export_machine.specs.Authority.{is_among}
-use Rattle.export_machine.specs.Step.{repeats}
+use Rattle.export_protocol.specs.Authority.{is_among}
+use Rattle.export_protocol.specs.Step.{repeats}
 use Rattle.export_machine.specs.Kept.{is_listed}
-use Rattle.export_machine.proofs.Lists.{among_push, push_new, take_next, not_before}
+use Rattle.export_protocol.proofs.Lists.{among_push, take_next}
+use Rattle.export_machine.proofs.Counts.{push_new, not_before}
 
 -- members of a part of the list
 

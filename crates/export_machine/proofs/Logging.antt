@@ -2,19 +2,19 @@
 use Rattle.std.proofs.Common.{◌≡◌, ◌≢◌, ℕ, Bool, true, false, cond, Option, Some, None, Ok, Err, Result, refl, sym, arith}
 use Rattle.std.specs.Result.{is_ok}
 use Rattle.std.specs.List.{slice_get}
-use Rattle.export_machine.specs.declared.exporter.ExporterState.{ExporterState}
-use Rattle.export_machine.specs.declared.importer.ImporterState.{ImporterState}
-use Rattle.export_machine.specs.declared.message.Message.{Message}
-use Rattle.export_machine.specs.declared.step_error.StepError.{StepError}
-use Rattle.export_machine.specs.declared.exporter.ExporterState.TheVariants.{Exporting}
-use Rattle.export_machine.specs.declared.message.Message.TheVariants.{ExportAck}
-use Rattle.export_machine.specs.declared.event.Event.{Event}
-use Rattle.export_machine.specs.declared.journal.JournalEntry.{JournalEntry}
-use Rattle.export_machine.specs.Cluster.{World}
-use Rattle.export_machine.specs.Authority.{from_of, exporter_of, importer_of, is_stopped, authority}
-use Rattle.export_machine.specs.Step.{refusal, receiver, move, about}
-use Rattle.export_machine.specs.declared.event.Event.TheVariants.{Deliver}
-use Rattle.export_machine.specs.Entries.{Entry, entry, unless_refused, accepted_entry, delivered_entry, comes_entry, move_entry, entered_by, is_log, logs_export}
+use Rattle.export_protocol.specs.declared.exporter.ExporterState.{ExporterState}
+use Rattle.export_protocol.specs.declared.importer.ImporterState.{ImporterState}
+use Rattle.export_protocol.specs.declared.message.Message.{Message}
+use Rattle.export_protocol.specs.declared.step_error.StepError.{StepError}
+use Rattle.export_protocol.specs.declared.exporter.ExporterState.TheVariants.{Exporting}
+use Rattle.export_protocol.specs.declared.message.Message.TheVariants.{ExportAck}
+use Rattle.export_protocol.specs.declared.event.Event.{Event}
+use Rattle.export_protocol.specs.declared.journal.JournalEntry.{JournalEntry}
+use Rattle.export_protocol.specs.Cluster.{World}
+use Rattle.export_protocol.specs.Authority.{from_of, exporter_of, importer_of, is_stopped, authority}
+use Rattle.export_protocol.specs.Step.{refusal, receiver, move, about}
+use Rattle.export_protocol.specs.declared.event.Event.TheVariants.{Deliver}
+use Rattle.export_protocol.specs.Entries.{Entry, entry, unless_refused, accepted_entry, delivered_entry, comes_entry, move_entry, entered_by, is_log, logs_export}
 use Rattle.export_machine.specs.Kept.{cause_of}
 
 module _ (w : World) where

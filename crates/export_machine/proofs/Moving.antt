@@ -1,18 +1,18 @@
 -- The tables follow each move: row by row of the table of messages.
 use Rattle.std.proofs.Common.{◌≡◌, ℕ, true, length, Option, Some, None, refl}
 use Rattle.std.proofs.lemmas.List.{length-set}
-use Rattle.export_machine.specs.declared.exporter.ExporterState.{ExporterState}
-use Rattle.export_machine.specs.declared.importer.ImporterState.{ImporterState}
-use Rattle.export_machine.specs.declared.message.Message.{Message}
-use Rattle.export_machine.specs.declared.moves.Move.{Move}
-use Rattle.export_machine.specs.declared.event.Reply.{Reply}
+use Rattle.export_protocol.specs.declared.exporter.ExporterState.{ExporterState}
+use Rattle.export_protocol.specs.declared.importer.ImporterState.{ImporterState}
+use Rattle.export_protocol.specs.declared.message.Message.{Message}
+use Rattle.export_protocol.specs.declared.moves.Transition.{Transition}
+use Rattle.export_protocol.specs.declared.event.Reply.{Reply}
 use Rattle.export_machine.specs.declared.records.Records.{Records}
-use Rattle.export_machine.specs.declared.exporter.ExporterState.TheVariants.{Discovering, Freezing, Preparing, Exporting, Done, Aborted}
-use Rattle.export_machine.specs.declared.importer.ImporterState.TheVariants.{Unknown, Discovered, Prepared, Started, Dropped}
-use Rattle.export_machine.specs.declared.message.Message.TheVariants.{Discover, DiscoverAck, Prep, PrepAck, ExportAck, Finish, Cancel, Query}
-use Rattle.export_machine.specs.Cluster.{World}
-use Rattle.export_machine.specs.Authority.{order_in, exporter_of, importer_of, to_of}
-use Rattle.export_machine.specs.Step.{about, receiver, move, moved, acts, importer_to, exporter_moves, importer_moves, notes, replies}
+use Rattle.export_protocol.specs.declared.exporter.ExporterState.TheVariants.{Discovering, Freezing, Preparing, Exporting, Done, Aborted}
+use Rattle.export_protocol.specs.declared.importer.ImporterState.TheVariants.{Unknown, Discovered, Prepared, Started, Dropped}
+use Rattle.export_protocol.specs.declared.message.Message.TheVariants.{Discover, DiscoverAck, Prep, PrepAck, ExportAck, Finish, Cancel, Query}
+use Rattle.export_protocol.specs.Cluster.{World}
+use Rattle.export_protocol.specs.Authority.{order_in, exporter_of, importer_of, to_of}
+use Rattle.export_protocol.specs.Step.{about, receiver, move, moved, acts, importer_to, exporter_moves, importer_moves, notes, replies}
 use Rattle.export_machine.specs.Kept.{world_of, indexes_of, CanReceive, IsIndexed, Indexes, AreListed, is_passing}
 use Rattle.export_machine.specs.Moving.{heard, indexes_moved}
 use Rattle.export_machine.proofs.Receiving.{known, known_importer, to_rank, from_rank, to_listed}
@@ -63,6 +63,6 @@ importers_long w x None = refl
 importers_long w x (Some s) = length-set w.importers x s
 
 -- a move in its parts
-pub moved_parts : (w w₁ w₂ w₃ w₄ : World) (x rank : ℕ) (v : Move) (reply : Reply) → w₁ ≡ exporter_moves w x v.exporter → w₂ ≡ importer_moves w₁ x v.importer →
+pub moved_parts : (w w₁ w₂ w₃ w₄ : World) (x rank : ℕ) (v : Transition) (reply : Reply) → w₁ ≡ exporter_moves w x v.exporter → w₂ ≡ importer_moves w₁ x v.importer →
     w₃ ≡ notes w₂ rank v.entry → replies w₃ v.sends ≡ record { reply = reply; world = w₄ } → moved w x rank v ≡ record { reply = reply; world = w₄ }
 moved_parts w w₁ w₂ w₃ w₄ x rank v reply e i n s = rw (← e, ← i, ← n) s

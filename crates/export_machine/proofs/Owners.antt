@@ -1,20 +1,20 @@
 -- The other events that change owners or exports: what a table of owners has to follow there.
 use Rattle.std.proofs.Common.{◌≡◌, ◌≢◌, ℕ, ◌<◌, true, false, List, [], ◌∷◌, ◌++◌, length, set, Some, None, refl, sym, ap, ◌∙◌, inl, inr, arith}
 use Rattle.std.proofs.lemmas.Bool.{cases_Bool, cases_eq}
-use Rattle.export_machine.specs.declared.journal.JournalEntry.{JournalEntry}
-use Rattle.export_machine.specs.declared.event.Request.{Request}
-use Rattle.export_machine.specs.declared.exporter.ExporterState.TheVariants.{Done}
-use Rattle.export_machine.specs.declared.importer.ImporterState.TheVariants.{Started, Imported}
-use Rattle.export_machine.specs.Cluster.{World}
-use Rattle.export_machine.specs.Authority.{is_among, is_inside, to_of, exporter_of, importer_of, owns, request_of, IsAuthority, authority}
-use Rattle.export_machine.specs.Step.{importer_to, journals}
-use Rattle.export_machine.proofs.Owning.{is_moving, is_over}
-use Rattle.export_machine.proofs.Safe.{Safe, phase_of, imported_safe, import_outside, import_won, import_near, importer_phases}
-use Rattle.export_machine.proofs.Lookups.{takes_over, inside_near}
-use Rattle.export_machine.proofs.Events.{made_safe, made_won, made_rest, gone_safe, gone_rest, set_none, with_export, start_safe, start_owns, start_insides, start_tos, start_phases, start_phase}
-use Rattle.export_machine.proofs.Theorem.{safe_gone}
-use Rattle.export_machine.proofs.Authorities.{authority_found, no_authority}
-use Rattle.export_machine.proofs.Walks.{quiet_authority, authority_near}
+use Rattle.export_protocol.specs.declared.journal.JournalEntry.{JournalEntry}
+use Rattle.export_protocol.specs.declared.event.Request.{Request}
+use Rattle.export_protocol.specs.declared.exporter.ExporterState.TheVariants.{Done}
+use Rattle.export_protocol.specs.declared.importer.ImporterState.TheVariants.{Started, Imported}
+use Rattle.export_protocol.specs.Cluster.{World}
+use Rattle.export_protocol.specs.Authority.{is_among, is_inside, to_of, exporter_of, importer_of, owns, request_of, IsAuthority, authority}
+use Rattle.export_protocol.specs.Step.{importer_to, journals}
+use Rattle.export_protocol.proofs.Owning.{is_moving, is_over}
+use Rattle.export_protocol.proofs.Safe.{Safe, phase_of, imported_safe, import_outside, import_won, import_near, importer_phases}
+use Rattle.export_protocol.proofs.Lookups.{takes_over, inside_near}
+use Rattle.export_protocol.proofs.Events.{made_safe, made_won, made_rest, gone_safe, gone_rest, set_none, with_export, start_safe, start_owns, start_insides, start_tos, start_phases, start_phase}
+use Rattle.export_protocol.proofs.Theorem.{safe_gone}
+use Rattle.export_protocol.proofs.Authorities.{authority_found, no_authority}
+use Rattle.export_protocol.proofs.Walks.{quiet_authority, authority_near}
 
 -- At `Finish` each directory keeps its authority.
 module _ (w : World) (safe : Safe w) (x : ℕ) (was : importer_of w x ≡ Started) (done : exporter_of w x ≡ Done) where

@@ -1,14 +1,14 @@
 -- What a rank can rely on where a message comes.
 use Rattle.std.proofs.Common.{◌≡◌, ◌<◌, ℕ, true, length, sym, arith}
 use Rattle.std.proofs.lemmas.List.{length-map}
-use Rattle.export_machine.specs.declared.message.Message.{Message}
+use Rattle.export_protocol.specs.declared.message.Message.{Message}
 use Rattle.export_machine.specs.declared.records.Records.{Records}
-use Rattle.export_machine.specs.Authority.{from_of, to_of, is_inside}
+use Rattle.export_protocol.specs.Authority.{from_of, to_of, is_inside}
 use Rattle.export_machine.specs.Kept.{world_of, indexes_of, CanReceive}
-use Rattle.export_machine.specs.Step.{about, receiver}
-use Rattle.export_machine.proofs.Found.{orders_by}
-use Rattle.export_machine.proofs.Accepted.{numbers_by, as_importer, exporter_rank, importer_rank, receiver_rank}
-use Rattle.export_machine.proofs.Noted.{are_made}
+use Rattle.export_protocol.specs.Step.{about, receiver}
+use Rattle.export_protocol.proofs.Found.{orders_by}
+use Rattle.export_protocol.proofs.Accepted.{numbers_by, as_importer, exporter_rank, importer_rank, receiver_rank}
+use Rattle.export_protocol.proofs.Noted.{are_made}
 
 module _ (r : Records) (m : Message) (can : CanReceive r m) where
   pub known_order : about m < length (world_of r).orders

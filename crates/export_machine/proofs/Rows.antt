@@ -2,29 +2,29 @@
 use Rattle.std.proofs.Common.{◌≡◌, ◌≢◌, ℕ, ◌<◌, Bool, true, false, ◌&&◌, ◌||◌, not, eqb, cond, List, length, get_or, set, Some, None, refl, sym, ap, ◌∙◌, inl, inr, arith}
 use Rattle.std.proofs.lemmas.Bool.{cases_eq}
 use Rattle.std.specs.List.{slice_get}
-use Rattle.export_machine.specs.declared.exporter.ExporterState.{ExporterState}
-use Rattle.export_machine.specs.declared.importer.ImporterState.{ImporterState}
-use Rattle.export_machine.specs.declared.journal.JournalEntry.{JournalEntry}
-use Rattle.export_machine.specs.declared.message.Message.{Message}
-use Rattle.export_machine.specs.declared.exporter.ExporterState.TheVariants.{Exporting, Logged, Done, Aborted}
-use Rattle.export_machine.specs.declared.importer.ImporterState.TheVariants.{Prepared, Started, Imported, Dropped}
-use Rattle.export_machine.specs.declared.message.Message.TheVariants.{ExportAck, Finish, Cancel}
-use Rattle.export_machine.specs.Cluster.{World}
-use Rattle.export_machine.specs.Authority.{is_inside, from_of, to_of, exporter_of, importer_of, has, owns, owned_after, is_same, authority, is_open, is_aborted, open_export}
-use Rattle.export_machine.specs.Step.{map_at, exporter_to, importer_to, journals, names_importer, is_started, is_before_log}
-use Rattle.export_machine.specs.View.{IsReached}
+use Rattle.export_protocol.specs.declared.exporter.ExporterState.{ExporterState}
+use Rattle.export_protocol.specs.declared.importer.ImporterState.{ImporterState}
+use Rattle.export_protocol.specs.declared.journal.JournalEntry.{JournalEntry}
+use Rattle.export_protocol.specs.declared.message.Message.{Message}
+use Rattle.export_protocol.specs.declared.exporter.ExporterState.TheVariants.{Exporting, Logged, Done, Aborted}
+use Rattle.export_protocol.specs.declared.importer.ImporterState.TheVariants.{Prepared, Started, Imported, Dropped}
+use Rattle.export_protocol.specs.declared.message.Message.TheVariants.{ExportAck, Finish, Cancel}
+use Rattle.export_protocol.specs.Cluster.{World}
+use Rattle.export_protocol.specs.Authority.{is_inside, from_of, to_of, exporter_of, importer_of, has, owns, owned_after, is_same, authority, is_open, is_aborted, open_export}
+use Rattle.export_protocol.specs.Step.{map_at, exporter_to, importer_to, journals, names_importer, is_started, is_before_log}
+use Rattle.export_protocol.specs.View.{IsReached}
 use Rattle.export_machine.specs.Kept.{Indexes, IsIndexed, AreListed}
 use Rattle.std.proofs.lemmas.List.{length-set}
-use Rattle.export_machine.proofs.Owning.{is_moving, is_over}
-use Rattle.export_machine.proofs.Views.{map_at_length, has_adds, owns_at, owns_other, not_past}
-use Rattle.export_machine.proofs.Safe.{Safe, phase_by, phase_of, exporter_at, exporter_phases, importer_at, importer_phases, started_safe, dropped_safe, notify_safe, same_phase}
-use Rattle.export_machine.proofs.Lookups.{itself}
-use Rattle.export_machine.proofs.Deliver.{ack_started}
-use Rattle.export_machine.proofs.Walks.{quiet_authority, logged_inside, logged_outside}
+use Rattle.export_protocol.proofs.Owning.{is_moving, is_over}
+use Rattle.export_protocol.proofs.Views.{map_at_length, has_adds, owns_at, owns_other, not_past}
+use Rattle.export_protocol.proofs.Safe.{Safe, phase_by, phase_of, exporter_at, exporter_phases, importer_at, importer_phases, started_safe, dropped_safe, notify_safe, same_phase}
+use Rattle.export_protocol.proofs.Lookups.{itself, inside_there}
+use Rattle.export_protocol.proofs.Deliver.{ack_started}
+use Rattle.export_protocol.proofs.Walks.{quiet_authority, logged_inside, logged_outside}
 use Rattle.export_machine.proofs.Owners.{finish_authority}
-use Rattle.export_machine.proofs.Found.{options_by, orders_by}
+use Rattle.export_protocol.proofs.Found.{options_by}
 use Rattle.export_machine.proofs.Listed.{exporter_listed, importer_listed, entry_listed, entry_drops_none, dropped_listed}
-use Rattle.export_machine.proofs.Indexing.{same_indexed, open_stays, exporter_open, entry_open, inside_there, marked, shut_opened}
+use Rattle.export_machine.proofs.Indexing.{same_indexed, open_stays, exporter_open, entry_open, marked, shut_opened}
 
 -- only states and messages change
 
@@ -189,9 +189,6 @@ module _ (w : World) (x k : ℕ) (was : importer_of w x ≡ Started) (sent : sli
   }
 
 -- the map names the importer
-
-pub notify_there : (w : World) → IsReached w → (x : ℕ) → exporter_of w x ≡ Logged → (d : ℕ) → is_inside w x d ≡ true → d < length w.named
-notify_there w r x e d i = orders_by w r d (length w.named) (λ safe. rw (← safe.numbered) (inside_there w safe x (rw e refl) d i))
 
 module _ (w : World) (x : ℕ) (was : exporter_of w x ≡ Logged) (ranked : from_of w x < length w.journals) (ms : List Message) where
   abbrev pub notified : World

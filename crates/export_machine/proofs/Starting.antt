@@ -1,53 +1,41 @@
 -- How the tables by directory follow an export that starts.
 use Rattle.std.proofs.Common.{◌≡◌, ◌≢◌, ℕ, suc, ◌<◌, Bool, true, false, ◌&&◌, not, eqb, cond, List, [], ◌∷◌, ◌++◌, ◌+◌, length, get_or, set, Option, Some, None, refl, sym, ap, ◌∙◌, inl, inr, ◌⊎◌, arith}
-use Rattle.std.specs.List.{list_all}
 use Rattle.std.proofs.lemmas.Bool.{cases_eq, cases_Bool, leb-false, not-false}
 use Rattle.std.proofs.lemmas.List.{get_or_past, length-set}
-use Rattle.export_machine.specs.declared.journal.JournalEntry.{JournalEntry}
-use Rattle.export_machine.specs.declared.exporter.ExporterState.{ExporterState}
-use Rattle.export_machine.specs.declared.exporter.ExporterState.TheVariants.{Discovering, Aborted}
-use Rattle.export_machine.specs.declared.importer.ImporterState.TheVariants.{Unknown}
-use Rattle.export_machine.specs.Cluster.{World}
+use Rattle.export_protocol.specs.declared.journal.JournalEntry.{JournalEntry}
+use Rattle.export_protocol.specs.declared.exporter.ExporterState.{ExporterState}
+use Rattle.export_protocol.specs.declared.exporter.ExporterState.TheVariants.{Discovering, Aborted}
+use Rattle.export_protocol.specs.declared.importer.ImporterState.TheVariants.{Unknown}
+use Rattle.export_protocol.specs.Cluster.{World}
 use Rattle.mds_types.specs.declared.order.Order.{Order}
-use Rattle.export_machine.specs.Authority.{no_order, order_in, is_among, is_inside, is_present, to_of, importer_of, has, authority, is_open, is_aborted, open_export, or_else}
-use Rattle.export_machine.specs.Step.{refusal, causes, map_at, busy, elsewhere, repeats, is_connected, is_before_log}
-use Rattle.export_machine.specs.declared.event.Event.TheVariants.{Start}
-use Rattle.export_machine.specs.View.{IsReached}
+use Rattle.export_protocol.specs.Authority.{no_order, order_in, is_among, is_inside, to_of, importer_of, has, authority, is_open, is_aborted, open_export, or_else}
+use Rattle.export_protocol.specs.Step.{refusal, causes, map_at, busy, elsewhere, repeats, is_connected, is_before_log}
+use Rattle.export_protocol.specs.declared.event.Event.TheVariants.{Start}
+use Rattle.export_protocol.specs.View.{IsReached}
 use Rattle.export_machine.specs.Kept.{Indexes, IsIndexed, AreListed, is_passing}
 use Rattle.export_machine.proofs.Listed.{pushed, pushed_here}
-use Rattle.export_machine.proofs.Accepted.{numbers_by}
-use Rattle.export_machine.proofs.Views.{push_same, push_other, length_push, map_at_length}
-use Rattle.export_machine.proofs.Safe.{Safe}
-use Rattle.export_machine.proofs.Lookups.{authority_is, no_open, free_owner}
-use Rattle.export_machine.proofs.Events.{NoneOf, none_of, not_refused, busy_none, is_here, least_none, all_there, there_near, with_export}
-use Rattle.export_machine.proofs.Theorem.{not_refused_causes}
+use Rattle.export_protocol.proofs.Accepted.{numbers_by, start_there}
+use Rattle.export_protocol.proofs.Views.{push_same, push_other, length_push, map_at_length}
+use Rattle.export_protocol.proofs.Safe.{Safe}
+use Rattle.export_protocol.proofs.Lookups.{authority_is, no_open, free_owner}
+use Rattle.export_protocol.proofs.Events.{NoneOf, none_of, not_refused, busy_none, is_here, least_none, with_export}
+use Rattle.export_protocol.proofs.Theorem.{not_refused_causes}
 use Rattle.export_machine.proofs.Owners.{start_authority}
-use Rattle.export_machine.proofs.Found.{options_by, tests_by, first_same}
+use Rattle.export_protocol.proofs.Found.{options_by, tests_by, first_same}
 use Rattle.export_machine.proofs.Indexing.{marked}
 
 and_no : (a b : Bool) → (not a && b) ≡ true → a ≡ false
 and_no a b h = grind arith
 
 module _ (w : World) (from to : ℕ) (dirs : List ℕ) (h : refusal w (Start from to dirs) ≡ None) where
-  pub start_present : list_all (is_present w) dirs ≡ true
-  unfolding causes
-  start_present = not-false (list_all (is_present w) dirs) (not_refused _ _ (not_refused_causes w (Start from to dirs) h).1.1.1.1.0)
-
-  pub start_there : (d : ℕ) → is_among dirs d ≡ true → d < length w.parents
-  start_there d i = there_near w d (all_there w dirs start_present d i)
-
   pub start_distinct : repeats dirs ≡ false
   unfolding causes
   start_distinct = and_no (repeats dirs) _ (not-false (is_connected w dirs) (not_refused _ _ (not_refused_causes w (Start from to dirs) h).1.1.1.1.1.0))
 
-  pub start_few : length w.orders < 65536
-  unfolding causes
-  start_few = leb-false 65536 (length w.orders) (not_refused _ _ (not_refused_causes w (Start from to dirs) h).1.1.1.1.1.1.1.0)
-
   leaves : (d : ℕ) → is_among dirs d ≡ true → NoneOf (busy (open_export w d) ∷ elsewhere from (authority w d) ∷ [])
   unfolding causes
   leaves d i = none_of (busy (open_export w d) ∷ elsewhere from (authority w d) ∷ [])
-      (least_none w from dirs (length w.parents) (not_refused_causes w (Start from to dirs) h).1.1.1.1.1.1.0 d (start_there d i) i)
+      (least_none w from dirs (length w.parents) (not_refused_causes w (Start from to dirs) h).1.1.1.1.1.1.0 d (start_there w from to dirs h d i) i)
 
   pub start_closed : (d : ℕ) → is_among dirs d ≡ true → open_export w d ≡ None
   start_closed d i = busy_none (open_export w d) (leaves d i).0
@@ -109,7 +97,7 @@ module _ (w : World) (from to : ℕ) (dirs : List ℕ) (h : refusal w (Start fro
 
     opened : (xs : List (Option ℕ)) → length xs ≡ length w.parents → (d : ℕ) → get_or xs d None ≡ open_export w d →
         get_or (map_at (λ k old. cond (is_among dirs k) (Some (length w.orders)) old) xs) d None ≡ open_export (with_export w from to dirs) d
-    opened xs l d e = marked xs (is_among dirs) (Some (length w.orders)) d (λ i. rw l (start_there d i)) ∙ go (is_among dirs d) refl
+    opened xs l d e = marked xs (is_among dirs) (Some (length w.orders)) d (λ i. rw l (start_there w from to dirs h d i)) ∙ go (is_among dirs d) refl
       where
         go : (b : Bool) → is_among dirs d ≡ b → cond b (Some (length w.orders)) (get_or xs d None) ≡ open_export (with_export w from to dirs) d
         go true i = sym (found d ∙ rw (start_closed d i, i) refl)

@@ -1,22 +1,22 @@
 -- The tables of a new cluster.
 use Rattle.std.proofs.Common.{◌≡◌, ℕ, zero, suc, ◌+◌, ◌≤◌, Bool, true, false, ◌&&◌, not, eqb, cond, [], ◌∷◌, length, get_or, set, Some, None, refl, sym, ap, ◌∙◌, inl, inr, ◌⊎◌, arith}
 use Rattle.std.proofs.lemmas.Bool.{false≢true}
-use Rattle.export_machine.specs.Cluster.{World}
-use Rattle.export_machine.specs.Authority.{IsAuthority, authority, open_export, is_present, named_of, runs_on}
-use Rattle.export_machine.specs.Step.{start, running_on}
-use Rattle.export_machine.specs.Promises.{IsBetweenLogAndNotify}
+use Rattle.export_protocol.specs.Cluster.{World}
+use Rattle.export_protocol.specs.Authority.{IsAuthority, authority, open_export, is_present, named_of, runs_on}
+use Rattle.export_protocol.specs.Step.{start, running_on}
+use Rattle.export_protocol.specs.Promises.{IsBetweenLogAndNotify}
 use Rattle.export_machine.specs.declared.records.Records.{Records}
-use Rattle.export_machine.specs.Authority.{order_in}
-use Rattle.export_machine.specs.Step.{repeats}
+use Rattle.export_protocol.specs.Authority.{order_in}
+use Rattle.export_protocol.specs.Step.{repeats}
 use Rattle.export_machine.specs.Kept.{IsIndexed, IsKept, world_of, indexes_of, first_indexes}
-use Rattle.export_machine.proofs.Safe.{Safe}
-use Rattle.export_machine.proofs.Theorem.{start_safe, safe_named, safe_gone}
-use Rattle.export_machine.proofs.Authorities.{authority_found, no_authority}
-use Rattle.export_machine.proofs.Walks.{authority_near}
+use Rattle.export_protocol.proofs.Safe.{Safe}
+use Rattle.export_protocol.proofs.Theorem.{start_safe, safe_named, safe_gone}
+use Rattle.export_protocol.proofs.Authorities.{authority_found, no_authority}
+use Rattle.export_protocol.proofs.Walks.{authority_near}
 use Rattle.export_machine.proofs.ByRank.{start_filed}
-use Rattle.export_machine.specs.declared.journal.JournalEntry.{JournalEntry}
+use Rattle.export_protocol.specs.declared.journal.JournalEntry.{JournalEntry}
 use Rattle.export_machine.proofs.Listed.{start_listed, no_drops}
-use Rattle.export_machine.proofs.Lists.{counted}
+use Rattle.export_machine.proofs.Counts.{counted}
 use Rattle.std.specs.Prelude.{replicate}
 
 module _ (limit ranks : ℕ) (some : 1 ≤ ranks) where

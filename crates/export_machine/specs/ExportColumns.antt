@@ -1,8 +1,8 @@
 -- The table of exports as lists, one for each of its columns.
 use Rattle.std.specs.Prelude.{Bool, List, map, Vec}
 use Rattle.mds_types.specs.declared.order.Order.{Order}
-use Rattle.export_machine.specs.declared.exporter.ExporterState.{ExporterState}
-use Rattle.export_machine.specs.declared.importer.ImporterState.{ImporterState}
+use Rattle.export_protocol.specs.declared.exporter.ExporterState.{ExporterState}
+use Rattle.export_protocol.specs.declared.importer.ImporterState.{ImporterState}
 use Rattle.export_machine.specs.declared.export_table.ExportRow.{ExportRow}
 use Rattle.export_machine.specs.Columns.{has_spare}
 

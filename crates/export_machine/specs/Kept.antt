@@ -1,25 +1,24 @@
 -- What the tables of a cluster mean, and what always holds of them.
-use Rattle.std.specs.Prelude.{◌≡◌, ◌≤◌, ◌<◌, ℕ, ◌+◌, suc, Bool, true, ◌&&◌, nat_lt, List, [], ◌∷◌, map, length}
-use Rattle.std.specs.Prelude.{Option, None, Some, Result, Ok, Err, slice_get, slice_index_or}
-use Rattle.std.specs.Prelude.{Vec, if◌then◌else◌, replicate, false, not, ◌==◌, ◌||◌, is_some}
-use Rattle.export_machine.specs.Cluster.{World}
+use Rattle.std.specs.Prelude.{◌≡◌, ◌≤◌, ◌<◌, ℕ, ◌+◌, suc, Bool, true, ◌&&◌, nat_lt, List, [], ◌∷◌, map, length, Option}
+use Rattle.std.specs.Prelude.{None, Some, Result, Ok, Err, slice_get, slice_index_or, Vec, if◌then◌else◌, replicate}
+use Rattle.std.specs.Prelude.{false, not, ◌==◌, ◌||◌, is_some}
+use Rattle.export_protocol.specs.Cluster.{World}
 use Rattle.export_machine.specs.Columns.{has_spare}
-use Rattle.export_machine.specs.Authority.{authority, open_export, is_among, order_in, from_of}
-use Rattle.export_machine.specs.Authority.{exporter_of, importer_of, has_entry}
-use Rattle.export_machine.specs.Step.{running_on, is_child, about, receiver, repeats, comes, is_before_log}
-use Rattle.export_machine.specs.View.{IsReached}
-use Rattle.export_machine.specs.declared.event.Event.{Event}
-use Rattle.export_machine.specs.declared.event.Reply.{Reply}
-use Rattle.export_machine.specs.declared.event.Request.{Request}
-use Rattle.export_machine.specs.declared.exporter.ExporterState.{ExporterState}
-use Rattle.export_machine.specs.declared.importer.ImporterState.{ImporterState}
-use Rattle.export_machine.specs.declared.exporter.ExporterState.TheVariants.{Logged, Done, Aborted}
-use Rattle.export_machine.specs.declared.importer.ImporterState.TheVariants.{Unknown, Discovered, Prepared}
-use Rattle.export_machine.specs.declared.importer.ImporterState.TheVariants.{Started, Imported, Dropped}
-use Rattle.export_machine.specs.declared.journal.JournalEntry.{JournalEntry}
-use Rattle.export_machine.specs.declared.message.Message.{Message}
+use Rattle.export_protocol.specs.Authority.{authority, open_export, is_among, order_in, from_of, exporter_of}
+use Rattle.export_protocol.specs.Authority.{importer_of, has_entry}
+use Rattle.export_protocol.specs.Step.{running_on, is_child, about, receiver, repeats, comes, is_before_log}
+use Rattle.export_protocol.specs.View.{IsReached}
+use Rattle.export_protocol.specs.declared.event.Event.{Event}
+use Rattle.export_protocol.specs.declared.event.Reply.{Reply}
+use Rattle.export_protocol.specs.declared.event.Request.{Request}
+use Rattle.export_protocol.specs.declared.exporter.ExporterState.{ExporterState}
+use Rattle.export_protocol.specs.declared.importer.ImporterState.{ImporterState}
+use Rattle.export_protocol.specs.declared.exporter.ExporterState.TheVariants.{Aborted}
+use Rattle.export_protocol.specs.declared.importer.ImporterState.TheVariants.{Unknown, Discovered, Prepared, Dropped}
+use Rattle.export_protocol.specs.declared.journal.JournalEntry.{JournalEntry}
+use Rattle.export_protocol.specs.declared.message.Message.{Message}
 use Rattle.mds_types.specs.declared.order.Order.{Order}
-use Rattle.export_machine.specs.declared.step_error.StepError.{StepError}
+use Rattle.export_protocol.specs.declared.step_error.StepError.{StepError}
 use Rattle.export_machine.specs.declared.records.Records.{Records}
 
 abbrev pub world_of : Records → World
@@ -219,21 +218,6 @@ pub record CanReceive (r : Records) (message : Message) : Type 0 where
 pub record IsReceived (old : Records) (message : Message) (reply : Reply) (new : Records) : Type 0 where
   pub effect : comes (world_of old) message ≡ record { reply = reply; world = world_of new }
   pub indexed : IsIndexed (world_of new) (indexes_of new)
-
--- What a stop leaves, read off the states: what the journal holds of them.
-
--- of an exporter's state
-abbrev pub exporter_at_stop : ExporterState → ExporterState
-exporter_at_stop Logged = Logged
-exporter_at_stop Done = Done
-exporter_at_stop _ = Aborted
-
--- of an importer's state, from whether its journal has the export as dropped
-abbrev pub importer_at_stop : Bool → ImporterState → ImporterState
-importer_at_stop has_dropped Started = Started
-importer_at_stop has_dropped Imported = Imported
-importer_at_stop true Dropped = Dropped
-importer_at_stop _ _ = Unknown
 
 -- What a contract sees of a cluster.
 

@@ -1,15 +1,5 @@
-pub mod Cluster
 pub mod Columns
 pub mod ExportColumns
-pub mod Authority
-pub mod Step
-pub mod Promises
-pub mod View
-pub mod Roots
 pub mod Kept
 pub mod Moving
-pub mod Connected
-pub mod Local
 pub mod Room
-pub mod Entries
-pub mod Refused

@@ -1,13 +1,13 @@
 -- How the tables of a cluster follow a move.
 use Rattle.std.specs.Prelude.{ℕ, true, List, [], ◌∷◌, ◌++◌, Option, None, Some, slice_set, slice_index_or}
 use Rattle.std.specs.Prelude.{if◌then◌else◌}
-use Rattle.export_machine.specs.declared.importer.ImporterState.{ImporterState}
-use Rattle.export_machine.specs.declared.importer.ImporterState.TheVariants.{Unknown}
-use Rattle.export_machine.specs.declared.journal.JournalEntry.{JournalEntry}
-use Rattle.export_machine.specs.declared.moves.Move.{Move}
+use Rattle.export_protocol.specs.declared.importer.ImporterState.{ImporterState}
+use Rattle.export_protocol.specs.declared.importer.ImporterState.TheVariants.{Unknown}
+use Rattle.export_protocol.specs.declared.journal.JournalEntry.{JournalEntry}
+use Rattle.export_protocol.specs.declared.moves.Transition.{Transition}
 use Rattle.mds_types.specs.declared.order.Order.{Order}
-use Rattle.export_machine.specs.Authority.{is_among}
-use Rattle.export_machine.specs.Step.{map_at}
+use Rattle.export_protocol.specs.Authority.{is_among}
+use Rattle.export_protocol.specs.Step.{map_at}
 use Rattle.export_machine.specs.Kept.{Indexes}
 
 -- an export that its importer hears of is listed there
@@ -26,7 +26,7 @@ indexes_noted order x (Some (JournalEntry.Dropped y)) i = record i { dropped = s
 indexes_noted order x _ i = i
 
 -- what a move of this rank changes, by the importer's state before it
-abbrev pub indexes_moved : Order → ℕ → ℕ → ImporterState → Option Move → Indexes → Indexes
+abbrev pub indexes_moved : Order → ℕ → ℕ → ImporterState → Option Transition → Indexes → Indexes
 indexes_moved order rank x state None i = i
 indexes_moved order rank x state (Some v) i =
     indexes_noted order x v.entry (record i { open_at = heard rank x v.importer state i.open_at })

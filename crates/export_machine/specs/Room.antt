@@ -1,11 +1,11 @@
 -- That room is kept once it is taken, and why an event is refused that also asks for memory.
 use Rattle.std.specs.Prelude.{◌≡◌, ℕ, true, None, Some, ◌⊎◌}
 use Rattle.export_machine.specs.declared.records.Records.{Records}
-use Rattle.export_machine.specs.declared.step_error.StepError.{StepError}
-use Rattle.export_machine.specs.declared.step_error.StepError.TheVariants.{Memory}
-use Rattle.export_machine.specs.Cluster.{World}
-use Rattle.export_machine.specs.Step.{refusal}
-use Rattle.export_machine.specs.declared.event.Event.{Event}
+use Rattle.export_protocol.specs.declared.step_error.StepError.{StepError}
+use Rattle.export_protocol.specs.declared.step_error.StepError.TheVariants.{Memory}
+use Rattle.export_protocol.specs.Cluster.{World}
+use Rattle.export_protocol.specs.Step.{refusal}
+use Rattle.export_protocol.specs.declared.event.Event.{Event}
 use Rattle.export_machine.specs.Columns.{has_spare}
 use Rattle.export_machine.specs.Kept.{State, is_ready, has_place}
 

@@ -1,17 +1,16 @@
 //! One event: its refusal, its memory, its effect, in this order.
 
 ghost use Rattle.std.specs.Prelude.{◌≡◌, ◌<◌, ℕ, length, map, Some, None, true, Ok, OnOk, OnErr, IsOk, IfSome, IfErr};
-ghost use Rattle.export_machine.specs.Step.{refusal, happens, step};
-ghost use Rattle.export_machine.specs.declared.event.Event.{Event as StepEvent};
-ghost use Rattle.export_machine.specs.View.{IsAnswer};
+ghost use Rattle.export_protocol.specs.Step.{refusal, happens, step};
+ghost use Rattle.export_protocol.specs.declared.event.Event.{Event as StepEvent};
+ghost use Rattle.export_protocol.specs.View.{IsAnswer};
 ghost use Rattle.export_machine.specs.Room.{IsAsRoomy, IsRefusal};
 ghost use Rattle.export_machine.specs.Kept.{world_of, indexes_of, has_room, has_place, has_entry_places};
 ghost use Rattle.export_machine.specs.Kept.{has_list_places, has_ticket_places, has_dir_places, has_export_places};
 ghost use Rattle.export_machine.specs.Kept.{entered_at, IsKept, IsIndexed};
 
-use crate::event::{Event, Reply};
 use crate::records::Records;
-use crate::step_error::StepError;
+use export_protocol::{Event, Reply, StepError};
 use mds_types::Rank;
 use std::alloc::AllocError;
 

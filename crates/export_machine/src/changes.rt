@@ -3,10 +3,9 @@
 ghost use Rattle.std.specs.Prelude.{◌≡◌, ◌<◌, ◌∷◌, [], ◌++◌, length, map, true};
 ghost use Rattle.std.specs.Prelude.{slice_index_or, slice_set, vec_len, vec_capacity};
 ghost use Rattle.export_machine.specs.Kept.{has_place};
-ghost use Rattle.export_machine.specs.declared.event.Reply.TheVariants.{Sent};
+ghost use Rattle.export_protocol.specs.declared.event.Reply.TheVariants.{Sent};
 
-use crate::event::Reply;
-use crate::message::Message;
+use export_protocol::{Message, Reply};
 use mds_types::Rank;
 
 /// Appends a message, and answers its number.

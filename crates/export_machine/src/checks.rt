@@ -3,35 +3,18 @@
 ghost use Rattle.std.specs.Prelude.{◌≡◌, ℕ, ◌<◌, ◌∷◌, [], length, Some, None, OnOk};
 ghost use Rattle.std.specs.Prelude.{not, nat_le, ◌==◌, ◌≢◌, true, false};
 ghost use Rattle.std.specs.List.{list_all};
-ghost use Rattle.export_machine.specs.Authority.{is_present, authority, open_export, frozen_by};
-ghost use Rattle.export_machine.specs.Step.{
-  no_dir,
-  no_rank,
-  no_export,
-  rank_stopped,
-  held,
-  held_at,
-  authority_stopped,
-  not_served,
-  busy,
-  not_yet,
-  running_on,
-  when,
-  history_limit,
-  export_limit,
-  is_root,
-  is_child,
-  any_at,
-  cannot_leave,
-  least_fault,
-};
+ghost use Rattle.export_protocol.specs.Authority.{is_present, authority, open_export, frozen_by};
+ghost use Rattle.export_protocol.specs.Step.{no_dir, no_rank, no_export, rank_stopped, held, held_at};
+ghost use Rattle.export_protocol.specs.Step.{authority_stopped, not_served, busy, not_yet, running_on, when};
+ghost use Rattle.export_protocol.specs.Step.{history_limit, export_limit, is_root, is_child, any_at, cannot_leave};
+ghost use Rattle.export_protocol.specs.Step.{least_fault};
 ghost use Rattle.export_machine.specs.Kept.{world_of, cause_of, lesser, IsKept};
-ghost use Rattle.export_machine.specs.declared.step_error.StepError.TheVariants.{HistoryFull, NoDir, NotEmpty};
-ghost use Rattle.export_machine.specs.declared.step_error.StepError.TheVariants.{IsRoot, TreeFull, SameRank};
-ghost use Rattle.export_machine.specs.declared.step_error.StepError.TheVariants.{ExportsFull};
+ghost use Rattle.export_protocol.specs.declared.step_error.StepError.TheVariants.{HistoryFull, NoDir, NotEmpty};
+ghost use Rattle.export_protocol.specs.declared.step_error.StepError.TheVariants.{IsRoot, TreeFull, SameRank};
+ghost use Rattle.export_protocol.specs.declared.step_error.StepError.TheVariants.{ExportsFull};
 
 use crate::records::Records;
-use crate::step_error::StepError;
+use export_protocol::StepError;
 use mds_types::{Dir, Rank};
 
 /// How many events a cluster accepts.

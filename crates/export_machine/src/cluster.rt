@@ -2,22 +2,18 @@
 
 ghost use Rattle.std.specs.Prelude.{◌≡◌, ◌<◌, ◌≤◌, ◌↔◌, ℕ, length, map, None, true, Some, IsSome, IfSome};
 ghost use Rattle.std.specs.Prelude.{IfOk, IfErr, IsOk, Ok, Err, OnOk, OnErr, All, slice_get};
-ghost use Rattle.export_machine.specs.Authority.{authority, serves, named_of, journal_of, order_in};
-ghost use Rattle.export_machine.specs.Step.{refusal, start, step, happens, counted, answers as answers_to};
-ghost use Rattle.export_machine.specs.Step.{run as state_after};
-ghost use Rattle.export_machine.specs.Entries.{logs_export};
-ghost use Rattle.export_machine.specs.Roots.{roots};
+ghost use Rattle.export_protocol.specs.Authority.{authority, serves, named_of, journal_of, order_in};
+ghost use Rattle.export_protocol.specs.Step.{refusal, start, step, happens, counted, answers as answers_to};
+ghost use Rattle.export_protocol.specs.Step.{run as state_after};
+ghost use Rattle.export_protocol.specs.Entries.{logs_export};
+ghost use Rattle.export_protocol.specs.Roots.{roots};
 ghost use Rattle.export_machine.specs.Room.{KeepsRoom, IsRefusal};
-ghost use Rattle.export_machine.specs.View.{IsAnswer, AreAnswers, NoneIsMemory, IsReached};
-ghost use Rattle.export_machine.specs.Promises.{Promised, KeepsAuthority};
+ghost use Rattle.export_protocol.specs.View.{IsAnswer, AreAnswers, NoneIsMemory, IsReached};
+ghost use Rattle.export_protocol.specs.Promises.{Promised, KeepsAuthority};
 ghost use Rattle.export_machine.specs.Kept.{cause_of, addressed, states_of, is_ready};
 
-use crate::event::{Event, Reply};
-use crate::exporter::ExporterState;
-use crate::importer::ImporterState;
-use crate::journal::JournalEntry;
 use crate::records::Records;
-use crate::step_error::StepError;
+use export_protocol::{Event, ExporterState, ImporterState, JournalEntry, Reply, StepError};
 use mds_types::{Dir, Order, Rank};
 use std::alloc::{AllocError, Global};
 use std::marker::Model;

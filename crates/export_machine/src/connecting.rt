@@ -3,8 +3,8 @@
 ghost use Rattle.std.specs.Prelude.{◌≡◌, ℕ, true, false, None, IsTrue, not, length};
 ghost use Rattle.std.specs.Prelude.{count_by, slice_index_or, vec_capacity};
 ghost use Rattle.std.specs.List.{list_all};
-ghost use Rattle.export_machine.specs.Authority.{is_among, is_present};
-ghost use Rattle.export_machine.specs.Step.{repeats, is_connected};
+ghost use Rattle.export_protocol.specs.Authority.{is_among, is_present};
+ghost use Rattle.export_protocol.specs.Step.{repeats, is_connected};
 ghost use Rattle.export_machine.specs.Kept.{world_of, is_listed, parent_marked, IsKept};
 
 use crate::changes::put;

@@ -3,23 +3,19 @@
 //! A message may come late, twice or not at all. It acts in only one state, and is ignored in every other.
 
 ghost use Rattle.std.specs.Prelude.{◌≡◌, ◌<◌, ℕ, length, map, Some, None, true, slice_get, vec_len, vec_capacity};
-ghost use Rattle.export_machine.specs.Authority.{order_in, is_inside, exporter_of, importer_of};
-ghost use Rattle.export_machine.specs.Step.{refusal, happens, receiver, about, move};
-ghost use Rattle.export_machine.specs.Step.{exporter_moves, importer_moves, notes, replies};
-ghost use Rattle.export_machine.specs.declared.event.Event.{Event as StepEvent};
-ghost use Rattle.export_machine.specs.Entries.{logs_export, is_log, delivered_entry};
+ghost use Rattle.export_protocol.specs.Authority.{order_in, is_inside, exporter_of, importer_of};
+ghost use Rattle.export_protocol.specs.Step.{refusal, happens, receiver, about, move};
+ghost use Rattle.export_protocol.specs.Step.{exporter_moves, importer_moves, notes, replies};
+ghost use Rattle.export_protocol.specs.declared.event.Event.{Event as StepEvent};
+ghost use Rattle.export_protocol.specs.Entries.{logs_export, is_log, delivered_entry};
 ghost use Rattle.export_machine.specs.Kept.{world_of, indexes_of, has_place, has_room, addressed};
 ghost use Rattle.export_machine.specs.Kept.{IsKept, IsIndexed, CanReceive, IsReceived};
 ghost use Rattle.export_machine.specs.Moving.{heard, indexes_noted};
 
 use crate::changes::{enter, send};
-use crate::event::{Event, Reply};
-use crate::exporter::ExporterState;
-use crate::importer::ImporterState;
-use crate::journal::JournalEntry;
-use crate::message::Message;
-use crate::moves::{Move, move_of};
 use crate::records::Records;
+use export_protocol::moves::{Transition, move_of};
+use export_protocol::{Event, ExporterState, ImporterState, JournalEntry, Message, Reply};
 use mds_types::Rank;
 
 impl Records {
@@ -137,7 +133,7 @@ impl Records {
     }
 
     /// Carries out a move of the rank that the message comes to. Only here does a message change something.
-    fn carry_out(&mut self, rank: Rank, message: Message, next: Move) -> Reply
+    fn carry_out(&mut self, rank: Rank, message: Message, next: Transition) -> Reply
         requires can { CanReceive self.old message }
         requires here { rank ≡ receiver (world_of self.old) message }
         requires moves { move message (exporter_of (world_of self.old) (about message))

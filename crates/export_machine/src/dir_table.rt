@@ -2,8 +2,8 @@
 
 ghost use Rattle.std.specs.Prelude.{◌≡◌, ◌<◌, ℕ, ◌+◌, ◌-◌, ◌≤◌, ◌++◌, ◌∷◌, [], length, Some, None, true, if◌then◌else◌};
 ghost use Rattle.std.specs.Prelude.{IfOk, OnOk, IsOk, slice_index_or, slice_set};
-ghost use Rattle.export_machine.specs.Authority.{is_among};
-ghost use Rattle.export_machine.specs.Step.{map_at};
+ghost use Rattle.export_protocol.specs.Authority.{is_among};
+ghost use Rattle.export_protocol.specs.Step.{map_at};
 
 use mds_types::{Dir, Rank};
 use std::alloc::{AllocError, Global};

@@ -3,16 +3,13 @@
 //! The memory was taken before: no change here can be refused.
 
 ghost use Rattle.std.specs.Prelude.{◌≡◌, ◌<◌, length, None, true};
-ghost use Rattle.export_machine.specs.Step.{refusal, happens};
-ghost use Rattle.export_machine.specs.declared.event.Event.{Event as StepEvent};
+ghost use Rattle.export_protocol.specs.Step.{refusal, happens};
+ghost use Rattle.export_protocol.specs.declared.event.Event.{Event as StepEvent};
 ghost use Rattle.export_machine.specs.Kept.{world_of, indexes_of, has_room, IsKept, IsIndexed};
 
 use crate::changes::{enter, send};
-use crate::event::{Reply, Request};
-use crate::exporter::ExporterState;
-use crate::journal::JournalEntry;
-use crate::message::Message;
 use crate::records::Records;
+use export_protocol::{ExporterState, JournalEntry, Message, Reply, Request};
 use mds_types::{Dir, Dirs, Order, Rank};
 
 impl Records {

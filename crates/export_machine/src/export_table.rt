@@ -2,10 +2,9 @@
 
 ghost use Rattle.std.specs.Prelude.{◌≡◌, ◌<◌, ◌↔◌, ◌++◌, ◌∷◌, [], length, true, false};
 ghost use Rattle.std.specs.Prelude.{IsSome, IfSome, OnOk, IsOk, slice_index_or, slice_set};
-ghost use Rattle.export_machine.specs.Authority.{order_in};
+ghost use Rattle.export_protocol.specs.Authority.{order_in};
 
-use crate::exporter::ExporterState;
-use crate::importer::ImporterState;
+use export_protocol::{ExporterState, ImporterState};
 use mds_types::Order;
 use std::alloc::{AllocError, Global};
 use std::marker::Model;

@@ -9,21 +9,17 @@
 
 ghost use Rattle.std.specs.Prelude.{◌≡◌, ℕ, ◌<◌, ◌≤◌, IfOk, map, replicate, slice_set};
 ghost use Rattle.std.specs.Prelude.{false, ◌∷◌, [], length, Some, slice_index_or};
-ghost use Rattle.export_machine.specs.Authority.{is_present, authority, open_export, is_stopped, exporter_of};
-ghost use Rattle.export_machine.specs.Authority.{importer_of, from_of, to_of, order_in, frozen_by};
-ghost use Rattle.export_machine.specs.Authority.{serves, named_of, journal_of};
-ghost use Rattle.export_machine.specs.Step.{running_on, start};
+ghost use Rattle.export_protocol.specs.Authority.{is_present, authority, open_export, is_stopped, exporter_of};
+ghost use Rattle.export_protocol.specs.Authority.{importer_of, from_of, to_of, order_in, frozen_by};
+ghost use Rattle.export_protocol.specs.Authority.{serves, named_of, journal_of};
+ghost use Rattle.export_protocol.specs.Step.{running_on, start};
 ghost use Rattle.std.specs.List.{list_all};
-ghost use Rattle.export_machine.specs.Roots.{parent_of, root_rank};
+ghost use Rattle.export_protocol.specs.Roots.{parent_of, root_rank};
 ghost use Rattle.export_machine.specs.Kept.{world_of, indexes_of, first_indexes, children_of, IsKept};
 
 use crate::dir_table::DirTable;
-use crate::event::Request;
 use crate::export_table::ExportTable;
-use crate::exporter::ExporterState;
-use crate::importer::ImporterState;
-use crate::journal::JournalEntry;
-use crate::message::Message;
+use export_protocol::{ExporterState, ImporterState, JournalEntry, Message, Request};
 use mds_types::{Dir, Rank};
 use std::alloc::{AllocError, Global};
 
@@ -96,7 +92,7 @@ pub(crate) fn value_at<T: Copy>(table: &[T], index: usize, past_end: T) -> T
 
 impl Records {
     /// Directory 0 is there, and rank 0 has it.
-    #[tactic(auto, unfolding(crate::specs::Step::start))]
+    #[tactic(auto, unfolding(export_protocol::specs::Step::start))]
     pub(crate) fn new(alloc: Global, limit: u32, ranks: u8) -> Result<Self, AllocError>
         requires some_ranks { 1 ≤ ranks }
         ensures world { IfOk result (λ records. world_of records ≡ start limit ranks) }

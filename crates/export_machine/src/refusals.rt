@@ -1,20 +1,17 @@
 //! Why an event is refused: the first cause in the order of the table of events.
-#![tactic(auto, unfolding(crate::specs::Step::causes))]
+#![tactic(auto, unfolding(export_protocol::specs::Step::causes))]
 
 ghost use Rattle.std.specs.Prelude.{◌≡◌, true};
 ghost use Rattle.std.specs.List.{list_all};
-ghost use Rattle.export_machine.specs.Authority.{is_present};
-ghost use Rattle.export_machine.specs.Step.{refusal, first, causes, is_connected};
-ghost use Rattle.export_machine.specs.declared.event.Event.{Event as StepEvent};
+ghost use Rattle.export_protocol.specs.Authority.{is_present};
+ghost use Rattle.export_protocol.specs.Step.{refusal, first, causes, is_connected};
+ghost use Rattle.export_protocol.specs.declared.event.Event.{Event as StepEvent};
 ghost use Rattle.export_machine.specs.Room.{IsAsRoomy};
 ghost use Rattle.export_machine.specs.Kept.{world_of, indexes_of, has_room, cause_of, IsKept};
 
 use crate::checks::{check_different, check_not_root};
-use crate::event::Event;
-use crate::exporter::ExporterState;
-use crate::importer::ImporterState;
 use crate::records::Records;
-use crate::step_error::StepError;
+use export_protocol::{Event, ExporterState, ImporterState, StepError};
 use mds_types::{Dir, Rank};
 
 impl Records {
@@ -187,7 +184,7 @@ impl Records {
     }
 
     /// Why an event is refused. It asks for no memory.
-    #[tactic(auto, unfolding(crate::specs::Step::refusal))]
+    #[tactic(auto, unfolding(export_protocol::specs::Step::refusal))]
     pub(crate) fn check(&self, event: &Event) -> Result<(), StepError>
         requires kept { IsKept self.now }
         ensures { cause_of result ≡ refusal (world_of self.now) (event.now) }
@@ -197,7 +194,7 @@ impl Records {
     }
 
     /// Why an event is refused, by the marks: a list of directories takes time that grows only with its length.
-    #[tactic(auto, unfolding(crate::specs::Step::refusal))]
+    #[tactic(auto, unfolding(export_protocol::specs::Step::refusal))]
     pub(crate) fn check_by_marks(&mut self, event: &Event) -> Result<(), StepError>
         requires kept { IsKept self.old }
         ensures cause { cause_of result ≡ refusal (world_of self.old) (event.now) }

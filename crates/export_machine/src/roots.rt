@@ -1,7 +1,7 @@
 //! The roots of subtrees.
 
 ghost use Rattle.std.specs.Prelude.{◌≡◌, IfOk};
-ghost use Rattle.export_machine.specs.Roots.{roots};
+ghost use Rattle.export_protocol.specs.Roots.{roots};
 ghost use Rattle.export_machine.specs.Kept.{world_of, IsKept};
 
 use crate::records::Records;

@@ -2,9 +2,9 @@
 
 ghost use Rattle.std.specs.Prelude.{◌≡◌, ◌↔◌, IsTrue, true};
 ghost use Rattle.std.specs.List.Sorted.{IsStrictlyIncreasing};
-ghost use Rattle.export_machine.specs.Authority.{is_among};
-ghost use Rattle.export_machine.specs.Step.{repeats, parent_among, is_connected};
-ghost use Rattle.export_machine.specs.Roots.{parent_of};
+ghost use Rattle.export_protocol.specs.Authority.{is_among};
+ghost use Rattle.export_protocol.specs.Step.{repeats, parent_among, is_connected};
+ghost use Rattle.export_protocol.specs.Roots.{parent_of};
 ghost use Rattle.export_machine.specs.Kept.{world_of};
 
 use crate::records::Records;

@@ -2,20 +2,18 @@
 
 ghost use Rattle.std.specs.Prelude.{◌≡◌, ◌<◌, ℕ, filter, is_some, length, Some, None, true, false};
 ghost use Rattle.std.specs.Prelude.{not, ◌&&◌, slice_set, slice_index_or, if◌then◌else◌, ◌==◌};
-ghost use Rattle.export_machine.specs.Authority.{is_among, from_of, to_of, exporter_of, importer_of, has, request_of};
-ghost use Rattle.export_machine.specs.Step.{refusal, happens, map_at, is_before_log, ends_at};
-ghost use Rattle.export_machine.specs.declared.event.Event.{Event as StepEvent};
+ghost use Rattle.export_protocol.specs.Authority.{is_among, from_of, to_of, exporter_of, importer_of, has, request_of};
+ghost use Rattle.export_protocol.specs.Step.{refusal, happens, map_at, is_before_log, ends_at};
+ghost use Rattle.export_protocol.specs.declared.event.Event.{Event as StepEvent};
 ghost use Rattle.export_machine.specs.Kept.{world_of, indexes_of, is_passing, is_open_at, IsKept};
-ghost use Rattle.export_machine.specs.Kept.{IsIndexed, exporter_at_stop, importer_at_stop};
-ghost use Rattle.export_machine.specs.declared.event.Request.{Request};
+ghost use Rattle.export_machine.specs.Kept.{IsIndexed};
+ghost use Rattle.export_protocol.specs.Entries.{exporter_at_stop, importer_at_stop};
+ghost use Rattle.export_protocol.specs.declared.event.Request.{Request};
 
 use crate::changes::put;
-use crate::event::{Reply, Request};
 use crate::export_table::ExportTable;
-use crate::exporter::ExporterState;
-use crate::importer::ImporterState;
-use crate::journal::JournalEntry;
 use crate::records::{Records, value_at};
+use export_protocol::{ExporterState, ImporterState, JournalEntry, Reply, Request};
 use mds_types::{Order, Rank};
 
 fn is_before_log(state: ExporterState) -> bool

@@ -15,7 +15,7 @@ use Rattle.board_state.specs.declared.board_error.BoardError.{BoardError}
 use Rattle.board_state.specs.declared.change.Change.{Change}
 use Rattle.export_rounds.specs.Further.{IsFurther}
 use Rattle.export_rounds.specs.Moments.{IsMet, IsSince}
-use Rattle.export_machine.specs.declared.event.Event.TheVariants.{Start}
+use Rattle.export_protocol.specs.declared.event.Event.TheVariants.{Start}
 use Rattle.board_state.specs.declared.change.Change.TheVariants.{Step}
 use Rattle.board_state.specs.Steps.{IsDue}
 use Rattle.export_rounds.specs.Outcomes.{IsRefused, IsStarted}

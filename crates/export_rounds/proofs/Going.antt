@@ -2,8 +2,8 @@
 use Rattle.std.proofs.Common.{◌≡◌, inl, inr, zero, suc, true, List, [], ◌∷◌, ◌++◌, Result, Ok, Err, All, MatchBool, Bool, false, refl, sym, ap, ◌∙◌, subst, arith, append-nil, append_assoc}
 use Rattle.std.proofs.lemmas.List.Elements.{All-nil, All-append}
 use Rattle.authority_map.specs.Operations.{Operation}
-use Rattle.export_machine.specs.declared.event.Event.{Event}
-use Rattle.export_machine.specs.declared.event.Reply.{Reply}
+use Rattle.export_protocol.specs.declared.event.Event.{Event}
+use Rattle.export_protocol.specs.declared.event.Reply.{Reply}
 use Rattle.board_state.specs.declared.board_error.BoardError.{BoardError}
 use Rattle.board_state.specs.declared.change.Answer.TheVariants as answer
 use Rattle.board_state.specs.declared.change.Change.{Change}

@@ -1,13 +1,13 @@
 -- Exports that were started stay.
 use Rattle.std.proofs.Common.{◌≡◌, ◌≤◌, ℕ, zero, suc, Bool, true, false, cond, Result, Ok, Err, MatchBool, List, [], ◌∷◌, ◌++◌, length, All, Some, slice_get, refl, sym, ap, ◌∙◌, arith, append-nil, append_assoc, length-append}
-use Rattle.export_machine.specs.Authority.{is_stopped}
-use Rattle.export_machine.specs.Cluster.{World as Cluster}
-use Rattle.export_machine.specs.declared.event.Event.{Event}
-use Rattle.export_machine.specs.declared.event.Reply.{Reply}
-use Rattle.export_machine.specs.declared.event.Reply.TheVariants as reply
-use Rattle.export_machine.specs.declared.event.Event.TheVariants.{Made, Gone, Begin, End, Start, Deliver, Froze, Notify, Abort, Stop, Restart, Ask}
-use Rattle.export_machine.specs.Step as machine
-use Rattle.export_machine.proofs.Frame.{delivered_frame}
+use Rattle.export_protocol.specs.Authority.{is_stopped}
+use Rattle.export_protocol.specs.Cluster.{World as Cluster}
+use Rattle.export_protocol.specs.declared.event.Event.{Event}
+use Rattle.export_protocol.specs.declared.event.Reply.{Reply}
+use Rattle.export_protocol.specs.declared.event.Reply.TheVariants as reply
+use Rattle.export_protocol.specs.declared.event.Event.TheVariants.{Made, Gone, Begin, End, Start, Deliver, Froze, Notify, Abort, Stop, Restart, Ask}
+use Rattle.export_protocol.specs.Step as machine
+use Rattle.export_protocol.proofs.Frame.{delivered_frame}
 use Rattle.mds_types.specs.declared.order.Order.{Order}
 use Rattle.board_state.specs.declared.change.Change.{Change}
 use Rattle.board_state.specs.declared.change.Change.TheVariants.{Make, Remove, Mask, Deposit, Tick, Step, Open, Adopt}

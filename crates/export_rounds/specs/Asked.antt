@@ -4,8 +4,8 @@ use Rattle.mds_types.specs.declared.order.Order.{Order}
 use Rattle.mds_board.specs.History.{World}
 use Rattle.export_rounds.specs.declared.standing.Standing.{Standing}
 use Rattle.export_rounds.specs.declared.standing.Standing.TheVariants.{Waiting, Started, Refused}
-use Rattle.export_machine.specs.declared.event.Event.{Event}
-use Rattle.export_machine.specs.declared.event.Event.TheVariants.{Start}
+use Rattle.export_protocol.specs.declared.event.Event.{Event}
+use Rattle.export_protocol.specs.declared.event.Event.TheVariants.{Start}
 use Rattle.export_rounds.specs.Adding.{GoesOnBy}
 use Rattle.export_rounds.specs.Further.{IsFurther}
 use Rattle.export_rounds.specs.Outcomes.{IsStarted, IsRefused}

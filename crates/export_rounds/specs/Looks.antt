@@ -1,10 +1,10 @@
 -- What the states of an export ask of its ranks.
 use Rattle.std.specs.Prelude.{Bool, true, false}
-use Rattle.export_machine.specs.declared.exporter.ExporterState.{ExporterState}
-use Rattle.export_machine.specs.declared.exporter.ExporterState.TheVariants.{Aborted, Discovering, Done, Exporting}
-use Rattle.export_machine.specs.declared.exporter.ExporterState.TheVariants.{Freezing, Logged, Preparing}
-use Rattle.export_machine.specs.declared.importer.ImporterState.{ImporterState}
-use Rattle.export_machine.specs.declared.importer.ImporterState.TheVariants.{Dropped, Imported, Unknown}
+use Rattle.export_protocol.specs.declared.exporter.ExporterState.{ExporterState}
+use Rattle.export_protocol.specs.declared.exporter.ExporterState.TheVariants.{Aborted, Discovering, Done, Exporting}
+use Rattle.export_protocol.specs.declared.exporter.ExporterState.TheVariants.{Freezing, Logged, Preparing}
+use Rattle.export_protocol.specs.declared.importer.ImporterState.{ImporterState}
+use Rattle.export_protocol.specs.declared.importer.ImporterState.TheVariants.{Dropped, Imported, Unknown}
 
 -- the exporter has steps to make
 abbrev pub is_under_way : ExporterState → Bool

@@ -1,11 +1,11 @@
 -- What became of orders.
 use Rattle.std.specs.Prelude.{◌≡◌, ◌≤◌, ◌+◌, ℕ, Bool, true, false, List, length, count_by, slice_get, Some}
-use Rattle.export_machine.specs.Authority.{exporter_of, importer_of}
-use Rattle.export_machine.specs.declared.event.Event.TheVariants.{Start}
-use Rattle.export_machine.specs.declared.exporter.ExporterState.{ExporterState}
-use Rattle.export_machine.specs.declared.exporter.ExporterState.TheVariants.{Aborted}
-use Rattle.export_machine.specs.declared.importer.ImporterState.{ImporterState}
-use Rattle.export_machine.specs.declared.importer.ImporterState.TheVariants.{Imported}
+use Rattle.export_protocol.specs.Authority.{exporter_of, importer_of}
+use Rattle.export_protocol.specs.declared.event.Event.TheVariants.{Start}
+use Rattle.export_protocol.specs.declared.exporter.ExporterState.{ExporterState}
+use Rattle.export_protocol.specs.declared.exporter.ExporterState.TheVariants.{Aborted}
+use Rattle.export_protocol.specs.declared.importer.ImporterState.{ImporterState}
+use Rattle.export_protocol.specs.declared.importer.ImporterState.TheVariants.{Imported}
 use Rattle.mds_types.specs.declared.order.Order.{Order}
 use Rattle.board_state.specs.declared.board_error.BoardError.{BoardError}
 use Rattle.board_state.specs.declared.change.Change.TheVariants.{Step}

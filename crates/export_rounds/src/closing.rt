@@ -1,6 +1,6 @@
 //! The end of a phase.
 ghost use Rattle.std.specs.Prelude.{◌≡◌, ◌<◌, ◌≤◌, List, [], count_by, false, true, length, vec_capacity};
-ghost use Rattle.export_machine.specs.Authority.{exporter_of, importer_of};
+ghost use Rattle.export_protocol.specs.Authority.{exporter_of, importer_of};
 ghost use Rattle.mds_board.specs.History.{World};
 ghost use Rattle.mds_types.specs.declared.order.Order.{Order as TheOrder};
 ghost use Rattle.export_rounds.specs.Adding.{GoesOnBy};
@@ -13,7 +13,8 @@ use crate::outcome::Outcome;
 use crate::standing::Standing;
 use crate::stepping::try_abort;
 use authority_map::Publisher;
-use export_machine::{Cluster, ExporterState, ImporterState};
+use export_machine::Cluster;
+use export_protocol::{ExporterState, ImporterState};
 use mds_board::Board;
 use naming::Naming;
 use std::alloc::Global;

@@ -3,7 +3,8 @@ ghost use Rattle.std.specs.Prelude.{◌≡◌, []};
 
 use crate::looks::{is_awaited, is_under_way};
 use crate::unsettled::Unsettled;
-use export_machine::{Cluster, Event, ImporterState, StepError};
+use export_machine::Cluster;
+use export_protocol::{Event, ImporterState, StepError};
 use mds_types::{Dir, Order, Rank};
 use std::alloc::{AllocError, Global};
 use std::ops::Range;

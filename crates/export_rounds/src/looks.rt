@@ -1,9 +1,10 @@
 //! What the states of an export ask of its ranks.
 ghost use Rattle.std.specs.Prelude.{◌≡◌, ◌<◌, ◌≤◌, ◌||◌, false, length};
-ghost use Rattle.export_machine.specs.Authority.{exporter_of, importer_of};
+ghost use Rattle.export_protocol.specs.Authority.{exporter_of, importer_of};
 ghost use Rattle.export_rounds.specs.Looks as looks;
 
-use export_machine::{Cluster, ExporterState, ImporterState};
+use export_machine::Cluster;
+use export_protocol::{ExporterState, ImporterState};
 
 /// Whether the exporter has steps to make.
 pub fn is_under_way(exporter: ExporterState) -> bool

@@ -5,7 +5,8 @@ ghost use Rattle.board_state.specs.Steps.{is_inner};
 ghost use Rattle.export_rounds.specs.Adding.{IsOfPhase};
 ghost use Rattle.export_rounds.specs.Asked.{is_later};
 
-use export_machine::{Cluster, Event};
+use export_machine::Cluster;
+use export_protocol::Event;
 use std::alloc::Global;
 
 /// The exports of a board that is under a lock. Its methods are all that a thread of a phase can do to them.

@@ -8,7 +8,7 @@ ghost use Rattle.export_rounds.specs.Further.{IsFurther};
 
 use authority_map::Publisher;
 use board_state::BoardError;
-use export_machine::{Event, Reply};
+use export_protocol::{Event, Reply};
 use mds_board::Board;
 use mds_types::Order;
 use naming::Naming;

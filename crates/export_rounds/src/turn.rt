@@ -5,7 +5,7 @@ use crate::desk::Desk;
 use crate::looks::{is_at_work, is_freezing, is_logged, is_wanted};
 use crate::stepping::{try_publish, try_step};
 use authority_map::Publisher;
-use export_machine::Event;
+use export_protocol::Event;
 use mds_board::Board;
 use naming::Naming;
 use std::alloc::Global;

@@ -5,7 +5,8 @@ ghost use Rattle.export_threads.specs.Carrying.{IsUnderWay};
 ghost use Rattle.mds_board.specs.Promises.{IsKept};
 
 use authority_map::Publisher;
-use export_machine::{Cluster, Event};
+use export_machine::Cluster;
+use export_protocol::Event;
 use export_rounds::starting::settle_at;
 use export_rounds::{ExportSide, Standing};
 use mds_board::Board;

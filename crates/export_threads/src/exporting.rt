@@ -12,7 +12,7 @@ use crate::telling::tell;
 use crate::turns::Rounds;
 use crate::under_way::UnderWay;
 use authority_map::Publisher;
-use export_machine::Event;
+use export_protocol::Event;
 use export_rounds::desk::set_up;
 use export_rounds::looks::is_before_log;
 use export_rounds::starting::waiting;

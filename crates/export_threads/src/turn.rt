@@ -1,6 +1,6 @@
 //! The turn of a rank in a round of exports. The lock is held for one event at a time.
 
-use export_machine::Event;
+use export_protocol::Event;
 use export_rounds::looks::{is_at_work, is_freezing, is_logged, is_wanted};
 use export_rounds::{Desk, ExportSide, Gate};
 use std::alloc::Global;

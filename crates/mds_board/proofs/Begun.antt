@@ -4,18 +4,18 @@ use Rattle.std.proofs.lemmas.Bool.Decides.{nat_tests}
 use Rattle.std.proofs.lemmas.List.{length-replicate, length-set}
 use Rattle.heat_ledger.specs.Rows.{at, raised}
 use Rattle.heat_ledger.proofs.RowLemmas.{at_raised_same, at_raised_other, length-raised}
-use Rattle.export_machine.specs.Authority.{authority}
-use Rattle.export_machine.specs.Cluster.{World as Cluster}
-use Rattle.export_machine.specs.Entries.{parents_after}
-use Rattle.export_machine.specs.View.{IsReached}
-use Rattle.export_machine.specs.Step as machine
-use Rattle.export_machine.specs.Step.{authority_stopped, held_at, history_limit, no_dir, when}
-use Rattle.export_machine.specs.declared.event.Event.{Event}
-use Rattle.export_machine.specs.declared.event.Event.TheVariants.{Made, Gone, Begin, End, Start, Deliver, Froze, Notify, Abort, Stop, Restart, Ask}
-use Rattle.export_machine.specs.declared.step_error.StepError.{StepError}
-use Rattle.export_machine.specs.declared.step_error.StepError.TheVariants.{HistoryFull, TreeFull}
-use Rattle.export_machine.proofs.Entries.{is_recorded}
-use Rattle.export_machine.proofs.Reached.{reached_step, started}
+use Rattle.export_protocol.specs.Authority.{authority}
+use Rattle.export_protocol.specs.Cluster.{World as Cluster}
+use Rattle.export_protocol.specs.Entries.{parents_after}
+use Rattle.export_protocol.specs.View.{IsReached}
+use Rattle.export_protocol.specs.Step as machine
+use Rattle.export_protocol.specs.Step.{authority_stopped, held_at, history_limit, no_dir, when}
+use Rattle.export_protocol.specs.declared.event.Event.{Event}
+use Rattle.export_protocol.specs.declared.event.Event.TheVariants.{Made, Gone, Begin, End, Start, Deliver, Froze, Notify, Abort, Stop, Restart, Ask}
+use Rattle.export_protocol.specs.declared.step_error.StepError.{StepError}
+use Rattle.export_protocol.specs.declared.step_error.StepError.TheVariants.{HistoryFull, TreeFull}
+use Rattle.export_protocol.proofs.Entries.{is_recorded}
+use Rattle.export_protocol.proofs.Reached.{reached_step, started}
 use Rattle.board_state.specs.declared.change.Change.{Change}
 use Rattle.board_state.specs.declared.change.Change.TheVariants.{Make, Remove, Mask, Deposit, Tick, Step, Open, Adopt}
 use Rattle.board_state.specs.declared.change.Change.TheVariants as change

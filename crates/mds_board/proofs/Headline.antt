@@ -9,11 +9,11 @@ use Rattle.mds_types.specs.RankSet.{rank_count}
 use Rattle.dirtree.specs.Tree.{Entry as DirEntry, IsTree, is_there, parent_of, root}
 use Rattle.dirtree.proofs.TreeFacts.{made_tree, removed_tree}
 use Rattle.board_problem.proofs.DirDivisions.{no_cooler}
-use Rattle.export_machine.specs.Cluster.{World as Cluster}
-use Rattle.export_machine.specs.declared.event.Event.{Event}
-use Rattle.export_machine.specs.declared.event.Event.TheVariants.{Made, Gone}
-use Rattle.export_machine.specs.Entries.{logs_export}
-use Rattle.export_machine.specs.Step as machine
+use Rattle.export_protocol.specs.Cluster.{World as Cluster}
+use Rattle.export_protocol.specs.declared.event.Event.{Event}
+use Rattle.export_protocol.specs.declared.event.Event.TheVariants.{Made, Gone}
+use Rattle.export_protocol.specs.Entries.{logs_export}
+use Rattle.export_protocol.specs.Step as machine
 use Rattle.board_state.specs.declared.change.Answer.{Answer}
 use Rattle.board_state.specs.declared.change.Answer.TheVariants as answer
 use Rattle.board_state.specs.declared.change.Change.{Change}

@@ -2,7 +2,7 @@
 use Rattle.std.proofs.Common.{◌≡◌, List, [], ◌∷◌, ◌++◌, Result, refl, sym, ap, ◌∙◌, append_assoc, append-nil, subst}
 use Rattle.board_state.specs.declared.board_error.BoardError.{BoardError}
 use Rattle.board_state.specs.declared.change.Answer.{Answer}
-use Rattle.export_machine.specs.declared.event.Event.{Event}
+use Rattle.export_protocol.specs.declared.event.Event.{Event}
 use Rattle.mds_board.specs.Commands.{AreCarriedOut, IsCarriedOut}
 use Rattle.mds_board.specs.declared.command.BoardCommand.{BoardCommand}
 use Rattle.mds_board.specs.declared.entry.Entry.{Entry}

@@ -4,9 +4,9 @@ use Rattle.mds_types.specs.declared.order.Order.{Order}
 use Rattle.mds_types.specs.declared.plan.Plan.{Plan}
 use Rattle.mds_types.specs.Problem.{ProblemData}
 use Rattle.mds_types.specs.Certificate.{IsBest, IsCertified}
-use Rattle.export_machine.specs.declared.event.Event.TheVariants.{End}
-use Rattle.export_machine.specs.declared.event.Reply.TheVariants.{Changed}
-use Rattle.export_machine.specs.Step as machine
+use Rattle.export_protocol.specs.declared.event.Event.TheVariants.{End}
+use Rattle.export_protocol.specs.declared.event.Reply.TheVariants.{Changed}
+use Rattle.export_protocol.specs.Step as machine
 use Rattle.board_state.specs.declared.change.Answer.{Answer}
 use Rattle.board_state.specs.declared.change.Answer.TheVariants as answer
 use Rattle.board_state.specs.declared.change.Change.{Change}

@@ -8,10 +8,10 @@ use Rattle.mds_types.specs.Problem.{ProblemData}
 use Rattle.mds_types.specs.RankSet.{rank_count}
 use Rattle.mds_types.specs.declared.plan.Plan.{Plan}
 use Rattle.board_problem.specs.DirDivision.{IsDirDivision, greatest_dir_heat}
-use Rattle.export_machine.specs.declared.event.Event.{Event}
-use Rattle.export_machine.specs.declared.event.Event.TheVariants.{Made, Gone, Begin}
-use Rattle.export_machine.specs.Step as machine
-use Rattle.export_machine.specs.Promises.{Promised}
+use Rattle.export_protocol.specs.declared.event.Event.{Event}
+use Rattle.export_protocol.specs.declared.event.Event.TheVariants.{Made, Gone, Begin}
+use Rattle.export_protocol.specs.Step as machine
+use Rattle.export_protocol.specs.Promises.{Promised}
 use Rattle.board_state.specs.declared.change.Answer.{Answer}
 use Rattle.board_state.specs.declared.change.Answer.TheVariants as answer
 use Rattle.board_state.specs.declared.change.Change.{Change}

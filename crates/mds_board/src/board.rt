@@ -18,7 +18,7 @@ use board_state::{
     Answer, BoardError, BoardParts, BoardState, Change, KeptEvent, KeptPlan, Solver, or_memory,
 };
 use dirtree::Name;
-use export_machine::{Event, Reply};
+use export_protocol::{Event, Reply};
 use heat_ledger::{Missing, Share};
 use mds_types::{Dir, Order, Plan, Problem, Rank, RankSet};
 use naming::Naming;
@@ -176,7 +176,7 @@ impl<J: Naming, M: Publisher<J>> Board<J, M> {
     }
 
     /// A request on a directory begins at a rank, and is counted in a share.
-    #[tactic(auto, unfolding(board_state::specs::State::happens, export_machine::specs::Step::happens))]
+    #[tactic(auto, unfolding(board_state::specs::State::happens, export_protocol::specs::Step::happens))]
     pub fn begin(&mut self, share: &mut Share<J>, rank: Rank, dir: Dir) -> Result<Reply, BoardError>
         ensures answer { IsAnswer self.old (Change.Step (Event.Begin rank dir)) (spelled Answer.Reply result) self.new }
         ensures share { OnOk result (share.new ≡ record share.old { begun = raised share.old.begun dir }) }
@@ -206,7 +206,7 @@ impl<J: Naming, M: Publisher<J>> Board<J, M> {
     }
 
     // The request of a ticket ends.
-    #[tactic(auto, unfolding(board_state::specs::State::happens, export_machine::specs::Step::happens))]
+    #[tactic(auto, unfolding(board_state::specs::State::happens, export_protocol::specs::Step::happens))]
     fn end_request(&mut self, alloc: Global, ticket: u32) -> Result<Reply, BoardError>
         ensures { IsAnswer self.old (Change.Step (Event.End ticket)) (spelled Answer.Reply result) self.new }
     {

@@ -2,7 +2,7 @@
 
 use board_state::is_inner;
 use dirtree::Name;
-use export_machine::Event;
+use export_protocol::Event;
 use mds_types::{Dir, RankSet};
 
 /// What a board is asked for.

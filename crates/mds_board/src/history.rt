@@ -5,7 +5,7 @@ ghost use Rattle.mds_board.specs.Stored.{HasRoom, began, ended, shown_entry};
 
 use crate::entry::Entry;
 use board_state::{Answer, Balanced, Change, KeptEvent};
-use export_machine::Reply;
+use export_protocol::Reply;
 use mds_types::{Dir, Order, Rank};
 use std::alloc::{AllocError, Global};
 use std::marker::Model;

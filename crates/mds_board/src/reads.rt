@@ -4,7 +4,7 @@ ghost use Rattle.std.specs.Option.{option_map};
 ghost use Rattle.heat_ledger.specs.Rows.{at, entry};
 ghost use Rattle.board_state.specs.State.{pin_orders, usable};
 ghost use Rattle.mds_board.specs.InForce.{IsBestInForce, adopted, adopted_at, plan_in_force};
-ghost use Rattle.export_machine.specs.Step.{run, start};
+ghost use Rattle.export_protocol.specs.Step.{run, start};
 ghost use Rattle.mds_board.specs.Promises.{IsKept, cluster_event, cluster_events};
 ghost use Rattle.mds_board.specs.Stored.{shown_entry};
 
@@ -14,7 +14,8 @@ use authority_map::{Published, Publisher};
 use board_state::{Change, InForce, OpenProblem};
 use dir_pins::Pins;
 use dirtree::Tree;
-use export_machine::{Cluster, Event};
+use export_machine::Cluster;
+use export_protocol::Event;
 use heat_decay::Heat;
 use mds_types::{Dir, Kind, Order, Plan, RankSet};
 use naming::Naming;

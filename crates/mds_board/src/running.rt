@@ -8,7 +8,7 @@ use crate::board::Board;
 use crate::command::BoardCommand;
 use authority_map::Publisher;
 use board_state::{Answer, BoardError, Change, Orders, Solver, or_memory};
-use export_machine::{Event, Reply};
+use export_protocol::{Event, Reply};
 use naming::Naming;
 use std::alloc::{AllocError, Global};
 use std::thread::Threads;

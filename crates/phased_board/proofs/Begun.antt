@@ -1,10 +1,10 @@
 -- A request that begins.
 use Rattle.std.proofs.Common.{◌≡◌, ◌≤◌, ℕ, ◌+◌, List, [], ◌∷◌, ◌++◌, length, length-append, Option, Some, Result, Ok, Err, refl, sym, ap, ◌∙◌, arith, append-nil}
-use Rattle.export_machine.specs.declared.event.Request.{Request}
+use Rattle.export_protocol.specs.declared.event.Request.{Request}
 use Rattle.std.specs.Prelude.{IfOk, OnErr}
-use Rattle.export_machine.specs.Step as machine
-use Rattle.export_machine.specs.declared.event.Event.TheVariants.{Begin}
-use Rattle.export_machine.specs.declared.event.Reply.TheVariants.{Ticket}
+use Rattle.export_protocol.specs.Step as machine
+use Rattle.export_protocol.specs.declared.event.Event.TheVariants.{Begin}
+use Rattle.export_protocol.specs.declared.event.Reply.TheVariants.{Ticket}
 use Rattle.board_state.specs.declared.board_error.BoardError.{BoardError}
 use Rattle.board_state.specs.declared.change.Answer.{Answer}
 use Rattle.board_state.specs.declared.change.Answer.TheVariants as answer

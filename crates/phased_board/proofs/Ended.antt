@@ -2,19 +2,19 @@
 use Rattle.std.proofs.Common.{◌≡◌, ◌≢◌, ◌≤◌, ◌<◌, ℕ, zero, suc, ◌+◌, Bool, true, false, List, [], ◌∷◌, ◌++◌, length, drop, slice_get, Option, Some, None, Result, Ok, Err, refl, sym, ap, ◌∙◌, subst, inl, inr, ◌⊎◌, arith, append-nil, length-append}
 use Rattle.std.specs.Prelude.{is_some, nat_le, not, slice_index_or, slice_set}
 use Rattle.std.specs.List.{All}
-use Rattle.export_machine.specs.Authority.{request_of}
-use Rattle.export_machine.specs.Cluster as cluster
-use Rattle.export_machine.specs.Step as machine
-use Rattle.export_machine.specs.declared.event.Event.{Event}
-use Rattle.export_machine.proofs.Frame.{delivered_frame}
+use Rattle.export_protocol.specs.Authority.{request_of}
+use Rattle.export_protocol.specs.Cluster as cluster
+use Rattle.export_protocol.specs.Step as machine
+use Rattle.export_protocol.specs.declared.event.Event.{Event}
+use Rattle.export_protocol.proofs.Frame.{delivered_frame}
 use Rattle.heat_ledger.specs.declared.dir_hits.DirHits.{DirHits}
 use Rattle.board_state.proofs.Mapping.{after_step}
 use Rattle.export_rounds.specs.Adding.{IsOfPhase}
-use Rattle.export_machine.specs.declared.event.Event.TheVariants.{Made, Gone, Begin, End, Start, Deliver, Froze, Notify, Abort, Stop, Restart, Ask}
-use Rattle.export_machine.specs.declared.event.Reply.TheVariants.{Ticket}
-use Rattle.export_machine.specs.declared.event.Request.{Request}
-use Rattle.export_machine.specs.declared.step_error.StepError.{StepError}
-use Rattle.export_machine.specs.declared.step_error.StepError.TheVariants.{HistoryFull, NoTicket}
+use Rattle.export_protocol.specs.declared.event.Event.TheVariants.{Made, Gone, Begin, End, Start, Deliver, Froze, Notify, Abort, Stop, Restart, Ask}
+use Rattle.export_protocol.specs.declared.event.Reply.TheVariants.{Ticket}
+use Rattle.export_protocol.specs.declared.event.Request.{Request}
+use Rattle.export_protocol.specs.declared.step_error.StepError.{StepError}
+use Rattle.export_protocol.specs.declared.step_error.StepError.TheVariants.{HistoryFull, NoTicket}
 use Rattle.board_state.specs.declared.board_error.BoardError.{BoardError}
 use Rattle.board_state.specs.declared.board_error.BoardError.TheVariants as error
 use Rattle.board_state.specs.declared.change.Answer.{Answer}

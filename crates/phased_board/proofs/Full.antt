@@ -5,9 +5,9 @@ use Rattle.std.proofs.lemmas.List.{append_cancel_left}
 use Rattle.std.specs.List.{All}
 use Rattle.std.specs.Prelude.{nat_le}
 use mathlib.Core.List.{IsPrefix}
-use Rattle.export_machine.specs.declared.event.Event.TheVariants.{Begin, End}
-use Rattle.export_machine.specs.declared.step_error.StepError.{StepError}
-use Rattle.export_machine.specs.Step as machine
+use Rattle.export_protocol.specs.declared.event.Event.TheVariants.{Begin, End}
+use Rattle.export_protocol.specs.declared.step_error.StepError.{StepError}
+use Rattle.export_protocol.specs.Step as machine
 use Rattle.board_state.specs.declared.board_error.BoardError.{BoardError}
 use Rattle.board_state.specs.declared.board_error.BoardError.TheVariants as error
 use Rattle.board_state.specs.declared.change.Change.{Change}

@@ -3,8 +3,8 @@ use Rattle.std.proofs.Common.{◌≡◌, ◌≤◌, ◌+◌, ℕ, Bool, MatchBoo
 use Rattle.std.proofs.lemmas.List.{take-append-drop, append_cancel_left}
 use Rattle.std.proofs.lemmas.List.Elements.{All-append}
 use Rattle.std.specs.List.{count_by}
-use Rattle.export_machine.specs.declared.event.Request.{Request}
-use Rattle.export_machine.specs.Step as machine
+use Rattle.export_protocol.specs.declared.event.Request.{Request}
+use Rattle.export_protocol.specs.Step as machine
 use Rattle.board_state.specs.declared.board_error.BoardError.{BoardError}
 use Rattle.board_state.specs.declared.change.Answer.{Answer}
 use Rattle.board_state.specs.declared.change.Change.{Change}

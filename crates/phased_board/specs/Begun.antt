@@ -1,11 +1,11 @@
 -- Requests of a phase that began, and that ended.
 use Rattle.std.specs.Prelude.{◌≡◌, ◌≢◌, ◌≤◌, ℕ, List, [], ◌∷◌, ◌++◌, None, IsOk, Result, Ok, Err, length}
 use mathlib.Core.List.{IsPrefix}
-use Rattle.export_machine.specs.declared.event.Event.TheVariants.{Begin, End}
-use Rattle.export_machine.specs.declared.event.Reply.TheVariants.{Ticket}
-use Rattle.export_machine.specs.declared.step_error.StepError.TheVariants.{NoTicket}
-use Rattle.export_machine.specs.Authority.{request_of}
-use Rattle.export_machine.specs.Step as machine
+use Rattle.export_protocol.specs.declared.event.Event.TheVariants.{Begin, End}
+use Rattle.export_protocol.specs.declared.event.Reply.TheVariants.{Ticket}
+use Rattle.export_protocol.specs.declared.step_error.StepError.TheVariants.{NoTicket}
+use Rattle.export_protocol.specs.Authority.{request_of}
+use Rattle.export_protocol.specs.Step as machine
 use Rattle.export_rounds.specs.Moments.{IsMet, IsSince}
 use Rattle.board_state.specs.declared.board_error.BoardError.{BoardError}
 use Rattle.board_state.specs.declared.board_error.BoardError.TheVariants as board_error

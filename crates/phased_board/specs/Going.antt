@@ -1,6 +1,6 @@
 -- What a phase does to a board: requests begin and end and hits are deposited, and in some phases exports go on.
 use Rattle.std.specs.Prelude.{◌≡◌, ◌≤◌, ◌+◌, ◌⊎◌, ℕ, Bool, true, false, List, length, count_by, take, drop, All}
-use Rattle.export_machine.specs.declared.event.Event.TheVariants.{Begin, End}
+use Rattle.export_protocol.specs.declared.event.Event.TheVariants.{Begin, End}
 use Rattle.board_state.specs.declared.change.Change.{Change}
 use Rattle.board_state.specs.declared.change.Change.TheVariants.{Deposit, Step}
 use Rattle.export_rounds.specs.Adding.{IsOfPhase}

@@ -1,8 +1,8 @@
 //! Requests that still run when the threads of a phase have joined end.
 ghost use Rattle.std.specs.Prelude.{◌≡◌, ◌⊎◌, ◌↔◌, ◌++◌, ◌<◌, ℕ, IsOk, List, None, Some, length, slice_get};
 ghost use Rattle.board_state.specs.declared.change.Answer.TheVariants as answer;
-ghost use Rattle.export_machine.specs.Authority.{request_of};
-ghost use Rattle.export_machine.specs.declared.event.Reply.TheVariants as reply;
+ghost use Rattle.export_protocol.specs.Authority.{request_of};
+ghost use Rattle.export_protocol.specs.declared.event.Reply.TheVariants as reply;
 ghost use Rattle.mds_board.specs.declared.entry.Entry.{Entry};
 ghost use Rattle.mds_board.specs.Stored.{shown_entry};
 ghost use Rattle.phased_board.specs.Begun.{IsEndMet, IsEndTold};
@@ -10,7 +10,7 @@ ghost use Rattle.phased_board.specs.Begun.{IsEndMet, IsEndTold};
 use crate::phased::{Phase, Phased};
 use authority_map::Publisher;
 use board_state::{Answer, BoardError};
-use export_machine::Reply;
+use export_protocol::Reply;
 use mds_board::Shown;
 use naming::Naming;
 use std::alloc::Global;

@@ -3,7 +3,7 @@ ghost use Rattle.std.specs.Prelude.{◌≡◌, ◌≤◌, ◌↔◌, ◌+◌, �
 ghost use Rattle.std.specs.Prelude.{IfErr, IfOk, IsTrue, OnErr, OnOk};
 ghost use Rattle.heat_ledger.specs.Rows.{counted_rows, raised};
 ghost use Rattle.board_state.specs.Steps.{spelled};
-ghost use Rattle.export_machine.specs.Step.{refusal};
+ghost use Rattle.export_protocol.specs.Step.{refusal};
 ghost use Rattle.export_rounds.specs.Asked.{AreAsked, is_begun};
 ghost use Rattle.export_rounds.specs.Moments.{IsMet};
 ghost use Rattle.mds_board.specs.History.{IsAnswer};
@@ -15,7 +15,8 @@ ghost use mathlib.Core.List.{IsPrefix};
 
 use authority_map::Publisher;
 use board_state::{Answer, BoardError, Change};
-use export_machine::{Cluster, Event, Reply, StepError};
+use export_machine::Cluster;
+use export_protocol::{Event, Reply, StepError};
 use export_rounds::starting::settle_at;
 use export_rounds::{ExportSide, Standing};
 use heat_ledger::Share;
@@ -290,7 +291,7 @@ impl<J: Naming, M: Publisher<J>, K: Phase> ExportSide for Phased<J, M, K> {
 }
 
 // A request begins. It returns the ticket.
-#[tactic(auto, unfolding(board_state::specs::State::happens, export_machine::specs::Step::happens))]
+#[tactic(auto, unfolding(board_state::specs::State::happens, export_protocol::specs::Step::happens))]
 fn begin<J: Naming, M: Publisher<J>>(
     board: &mut Board<J, M>,
     share: &mut Share<J>,

@@ -2,7 +2,7 @@
 use Rattle.std.specs.Prelude.{◌≡◌, ◌⊎◌, ℕ, List, [], ◌∷◌, Option, Some}
 use Rattle.std.specs.Prelude.{None, All, Result, Ok, Err}
 use Rattle.std.specs.List.{AllZip}
-use Rattle.export_machine.specs.declared.event.Event.TheVariants.{Begin}
+use Rattle.export_protocol.specs.declared.event.Event.TheVariants.{Begin}
 use Rattle.heat_ledger.specs.declared.dir_hits.DirHits.{DirHits}
 use Rattle.export_rounds.specs.Moments.{IsMet}
 use Rattle.board_state.specs.declared.board_error.BoardError.{BoardError}

@@ -5,7 +5,7 @@ use crate::same::{Sure, same};
 use crate::trials::{Trial, try_often};
 use authority_map::Publisher;
 use board_state::BoardError;
-use export_machine::{Event, StepError};
+use export_protocol::{Event, StepError};
 use export_threads::{OrderOutcome, Outcome, export_phase};
 use mds_board::Board;
 use naming::Naming;

@@ -7,7 +7,7 @@ use crate::same::{Sure, holds_in, same};
 use crate::trials::{Trial, try_once};
 use authority_map::Publisher;
 use board_state::BoardError;
-use export_machine::StepError;
+use export_protocol::StepError;
 use export_threads::{OrderOutcome, Outcome, export_phase};
 use heat_ledger::Share;
 use mds_board::Board;

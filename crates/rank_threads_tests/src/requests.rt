@@ -7,7 +7,7 @@ use crate::same::{Sure, same};
 use crate::trials::{Trial, try_often};
 use authority_map::Publisher;
 use board_state::BoardError;
-use export_machine::{Event, StepError};
+use export_protocol::{Event, StepError};
 use heat_ledger::Share;
 use mds_board::Board;
 use mds_types::{Dir, Kind, Rank};

@@ -5,7 +5,7 @@ use crate::requests::{refused, scripts, served, work};
 use crate::same::{Sure, same, same_in};
 use crate::trials::{Trial, try_often};
 use authority_map::Publisher;
-use export_machine::{Event, StepError};
+use export_protocol::{Event, StepError};
 use export_threads::export_phase;
 use heat_ledger::Share;
 use mds_board::Board;

@@ -6,7 +6,7 @@ use crate::requests::{refused, scripts, served, work};
 use crate::same::{Sure, same};
 use crate::trials::{Trial, try_often};
 use authority_map::Publisher;
-use export_machine::StepError;
+use export_protocol::StepError;
 use export_threads::{OrderOutcome, export_phase};
 use heat_ledger::Share;
 use mds_board::Board;

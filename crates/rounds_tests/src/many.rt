@@ -4,7 +4,7 @@ use crate::boards::{Trial, on_board};
 use crate::same::{Sure, holds_in, same, same_in};
 use crate::steps::{make, moved, rank};
 use authority_map::Publisher;
-use export_machine::Event;
+use export_protocol::Event;
 use export_rounds::{Outcome, Unsettled};
 use mds_board::Board;
 use mds_types::Dir;

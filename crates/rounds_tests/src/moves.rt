@@ -5,7 +5,7 @@ use crate::same::{Sure, holds_in, same_in};
 use crate::steps::{Do, make, moved, play, rank, stand};
 use authority_map::Publisher;
 use board_state::BoardError;
-use export_machine::{ExporterState, ImporterState, StepError};
+use export_protocol::{ExporterState, ImporterState, StepError};
 use export_rounds::{Outcome, Unsettled};
 use mds_board::Board;
 use naming::Naming;

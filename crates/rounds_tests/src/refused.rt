@@ -7,7 +7,7 @@ use crate::same::{Sure, holds_in, same, same_in};
 use crate::steps::{orders, rank, stand};
 use authority_map::Publisher;
 use board_state::BoardError;
-use export_machine::{ExporterState, ImporterState};
+use export_protocol::{ExporterState, ImporterState};
 use export_rounds::{Outcome, Unsettled, carry_out_orders_from};
 use mds_board::Board;
 use mds_types::{Dir, Order, Rank};

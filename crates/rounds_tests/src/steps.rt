@@ -2,7 +2,7 @@
 
 use crate::same::{Sure, holds_in, same_in};
 use authority_map::Publisher;
-use export_machine::Event;
+use export_protocol::Event;
 use export_rounds::{Outcome, Unsettled, carry_out_orders_from};
 use mds_board::Board;
 use mds_types::{Dir, Dirs, Order, Rank};

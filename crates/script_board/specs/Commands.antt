@@ -4,7 +4,7 @@ use Rattle.std.specs.Prelude.{codes, Option, Some, None, Result, Ok, Err}
 use Rattle.dirtree.specs.declared.tree_error.TreeError.{TreeError}
 use Rattle.dirtree.specs.declared.tree_error.TreeError.TheVariants.{BadName}
 use Rattle.dirtree.specs.Path as path
-use Rattle.export_machine.specs.declared.event.Event.TheVariants.{Stop, Restart}
+use Rattle.export_protocol.specs.declared.event.Event.TheVariants.{Stop, Restart}
 use Rattle.mds_types.specs.declared.kind.Kind.{Kind}
 use Rattle.mds_types.specs.Mask.{mask_bits}
 use Rattle.board_state.specs.declared.change.Change.{Change}

@@ -11,7 +11,7 @@ use crate::script_board::ScriptBoard;
 use authority_map::Publisher;
 use board_state::Change;
 use dirtree::TreeError;
-use export_machine::Event;
+use export_protocol::Event;
 use mds_types::{Dir, Kind, Rank, RankSet};
 use naming::Naming;
 use std::alloc::Global;

@@ -6,7 +6,7 @@ use crate::phases::work::{
 };
 use crate::times::nanos;
 use authority_map::{MapReader, Publisher};
-use export_machine::{Event, Reply};
+use export_protocol::{Event, Reply};
 use export_rounds::{Unsettled, carry_out_orders};
 use export_threads::export_phase;
 use heat_ledger::Share;

@@ -7,7 +7,7 @@ use crate::same::{Sure, same};
 use arrayvec::ArrayVec;
 use authority_map::{MapReader, Publisher};
 use board_state::{Answer, BoardError};
-use export_machine::{Event, Reply};
+use export_protocol::{Event, Reply};
 use heat_ledger::Share;
 use mds_board::{Board, Shown};
 use mds_types::{CutProof, Dir, DualProof, Kind, Order, Plan, RankSet};

@@ -8,7 +8,7 @@ use authority_map::{MapReader, Publisher};
 use board_state::{Answer, BoardError, Change};
 use dir_pins::PinError;
 use dirtree::TreeError;
-use export_machine::{Reply, StepError};
+use export_protocol::{Reply, StepError};
 use heat_ledger::Share;
 use mds_board::{Board, History, Shown};
 use mds_types::{Dir, Kind, RankSet};

@@ -8,7 +8,7 @@ use crate::boards::said::said;
 use crate::same::{Sure, same};
 use authority_map::{MapReader, Publisher};
 use board_state::BoardError;
-use export_machine::Event;
+use export_protocol::Event;
 use heat_ledger::Share;
 use mds_board::Board;
 use mds_types::{Dir, Rank, RankSet};

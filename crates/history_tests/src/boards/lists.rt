@@ -11,7 +11,7 @@ use crate::same::{Sure, holds_in, same};
 use authority_map::{MapReader, Publisher};
 use board_state::{Answer, BoardError, Orders, Solver};
 use dirtree::Name;
-use export_machine::Event;
+use export_protocol::Event;
 use heat_ledger::{Missing, Share};
 use mds_board::{Board, BoardCommand};
 use mds_types::{Dir, Kind, Plan, Problem, Rank, RankSet};

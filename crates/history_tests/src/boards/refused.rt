@@ -13,7 +13,7 @@ use crate::given::{dirs_at_last, rank};
 use crate::same::{Sure, holds_in, same, same_in};
 use authority_map::{MapReader, Publisher};
 use board_state::BoardError;
-use export_machine::Event;
+use export_protocol::Event;
 use heat_ledger::Share;
 use mds_board::{Board, BoardCommand};
 use mds_types::{Dir, Kind, Plan, RankSet};

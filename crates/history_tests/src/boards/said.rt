@@ -1,7 +1,7 @@
 //! What a board says, to compare it before and after a call.
 
 use authority_map::{MapReader, Publisher};
-use export_machine::{ExporterState, ImporterState};
+use export_protocol::{ExporterState, ImporterState};
 use heat_ledger::Share;
 use mds_board::Board;
 use mds_types::{Dir, Kind, Rank, RankSet};

@@ -3,7 +3,8 @@
 use crate::given::rank;
 use crate::machine::steps::{Row, after, run_rows};
 use crate::same::holds_in;
-use export_machine::{Cluster, ExporterState, ImporterState, JournalEntry};
+use export_machine::Cluster;
+use export_protocol::{ExporterState, ImporterState, JournalEntry};
 use mds_types::{Dir, Rank};
 use std::alloc::{AllocError, Global};
 use std::process::Abort;

@@ -3,7 +3,7 @@
 use crate::machine::steps::{Do, Row, after, answer, run_rows};
 use crate::machine::told::Told;
 use crate::same::{Sure, same};
-use export_machine::{Event, Reply};
+use export_protocol::{Event, Reply};
 
 const REFUSED: &[Row] = &[
     (Do::Deliver(0), Told::Refused("33 HistoryFull")),

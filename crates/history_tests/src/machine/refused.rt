@@ -4,7 +4,7 @@ use crate::given::rank;
 use crate::machine::steps::{Do, Row, cluster_of, run_rows};
 use crate::machine::told::{Told, printed};
 use crate::same::{Sure, same};
-use export_machine::{ExporterState, StepError};
+use export_protocol::{ExporterState, StepError};
 use std::alloc::Global;
 use std::process::Abort;
 

@@ -1,14 +1,15 @@
 //! Which lists of directories can be exported, and events that are prepared.
 
 ghost use Rattle.export_machine.specs.Kept.{is_ready};
-ghost use Rattle.export_machine.specs.Step.{refusal};
+ghost use Rattle.export_protocol.specs.Step.{refusal};
 ghost use Rattle.std.specs.Prelude.{◌≡◌, None, OnOk, true};
 
 use crate::machine::found::{Found, all_found};
 use crate::machine::steps::{Do, Row, TO_THE_LOG, answer, cluster_of, event, written};
 use crate::machine::told::{Told, same_as_told, same_refusal};
 use crate::same::{Sure, same};
-use export_machine::{Cluster, Event, Reply, StepError};
+use export_machine::Cluster;
+use export_protocol::{Event, Reply, StepError};
 use mds_types::Dir;
 use std::alloc::{AllocError, Global};
 use std::process::Abort;

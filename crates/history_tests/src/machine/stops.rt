@@ -3,7 +3,7 @@
 use crate::machine::found::{Found, Schedule, run_schedules};
 use crate::machine::steps::Do;
 use crate::machine::told::Told;
-use export_machine::{ExporterState, ImporterState};
+use export_protocol::{ExporterState, ImporterState};
 
 const STOPS: &[Schedule] = &[
     (

@@ -1,7 +1,7 @@
 //! The answers to the steps of schedules.
 
 use crate::same::{Sure, same_in};
-use export_machine::{Reply, StepError};
+use export_protocol::{Reply, StepError};
 use mds_types::Dir;
 use std::alloc::{AllocError, Global};
 use std::fmt::Debug;

@@ -5,7 +5,7 @@ use crate::same::{Sure, same_in};
 use authority_map::Publisher;
 use board_state::BoardError;
 use dirtree::TreeError;
-use export_machine::StepError;
+use export_protocol::StepError;
 use export_rounds::Outcome;
 use export_threads::OrderOutcome;
 use mds_types::{Dir, Kind, Rank};

@@ -1,6 +1,6 @@
 use Rattle.std.proofs.Common.{◌≡◌, None, IsSome, subst}
-use Rattle.export_machine.specs.Step as machine
-use Rattle.export_machine.specs.declared.event.Event.{Event}
+use Rattle.export_protocol.specs.Step as machine
+use Rattle.export_protocol.specs.declared.event.Event.{Event}
 use Rattle.board_state.proofs.Mapping.{notifies}
 use Rattle.board_state.proofs.stepping.named_by.Goals as goal
 

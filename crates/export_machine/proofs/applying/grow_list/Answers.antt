@@ -4,7 +4,7 @@ use Rattle.std.specs.List.{slice_get}
 use Rattle.std.proofs.Math.Seq.{map-set_same}
 use Rattle.export_machine.specs.Kept.{is_spare}
 use Rattle.std.specs.Vec.{vec_len, vec_capacity}
-use Rattle.export_machine.proofs.Accepted.{item_at}
+use Rattle.export_protocol.proofs.Accepted.{item_at}
 use Rattle.export_machine.proofs.Bounds.{on_ok}
 use Rattle.export_machine.proofs.Listed.{set_places}
 use Rattle.export_machine.proofs.applying.grow_list.Goals as goal

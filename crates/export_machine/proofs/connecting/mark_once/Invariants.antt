@@ -1,6 +1,6 @@
 use Rattle.std.proofs.Common.{◌≡◌, ℕ, false, length, take, get_or}
-use Rattle.export_machine.specs.Authority.{is_among}
-use Rattle.export_machine.specs.Step.{repeats}
+use Rattle.export_protocol.specs.Authority.{is_among}
+use Rattle.export_protocol.specs.Step.{repeats}
 use Rattle.export_machine.proofs.connecting.mark_once.Given as goal
 
 -- the directories so far have their marks, and none of them is there twice

@@ -1,5 +1,5 @@
 use Rattle.std.proofs.Common.{◌≡◌, ℕ, true, false, length, drop, get_or}
-use Rattle.export_machine.specs.Authority.{is_among}
+use Rattle.export_protocol.specs.Authority.{is_among}
 use Rattle.export_machine.proofs.connecting.unmark.Given as goal
 
 -- what has a mark still is among the directories to come

@@ -1,5 +1,5 @@
 use Rattle.std.proofs.Common.{◌≡◌, drop}
-use Rattle.export_machine.specs.Step.{repeats}
+use Rattle.export_protocol.specs.Step.{repeats}
 use Rattle.export_machine.proofs.searching.repeats.Given as goal
 
 -- no directory so far comes again later

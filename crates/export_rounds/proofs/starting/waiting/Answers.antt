@@ -1,5 +1,5 @@
 use Rattle.std.proofs.Common.{◌<◌, length, take, arith, ◌+◌, ◌∙◌, List, ap}
-use Rattle.export_machine.proofs.Lists.{take_next}
+use Rattle.export_protocol.proofs.Lists.{take_next}
 use Rattle.export_rounds.specs.declared.standing.Standing.TheVariants.{Waiting}
 use Rattle.export_rounds.specs.Asked.{IsAsked, is_begun}
 use Rattle.export_rounds.specs.declared.standing.Standing.{Standing}

@@ -1,6 +1,6 @@
 use Rattle.std.proofs.Common.{◌∙◌, sym}
 use Rattle.export_rounds.proofs.Ordering.{start_orders, start_reply}
-use Rattle.export_machine.specs.declared.event.Event.TheVariants.{Start}
+use Rattle.export_protocol.specs.declared.event.Event.TheVariants.{Start}
 use Rattle.export_rounds.proofs.Adding.{answer_added}
 use Rattle.export_rounds.proofs.stepping.start.Goals as goal
 

@@ -1,5 +1,5 @@
 use Rattle.std.proofs.Common.{refl}
-use Rattle.export_machine.specs.declared.event.Event.TheVariants.{Abort}
+use Rattle.export_protocol.specs.declared.event.Event.TheVariants.{Abort}
 use Rattle.export_rounds.proofs.Adding.{answer_added}
 use Rattle.export_rounds.proofs.Going.{steps}
 use Rattle.export_rounds.proofs.Ordering.{answer_orders}

@@ -1,7 +1,7 @@
 use Rattle.std.proofs.Common.{◌<◌, ◌≤◌, length, add-one, arith, sym, subst, ◌≡◌, ◌+◌, ◌∙◌, ℕ, List, ap, take}
 use Rattle.std.proofs.lemmas.List.{take_all}
 use Rattle.std.specs.List.{count_by}
-use Rattle.export_machine.proofs.Lists.{take_next}
+use Rattle.export_protocol.proofs.Lists.{take_next}
 use Rattle.export_threads.specs.declared.order_outcome.OrderOutcome.{OrderOutcome}
 use Rattle.export_rounds.specs.declared.standing.Standing.{Standing}
 use Rattle.export_rounds.specs.Asked.{IsAsked, is_begun, ones}

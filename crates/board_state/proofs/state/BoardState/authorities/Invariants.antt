@@ -1,6 +1,6 @@
 use Rattle.std.proofs.Common.{◌≡◌, ◌≤◌, length, map}
 use Rattle.dir_pins.specs.Pins.{below}
-use Rattle.export_machine.specs.Authority.{authority}
+use Rattle.export_protocol.specs.Authority.{authority}
 use Rattle.board_state.specs.State.{rank_or_0}
 use Rattle.board_state.proofs.state.BoardState.authorities.Given as goal
 

@@ -1,11 +1,11 @@
 use Rattle.std.proofs.Common.{◌≡◌, ◌∙◌, ◌++◌, None, ℕ, ◌<◌, ◌≤◌, length, inl, refl, sym, ap, subst, arith, append-nil}
 use Rattle.authority_map.specs.Operations.{rank_after}
-use Rattle.export_machine.specs.Authority.{named_of}
-use Rattle.export_machine.specs.Cluster.{World}
-use Rattle.export_machine.specs.declared.event.Event.TheVariants.{Begin}
-use Rattle.export_machine.specs.View.{IsReached}
+use Rattle.export_protocol.specs.Authority.{named_of}
+use Rattle.export_protocol.specs.Cluster.{World}
+use Rattle.export_protocol.specs.declared.event.Event.TheVariants.{Begin}
+use Rattle.export_protocol.specs.View.{IsReached}
 use Rattle.export_machine.specs.Room.{IsRefusal}
-use Rattle.export_machine.specs.Step as machine
+use Rattle.export_protocol.specs.Step as machine
 use Rattle.board_state.specs.declared.board_error.BoardError.{BoardError}
 use Rattle.board_state.specs.declared.change.Change.TheVariants.{Step}
 use Rattle.board_state.specs.Steps.{IsDue, Present}

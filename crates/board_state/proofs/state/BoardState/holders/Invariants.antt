@@ -1,6 +1,6 @@
 use Rattle.std.proofs.Common.{◌≡◌, ◌≤◌, length, map}
 use Rattle.dir_pins.specs.Pins.{below}
-use Rattle.export_machine.specs.Authority.{authority}
+use Rattle.export_protocol.specs.Authority.{authority}
 use Rattle.board_state.proofs.state.BoardState.holders.Given as goal
 
 abbrev pub invariant-loop-number : goal.invariant-loop-number

@@ -1,6 +1,6 @@
 use Rattle.std.proofs.Common.{None, refl, arith}
 use Rattle.std.proofs.lemmas.List.{length-replicate}
-use Rattle.export_machine.specs.Step as machine
+use Rattle.export_protocol.specs.Step as machine
 use Rattle.board_state.proofs.Fitting.{none_begun}
 use Rattle.board_state.proofs.Mapping.{first_mapped}
 use Rattle.board_state.proofs.state.BoardState.new.Goals as goal

@@ -1,7 +1,7 @@
 use Rattle.std.proofs.Common.{length, ap, arith}
 use Rattle.std.proofs.lemmas.List.{length-map}
 use Rattle.dir_pins.specs.Pins.{below}
-use Rattle.export_machine.specs.Authority.{authority}
+use Rattle.export_protocol.specs.Authority.{authority}
 use Rattle.board_state.specs.State.{rank_or_0}
 use Rattle.board_state.specs.Steps.{Present}
 use Rattle.board_state.proofs.Accepted.{length_below}

@@ -1,11 +1,11 @@
 use Rattle.std.proofs.Common.{◌≡◌, ◌∙◌, ◌++◌, ◌<◌, None, ℕ, sym, ap, subst, arith, append_assoc, slice_set}
 use Rattle.authority_map.specs.Operations.{rank_after}
 use Rattle.dirtree.specs.Tree as tree
-use Rattle.export_machine.specs.Authority.{named_of}
-use Rattle.export_machine.specs.Cluster.{World}
-use Rattle.export_machine.specs.declared.event.Event.TheVariants.{Gone}
-use Rattle.export_machine.specs.View.{IsReached}
-use Rattle.export_machine.specs.Step as machine
+use Rattle.export_protocol.specs.Authority.{named_of}
+use Rattle.export_protocol.specs.Cluster.{World}
+use Rattle.export_protocol.specs.declared.event.Event.TheVariants.{Gone}
+use Rattle.export_protocol.specs.View.{IsReached}
+use Rattle.export_protocol.specs.Step as machine
 use Rattle.board_state.specs.State.{map_change}
 use Rattle.board_state.specs.Steps.{Present, parents_of}
 use Rattle.board_state.proofs.Accepted.{has_place, may_remove}

@@ -1,10 +1,10 @@
 use Rattle.std.proofs.Common.{◌≡◌, ◌∙◌, ◌++◌, None, inl, refl, sym, ap, subst, arith, append_assoc}
 use Rattle.authority_map.specs.Operations.{rank_after}
-use Rattle.export_machine.specs.Authority.{named_of}
-use Rattle.export_machine.specs.Cluster.{World}
-use Rattle.export_machine.specs.View.{IsReached}
+use Rattle.export_protocol.specs.Authority.{named_of}
+use Rattle.export_protocol.specs.Cluster.{World}
+use Rattle.export_protocol.specs.View.{IsReached}
 use Rattle.export_machine.specs.Room.{IsRefusal}
-use Rattle.export_machine.specs.Step as machine
+use Rattle.export_protocol.specs.Step as machine
 use Rattle.board_state.specs.declared.board_error.BoardError.{BoardError}
 use Rattle.board_state.specs.declared.change.Change.TheVariants.{Step}
 use Rattle.board_state.specs.State.{map_change}

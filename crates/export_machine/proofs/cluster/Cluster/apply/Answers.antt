@@ -1,9 +1,9 @@
 use Rattle.std.proofs.Common.{sym, ap, ◌∙◌, subst}
-use Rattle.export_machine.specs.Promises.{KeepsAuthority}
-use Rattle.export_machine.specs.Step.{refusal}
+use Rattle.export_protocol.specs.Promises.{KeepsAuthority}
+use Rattle.export_protocol.specs.Step.{refusal}
 use Rattle.export_machine.specs.Kept.{State, is_ready, world_of}
 use Rattle.export_machine.proofs.Bounds.{ready_is, on_err, answered_same, keeps_room}
-use Rattle.export_machine.proofs.Runs.{reached_promised, reached_kept}
+use Rattle.export_protocol.proofs.Runs.{reached_promised, reached_kept}
 use Rattle.export_machine.proofs.cluster.Cluster.apply.Goals as goal
 
 pub returns-clause-ready : goal.returns-clause-ready

@@ -1,10 +1,10 @@
 use Rattle.std.proofs.Common.{◌≡◌, ◌<◌, get_or, true, subst, sym, ap, arith}
 use Rattle.mds_types.specs.declared.order.Order.{Order}
-use Rattle.export_machine.specs.Authority.{is_among, order_in}
+use Rattle.export_protocol.specs.Authority.{is_among, order_in}
 use Rattle.export_machine.specs.Kept.{State, world_of}
-use Rattle.export_machine.proofs.Lists.{among_at}
+use Rattle.export_protocol.proofs.Lists.{among_at}
 use Rattle.export_machine.proofs.Listing.{if_both}
-use Rattle.export_machine.proofs.Noted.{are_made}
+use Rattle.export_protocol.proofs.Noted.{are_made}
 use Rattle.export_machine.proofs.cluster.Cluster.export.Goals as goal
 
 pub returns-clause-near : goal.returns-clause-near

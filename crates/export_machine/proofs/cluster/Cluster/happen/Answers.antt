@@ -1,8 +1,8 @@
 use Rattle.std.proofs.Common.{sym, ap, ◌∙◌}
-use Rattle.export_machine.specs.Step.{step}
+use Rattle.export_protocol.specs.Step.{step}
 use Rattle.export_machine.specs.Kept.{State, is_ready, world_of}
 use Rattle.export_machine.proofs.Bounds.{ready_is, answer_accepted, step_reply}
-use Rattle.export_machine.proofs.Runs.{reached_promised}
+use Rattle.export_protocol.proofs.Runs.{reached_promised}
 use Rattle.export_machine.proofs.cluster.Cluster.happen.Goals as goal
 
 pub perform-requires-clause-room : goal.perform-requires-clause-room

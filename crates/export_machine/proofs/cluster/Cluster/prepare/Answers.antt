@@ -1,5 +1,5 @@
 use Rattle.std.proofs.Common.{sym, ap, ◌∙◌}
-use Rattle.export_machine.specs.Step.{refusal}
+use Rattle.export_protocol.specs.Step.{refusal}
 use Rattle.export_machine.specs.Kept.{State, is_ready}
 use Rattle.export_machine.proofs.Bounds.{on_ok, ready_is, keeps_room}
 use Rattle.export_machine.proofs.cluster.Cluster.prepare.Goals as goal

@@ -1,7 +1,7 @@
 use Rattle.std.proofs.Common.{subst}
-use Rattle.export_machine.specs.Promises.{Promised}
+use Rattle.export_protocol.specs.Promises.{Promised}
 use Rattle.export_machine.specs.Kept.{State, world_of}
-use Rattle.export_machine.proofs.Runs.{reached_promised}
+use Rattle.export_protocol.proofs.Runs.{reached_promised}
 use Rattle.export_machine.proofs.cluster.Cluster.promised.Goals as goal
 
 pub returns : goal.returns

@@ -1,5 +1,5 @@
 use Rattle.std.proofs.Common.{◌≤◌, length, subst}
-use Rattle.export_machine.specs.View.{IsReached}
+use Rattle.export_protocol.specs.View.{IsReached}
 use Rattle.export_machine.specs.Kept.{State}
 use Rattle.export_machine.proofs.cluster.Cluster.reached.Goals as goal
 

@@ -1,8 +1,8 @@
 use Rattle.std.proofs.Common.{◌<◌, ◌≤◌, length, take, arith}
 use Rattle.std.proofs.lemmas.List.{take_all}
-use Rattle.export_machine.specs.View.{AreAnswers}
-use Rattle.export_machine.proofs.Lists.{take_next}
-use Rattle.export_machine.proofs.Runs.{answers_next, answers_are}
+use Rattle.export_protocol.specs.View.{AreAnswers}
+use Rattle.export_protocol.proofs.Lists.{take_next}
+use Rattle.export_protocol.proofs.Runs.{answers_next, answers_are}
 use Rattle.export_machine.proofs.cluster.Cluster.run.Goals as goal
 
 pub loop-event-preserved : goal.loop-event-preserved

@@ -1,7 +1,7 @@
 use Rattle.std.proofs.Common.{◌≡◌, ◌≤◌, length, take}
 use Rattle.std.specs.Vec.{vec_len, vec_capacity}
-use Rattle.export_machine.specs.View.{AreAnswers}
-use Rattle.export_machine.specs.Promises.{Promised}
+use Rattle.export_protocol.specs.View.{AreAnswers}
+use Rattle.export_protocol.specs.Promises.{Promised}
 use Rattle.export_machine.proofs.cluster.Cluster.run.Given as goal
 
 -- the events so far have their answers, and there is room for the rest

@@ -1,6 +1,6 @@
 use Rattle.std.proofs.Common.{◌<◌, ◌≤◌, ℕ, Option, List, length, set, ap, ◌∙◌, refl, arith}
 use Rattle.export_machine.specs.Columns.{DirColumns}
-use Rattle.export_machine.proofs.Marks.{mark_start, mark_next, mark_near, mark_end}
+use Rattle.export_protocol.proofs.Marks.{mark_start, mark_next, mark_near, mark_end}
 use Rattle.export_machine.proofs.dir_table.DirTable.mark_opened.Goals as goal
 
 pub loop-dir-init : goal.loop-dir-init

@@ -1,6 +1,6 @@
 use Rattle.std.proofs.Common.{◌≡◌, Some, cond, take}
-use Rattle.export_machine.specs.Authority.{is_among}
-use Rattle.export_machine.specs.Step.{map_at}
+use Rattle.export_protocol.specs.Authority.{is_among}
+use Rattle.export_protocol.specs.Step.{map_at}
 use Rattle.export_machine.proofs.dir_table.DirTable.mark_owner.Given as goal
 
 -- the directories so far have the new value

@@ -2,14 +2,14 @@ use Rattle.std.proofs.Common.{◌≡◌, ◌<◌, ℕ, cond, length, None, List,
 use Rattle.std.proofs.lemmas.Bool.{and_parts, ltb-true}
 use Rattle.mds_types.specs.declared.order.Order.{Order}
 use Rattle.export_machine.specs.ExportColumns.{ExportColumns}
-use Rattle.export_machine.specs.Authority.{is_among, is_inside, order_in, from_of}
-use Rattle.export_machine.specs.Step.{happens, map_at}
-use Rattle.export_machine.specs.declared.event.Event.TheVariants.{Abort}
+use Rattle.export_protocol.specs.Authority.{is_among, is_inside, order_in, from_of}
+use Rattle.export_protocol.specs.Step.{happens, map_at}
+use Rattle.export_protocol.specs.declared.event.Event.TheVariants.{Abort}
 use Rattle.export_machine.specs.Kept.{world_of, indexes_of, has_room}
 use Rattle.std.proofs.lemmas.List.{length-map, length-set}
 use Rattle.export_machine.proofs.Indexing.{abort_there, abort_indexed}
-use Rattle.export_machine.proofs.Reached.{by_safe}
-use Rattle.export_machine.proofs.Accepted.{numbers_by, exporter_rank, room_left, as_exporter, abort_order, abort_state}
+use Rattle.export_protocol.proofs.Reached.{by_safe}
+use Rattle.export_protocol.proofs.Accepted.{numbers_by, exporter_rank, room_left, as_exporter, abort_order, abort_state}
 use Rattle.export_machine.proofs.records.Records.abort.Goals as goal
 
 pub order-order-requires : goal.order-order-requires

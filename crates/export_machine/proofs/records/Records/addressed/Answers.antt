@@ -1,11 +1,11 @@
 use Rattle.std.proofs.Common.{◌≡◌, ◌<◌, ℕ, zero, suc, List, [], ◌∷◌, false, ltb, length, Some, None, refl, sym, arith}
 use Rattle.std.proofs.lemmas.Bool.{ltb-true}
 use Rattle.std.specs.List.{slice_get}
-use Rattle.export_machine.specs.declared.message.Message.{Message}
+use Rattle.export_protocol.specs.declared.message.Message.{Message}
 use Rattle.export_machine.specs.Kept.{world_of}
-use Rattle.export_machine.specs.Step.{about}
-use Rattle.export_machine.proofs.Found.{orders_by}
-use Rattle.export_machine.proofs.Accepted.{item_at}
+use Rattle.export_protocol.specs.Step.{about}
+use Rattle.export_protocol.proofs.Found.{orders_by}
+use Rattle.export_protocol.proofs.Accepted.{item_at}
 use Rattle.export_machine.proofs.records.Records.addressed.Goals as goal
 
 none_past : (xs : List Message) (k : ℕ) → false ≡ ltb k (length xs) → slice_get xs k ≡ None

@@ -1,9 +1,9 @@
 use Rattle.std.proofs.Common.{refl, arith}
 use Rattle.std.proofs.lemmas.Bool.{and_parts, ltb-true}
-use Rattle.export_machine.specs.Step.{happens}
-use Rattle.export_machine.specs.declared.event.Event.TheVariants.{Ask}
+use Rattle.export_protocol.specs.Step.{happens}
+use Rattle.export_protocol.specs.declared.event.Event.TheVariants.{Ask}
 use Rattle.export_machine.specs.Kept.{world_of, indexes_of, has_room}
-use Rattle.export_machine.proofs.Accepted.{room_left}
+use Rattle.export_protocol.proofs.Accepted.{room_left}
 use Rattle.export_machine.proofs.Rows.{importer_indexed}
 use Rattle.export_machine.proofs.records.Records.ask.Goals as goal
 

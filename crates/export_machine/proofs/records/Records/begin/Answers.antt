@@ -2,12 +2,12 @@ use Rattle.std.proofs.Common.{◌≡◌, ◌<◌, ◌≤◌, ◌∷◌, [], leng
 use Rattle.std.proofs.lemmas.Bool.{and_parts, ltb-true}
 use Rattle.std.proofs.lemmas.List.{length-map}
 use Rattle.std.proofs.Math.Nat.{le_trans}
-use Rattle.export_machine.specs.Authority.{runs_on}
-use Rattle.export_machine.specs.Step.{happens}
+use Rattle.export_protocol.specs.Authority.{runs_on}
+use Rattle.export_protocol.specs.Step.{happens}
 use Rattle.export_machine.specs.Kept.{world_of, indexes_of, has_room}
-use Rattle.export_machine.proofs.Lists.{count_within}
+use Rattle.export_machine.proofs.Counts.{count_within}
 use Rattle.export_machine.proofs.Indexing.{begin_indexed}
-use Rattle.export_machine.proofs.Accepted.{begin_dir, begin_rank}
+use Rattle.export_protocol.proofs.Accepted.{begin_dir, begin_rank}
 use Rattle.export_machine.proofs.records.Records.begin.Goals as goal
 
 pub push_reserved-requires : goal.push_reserved-requires

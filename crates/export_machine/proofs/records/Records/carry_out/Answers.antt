@@ -1,8 +1,8 @@
 use Rattle.std.proofs.Common.{◌≡◌, ◌<◌, length, Some, ap, refl, ◌∙◌, arith}
 use Rattle.std.proofs.lemmas.List.{length-map}
-use Rattle.export_machine.specs.Authority.{order_in, importer_of, exporter_of}
-use Rattle.export_machine.specs.Step.{about, receiver, acts, Outcome}
-use Rattle.export_machine.specs.Cluster.{World}
+use Rattle.export_protocol.specs.Authority.{order_in, importer_of, exporter_of}
+use Rattle.export_protocol.specs.Step.{about, receiver, acts, Outcome}
+use Rattle.export_protocol.specs.Cluster.{World}
 use Rattle.export_machine.specs.Kept.{world_of, indexes_of, IsIndexed}
 use Rattle.export_machine.specs.Moving.{heard, indexes_noted, indexes_moved}
 use Rattle.export_machine.proofs.Receiving.{known, here_journal, here_list, inside_owned, inside_opened, as_exporters, as_importers}

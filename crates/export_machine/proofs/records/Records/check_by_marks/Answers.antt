@@ -1,5 +1,5 @@
 use Rattle.std.proofs.Common.{Bool, List, sym, ap, ◌∙◌}
-use Rattle.export_machine.specs.declared.event.Event.{Event}
+use Rattle.export_protocol.specs.declared.event.Event.{Event}
 use Rattle.export_machine.specs.declared.records.Records.{Records}
 use Rattle.export_machine.specs.Kept.{world_of, indexes_of, has_room, entered_at}
 use Rattle.export_machine.proofs.Bounds.{kept_same}

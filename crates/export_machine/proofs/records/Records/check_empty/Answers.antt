@@ -1,7 +1,7 @@
 use Rattle.std.proofs.Common.{not, eqb, refl, ap, ◌∙◌}
-use Rattle.export_machine.specs.Step.{any_at, is_child, when}
-use Rattle.export_machine.specs.declared.step_error.StepError.TheVariants.{NotEmpty}
-use Rattle.export_machine.proofs.Lists.{any_counts}
+use Rattle.export_protocol.specs.Step.{any_at, is_child, when}
+use Rattle.export_protocol.specs.declared.step_error.StepError.TheVariants.{NotEmpty}
+use Rattle.export_machine.proofs.Counts.{any_counts}
 use Rattle.export_machine.proofs.records.Records.check_empty.Goals as goal
 
 pub returns : goal.returns

@@ -1,7 +1,7 @@
 use Rattle.std.proofs.Common.{◌<◌, ◌≤◌, length, Some, None, sym, ◌∙◌, subst, arith}
 use Rattle.std.proofs.lemmas.List.{take_all}
 use Rattle.export_machine.specs.Kept.{world_of}
-use Rattle.export_machine.proofs.Lists.{IsLeast, least_start, least_next, least_is, least_none}
+use Rattle.export_machine.proofs.Counts.{IsLeast, least_start, least_next, least_is, least_none}
 use Rattle.export_machine.proofs.records.Records.check_leaving.Goals as goal
 
 pub loop-dir-init : goal.loop-dir-init

@@ -1,6 +1,6 @@
 use Rattle.std.proofs.Common.{take}
 use Rattle.export_machine.specs.Kept.{world_of}
-use Rattle.export_machine.proofs.Lists.{IsLeast}
+use Rattle.export_machine.proofs.Counts.{IsLeast}
 use Rattle.export_machine.proofs.records.Records.check_leaving.Given as goal
 
 -- of the directories so far the faulty one that is least

@@ -1,14 +1,14 @@
 use Rattle.std.proofs.Common.{◌≡◌, ◌<◌, true, false, length, Some, refl, sym, ap, ◌∙◌, arith}
 use Rattle.std.proofs.lemmas.Bool.{and_parts}
 use Rattle.std.specs.List.{slice_get}
-use Rattle.export_machine.specs.Authority.{is_stopped}
-use Rattle.export_machine.specs.Step.{happens, receiver}
-use Rattle.export_machine.specs.declared.event.Event.TheVariants.{Deliver}
+use Rattle.export_protocol.specs.Authority.{is_stopped}
+use Rattle.export_protocol.specs.Step.{happens, receiver}
+use Rattle.export_protocol.specs.declared.event.Event.TheVariants.{Deliver}
 use Rattle.export_machine.specs.Columns.{has_spare}
 use Rattle.export_machine.specs.Kept.{world_of, has_room, entered_at, has_entry_places, receiver_of}
-use Rattle.export_machine.specs.Step.{about}
-use Rattle.export_machine.proofs.Found.{orders_by}
-use Rattle.export_machine.proofs.Accepted.{deliver_near, item_at, room_left}
+use Rattle.export_protocol.specs.Step.{about}
+use Rattle.export_protocol.proofs.Found.{orders_by}
+use Rattle.export_protocol.proofs.Accepted.{deliver_near, item_at, room_left}
 use Rattle.export_machine.proofs.records.Records.deliver.Goals as goal
 
 pub index-message-requires : goal.index-message-requires

@@ -1,11 +1,11 @@
 use Rattle.std.proofs.Common.{◌≡◌, ◌<◌, ℕ, zero, suc, List, [], ◌∷◌, length, get_or, Option, Some, None, sym, ap, ◌∙◌, refl, arith}
-use Rattle.export_machine.specs.declared.event.Request.{Request}
-use Rattle.export_machine.specs.Step.{happens, changed}
+use Rattle.export_protocol.specs.declared.event.Request.{Request}
+use Rattle.export_protocol.specs.Step.{happens, changed}
 use Rattle.export_machine.specs.Kept.{world_of, indexes_of}
 use Rattle.std.proofs.lemmas.List.{length-map}
 use Rattle.export_machine.proofs.ByRank.{filed_rank}
 use Rattle.export_machine.proofs.Indexing.{end_indexed, end_runs, request_there}
-use Rattle.export_machine.proofs.Accepted.{end_ticket, end_near}
+use Rattle.export_protocol.proofs.Accepted.{end_ticket, end_near}
 use Rattle.export_machine.proofs.records.Records.end.Goals as goal
 
 ticket_at : (ts : List (Option Request)) (t : ℕ) (o : Option Request) → t < length ts → o ≡ get_or ts t o → get_or ts t None ≡ o

@@ -1,5 +1,5 @@
 use Rattle.std.proofs.Common.{◌≡◌, ◌<◌, List, [], Option, length, set, sym, ap, subst, arith}
-use Rattle.export_machine.specs.declared.event.Request.{Request}
+use Rattle.export_protocol.specs.declared.event.Request.{Request}
 use Rattle.export_machine.specs.declared.records.Records.{Records}
 use Rattle.export_machine.specs.Kept.{world_of, indexes_of, AreByRank}
 use Rattle.export_machine.proofs.ByRank.{stop_filed, list_set}

@@ -1,5 +1,5 @@
 use Rattle.std.proofs.Common.{◌≡◌, refl, sym}
-use Rattle.export_machine.specs.Authority.{order_in}
+use Rattle.export_protocol.specs.Authority.{order_in}
 use Rattle.export_machine.proofs.records.Records.follow.Goals as goal
 
 pub order-order-requires : goal.order-order-requires

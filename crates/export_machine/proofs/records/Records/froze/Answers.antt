@@ -1,10 +1,10 @@
 use Rattle.std.proofs.Common.{refl, arith}
 use Rattle.std.proofs.lemmas.Bool.{and_parts, ltb-true}
-use Rattle.export_machine.specs.Step.{happens}
-use Rattle.export_machine.specs.declared.event.Event.TheVariants.{Froze}
+use Rattle.export_protocol.specs.Step.{happens}
+use Rattle.export_protocol.specs.declared.event.Event.TheVariants.{Froze}
 use Rattle.export_machine.specs.Kept.{world_of, indexes_of, has_room}
 use Rattle.export_machine.proofs.Indexing.{froze_indexed}
-use Rattle.export_machine.proofs.Accepted.{room_left, froze_state}
+use Rattle.export_protocol.proofs.Accepted.{room_left, froze_state}
 use Rattle.export_machine.proofs.records.Records.froze.Goals as goal
 
 pub send-requires-clause-room : goal.send-requires-clause-room

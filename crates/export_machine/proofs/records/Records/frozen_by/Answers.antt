@@ -1,6 +1,6 @@
 use Rattle.std.proofs.Common.{sym, ◌∙◌}
 use Rattle.export_machine.specs.Kept.{world_of}
-use Rattle.export_machine.proofs.Found.{found_none, found_discovering, found_frozen}
+use Rattle.export_protocol.proofs.Found.{found_none, found_discovering, found_frozen}
 use Rattle.export_machine.proofs.records.Records.frozen_by.Goals as goal
 
 pub returns-in-None : goal.returns-in-None

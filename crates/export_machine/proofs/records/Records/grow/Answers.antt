@@ -1,7 +1,7 @@
 use Rattle.std.proofs.Common.{◌≡◌, ◌<◌, ℕ, Option, Some, None, true, length, ◌∙◌, subst, sym, arith}
 use Rattle.std.proofs.lemmas.List.{length-map}
 use Rattle.std.specs.Option.{IfSome}
-use Rattle.export_machine.proofs.Accepted.{numbers_by}
+use Rattle.export_protocol.proofs.Accepted.{numbers_by}
 use Rattle.std.proofs.lemmas.Bool.{false≢true}
 use Rattle.std.specs.Result.{IsOk}
 use Rattle.export_machine.specs.Kept.{world_of, has_entry_places}

@@ -1,20 +1,21 @@
 use Rattle.std.proofs.Common.{◌≡◌, ◌<◌, ◌≤◌, ◌&&◌, ℕ, List, [], Option, None, true, false, cond, eqb, length, get_or, set, take, sym, ap, ◌∙◌, subst, refl, arith}
 use Rattle.std.proofs.lemmas.Bool.{and_parts}
-use Rattle.export_machine.specs.declared.exporter.ExporterState.{ExporterState}
-use Rattle.export_machine.specs.declared.exporter.ExporterState.TheVariants.{Aborted}
+use Rattle.export_protocol.specs.declared.exporter.ExporterState.{ExporterState}
+use Rattle.export_protocol.specs.declared.exporter.ExporterState.TheVariants.{Aborted}
 use Rattle.export_machine.specs.declared.records.Records.{Records}
 use Rattle.mds_types.specs.declared.order.Order.{Order}
 use Rattle.export_machine.specs.ExportColumns.{ExportColumns}
-use Rattle.export_machine.specs.Authority.{order_in, from_of, is_among, is_inside, exporter_of}
-use Rattle.export_machine.specs.Step.{map_at, is_before_log}
-use Rattle.export_machine.specs.Kept.{world_of, indexes_of, IsIndexed, exporter_at_stop}
+use Rattle.export_protocol.specs.Authority.{order_in, from_of, is_among, is_inside, exporter_of}
+use Rattle.export_protocol.specs.Step.{map_at, is_before_log}
+use Rattle.export_machine.specs.Kept.{world_of, indexes_of, IsIndexed}
+use Rattle.export_protocol.specs.Entries.{exporter_at_stop}
 use Rattle.export_machine.proofs.ByRank.{list_here}
-use Rattle.export_machine.proofs.Views.{map_at_length}
+use Rattle.export_protocol.proofs.Views.{map_at_length}
 use Rattle.export_machine.proofs.Listed.{change_among_none, change_among_next, change_among_all, set_own, before_near}
-use Rattle.export_machine.proofs.Safe.{aborted_safe}
-use Rattle.export_machine.proofs.Reached.{by_safe}
+use Rattle.export_protocol.proofs.Safe.{aborted_safe}
+use Rattle.export_protocol.proofs.Reached.{by_safe}
 use Rattle.export_machine.proofs.Indexing.{abort_there, abort_indexed, aborted}
-use Rattle.export_machine.proofs.Accepted.{numbers_by}
+use Rattle.export_protocol.proofs.Accepted.{numbers_by}
 use Rattle.export_machine.proofs.Halted.{halted_twice, is_halted, not_halted, unlisted_exporter}
 use Rattle.export_machine.proofs.records.Records.halt_exports.Goals as goal
 use Rattle.export_machine.proofs.records.Records.halt_exports.Goals.{then-is_halted, else-is_halted}

@@ -1,7 +1,8 @@
 use Rattle.std.proofs.Common.{◌≡◌, [], cond, eqb, get_or, take}
-use Rattle.export_machine.specs.Authority.{from_of}
-use Rattle.export_machine.specs.Kept.{world_of, indexes_of, IsIndexed, exporter_at_stop}
-use Rattle.export_machine.proofs.Found.{Safely}
+use Rattle.export_protocol.specs.Authority.{from_of}
+use Rattle.export_machine.specs.Kept.{world_of, indexes_of, IsIndexed}
+use Rattle.export_protocol.specs.Entries.{exporter_at_stop}
+use Rattle.export_protocol.proofs.Found.{Safely}
 use Rattle.export_machine.proofs.Listed.{changed_among}
 use Rattle.export_machine.proofs.records.Records.halt_exports.Given as goal
 

@@ -1,14 +1,15 @@
 use Rattle.std.proofs.Common.{◌≡◌, ◌<◌, ◌≤◌, ℕ, Bool, List, [], true, false, cond, eqb, length, get_or, set, take, sym, ap, ◌∙◌, refl, arith}
 use Rattle.std.proofs.lemmas.Bool.{eqb-true}
-use Rattle.export_machine.specs.declared.importer.ImporterState.{ImporterState}
-use Rattle.export_machine.specs.declared.importer.ImporterState.TheVariants.{Unknown}
-use Rattle.export_machine.specs.declared.journal.JournalEntry.{JournalEntry}
+use Rattle.export_protocol.specs.declared.importer.ImporterState.{ImporterState}
+use Rattle.export_protocol.specs.declared.importer.ImporterState.TheVariants.{Unknown}
+use Rattle.export_protocol.specs.declared.journal.JournalEntry.{JournalEntry}
 use Rattle.export_machine.specs.declared.records.Records.{Records}
-use Rattle.export_machine.specs.Authority.{order_in, to_of, has, is_among, importer_of}
-use Rattle.export_machine.specs.Kept.{world_of, indexes_of, importer_at_stop}
+use Rattle.export_protocol.specs.Authority.{order_in, to_of, has, is_among, importer_of}
+use Rattle.export_machine.specs.Kept.{world_of, indexes_of}
+use Rattle.export_protocol.specs.Entries.{importer_at_stop}
 use Rattle.export_machine.proofs.ByRank.{list_here}
-use Rattle.export_machine.proofs.Marks.{map_at_same}
-use Rattle.export_machine.proofs.Views.{map_at_length}
+use Rattle.export_protocol.proofs.Marks.{map_at_same}
+use Rattle.export_protocol.proofs.Views.{map_at_length}
 use Rattle.export_machine.proofs.Listed.{change_among_none, change_among_next, change_among_all}
 use Rattle.export_machine.proofs.Halted.{left_twice, unlisted_importer}
 use Rattle.export_machine.proofs.records.Records.halt_imports.Goals as goal

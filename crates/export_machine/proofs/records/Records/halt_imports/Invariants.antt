@@ -1,6 +1,7 @@
 use Rattle.std.proofs.Common.{◌≡◌, [], false, cond, eqb, get_or, take}
-use Rattle.export_machine.specs.Authority.{to_of}
-use Rattle.export_machine.specs.Kept.{world_of, indexes_of, importer_at_stop}
+use Rattle.export_protocol.specs.Authority.{to_of}
+use Rattle.export_machine.specs.Kept.{world_of, indexes_of}
+use Rattle.export_protocol.specs.Entries.{importer_at_stop}
 use Rattle.export_machine.proofs.Listed.{changed_among}
 use Rattle.export_machine.proofs.records.Records.halt_imports.Given as goal
 

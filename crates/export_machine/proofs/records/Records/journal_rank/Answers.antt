@@ -2,15 +2,15 @@ use Rattle.std.proofs.Common.{◌≡◌, ◌<◌, ℕ, length, Option, Some, Non
 use Rattle.std.specs.Option.{IfSome}
 use Rattle.std.specs.List.{slice_get}
 use Rattle.std.proofs.lemmas.List.{length-map}
-use Rattle.export_machine.specs.Cluster.{World}
-use Rattle.export_machine.specs.declared.event.Event.{Event}
-use Rattle.export_machine.specs.View.{IsReached}
-use Rattle.export_machine.specs.Authority.{authority}
-use Rattle.export_machine.specs.Step.{refusal}
+use Rattle.export_protocol.specs.Cluster.{World}
+use Rattle.export_protocol.specs.declared.event.Event.{Event}
+use Rattle.export_protocol.specs.View.{IsReached}
+use Rattle.export_protocol.specs.Authority.{authority}
+use Rattle.export_protocol.specs.Step.{refusal}
 use Rattle.export_machine.specs.Kept.{world_of, entered_at, receiver_of}
-use Rattle.export_machine.specs.Step.{about}
-use Rattle.export_machine.proofs.Found.{orders_by}
-use Rattle.export_machine.proofs.Accepted.{deliver_near, item_at, as_rank, exporter_rank, receiver_rank, notify_order}
+use Rattle.export_protocol.specs.Step.{about}
+use Rattle.export_protocol.proofs.Found.{orders_by}
+use Rattle.export_protocol.proofs.Accepted.{deliver_near, item_at, as_rank, exporter_rank, receiver_rank, notify_order}
 use Rattle.export_machine.proofs.records.Records.journal_rank.Goals as goal
 
 owner_near : (w : World) → IsReached w → (d : ℕ) (o : Option ℕ) → o ≡ authority w d → IfSome o (λ r. r < length w.journals)

@@ -1,13 +1,13 @@
 use Rattle.std.proofs.Common.{◌≡◌, ◌<◌, length, Some, None, sym, ap, ◌∙◌, arith}
 use Rattle.std.specs.List.{slice_get}
-use Rattle.export_machine.specs.declared.event.Event.{Event}
-use Rattle.export_machine.specs.Step.{refusal}
-use Rattle.export_machine.specs.declared.event.Event.TheVariants.{Deliver}
-use Rattle.export_machine.specs.Entries.{logs_export}
+use Rattle.export_protocol.specs.declared.event.Event.{Event}
+use Rattle.export_protocol.specs.Step.{refusal}
+use Rattle.export_protocol.specs.declared.event.Event.TheVariants.{Deliver}
+use Rattle.export_protocol.specs.Entries.{logs_export}
 use Rattle.export_machine.specs.Kept.{world_of}
-use Rattle.export_machine.specs.Step.{about}
-use Rattle.export_machine.proofs.Found.{orders_by}
-use Rattle.export_machine.proofs.Accepted.{deliver_near, item_at}
+use Rattle.export_protocol.specs.Step.{about}
+use Rattle.export_protocol.proofs.Found.{orders_by}
+use Rattle.export_protocol.proofs.Accepted.{deliver_near, item_at}
 use Rattle.export_machine.proofs.Logging.{ok_none, err_some, refused_not, delivered_logs, other_event}
 use Rattle.export_machine.proofs.records.Records.logs_export.Goals as goal
 

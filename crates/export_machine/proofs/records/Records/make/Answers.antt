@@ -1,12 +1,12 @@
 use Rattle.std.proofs.Common.{◌≡◌, ◌<◌, ◌≤◌, ℕ, Some, None, length, refl, sym, ap, ◌∙◌, arith}
 use Rattle.std.proofs.lemmas.Bool.{and_parts, ltb-true}
 use Rattle.std.proofs.lemmas.List.{length-map}
-use Rattle.export_machine.specs.Authority.{authority}
-use Rattle.export_machine.specs.Step.{happens, is_child}
+use Rattle.export_protocol.specs.Authority.{authority}
+use Rattle.export_protocol.specs.Step.{happens, is_child}
 use Rattle.export_machine.specs.Kept.{world_of, indexes_of, has_room, entered_at, children_of, has_entry_places}
-use Rattle.export_machine.proofs.Views.{length_push}
+use Rattle.export_protocol.proofs.Views.{length_push}
 use Rattle.export_machine.proofs.Growing.{made_indexed, children_are, count_within}
-use Rattle.export_machine.proofs.Accepted.{as_rank, made_parent, made_few, made_has}
+use Rattle.export_protocol.proofs.Accepted.{as_rank, made_parent, made_few, made_has}
 use Rattle.export_machine.proofs.records.Records.make.Goals as goal
 
 pub returns-in_default-clause-effect : goal.returns-in_default-clause-effect

@@ -3,12 +3,13 @@ use Rattle.std.proofs.lemmas.Bool.{and_parts, ltb-true}
 use Rattle.std.proofs.lemmas.List.{length-map}
 use Rattle.mds_types.specs.declared.order.Order.{Order}
 use Rattle.export_machine.specs.ExportColumns.{ExportColumns}
-use Rattle.export_machine.specs.Authority.{from_of, to_of, is_among, order_in}
-use Rattle.export_machine.specs.Step.{happens, map_at}
-use Rattle.export_machine.specs.declared.event.Event.TheVariants.{Notify}
+use Rattle.export_protocol.specs.Authority.{from_of, to_of, is_among, order_in}
+use Rattle.export_protocol.specs.Step.{happens, map_at}
+use Rattle.export_protocol.specs.declared.event.Event.TheVariants.{Notify}
 use Rattle.export_machine.specs.Kept.{world_of, indexes_of, has_room, entered_at}
-use Rattle.export_machine.proofs.Accepted.{room_left, exporter_rank, notify_order, notify_state}
-use Rattle.export_machine.proofs.Rows.{notify_there, notify_indexed}
+use Rattle.export_protocol.proofs.Accepted.{room_left, exporter_rank, notify_order, notify_state}
+use Rattle.export_protocol.proofs.Found.{notify_there}
+use Rattle.export_machine.proofs.Rows.{notify_indexed}
 use Rattle.export_machine.proofs.records.Records.notify.Goals as goal
 
 pub order-order-requires : goal.order-order-requires

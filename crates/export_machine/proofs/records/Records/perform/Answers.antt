@@ -1,7 +1,7 @@
 use Rattle.std.proofs.Common.{◌≡◌, ◌<◌, sym, ap, ◌∙◌, arith}
-use Rattle.export_machine.specs.Step.{Outcome}
+use Rattle.export_protocol.specs.Step.{Outcome}
 use Rattle.export_machine.specs.Kept.{world_of}
-use Rattle.export_machine.proofs.Accepted.{room_left}
+use Rattle.export_protocol.proofs.Accepted.{room_left}
 use Rattle.export_machine.proofs.Bounds.{kept_step, stepped, happens_events}
 use Rattle.export_machine.proofs.records.Records.perform.Goals as goal
 

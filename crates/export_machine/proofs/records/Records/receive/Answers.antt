@@ -1,6 +1,6 @@
 use Rattle.std.proofs.Common.{◌≡◌, None, refl, sym, ◌∙◌}
-use Rattle.export_machine.specs.Authority.{exporter_of, importer_of}
-use Rattle.export_machine.specs.Step.{about, move}
+use Rattle.export_protocol.specs.Authority.{exporter_of, importer_of}
+use Rattle.export_protocol.specs.Step.{about, move}
 use Rattle.export_machine.specs.Kept.{world_of}
 use Rattle.export_machine.proofs.records.Records.receive.Goals as goal
 

@@ -2,12 +2,12 @@ use Rattle.std.proofs.Common.{◌≡◌, ◌<◌, ℕ, Some, None, length, get_o
 use Rattle.std.proofs.lemmas.Bool.{and_parts}
 use Rattle.std.specs.Option.{is_some}
 use Rattle.std.proofs.lemmas.List.{length-map}
-use Rattle.export_machine.specs.Authority.{authority}
-use Rattle.export_machine.specs.Step.{happens}
+use Rattle.export_protocol.specs.Authority.{authority}
+use Rattle.export_protocol.specs.Step.{happens}
 use Rattle.export_machine.specs.Kept.{world_of, indexes_of, has_room, entered_at, has_entry_places}
-use Rattle.export_machine.proofs.Events.{there_near}
+use Rattle.export_protocol.proofs.Events.{there_near}
 use Rattle.export_machine.proofs.Growing.{gone_indexed, parent_below, some_child}
-use Rattle.export_machine.proofs.Accepted.{as_rank, gone_dir, gone_there, gone_closed, gone_idle, gone_has}
+use Rattle.export_protocol.proofs.Accepted.{as_rank, gone_dir, gone_there, gone_closed, gone_idle, gone_has}
 use Rattle.export_machine.proofs.records.Records.remove.Goals as goal
 
 differ : (r : ℕ) → None ≡ Some r → ⊥

@@ -1,7 +1,7 @@
 use Rattle.std.proofs.Common.{◌≡◌, List, Bool, false, cond, set, sym, ap, ◌∙◌}
-use Rattle.export_machine.specs.Step.{happens, changed, ignored, restarts}
+use Rattle.export_protocol.specs.Step.{happens, changed, ignored, restarts}
 use Rattle.export_machine.specs.Kept.{world_of, indexes_of}
-use Rattle.export_machine.proofs.Resting.{restarts_same}
+use Rattle.export_protocol.proofs.Resting.{restarts_same}
 use Rattle.export_machine.proofs.Halted.{stopped_indexed}
 use Rattle.export_machine.proofs.records.Records.restart.Goals as goal
 

@@ -1,5 +1,5 @@
 use Rattle.std.proofs.Common.{◌≡◌, length, ap, ◌∙◌, arith}
-use Rattle.export_machine.specs.Roots.{roots, roots_below}
+use Rattle.export_protocol.specs.Roots.{roots, roots_below}
 use Rattle.export_machine.specs.Kept.{world_of}
 use Rattle.export_machine.proofs.records.Records.roots.Goals as goal
 

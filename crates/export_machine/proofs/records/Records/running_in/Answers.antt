@@ -2,10 +2,10 @@ use Rattle.std.proofs.Common.{◌≡◌, ◌<◌, ◌≤◌, ◌+◌, false, len
 use Rattle.std.proofs.lemmas.List.{take_all}
 use Rattle.std.proofs.lemmas.Bool.{false_from_ne_true}
 use Rattle.std.proofs.Math.Nat.{le_trans}
-use Rattle.export_machine.specs.Authority.{runs_on}
-use Rattle.export_machine.specs.Step.{running_on, repeats}
+use Rattle.export_protocol.specs.Authority.{runs_on}
+use Rattle.export_protocol.specs.Step.{running_on, repeats}
 use Rattle.export_machine.specs.Kept.{world_of}
-use Rattle.export_machine.proofs.Lists.{running_none, running_next, count_within}
+use Rattle.export_machine.proofs.Counts.{running_none, running_next, count_within}
 use Rattle.export_machine.proofs.records.Records.running_in.Goals as goal
 
 pub loop-dir-init : goal.loop-dir-init

@@ -1,5 +1,5 @@
 use Rattle.std.proofs.Common.{◌≡◌, take}
-use Rattle.export_machine.specs.Step.{running_on}
+use Rattle.export_protocol.specs.Step.{running_on}
 use Rattle.export_machine.specs.Kept.{world_of}
 use Rattle.export_machine.proofs.records.Records.running_in.Given as goal
 

@@ -1,11 +1,11 @@
 use Rattle.std.proofs.Common.{◌≡◌, ◌≢◌, ℕ, Bool, true, false, not, eqb, Option, Some, None, sym, ap, ◌∙◌, arith}
 use Rattle.std.proofs.lemmas.Bool.{eqb-true}
 use Rattle.std.specs.Option.{is_some}
-use Rattle.export_machine.specs.Authority.{authority, serves, frozen_by}
-use Rattle.export_machine.specs.Cluster.{World}
-use Rattle.export_machine.specs.View.{IsReached}
+use Rattle.export_protocol.specs.Authority.{authority, serves, frozen_by}
+use Rattle.export_protocol.specs.Cluster.{World}
+use Rattle.export_protocol.specs.View.{IsReached}
 use Rattle.export_machine.specs.Kept.{world_of}
-use Rattle.export_machine.proofs.Found.{found_serving, found_not_serving, found_elsewhere}
+use Rattle.export_protocol.proofs.Found.{found_serving, found_not_serving, found_elsewhere}
 use Rattle.export_machine.proofs.records.Records.serves.Goals as goal
 
 other : (a b : ℕ) → eqb a b ≡ false → Some a ≢ Some b

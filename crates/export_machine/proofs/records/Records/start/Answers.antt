@@ -1,10 +1,11 @@
 use Rattle.std.proofs.Common.{◌≡◌, ◌<◌, ℕ, List, length, refl, sym, ap, ◌∙◌, arith}
 use Rattle.std.proofs.lemmas.Bool.{and_parts, ltb-true}
-use Rattle.export_machine.specs.Authority.{is_among}
-use Rattle.export_machine.specs.Step.{happens}
+use Rattle.export_protocol.specs.Authority.{is_among}
+use Rattle.export_protocol.specs.Step.{happens}
 use Rattle.export_machine.specs.Kept.{world_of, indexes_of, has_room}
 use Rattle.std.proofs.lemmas.List.{length-map}
-use Rattle.export_machine.proofs.Starting.{start_from_rank, start_there, start_few, start_indexed}
+use Rattle.export_machine.proofs.Starting.{start_from_rank, start_indexed}
+use Rattle.export_protocol.proofs.Accepted.{start_there, start_few}
 use Rattle.export_machine.proofs.records.Records.start.Goals as goal
 
 pub overflow_cast-export : goal.overflow_cast-export

@@ -1,17 +1,17 @@
 use Rattle.std.proofs.Common.{◌≡◌, ◌<◌, ℕ, List, Bool, Some, true, length, set, sym, ap, ◌∙◌, subst, arith}
 use Rattle.std.proofs.lemmas.List.{length-map}
-use Rattle.export_machine.specs.declared.exporter.ExporterState.{ExporterState}
-use Rattle.export_machine.specs.declared.importer.ImporterState.{ImporterState}
-use Rattle.export_machine.specs.declared.importer.ImporterState.TheVariants.{Dropped}
-use Rattle.export_machine.specs.declared.journal.JournalEntry.{JournalEntry}
-use Rattle.export_machine.specs.declared.event.Request.{Request}
+use Rattle.export_protocol.specs.declared.exporter.ExporterState.{ExporterState}
+use Rattle.export_protocol.specs.declared.importer.ImporterState.{ImporterState}
+use Rattle.export_protocol.specs.declared.importer.ImporterState.TheVariants.{Dropped}
+use Rattle.export_protocol.specs.declared.journal.JournalEntry.{JournalEntry}
+use Rattle.export_protocol.specs.declared.event.Request.{Request}
 use Rattle.export_machine.specs.declared.records.Records.{Records}
-use Rattle.export_machine.specs.Cluster.{World}
-use Rattle.export_machine.specs.Authority.{importer_of, has, request_of}
-use Rattle.export_machine.specs.Step.{happens, changed}
+use Rattle.export_protocol.specs.Cluster.{World}
+use Rattle.export_protocol.specs.Authority.{importer_of, has, request_of}
+use Rattle.export_protocol.specs.Step.{happens, changed}
 use Rattle.export_machine.specs.Kept.{world_of, indexes_of, IsIndexed, AreListed}
-use Rattle.export_machine.proofs.Accepted.{numbers_by}
-use Rattle.export_machine.proofs.Views.{map_at_length}
+use Rattle.export_protocol.proofs.Accepted.{numbers_by}
+use Rattle.export_protocol.proofs.Views.{map_at_length}
 use Rattle.export_machine.proofs.Indexing.{request_there}
 use Rattle.export_machine.proofs.Rows.{importer_indexed}
 use Rattle.export_machine.proofs.Halted.{aborts, forgets, ends, stops_all, dropped_there, left_listed, stopped_indexed, stop_rank}

@@ -1,5 +1,5 @@
 use Rattle.std.proofs.Common.{subst}
-use Rattle.export_machine.specs.Promises.{Promised}
+use Rattle.export_protocol.specs.Promises.{Promised}
 use Rattle.mds_board.specs.History.{World}
 use Rattle.mds_board.specs.Promises.{IsKept}
 use Rattle.mds_board.proofs.Begun.{begun_in}

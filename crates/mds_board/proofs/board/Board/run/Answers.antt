@@ -1,6 +1,6 @@
 use Rattle.std.proofs.Common.{◌<◌, ◌≤◌, length, take, arith}
 use Rattle.std.proofs.lemmas.List.{take_all}
-use Rattle.export_machine.proofs.Lists.{take_next}
+use Rattle.export_protocol.proofs.Lists.{take_next}
 use Rattle.mds_board.proofs.Listing.{carried_next}
 use Rattle.mds_board.proofs.board.Board.run.Goals as goal
 

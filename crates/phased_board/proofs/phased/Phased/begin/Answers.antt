@@ -1,8 +1,8 @@
 use Rattle.std.proofs.Common.{List, refl, subst, sym, ◌∙◌}
 use Rattle.std.specs.Prelude.{IfErr, IfOk}
 use mathlib.Core.List.{IsPrefix}
-use Rattle.export_machine.specs.declared.event.Event.{Event}
-use Rattle.export_machine.specs.declared.event.Reply.TheVariants as reply
+use Rattle.export_protocol.specs.declared.event.Event.{Event}
+use Rattle.export_protocol.specs.declared.event.Reply.TheVariants as reply
 use Rattle.board_state.specs.declared.change.Answer.TheVariants as answer
 use Rattle.board_state.specs.declared.change.Change.TheVariants as change
 use Rattle.board_state.specs.Steps.{spelled}

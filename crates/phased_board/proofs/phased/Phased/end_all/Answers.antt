@@ -1,5 +1,5 @@
 use Rattle.std.proofs.Common.{◌≡◌, ◌++◌, ◌∙◌, [], ℕ, List, Some, None, ap, sym, subst, append-nil, append_assoc, arith}
-use Rattle.export_machine.specs.Authority.{request_of}
+use Rattle.export_protocol.specs.Authority.{request_of}
 use Rattle.mds_board.specs.declared.entry.Entry.{Entry}
 use Rattle.phased_board.proofs.Ended.{either_met, none_runs, over_more}
 use Rattle.phased_board.proofs.Later.{end_later}

@@ -1,6 +1,6 @@
 use Rattle.std.proofs.Common.{◌≡◌, ◌≤◌, ◌<◌, ◌++◌, ℕ, List, None, Some, slice_get}
 use Rattle.std.specs.Prelude.{IsOk}
-use Rattle.export_machine.specs.Authority.{request_of}
+use Rattle.export_protocol.specs.Authority.{request_of}
 use Rattle.mds_board.specs.declared.entry.Entry.{Entry}
 use Rattle.phased_board.specs.Begun.{IsEndMet}
 use Rattle.phased_board.proofs.Ended.{IsOver}

@@ -1,0 +1,10 @@
+pub mod Cluster
+pub mod Authority
+pub mod Step
+pub mod Promises
+pub mod View
+pub mod Roots
+pub mod Connected
+pub mod Local
+pub mod Entries
+pub mod Refused
