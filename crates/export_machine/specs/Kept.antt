@@ -6,7 +6,8 @@ use Rattle.export_protocol.specs.Cluster.{World}
 use Rattle.export_machine.specs.Columns.{has_spare}
 use Rattle.export_protocol.specs.Authority.{authority, open_export, is_among, order_in, from_of, exporter_of}
 use Rattle.export_protocol.specs.Authority.{importer_of, has_entry}
-use Rattle.export_protocol.specs.Step.{running_on, is_child, about, receiver, repeats, comes, is_before_log}
+use Rattle.export_protocol.specs.Step.{running_on, is_child, about, receiver, repeats, comes, is_before_log, happens}
+use Rattle.export_protocol.specs.Step.{refusal}
 use Rattle.export_protocol.specs.View.{IsReached}
 use Rattle.export_protocol.specs.declared.event.Event.{Event}
 use Rattle.export_protocol.specs.declared.event.Reply.{Reply}
@@ -204,6 +205,18 @@ has_list_places r (Event.Ask export) = has_spare r.sent
 
 unfoldable pub has_room : Records → Event → Bool
 has_room r e = has_entry_places r (entered_at (world_of r) e) && has_list_places r e
+
+-- What may happen, and what then happened.
+
+-- no cause refuses the event, and there is room for it
+pub record CanHappen (r : Records) (e : Event) : Type 0 where
+  pub kept : IsKept r
+  pub accepted : refusal (world_of r) e ≡ None
+  pub room : has_room r e ≡ true
+
+pub record HasHappened (old : Records) (e : Event) (reply : Reply) (new : Records) : Type 0 where
+  pub effect : happens (world_of old) e ≡ record { reply = reply; world = world_of new }
+  pub indexed : IsIndexed (world_of new) (indexes_of new)
 
 -- What a rank can rely on where a message comes, and what it then did.
 

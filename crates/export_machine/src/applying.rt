@@ -1,13 +1,12 @@
 //! One event: its refusal, its memory, its effect, in this order.
 
 ghost use Rattle.std.specs.Prelude.{◌≡◌, ◌<◌, ℕ, length, map, Some, None, true, Ok, OnOk, OnErr, IsOk, IfSome, IfErr};
-ghost use Rattle.export_protocol.specs.Step.{refusal, happens, step};
-ghost use Rattle.export_protocol.specs.declared.event.Event.{Event as StepEvent};
+ghost use Rattle.export_protocol.specs.Step.{refusal, step};
 ghost use Rattle.export_protocol.specs.View.{IsAnswer};
 ghost use Rattle.export_machine.specs.Room.{IsAsRoomy, IsRefusal};
 ghost use Rattle.export_machine.specs.Kept.{world_of, indexes_of, has_room, has_place, has_entry_places};
 ghost use Rattle.export_machine.specs.Kept.{has_list_places, has_ticket_places, has_dir_places, has_export_places};
-ghost use Rattle.export_machine.specs.Kept.{entered_at, IsKept, IsIndexed};
+ghost use Rattle.export_machine.specs.Kept.{entered_at, CanHappen, HasHappened, IsKept};
 
 use crate::records::Records;
 use export_protocol::{Event, Reply, StepError};
@@ -71,11 +70,8 @@ impl Records {
 
     /// The effect of an accepted event for which there is room.
     fn happen(&mut self, event: Event) -> Reply
-        requires kept { IsKept self.old }
-        requires accepted { refusal (world_of self.old) (event) ≡ None }
-        requires room { has_room self.old (event) ≡ true }
-        ensures effect { happens (world_of self.old) (event) ≡ record { reply = result; world = world_of self.new } }
-        ensures indexed { IsIndexed (world_of self.new) (indexes_of self.new) }
+        requires { CanHappen self.old (event) }
+        ensures { HasHappened self.old (event) result self.new }
     {
         match event {
             Event::Made(parent) => self.make(parent),

@@ -4,11 +4,11 @@
 
 ghost use Rattle.std.specs.Prelude.{◌≡◌, ◌<◌, ℕ, length, map, Some, None, true, slice_get, vec_len, vec_capacity};
 ghost use Rattle.export_protocol.specs.Authority.{order_in, is_inside, exporter_of, importer_of};
-ghost use Rattle.export_protocol.specs.Step.{refusal, happens, receiver, about, move};
+ghost use Rattle.export_protocol.specs.Step.{receiver, about, move};
 ghost use Rattle.export_protocol.specs.Step.{exporter_moves, importer_moves, notes, replies};
 ghost use Rattle.export_protocol.specs.declared.event.Event.{Event as StepEvent};
 ghost use Rattle.export_protocol.specs.Entries.{logs_export, is_log, delivered_entry};
-ghost use Rattle.export_machine.specs.Kept.{world_of, indexes_of, has_place, has_room, addressed};
+ghost use Rattle.export_machine.specs.Kept.{CanHappen, HasHappened, world_of, indexes_of, has_place, addressed};
 ghost use Rattle.export_machine.specs.Kept.{IsKept, IsIndexed, CanReceive, IsReceived};
 ghost use Rattle.export_machine.specs.Moving.{heard, indexes_noted};
 
@@ -181,12 +181,8 @@ impl Records {
 
     /// A message that was sent comes. A stopped rank doesn't take it.
     pub(crate) fn deliver(&mut self, message: u32) -> Reply
-        requires kept { IsKept self.old }
-        requires accepted { refusal (world_of self.old) (StepEvent.Deliver message) ≡ None }
-        requires room { has_room self.old (StepEvent.Deliver message) ≡ true }
-        ensures effect { happens (world_of self.old) (StepEvent.Deliver message)
-            ≡ record { reply = result; world = world_of self.new } }
-        ensures indexed { IsIndexed (world_of self.new) (indexes_of self.new) }
+        requires { CanHappen self.old (StepEvent.Deliver message) }
+        ensures { HasHappened self.old (StepEvent.Deliver message) result self.new }
     {
         let message = self.sent[message as usize];
         let rank = self.receiver(message);

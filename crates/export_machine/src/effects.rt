@@ -2,10 +2,8 @@
 //!
 //! The memory was taken before: no change here can be refused.
 
-ghost use Rattle.std.specs.Prelude.{◌≡◌, ◌<◌, length, None, true};
-ghost use Rattle.export_protocol.specs.Step.{refusal, happens};
 ghost use Rattle.export_protocol.specs.declared.event.Event.{Event as StepEvent};
-ghost use Rattle.export_machine.specs.Kept.{world_of, indexes_of, has_room, IsKept, IsIndexed};
+ghost use Rattle.export_machine.specs.Kept.{CanHappen, HasHappened};
 
 use crate::changes::{enter, send};
 use crate::records::Records;
@@ -15,12 +13,8 @@ use mds_types::{Dir, Dirs, Order, Rank};
 impl Records {
     /// A request begins.
     pub(crate) fn begin(&mut self, rank: Rank, dir: Dir) -> Reply
-        requires kept { IsKept self.old }
-        requires accepted { refusal (world_of self.old) (StepEvent.Begin rank dir) ≡ None }
-        requires room { has_room self.old (StepEvent.Begin rank dir) ≡ true }
-        ensures effect { happens (world_of self.old) (StepEvent.Begin rank dir)
-            ≡ record { reply = result; world = world_of self.new } }
-        ensures indexed { IsIndexed (world_of self.new) (indexes_of self.new) }
+        requires { CanHappen self.old (StepEvent.Begin rank dir) }
+        ensures { HasHappened self.old (StepEvent.Begin rank dir) result self.new }
     {
         let ticket = self.tickets.len() as u32;
         self.tickets.push_reserved(Some(Request { rank, dir }));
@@ -31,11 +25,8 @@ impl Records {
 
     /// A request ends.
     pub(crate) fn end(&mut self, ticket: u32) -> Reply
-        requires kept { IsKept self.old }
-        requires accepted { refusal (world_of self.old) (StepEvent.End ticket) ≡ None }
-        ensures effect { happens (world_of self.old) (StepEvent.End ticket)
-            ≡ record { reply = result; world = world_of self.new } }
-        ensures indexed { IsIndexed (world_of self.new) (indexes_of self.new) }
+        requires { CanHappen self.old (StepEvent.End ticket) }
+        ensures { HasHappened self.old (StepEvent.End ticket) result self.new }
     {
         let Some(request) = self.tickets[ticket as usize] else {
             return Reply::Ignored;
@@ -48,12 +39,8 @@ impl Records {
 
     /// The exporter has waited until no request runs on the export's directories.
     pub(crate) fn froze(&mut self, export: u32) -> Reply
-        requires kept { IsKept self.old }
-        requires accepted { refusal (world_of self.old) (StepEvent.Froze export) ≡ None }
-        requires room { has_room self.old (StepEvent.Froze export) ≡ true }
-        ensures effect { happens (world_of self.old) (StepEvent.Froze export)
-            ≡ record { reply = result; world = world_of self.new } }
-        ensures indexed { IsIndexed (world_of self.new) (indexes_of self.new) }
+        requires { CanHappen self.old (StepEvent.Froze export) }
+        ensures { HasHappened self.old (StepEvent.Froze export) result self.new }
     {
         self.exports.set_exporter(export, ExporterState::Preparing);
         send(&mut self.sent, Message::Prep(export))
@@ -61,12 +48,8 @@ impl Records {
 
     /// The exporter gives the export up.
     pub(crate) fn abort(&mut self, export: u32) -> Reply
-        requires kept { IsKept self.old }
-        requires accepted { refusal (world_of self.old) (StepEvent.Abort export) ≡ None }
-        requires room { has_room self.old (StepEvent.Abort export) ≡ true }
-        ensures effect { happens (world_of self.old) (StepEvent.Abort export)
-            ≡ record { reply = result; world = world_of self.new } }
-        ensures indexed { IsIndexed (world_of self.new) (indexes_of self.new) }
+        requires { CanHappen self.old (StepEvent.Abort export) }
+        ensures { HasHappened self.old (StepEvent.Abort export) result self.new }
     {
         self.exports.set_exporter(export, ExporterState::Aborted);
         let order = self.exports.order(export);
@@ -79,12 +62,8 @@ impl Records {
 
     /// A directory is made below this parent. It has its parent's authority.
     pub(crate) fn make(&mut self, parent: Dir) -> Reply
-        requires kept { IsKept self.old }
-        requires accepted { refusal (world_of self.old) (StepEvent.Made parent) ≡ None }
-        requires room { has_room self.old (StepEvent.Made parent) ≡ true }
-        ensures effect { happens (world_of self.old) (StepEvent.Made parent)
-            ≡ record { reply = result; world = world_of self.new } }
-        ensures indexed { IsIndexed (world_of self.new) (indexes_of self.new) }
+        requires { CanHappen self.old (StepEvent.Made parent) }
+        ensures { HasHappened self.old (StepEvent.Made parent) result self.new }
     {
         let dir = Dir::new(self.dirs.len() as u32);
         let Some(rank) = self.authority(parent) else {
@@ -99,12 +78,8 @@ impl Records {
 
     /// A directory is removed.
     pub(crate) fn remove(&mut self, dir: Dir) -> Reply
-        requires kept { IsKept self.old }
-        requires accepted { refusal (world_of self.old) (StepEvent.Gone dir) ≡ None }
-        requires room { has_room self.old (StepEvent.Gone dir) ≡ true }
-        ensures effect { happens (world_of self.old) (StepEvent.Gone dir)
-            ≡ record { reply = result; world = world_of self.new } }
-        ensures indexed { IsIndexed (world_of self.new) (indexes_of self.new) }
+        requires { CanHappen self.old (StepEvent.Gone dir) }
+        ensures { HasHappened self.old (StepEvent.Gone dir) result self.new }
     {
         let Some(rank) = self.authority(dir) else {
             return Reply::Ignored;
@@ -120,12 +95,8 @@ impl Records {
 
     /// An export starts.
     pub(crate) fn start(&mut self, from: Rank, to: Rank, dirs: Dirs) -> Reply
-        requires kept { IsKept self.old }
-        requires accepted { refusal (world_of self.old) (StepEvent.Start from to dirs) ≡ None }
-        requires room { has_room self.old (StepEvent.Start from to dirs) ≡ true }
-        ensures effect { happens (world_of self.old) (StepEvent.Start from to dirs)
-            ≡ record { reply = result; world = world_of self.new } }
-        ensures indexed { IsIndexed (world_of self.new) (indexes_of self.new) }
+        requires { CanHappen self.old (StepEvent.Start from to dirs) }
+        ensures { HasHappened self.old (StepEvent.Start from to dirs) result self.new }
     {
         let export = self.exports.len() as u32;
         let message = self.sent.len() as u32;
@@ -138,12 +109,8 @@ impl Records {
 
     /// The exporter makes the map name the importer.
     pub(crate) fn notify(&mut self, export: u32) -> Reply
-        requires kept { IsKept self.old }
-        requires accepted { refusal (world_of self.old) (StepEvent.Notify export) ≡ None }
-        requires room { has_room self.old (StepEvent.Notify export) ≡ true }
-        ensures effect { happens (world_of self.old) (StepEvent.Notify export)
-            ≡ record { reply = result; world = world_of self.new } }
-        ensures indexed { IsIndexed (world_of self.new) (indexes_of self.new) }
+        requires { CanHappen self.old (StepEvent.Notify export) }
+        ensures { HasHappened self.old (StepEvent.Notify export) result self.new }
     {
         self.exports.set_exporter(export, ExporterState::Done);
         let order = self.exports.order(export);
@@ -158,12 +125,8 @@ impl Records {
 
     /// The importer asks the exporter what became of the export.
     pub(crate) fn ask(&mut self, export: u32) -> Reply
-        requires kept { IsKept self.old }
-        requires accepted { refusal (world_of self.old) (StepEvent.Ask export) ≡ None }
-        requires room { has_room self.old (StepEvent.Ask export) ≡ true }
-        ensures effect { happens (world_of self.old) (StepEvent.Ask export)
-            ≡ record { reply = result; world = world_of self.new } }
-        ensures indexed { IsIndexed (world_of self.new) (indexes_of self.new) }
+        requires { CanHappen self.old (StepEvent.Ask export) }
+        ensures { HasHappened self.old (StepEvent.Ask export) result self.new }
     {
         send(&mut self.sent, Message::Query(export))
     }

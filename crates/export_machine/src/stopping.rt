@@ -2,10 +2,11 @@
 
 ghost use Rattle.std.specs.Prelude.{◌≡◌, ◌<◌, ℕ, filter, is_some, length, Some, None, true, false};
 ghost use Rattle.std.specs.Prelude.{not, ◌&&◌, slice_set, slice_index_or, if◌then◌else◌, ◌==◌};
-ghost use Rattle.export_protocol.specs.Authority.{is_among, from_of, to_of, exporter_of, importer_of, has, request_of};
-ghost use Rattle.export_protocol.specs.Step.{refusal, happens, map_at, is_before_log, ends_at};
+ghost use Rattle.export_protocol.specs.Authority.{from_of, to_of, exporter_of, importer_of, has, request_of};
+ghost use Rattle.export_protocol.specs.Step.{map_at, is_before_log, ends_at};
 ghost use Rattle.export_protocol.specs.declared.event.Event.{Event as StepEvent};
-ghost use Rattle.export_machine.specs.Kept.{world_of, indexes_of, is_passing, is_open_at, IsKept};
+ghost use Rattle.export_machine.specs.Kept.{CanHappen, HasHappened, world_of, indexes_of, is_passing, is_open_at};
+ghost use Rattle.export_machine.specs.Kept.{IsKept};
 ghost use Rattle.export_machine.specs.Kept.{IsIndexed};
 ghost use Rattle.export_protocol.specs.Entries.{exporter_at_stop, importer_at_stop};
 ghost use Rattle.export_protocol.specs.declared.event.Request.{Request};
@@ -300,11 +301,8 @@ impl Records {
 
     /// A rank stops.
     pub(crate) fn stop(&mut self, rank: Rank) -> Reply
-        requires kept { IsKept self.old }
-        requires accepted { refusal (world_of self.old) (StepEvent.Stop rank) ≡ None }
-        ensures effect { happens (world_of self.old) (StepEvent.Stop rank)
-            ≡ record { reply = result; world = world_of self.new } }
-        ensures indexed { IsIndexed (world_of self.new) (indexes_of self.new) }
+        requires { CanHappen self.old (StepEvent.Stop rank) }
+        ensures { HasHappened self.old (StepEvent.Stop rank) result self.new }
     {
         self.halt_exports(rank);
         self.halt_imports(rank);
@@ -316,11 +314,8 @@ impl Records {
 
     /// A rank runs again. Its states are those that its journal holds, as the stop left them.
     pub(crate) fn restart(&mut self, rank: Rank) -> Reply
-        requires kept { IsKept self.old }
-        requires accepted { refusal (world_of self.old) (StepEvent.Restart rank) ≡ None }
-        ensures effect { happens (world_of self.old) (StepEvent.Restart rank)
-            ≡ record { reply = result; world = world_of self.new } }
-        ensures indexed { IsIndexed (world_of self.new) (indexes_of self.new) }
+        requires { CanHappen self.old (StepEvent.Restart rank) }
+        ensures { HasHappened self.old (StepEvent.Restart rank) result self.new }
     {
         if !self.is_stopped(rank) {
             return Reply::Ignored;

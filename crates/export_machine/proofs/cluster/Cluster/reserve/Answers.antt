@@ -1,4 +1,4 @@
-use Rattle.std.proofs.Common.{sym, ap, ◌∙◌}
+use Rattle.std.proofs.Common.{ap, ◌∙◌}
 use Rattle.export_protocol.specs.Step.{refusal}
 use Rattle.export_machine.specs.Kept.{State, is_ready}
 use Rattle.export_machine.proofs.Bounds.{kept_same, on_ok, ready_is, keeps_room}

@@ -61,9 +61,10 @@ note_told-requires-clause-indexed c =
     (abort_indexed (world_of c.args.self.now) c.args.export (as_exporter (world_of c.args.self.now) c.requires.kept.reached c.args.export order) c.send-reply.new.sent.items (by_safe (world_of c.args.self.now) c.requires.kept.reached) (indexes_of c.args.self.now)
     c.requires.kept.indexed (abort_state (world_of c.args.self.now) c.args.export c.requires.accepted))
 
-pub returns-clause-effect : goal.returns-clause-effect
+pub returns : goal.returns
 unfolding happens
-returns-clause-effect c = rw (c.note_told.ensures.others, c.send-reply.ensures.items, c.send-reply.ensures.reply, c.mark_opened.ensures, c.set_exporter.ensures) refl
-
-pub returns-clause-indexed : goal.returns-clause-indexed
-returns-clause-indexed c = c.note_told.ensures.indexed
+returns c =
+    record {
+      effect = rw (c.note_told.ensures.others, c.send-reply.ensures.items, c.send-reply.ensures.reply, c.mark_opened.ensures, c.set_exporter.ensures) refl;
+      indexed = c.note_told.ensures.indexed;
+    }

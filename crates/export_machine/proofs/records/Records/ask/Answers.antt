@@ -14,9 +14,10 @@ send-requires-clause-room c = ltb-true _ _ (and_parts _ _ c.requires.room).1
 pub send-requires-clause-few : goal.send-requires-clause-few
 send-requires-clause-few c = let left = room_left (world_of c.args.self.now) (Ask c.args.export) c.requires.accepted in omega (arith, c.requires.kept.sent)
 
-pub returns-clause-effect : goal.returns-clause-effect
+pub returns : goal.returns
 unfolding happens
-returns-clause-effect c = rw (c.send.ensures.items, c.send.ensures.reply) refl
-
-pub returns-clause-indexed : goal.returns-clause-indexed
-returns-clause-indexed c = importer_indexed (world_of c.args.self.now) (indexes_of c.args.self.now) c.requires.kept.indexed c.args.self.now.exports.importers c.send.new.sent.items _ c.requires.kept.indexed.listed
+returns c =
+    record {
+      effect = rw (c.send.ensures.items, c.send.ensures.reply) refl;
+      indexed = importer_indexed (world_of c.args.self.now) (indexes_of c.args.self.now) c.requires.kept.indexed c.args.self.now.exports.importers c.send.new.sent.items _ c.requires.kept.indexed.listed;
+    }

@@ -32,17 +32,18 @@ begin-requires-clause-few c =
     let l : get_or c.args.self.now.dirs.running c.args.dir 0 ≤ c.args.self.now.events = rw (c.requires.kept.indexed.running c.args.dir) (le_trans m c.requires.kept.tickets) in
     omega (arith, c.requires.kept.counted)
 
-pub returns-clause-effect : goal.returns-clause-effect
+pub returns : goal.returns
 unfolding happens
-returns-clause-effect c =
-    let e : c.len-ticket.result ≡ length c.args.self.now.tickets.items = omega arith in
-    rw (c.push_reserved.ensures.items, c.begin.ensures, e) refl
-
-pub returns-clause-indexed : goal.returns-clause-indexed
-returns-clause-indexed c =
-    let near : c.args.dir < length c.args.self.now.dirs.parents = begin_dir (world_of c.args.self.now) c.args.rank c.args.dir c.requires.accepted in
-    let few : c.args.rank < (world_of c.args.self.now).ranks = begin_rank (world_of c.args.self.now) c.args.rank c.args.dir c.requires.accepted in
-    let ranked : c.args.rank < length (indexes_of c.args.self.now).tickets_at = omega (arith, c.requires.kept.indexed.requests.ranked) in
-    let e : c.len-ticket.result ≡ length c.args.self.now.tickets.items = omega arith in
-    rw (c.begin.ensures, c.enter.ensures.entered, e) (begin_indexed (world_of c.args.self.now) (indexes_of c.args.self.now) (record { rank = c.args.rank; dir = c.args.dir }) c.requires.kept.indexed near ranked
-    c.push_reserved.new.self.items c.push_reserved.ensures.items)
+returns c =
+    record {
+      effect =
+          (let e : c.len-ticket.result ≡ length c.args.self.now.tickets.items = omega arith in
+          rw (c.push_reserved.ensures.items, c.begin.ensures, e) refl);
+      indexed =
+          (let near : c.args.dir < length c.args.self.now.dirs.parents = begin_dir (world_of c.args.self.now) c.args.rank c.args.dir c.requires.accepted in
+          let few : c.args.rank < (world_of c.args.self.now).ranks = begin_rank (world_of c.args.self.now) c.args.rank c.args.dir c.requires.accepted in
+          let ranked : c.args.rank < length (indexes_of c.args.self.now).tickets_at = omega (arith, c.requires.kept.indexed.requests.ranked) in
+          let e : c.len-ticket.result ≡ length c.args.self.now.tickets.items = omega arith in
+          rw (c.begin.ensures, c.enter.ensures.entered, e) (begin_indexed (world_of c.args.self.now) (indexes_of c.args.self.now) (record { rank = c.args.rank; dir = c.args.dir }) c.requires.kept.indexed near ranked
+          c.push_reserved.new.self.items c.push_reserved.ensures.items));
+    }

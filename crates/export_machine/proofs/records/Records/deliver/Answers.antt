@@ -20,14 +20,18 @@ receiver-rank-requires c =
     item_at c.args.self.now.sent.items c.args.message c.index-message.result.now (deliver_near (world_of c.args.self.now) c.args.message c.requires.accepted) c.index-message.ensures in
     orders_by (world_of c.args.self.now) c.requires.kept.reached (about c.index-message.result.now) (length (world_of c.args.self.now).orders) (λ safe. safe.tables.known c.args.message c.index-message.result.now sent)
 
-pub returns-then-is_stopped-clause-effect : goal.returns-then-is_stopped-clause-effect
+pub returns-then-is_stopped : goal.returns-then-is_stopped
 unfolding happens
-returns-then-is_stopped-clause-effect c =
-    let sent : slice_get c.args.self.now.sent.items c.args.message ≡ Some c.index-message.result.now =
-    item_at c.args.self.now.sent.items c.args.message c.index-message.result.now (deliver_near (world_of c.args.self.now) c.args.message c.requires.accepted) c.index-message.ensures in
-    let s : is_stopped (world_of c.args.self.now) (receiver (world_of c.args.self.now) c.index-message.result.now) ≡ true =
-    ap (is_stopped (world_of c.args.self.now)) (sym c.receiver-rank.ensures) ∙ (sym c.is_stopped.ensures ∙ c.if-is_stopped.true) in
-    rw (sent, s) refl
+returns-then-is_stopped c =
+    record {
+      effect =
+          (let sent : slice_get c.args.self.now.sent.items c.args.message ≡ Some c.index-message.result.now =
+          item_at c.args.self.now.sent.items c.args.message c.index-message.result.now (deliver_near (world_of c.args.self.now) c.args.message c.requires.accepted) c.index-message.ensures in
+          let s : is_stopped (world_of c.args.self.now) (receiver (world_of c.args.self.now) c.index-message.result.now) ≡ true =
+          ap (is_stopped (world_of c.args.self.now)) (sym c.receiver-rank.ensures) ∙ (sym c.is_stopped.ensures ∙ c.if-is_stopped.true) in
+          rw (sent, s) refl);
+      indexed = c.requires.kept.indexed;
+    }
 
 pub receive-requires : goal.receive-requires
 unfolding has_room entered_at
@@ -47,11 +51,15 @@ receive-requires c =
       here = c.receiver-rank.ensures;
     }
 
-pub returns-clause-effect : goal.returns-clause-effect
+pub returns : goal.returns
 unfolding happens
-returns-clause-effect c =
-    let sent : slice_get c.args.self.now.sent.items c.args.message ≡ Some c.index-message.result.now =
-    item_at c.args.self.now.sent.items c.args.message c.index-message.result.now (deliver_near (world_of c.args.self.now) c.args.message c.requires.accepted) c.index-message.ensures in
-    let s : is_stopped (world_of c.args.self.now) (receiver (world_of c.args.self.now) c.index-message.result.now) ≡ false =
-    ap (is_stopped (world_of c.args.self.now)) (sym c.receiver-rank.ensures) ∙ (sym c.is_stopped.ensures ∙ c.if-is_stopped.false) in
-    rw (sent, s) c.receive.ensures.effect
+returns c =
+    record {
+      effect =
+          (let sent : slice_get c.args.self.now.sent.items c.args.message ≡ Some c.index-message.result.now =
+          item_at c.args.self.now.sent.items c.args.message c.index-message.result.now (deliver_near (world_of c.args.self.now) c.args.message c.requires.accepted) c.index-message.ensures in
+          let s : is_stopped (world_of c.args.self.now) (receiver (world_of c.args.self.now) c.index-message.result.now) ≡ false =
+          ap (is_stopped (world_of c.args.self.now)) (sym c.receiver-rank.ensures) ∙ (sym c.is_stopped.ensures ∙ c.if-is_stopped.false) in
+          rw (sent, s) c.receive.ensures.effect);
+      indexed = c.receive.ensures.indexed;
+    }

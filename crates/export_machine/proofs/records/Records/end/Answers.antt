@@ -19,8 +19,8 @@ ticket_at ts t o h e = any ts t o None h ∙ sym e
 pub index-requires : goal.index-requires
 index-requires c = let near : c.args.ticket < length c.args.self.now.tickets.items = end_near (world_of c.args.self.now) c.args.ticket c.requires.accepted in omega arith
 
-pub returns-in_default-clause-effect : goal.returns-in_default-clause-effect
-returns-in_default-clause-effect c =
+pub returns-in_default : goal.returns-in_default
+returns-in_default c =
     absurd (end_ticket (world_of c.args.self.now) c.args.ticket c.requires.accepted
     (ticket_at c.args.self.now.tickets.items c.args.ticket c.index.result.now (end_near (world_of c.args.self.now) c.args.ticket c.requires.accepted) c.index.ensures ∙ c.in_default.is))
 
@@ -54,6 +54,10 @@ note_end-requires-clause-indexed c =
     let near : c.in-Some.request.dir < length c.args.self.now.dirs.parents = request_there (world_of c.args.self.now) c.requires.kept.reached c.args.ticket c.in-Some.request e in
     rw c.end.ensures (end_indexed (world_of c.args.self.now) (indexes_of c.args.self.now) c.args.ticket c.in-Some.request c.requires.kept.indexed e near)
 
-pub returns-clause-effect : goal.returns-clause-effect
+pub returns : goal.returns
 unfolding happens
-returns-clause-effect c = ap changed (sym (ap world_of c.note_end.ensures.others ∙ rw c.end.ensures refl))
+returns c =
+    record {
+      effect = ap changed (sym (ap world_of c.note_end.ensures.others ∙ rw c.end.ensures refl));
+      indexed = c.note_end.ensures.indexed;
+    }

@@ -14,10 +14,10 @@ send-requires-clause-room c = ltb-true _ _ (and_parts _ _ c.requires.room).1
 pub send-requires-clause-few : goal.send-requires-clause-few
 send-requires-clause-few c = let left = room_left (world_of c.args.self.now) (Froze c.args.export) c.requires.accepted in omega (arith, c.requires.kept.sent)
 
-pub returns-clause-effect : goal.returns-clause-effect
+pub returns : goal.returns
 unfolding happens
-returns-clause-effect c = rw (c.send.ensures.items, c.send.ensures.reply, c.set_exporter.ensures) refl
-
-pub returns-clause-indexed : goal.returns-clause-indexed
-returns-clause-indexed c =
-    rw c.set_exporter.ensures (froze_indexed (world_of c.args.self.now) (indexes_of c.args.self.now) c.args.export c.requires.kept.indexed (froze_state (world_of c.args.self.now) c.args.export c.requires.accepted) c.send.new.sent.items)
+returns c =
+    record {
+      effect = rw (c.send.ensures.items, c.send.ensures.reply, c.set_exporter.ensures) refl;
+      indexed = rw c.set_exporter.ensures (froze_indexed (world_of c.args.self.now) (indexes_of c.args.self.now) c.args.export c.requires.kept.indexed (froze_state (world_of c.args.self.now) c.args.export c.requires.accepted) c.send.new.sent.items);
+    }

@@ -9,8 +9,8 @@ use Rattle.export_machine.proofs.Growing.{made_indexed, children_are, count_with
 use Rattle.export_protocol.proofs.Accepted.{as_rank, made_parent, made_few, made_has}
 use Rattle.export_machine.proofs.records.Records.make.Goals as goal
 
-pub returns-in_default-clause-effect : goal.returns-in_default-clause-effect
-returns-in_default-clause-effect c =
+pub returns-in_default : goal.returns-in_default
+returns-in_default c =
     let has = made_has (world_of c.args.self.now) c.args.parent c.requires.accepted in
     absurd (differ has.0 (sym (sym has.1 ∙ (sym c.authority.ensures ∙ c.in_default.is))))
   where
@@ -49,17 +49,18 @@ add_child-requires-clause-few c =
     let m : children_of w c.args.parent ≤ length c.args.self.now.dirs.parents = count_within (is_child c.args.parent) c.args.self.now.dirs.parents in
     rw (c.push_reserved.ensures, children_are w (indexes_of c.args.self.now) c.args.parent c.requires.kept.indexed p) (omega (arith, c.requires.kept.few_dirs))
 
-pub returns-clause-effect : goal.returns-clause-effect
+pub returns : goal.returns
 unfolding happens
-returns-clause-effect c =
-    let a : authority (world_of c.args.self.now) c.args.parent ≡ Some c.in-Some.rank = sym c.authority.ensures ∙ c.in-Some.is in
-    let n : c.new-dir.result ≡ length c.args.self.now.dirs.parents = omega arith in
-    rw (a, c.enter.ensures.entered, c.add_child.ensures, c.push_reserved.ensures, n) refl
-
-pub returns-clause-indexed : goal.returns-clause-indexed
-returns-clause-indexed c =
-    let p : c.args.parent < length c.args.self.now.dirs.parents = made_parent (world_of c.args.self.now) c.args.parent c.requires.accepted in
-    let k : c.in-Some.rank < length (world_of c.args.self.now).journals = as_rank (world_of c.args.self.now) c.requires.kept.reached c.args.parent c.in-Some.rank (sym c.authority.ensures ∙ c.in-Some.is) in
-    let n : c.new-dir.result ≡ length c.args.self.now.dirs.parents = omega arith in
-    rw (c.enter.ensures.entered, c.add_child.ensures, c.push_reserved.ensures, c.push_reserved-2.ensures.items, n)
-    (made_indexed (world_of c.args.self.now) c.in-Some.rank c.args.parent k c.requires.kept.reached (indexes_of c.args.self.now) c.requires.kept.indexed p)
+returns c =
+    record {
+      effect =
+          (let a : authority (world_of c.args.self.now) c.args.parent ≡ Some c.in-Some.rank = sym c.authority.ensures ∙ c.in-Some.is in
+          let n : c.new-dir.result ≡ length c.args.self.now.dirs.parents = omega arith in
+          rw (a, c.enter.ensures.entered, c.add_child.ensures, c.push_reserved.ensures, n) refl);
+      indexed =
+          (let p : c.args.parent < length c.args.self.now.dirs.parents = made_parent (world_of c.args.self.now) c.args.parent c.requires.accepted in
+          let k : c.in-Some.rank < length (world_of c.args.self.now).journals = as_rank (world_of c.args.self.now) c.requires.kept.reached c.args.parent c.in-Some.rank (sym c.authority.ensures ∙ c.in-Some.is) in
+          let n : c.new-dir.result ≡ length c.args.self.now.dirs.parents = omega arith in
+          rw (c.enter.ensures.entered, c.add_child.ensures, c.push_reserved.ensures, c.push_reserved-2.ensures.items, n)
+          (made_indexed (world_of c.args.self.now) c.in-Some.rank c.args.parent k c.requires.kept.reached (indexes_of c.args.self.now) c.requires.kept.indexed p));
+    }

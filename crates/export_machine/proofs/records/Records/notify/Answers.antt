@@ -48,9 +48,9 @@ send-requires-clause-room c = ltb-true _ _ (and_parts _ _ c.requires.room).1
 pub send-requires-clause-few : goal.send-requires-clause-few
 send-requires-clause-few c = let left = room_left (world_of c.args.self.now) (Notify c.args.export) c.requires.accepted in omega (arith, c.requires.kept.sent)
 
-pub returns-clause-effect : goal.returns-clause-effect
+pub returns : goal.returns
 unfolding happens
-returns-clause-effect c =
+returns c =
     let order = notify_order (world_of c.args.self.now) c.args.export c.requires.accepted in
     let here : order_in c.args.self.now.exports.orders c.args.export ≡ c.order-order.result.now = sym (c.order-order.ensures ∙ ap (λ (t : ExportColumns). order_in t.orders c.args.export) c.set_exporter.ensures) in
     let t : from_of (world_of c.args.self.now) c.args.export ≡ c.order-order.result.now.from = ap (λ (o : Order). o.from) here in
@@ -61,19 +61,9 @@ returns-clause-effect c =
     let m : record dirs { named = map_at (λ k old. cond (is_among (order_in c.args.self.now.exports.orders c.args.export).dirs k) (Some (to_of (world_of c.args.self.now) c.args.export)) old) dirs.named } ≡ c.mark_named.new.self =
     ap (λ (ds : List ℕ). record dirs { named = map_at (λ k old. cond (is_among ds k) (Some (to_of (world_of c.args.self.now) c.args.export)) old) dirs.named }) f
     ∙ (ap (λ (s : ℕ). record dirs { named = map_at (λ k old. cond (is_among c.as_slice.result.now k) (Some s) old) dirs.named }) u ∙ sym c.mark_named.ensures) in
-    rw (c.send.ensures.items, c.send.ensures.reply, c.enter.ensures.entered, ← t, ← m, c.set_exporter.ensures) refl
-
-pub returns-clause-indexed : goal.returns-clause-indexed
-returns-clause-indexed c =
-    let order = notify_order (world_of c.args.self.now) c.args.export c.requires.accepted in
-    let here : order_in c.args.self.now.exports.orders c.args.export ≡ c.order-order.result.now = sym (c.order-order.ensures ∙ ap (λ (t : ExportColumns). order_in t.orders c.args.export) c.set_exporter.ensures) in
-    let t : from_of (world_of c.args.self.now) c.args.export ≡ c.order-order.result.now.from = ap (λ (o : Order). o.from) here in
-    let u : to_of (world_of c.args.self.now) c.args.export ≡ c.order-order.result.now.to = ap (λ (o : Order). o.to) here in
-    let f : (order_in c.args.self.now.exports.orders c.args.export).dirs ≡ c.as_slice.result.now =
-    ap (λ (o : Order). o.dirs) here ∙ sym c.as_slice.ensures in
-    let dirs = c.args.self.now.dirs in
-    let m : record dirs { named = map_at (λ k old. cond (is_among (order_in c.args.self.now.exports.orders c.args.export).dirs k) (Some (to_of (world_of c.args.self.now) c.args.export)) old) dirs.named } ≡ c.mark_named.new.self =
-    ap (λ (ds : List ℕ). record dirs { named = map_at (λ k old. cond (is_among ds k) (Some (to_of (world_of c.args.self.now) c.args.export)) old) dirs.named }) f
-    ∙ (ap (λ (s : ℕ). record dirs { named = map_at (λ k old. cond (is_among c.as_slice.result.now k) (Some s) old) dirs.named }) u ∙ sym c.mark_named.ensures) in
-    rw (c.enter.ensures.entered, ← t, ← m, c.set_exporter.ensures) (notify_indexed (world_of c.args.self.now) c.args.export (notify_state (world_of c.args.self.now) c.args.export c.requires.accepted)
-    (exporter_rank (world_of c.args.self.now) c.requires.kept.reached c.args.export order) c.send.new.sent.items c.requires.kept.reached (indexes_of c.args.self.now) c.requires.kept.indexed)
+    record {
+      effect = rw (c.send.ensures.items, c.send.ensures.reply, c.enter.ensures.entered, ← t, ← m, c.set_exporter.ensures) refl;
+      indexed =
+          rw (c.enter.ensures.entered, ← t, ← m, c.set_exporter.ensures) (notify_indexed (world_of c.args.self.now) c.args.export (notify_state (world_of c.args.self.now) c.args.export c.requires.accepted)
+          (exporter_rank (world_of c.args.self.now) c.requires.kept.reached c.args.export order) c.send.new.sent.items c.requires.kept.reached (indexes_of c.args.self.now) c.requires.kept.indexed);
+    }

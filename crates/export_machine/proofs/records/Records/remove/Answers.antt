@@ -13,13 +13,13 @@ use Rattle.export_machine.proofs.records.Records.remove.Goals as goal
 differ : (r : ℕ) → None ≡ Some r → ⊥
 differ r e = cc
 
-pub returns-in_default-clause-effect : goal.returns-in_default-clause-effect
-returns-in_default-clause-effect c =
+pub returns-in_default : goal.returns-in_default
+returns-in_default c =
     let has = gone_has (world_of c.args.self.now) c.args.dir c.requires.accepted in
     absurd (differ has.0 (sym (sym has.1 ∙ (sym c.authority.ensures ∙ c.in_default.is))))
 
-pub returns-in_default-parent-clause-effect : goal.returns-in_default-parent-clause-effect
-returns-in_default-parent-clause-effect c = absurd (gone (sym c.parent.ensures ∙ c.in_default-parent.is) (gone_there (world_of c.args.self.now) c.args.dir c.requires.accepted))
+pub returns-in_default-parent : goal.returns-in_default-parent
+returns-in_default-parent c = absurd (gone (sym c.parent.ensures ∙ c.in_default-parent.is) (gone_there (world_of c.args.self.now) c.args.dir c.requires.accepted))
   where
     gone : get_or c.args.self.now.dirs.parents c.args.dir None ≡ None → is_some (get_or c.args.self.now.dirs.parents c.args.dir None) ≡ true → ⊥
     gone e t = cc
@@ -54,19 +54,20 @@ take_child-requires-clause-some c =
     let ranked = as_rank (world_of c.args.self.now) c.requires.kept.reached c.args.dir c.in-Some.rank a in
     rw (c.remove.ensures, c.requires.kept.indexed.children c.in-Some-parent.parent) (some_child (world_of c.args.self.now) c.in-Some.rank c.args.dir c.in-Some-parent.parent ranked near e less)
 
-pub returns-clause-effect : goal.returns-clause-effect
+pub returns : goal.returns
 unfolding happens
-returns-clause-effect c =
-    let a : authority (world_of c.args.self.now) c.args.dir ≡ Some c.in-Some.rank = sym c.authority.ensures ∙ c.in-Some.is in
-    rw (a, c.enter.ensures.entered, c.take_child.ensures, c.remove.ensures) refl
-
-pub returns-clause-indexed : goal.returns-clause-indexed
-returns-clause-indexed c =
-    let near : c.args.dir < length c.args.self.now.dirs.parents = there_near (world_of c.args.self.now) c.args.dir (gone_there (world_of c.args.self.now) c.args.dir c.requires.accepted) in
-    let e : get_or c.args.self.now.dirs.parents c.args.dir None ≡ Some c.in-Some-parent.parent = sym c.parent.ensures ∙ c.in-Some-parent.is in
-    let less : c.in-Some-parent.parent < c.args.dir = parent_below (world_of c.args.self.now) c.requires.kept.reached c.args.dir c.in-Some-parent.parent e (gone_dir (world_of c.args.self.now) c.args.dir c.requires.accepted) in
-    let a : authority (world_of c.args.self.now) c.args.dir ≡ Some c.in-Some.rank = sym c.authority.ensures ∙ c.in-Some.is in
-    let ranked = as_rank (world_of c.args.self.now) c.requires.kept.reached c.args.dir c.in-Some.rank a in
-    rw (c.enter.ensures.entered, c.take_child.ensures, c.remove.ensures)
-    (gone_indexed (world_of c.args.self.now) c.in-Some.rank c.args.dir c.in-Some-parent.parent ranked near e less
-    c.requires.kept.reached (indexes_of c.args.self.now) c.requires.kept.indexed a (gone_closed (world_of c.args.self.now) c.args.dir c.requires.accepted) (gone_idle (world_of c.args.self.now) c.args.dir c.requires.accepted))
+returns c =
+    record {
+      effect =
+          (let a : authority (world_of c.args.self.now) c.args.dir ≡ Some c.in-Some.rank = sym c.authority.ensures ∙ c.in-Some.is in
+          rw (a, c.enter.ensures.entered, c.take_child.ensures, c.remove.ensures) refl);
+      indexed =
+          (let near : c.args.dir < length c.args.self.now.dirs.parents = there_near (world_of c.args.self.now) c.args.dir (gone_there (world_of c.args.self.now) c.args.dir c.requires.accepted) in
+          let e : get_or c.args.self.now.dirs.parents c.args.dir None ≡ Some c.in-Some-parent.parent = sym c.parent.ensures ∙ c.in-Some-parent.is in
+          let less : c.in-Some-parent.parent < c.args.dir = parent_below (world_of c.args.self.now) c.requires.kept.reached c.args.dir c.in-Some-parent.parent e (gone_dir (world_of c.args.self.now) c.args.dir c.requires.accepted) in
+          let a : authority (world_of c.args.self.now) c.args.dir ≡ Some c.in-Some.rank = sym c.authority.ensures ∙ c.in-Some.is in
+          let ranked = as_rank (world_of c.args.self.now) c.requires.kept.reached c.args.dir c.in-Some.rank a in
+          rw (c.enter.ensures.entered, c.take_child.ensures, c.remove.ensures)
+          (gone_indexed (world_of c.args.self.now) c.in-Some.rank c.args.dir c.in-Some-parent.parent ranked near e less
+          c.requires.kept.reached (indexes_of c.args.self.now) c.requires.kept.indexed a (gone_closed (world_of c.args.self.now) c.args.dir c.requires.accepted) (gone_idle (world_of c.args.self.now) c.args.dir c.requires.accepted)));
+    }

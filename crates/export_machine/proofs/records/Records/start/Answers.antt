@@ -37,28 +37,29 @@ pub enter-requires-clause-room : goal.enter-requires-clause-room
 unfolding has_room
 enter-requires-clause-room c = (and_parts _ _ (and_parts _ _ c.requires.room).1).1
 
-pub returns-clause-effect : goal.returns-clause-effect
+pub returns : goal.returns
 unfolding happens
-returns-clause-effect c =
-    let n : length c.args.self.now.exports.orders ≡ c.len-export.result = omega arith in
-    let m : length c.args.self.now.sent.items ≡ c.len-message.result = omega arith in
-    rw (
-      n,
-      m,
-      c.push_reserved.ensures,
-      c.push_reserved-2.ensures.items,
-      c.mark_opened.ensures,
-    ) refl
-
-pub returns-clause-indexed : goal.returns-clause-indexed
-returns-clause-indexed c =
-    let n : c.len-export.result ≡ length c.args.self.now.exports.orders = omega arith in
-    rw (
-      c.push_reserved.ensures,
-      c.push_reserved-2.ensures.items,
-      c.enter.ensures.entered,
-      c.mark_opened.ensures,
-      c.as_slice.ensures,
-      n,
-    )
-    (start_indexed (world_of c.args.self.now) c.args.from c.args.to c.args.dirs c.requires.accepted c.requires.kept.reached (indexes_of c.args.self.now) c.requires.kept.indexed)
+returns c =
+    record {
+      effect =
+          (let n : length c.args.self.now.exports.orders ≡ c.len-export.result = omega arith in
+          let m : length c.args.self.now.sent.items ≡ c.len-message.result = omega arith in
+          rw (
+            n,
+            m,
+            c.push_reserved.ensures,
+            c.push_reserved-2.ensures.items,
+            c.mark_opened.ensures,
+          ) refl);
+      indexed =
+          (let n : c.len-export.result ≡ length c.args.self.now.exports.orders = omega arith in
+          rw (
+            c.push_reserved.ensures,
+            c.push_reserved-2.ensures.items,
+            c.enter.ensures.entered,
+            c.mark_opened.ensures,
+            c.as_slice.ensures,
+            n,
+          )
+          (start_indexed (world_of c.args.self.now) c.args.from c.args.to c.args.dirs c.requires.accepted c.requires.kept.reached (indexes_of c.args.self.now) c.requires.kept.indexed));
+    }

@@ -91,22 +91,23 @@ end_requests-requires-clause-there c =
     let kept : world_of c.keep_open.new.self ≡ world_of c.halt_imports.new.self = ap world_of c.keep_open.ensures.others in
     subst (λ (v : World). (t : ℕ) (q : Request) → request_of v t ≡ Some q → q.dir < length v.parents) (sym (kept ∙ (forgot ∙ ap (forgets c.args.rank) aborted))) (request_there w c.requires.kept.reached)
 
-pub returns-clause-effect : goal.returns-clause-effect
+pub returns : goal.returns
 unfolding happens
-returns-clause-effect c =
-    let w = world_of c.args.self.now in
-    let aborted : world_of c.halt_exports.new.self ≡ aborts c.args.rank w =
-    ap world_of c.halt_exports.ensures.others ∙ ap (λ (es : List ExporterState). record w { exporters = es }) c.halt_exports.ensures.exporters in
-    let forgot : world_of c.halt_imports.new.self ≡ forgets c.args.rank (world_of c.halt_exports.new.self) =
-    ap world_of c.halt_imports.ensures.others ∙ ap (λ (is : List ImporterState). record (world_of c.halt_exports.new.self) { importers = is }) c.halt_imports.ensures.importers in
-    let kept : world_of c.keep_open.new.self ≡ world_of c.halt_imports.new.self = ap world_of c.keep_open.ensures.others in
-    let ended : world_of c.end_requests.new.self ≡ ends c.args.rank (world_of c.keep_open.new.self) =
-    ap world_of c.end_requests.ensures.others ∙ ap (λ ts. record (world_of c.keep_open.new.self) { tickets = ts }) c.end_requests.ensures.tickets in
-    let all : world_of c.end_requests.new.self ≡ ends c.args.rank (forgets c.args.rank (aborts c.args.rank w)) = ended ∙ ap (ends c.args.rank) (kept ∙ (forgot ∙ ap (forgets c.args.rank) aborted)) in
-    let stopped : c.put.new.table.items ≡ set w.stopped c.args.rank true =
-    c.put.ensures.items ∙ (ap (λ (v : World). set v.stopped c.number.result true) all ∙ ap (λ r. set w.stopped r true) c.number.ensures.value) in
-    ap changed (stops_all c.args.rank w c.requires.kept.reached)
-    ∙ ap changed (sym (ap (λ (v : World). record v { stopped = c.put.new.table.items }) all ∙ ap (λ (st : List Bool). record (ends c.args.rank (forgets c.args.rank (aborts c.args.rank w))) { stopped = st }) stopped))
-
-pub returns-clause-indexed : goal.returns-clause-indexed
-returns-clause-indexed c = stopped_indexed (world_of c.end_requests.new.self) (indexes_of c.end_requests.new.self) c.end_requests.ensures.indexed c.put.new.table.items
+returns c =
+    record {
+      effect =
+          (let w = world_of c.args.self.now in
+          let aborted : world_of c.halt_exports.new.self ≡ aborts c.args.rank w =
+          ap world_of c.halt_exports.ensures.others ∙ ap (λ (es : List ExporterState). record w { exporters = es }) c.halt_exports.ensures.exporters in
+          let forgot : world_of c.halt_imports.new.self ≡ forgets c.args.rank (world_of c.halt_exports.new.self) =
+          ap world_of c.halt_imports.ensures.others ∙ ap (λ (is : List ImporterState). record (world_of c.halt_exports.new.self) { importers = is }) c.halt_imports.ensures.importers in
+          let kept : world_of c.keep_open.new.self ≡ world_of c.halt_imports.new.self = ap world_of c.keep_open.ensures.others in
+          let ended : world_of c.end_requests.new.self ≡ ends c.args.rank (world_of c.keep_open.new.self) =
+          ap world_of c.end_requests.ensures.others ∙ ap (λ ts. record (world_of c.keep_open.new.self) { tickets = ts }) c.end_requests.ensures.tickets in
+          let all : world_of c.end_requests.new.self ≡ ends c.args.rank (forgets c.args.rank (aborts c.args.rank w)) = ended ∙ ap (ends c.args.rank) (kept ∙ (forgot ∙ ap (forgets c.args.rank) aborted)) in
+          let stopped : c.put.new.table.items ≡ set w.stopped c.args.rank true =
+          c.put.ensures.items ∙ (ap (λ (v : World). set v.stopped c.number.result true) all ∙ ap (λ r. set w.stopped r true) c.number.ensures.value) in
+          ap changed (stops_all c.args.rank w c.requires.kept.reached)
+          ∙ ap changed (sym (ap (λ (v : World). record v { stopped = c.put.new.table.items }) all ∙ ap (λ (st : List Bool). record (ends c.args.rank (forgets c.args.rank (aborts c.args.rank w))) { stopped = st }) stopped)));
+      indexed = stopped_indexed (world_of c.end_requests.new.self) (indexes_of c.end_requests.new.self) c.end_requests.ensures.indexed c.put.new.table.items;
+    }
