@@ -2,12 +2,6 @@
 #![tactic(auto)]
 
 #[cfg(test)]
-mod board;
-#[cfg(test)]
-mod devices;
-#[cfg(test)]
-mod lines;
-#[cfg(test)]
-mod runs;
+mod pieces;
 #[cfg(test)]
 mod same;

@@ -1,5 +1,0 @@
-//! A script's board.
-
-mod acts;
-mod cases;
-mod refused;
