@@ -7,82 +7,30 @@ use crate::same::Sure;
 use exhaustive::Random;
 use mds_types::{Problem, ProblemRow, Rank, RankSet, Row};
 use std::alloc::Global;
-use std::fmt::Display;
 use std::process::Abort;
 
-/// Parent, heat, inodes and present rank of a row.
-pub type Given = (u32, u64, u32, u8);
+/// Parent and heat of a row, which has one inode, at rank 0.
+pub type Given = (u32, u64);
 
 /// Cuts, rest, price of a table's row, and whether it is cut.
 pub type InTable = (u32, u64, u64, bool);
 
 /// An empty list with room for `count` entries.
-pub fn room<T>(rt: &impl Abort, alloc: Global, count: usize) -> Vec<T> {
+fn room<T>(rt: &impl Abort, alloc: Global, count: usize) -> Vec<T> {
     match Vec::with_capacity(alloc, count) {
         Ok(list) => list,
         Err(_) => Vec::with_capacity(alloc, count).sure(rt),
     }
 }
 
-/// A list of these entries.
-pub fn list_of<T: Copy>(rt: &impl Abort, alloc: Global, entries: &[T]) -> Vec<T> {
-    match entries.to_vec(alloc) {
-        Ok(list) => list,
-        Err(_) => entries.to_vec(alloc).sure(rt),
+/// Whether a table has these rows.
+pub fn are_entries(rows: &[Row], wanted: &[InTable]) -> bool {
+    for (row, wanted) in rows.iter().zip(wanted.iter()) {
+        if (row.cuts, row.rest, row.price, row.cut) != *wanted {
+            return false;
+        }
     }
-}
-
-/// What is printed.
-pub fn text_of<T: Display>(rt: &impl Abort, alloc: Global, value: &T) -> String {
-    match value.to_string(alloc) {
-        Ok(text) => text,
-        Err(_) => value.to_string(alloc).sure(rt),
-    }
-}
-
-/// The rank of this number.
-pub fn rank(rt: &impl Abort, number: u8) -> Rank {
-    Rank::new(number).ok_or("no rank").sure(rt)
-}
-
-/// The numbers of these ranks.
-pub fn numbers(rt: &impl Abort, alloc: Global, ranks: &[Rank]) -> Vec<u8> {
-    let mut numbers = room(rt, alloc, ranks.len());
-    for rank in ranks {
-        numbers.push(rank.number()).sure(rt);
-    }
-    numbers
-}
-
-/// The rows of a problem.
-pub fn rows_of(rt: &impl Abort, alloc: Global, given: &[Given]) -> Vec<ProblemRow> {
-    let mut rows = room(rt, alloc, given.len());
-    for &(parent, heat, inodes, now) in given {
-        let now = rank(rt, now);
-        rows.push(ProblemRow {
-            parent,
-            heat,
-            inodes,
-            now,
-        })
-        .sure(rt);
-    }
-    rows
-}
-
-/// The rows of a table.
-pub fn entries(rt: &impl Abort, alloc: Global, given: &[InTable]) -> Vec<Row> {
-    let mut rows = room(rt, alloc, given.len());
-    for &(cuts, rest, price, cut) in given {
-        rows.push(Row {
-            cuts,
-            rest,
-            price,
-            cut,
-        })
-        .sure(rt);
-    }
-    rows
+    rows.len() == wanted.len()
 }
 
 /// A row of one inode at rank 0.
@@ -139,15 +87,20 @@ pub fn random_rows(
 }
 
 /// The problem of these rows, with the ranks of a bit map.
+pub fn problem(rt: &impl Abort, alloc: Global, given: &[Given], ranks: u64) -> Problem {
+    let mut rows = room(rt, alloc, given.len());
+    for &(parent, heat) in given {
+        rows.push(small_row(parent, heat)).sure(rt);
+    }
+    over(rt, rows, ranks)
+}
+
+/// The problem of rows that are listed.
 pub fn over(rt: &impl Abort, rows: Vec<ProblemRow>, ranks: u64) -> Problem {
     match Problem::new(rows, RankSet::from_bits(ranks)) {
         Ok(problem) => problem,
         Err(_) => panic!(rt; "no problem"),
     }
-}
-
-pub fn problem(rt: &impl Abort, alloc: Global, given: &[Given], ranks: u64) -> Problem {
-    over(rt, rows_of(rt, alloc, given), ranks)
 }
 
 /// The first `count` ranks.

@@ -1,19 +1,15 @@
-//! Tests of problems, cuts, placings, plans and certificates, by public calls.
+//! Tests of cuts, placings and plans, by public calls.
 #![tactic(auto)]
 
 #[cfg(test)]
-mod certificates;
+mod bounds;
 #[cfg(test)]
-mod claims;
-#[cfg(test)]
-mod divisions;
+mod cuts;
 #[cfg(test)]
 mod given;
 #[cfg(test)]
 mod placings;
 #[cfg(test)]
 mod plans;
-#[cfg(test)]
-mod problems;
 #[cfg(test)]
 mod same;
