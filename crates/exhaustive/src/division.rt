@@ -31,18 +31,6 @@ fn labelling_count(rows: usize, parts: usize) -> usize {
     count
 }
 
-/// Whether a row has this label.
-fn is_used(rows: &[ProblemRow], labels: &Labels, part: usize) -> bool
-    requires { length rows.now ≤ 8 }
-{
-    for row in 0..rows.len() {
-        if labels[row] == part {
-            return true;
-        }
-    }
-    false
-}
-
 /// The heat of the rows with this label.
 fn part_heat(rows: &[ProblemRow], labels: &Labels, part: usize) -> u64
     requires { length rows.now ≤ 8 }
@@ -94,38 +82,18 @@ fn is_connected(rows: &[ProblemRow], labels: &Labels, part: usize) -> bool
     true
 }
 
-/// The number of parts and the greatest heat of a division; none where some part is not connected.
-fn judged(rows: &[ProblemRow], labels: &Labels, parts: usize) -> Option<(usize, u64)>
+/// The greatest heat of a division; none where some part is not connected.
+fn greatest_heat(rows: &[ProblemRow], labels: &Labels, parts: usize) -> Option<u64>
     requires { length rows.now ≤ 8 }
 {
-    let mut used: usize = 0;
     let mut greatest = 0;
     for part in 0..parts {
         if !is_connected(rows, labels, part) {
             return None;
         }
-        if is_used(rows, labels, part) {
-            used = used.saturating_add(1);
-        }
         greatest = part_heat(rows, labels, part).max(greatest);
     }
-    Some((used, greatest))
-}
-
-/// The fewest parts of a division within the bound, or none where there is no such division.
-pub fn fewest_parts(rows: &[ProblemRow], bound: u64) -> Option<usize>
-    requires { length rows.now ≤ 8 }
-{
-    let parts = rows.len().max(1);
-    let mut fewest = None;
-    for code in 0..labelling_count(rows.len(), parts) {
-        if let Some((used, greatest)) = judged(rows, &labels_of(code, parts), parts) {
-            if greatest <= bound && used < fewest.unwrap_or(usize::MAX) {
-                fewest = Some(used);
-            }
-        }
-    }
-    fewest
+    Some(greatest)
 }
 
 /// The least greatest heat of a division into at most `parts` parts.
@@ -135,7 +103,7 @@ pub fn least_greatest_heat(rows: &[ProblemRow], parts: usize) -> u64
 {
     let mut least = u64::MAX;
     for code in 0..labelling_count(rows.len(), parts) {
-        if let Some((_, greatest)) = judged(rows, &labels_of(code, parts), parts) {
+        if let Some(greatest) = greatest_heat(rows, &labels_of(code, parts), parts) {
             least = greatest.min(least);
         }
     }

@@ -10,6 +10,6 @@ pub mod division;
 pub mod placing;
 pub mod random;
 
-pub use division::{fewest_parts, least_greatest_heat};
+pub use division::least_greatest_heat;
 pub use placing::fewest_moved;
 pub use random::Random;
