@@ -1,11 +1,13 @@
-//! Tests of what a board is made of, by public calls: tree, pins, heats and problems, hits in shares, the published
-//! map, and orders.
+//! Tests of what a board is made of, by public calls: heats, problems of random boards, orders, shares and the published
+//! map.
 #![tactic(auto)]
 
 #[cfg(test)]
-mod map;
+mod boards;
 #[cfg(test)]
-mod model;
+mod heats;
+#[cfg(test)]
+mod map;
 #[cfg(test)]
 mod orders;
 #[cfg(test)]

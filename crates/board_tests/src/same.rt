@@ -26,25 +26,6 @@ pub(crate) fn holds_in<R: Debug>(rt: &impl Abort, is_so: bool, row: &R) {
     assert!(rt; is_so, "it is not so in row {row:?}");
 }
 
-/// What is compared with a row of a table.
-pub(crate) trait Row<W> {
-    /// Whether it is as the row says.
-    fn is_as(&self, row: &W) -> bool;
-}
-
-/// There is one for each row of a table, as it says; the table is named.
-pub(crate) fn same_rows<T: Row<W> + Debug, W>(
-    rt: &impl Abort,
-    found: &[T],
-    table: &[W],
-    name: &str,
-) {
-    same_in(rt, &found.len(), &table.len(), &name);
-    for (value, row) in found.iter().zip(table) {
-        holds_in(rt, value.is_as(row), &(name, value));
-    }
-}
-
 /// A call that is to succeed.
 pub(crate) trait Sure {
     /// What it gives.

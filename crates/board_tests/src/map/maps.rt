@@ -28,24 +28,6 @@ pub(crate) fn give<J: Naming, M: Publisher<J>>(
     Ok(())
 }
 
-/// Two directories get a rank, from the next publish on.
-pub(crate) fn give_two<J: Naming, M: Publisher<J>>(
-    alloc: Global,
-    writer: &mut M,
-    first: Dir,
-    second: Dir,
-    rank: Rank,
-) -> Result<(), MapError>
-    requires { (first < J.limit) × (second < J.limit) }
-{
-    let Ok(dirs) = Vec::from_array(alloc, [first, second]) else {
-        return Err(MapError::Memory);
-    };
-    writer.reserve()?;
-    writer.set(dirs, rank);
-    Ok(())
-}
-
 /// A directory loses its rank, from the next publish on.
 pub(crate) fn clear<J: Naming, M: Publisher<J>>(writer: &mut M, dir: Dir) -> Result<(), MapError>
     requires { dir < J.limit }
@@ -68,15 +50,4 @@ pub(crate) fn look<J: Naming>(reader: &mut MapReader<J>, dir: Dir) -> Found {
 /// The reader hears what is published.
 pub(crate) fn hear<J: Naming, M: Publisher<J>>(reader: &mut MapReader<J>, writer: &M) {
     reader.learn(writer.tell());
-}
-
-/// What a reader finds at each of four directories, and past the limit.
-pub(crate) fn all_found<J: Naming>(reader: &mut MapReader<J>) -> [Found; 5] {
-    [
-        look(reader, Dir::new(0)),
-        look(reader, Dir::new(1)),
-        look(reader, Dir::new(2)),
-        look(reader, Dir::new(3)),
-        look(reader, Dir::new(96)),
-    ]
 }

@@ -2,13 +2,12 @@
 //! that reason, so all that is tried is generic in it.
 ghost use Rattle.std.specs.Prelude.{◌≡◌};
 
-use crate::map::long_lists::are_changed_alone;
-use crate::map::maps::all_found;
-use crate::map::published::is_found;
-use crate::map::refused_maps::give_many;
+use crate::map::maps::look;
+use crate::map::published::{follow, give_many};
 use crate::map::watched::never_go_back;
 use crate::same::Sure;
 use authority_map::{Found, MapError, MapReader, MapWriter, NewMap, Publisher};
+use mds_types::Dir;
 use naming::Naming;
 use std::alloc::Global;
 use std::marker::Brand;
@@ -20,10 +19,6 @@ use std::thread::Threads;
 #[derive(Clone, Copy)]
 pub(crate) enum Trial {
     Follows,
-    FindsTheLatest,
-    Changes,
-    Joins,
-    LongLists,
     Refusals,
     Watches,
 }
@@ -43,16 +38,15 @@ fn is_well<J: Naming + Send + Sync, M: Publisher<J> + Send, R: Threads + Sync>(
     };
     match trial {
         Trial::Watches => Ok(never_go_back(rt, alloc, writer, first, second, third)),
-        Trial::LongLists => are_changed_alone::<J, M>(alloc, writer, first),
         Trial::Refusals => give_many::<J, M>(alloc, writer, first),
-        _ => is_found::<J, M>(alloc, writer, first, trial),
+        Trial::Follows => follow::<J, M>(alloc, writer, first),
     }
 }
 
-// Whether a reader finds each directory closed.
+// Whether a reader finds the map closed.
 fn is_closed<J: Naming>(readers: &mut Vec<MapReader<J>>) -> bool {
-    match readers.pop() {
-        Some(mut reader) => all_found(&mut reader) == [Found::Closed; 5],
+    match readers.first_mut() {
+        Some(reader) => look(reader, Dir::new(1)) == Found::Closed,
         None => false,
     }
 }
