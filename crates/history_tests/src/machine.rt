@@ -1,10 +1,4 @@
 //! The export machine, by schedules: lists of events with their answers.
 
-mod found;
-mod limits;
-mod refused;
 mod schedules;
-mod starts;
-mod steps;
-mod stops;
-mod told;
+pub(crate) mod steps;

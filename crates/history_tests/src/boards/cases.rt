@@ -2,18 +2,17 @@
 //!
 //! The board is opened in one place, since a function that knows the type of its map's writer is dear to prove. What is
 //! opened is asked for again where memory was refused.
-ghost use Rattle.std.specs.Prelude.{◌≡◌, ◌≤◌};
+ghost use Rattle.std.specs.Prelude.{◌≡◌};
 
-use crate::boards::between::Between;
-use crate::boards::lists::Given;
-use crate::boards::said::Reading;
-use crate::boards::{adopting, between, changes, full, lists, refused};
+use crate::boards::{adopting, full, refused};
 use crate::same::Sure;
-use authority_map::{MapReader, MapWriter, NewMap, Publisher};
-use board_state::BoardParts;
+use authority_map::{MapWriter, NewMap, Publisher};
+use board_state::{BoardParts, Solver};
 use heat_ledger::{NewBook, Share};
 use mds_board::Board;
+use mds_types::{Plan, Problem};
 use naming::Naming;
+use planner::solve;
 use std::alloc::{AllocError, Global};
 use std::marker::{Brand, Sync};
 use std::process::Abort;
@@ -25,74 +24,62 @@ use std::thread::Threads;
 pub(crate) enum Case {
     /// Plans that are adopted, and plans that aren't.
     Adopting,
-    /// Events between the opening of a problem and the plan for it.
-    Between(Between),
-    /// One change of each kind.
-    Changes,
-    /// A board that is closed.
-    Closed,
-    /// Commands that come one by one.
-    Called,
     /// A full history.
     Full,
-    /// The same commands as a list.
-    Listed,
     /// Refused growths in the changes.
     RefusedGrowth,
 }
 
-fn on_board<J: Naming, M: Publisher<J>, R: Abort + Threads + Sync>(
+/// The planner.
+pub(crate) struct Planner;
+
+impl Solver for Planner {
+    fn solve<R: Threads + Sync>(
+        &self,
+        rt: &R,
+        alloc: Global,
+        problem: &Problem,
+    ) -> Result<Plan, AllocError> {
+        solve(rt, alloc, problem)
+    }
+}
+
+fn try_on<J: Naming, M: Publisher<J>, R: Abort + Threads + Sync>(
     rt: &R,
     alloc: Global,
     board: Board<J, M>,
     shares: Vec<Share<J>>,
-    readers: Vec<MapReader<J>>,
     case: Case,
-) -> Option<(Vec<Given>, Reading)>
-    requires limit { 8 ≤ J.limit }
-{
+) {
+    let (mut board, mut shares) = (board, shares);
+    let Some(share) = shares.first_mut() else {
+        panic!(rt; "no share");
+    };
     match case {
-        Case::Adopting => adopting::on_board(rt, alloc, board, shares, readers),
-        Case::Between(between) => between::on_board(rt, alloc, board, shares, between),
-        Case::Changes => changes::on_board(rt, alloc, board, shares, readers),
-        Case::Closed => lists::on_board(rt, alloc, board, shares, readers),
-        Case::Called => return Some(lists::answers(rt, alloc, board, shares, readers, false)),
-        Case::Full => full::on_board(rt, alloc, board, shares, readers),
-        Case::Listed => return Some(lists::answers(rt, alloc, board, shares, readers, true)),
-        Case::RefusedGrowth => refused::on_board(rt, alloc, board, shares, readers),
+        Case::Adopting => adopting::try_on(rt, alloc, &mut board, share),
+        Case::Full => full::try_on(rt, alloc, &mut board, share),
+        Case::RefusedGrowth => refused::try_on(rt, alloc, &mut board, share),
     }
-    None
+    board.end();
 }
 
 // A board with only the root, and a share for each rank.
-fn board_of<J: Naming, M: Publisher<J>>(
-    rt: &impl Abort,
-    alloc: Global,
-    parts: BoardParts<J, M>,
-) -> (Board<J, M>, Vec<Share<J>>)
-    requires limit { 8 ≡ J.limit }
-{
-    let parts = match Board::new(alloc, parts, 8, 2) {
-        Ok(opened) => return opened,
-        Err(parts) => parts,
-    };
-    match Board::new(alloc, parts, 8, 2) {
-        Ok(opened) => opened,
-        Err(_parts) => panic!(rt; "no board"),
-    }
-}
-
 fn on_parts<J: Naming, M: Publisher<J>, R: Abort + Threads + Sync>(
     rt: &R,
     alloc: Global,
     parts: BoardParts<J, M>,
-    readers: Vec<MapReader<J>>,
     case: Case,
-) -> Option<(Vec<Given>, Reading)>
+)
     requires limit { 8 ≡ J.limit }
 {
-    let (board, shares) = board_of(rt, alloc, parts);
-    on_board(rt, alloc, board, shares, readers, case)
+    let parts = match Board::new(alloc, parts, 8, 2) {
+        Ok((board, shares)) => return try_on(rt, alloc, board, shares, case),
+        Err(parts) => parts,
+    };
+    match Board::new(alloc, parts, 8, 2) {
+        Ok((board, shares)) => try_on(rt, alloc, board, shares, case),
+        Err(_parts) => panic!(rt; "no board"),
+    }
 }
 
 fn on_names<J: Naming, R: Abort + Threads + Wait + Sync>(
@@ -101,7 +88,7 @@ fn on_names<J: Naming, R: Abort + Threads + Wait + Sync>(
     book: NewBook,
     map: NewMap,
     case: Case,
-) -> Option<(Vec<Given>, Reading)>
+)
     requires book { book ≡ J.ledger }
     requires map { map ≡ J.map }
     requires limit { 8 ≡ J.limit }
@@ -111,9 +98,7 @@ fn on_names<J: Naming, R: Abort + Threads + Wait + Sync>(
         Err((_error, map)) => MapWriter::<J, &R>::open(rt, alloc, map, 8, 1),
     };
     match opened {
-        Ok((writer, readers)) => {
-            on_parts(rt, alloc, BoardParts::new(book, writer), readers, case)
-        }
+        Ok((writer, _readers)) => on_parts(rt, alloc, BoardParts::new(book, writer), case),
         Err(_) => panic!(rt; "no map"),
     }
 }
@@ -125,16 +110,8 @@ fn book_at_last(alloc: Global) -> Result<NewBook, AllocError> {
     }
 }
 
-/// Tries it on a new board, and gives the answers to commands.
-pub(crate) fn answers_in<R: Abort + AllocGlobal + Threads + Wait + Sync>(
-    rt: &R,
-    case: Case,
-) -> Option<(Vec<Given>, Reading)> {
-    let book = book_at_last(rt.alloc()).sure(rt);
-    on_names::<Brand, R>(rt, rt.alloc(), book, NewMap::new(), case)
-}
-
 /// Tries it on a new board.
 pub(crate) fn try_case<R: Abort + AllocGlobal + Threads + Wait + Sync>(rt: &R, case: Case) {
-    let _none = answers_in(rt, case);
+    let book = book_at_last(rt.alloc()).sure(rt);
+    on_names::<Brand, R>(rt, rt.alloc(), book, NewMap::new(), case)
 }

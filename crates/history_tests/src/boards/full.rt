@@ -1,12 +1,9 @@
 //! A board that has accepted as many events as it can.
-ghost use Rattle.std.specs.Prelude.{◌≤◌};
 
 use crate::boards::adopting::plan;
-use crate::boards::cases::{Case, try_case};
-use crate::boards::lists::Planner;
-use crate::boards::said::said;
+use crate::boards::cases::{Case, Planner, try_case};
 use crate::same::{Sure, same};
-use authority_map::{MapReader, Publisher};
+use authority_map::Publisher;
 use board_state::BoardError;
 use export_protocol::Event;
 use heat_ledger::Share;
@@ -55,12 +52,9 @@ fn refuse_events<J: Naming, M: Publisher<J>>(
     board: &mut Board<J, M>,
     share: &mut Share<J>,
 ) {
+    let begun = board.begin(share, Rank::default(), Dir::new(7));
+    same(rt, &begun, &Err(FULL));
     same(rt, &board.deposit(alloc, share), &Err(FULL));
-    same(
-        rt,
-        &board.begin(share, Rank::default(), Dir::new(7)),
-        &Err(FULL),
-    );
     same(rt, &board.step(alloc, Event::Deliver(7)), &Err(FULL));
 }
 
@@ -70,53 +64,22 @@ fn refuse_plans<J: Naming, M: Publisher<J>, R: Abort + Threads + Sync>(
     board: &mut Board<J, M>,
 ) {
     same(rt, &board.open_problem(alloc).err(), &Some(FULL));
-    same(
-        rt,
-        &board.adopt(alloc, plan(alloc, 5).sure(rt)).err(),
-        &Some(FULL),
-    );
+    let adopted = board.adopt(alloc, plan(alloc, 5).sure(rt));
+    same(rt, &adopted.err(), &Some(FULL));
     same(rt, &board.balance(rt, alloc, &Planner).err(), &Some(FULL));
 }
 
-// Readers find the root of a new board. Once it is full, every change is refused for the same cause, before its own,
-// and what the board says stays.
-fn refuse<J: Naming, M: Publisher<J>, R: Abort + Threads + Sync>(
+// Every change is refused for the same cause, before its own.
+pub(crate) fn try_on<J: Naming, M: Publisher<J>, R: Abort + Threads + Sync>(
     rt: &R,
     alloc: Global,
     board: &mut Board<J, M>,
     share: &mut Share<J>,
-    reader: &mut MapReader<J>,
 ) {
-    same(
-        rt,
-        &board.find_published(reader, Dir::ROOT),
-        &Some(Rank::default()),
-    );
     fill(rt, alloc, board);
-    let before = said(board, share, reader);
     refuse_settings(rt, alloc, board);
     refuse_events(rt, alloc, board, share);
     refuse_plans(rt, alloc, board);
-    assert!(rt; said(board, share, reader) == before);
-}
-
-pub(crate) fn on_board<J: Naming, M: Publisher<J>, R: Abort + Threads + Sync>(
-    rt: &R,
-    alloc: Global,
-    board: Board<J, M>,
-    shares: Vec<Share<J>>,
-    readers: Vec<MapReader<J>>,
-)
-    requires limit { 8 ≤ J.limit }
-{
-    let mut board = board;
-    let mut shares = shares;
-    let mut readers = readers;
-    let (Some(share), Some(reader)) = (shares.first_mut(), readers.first_mut()) else {
-        panic!(rt; "no share or no reader");
-    };
-    refuse(rt, alloc, &mut board, share, reader);
-    board.end();
 }
 
 #[test]

@@ -1,19 +1,15 @@
 //! Changes of a board while a growth is refused.
 //!
 //! With `rt try --test --fail-alloc N`, the N-th growth is refused.
-ghost use Rattle.std.specs.Prelude.{◌≡◌, ◌≤◌, IfOk, true};
-ghost use Rattle.board_state.specs.Steps.{is_inner};
-ghost use Rattle.mds_board.specs.Commands.{is_fit};
 
 use crate::boards::adopting::plan;
-use crate::boards::cases::{Case, try_case};
-use crate::boards::lists::Planner;
-use crate::boards::said::said;
-use crate::given::{dirs_at_last, rank};
-use crate::same::{Sure, holds_in, same, same_in};
-use authority_map::{MapReader, Publisher};
+use crate::boards::cases::{Case, Planner, try_case};
+use crate::given::rank;
+use crate::machine::steps::{Do as Step, event};
+use crate::same::{Sure, same, same_in};
+use authority_map::Publisher;
 use board_state::BoardError;
-use export_protocol::Event;
+use dirtree::Name;
 use heat_ledger::Share;
 use mds_board::{Board, BoardCommand};
 use mds_types::{Dir, Kind, Plan, RankSet};
@@ -26,47 +22,31 @@ use std::thread::Threads;
 /// What is done to a board, by the numbers of directories, ranks, exports and messages.
 #[derive(Clone, Copy)]
 enum Do {
+    // commands, each a list of its own
     Make(u32, &'static str),
     Remove(u32),
     Pin(u32, i32),
     Mask(u64),
     Weights(u8, u8),
     Tick,
+    Step(Step),
+    Balance,
+    // calls
     Hit(u32, Kind),
     Deposit,
     Begin(u8, u32),
     Open,
     Adopt,
-    Balance,
-    /// A list of one command, which is to balance.
-    Run,
     Publish,
-    Step(Step),
-    /// A list of one command, of which the event is copied.
-    Listed(Step),
     /// The events of the cluster, which are this many.
     Events(usize),
     /// The orders of the pins, which are this many.
     PinOrders(usize),
 }
 
-/// An event of the cluster.
-#[derive(Clone, Copy)]
-enum Step {
-    End(u32),
-    Start(u8, u8, &'static [u32]),
-    Deliver(u32),
-    Froze(u32),
-    Notify(u32),
-    Abort(u32),
-    Stop(u8),
-    Restart(u8),
-    Ask(u32),
-}
-
-/// A list in which each change is accepted: the root and /a move to rank 1 by a plan,
-/// one export is aborted, and one is asked about. Two more plans move nothing.
-const CHANGES: [Do; 56] = [
+/// A list in which each change is accepted: the root and /a move to rank 1 by a plan, one export is aborted, and one is
+/// asked about. A further plan moves nothing.
+const CHANGES: &[Do] = &[
     Do::Make(0, "a"),
     Do::Hit(1, Kind::Read),
     Do::Hit(1, Kind::Read),
@@ -99,7 +79,7 @@ const CHANGES: [Do; 56] = [
     Do::Begin(1, 2),
     Do::Step(Step::End(0)),
     Do::Remove(2),
-    Do::Listed(Step::Start(1, 0, &[1])),
+    Do::Step(Step::Start(1, 0, &[1])),
     Do::Step(Step::Deliver(7)),
     Do::Step(Step::Deliver(8)),
     Do::Step(Step::Froze(1)),
@@ -121,7 +101,6 @@ const CHANGES: [Do; 56] = [
     Do::Deposit,
     Do::Publish,
     Do::Balance,
-    Do::Run,
     Do::Events(31),
 ];
 
@@ -132,22 +111,21 @@ fn plan_at_last(alloc: Global) -> Result<Plan, AllocError> {
     }
 }
 
-fn event(alloc: Global, step: Step) -> Result<Event, AllocError>
-    ensures inner { IfOk result (λ event. is_inner event ≡ true) }
-{
-    Ok(match step {
-        Step::End(ticket) => Event::End(ticket),
-        Step::Start(from, to, numbers) => {
-            Event::Start(rank(from), rank(to), dirs_at_last(alloc, numbers)?)
+/// The command of a change, if it has one.
+fn command(alloc: Global, change: Do) -> Result<Option<BoardCommand>, AllocError> {
+    Ok(Some(match change {
+        Do::Make(parent, name) => {
+            BoardCommand::Make(Dir::new(parent), Name::new(alloc, name)?, 10)
         }
-        Step::Deliver(message) => Event::Deliver(message),
-        Step::Froze(export) => Event::Froze(export),
-        Step::Notify(export) => Event::Notify(export),
-        Step::Abort(export) => Event::Abort(export),
-        Step::Stop(at) => Event::Stop(rank(at)),
-        Step::Restart(at) => Event::Restart(rank(at)),
-        Step::Ask(export) => Event::Ask(export),
-    })
+        Do::Remove(dir) => BoardCommand::Remove(Dir::new(dir)),
+        Do::Pin(dir, pin) => BoardCommand::Pin(Dir::new(dir), pin),
+        Do::Mask(bits) => BoardCommand::Mask(RankSet::from_bits(bits)),
+        Do::Weights(read, write) => BoardCommand::Weights(read, write),
+        Do::Tick => BoardCommand::Tick,
+        Do::Step(step) => BoardCommand::Step(event(alloc, step)?),
+        Do::Balance => BoardCommand::Balance,
+        _ => return Ok(None),
+    }))
 }
 
 /// Whether the change was made, whatever it gives.
@@ -156,21 +134,21 @@ fn done<T: Drop>(answer: Result<T, BoardError>) -> Result<(), BoardError> {
     Ok(())
 }
 
-/// Makes one of the changes of the tree and the settings.
-fn set<J: Naming, M: Publisher<J>>(
+/// Has a board carry out a list of one command.
+fn run_one<J: Naming, M: Publisher<J>, R: Abort + Threads + Sync>(
+    rt: &R,
     alloc: Global,
     board: &mut Board<J, M>,
-    change: Do,
+    command: BoardCommand,
 ) -> Result<(), BoardError> {
-    match change {
-        Do::Make(parent, name) => done(board.make(alloc, Dir::new(parent), name, 10)),
-        Do::Remove(dir) => board.remove(Dir::new(dir)),
-        Do::Pin(dir, pin) => board.set_pin(Dir::new(dir), pin),
-        Do::Mask(bits) => board.set_mask(RankSet::from_bits(bits)),
-        Do::Weights(read, write) => board.set_weights(read, write),
-        Do::Tick => board.tick(),
-        _ => Ok(()),
+    assert!(rt; command.is_fit());
+    let Ok(answers) = board.run(rt, alloc, &Planner, &[command]) else {
+        return Err(BoardError::Memory);
+    };
+    for answer in answers {
+        done(answer)?;
     }
+    Ok(())
 }
 
 /// Counts, or begins a request.
@@ -185,42 +163,8 @@ fn count<J: Naming, M: Publisher<J>>(
             let _hit = share.hit(Dir::new(dir), kind);
             Ok(())
         }
-        Do::Deposit => board.deposit(alloc, share),
         Do::Begin(at, dir) => done(board.begin(share, rank(at), Dir::new(dir))),
-        _ => Ok(()),
-    }
-}
-
-/// Has a board carry out a list of one command.
-fn run_one<J: Naming, M: Publisher<J>, R: Threads + Sync>(
-    rt: &R,
-    alloc: Global,
-    board: &mut Board<J, M>,
-    command: BoardCommand,
-) -> Result<(), BoardError>
-    requires { is_fit command ≡ true }
-{
-    let Ok(answers) = board.run(rt, alloc, &Planner, &[command]) else {
-        return Err(BoardError::Memory);
-    };
-    for answer in answers {
-        done(answer)?;
-    }
-    Ok(())
-}
-
-/// Plans, by a call or by a list.
-fn plan_on<J: Naming, M: Publisher<J>, R: Abort + Threads + Sync>(
-    rt: &R,
-    alloc: Global,
-    board: &mut Board<J, M>,
-    change: Do,
-) -> Result<(), BoardError> {
-    match change {
-        Do::Open => done(board.open_problem(alloc)),
-        Do::Adopt => done(board.adopt(alloc, plan_at_last(alloc).sure(rt))),
-        Do::Balance => done(board.balance(rt, alloc, &Planner)),
-        _ => run_one(rt, alloc, board, BoardCommand::Balance),
+        _ => board.deposit(alloc, share),
     }
 }
 
@@ -239,7 +183,7 @@ fn is_long<T: Drop>(
     }
 }
 
-/// Publishes, makes an event of the cluster, or lists what takes memory.
+/// Opens a problem, adopts the plan for it, publishes, or lists what takes memory.
 fn go_on<J: Naming, M: Publisher<J>>(
     rt: &impl Abort,
     alloc: Global,
@@ -247,15 +191,15 @@ fn go_on<J: Naming, M: Publisher<J>>(
     change: Do,
 ) -> Result<(), BoardError> {
     match change {
+        Do::Open => done(board.open_problem(alloc)),
+        Do::Adopt => done(board.adopt(alloc, plan_at_last(alloc).sure(rt))),
         Do::Events(length) => is_long(rt, board.cluster_events(alloc), length),
         Do::PinOrders(length) => is_long(rt, board.pin_orders(alloc), length),
-        Do::Publish => if board.publish() {
+        _ => if board.publish() {
             Ok(())
         } else {
             Err(BoardError::Memory)
         },
-        Do::Step(step) => { done(board.step(alloc, event(alloc, step).expect(rt, "it failed"))) }
-        _ => Ok(()),
     }
 }
 
@@ -266,93 +210,63 @@ fn change_once<J: Naming, M: Publisher<J>, R: Abort + Threads + Sync>(
     share: &mut Share<J>,
     change: Do,
 ) -> Result<(), BoardError> {
-    match change {
-        Do::Hit(_, _) | Do::Deposit | Do::Begin(_, _) => count(alloc, board, share, change),
-        Do::Open | Do::Adopt | Do::Balance | Do::Run => plan_on(rt, alloc, board, change),
-        Do::Listed(step) => {
-            let event = event(alloc, step).expect(rt, "it failed");
-            run_one(rt, alloc, board, BoardCommand::Step(event))
-        }
-        Do::Publish | Do::Step(_) | Do::Events(_) | Do::PinOrders(_) => {
-            go_on(rt, alloc, board, change)
-        }
-        _ => set(alloc, board, change),
+    match command(alloc, change) {
+        Ok(Some(command)) => run_one(rt, alloc, board, command),
+        Err(AllocError) => Err(BoardError::Memory),
+        Ok(None) => match change {
+            Do::Hit(_, _) | Do::Deposit | Do::Begin(_, _) => count(alloc, board, share, change),
+            _ => go_on(rt, alloc, board, change),
+        },
     }
 }
 
-/// Makes a change. Where a growth is refused nothing has changed, and the next call makes it. It says whether one was.
+/// Makes a change. Where a growth is refused, the next call makes it. It says whether one was.
 fn change_at_last<J: Naming, M: Publisher<J>, R: Abort + Threads + Sync>(
     rt: &R,
     alloc: Global,
     board: &mut Board<J, M>,
     share: &mut Share<J>,
-    reader: &mut MapReader<J>,
     change: Do,
 ) -> bool {
     let at = board.history().len();
-    let before = said(board, share, reader);
     let first = change_once(rt, alloc, board, share, change);
     if first.is_ok() {
         return false;
     }
     same_in(rt, &first, &Err(BoardError::Memory), &at);
-    holds_in(rt, said(board, share, reader) == before, &at);
     let again = change_once(rt, alloc, board, share, change);
     same_in(rt, &again, &Ok(()), &at);
     true
 }
 
-/// Makes all changes, of which one at most is refused.
-fn change_all<J: Naming, M: Publisher<J>, R: Abort + Threads + Sync>(
-    rt: &R,
-    alloc: Global,
-    board: &mut Board<J, M>,
-    share: &mut Share<J>,
-    reader: &mut MapReader<J>,
-) {
-    let mut refused = false;
-    for change in CHANGES {
-        if change_at_last(rt, alloc, board, share, reader, change) {
-            assert!(rt; !refused);
-            refused = true;
-        }
-    }
-}
-
 /// The board is as without a refused growth.
 fn look_back<J: Naming, M: Publisher<J>>(rt: &impl Abort, board: &Board<J, M>) {
     let a = Dir::new(1);
-    same(rt, &board.history().len(), &46);
+    same(rt, &board.history().len(), &44);
     same(rt, &board.tree().numbers(), &4);
     let counted = (board.counted(a, Kind::Read), board.counted(a, Kind::Write));
     same(rt, &(counted, board.begun(a)), &((5, 1), 1));
     same(rt, &board.cluster().authority(a), &Some(rank(1)));
     same(rt, &board.cluster().sent(), &17);
-    same(
-        rt,
-        &board.plan_in_force().map(|plan| plan.greatest),
-        &Some(7),
-    );
+    let greatest = board.plan_in_force().map(|plan| plan.greatest);
+    same(rt, &greatest, &Some(7));
 }
 
-pub(crate) fn on_board<J: Naming, M: Publisher<J>, R: Abort + Threads + Sync>(
+/// Makes all changes, of which one at most is refused.
+pub(crate) fn try_on<J: Naming, M: Publisher<J>, R: Abort + Threads + Sync>(
     rt: &R,
     alloc: Global,
-    board: Board<J, M>,
-    shares: Vec<Share<J>>,
-    readers: Vec<MapReader<J>>,
-)
-    requires limit { 8 ≤ J.limit }
-{
-    let mut board = board;
-    let mut shares = shares;
-    let mut readers = readers;
-    let (Some(share), Some(reader)) = (shares.first_mut(), readers.first_mut()) else {
-        panic!(rt; "no share or no reader");
-    };
-    change_all(rt, alloc, &mut board, share, reader);
-    look_back(rt, &board);
-    board.end();
+    board: &mut Board<J, M>,
+    share: &mut Share<J>,
+) {
+    let mut refused = false;
+    for change in CHANGES {
+        if change_at_last(rt, alloc, board, share, *change) {
+            assert!(rt; !refused);
+            refused = true;
+        }
+    }
+    look_back(rt, board);
 }
 
 #[test]

@@ -1,228 +1,222 @@
-//! Whole exports, aborts, and messages that come late or twice.
+//! Schedules that the proofs of `export_protocol` don't compute: aborts in each state, messages that come twice, stops,
+//! the order of refusals, limits, and refused growths.
 
 use crate::given::rank;
-use crate::machine::found::{Found, Schedule, roots, run_schedules};
-use crate::machine::starts::{Room, prepare_and_run};
-use crate::machine::steps::{Do, Row, TO_THE_LOG, after, cluster_of, event, run_rows, written};
-use crate::machine::told::{Told, same_as_told};
-use crate::same::{Sure, holds_in, same};
+use crate::machine::steps::{Do, Row, TO_THE_LOG, after, cluster_of, event, run_rows};
+use crate::same::{Sure, holds_in, same, same_in};
 use export_machine::Cluster;
-use export_protocol::{Event, ExporterState, ImporterState, StepError};
+use export_protocol::{Event, ExporterState, ImporterState, Reply};
 use mds_types::Dir;
 use std::alloc::{AllocError, Global};
 use std::process::Abort;
 
+struct Schedule {
+    name: &'static str,
+    /// How many steps to the log entry come first.
+    begun: usize,
+    rows: &'static [Row],
+    /// The states of export 0 in the end, if there is one.
+    states: Option<(ExporterState, ImporterState)>,
+    /// How many entries the journals of ranks 0 and 1 have then.
+    entries: (usize, usize),
+}
+
 const SCHEDULES: &[Schedule] = &[
-    (
-        "an export that is logged is served nowhere, and the map still names the exporter",
-        9,
-        &[
-            (Do::Begin(0, 1), Told::Refused("18 Elsewhere 1")),
-            (Do::Begin(1, 1), Told::Refused("20 Frozen 0")),
-        ],
-        &[Found::Named(1, 0)],
-    ),
-    (
-        "a directory moves",
-        9,
-        &[
-            (Do::Begin(0, 1), Told::Refused("18 Elsewhere 1")),
-            (Do::Begin(1, 1), Told::Refused("20 Frozen 0")),
-            (Do::Notify(0), Told::Sent(6)),
-            (Do::Deliver(6), Told::Changed),
-            (Do::Begin(1, 1), Told::Ticket(0)),
-        ],
-        &[
-            Found::Named(1, 1),
-            Found::Authority(1, 1),
-            Found::Serves(1, 1),
-            Found::Withholds(0, 1),
-            Found::Sent(7),
-            Found::To(6, 0, 1),
-            Found::Unsent(7),
-            Found::States(0, ExporterState::Done, ImporterState::Imported),
-            Found::NoExport(1),
-            Found::Exported(0, 1, 0),
-            Found::Imported(1, 0),
-        ],
-    ),
-    (
-        "a late ack after an abort is ignored",
-        8,
-        &[
-            (Do::Abort(0), Told::Sent(6)),
-            (Do::Deliver(5), Told::Ignored),
-            (Do::Deliver(6), Told::Changed),
-            (Do::Abort(0), Told::Refused("23 Late aborted")),
-        ],
-        &[Found::Authority(1, 0), Found::Dropped(1, 0)],
-    ),
-    (
-        "repeated messages act once, there and back",
-        8,
-        &[
-            (Do::Deliver(4), Told::Ignored),
-            (Do::Deliver(5), Told::Changed),
-            (Do::Notify(0), Told::Sent(6)),
-            (Do::Deliver(6), Told::Changed),
-            (Do::Start(1, 0, &[1]), Told::Export(1, 7)),
-            (Do::Deliver(7), Told::Sent(8)),
-            (Do::Deliver(8), Told::Changed),
-            (Do::Froze(1), Told::Sent(9)),
-            (Do::Deliver(9), Told::Sent(10)),
-            (Do::Deliver(10), Told::Sent(11)),
-            (Do::Deliver(11), Told::Sent(12)),
-            (Do::Deliver(12), Told::Changed),
-            (Do::Notify(1), Told::Sent(13)),
-            (Do::Deliver(13), Told::Changed),
-            (Do::Deliver(6), Told::Ignored),
-        ],
-        &[Found::Authority(1, 0), Found::Serves(0, 1)],
-    ),
-    (
-        "freezing waits for requests",
-        1,
-        &[
-            (Do::Begin(0, 1), Told::Ticket(0)),
-            (Do::Start(0, 1, &[1]), Told::Export(0, 0)),
-            (Do::Deliver(0), Told::Sent(1)),
-            (Do::Deliver(1), Told::Changed),
-            (Do::Froze(0), Told::Refused("22 NotYet 1")),
-            (Do::Begin(0, 1), Told::Refused("20 Frozen 0")),
-            (Do::End(0), Told::Changed),
-            (Do::Froze(0), Told::Sent(2)),
-        ],
-        &[],
-    ),
-    (
-        "a cancel overtakes the discover",
-        2,
-        &[
-            (Do::Abort(0), Told::Sent(1)),
-            (Do::Deliver(1), Told::Changed),
-            (Do::Deliver(0), Told::Ignored),
-        ],
-        &[],
-    ),
-    (
-        "messages that are delivered twice act once",
-        2,
-        &[
-            (Do::Deliver(0), Told::Sent(1)),
-            (Do::Deliver(0), Told::Ignored),
-            (Do::Deliver(1), Told::Changed),
-            (Do::Deliver(1), Told::Ignored),
-            (Do::Froze(0), Told::Sent(2)),
-            (Do::Deliver(2), Told::Sent(3)),
-            (Do::Deliver(2), Told::Ignored),
-            (Do::Deliver(3), Told::Sent(4)),
-            (Do::Deliver(3), Told::Ignored),
-            (Do::Deliver(4), Told::Sent(5)),
-            (Do::Deliver(4), Told::Ignored),
-            (Do::Deliver(5), Told::Changed),
-            (Do::Deliver(5), Told::Ignored),
-            (Do::Notify(0), Told::Sent(6)),
-            (Do::Deliver(6), Told::Changed),
-            (Do::Deliver(6), Told::Ignored),
+    Schedule {
+        name: "messages that are delivered twice act once",
+        begun: 2,
+        rows: &[
+            (Do::Deliver(0), "Sent(1)"),
+            (Do::Deliver(0), "Ignored"),
+            (Do::Deliver(1), "Changed"),
+            (Do::Deliver(1), "Ignored"),
+            (Do::Froze(0), "Sent(2)"),
+            (Do::Deliver(2), "Sent(3)"),
+            (Do::Deliver(2), "Ignored"),
+            (Do::Deliver(3), "Sent(4)"),
+            (Do::Deliver(3), "Ignored"),
+            (Do::Deliver(4), "Sent(5)"),
+            (Do::Deliver(4), "Ignored"),
+            (Do::Deliver(5), "Changed"),
+            (Do::Deliver(5), "Ignored"),
+            (Do::Abort(0), "23 Late logged"),
+            (Do::Notify(0), "Sent(6)"),
+            (Do::Deliver(6), "Changed"),
+            (Do::Abort(0), "23 Late done"),
             // and once more when all is over
-            (Do::Deliver(0), Told::Ignored),
-            (Do::Deliver(1), Told::Ignored),
-            (Do::Deliver(2), Told::Ignored),
-            (Do::Deliver(3), Told::Ignored),
-            (Do::Deliver(4), Told::Ignored),
-            (Do::Deliver(5), Told::Ignored),
-            (Do::Deliver(6), Told::Ignored),
+            (Do::Deliver(0), "Ignored"),
+            (Do::Deliver(1), "Ignored"),
+            (Do::Deliver(2), "Ignored"),
+            (Do::Deliver(3), "Ignored"),
+            (Do::Deliver(4), "Ignored"),
+            (Do::Deliver(5), "Ignored"),
+            (Do::Deliver(6), "Ignored"),
         ],
-        &[
-            Found::Authority(1, 1),
-            Found::Entries(0, 4),
-            Found::Entries(1, 2),
+        states: Some((ExporterState::Done, ImporterState::Imported)),
+        entries: (4, 2),
+    },
+    Schedule {
+        name: "a further stop leaves the import as the journal has it",
+        begun: 8,
+        rows: &[
+            (Do::Stop(0), "Changed"),
+            (Do::Ask(0), "Sent(6)"),
+            (Do::Restart(0), "Changed"),
+            (Do::Deliver(6), "Sent(7)"),
+            (Do::Deliver(7), "Changed"),
+            (Do::Ask(0), "23 Late aborted"),
+            (Do::Stop(1), "Changed"),
+            (Do::Restart(1), "Changed"),
+            (Do::Start(0, 1, &[1]), "Export(1, 8)"),
         ],
-    ),
+        states: Some((ExporterState::Aborted, ImporterState::Dropped)),
+        entries: (2, 2),
+    },
+    Schedule {
+        name: "what a stop aborted can be exported again",
+        begun: 5,
+        rows: &[
+            (Do::Start(0, 1, &[1]), "19 Busy 0"),
+            (Do::Stop(0), "Changed"),
+            (Do::Restart(0), "Changed"),
+            (Do::Begin(0, 1), "Ticket(0)"),
+            (Do::Start(0, 1, &[1]), "Export(1, 3)"),
+        ],
+        states: Some((ExporterState::Aborted, ImporterState::Discovered)),
+        entries: (2, 0),
+    },
+    Schedule {
+        name: "a stopped rank refuses",
+        begun: 1,
+        rows: &[
+            (Do::Stop(0), "Changed"),
+            (Do::Stop(0), "28 Stopped 0"),
+            (Do::Make(0), "28 Stopped 0"),
+            (Do::Remove(1), "28 Stopped 0"),
+            (Do::Begin(0, 7), "28 Stopped 0"),
+            (Do::Start(0, 1, &[7]), "28 Stopped 0"),
+            (Do::Stop(2), "12 NoRank"),
+            (Do::Restart(2), "12 NoRank"),
+            (Do::Ask(0), "17 NoExport"),
+        ],
+        states: None,
+        entries: (2, 0),
+    },
+    Schedule {
+        name: "the first cause of a refusal",
+        begun: 1,
+        rows: &[
+            (Do::Start(2, 0, &[7]), "12 NoRank"),
+            (Do::Start(0, 0, &[7]), "21 SameRank"),
+            (Do::Start(1, 0, &[7, 7]), "6 NoDir"),
+            (Do::Start(1, 0, &[]), "26 NotConnected"),
+            (Do::Start(1, 0, &[1, 1]), "26 NotConnected"),
+            (Do::Start(1, 0, &[1]), "18 Elsewhere 0"),
+            (Do::Make(1), "Dir(Dir { number: 2 })"),
+            (Do::Make(0), "Dir(Dir { number: 3 })"),
+            (Do::Start(1, 0, &[2, 3]), "26 NotConnected"),
+            (Do::Make(9), "6 NoDir"),
+            (Do::Make(1), "11 TreeFull"),
+            (Do::Start(0, 1, &[2, 1]), "Export(0, 0)"),
+            (Do::Start(0, 1, &[3, 0, 1]), "19 Busy 0"),
+            (Do::Notify(0), "23 Late discovering"),
+            (Do::Notify(7), "17 NoExport"),
+            (Do::Deliver(9), "24 NoMessage"),
+            (Do::Remove(0), "10 IsRoot"),
+            (Do::Remove(1), "9 NotEmpty"),
+            (Do::Remove(2), "19 Busy 0"),
+            (Do::Begin(2, 7), "12 NoRank"),
+            (Do::Begin(0, 3), "Ticket(0)"),
+            (Do::Remove(3), "22 NotYet 1"),
+            (Do::End(0), "Changed"),
+            (Do::End(0), "25 NoTicket"),
+            (Do::Remove(3), "Changed"),
+            (Do::Begin(0, 3), "6 NoDir"),
+        ],
+        states: Some((ExporterState::Discovering, ImporterState::Unknown)),
+        entries: (5, 0),
+    },
 ];
+
+/// A schedule on a cluster of its own.
+fn run(rt: &impl Abort, alloc: Global, schedule: &Schedule) -> Cluster {
+    let mut cluster = after(rt, alloc, schedule.begun);
+    run_rows(rt, alloc, &mut cluster, schedule.name, schedule.rows);
+    same_in(rt, &cluster.states(0), &schedule.states, &schedule.name);
+    let journals = (cluster.journal(rank(0)), cluster.journal(rank(1)));
+    let entries = (journals.0.len(), journals.1.len());
+    same_in(rt, &entries, &schedule.entries, &schedule.name);
+    cluster
+}
 
 #[test]
 fn schedules_are_answered_row_by_row(rt: HostRuntime) {
-    run_schedules(&rt, rt.alloc(), SCHEDULES)
+    for schedule in SCHEDULES {
+        run(&rt, rt.alloc(), schedule);
+    }
 }
 
-// An abort sends a cancel, after which the directory is served where it was.
-const ABORTS: &[Schedule] = &[
-    (
-        "discovering",
-        2,
-        &[
-            (Do::Abort(0), Told::Sent(1)),
-            (Do::Deliver(1), Told::Changed),
-        ],
-        &[Found::Serves(0, 1), Found::Entries(1, 0)],
-    ),
-    (
-        "freezing",
-        4,
-        &[
-            (Do::Abort(0), Told::Sent(2)),
-            (Do::Deliver(2), Told::Changed),
-        ],
-        &[Found::Serves(0, 1), Found::Entries(1, 0)],
-    ),
-    (
-        "preparing",
-        5,
-        &[
-            (Do::Abort(0), Told::Sent(3)),
-            (Do::Deliver(3), Told::Changed),
-        ],
-        &[Found::Serves(0, 1), Found::Entries(1, 0)],
-    ),
-    (
-        "preparing, the importer is ready",
-        6,
-        &[
-            (Do::Abort(0), Told::Sent(4)),
-            (Do::Deliver(4), Told::Changed),
-        ],
-        &[Found::Serves(0, 1), Found::Entries(1, 0)],
-    ),
-    (
-        "exporting",
-        7,
-        &[
-            (Do::Abort(0), Told::Sent(5)),
-            (Do::Deliver(5), Told::Changed),
-        ],
-        &[Found::Serves(0, 1), Found::Entries(1, 0)],
-    ),
-    (
-        "exporting, the import is journaled",
-        8,
-        &[
-            (Do::Abort(0), Told::Sent(6)),
-            (Do::Deliver(6), Told::Changed),
-        ],
-        &[Found::Serves(0, 1), Found::Entries(1, 2)],
-    ),
-    (
-        "logged",
-        9,
-        &[(Do::Abort(0), Told::Refused("23 Late logged"))],
-        &[Found::Authority(1, 1), Found::Entries(1, 1)],
-    ),
-    (
-        "done",
-        9,
-        &[
-            (Do::Notify(0), Told::Sent(6)),
-            (Do::Deliver(6), Told::Changed),
-            (Do::Abort(0), Told::Refused("23 Late done")),
-        ],
-        &[Found::Authority(1, 1), Found::Entries(1, 2)],
-    ),
+/// How many steps to the log entry come before an abort, the exporter's state then, the cancel that is sent, and how many
+/// entries the importer's journal has once it came.
+type Abortion = (usize, ExporterState, u32, usize);
+
+const ABORTED: &[Abortion] = &[
+    (2, ExporterState::Discovering, 1, 0),
+    (4, ExporterState::Freezing, 2, 0),
+    (5, ExporterState::Preparing, 3, 0),
+    (6, ExporterState::Preparing, 4, 0),
+    (7, ExporterState::Exporting, 5, 0),
+    (8, ExporterState::Exporting, 6, 2),
 ];
 
+/// After an abort the directory is served where it was.
+fn abort(rt: &impl Abort, alloc: Global, row: &Abortion) {
+    let (begun, state, cancel, entries) = *row;
+    let mut cluster = after(rt, alloc, begun);
+    same_in(rt, &cluster.states(0).map(|both| both.0), &Some(state), row);
+    let sent = cluster.apply(Event::Abort(0));
+    same_in(rt, &sent, &Ok(Reply::Sent(cancel)), row);
+    let came = cluster.apply(Event::Deliver(cancel));
+    same_in(rt, &came, &Ok(Reply::Changed), row);
+    holds_in(rt, cluster.serves(rank(0), Dir::new(1)), row);
+    same_in(rt, &cluster.journal(rank(1)).len(), &entries, row);
+}
+
 #[test]
-fn aborts_before_the_log_entry_only(rt: HostRuntime) {
-    run_schedules(&rt, rt.alloc(), ABORTS)
+fn aborts_before_the_log_entry(rt: HostRuntime) {
+    for row in ABORTED {
+        abort(&rt, rt.alloc(), row);
+    }
+}
+
+#[test]
+fn history_is_full_after_its_limit(rt: HostRuntime) {
+    let mut cluster = after(&rt, rt.alloc(), 9);
+    for _ in 9..1_048_576 {
+        same(&rt, &cluster.apply(Event::Deliver(0)), &Ok(Reply::Ignored));
+    }
+    let refused = &[
+        (Do::Deliver(0), "33 HistoryFull"),
+        (Do::Make(9), "33 HistoryFull"),
+    ];
+    run_rows(&rt, rt.alloc(), &mut cluster, "full", refused)
+}
+
+#[test]
+fn exports_are_full_after_their_limit(rt: HostRuntime) {
+    let mut cluster = after(&rt, rt.alloc(), 1);
+    for export in 0..65_536 {
+        let start = event(rt.alloc(), Do::Start(0, 1, &[1])).sure(&rt);
+        let started = Ok(Reply::Export(export, 2 * export));
+        same(&rt, &cluster.apply(start), &started);
+        let cancelled = Ok(Reply::Sent(2 * export + 1));
+        same(&rt, &cluster.apply(Event::Abort(export)), &cancelled);
+    }
+    let refused = &[
+        (Do::Start(1, 0, &[1]), "18 Elsewhere 0"),
+        (Do::Start(0, 1, &[1]), "27 ExportsFull"),
+    ];
+    run_rows(&rt, rt.alloc(), &mut cluster, "full", refused)
 }
 
 /// The events that lead to the log entry.
@@ -234,156 +228,56 @@ fn events(alloc: Global) -> Result<Vec<Event>, AllocError> {
     Ok(events)
 }
 
-/// Runs the list after the events that are done, as far as there is memory. Returns how many events are done. Where
-/// no memory is left for the answers nothing has changed.
-fn run_on(
-    rt: &impl Abort,
-    alloc: Global,
-    cluster: &mut Cluster,
-    events: &[Event],
-    done: usize,
-) -> usize {
-    let before = written(cluster);
-    let Ok(answers) = cluster.run(alloc, events.get(done..).unwrap_or(&[])) else {
-        holds_in(rt, written(cluster) == before, &"no answers");
-        return done;
-    };
-    let mut at = done;
-    for ((_, told), answer) in TO_THE_LOG.iter().skip(done).zip(answers.iter()) {
-        if matches!(answer, Err(StepError::Memory)) {
-            return at;
-        }
-        same_as_told(rt, alloc, answer, *told, &"in a list");
-        at = at.saturating_add(1);
-    }
-    at
-}
-
 #[test]
-fn a_refused_growth_of_a_list_is_made_up_for(rt: HostRuntime) {
-    let mut cluster = cluster_of(rt.alloc(), 16).sure(&rt);
-    let events = match events(rt.alloc()) {
-        Ok(events) => events,
-        Err(AllocError) => events(rt.alloc()).sure(&rt),
-    };
-    let done = run_on(&rt, rt.alloc(), &mut cluster, &events, 0);
-    let done = run_on(&rt, rt.alloc(), &mut cluster, &events, done);
-    same(&rt, &done, &9);
-}
-
-/// A step logs the export where it is the ninth, and no step logs it again.
-fn logs_at_last(rt: &impl Abort, alloc: Global, cluster: &mut Cluster, at: usize, row: Row) {
-    let next = event(alloc, row.0).sure(rt);
-    holds_in(rt, cluster.logs_export(&next) == (at == 8), &at);
-    run_rows(rt, alloc, cluster, "to the log entry", &[row]);
-    holds_in(rt, !cluster.logs_export(&next), &at);
-}
-
-#[test]
-fn only_the_log_entry_logs(rt: HostRuntime) {
-    let mut cluster = cluster_of(rt.alloc(), 16).sure(&rt);
-    for (at, row) in TO_THE_LOG.iter().enumerate() {
-        logs_at_last(&rt, rt.alloc(), &mut cluster, at, *row);
-    }
-}
-
-/// The cluster's roots are these, each with its authority.
-fn same_roots(rt: &impl Abort, alloc: Global, cluster: &Cluster, wanted: &[(u32, u8)]) {
-    let found = roots(alloc, cluster).sure(rt);
-    same(rt, &found.len(), &wanted.len());
-    for ((dir, at), (number, owner)) in found.iter().zip(wanted.iter()) {
-        same(rt, &(*dir, *at), &(Dir::new(*number), rank(*owner)));
-    }
-}
-
-// (a directory below directory 1 and an export, the roots after its log entry)
-const ROOTS: &[(&[Row], &[(u32, u8)])] = &[
-    (
-        &[
-            (Do::Make(1), Told::Dir(2)),
-            (Do::Start(0, 1, &[1]), Told::Export(0, 0)),
-        ],
-        &[(0, 0), (1, 1), (2, 0)],
-    ),
-    (
-        &[
-            (Do::Make(1), Told::Dir(2)),
-            (Do::Start(0, 1, &[1, 2]), Told::Export(0, 0)),
-        ],
-        &[(0, 0), (1, 1)],
-    ),
-];
-
-/// An export starts, of which the roots know nothing before its log entry.
-fn roots_follow(
-    rt: &impl Abort,
-    alloc: Global,
-    cluster: &mut Cluster,
-    rows: &[Row],
-    wanted: &[(u32, u8)],
-) {
-    run_rows(rt, alloc, cluster, "started", rows);
-    same(rt, &roots(alloc, cluster).sure(rt).len(), &1);
-    run_rows(rt, alloc, cluster, "to the log entry", &TO_THE_LOG[2..]);
-    same_roots(rt, alloc, cluster, wanted);
-}
-
-#[test]
-fn roots_follow_the_log_entry(rt: HostRuntime) {
-    for (rows, wanted) in ROOTS {
-        let mut cluster = after(&rt, rt.alloc(), 1);
-        roots_follow(&rt, rt.alloc(), &mut cluster, rows, wanted);
-    }
+fn a_list_of_events_is_accepted(rt: HostRuntime) {
+    let mut cluster = cluster_of(rt.alloc()).sure(&rt);
+    let events = events(rt.alloc()).sure(&rt);
+    let answers = cluster.run(rt.alloc(), &events).sure(&rt);
+    assert!(rt; answers.iter().all(|answer| answer.is_ok()));
 }
 
 /// Directory 1 has moved to rank 1. Here each further kind of event is accepted.
-const FURTHER: &[Row] = &[
-    (Do::Notify(0), Told::Sent(6)),
-    (Do::Deliver(6), Told::Changed),
-    (Do::Make(1), Told::Dir(2)),
-    (Do::Begin(1, 2), Told::Ticket(0)),
-    (Do::End(0), Told::Changed),
-    (Do::Remove(2), Told::Changed),
-    (Do::Start(1, 0, &[1]), Told::Export(1, 7)),
-    (Do::Deliver(7), Told::Sent(8)),
-    (Do::Deliver(8), Told::Changed),
-    (Do::Froze(1), Told::Sent(9)),
-    (Do::Deliver(9), Told::Sent(10)),
-    (Do::Deliver(10), Told::Sent(11)),
-    (Do::Deliver(11), Told::Sent(12)),
-    (Do::Stop(1), Told::Changed),
-    (Do::Ask(1), Told::Sent(13)),
-    (Do::Restart(1), Told::Changed),
-    (Do::Deliver(13), Told::Sent(14)),
-    (Do::Deliver(14), Told::Changed),
-    (Do::Make(1), Told::Dir(3)),
-    (Do::Start(1, 0, &[1, 3]), Told::Export(2, 15)),
-    (Do::Abort(2), Told::Sent(16)),
-];
+const FURTHER: Schedule = Schedule {
+    name: "each kind of event",
+    begun: 9,
+    rows: &[
+        (Do::Notify(0), "Sent(6)"),
+        (Do::Deliver(6), "Changed"),
+        (Do::Make(1), "Dir(Dir { number: 2 })"),
+        (Do::Begin(1, 2), "Ticket(0)"),
+        (Do::End(0), "Changed"),
+        (Do::Remove(2), "Changed"),
+        (Do::Start(1, 0, &[1]), "Export(1, 7)"),
+        (Do::Deliver(7), "Sent(8)"),
+        (Do::Deliver(8), "Changed"),
+        (Do::Froze(1), "Sent(9)"),
+        (Do::Deliver(9), "Sent(10)"),
+        (Do::Deliver(10), "Sent(11)"),
+        (Do::Deliver(11), "Sent(12)"),
+        (Do::Stop(1), "Changed"),
+        (Do::Ask(1), "Sent(13)"),
+        (Do::Restart(1), "Changed"),
+        (Do::Deliver(13), "Sent(14)"),
+        (Do::Deliver(14), "Changed"),
+        (Do::Make(1), "Dir(Dir { number: 3 })"),
+        (Do::Start(1, 0, &[1, 3]), "Export(2, 15)"),
+        (Do::Abort(2), "Sent(16)"),
+    ],
+    states: Some((ExporterState::Done, ImporterState::Imported)),
+    entries: (6, 5),
+};
 
-const GROWTHS: &[Schedule] = &[(
-    "each kind of event",
-    9,
-    FURTHER,
-    &[Found::Roots(2), Found::Authority(3, 1), Found::Sent(17)],
-)];
+/// How many roots a cluster has, asked for again where memory was refused.
+fn root_count(rt: &impl Abort, alloc: Global, cluster: &Cluster) -> usize {
+    match cluster.roots(alloc) {
+        Ok(roots) => roots.len(),
+        Err(_) => cluster.roots(alloc).sure(rt).len(),
+    }
+}
 
 /// What a small cluster has after each kind of event, growths refused or not.
 #[test]
 fn a_refused_growth_changes_nothing(rt: HostRuntime) {
-    run_schedules(&rt, rt.alloc(), GROWTHS)
-}
-
-/// The same events, each prepared first.
-#[test]
-fn a_refused_growth_leaves_what_is_prepared(rt: HostRuntime) {
-    let found = &[Found::Authority(3, 1)];
-    prepare_and_run(&rt, rt.alloc(), Room::Prepared, FURTHER, found)
-}
-
-/// The same events, each with room that is reserved first.
-#[test]
-fn a_refused_growth_leaves_what_is_reserved(rt: HostRuntime) {
-    let found = &[Found::Authority(3, 1)];
-    prepare_and_run(&rt, rt.alloc(), Room::Reserved, FURTHER, found)
+    let cluster = run(&rt, rt.alloc(), &FURTHER);
+    same(&rt, &root_count(&rt, rt.alloc(), &cluster), &2);
 }

@@ -1,4 +1,4 @@
-use Rattle.history_tests.proofs.boards.cases.answers_in.Given as goal
+use Rattle.history_tests.proofs.boards.cases.try_case.Given as goal
 
 -- the board's name is that of what was opened for its book and for its map
 abbrev pub ghosts-on_names : goal.ghosts-on_names
