@@ -9,7 +9,6 @@ use export_protocol::{Event, StepError};
 use export_threads::{OrderOutcome, Outcome, export_phase};
 use mds_board::Board;
 use naming::Naming;
-use rank_threads::WorkError;
 use std::alloc::Global;
 use std::marker::{Send, Sync};
 use std::process::Abort;
@@ -85,14 +84,4 @@ pub(crate) fn meet<
 #[test]
 fn turns_of_two_ranks_meet(rt: HostRuntime) {
     try_often(&rt, Trial::MeetingTurns, 1)
-}
-
-// What is printed where a rank has no thread.
-#[test]
-fn no_thread_is_printed_by_its_number(rt: HostRuntime) {
-    let text = format!(in rt.alloc(); "{}", WorkError::NoThread).sure(&rt);
-    same(&rt, &text.as_str(), &"36 NoThread");
-    let refused = WorkError::Board(BoardError::Step(StepError::Stopped(rank(3))));
-    let text = format!(in rt.alloc(); "{refused}").sure(&rt);
-    same(&rt, &text.as_str(), &"28 Stopped 3");
 }

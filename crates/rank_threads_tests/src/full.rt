@@ -1,4 +1,4 @@
-//! A phase that fills the history, and one that has no requests.
+//! A phase that fills the history.
 use crate::boards::serve_all;
 use crate::requests::{scripts, served, work};
 use crate::same::{Sure, same};
@@ -8,7 +8,7 @@ use board_state::BoardError;
 use heat_ledger::Share;
 use mds_board::Board;
 use naming::Naming;
-use rank_threads::{OpenGate, Ranks, Work};
+use rank_threads::OpenGate;
 use std::alloc::Global;
 use std::marker::{Send, Sync};
 use std::process::Abort;
@@ -21,23 +21,6 @@ fn tick_often<J: Naming, M: Publisher<J>>(board: &mut Board<J, M>, ticks: u32) {
     }
 }
 
-// What the ranks leave of a phase with these scripts, and how many entries the history has then.
-fn left<J: Naming + Send + Sync, M: Publisher<J> + Send, R: Abort + Threads + Wait + Sync>(
-    rt: &R,
-    alloc: Global,
-    board: Board<J, M>,
-    shares: Vec<Share<J>>,
-    scripts: &[Vec<Work>],
-) -> (Ranks<J>, usize) {
-    let (board, left) = serve_all(rt, alloc, board, &OpenGate, scripts, shares);
-    let entries = board.history().len();
-    board.end();
-    match left {
-        Some(ranks) => (ranks, entries),
-        None => panic!(rt; "no memory"),
-    }
-}
-
 /// The request's begin is the last event that has room: its end is refused, and each deposit.
 pub(crate) fn end_without_room<
     J: Naming + Send + Sync,
@@ -47,7 +30,10 @@ pub(crate) fn end_without_room<
     let all = scripts(alloc, &[work(1, 3)], &[]).sure(rt);
     let mut board = board;
     tick_often(&mut board, 1_048_574);
-    let (ranks, entries) = left(rt, alloc, board, shares, &all);
+    let (board, left) = serve_all(rt, alloc, board, &OpenGate, &all, shares);
+    let entries = board.history().len();
+    board.end();
+    let ranks = left.ok_or("no memory").sure(rt);
     let first = ranks.answers.first().ok_or("no answers").sure(rt);
     same(rt, &first.as_slice(), &[served(0, 3)].as_slice());
     same(rt, &ranks.ended, &Err(BoardError::HistoryFull));
@@ -58,29 +44,4 @@ pub(crate) fn end_without_room<
 #[test]
 fn an_end_without_room_is_told(rt: HostRuntime) {
     try_often(&rt, Trial::FullHistory, 1)
-}
-
-/// With no request the shares come back, and the history has only their deposits.
-pub(crate) fn serve_nothing<
-    J: Naming + Send + Sync,
-    M: Publisher<J> + Send,
-    R: Abort + Threads + Wait + Sync,
->(rt: &R, alloc: Global, board: Board<J, M>, shares: Vec<Share<J>>) {
-    let none = scripts(alloc, &[], &[]).sure(rt);
-    let (ranks, entries) = left(rt, alloc, board, shares, &none);
-    same(
-        rt,
-        &(ranks.shares.len(), ranks.answers.len(), entries),
-        &(2, 2, 3),
-    );
-    for answers in ranks.answers.iter() {
-        assert!(rt; answers.is_empty());
-    }
-    same(rt, &ranks.deposited, &Ok(()));
-    same(rt, &ranks.ended, &Ok(()));
-}
-
-#[test]
-fn ranks_without_requests_keep_their_shares(rt: HostRuntime) {
-    try_often(&rt, Trial::NoRequests, 1)
 }

@@ -1,5 +1,5 @@
-//! Tests of the rank threads: requests of two ranks and of 64, and orders of three; where growths or threads are
-//! refused, or the history is full, too.
+//! Tests of the rank threads: requests of two ranks and of 64, and orders of three; where threads are refused, or the
+//! history is full, too.
 #![tactic(auto)]
 
 #[cfg(test)]
@@ -10,8 +10,6 @@ mod exports;
 mod full;
 #[cfg(test)]
 mod gates;
-#[cfg(test)]
-mod growths;
 #[cfg(test)]
 mod many;
 #[cfg(test)]
@@ -24,5 +22,3 @@ mod same;
 mod threads;
 #[cfg(test)]
 mod trials;
-#[cfg(test)]
-mod whole;

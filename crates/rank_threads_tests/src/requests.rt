@@ -1,16 +1,16 @@
 //! Requests of two ranks, and what they leave on the board.
 ghost use Rattle.std.specs.Prelude.{◌≡◌, IfOk, vec_len};
 
-use crate::boards::serve_all;
+use crate::boards::{rank, serve_all};
 use crate::gates::{JitterGate, MeetingGate};
 use crate::same::{Sure, same};
 use crate::trials::{Trial, try_often};
 use authority_map::Publisher;
 use board_state::BoardError;
-use export_protocol::{Event, StepError};
+use export_protocol::StepError;
 use heat_ledger::Share;
 use mds_board::Board;
-use mds_types::{Dir, Kind, Rank};
+use mds_types::{Dir, Kind};
 use naming::Naming;
 use rank_threads::{Gate, Work, WorkAnswer, WorkError};
 use std::alloc::{AllocError, Global};
@@ -18,10 +18,6 @@ use std::marker::{Send, Sync};
 use std::process::Abort;
 use std::sync::Wait;
 use std::thread::Threads;
-
-fn rank(rt: &impl Abort, number: u8) -> Rank {
-    Rank::new(number).ok_or("no rank").sure(rt)
-}
 
 /// A read of a directory.
 pub(crate) fn work(dir: u32, hits: u32) -> Work {
@@ -42,11 +38,6 @@ pub(crate) fn served(ticket: u32, hits: u32) -> WorkAnswer {
 
 pub(crate) fn refused(error: StepError) -> WorkAnswer {
     WorkAnswer::refused(WorkError::Board(BoardError::Step(error)))
-}
-
-// The answer to a request that rank 0 would serve.
-fn elsewhere(rt: &impl Abort) -> WorkAnswer {
-    refused(StepError::Elsewhere(rank(rt, 0)))
 }
 
 /// The scripts of two ranks.
@@ -88,14 +79,9 @@ fn serve_two<
     shares: Vec<Share<J>>,
     gate: &G,
     scripts: &[Vec<Work>],
-    stopped: Option<Rank>,
 ) -> Seen
     requires limit { J.limit ≡ 128 }
 {
-    let mut board = board;
-    if let Some(rank) = stopped {
-        let _stopped = board.step(alloc, Event::Stop(rank));
-    }
     let (board, left) = serve_all(rt, alloc, board, gate, scripts, shares);
     let heat = board.heat().heat(Dir::new(1));
     let entries = board.history().len();
@@ -125,10 +111,11 @@ pub(crate) fn serve_with_jitter<
 {
     let one = [work(0, 3), work(1, 5), work(7, 1)];
     let all = scripts(alloc, &one, &[work(1, 2), work(7, 2)]).sure(rt);
-    let seen = serve_two(rt, alloc, board, shares, &JitterGate, &all, None);
+    let seen = serve_two(rt, alloc, board, shares, &JitterGate, &all);
     let first = [served(0, 3), served(1, 5), refused(StepError::NoDir)];
     same(rt, &seen.first.as_slice(), &first.as_slice());
-    let second = [elsewhere(rt), refused(StepError::NoDir)];
+    let elsewhere = refused(StepError::Elsewhere(rank(0)));
+    let second = [elsewhere, refused(StepError::NoDir)];
     same(rt, &seen.second.as_slice(), &second.as_slice());
     same(rt, &(seen.heat, seen.entries), &(5, 7));
 }
@@ -136,27 +123,6 @@ pub(crate) fn serve_with_jitter<
 #[test]
 fn ranks_answer_their_requests(rt: HostRuntime) {
     try_often(&rt, Trial::Requests, 100)
-}
-
-/// The requests of a stopped rank are refused, and end nowhere.
-pub(crate) fn serve_stopped<
-    J: Naming + Send + Sync,
-    M: Publisher<J> + Send,
-    R: Abort + Threads + Wait + Sync,
->(rt: &R, alloc: Global, board: Board<J, M>, shares: Vec<Share<J>>)
-    requires limit { J.limit ≡ 128 }
-{
-    let all = scripts(alloc, &[work(1, 5)], &[work(1, 2)]).sure(rt);
-    let stop = rank(rt, 0);
-    let seen = serve_two(rt, alloc, board, shares, &JitterGate, &all, Some(stop));
-    let stopped = refused(StepError::Stopped(stop));
-    same(rt, &seen.first.as_slice(), &[stopped].as_slice());
-    same(rt, &(seen.heat, seen.entries), &(0, 4));
-}
-
-#[test]
-fn a_stopped_rank_refuses(rt: HostRuntime) {
-    try_often(&rt, Trial::StoppedRank, 1)
 }
 
 /// Both ranks are inside a request at once: neither runs after the other, nor holds the lock between begin and end.
@@ -169,7 +135,7 @@ pub(crate) fn meet<
 {
     let all = scripts(alloc, &[work(1, 5)], &[work(1, 2)]).sure(rt);
     let gate = MeetingGate::new();
-    let seen = serve_two(rt, alloc, board, shares, &gate, &all, None);
+    let seen = serve_two(rt, alloc, board, shares, &gate, &all);
     same(rt, &gate.met(), &2);
     same(rt, &seen.heat, &5);
 }

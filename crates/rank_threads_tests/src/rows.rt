@@ -2,7 +2,7 @@
 use crate::boards::{orders, rank, serve};
 use crate::gates::JitterGate;
 use crate::requests::{refused, scripts, served, work};
-use crate::same::{Sure, same, same_in};
+use crate::same::{Sure, same_in};
 use crate::trials::{Trial, try_often};
 use authority_map::Publisher;
 use export_protocol::{Event, StepError};
@@ -19,7 +19,7 @@ use std::thread::Threads;
 
 /// What is done to a board of two ranks with directory 1.
 #[derive(Clone, Copy)]
-pub(crate) enum Do {
+enum Do {
     /// Each rank serves a request of two hits on the directory.
     Serve,
     /// The directory goes from a rank to a rank.
@@ -32,7 +32,7 @@ pub(crate) enum Do {
 
 /// What is said of a request.
 #[derive(Clone, Copy)]
-pub(crate) enum Said {
+enum Said {
     /// Its two hits were served, with this ticket.
     Served(u32),
     /// Another rank serves the directory.
@@ -88,77 +88,75 @@ fn step<J: Naming + Send + Sync, M: Publisher<J> + Send, R: Threads + Wait + Syn
     (board, shares)
 }
 
+/// What is done, and the answers.
+pub(crate) struct Played {
+    name: &'static str,
+    steps: &'static [Do],
+    said: &'static [Said],
+}
+
 /// Whatever the schedule, these are the answers of both ranks in each phase, rank 0's first.
 pub(crate) fn play_on<
     J: Naming + Send + Sync,
     M: Publisher<J> + Send,
     R: Abort + Threads + Wait + Sync,
->(rt: &R, alloc: Global, board: Board<J, M>, shares: Vec<Share<J>>, played: (&[Do], &[Said])) {
-    let (steps, said) = played;
+>(rt: &R, alloc: Global, board: Board<J, M>, shares: Vec<Share<J>>, played: &Played) {
     let scripts = scripts(alloc, &[work(1, 2)], &[work(1, 2)]).sure(rt);
     let mut told = Vec::new(alloc);
     let (mut board, mut shares) = (board, shares);
-    for next in steps {
+    for next in played.steps {
         let (after, back) = step(rt, alloc, board, &scripts, shares, *next, &mut told);
         board = after;
         shares = back;
     }
     board.end();
-    same(rt, &told.len(), &said.len());
-    for (at, (answer, said)) in told.iter().zip(said).enumerate() {
-        same_in(rt, answer, &said.answer(), &at);
+    same_in(rt, &told.len(), &played.said.len(), &played.name);
+    for (at, (answer, said)) in told.iter().zip(played.said).enumerate() {
+        same_in(rt, answer, &said.answer(), &(played.name, at));
     }
 }
 
-/// A directory goes to another rank and back.
-pub(crate) const THERE_AND_BACK: (&[Do], &[Said]) = (
-    &[
-        Do::Serve,
-        Do::Move(0, 1),
-        Do::Serve,
-        Do::Move(1, 0),
-        Do::Serve,
-    ],
-    &[
-        Said::Served(0),
-        Said::Elsewhere(0),
-        Said::Elsewhere(1),
-        Said::Served(1),
-        Said::Served(2),
-        Said::Elsewhere(0),
-    ],
-);
+const PLAYED: &[Played] = &[
+    Played {
+        name: "a directory goes to another rank and back",
+        steps: &[
+            Do::Serve,
+            Do::Move(0, 1),
+            Do::Serve,
+            Do::Move(1, 0),
+            Do::Serve,
+        ],
+        said: &[
+            Said::Served(0),
+            Said::Elsewhere(0),
+            Said::Elsewhere(1),
+            Said::Served(1),
+            Said::Served(2),
+            Said::Elsewhere(0),
+        ],
+    },
+    Played {
+        name: "a rank stops that has given a directory away",
+        steps: &[Do::Move(0, 1), Do::Stop(0), Do::Serve],
+        said: &[Said::Stopped(0), Said::Served(0)],
+    },
+    Played {
+        name: "a rank stops between two phases, and runs again",
+        steps: &[Do::Serve, Do::Stop(0), Do::Serve, Do::Restart(0), Do::Serve],
+        said: &[
+            Said::Served(0),
+            Said::Elsewhere(0),
+            Said::Stopped(0),
+            Said::Elsewhere(0),
+            Said::Served(1),
+            Said::Elsewhere(0),
+        ],
+    },
+];
 
 #[test]
-fn requests_are_served_there_and_back(rt: HostRuntime) {
-    try_often(&rt, Trial::ThereAndBack, 100)
-}
-
-/// A rank stops that has given a directory away.
-pub(crate) const PAST_A_STOP: (&[Do], &[Said]) = (
-    &[Do::Move(0, 1), Do::Stop(0), Do::Serve],
-    &[Said::Stopped(0), Said::Served(0)],
-);
-
-#[test]
-fn requests_are_served_past_a_stop(rt: HostRuntime) {
-    try_often(&rt, Trial::PastAStop, 100)
-}
-
-/// A rank stops between two phases, and runs again.
-pub(crate) const BETWEEN_PHASES: (&[Do], &[Said]) = (
-    &[Do::Serve, Do::Stop(0), Do::Serve, Do::Restart(0), Do::Serve],
-    &[
-        Said::Served(0),
-        Said::Elsewhere(0),
-        Said::Stopped(0),
-        Said::Elsewhere(0),
-        Said::Served(1),
-        Said::Elsewhere(0),
-    ],
-);
-
-#[test]
-fn a_rank_stops_between_two_phases(rt: HostRuntime) {
-    try_often(&rt, Trial::BetweenPhases, 100)
+fn requests_are_served_past_moves_and_stops(rt: HostRuntime) {
+    for played in PLAYED {
+        try_often(&rt, Trial::Played(played), 100);
+    }
 }

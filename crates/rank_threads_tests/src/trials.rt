@@ -2,9 +2,9 @@
 //! writer takes long to prove, so all that is tried is generic in it.
 ghost use Rattle.std.specs.Prelude.{◌≡◌, ◌≤◌};
 
-use crate::rows::{BETWEEN_PHASES, PAST_A_STOP, THERE_AND_BACK};
+use crate::rows::Played;
 use crate::same::Sure;
-use crate::{exports, full, growths, many, requests, rows, threads, whole};
+use crate::{exports, full, many, requests, rows, threads};
 use authority_map::{MapWriter, NewMap, Publisher};
 use board_state::BoardParts;
 use heat_ledger::{NewBook, Share};
@@ -26,32 +26,18 @@ pub(crate) enum Trial {
     MeetingTurns,
     /// An end without room in the history.
     FullHistory,
-    /// A phase without requests.
-    NoRequests,
-    /// A refused growth while requests are served.
-    GrowthOfAnswers,
-    /// A refused growth while orders are carried out.
-    GrowthOfOutcomes,
     /// Requests of 64 ranks.
     ManyRequests,
     /// Requests of two ranks.
     Requests,
-    /// The same where one of them has stopped.
-    StoppedRank,
     /// Requests of two ranks that meet.
     Meeting,
-    /// Requests on a directory that goes to another rank and back.
-    ThereAndBack,
-    /// Requests where the rank has stopped that gave the directory away.
-    PastAStop,
-    /// Requests where a rank stops between two phases, and runs again.
-    BetweenPhases,
+    /// Requests on a directory that moves, and past stops.
+    Played(&'static Played),
     /// Requests for which there may be no thread, or for which there is one.
     RankThreads(bool),
     /// Orders for which there may be no thread, or for which there is one.
     ExporterThreads(bool),
-    /// A phase for a caller that has all shares.
-    Totals,
 }
 
 impl Trial {
@@ -61,7 +47,7 @@ impl Trial {
     {
         match self {
             Trial::ManyRequests => (64, 63),
-            Trial::Orders | Trial::GrowthOfOutcomes | Trial::ExporterThreads(_) => (3, 2),
+            Trial::Orders | Trial::ExporterThreads(_) => (3, 2),
             _ => (2, 1),
         }
     }
@@ -88,28 +74,20 @@ fn try_on<J: Naming + Send + Sync, M: Publisher<J> + Send, R: Abort + Threads + 
     board: Board<J, M>,
     shares: Vec<Share<J>>,
     trial: Trial,
-) -> Result<(), AllocError>
+)
     requires limit { J.limit ≡ 128 }
 {
     match trial {
-        Trial::GrowthOfAnswers => return growths::serve_on(rt, alloc, board, shares),
-        Trial::GrowthOfOutcomes => return growths::move_on(rt, alloc, board),
         Trial::Orders => exports::go_and_come(rt, alloc, board),
         Trial::MeetingTurns => exports::meet(rt, alloc, board),
         Trial::FullHistory => full::end_without_room(rt, alloc, board, shares),
-        Trial::NoRequests => full::serve_nothing(rt, alloc, board, shares),
         Trial::ManyRequests => many::serve_on(rt, alloc, board, shares),
         Trial::Requests => requests::serve_with_jitter(rt, alloc, board, shares),
-        Trial::StoppedRank => requests::serve_stopped(rt, alloc, board, shares),
         Trial::Meeting => requests::meet(rt, alloc, board, shares),
-        Trial::ThereAndBack => rows::play_on(rt, alloc, board, shares, THERE_AND_BACK),
-        Trial::PastAStop => rows::play_on(rt, alloc, board, shares, PAST_A_STOP),
-        Trial::BetweenPhases => rows::play_on(rt, alloc, board, shares, BETWEEN_PHASES),
+        Trial::Played(played) => rows::play_on(rt, alloc, board, shares, played),
         Trial::RankThreads(is_sure) => threads::serve_on(rt, alloc, board, shares, is_sure),
         Trial::ExporterThreads(is_sure) => threads::move_on(rt, alloc, board, is_sure),
-        Trial::Totals => panic!(rt; "its board is its own"),
     }
-    Ok(())
 }
 
 // The same on one that has only its root yet.
@@ -128,7 +106,8 @@ fn try_filled<J: Naming + Send + Sync, M: Publisher<J> + Send, R: Abort + Thread
         board.end();
         return Err(AllocError);
     }
-    try_on(rt, alloc, board, shares, trial)
+    try_on(rt, alloc, board, shares, trial);
+    Ok(())
 }
 
 // The same with a book and a map's writer.
@@ -142,10 +121,6 @@ fn try_with<J: Naming + Send + Sync, M: Publisher<J> + Send, R: Abort + Threads 
     requires limit { J.limit ≡ 128 }
     requires ranks { (1 ≤ room.0) × (room.0 ≤ 64) }
 {
-    if let Trial::Totals = trial {
-        whole::serve_audited(rt, alloc, parts);
-        return Ok(());
-    }
     match Board::new(alloc, parts, 128, room.0) {
         Ok((board, shares)) => try_filled(rt, alloc, board, shares, room.1, trial),
         Err(parts) => {
@@ -176,8 +151,8 @@ fn on_board<J: Naming + Send + Sync, R: Abort + Threads + Wait + Sync>(
     }
 }
 
-/// Tries it on a new board, if there is memory for one.
-pub(crate) fn try_once<R: Abort + AllocGlobal + Threads + Wait + Sync>(
+// Tries it on a new board, if there is memory for one.
+fn try_once<R: Abort + AllocGlobal + Threads + Wait + Sync>(
     rt: &R,
     trial: Trial,
 ) -> Result<(), AllocError> {
