@@ -1,5 +1,5 @@
-//! Tests of what a board is made of, by public calls: heats, problems of random boards, orders, shares and the published
-//! map.
+//! Tests of what a board is made of, by public calls: heats, problems of random boards, orders, shares and the
+//! published map.
 #![tactic(auto)]
 
 #[cfg(test)]

@@ -156,8 +156,8 @@ fn schedules_are_answered_row_by_row(rt: HostRuntime) {
     }
 }
 
-/// How many steps to the log entry come before an abort, the exporter's state then, the cancel that is sent, and how many
-/// entries the importer's journal has once it came.
+/// How many steps to the log entry come before an abort, the exporter's state then, the cancel that is sent, and how
+/// many entries the importer's journal has once it came.
 type Abortion = (usize, ExporterState, u32, usize);
 
 const ABORTED: &[Abortion] = &[
