@@ -8,7 +8,7 @@ ghost use Rattle.std.specs.Prelude.{◌≡◌, ◌≤◌};
 use crate::moves::Act;
 use crate::phase::Seats;
 use crate::same::Sure;
-use crate::{many, moves, recorded, refused, scarce, traffic};
+use crate::{many, moves, refused, scarce, traffic};
 use authority_map::{MapReader, MapWriter, NewMap, Publisher};
 use board_state::BoardParts;
 use export_rounds::Unsettled;
@@ -26,14 +26,10 @@ use std::thread::Threads;
 pub(crate) enum Trial {
     /// A phase of many exports.
     Many,
-    /// Many phases of an export that is aborted.
-    Failed,
     /// Moves of this name, and what is found after them.
     Moves(&'static str, &'static [Act]),
     /// Phases while a growth is refused.
     RefusedGrowth,
-    /// A move by threads, and what is recorded of it.
-    Recorded,
     /// An export of a directory on which a request runs.
     Held,
     /// Many requests on a directory that is exported, before and after this rank stops.
@@ -51,7 +47,7 @@ impl Trial {
     fn is_large(self) -> bool {
         matches!(
             self,
-            Trial::Many | Trial::Failed | Trial::Moves(_, _) | Trial::RefusedGrowth
+            Trial::Many | Trial::Moves(_, _) | Trial::RefusedGrowth
         )
     }
 
@@ -100,10 +96,8 @@ fn try_on<J: Naming + Send + Sync, M: Publisher<J> + Send, R: Abort + Threads + 
     let mut board = board;
     match trial {
         Trial::Many => many::move_all(rt, alloc, &mut board),
-        Trial::Failed => many::fail_often(rt, alloc, &mut board),
         Trial::Moves(name, acts) => moves::try_acts(rt, alloc, &mut board, name, acts),
         Trial::RefusedGrowth => refused::phases(rt, alloc, &mut board),
-        Trial::Recorded => return recorded::move_by_threads(rt, alloc, board),
         Trial::Held => return traffic::hold(rt, alloc, board, seats),
         Trial::AtOnce(rank) => return traffic::serve_and_move(rt, alloc, board, seats, rank),
         Trial::ByMap => return traffic::ask_by_map(rt, alloc, board, seats),

@@ -12,8 +12,6 @@ mod moves;
 #[cfg(test)]
 mod phase;
 #[cfg(test)]
-mod recorded;
-#[cfg(test)]
 mod refused;
 #[cfg(test)]
 mod same;

@@ -105,19 +105,13 @@ pub(crate) fn try_acts<J: Naming, M: Publisher<J>>(
 
 const MOVES: &[(&str, &[Act])] = &[
     (
-        "two ranks take a directory each",
+        "directories go to two ranks, and back",
         &[
             Act::Move(&[(0, 1, 1), (0, 2, 2)], &[Told::Done(0), Told::Done(1)]),
             Act::Stand(&[(0, 0), (1, 1), (2, 2)]),
             Act::Unsettled(&[], 0),
-        ],
-    ),
-    (
-        "exports to a stopped rank are aborted",
-        &[
-            Act::Play(&[Do::Stop(1)]),
-            Act::Move(&[(0, 1, 0)], &[Told::Aborted(0)]),
-            Act::Stand(&[(0, 0)]),
+            Act::Move(&[(2, 0, 2), (1, 0, 1)], &[Told::Done(3), Told::Done(2)]),
+            Act::Stand(&[(0, 0), (1, 0), (2, 0)]),
         ],
     ),
     (
@@ -213,23 +207,6 @@ const MOVES: &[(&str, &[Act])] = &[
             Act::Unsettled(&[], 0),
             Act::States(0, ExporterState::Done, ImporterState::Imported),
             Act::Stand(&[(1, 1), (2, 0)]),
-        ],
-    ),
-    (
-        "directories go there and back three times",
-        &[
-            Act::Move(&[(0, 1, 1), (0, 1, 2)], &[Told::Done(0), Told::Done(1)]),
-            Act::Stand(&[(1, 1), (2, 1)]),
-            Act::Move(&[(1, 0, 2), (1, 0, 1)], &[Told::Done(2), Told::Done(3)]),
-            Act::Stand(&[(1, 0), (2, 0)]),
-            Act::Move(&[(0, 1, 1), (0, 1, 2)], &[Told::Done(4), Told::Done(5)]),
-            Act::Stand(&[(1, 1), (2, 1)]),
-            Act::Move(&[(1, 0, 2), (1, 0, 1)], &[Told::Done(6), Told::Done(7)]),
-            Act::Stand(&[(1, 0), (2, 0)]),
-            Act::Move(&[(0, 1, 1), (0, 1, 2)], &[Told::Done(8), Told::Done(9)]),
-            Act::Stand(&[(1, 1), (2, 1)]),
-            Act::Move(&[(1, 0, 2), (1, 0, 1)], &[Told::Done(10), Told::Done(11)]),
-            Act::Stand(&[(1, 0), (2, 0)]),
         ],
     ),
 ];

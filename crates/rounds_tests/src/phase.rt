@@ -1,6 +1,5 @@
 //! A phase of requests and exports, and what it leaves.
 
-use crate::refused::read;
 use authority_map::{MapReader, Publisher};
 use export_rounds::{Gate, Unsettled};
 use heat_ledger::Share;
@@ -68,31 +67,11 @@ pub(crate) fn total(answers: &[Vec<WorkAnswer>]) -> (u64, u64) {
     (hits, begun)
 }
 
-/// What shares count on a directory: the hits, those that aren't deposited, and the requests that began.
-pub(crate) fn counts<J: Naming>(shares: &[Share<J>], dir: Dir) -> (u64, u64, u64) {
-    let (mut hits, mut pending, mut begun): (u64, u64, u64) = (0, 0, 0);
-    for share in shares {
-        hits = hits.wrapping_add(share.hits(dir, Kind::Read));
-        pending = pending.wrapping_add(share.pending(dir, Kind::Read));
-        begun = begun.wrapping_add(share.begun(dir));
-    }
-    (hits, pending, begun)
-}
-
 // Each reader learns what the board tells.
 fn learn<J: Naming, M: Publisher<J>>(board: &Board<J, M>, readers: &mut [MapReader<J>]) {
     for reader in readers {
         reader.learn(board.tell());
     }
-}
-
-// Whether each reader holds what the board tells, and nothing else.
-fn are_told<J: Naming, M: Publisher<J>>(board: &Board<J, M>, readers: &[MapReader<J>]) -> bool {
-    let mut told = true;
-    for reader in readers {
-        told &= reader.is_at(&board.tell());
-    }
-    told
 }
 
 // Tries a phase. Where it is refused memory, nothing is told.
@@ -112,29 +91,21 @@ fn try_phase<
     let Seats {
         shares,
         readers,
-        mut unsettled,
+        unsettled: mut left,
     } = seats;
     let ranks = tasks.scripts.len();
     assert!(rt; ranks <= 64 && shares.len() == ranks && readers.len() == ranks);
     let (board, done) = traffic_phase(
-        rt,
-        alloc,
-        board,
-        shares,
-        readers,
-        tasks,
-        gate,
-        gate,
-        &mut unsettled,
+        rt, alloc, board, shares, readers, tasks, gate, gate, &mut left,
     );
     let (shares, readers, told) = match done {
-        Ok(left) => taken(rt, left),
+        Ok(traffic) => taken(rt, traffic),
         Err(refused) => (refused.value.0, refused.value.1, None),
     };
     let seats = Seats {
         shares,
         readers,
-        unsettled,
+        unsettled: left,
     };
     (board, seats, told)
 }
@@ -159,7 +130,7 @@ fn taken<J: Naming>(
 }
 
 /// A phase for readers that know all that is published, with one gate for requests and rounds. Where it is refused
-/// memory, nothing has changed, and it is tried again.
+/// memory, it is tried again.
 pub(crate) fn phase<
     J: Naming + Send + Sync,
     M: Publisher<J> + Send,
@@ -175,13 +146,10 @@ pub(crate) fn phase<
 ) -> (Board<J, M>, Seats<J>, Told) {
     let mut seats = seats;
     learn(&board, &mut seats.readers);
-    let (before, counted) = (read(&board), counts(&seats.shares, Dir::ROOT));
     let (board, seats, told) = try_phase(rt, alloc, board, seats, tasks, gate);
     if let Some(told) = told {
         return (board, seats, told);
     }
-    assert!(rt; read(&board) == before && counts(&seats.shares, Dir::ROOT) == counted);
-    assert!(rt; are_told(&board, &seats.readers));
     let (board, seats, told) = try_phase(rt, alloc, board, seats, tasks, gate);
     let Some(mut told) = told else {
         panic!(rt; "no memory")

@@ -4,16 +4,15 @@
 //! `tools/refused_threads`.
 
 use crate::boards::{Trial, on_board};
-use crate::phase::{Seats, Told, counts, phase, scripts, total};
-use crate::refused::{is_told, made_at_last, orders_at_last};
-use crate::same::{Sure, holds_in, same};
-use crate::steps::{moved, rank, stand};
+use crate::phase::{Seats, Told, phase, scripts};
+use crate::refused::{made_at_last, orders_at_last};
+use crate::same::{Sure, holds_in};
+use crate::steps::{moved, stand};
 use crate::traffic::MOVE;
 use authority_map::Publisher;
 use board_state::BoardError;
 use export_threads::{OpenGate, OrderOutcome, Outcome};
 use mds_board::Board;
-use mds_types::{Dir, Kind};
 use naming::Naming;
 use rank_threads::WorkError;
 use std::alloc::{AllocError, Global};
@@ -52,14 +51,6 @@ fn lacking(rt: &impl Abort, told: &Told) -> u32 {
     lacking
 }
 
-// Whether it is so what became of the order.
-fn stands<J: Naming, M: Publisher<J>>(board: &Board<J, M>, told: &[OrderOutcome]) -> bool {
-    match told.first() {
-        Some(OrderOutcome::TakenUp(outcome)) => is_told(board, 1, *outcome),
-        _ => board.cluster().authority(Dir::new(1)) == Some(rank(0)),
-    }
-}
-
 /// Each request is served, or isn't for want of memory or a thread, and the order is done or not. At `most` so many of
 /// these are refused. What is undone later phases do.
 pub(crate) fn serve_and_move<
@@ -76,11 +67,6 @@ pub(crate) fn serve_and_move<
         orders: &orders,
     };
     let (mut board, mut seats, told) = phase(rt, alloc, board, seats, tasks, &OpenGate);
-    let (hits, pending, begun) = counts(&seats.shares, Dir::ROOT);
-    same(rt, &(hits, begun), &total(&told.answers));
-    let counted = board.counted(Dir::ROOT, Kind::Read).wrapping_add(pending);
-    same(rt, &(counted, board.begun(Dir::ROOT)), &(hits, begun));
-    holds_in(rt, stands(&board, &told.outcomes), &told.outcomes);
     let lacking = lacking(rt, &told);
     holds_in(rt, lacking <= most, &lacking);
     for _ in 0..2 {

@@ -5,7 +5,6 @@ ghost use Rattle.heat_ledger.specs.Ledger.{weight_of};
 use crate::boards::{Trial, on_board};
 use crate::gates::{HeldGate, JitterGate};
 use crate::phase::{Seats, phase, scripts, total};
-use crate::recorded::replay;
 use crate::same::{Sure, holds_in, same};
 use crate::steps::{Do, make, moved, orders, play, rank};
 use authority_map::{Found, MapReader, Publisher};
@@ -50,7 +49,6 @@ pub(crate) fn hold<
     same(rt, &told.outcomes.as_slice(), &aborted.as_slice());
     same(rt, &board.counted(Dir::new(1), Kind::Read), &5);
     same(rt, &board.counted(Dir::ROOT, Kind::Read), &2);
-    replay(rt, alloc, &board);
     board.end();
 }
 
@@ -71,10 +69,9 @@ fn is_started(outcomes: &[OrderOutcome]) -> bool {
 }
 
 // The board counts on directory 1 so many hits and requests. A reader that learns what the board tells finds the
-// authority, and what is recorded leads to it, too.
+// authority.
 fn check<J: Naming, M: Publisher<J>>(
     rt: &impl Abort,
-    alloc: Global,
     board: &Board<J, M>,
     readers: &mut [MapReader<J>],
     wanted: (u64, u64),
@@ -87,7 +84,6 @@ fn check<J: Naming, M: Publisher<J>>(
         reader.learn(board.tell());
         same(rt, &reader.find(dir), &Found::Rank(authority));
     }
-    replay(rt, alloc, board);
 }
 
 /// Two ranks ask 1,000 times each for the directory that moves, and again when a rank has stopped.
@@ -108,12 +104,12 @@ pub(crate) fn serve_and_move<
     let (mut board, mut seats, told) = phase(rt, alloc, board, seats, tasks, &JitterGate);
     holds_in(rt, is_started(&told.outcomes), &told.outcomes);
     let first = total(&told.answers);
-    check(rt, alloc, &board, &mut seats.readers, first);
+    check(rt, &board, &mut seats.readers, first);
     play(rt, alloc, &mut board, "between", &[Do::Stop(stopped)]);
     let (board, mut seats, told) = phase(rt, alloc, board, seats, tasks, &JitterGate);
     let (hits, begun) = total(&told.answers);
     let both = (first.0.wrapping_add(hits), first.1.wrapping_add(begun));
-    check(rt, alloc, &board, &mut seats.readers, both);
+    check(rt, &board, &mut seats.readers, both);
     board.end();
 }
 
@@ -154,7 +150,6 @@ pub(crate) fn ask_by_map<
     let (board, _seats, told) = phase(rt, alloc, board, seats, tasks, &JitterGate);
     same(rt, &total(&told.answers), &(3, 1));
     same(rt, &begun_at(board.history(), 1), &1);
-    replay(rt, alloc, &board);
     board.end();
 }
 
