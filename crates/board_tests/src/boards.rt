@@ -79,7 +79,10 @@ fn is_held(board: &Board, dir: Dir) -> bool {
         if let Some(Some(_)) = board.own.get(at.number() as usize) {
             return true;
         }
-        at = board.tree.row(at).map_or(Dir::ROOT, |row| row.parent);
+        let Some(row) = board.tree.row(at) else {
+            return false;
+        };
+        at = row.parent;
     }
     false
 }
@@ -146,7 +149,9 @@ fn random_labels(
         let above = part.get(row.parent as usize).copied().unwrap_or(0);
         let is_cut = labels < 4 && random.below(4) == 0;
         part.push(if is_cut { labels } else { above })?;
-        labels += u32::from(is_cut);
+        if is_cut {
+            labels += 1;
+        }
     }
     Ok(part)
 }

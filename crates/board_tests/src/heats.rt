@@ -29,6 +29,12 @@ pub(crate) fn heat_of(heat: &Heat, dir: u32) -> Option<u64> {
     }
 }
 
+fn halve(plain: &mut [u64; 4]) {
+    for heat in plain.iter_mut() {
+        *heat /= 2;
+    }
+}
+
 /// Adds hits, clears seldom, or halves all. It says whether that was accepted.
 fn change_both(random: &mut Random, heat: &mut Heat, plain: &mut [u64; 4]) -> bool {
     let dir = random.below(4);
@@ -47,7 +53,7 @@ fn change_both(random: &mut Random, heat: &mut Heat, plain: &mut [u64; 4]) -> bo
             true
         }
         _ => {
-            plain.iter_mut().for_each(|heat| *heat /= 2);
+            halve(plain);
             heat.tick().is_ok()
         }
     }

@@ -14,7 +14,7 @@ const DIRS: usize = 16;
 /// The parent of each directory, and its ranks before and after. The root is its own parent.
 #[derive(Drop)]
 struct Moves {
-    parents: [usize; DIRS],
+    parents: [u32; DIRS],
     now: [Option<Rank>; DIRS],
     target: [Option<Rank>; DIRS],
 }
@@ -31,19 +31,19 @@ fn random_moves(random: &mut Random) -> Moves {
         target: [None; DIRS],
     };
     for dir in 0..DIRS {
-        moves.parents[dir] = random.below(dir.max(1) as u64) as usize;
+        moves.parents[dir] = random.below(dir.max(1) as u64) as u32;
         moves.now[dir] = random_rank(random);
         moves.target[dir] = random_rank(random);
     }
     moves
 }
 
-fn tree_of(rt: &impl Abort, alloc: Global, parents: &[usize]) -> Tree {
+fn tree_of(rt: &impl Abort, alloc: Global, parents: &[u32; DIRS]) -> Tree {
     let mut tree = Tree::new(alloc, 64).sure(rt);
-    for (dir, parent) in parents.iter().enumerate().skip(1) {
+    for dir in 1..DIRS {
         let name = format!(in alloc; "d{dir}").sure(rt);
-        tree.make(alloc, Dir::new(*parent as u32), name.as_str(), 1)
-            .sure(rt);
+        let made = tree.make(alloc, Dir::new(parents[dir]), name.as_str(), 1);
+        same_in(rt, &made, &Ok(Dir::new(dir as u32)), &dir);
     }
     tree
 }
@@ -59,7 +59,7 @@ impl Moves {
     /// Adds each directory that moves as its parent does, where the parent is in, and the other way round.
     fn grow(&self, inside: &mut [bool; DIRS]) {
         for dir in 1..DIRS {
-            let parent = self.parents[dir];
+            let parent = self.parents[dir] as usize;
             if parent < DIRS && self.of(dir) == self.of(parent) && (inside[dir] || inside[parent]) {
                 inside[dir] = true;
                 inside[parent] = true;
