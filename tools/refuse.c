@@ -1,7 +1,7 @@
 /* Refuses one call of a program, for tools/refusals: loaded by LD_PRELOAD.
  *
- * KIND is what is counted: `growth` of memory (but for what making a thread takes), `read`, `write`, either of them that is
- * `interrupted`, or a read or write of several bytes of which only some are done: one (`short`), `half`, or all but one (`all but one`).
+ * KIND is what is counted: `growth` of memory (but for what making a thread takes), `read`, `write`, or a read or write of several
+ * bytes of which only some are done: one (`short`), `half`, or all but one (`all but one`).
  * REFUSED is the number of the call, from 1 (0: none). The file that COUNT names, of eight bytes, gets the number of such calls
  * so far, also where the program is killed. */
 #define _GNU_SOURCE
@@ -79,13 +79,11 @@ static size_t done(size_t size) {
 
 ssize_t read(int file, void *to, size_t size) {
     if (is_refused('r')) return errno = EIO, -1;
-    if (is_refused('i')) return errno = EINTR, -1;
     return libc_read(file, to, done(size));
 }
 
 ssize_t write(int file, const void *from, size_t size) {
     if (is_refused('w')) return errno = EIO, -1;
-    if (is_refused('i')) return errno = EINTR, -1;
     return libc_write(file, from, done(size));
 }
 

@@ -24,7 +24,7 @@ fn fits(problem: &Problem, part: &[u32], count: u32) -> bool
         && part.iter().all(|&p| p < count)
 }
 
-/// A chain of three directories below the root, in two parts.
+/// The part of each row of a chain.
 const PART: &[u32] = &[0, 0, 1, 1];
 
 /// The costs of a division in two, from chunks of `chunk` rows.

@@ -1,5 +1,6 @@
-//! The program over devices that give and take a few bytes at a time.
+//! The programs over devices that give and take a few bytes at a time.
 use crate::same::{Sure, holds_in, same, same_in};
+use certificate_judge::judge;
 use script_engine::{Input, Output};
 use script_program::start;
 use std::alloc::{AllocError, Global};
@@ -129,4 +130,39 @@ fn a_failed_flush_is_an_error(rt: HostRuntime) {
     let written = Cell::new(0);
     let mut output = Output::new(counter(1, &written));
     holds_in(&rt, output.flush().is_err(), &"flush");
+}
+
+/// A certificate of no rows.
+const EMPTY: &[u8] =
+    b"certificate 1\nmask 0x1\nrows 0\nparts 0\nranks 0\ngreatest 0\nmoved 0\ncut zero\n\
+    part_prices 0\nrank_prices 1\nprice 0\nend\n";
+
+/// Bytes that come one at a time, each after a read that was interrupted.
+#[derive(Drop)]
+struct Slow<'a> {
+    bytes: &'a [u8],
+    is_ready: bool,
+}
+
+impl Read for Slow<'_> {
+    fn read(&mut self, buf: &mut [u8]) -> io::Result<usize> {
+        self.is_ready = !self.is_ready;
+        if self.is_ready {
+            return Err(io::Error::from(io::ErrorKind::Interrupted));
+        }
+        let count = self.bytes.len().min(buf.len()).min(1);
+        buf[..count].copy_from_slice(&self.bytes[..count]);
+        self.bytes = &self.bytes[count..];
+        Ok(count)
+    }
+}
+
+#[test]
+fn a_read_that_was_interrupted_is_made_again(rt: HostRuntime) {
+    let mut reader = Slow {
+        bytes: EMPTY,
+        is_ready: false,
+    };
+    let answers = judge(rt.alloc(), &mut reader).sure(&rt);
+    holds_in(&rt, answers.hold, &"certificate");
 }
