@@ -21,6 +21,14 @@ fn solved<R: Abort + Threads + Sync>(rt: &R, alloc: Global, problem: &Problem) -
     }
 }
 
+/// The copy that is made in the end.
+fn copied(rt: &impl Abort, alloc: Global, plan: &Plan) -> Plan {
+    match plan.copied(alloc) {
+        Ok(copy) => copy,
+        Err(_) => plan.copied(alloc).sure(rt),
+    }
+}
+
 /// What the checker says in the end.
 fn is_accepted(rt: &impl Abort, alloc: Global, problem: &Problem, plan: &Plan) -> bool {
     match check(alloc, problem, plan) {
@@ -73,7 +81,8 @@ fn what_passes_is_best(rt: HostRuntime) {
     let mut passed = 0u32;
     for _ in 0..120 {
         let problem = over(&rt, random_rows(&rt, alloc, &mut random, 5, 4), 0x21);
-        let mut plan = solved(&rt, alloc, &problem);
+        let found = solved(&rt, alloc, &problem);
+        let mut plan = copied(&rt, alloc, &found);
         change(&mut plan, &mut random);
         if is_accepted(&rt, alloc, &problem, &plan) {
             passed = passed.saturating_add(1);
