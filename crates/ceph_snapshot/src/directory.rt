@@ -10,6 +10,8 @@ use mds_types::Rank;
 pub struct Directory {
     /// Its path: empty for the root, else it begins with a slash.
     pub path: Vec<u8>,
+    /// Its inode number, where a dump of heat names it.
+    pub inode: Option<u64>,
     /// The place of its parent, which is a smaller one; the root, at place 0, names itself.
     pub parent: u32,
     /// Its own heat, without what is below, in thousandths.

@@ -255,6 +255,7 @@ fn unknown(path: Vec<u8>, parent: u32) -> Node {
     Node {
         directory: Directory {
             path,
+            inode: None,
             parent,
             heat: 0,
             writes: 0,
