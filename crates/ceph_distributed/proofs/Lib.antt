@@ -1,0 +1,2 @@
+mod Jumps
+mod Scatters

@@ -1,0 +1,4 @@
+pub mod Children
+pub mod NameHash
+pub mod Ranks
+pub mod Spreads
