@@ -18,8 +18,8 @@ pub struct FileSystem {
     pub fsid: String,
 }
 
-/// Whether a word may have this byte.
-fn is_word_byte(byte: u8) -> bool
+/// Whether a word may have this byte: a letter, a digit, `_`, `.` or `-`.
+pub fn is_word_byte(byte: u8) -> bool
     ensures { result ≡ is_word_byte byte }
 {
     matches!(byte, b'0'..=b'9' | b'A'..=b'Z' | b'a'..=b'z' | b'_' | b'.' | b'-')

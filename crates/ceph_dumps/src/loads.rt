@@ -3,11 +3,12 @@ ghost use Rattle.std.specs.Prelude.{◌*◌, ◌≤◌, All, IfOk};
 ghost use Rattle.mds_types.specs.declared.limits.TheConstants.{HEAT_LIMIT};
 
 use crate::dump_error::DumpError;
+use crate::inode::inode_of;
 use crate::json::read_json;
 use crate::members::{Member, Members, NESTED, Named, Objects, TEXT, fill, present, read_object};
 use json_text::narrowed;
 use mds_types::limits::HEAT_LIMIT;
-use serde::{DeserializeOwned, Deserializer, Format, Name};
+use serde::{DeserializeOwned, Deserializer, Format, Kind, Name};
 use std::alloc::Global;
 use std::num::saturating_f64_to_u64;
 
@@ -42,6 +43,7 @@ impl Named for Objects<FragmentHeat> {
 #[derive(Drop)]
 struct Fragment {
     path: Option<String>,
+    name: Option<String>,
     counters: Option<Member<Counters>>,
 }
 
@@ -57,6 +59,7 @@ impl Members for Fragment {
         match at {
             0 => fill(&mut self.path, "path", TEXT, alloc, from),
             1 => fill(&mut self.counters, "pop_me", NESTED, alloc, from),
+            2 if from.peek()? == Kind::Str => fill(&mut self.name, "dirfrag", TEXT, alloc, from),
             _ => from.skip(),
         }
     }
@@ -70,8 +73,14 @@ impl Members for Fragment {
         let counters = present(self.counters.as_ref(), "pop_me", from)?;
         let heat = heat_of(counters.0.0.as_slice(), &WEIGHTS);
         let writes = heat_of(counters.0.0.as_slice(), &WRITES);
+        let inode = self.name.as_deref().and_then(inode_of);
         match narrowed(alloc, path.as_bytes()) {
-            Ok(path) => Ok(FragmentHeat { path, heat, writes }),
+            Ok(path) => Ok(FragmentHeat {
+                path,
+                inode,
+                heat,
+                writes,
+            }),
             Err(_) => Err(from.no_memory()),
         }
     }
@@ -82,9 +91,14 @@ impl DeserializeOwned for FragmentHeat {
         alloc: Global,
         from: &mut Deserializer<'_, '_, F>,
     ) -> Result<FragmentHeat, F::Error> {
-        let names = [Name::exact("path"), Name::exact("pop_me")];
+        let names = [
+            Name::exact("path"),
+            Name::exact("pop_me"),
+            Name::exact("dirfrag"),
+        ];
         let none = Fragment {
             path: None,
+            name: None,
             counters: None,
         };
         read_object(none, &names, alloc, from)
@@ -96,6 +110,8 @@ impl DeserializeOwned for FragmentHeat {
 pub struct FragmentHeat {
     /// The directory's path: empty for the root, else it begins with a slash.
     pub path: Vec<u8>,
+    /// The directory's inode number, where the dump names it.
+    pub inode: Option<u64>,
     /// Its own heat, without what is below, in thousandths.
     pub heat: u64,
     /// What of it comes from writes, before weighing, in thousandths. In the heat it counts twice.
