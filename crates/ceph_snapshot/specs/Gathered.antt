@@ -2,7 +2,7 @@
 use Rattle.std.specs.Prelude.{◌==◌, ◌&&◌, ◌+◌, ℕ, Bool, false, List, Option, Some, None, min, not, nat_lt, slice_get}
 use Rattle.std.specs.Prelude.{if◌then◌else◌}
 use Rattle.std.specs.List.{fold}
-use Rattle.std.specs.Option.{option_map}
+use Rattle.std.specs.Option.{option_map, option_or}
 use Rattle.std.specs.Str.{bytes_eq}
 use Rattle.mds_types.specs.RankSet.{has_rank}
 use Rattle.ceph_dumps.specs.declared.own_list.OwnPin.{OwnPin}
@@ -29,6 +29,10 @@ foreign_pin (Some rank) own ranks = if not (is_ours rank own) && has_rank ranks 
 abbrev pub idle_pin : Option ℕ → Option ℕ → ℕ → Option ℕ
 idle_pin None own ranks = None
 idle_pin (Some rank) own ranks = if not (is_ours rank own) && not (has_rank ranks rank) then Some rank else None
+
+-- a directory with the inode number that a dump names, if it does
+abbrev pub with_inode : Option ℕ → Directory → Directory
+with_inode inode d = record d { inode = option_or inode d.inode }
 
 -- the heat with what a rank has seen: only the rank with authority counts, and for what is spread each rank
 abbrev pub seen_heat : ℕ → ℕ → Bool → ℕ

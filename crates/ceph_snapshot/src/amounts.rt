@@ -55,8 +55,7 @@ pub fn brought_home(
     requires size { length homes.now ≡ length directories.now }
     requires inside { (i : ℕ) → i < length directories.now → slice_index homes.now i < length directories.now }
     ensures size { IfOk result (λ sums. length sums.items ≡ length directories.now) }
-    ensures sums { IfOk result (λ sums. (there : ℕ) → there < length directories.now
-        → slice_index sums.items there
+    ensures sums { IfOk result (λ sums. (there : ℕ) → there < length directories.now → slice_index sums.items there
         ≡ brought (amount_at amount directories.now) (slice_index homes.now) (length directories.now) there) }
 {
     let mut sums = vec![in alloc; 0u64; directories.len()]?;

@@ -1,12 +1,12 @@
 //! Gathers what the dumps of all ranks say. A directory has its heat from the rank that has authority: the nearest
 //! subtree root at or above it decides. Where that root is in fragments at several ranks, there is no such rank: the
 //! directory, and what is below it with no root of its own, is spread.
-ghost use Rattle.std.specs.Prelude.{◌≡◌, ◌||◌, ◌<◌, ◌≤◌, ℕ, List, Some, None, true, false, max};
-ghost use Rattle.std.specs.Prelude.{IfOk, IsErrOf, IsSome, OnOk};
+ghost use Rattle.std.specs.Prelude.{◌≡◌, ℕ, List, Some, None, true, false, max, IfOk, IsErrOf, IsSome, OnOk};
 ghost use Rattle.std.specs.List.{IsAmong};
 ghost use Rattle.ceph_dumps.specs.declared.listing.ListedValue.TheVariants as listed;
 ghost use Rattle.ceph_snapshot.specs.Authority.{AreClaimed, IsClaim, IsClaimedTwice, StillClaimed};
 ghost use Rattle.ceph_snapshot.specs.Authority.{PathText, fragment_of, is_user_path};
+ghost use Rattle.ceph_snapshot.specs.Gathered.{with_inode};
 ghost use Rattle.ceph_snapshot.specs.Names.{path_number};
 
 use crate::directory::Directory;
@@ -79,8 +79,7 @@ impl Gathering {
     /// Gives a path below a directory with this number one of its own.
     fn add(&mut self, path: &[u8], parent: u32) -> Result<u32, SnapshotError>
         ensures claims { self.new.fragments ≡ self.old.fragments }
-        ensures twice { (path : PathText) (first : ℕ) (second : ℕ)
-            → IsErrOf result (SnapshotError.TwoClaims path first second) → ⊥ }
+        ensures twice { (path : PathText) (one two : ℕ) → IsErrOf result (SnapshotError.TwoClaims path one two) → ⊥ }
     {
         let Ok(number) = u32::try_from(self.nodes.len()) else {
             return Err(SnapshotError::TooMany);
@@ -108,8 +107,7 @@ impl Gathering {
     fn number(&mut self, path: &[u8]) -> Result<Option<u32>, SnapshotError>
         ensures claims { self.new.fragments ≡ self.old.fragments }
         ensures some { is_user_path path.now ≡ true → IfOk result (λ number. IsSome number) }
-        ensures twice { (path : PathText) (first : ℕ) (second : ℕ)
-            → IsErrOf result (SnapshotError.TwoClaims path first second) → ⊥ }
+        ensures twice { (path : PathText) (one two : ℕ) → IsErrOf result (SnapshotError.TwoClaims path one two) → ⊥ }
     {
         if let Some(number) = self.names.number(path) {
             return Ok(Some(number));
@@ -123,14 +121,16 @@ impl Gathering {
                 number = self.add(&path[..end], number)?;
             }
         }
-        number = self.add(path, number)?;
-        Ok(Some(number))
+        Ok(Some(self.add(path, number)?))
     }
 
-    /// Adds a sample of the heat that a rank has seen.
+    /// Adds a sample of the heat that a rank has seen, and the inode numbers of the directories.
     pub fn add_loads(&mut self, rank: Rank, loads: &[FragmentHeat]) -> Result<(), SnapshotError> {
         for fragment in loads {
             if let Some(directory) = self.number(fragment.path.as_slice())? {
+                if let Some(node) = self.nodes.get_mut(directory as usize) {
+                    add_inode(node, fragment.inode);
+                }
                 self.sightings.push(Sighting {
                     directory,
                     rank,
@@ -145,9 +145,8 @@ impl Gathering {
     /// Notes that a rank has a fragment of a directory, which no other rank has.
     fn claim(&mut self, rank: Rank, root: &SubtreeRoot) -> Result<(), SnapshotError>
         requires { root.now.is_here ≡ true }
-        ensures twice { (path : PathText) (first : ℕ) (second : ℕ)
-            → IsErrOf result (SnapshotError.TwoClaims path first second)
-            → IsClaimedTwice self.new.fragments root.now rank path first second }
+        ensures twice { (path : PathText) (one two : ℕ) → IsErrOf result (SnapshotError.TwoClaims path one two)
+            → IsClaimedTwice self.new.fragments root.now rank path one two }
         ensures claimed { OnOk result ((fragment : List ℕ) → fragment_of root.now ≡ Some fragment
             → path_number self.new.fragments fragment ≡ Some rank) }
         ensures kept { OnOk result (StillClaimed self.old.fragments self.new.fragments) }
@@ -173,8 +172,7 @@ impl Gathering {
     /// Notes which directory just below the root Ceph's own pins are at or below.
     fn hold_top(&mut self, path: &[u8]) -> Result<(), SnapshotError>
         ensures claims { self.new.fragments ≡ self.old.fragments }
-        ensures twice { (path : PathText) (first : ℕ) (second : ℕ)
-            → IsErrOf result (SnapshotError.TwoClaims path first second) → ⊥ }
+        ensures twice { (path : PathText) (one two : ℕ) → IsErrOf result (SnapshotError.TwoClaims path one two) → ⊥ }
     {
         let slash = path.iter().skip(1).position(|byte| *byte == b'/');
         let end = slash.map_or(path.len(), |at| at + 1);
@@ -186,9 +184,8 @@ impl Gathering {
 
     /// Adds a root that a rank knows.
     fn add_subtree(&mut self, rank: Rank, root: &SubtreeRoot) -> Result<(), SnapshotError>
-        ensures twice { (path : PathText) (first : ℕ) (second : ℕ)
-            → IsErrOf result (SnapshotError.TwoClaims path first second)
-            → IsClaimedTwice self.new.fragments root.now rank path first second }
+        ensures twice { (path : PathText) (one two : ℕ) → IsErrOf result (SnapshotError.TwoClaims path one two)
+            → IsClaimedTwice self.new.fragments root.now rank path one two }
         ensures claimed { OnOk result ((fragment : List ℕ) → IsClaim root.now fragment
             → path_number self.new.fragments fragment ≡ Some rank) }
         ensures kept { OnOk result (StillClaimed self.old.fragments self.new.fragments) }
@@ -216,10 +213,8 @@ impl Gathering {
 
     /// Adds the subtrees that a rank knows, and the pins of their roots. A fragment that two ranks claim is refused.
     pub fn add_subtrees(&mut self, rank: Rank, roots: &[SubtreeRoot]) -> Result<(), SnapshotError>
-        ensures twice { (path : PathText) (first : ℕ) (second : ℕ)
-            → IsErrOf result (SnapshotError.TwoClaims path first second)
-            → (root : SubtreeRoot) × IsAmong roots.now root
-            × IsClaimedTwice self.new.fragments root rank path first second }
+        ensures twice { (path : PathText) (one two : ℕ) → IsErrOf result (SnapshotError.TwoClaims path one two)
+            → (root : SubtreeRoot) × IsAmong roots.now root × IsClaimedTwice self.new.fragments root rank path one two }
         ensures claimed { OnOk result (AreClaimed self.new.fragments roots.now rank) }
         ensures kept { OnOk result (StillClaimed self.old.fragments self.new.fragments) }
     {
@@ -272,6 +267,13 @@ fn unknown(path: Vec<u8>, parent: u32) -> Node {
         pinned: None,
         most: 0,
     }
+}
+
+/// Adds the inode number that a dump of heat names, if it does.
+fn add_inode(node: &mut Node, inode: Option<u64>)
+    ensures { node.new.directory ≡ with_inode inode node.old.directory }
+{
+    node.directory.inode = inode.or(node.directory.inode);
 }
 
 /// Adds what a rank says of a root of a subtree.

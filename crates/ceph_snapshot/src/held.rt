@@ -21,8 +21,6 @@ pub enum Held {
 }
 
 impl Held {
-    ghost use Rattle.ceph_snapshot.specs.Holding.{is_at};
-
     /// The rank at which it is held.
     pub fn rank(self) -> Option<Rank>
         ensures { (r : ℕ) → (result ≡ Some r) ↔ (is_at self r ≡ true) }
@@ -90,10 +88,8 @@ pub fn held_heat(
     requires holds { length holds.now ≡ length directories.now }
     requires spread { length spread.now ≡ 64 }
     ensures size { IfOk result (λ heats. length heats.items ≡ 64) }
-    ensures heats { IfOk result (λ heats. (r : ℕ) → r < 64
-        → slice_index heats.items r
-        ≡ min most_heat (slice_index spread.now r + held_below directories.now holds.now r
-        (length directories.now))) }
+    ensures heats { IfOk result (λ heats. (r : ℕ) → r < 64 → slice_index heats.items r
+        ≡ min most_heat (slice_index spread.now r + held_below directories.now holds.now r (length directories.now))) }
 {
     let mut heats = spread.to_vec(alloc)?;
     for (at, directory) in directories.iter().enumerate() {

@@ -85,6 +85,7 @@ fn sight(node: &mut Node, seen: Sighting) -> u64
     ensures writes { node.new.directory.writes ≡ seen_heat node.old.directory.writes seen.writes
         (node.old.directory.is_spread || (node.old.directory.now == seen.rank)) }
     ensures place { node.old.directory.is_spread ≡ false → node.new.directory.now ≡ node.old.directory.now }
+    ensures inode { node.new.directory.inode ≡ node.old.directory.inode }
     ensures pinned { path_pin node.new ≡ path_pin node.old }
 {
     let directory = &mut node.directory;
@@ -158,6 +159,7 @@ fn finished(node: Node, own: Option<u64>, samples: u64, ranks: RankSet) -> Direc
     ensures writes { result.writes ≡ min (node.directory.writes / samples) HEAT_LIMIT }
     ensures now { result.now ≡ node.directory.now }
     ensures path { result.path ≡ node.directory.path }
+    ensures inode { result.inode ≡ node.directory.inode }
     ensures pin { result.pin ≡ foreign_pin node.pinned own ranks }
     ensures idle { result.idle ≡ idle_pin node.pinned own ranks }
     ensures earlier { result.earlier ≡ our_pin node.pinned own }
@@ -199,9 +201,8 @@ fn path_of(alloc: Global, nodes: &[Node], at: usize) -> Result<String, AllocErro
 /// Refuses what ranks say of the authority of others, where no rank claims it so.
 fn confirm(alloc: Global, nodes: &[Node], hearsay: &[Hearsay]) -> Result<(), SnapshotError>
     ensures all { OnOk result (All (λ said. is_true_of nodes.now said ≡ true) hearsay.now) }
-    ensures unclaimed { (path : PathText) (by : ℕ) (authority : ℕ)
-        → IsErrOf result (SnapshotError.Unclaimed path by authority)
-        → IsUnclaimed nodes.now hearsay.now path by authority }
+    ensures unclaimed { (path : PathText) (by said : ℕ) → IsErrOf result (SnapshotError.Unclaimed path by said)
+        → IsUnclaimed nodes.now hearsay.now path by said }
 {
     for said in hearsay {
         if !is_confirmed(nodes, *said) {
@@ -276,10 +277,9 @@ impl Gathering {
         requires { 0 < samples }
         ensures authority { IfOk result (λ _. (placed : List Node) × LieAsClaimed self.nodes.items placed
             × All (λ said. is_true_of placed said ≡ true) self.hearsay.items) }
-        ensures unclaimed { (path : PathText) (by : ℕ) (authority : ℕ)
-            → IsErrOf result (SnapshotError.Unclaimed path by authority)
+        ensures unclaimed { (path : PathText) (by said : ℕ) → IsErrOf result (SnapshotError.Unclaimed path by said)
             → (placed : List Node) × LieAsClaimed self.nodes.items placed
-            × IsUnclaimed placed self.hearsay.items path by authority }
+            × IsUnclaimed placed self.hearsay.items path by said }
         ensures owner { IfOk result (λ snapshot. (i : ℕ) → whose_pin_at snapshot.directories.items i
             ≡ option_map (with_owner own.now ranks) (path_pin_at self.nodes.items i)) }
         ensures spread { IfOk result (λ snapshot. length snapshot.spread.items ≡ 64) }
