@@ -10,29 +10,30 @@ abbrev pub inode_at : List Directory → ℕ → Option ℕ
 inode_at directories i = option_map_or (λ (d : Directory). d.inode) (slice_get directories i) None
 
 -- directory c is a child of directory i; children come after their parents
-unfoldable pub has_child : List Directory → ℕ → ℕ → Bool
-has_child directories i c = nat_lt i c && (parent_at directories c == i)
+unfoldable pub is_child_of : List Directory → ℕ → ℕ → Bool
+is_child_of directories i c = nat_lt i c && (parent_at directories c == i)
 
 -- the heat at and below directory i, where the second list has the heat below each, as far as 64 bits can count it
 unfoldable pub heat_from : List ℕ → List ℕ → ℕ → ℕ
 heat_from heats below i = min most_heat (slice_index heats i + slice_index below i)
 
 -- what the children of directory i have together, of the first n directories
-abbrev pub sum_of_children : List Directory → (ℕ → ℕ) → ℕ → ℕ → ℕ
-sum_of_children directories value n i = sum_below n (λ c. if has_child directories i c then value c else 0)
+abbrev pub sum_over_children : List Directory → (ℕ → ℕ) → ℕ → ℕ → ℕ
+sum_over_children directories value n i = sum_below n (λ c. if is_child_of directories i c then value c else 0)
 
 -- the heat below each directory is that at and below its children
 pub record AreBelow (directories : List Directory) (heats below : List ℕ) : Type 0 where
   pub size : length below ≡ length directories
   pub sums : (i : ℕ) → i < length directories
-      → slice_index below i ≡ min most_heat (sum_of_children directories (heat_from heats below) (length directories) i)
+      → slice_index below i
+      ≡ min most_heat (sum_over_children directories (heat_from heats below) (length directories) i)
 
 -- how many of the children of directory i are hot, of the first n directories
 abbrev pub one_hot : List ℕ → List ℕ → ℕ → ℕ
 one_hot heats below c = if nat_lt 0 (heat_from heats below c) then 1 else 0
 
 abbrev pub hot_below : List Directory → List ℕ → List ℕ → ℕ → ℕ → ℕ
-hot_below directories heats below n i = sum_of_children directories (one_hot heats below) n i
+hot_below directories heats below n i = sum_over_children directories (one_hot heats below) n i
 
 -- and of all
 pub record AreHotCounts (directories : List Directory) (heats below hot : List ℕ) : Type 0 where

@@ -7,7 +7,7 @@ use Rattle.ceph_snapshot.specs.declared.directory.Directory.{Directory}
 use Rattle.ceph_snapshot.specs.Holding.{is_fixed_at, most_heat}
 use Rattle.ceph_snapshot.specs.Policies.{dir_path_at, policy_at}
 use Rattle.ceph_distributed.specs.declared.spread.Advice.{Advice}
-use Rattle.ceph_distributed.specs.Children.{AreBelow, AreHotCounts, heat_from, inode_at, has_child}
+use Rattle.ceph_distributed.specs.Children.{AreBelow, AreHotCounts, heat_from, inode_at, is_child_of}
 use Rattle.ceph_distributed.specs.Ranks.{rank_of_child}
 
 -- the policy can be set on directory i, isn't set, and has hot children enough to spread. The root can't have one
@@ -39,7 +39,7 @@ child_rank directories size i c =
 
 -- directory c is a child of directory i, and would be at rank r
 unfoldable pub is_at_rank : List Directory → ℕ → ℕ → ℕ → ℕ → Bool
-is_at_rank directories size i r c = has_child directories i c && (child_rank directories size i c == r)
+is_at_rank directories size i r c = is_child_of directories i c && (child_rank directories size i c == r)
 
 -- what would be at rank r of what the children of directory i have, of the first n directories
 abbrev pub heat_at_rank : List Directory → List ℕ → List ℕ → ℕ → ℕ → ℕ → ℕ → ℕ
@@ -47,14 +47,14 @@ heat_at_rank directories heats below size n i r =
     sum_below n (λ c. if is_at_rank directories size i r c then heat_from heats below c else 0)
 
 -- what the policy gives at the place where it spreads most
-pub record IsAdvice (directories : List Directory) (heats below hot : List ℕ) (size : ℕ) (advice : Advice) : Type 0 where
+pub record IsAdvice (directories : List Directory) (heats below hot : List ℕ) (size : ℕ) (found : Advice) : Type 0 where
   pub place : ℕ
   pub hottest : SpreadsMost directories below hot (length directories) place
-  pub path : advice.path.items ≡ dir_path_at directories place
-  pub children : advice.children ≡ slice_index hot place
-  pub heat : advice.heat ≡ slice_index below place
-  pub ranks : length advice.spread.items ≡ size
-  pub spread : (r : ℕ) → r < size → slice_index advice.spread.items r
+  pub path : found.path.items ≡ dir_path_at directories place
+  pub children : found.children ≡ slice_index hot place
+  pub heat : found.heat ≡ slice_index below place
+  pub ranks : length found.spread.items ≡ size
+  pub spread : (r : ℕ) → r < size → slice_index found.spread.items r
       ≡ min most_heat (heat_at_rank directories heats below size (length directories) place r)
 
 abbrev pub IsAdvisedOf : List Directory → List ℕ → List ℕ → List ℕ → ℕ → Option Advice → Type 0

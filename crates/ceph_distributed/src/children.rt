@@ -1,7 +1,7 @@
 //! The heat of the children of each directory, with what is below them.
 ghost use Rattle.std.specs.Prelude.{◌≡◌, ◌+◌, ◌<◌, ℕ, false, length, min, slice_index, true, IfOk};
 ghost use Rattle.ceph_snapshot.specs.Holding.{most_heat};
-ghost use Rattle.ceph_distributed.specs.Children.{AreBelow, AreHotCounts, heat_from, has_child, one_hot};
+ghost use Rattle.ceph_distributed.specs.Children.{AreBelow, AreHotCounts, heat_from, is_child_of, one_hot};
 
 use ceph_snapshot::Directory;
 use std::alloc::{AllocError, Global};
@@ -17,14 +17,14 @@ pub fn heat_at(heats: &[u64], below: &[u64], at: usize) -> u64
 }
 
 /// Adds a number to the sum of the parent of the directory at `at`, as far as 64 bits can count it.
-#[tactic(auto, unfolding(crate::specs::Children::has_child))]
+#[tactic(auto, unfolding(crate::specs::Children::is_child_of))]
 fn add_to_parent(directories: &[Directory], sums: &mut Vec<u64>, at: usize, number: u64)
     requires inside { at < length directories.now }
     requires size { length sums.old.items ≡ length directories.now }
     ensures size { length sums.new.items ≡ length sums.old.items }
-    ensures parent { (i : ℕ) → has_child directories.now i at ≡ true
+    ensures parent { (i : ℕ) → is_child_of directories.now i at ≡ true
         → slice_index sums.new.items i ≡ min most_heat (slice_index sums.old.items i + number) }
-    ensures others { (i : ℕ) → has_child directories.now i at ≡ false
+    ensures others { (i : ℕ) → is_child_of directories.now i at ≡ false
         → slice_index sums.new.items i ≡ slice_index sums.old.items i }
 {
     let above = directories[at].parent as usize;

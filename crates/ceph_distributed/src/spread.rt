@@ -90,7 +90,7 @@ fn child_rank(directories: &[Directory], size: u8, place: usize, at: usize) -> u
 }
 
 /// Adds the heat at and below a directory to that of its rank, if it is a child of the directory at `place`.
-#[tactic(auto, unfolding(crate::specs::Children::has_child, crate::specs::Spreads::is_at_rank))]
+#[tactic(auto, unfolding(crate::specs::Children::is_child_of, crate::specs::Spreads::is_at_rank))]
 fn add_child(
     directories: &[Directory],
     spread: &mut Vec<u64>,
