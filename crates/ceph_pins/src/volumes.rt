@@ -7,6 +7,7 @@ ghost use Rattle.ceph_pins.specs.Volumes.{below_volumes, ceph_line, group_line, 
 ghost use Rattle.ceph_pins.specs.Volumes.{is_volume_name, named_line, pin_text, subvolume_command};
 ghost use Rattle.ceph_pins.specs.Volumes.{subvolume_line, volume_names};
 
+use ceph_dumps::is_word_byte;
 use mds_types::Rank;
 use std::alloc::{AllocError, Global};
 
@@ -25,13 +26,6 @@ pub(crate) fn push_pin(
         }
         None => script.extend_from_slice(b"-1"),
     }
-}
-
-/// Whether this is a letter, a digit, `_`, `.` or `-`.
-fn is_word_byte(byte: u8) -> bool
-    ensures { result ≡ is_word_byte byte }
-{
-    matches!(byte, b'0'..=b'9' | b'A'..=b'Z' | b'a'..=b'z' | b'_' | b'.' | b'-')
 }
 
 /// Whether each byte may be in such a name.
