@@ -1,22 +1,17 @@
 -- What one more directory adds to the sums.
-use Rattle.std.proofs.Common.{◌≡◌, ◌∙◌, ◌+◌, ◌-◌, ◌^◌, ◌<◌, ◌≤◌, ℕ, zero, suc, Bool, true, false, cond, nat_lt, List, length, min, slice_index, add-one, add-zero, ap, arith, refl, sym}
+use Rattle.std.proofs.Common.{◌≡◌, ◌∙◌, ◌+◌, ◌-◌, ◌^◌, ◌<◌, ◌≤◌, ◌&&◌, ℕ, suc, Bool, true, false, cond, nat_lt, List, length, min, slice_index, add-one, add-zero, ap, arith, refl, sym}
 use Rattle.std.proofs.lemmas.Bool.{le-ltb}
-use Rattle.std.proofs.lemmas.Grind.{common_steps}
 use Rattle.mds_types.specs.Sums.{sum_below}
-use Rattle.mds_types.proofs.SumsLemmas.{sum_below-split, sum_from, sum_from-same}
+use Rattle.mds_types.proofs.SumsLemmas.{count_below-le, sum_below-split, sum_from, sum_from-same}
 use Rattle.ceph_snapshot.specs.declared.directory.Directory.{Directory}
 use Rattle.ceph_snapshot.specs.Holding.{most_heat}
-use Rattle.ceph_distributed.specs.Children.{heat_from, hot_below, is_child_of, sum_over_children, one_hot}
+use Rattle.ceph_distributed.specs.Children.{heat_from, hot_below, is_child_of}
 
 -- a sum with one more term, where it is one
 with_term : (b : Bool) (old new sum v : ℕ) → (b ≡ true → new ≡ min most_heat (old + v)) → (b ≡ false → new ≡ old) → old ≡ min most_heat sum
     → new ≡ min most_heat (sum + cond b v 0)
 with_term true old new sum v more same is = let e : new ≡ min most_heat (old + v) = more refl in grind (arith, e, is)
 with_term false old new sum v more same is = same refl ∙ (is ∙ ap (min most_heat) (sym (add-zero sum)))
-
-pub ones : (n : ℕ) (f : ℕ → ℕ) → ((i : ℕ) → f i ≤ 1) → sum_below n f ≤ n
-ones zero f one = omega arith
-ones (suc n) f one = omega (arith, one n, ones n f one)
 
 -- what the children of directory i have from directory `first` on
 abbrev pub from : List Directory → (ℕ → ℕ) → ℕ → ℕ → ℕ
@@ -25,7 +20,7 @@ from ds value first i = sum_from (length ds - first) first (λ c. cond (is_child
 pub from_none : (ds : List Directory) (value : ℕ → ℕ) (i : ℕ) → from ds value (length ds) i ≡ 0
 from_none ds value i = let e : length ds - length ds ≡ 0 = omega arith in rw e refl
 
-pub from_all : (ds : List Directory) (value : ℕ → ℕ) (i : ℕ) → from ds value 0 i ≡ sum_over_children ds value (length ds) i
+pub from_all : (ds : List Directory) (value : ℕ → ℕ) (i : ℕ) → from ds value 0 i ≡ sum_below (length ds) (λ c. cond (is_child_of ds i c) (value c) 0)
 from_all ds value i =
     let f : ℕ → ℕ = λ c. cond (is_child_of ds i c) (value c) 0 in
     let e : length ds - 0 ≡ length ds = omega arith in
@@ -60,8 +55,4 @@ below_more ds heats below next at first heat one inside own parent others before
 -- a count fits 64 bits
 pub fits : (ds : List Directory) (heats below : List ℕ) (i : ℕ) → length ds < 2 ^ 64
     → min most_heat (hot_below ds heats below (length ds) i) ≡ hot_below ds heats below (length ds) i
-fits ds heats below i few =
-    omega (arith, ones (length ds) (λ c. cond (is_child_of ds i c) (one_hot heats below c) 0) (λ c. each (is_child_of ds i c) (nat_lt 0 (heat_from heats below c))))
-  where
-    each : (a b : Bool) → cond a (cond b 1 0) 0 ≤ 1
-    each a b = grind (arith, common_steps)
+fits ds heats below i few = omega (arith, count_below-le (length ds) (λ c. is_child_of ds i c && nat_lt 0 (heat_from heats below c)))

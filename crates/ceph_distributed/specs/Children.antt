@@ -2,7 +2,7 @@
 use Rattle.std.specs.Prelude.{◌≡◌, ◌==◌, ◌&&◌, ◌+◌, ◌<◌, ℕ, Bool, nat_lt, List, length, min, slice_get, slice_index}
 use Rattle.std.specs.Prelude.{Option, None, if◌then◌else◌}
 use Rattle.std.specs.Option.{option_map_or}
-use Rattle.mds_types.specs.Sums.{sum_below}
+use Rattle.mds_types.specs.Sums.{count_below, sum_below}
 use Rattle.ceph_snapshot.specs.declared.directory.Directory.{Directory}
 use Rattle.ceph_snapshot.specs.Holding.{most_heat, parent_at}
 
@@ -17,23 +17,16 @@ is_child_of directories i c = nat_lt i c && (parent_at directories c == i)
 unfoldable pub heat_from : List ℕ → List ℕ → ℕ → ℕ
 heat_from heats below i = min most_heat (slice_index heats i + slice_index below i)
 
--- what the children of directory i have together, of the first n directories
-abbrev pub sum_over_children : List Directory → (ℕ → ℕ) → ℕ → ℕ → ℕ
-sum_over_children directories value n i = sum_below n (λ c. if is_child_of directories i c then value c else 0)
-
 -- the heat below each directory is that at and below its children
 pub record AreBelow (directories : List Directory) (heats below : List ℕ) : Type 0 where
   pub size : length below ≡ length directories
-  pub sums : (i : ℕ) → i < length directories
-      → slice_index below i
-      ≡ min most_heat (sum_over_children directories (heat_from heats below) (length directories) i)
+  pub sums : (i : ℕ) → i < length directories → slice_index below i ≡ min most_heat
+      (sum_below (length directories) (λ c. if is_child_of directories i c then heat_from heats below c else 0))
 
--- how many of the children of directory i are hot, of the first n directories
-abbrev pub one_hot : List ℕ → List ℕ → ℕ → ℕ
-one_hot heats below c = if nat_lt 0 (heat_from heats below c) then 1 else 0
-
+-- how many of the first n directories are children of directory i and hot
 abbrev pub hot_below : List Directory → List ℕ → List ℕ → ℕ → ℕ → ℕ
-hot_below directories heats below n i = sum_over_children directories (one_hot heats below) n i
+hot_below directories heats below n i =
+    count_below n (λ c. is_child_of directories i c && nat_lt 0 (heat_from heats below c))
 
 -- and of all
 pub record AreHotCounts (directories : List Directory) (heats below hot : List ℕ) : Type 0 where

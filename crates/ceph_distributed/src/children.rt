@@ -1,7 +1,8 @@
 //! The heat of the children of each directory, with what is below them.
-ghost use Rattle.std.specs.Prelude.{◌≡◌, ◌+◌, ◌<◌, ℕ, false, length, min, slice_index, true, IfOk};
+ghost use Rattle.std.specs.Prelude.{◌≡◌, ◌+◌, ◌<◌, ℕ, false, length, min, nat_lt, slice_index, true, IfOk};
+ghost use Rattle.std.specs.Prelude.{if◌then◌else◌};
 ghost use Rattle.ceph_snapshot.specs.Holding.{most_heat};
-ghost use Rattle.ceph_distributed.specs.Children.{AreBelow, AreHotCounts, heat_from, is_child_of, one_hot};
+ghost use Rattle.ceph_distributed.specs.Children.{AreBelow, AreHotCounts, heat_from, is_child_of};
 
 use ceph_snapshot::Directory;
 use std::alloc::{AllocError, Global};
@@ -54,7 +55,7 @@ pub fn heats_below(
 fn one_if_hot(heats: &[u64], below: &[u64], at: usize) -> u64
     requires heats { at < length heats.now }
     requires below { at < length below.now }
-    ensures { result ≡ one_hot heats.now below.now at }
+    ensures { result ≡ (if nat_lt 0 (heat_from heats.now below.now at) then 1 else 0) }
 {
     if heat_at(heats, below, at) > 0 { 1 } else { 0 }
 }

@@ -27,7 +27,7 @@ fn mix(key: u64) -> u64
 }
 
 /// The jump consistent hash of a key over this many ranks. (J. Lamping and E. Veach, "A fast, minimal memory,
-/// consistent hash algorithm", 2014.) Ceph divides in floating point, which differs for one key in 2^31.
+/// consistent hash algorithm", 2014.) Ceph divides in floating point: with 64 ranks one key in 2^31 gets another rank.
 fn jump(hash: u64, size: u8) -> u8
     ensures value { result ≡ jump_rank hash size }
     ensures small { 0 < size → result < size }
