@@ -2,6 +2,8 @@
 #![tactic(auto)]
 
 #[cfg(test)]
+mod distributed;
+#[cfg(test)]
 mod dumps;
 #[cfg(test)]
 mod given;
