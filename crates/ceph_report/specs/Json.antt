@@ -7,6 +7,7 @@ use Rattle.ceph_pins.specs.Volumes.{pin_text}
 use Rattle.ceph_plan.specs.declared.row.PinChange.{PinChange}
 use Rattle.ceph_snapshot.specs.declared.directory.Directory.{Directory}
 use Rattle.ceph_report.specs.Left.{left_at}
+use Rattle.ceph_report.specs.Spreading.{advice_member}
 use Rattle.ceph_report.specs.Text.{comma, field, json_string, lines_below}
 use Rattle.ceph_report.specs.Told.{bound_term, hottest_bound, hottest_planned, into_of, is_told}
 use Rattle.ceph_report.specs.Told.{now_of, out_of, pinned_of, planned_of, planned_roots_of, roots_of}
@@ -42,7 +43,7 @@ bound_members facts =
     ++ json_string facts.hottest.now.path.items
 
 unfoldable pub plan_numbers : Facts → List ℕ
-plan_numbers facts = plan_totals facts ++ bound_members facts
+plan_numbers facts = plan_totals facts ++ bound_members facts ++ advice_member facts.size facts.advice
 
 unfoldable pub rank_numbers : Facts → ℕ → List ℕ
 rank_numbers facts r =

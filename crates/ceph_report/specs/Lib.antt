@@ -6,6 +6,7 @@ pub mod Moves
 pub mod Picture
 pub mod Report
 pub mod Roots
+pub mod Spreading
 pub mod Staying
 pub mod Text
 pub mod Told

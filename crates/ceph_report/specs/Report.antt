@@ -8,6 +8,7 @@ use Rattle.ceph_snapshot.specs.declared.directory.Directory.{Directory}
 use Rattle.ceph_snapshot.specs.Holding.{heat_at}
 use Rattle.ceph_snapshot.specs.Shown.{shown_path}
 use Rattle.ceph_report.specs.Left.{left_at}
+use Rattle.ceph_report.specs.Spreading.{advice_text}
 use Rattle.ceph_report.specs.Staying.{is_left}
 use Rattle.ceph_report.specs.Text.{columns, field, heat_text, lines_below, per_mille, percent_text, place_text}
 use Rattle.ceph_report.specs.Told.{heat_of_ranks, bound_term, free_heat, is_over}
@@ -178,7 +179,7 @@ plan_text facts =
 -- what was left out, or has no single rank
 unfoldable pub left_out : Facts → List ℕ
 left_out facts =
-    folded_line facts.folded ++ over_lines facts ++ absent_lines facts
+    folded_line facts.folded ++ over_lines facts ++ advice_text facts facts.advice ++ absent_lines facts
     ++ left_lines facts.directories.now facts.stays.now ++ capped_lines facts.directories.now
 
 unfoldable pub report : Facts → Bool → List ℕ

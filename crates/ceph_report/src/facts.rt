@@ -8,6 +8,7 @@ ghost use Rattle.ceph_report.specs.Told.{least_pinned, single_load};
 use crate::moves::{Move, Sums};
 use crate::roots::Roots;
 use crate::staying::Stay;
+use ceph_distributed::Advice;
 use ceph_plan::Planned;
 use ceph_snapshot::{Directory, Held};
 use mds_types::limits::RANK_LIMIT;
@@ -45,6 +46,8 @@ pub struct Facts<'a> {
     pub pinned: &'a [u64],
     /// The hottest of the collected directories that nothing holds.
     pub hottest: &'a HottestDirectory,
+    /// What Ceph's policy of distributed pins on one of these would give, where that has many hot children.
+    pub advice: Option<&'a Advice>,
     /// How many roots of subtrees each rank has.
     pub roots: &'a Roots,
     /// What each new pin brings.

@@ -13,6 +13,7 @@ ghost use Rattle.ceph_report.specs.Text.{json_string};
 ghost use Rattle.ceph_report.specs.Told.{is_told};
 
 use crate::facts::{BoundTerm, Facts, number_at};
+use crate::spreading::push_member;
 use crate::staying::Stay;
 use crate::staying_text::{LeftForm, push_left};
 use crate::text::{comma, push_number, push_string, push_text};
@@ -76,13 +77,14 @@ fn push_bound(text: &mut Vec<u8>, facts: &Facts) -> Result<(), AllocError>
     push_string(text, &facts.hottest.path)
 }
 
-/// Adds what the plan comes to, and what makes the bound.
+/// Adds what the plan comes to, what makes the bound, and what Ceph's own policy would give.
 #[tactic(auto, unfolding(crate::specs::Json::plan_numbers))]
 fn push_numbers(text: &mut Vec<u8>, facts: &Facts) -> Result<(), AllocError>
     ensures { OnOk result (text.new.items ≡ text.old.items ++ plan_numbers facts.now) }
 {
     push_totals(text, facts)?;
-    push_bound(text, facts)
+    push_bound(text, facts)?;
+    push_member(text, facts)
 }
 
 /// Adds a rank and its heat.

@@ -11,6 +11,7 @@ pub mod picture;
 mod places;
 pub mod report;
 pub mod roots;
+pub mod spreading;
 pub mod staying;
 pub mod staying_text;
 mod text;

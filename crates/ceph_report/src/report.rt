@@ -13,6 +13,7 @@ ghost use Rattle.ceph_report.specs.Text.{place_text};
 
 use crate::facts::{BoundTerm, Facts, has_number, number_at};
 use crate::moves::Move;
+use crate::spreading::push_advice;
 use crate::staying_text::push_all_left;
 use crate::text::{
     per_mille, push_columns, push_heat, push_number, push_path, push_percent, push_text,
@@ -476,6 +477,7 @@ fn push_left_out(text: &mut Vec<u8>, facts: &Facts) -> Result<(), AllocError>
 {
     push_folded(text, facts.folded)?;
     push_all_over(text, facts)?;
+    push_advice(text, facts)?;
     push_all_absent(text, facts)?;
     push_all_left(text, facts.directories, facts.stays)?;
     push_all_capped(text, facts.directories)
