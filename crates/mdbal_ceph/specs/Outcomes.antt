@@ -1,8 +1,10 @@
 -- What the report's numbers are of.
-use Rattle.std.specs.Prelude.{◌≡◌, ◌≢◌, ◌<◌, ◌≤◌, ◌+◌, ◌^◌, ℕ, All, List, length, min, slice_index, true}
+use Rattle.std.specs.Prelude.{◌≡◌, ◌≢◌, ◌<◌, ◌≤◌, ◌+◌, ◌^◌, ℕ, All, List, Option, length, min, slice_index, true}
 use Rattle.mds_types.specs.declared.limits.TheConstants.{DIR_LIMIT}
 use Rattle.mds_types.specs.declared.problem.ProblemRow.{ProblemRow}
 use Rattle.mds_types.specs.Sums.{sum_below}
+use Rattle.ceph_distributed.specs.declared.spread.Advice.{Advice}
+use Rattle.ceph_distributed.specs.Spreads.{IsAdvised}
 use Rattle.ceph_snapshot.specs.declared.directory.Directory.{Directory}
 use Rattle.ceph_snapshot.specs.declared.held.Held.{Held}
 use Rattle.ceph_snapshot.specs.Folding.{IsFolded}
@@ -70,6 +72,12 @@ pub record IsHottestOfAll (collected : List Directory) (hottest : HottestDirecto
   pub are : AreFreeHeats collected heats
   pub is : IsHottest collected heats hottest
 
+-- what Ceph's policy of distributed pins would give over this many ranks on the collected directory where it helps most
+pub record IsAdviceOfAll (collected : List Directory) (size : ℕ) (advice : Option Advice) : Type 0 where
+  pub heats : List ℕ
+  pub are : AreFreeHeats collected heats
+  pub is : IsAdvised collected heats size advice
+
 -- whichever of the ranks each collected directory goes to that nothing holds, one rank has at least this load, with
 -- what is held there. If their heat is at most 2^62 in all, the bound is no less than the mean load, than each
 -- directory with the least that is held at a rank, and than what is held at each
@@ -82,8 +90,8 @@ pub record IsBoundOfAll (collected : List Directory) (pinned : List ℕ) (ranks 
 
 -- what was collected of directories, with this heat by rank of what is spread, and what came of it: as many
 -- directories as the planner takes, all that were collected where they are no more than that, with all their heat and
--- inodes, each that may not be pinned among them, what is decided for these, and the hottest and the bound of all that
--- were collected
+-- inodes, each that may not be pinned among them, what is decided for these, and the hottest, the advice and the bound
+-- of all that were collected
 pub record IsOutcome
     (collected : List Directory) (spread : List ℕ) (wanted : Wanted) (outcome : Outcome) : Type 0 where
   pub few : length outcome.directories.items ≡ min (length collected) DIR_LIMIT
@@ -93,4 +101,5 @@ pub record IsOutcome
   pub unpinnable : KeepUnpinnable collected → StillKeepUnpinnable collected outcome.directories.items
   pub decided : IsDecision outcome.directories.items spread outcome.ranks wanted outcome.decision
   pub hottest : IsHottestOfAll collected outcome.hottest
+  pub advice : IsAdviceOfAll collected outcome.size outcome.advice
   pub bound : IsBoundOfAll collected outcome.decision.pinned.items outcome.ranks outcome.bound

@@ -1,6 +1,6 @@
 -- What is written of a plan.
 use Rattle.std.specs.Prelude.{◌≡◌, ◌↔◌, ℕ, Bool, List, [], length, string_bytes}
-use Rattle.std.specs.Prelude.{IfSome, IsTrue, is_some, if◌then◌else◌}
+use Rattle.std.specs.Prelude.{IfSome, IsTrue, is_some, option_copied, if◌then◌else◌}
 use Rattle.mds_types.specs.Sums.{count_below}
 use Rattle.ceph_plan.specs.declared.row.PinChange.{PinChange}
 use Rattle.ceph_plan.specs.Worth.{IsWorthMoving}
@@ -65,6 +65,7 @@ pub record AreFacts (outcome : Outcome) (count : ℕ) (facts : Facts) : Type 0 w
   pub balances : facts.balances ≡ outcome.balances
   pub plan : facts.plan.now ≡ outcome.decision.proposal.plan
   pub hottest : facts.hottest.now ≡ outcome.hottest
+  pub advice : option_copied facts.advice ≡ outcome.advice
   pub bound : facts.bound ≡ outcome.bound
   pub sums : facts.sums.now ≡ outcome.decision.sums
   pub pinned : facts.pinned.now ≡ outcome.decision.pinned.items

@@ -5,7 +5,7 @@ ghost use Rattle.mds_types.specs.RankSet.{has_rank};
 ghost use Rattle.mdbal_ceph.specs.Usable.{IsMask, all_ranks, asked_mask, cluster_mask, hex_mask};
 ghost use Rattle.mdbal_ceph.specs.Usable.{mask_digits, may_have_part};
 
-use ceph_dumps::{FileSystemRanks, common_ranks};
+use ceph_dumps::{FileSystemRanks, common_ranks, hex_number};
 use mds_types::RankSet;
 
 /// The digits of a mask.
@@ -22,13 +22,7 @@ fn mask_digits(text: &str) -> &str
 fn hex_mask(digits: &str) -> Option<RankSet>
     ensures { result ≡ hex_mask digits.now }
 {
-    if digits.len() > 16 || digits.starts_with('+') {
-        return None;
-    }
-    match u64::from_str_radix(digits, 16) {
-        Ok(bits) => Some(RankSet::from_bits(bits)),
-        Err(_) => None,
-    }
+    Some(RankSet::from_bits(hex_number(digits)?))
 }
 
 /// The ranks that a mask names, if it is one.

@@ -11,6 +11,7 @@ use crate::collected::Collected;
 use crate::input::{mask_of, ranks_of};
 use crate::settings::PlanSettings;
 use anyhow::{Error, bail};
+use ceph_distributed::{Advice, advised};
 use ceph_dumps::{FileSystem, FileSystemRanks};
 use ceph_pins::own_pins;
 use ceph_plan::{Proposal, Wanted, heats_bound, propose};
@@ -60,6 +61,8 @@ pub(crate) struct Outcome {
     pub decision: Decision,
     /// The hottest of the collected directories that nothing holds.
     pub hottest: HottestDirectory,
+    /// What Ceph's policy of distributed pins on a collected directory of many hot children would give.
+    pub advice: Option<Advice>,
     /// What no assignment of the collected directories to the ranks can get below, in thousandths of heat.
     pub bound: u64,
 }
@@ -174,6 +177,7 @@ pub fn planned(
     let spread = snapshot.spread;
     let heats = collected_heats(alloc, &snapshot.directories)?;
     let hottest = hottest_of(alloc, &snapshot.directories, &heats)?;
+    let advice = advised(alloc, &snapshot.directories, &heats, cluster.size)?;
     let (directories, folded) = folded(alloc, snapshot.directories)?;
     let wanted = wanted_by(settings, balances);
     let decision = decided(alloc, wanted, ranks, &directories, &spread)?;
@@ -190,6 +194,7 @@ pub fn planned(
         folded,
         decision,
         hottest,
+        advice,
         bound,
     })
 }

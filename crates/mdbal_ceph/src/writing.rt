@@ -96,6 +96,7 @@ fn facts_of<'a>(
         sums: &outcome.decision.sums,
         pinned: &outcome.decision.pinned,
         hottest: &outcome.hottest,
+        advice: outcome.advice.as_ref(),
         roots,
         moves,
         stays,

@@ -8,11 +8,11 @@ use Rattle.mdbal_ceph.specs.declared.outcome.Decision.{Decision}
 use Rattle.mdbal_ceph.proofs.outcome.planned.Goals as goal
 
 pub heats_bound-bound-requires-clause-size : goal.heats_bound-bound-requires-clause-size
-heats_bound-bound-requires-clause-size c = ap length c.deref-7.ensures.value ∙ c.in_ok-decision.ensures.pinned.size
+heats_bound-bound-requires-clause-size c = ap length c.deref-9.ensures.value ∙ c.in_ok-decision.ensures.pinned.size
 
 pub heats_bound-bound-requires-clause-small : goal.heats_bound-bound-requires-clause-small
 heats_bound-bound-requires-clause-small c =
-    subst (All (λ n. n ≤ 2 ^ 57)) (sym c.deref-7.ensures.value) c.in_ok-decision.ensures.planned.proposed.chosen.plannable.held.small
+    subst (All (λ n. n ≤ 2 ^ 57)) (sym c.deref-9.ensures.value) c.in_ok-decision.ensures.planned.proposed.chosen.plannable.held.small
 
 pub heats_bound-bound-requires-clause-zero : goal.heats_bound-bound-requires-clause-zero
 heats_bound-bound-requires-clause-zero c = c.in_ok-decision.ensures.planned.proposed.chosen.plannable.zero
@@ -46,14 +46,19 @@ returns-clause-outcome c =
       unpinnable = c.in_ok-directories.ensures.unpinnable;
       decided =
           subst (λ (wanted : Wanted). IsDecision directories spread c.in_ok-ranks.ranks wanted decision) c.wanted_by-wanted.ensures
-          (subst (λ (heats : List ℕ). IsDecision directories heats c.in_ok-ranks.ranks c.wanted_by-wanted.result decision) c.deref-5.ensures.value
-          (subst (λ (others : List Directory). IsDecision others c.deref-5.result.now c.in_ok-ranks.ranks c.wanted_by-wanted.result decision) c.deref-4.ensures.value c.in_ok-decision.ensures));
+          (subst (λ (heats : List ℕ). IsDecision directories heats c.in_ok-ranks.ranks c.wanted_by-wanted.result decision) c.deref-7.ensures.value
+          (subst (λ (others : List Directory). IsDecision others c.deref-7.result.now c.in_ok-ranks.ranks c.wanted_by-wanted.result decision) c.deref-6.ensures.value c.in_ok-decision.ensures));
       hottest = record {
         heats = heats;
         are = subst (λ (those : List Directory). AreFreeHeats those heats) c.deref.ensures.value c.in_ok-heats.ensures;
         is = rw (c.deref-2.ensures.value, c.deref-3.ensures.value) at c.in_ok-hottest.ensures;
       };
-      bound = bound_of_all collected heats c.deref-6.result.now decision.pinned.items c.deref-7.result.now c.in_ok-ranks.ranks c.heats_bound-bound.result
-          (subst (λ (those : List Directory). AreFreeHeats those heats) c.deref.ensures.value c.in_ok-heats.ensures) c.deref-6.ensures.value c.deref-7.ensures.value
+      advice = record {
+        heats = heats;
+        are = subst (λ (those : List Directory). AreFreeHeats those heats) c.deref.ensures.value c.in_ok-heats.ensures;
+        is = rw (c.deref-4.ensures.value, c.deref-5.ensures.value) at c.in_ok-advice.ensures;
+      };
+      bound = bound_of_all collected heats c.deref-8.result.now decision.pinned.items c.deref-9.result.now c.in_ok-ranks.ranks c.heats_bound-bound.result
+          (subst (λ (those : List Directory). AreFreeHeats those heats) c.deref.ensures.value c.in_ok-heats.ensures) c.deref-8.ensures.value c.deref-9.ensures.value
           c.heats_bound-bound.ensures.lower c.heats_bound-bound.ensures.three;
     }
