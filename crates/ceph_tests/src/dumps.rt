@@ -1,6 +1,6 @@
 //! Dumps as Ceph prints them, whole, cut and broken.
 
-use crate::same::{Row, Sure, holds_in, same, same_rows};
+use crate::same::{Row, Sure, holds_in, same, same_in, same_rows};
 use ceph_dumps::{
     DumpError, EphemeralPin, FileSystemRanks, FragmentHeat, ListedDir, ListedValue, OwnPin,
     SubtreeRoot, read_cluster, read_complete, read_listing, read_loads, read_own_list,
@@ -320,6 +320,38 @@ fn reads_which_file_system_it_is(rt: HostRuntime) {
 fn reads_loads(rt: HostRuntime) {
     let found = read_loads(rt.alloc(), LOADS).sure(&rt);
     same_rows(&rt, &found, HEATS, "loads");
+}
+
+/// Names of fragments, as JSON, and their inode numbers.
+const INODES: &[(&[u8], Option<u64>)] = &[
+    (b"\"0x1\"", Some(1)),
+    (b"\"0x10000000001\"", Some(1_099_511_627_777)),
+    (b"\"0x10000000000.011*\"", Some(1_099_511_627_776)),
+    (b"\"0xfFfffffffffffffe\"", Some(u64::MAX - 1)),
+    (b"\"0x1ffffffffffffffff\"", None),
+    (b"\"0x1g\"", None),
+    (b"\"0x.0*\"", None),
+    (b"\"0x+1\"", None),
+    (b"\"10000000001\"", None),
+    (b"1", None),
+    (b"null", None),
+];
+
+/// The inode number in a dump with this name of a fragment.
+fn inode_named(rt: &impl Abort, alloc: Global, name: &[u8]) -> Option<u64> {
+    let mut text = Vec::from_slice(alloc, b"{\"dirfrags\":[{\"path\":\"/a\",\"dirfrag\":").sure(rt);
+    text.extend_from_slice(name).sure(rt);
+    let tail = b",\"pop_me\":{\"Decay Counters\":[]}}]}";
+    text.extend_from_slice(tail).sure(rt);
+    let found = read_loads(alloc, &text).sure(rt);
+    found.first()?.inode
+}
+
+#[test]
+fn reads_inode_numbers(rt: HostRuntime) {
+    for (name, inode) in INODES {
+        same_in(&rt, &inode_named(&rt, rt.alloc(), name), inode, name);
+    }
 }
 
 #[test]

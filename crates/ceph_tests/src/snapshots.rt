@@ -9,13 +9,24 @@ use mds_types::{Rank, RankSet};
 use std::alloc::Global;
 use std::process::Abort;
 
+/// The inode number of a path in these tests: that of the root is 1, and others have the last byte.
+fn inode_of(path: &[u8]) -> Option<u64> {
+    Some(path.last().map_or(1, |byte| u64::from(*byte)))
+}
+
 /// Adds heats and writes at a rank.
 fn add_loads(rt: &impl Abort, alloc: Global, all: &mut Gathering, at: Rank, given: &[Written<'_>]) {
     let mut loads = Vec::new(alloc);
     for (path, counted) in given {
         let path = Vec::from_slice(alloc, path).sure(rt);
         let (heat, writes) = *counted;
-        loads.push(FragmentHeat { path, heat, writes }).sure(rt);
+        let fragment = FragmentHeat {
+            inode: inode_of(&path),
+            path,
+            heat,
+            writes,
+        };
+        loads.push(fragment).sure(rt);
     }
     all.add_loads(at, &loads).sure(rt);
 }
@@ -93,7 +104,7 @@ impl<'a> Row<Seen<'a>> for Directory {
     fn is_as(&self, row: &Seen<'a>) -> bool {
         let (heat, inodes) = ((self.heat, self.writes), self.inodes);
         let told = (self.parent, heat, inodes, self.now.number(), self.is_spread);
-        self.path.as_slice() == row.0 && told == row.1
+        self.path.as_slice() == row.0 && told == row.1 && self.inode == inode_of(row.0)
     }
 }
 
