@@ -39,7 +39,7 @@ struct Counter<'a> {
     longest: usize,
 }
 
-fn counter(step: usize, written: &Cell<usize>) -> Counter<'_> {
+fn counting(step: usize, written: &Cell<usize>) -> Counter<'_> {
     Counter {
         step,
         written,
@@ -93,7 +93,7 @@ fn answers_before_it_reads_on(rt: HostRuntime) {
             written: &written,
             noted: Vec::new(rt.alloc()),
         };
-        let mut counter = counter(1, &written);
+        let mut counter = counting(1, &written);
         let (status, watcher) = ended(&rt, rt.alloc(), words, watcher, &mut counter);
         same_in(&rt, &status, &1, words);
         same_in(&rt, &watcher.noted.as_slice(), noted, words);
@@ -116,7 +116,7 @@ fn long_stat(alloc: Global, dirs: u32) -> Result<String, AllocError> {
 fn a_long_reply_is_written_in_pieces(rt: HostRuntime) {
     let script = long_stat(rt.alloc(), 2000).sure(&rt);
     let written = Cell::new(0);
-    let mut counter = counter(usize::MAX, &written);
+    let mut counter = counting(usize::MAX, &written);
     let reader = script.as_bytes();
     let (status, _reader) = ended(&rt, rt.alloc(), &["mdbal"], reader, &mut counter);
     same(&rt, &status, &0);
@@ -128,7 +128,7 @@ fn a_long_reply_is_written_in_pieces(rt: HostRuntime) {
 #[test]
 fn a_failed_flush_is_an_error(rt: HostRuntime) {
     let written = Cell::new(0);
-    let mut output = Output::new(counter(1, &written));
+    let mut output = Output::new(counting(1, &written));
     holds_in(&rt, output.flush().is_err(), &"flush");
 }
 
