@@ -2,7 +2,6 @@
 //! writer takes long to prove, so all that is tried is generic in it.
 ghost use Rattle.std.specs.Prelude.{◌≡◌, ◌≤◌};
 
-use crate::rows::Played;
 use crate::same::Sure;
 use crate::{exports, full, many, requests, rows, threads};
 use authority_map::{MapWriter, NewMap, Publisher};
@@ -32,8 +31,8 @@ pub(crate) enum Trial {
     Requests,
     /// Requests of two ranks that meet.
     Meeting,
-    /// Requests on a directory that moves, and past stops.
-    Played(&'static Played),
+    /// Requests on a directory that moves, and past stops: a row of the table.
+    Played(usize),
     /// Requests for which there may be no thread, or for which there is one.
     RankThreads(bool),
     /// Orders for which there may be no thread, or for which there is one.
@@ -84,7 +83,7 @@ fn try_on<J: Naming + Send + Sync, M: Publisher<J> + Send, R: Abort + Threads + 
         Trial::ManyRequests => many::serve_on(rt, alloc, board, shares),
         Trial::Requests => requests::serve_with_jitter(rt, alloc, board, shares),
         Trial::Meeting => requests::meet(rt, alloc, board, shares),
-        Trial::Played(played) => rows::play_on(rt, alloc, board, shares, played),
+        Trial::Played(row) => rows::play_on(rt, alloc, board, shares, row),
         Trial::RankThreads(is_sure) => threads::serve_on(rt, alloc, board, shares, is_sure),
         Trial::ExporterThreads(is_sure) => threads::move_on(rt, alloc, board, is_sure),
     }
