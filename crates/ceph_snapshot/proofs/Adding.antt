@@ -90,7 +90,7 @@ rise-more ds heats at above sum inside is up had child before i some low l =
     (cases_eq i at) in
     subst (λ (s : ℕ). s ≤ slice_index (set heats above sum) (parent_at ds i)) (sym stays) rose
 
-capped-add : (most a b : ℕ) → min most (min most a + b) ≡ min most (a + b)
+pub capped-add : (most a b : ℕ) → min most (min most a + b) ≡ min most (a + b)
 capped-add most a b = omega arith
 
 -- found is the rank where this counts as held, if it does at one

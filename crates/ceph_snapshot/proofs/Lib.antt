@@ -5,6 +5,8 @@ pub mod HeatBelow
 pub mod Holders
 pub mod Keys
 pub mod Lookups
+pub mod Numbers
 pub mod Owners
 pub mod Placing
+pub mod Sighted
 pub mod StillKept

@@ -5,11 +5,12 @@ use Rattle.std.proofs.lemmas.Bool.{cases_lt}
 use Rattle.std.proofs.lemmas.List.{map-append}
 use Rattle.std.proofs.lemmas.Option.{slice_get-map, slice_get_past}
 use Rattle.ceph_snapshot.specs.declared.directory.Directory.{Directory}
-use Rattle.ceph_snapshot.specs.declared.gathering.Node.{Node}
+use Rattle.ceph_snapshot.specs.declared.tree.Node.{Node}
 use Rattle.ceph_snapshot.specs.Authority.{LieAsClaimed, is_torn_above, placed_node, rank_above}
 use Rattle.ceph_snapshot.specs.Folding.{is_marked}
 use Rattle.ceph_snapshot.specs.Gathered.{PathPin, WhosePin, path_pin, path_pin_at, whose_pin, whose_pin_at}
 use Rattle.ceph_snapshot.specs.Policies.{kept_where}
+use Rattle.ceph_snapshot.specs.Sightings.{told, told_at}
 
 -- what a change leaves of each
 still : {X Y : Type 0} (f : X → Y) (change : ℕ → X → X) → ((i : ℕ) (x : X) → f (change i x) ≡ f x) → (xs ys : List X) → length ys ≡ length xs
@@ -32,6 +33,10 @@ owner_kept old new marks size kept i = still whose_pin (λ k. kept_where (is_mar
 pub pin_placed : (nodes placed : List Node) → LieAsClaimed nodes placed → (i : ℕ) → path_pin_at placed i ≡ path_pin_at nodes i
 pin_placed nodes placed are i =
     still path_pin (λ k. placed_node (rank_above nodes placed k) (is_torn_above nodes placed k)) (λ k n. refl) nodes placed are.size are.at i
+
+pub told_placed : (nodes placed : List Node) → LieAsClaimed nodes placed → (i : ℕ) → told_at placed i ≡ told_at nodes i
+told_placed nodes placed are i =
+    still (λ (n : Node). told n.directory) (λ k. placed_node (rank_above nodes placed k) (is_torn_above nodes placed k)) (λ k n. refl) nodes placed are.size are.at i
 
 -- what is made of each node
 pub owner_from_map : (ds : List Directory) (ns : List Node) (f : PathPin → WhosePin) → map whose_pin ds ≡ map (λ (n : Node). f (path_pin n)) ns → (i : ℕ)

@@ -4,10 +4,10 @@ use Rattle.std.specs.Option.{option_map, option_map_or}
 use Rattle.std.proofs.lemmas.Bool.{cases_eq, cases_lt, ne_eqb}
 use Rattle.std.proofs.lemmas.List.{get_or-set_other, get_or-set_same}
 use Rattle.std.proofs.lemmas.Option.{slice_get-get_or, slice_get_past}
-use Rattle.ceph_snapshot.specs.declared.gathering.Node.{Node}
+use Rattle.ceph_snapshot.specs.declared.tree.Node.{Node}
 use Rattle.ceph_snapshot.specs.Authority.{above_at, is_torn_above, is_torn_at, lies_at, placed_node, rank_above}
 
-at-same : {X : Type 0} (xs : List X) (at : ℕ) (x : X) → at < length xs → slice_get (set xs at x) at ≡ Some x
+pub at-same : {X : Type 0} (xs : List X) (at : ℕ) (x : X) → at < length xs → slice_get (set xs at x) at ≡ Some x
 at-same xs at x inside =
     let within : at < length (set xs at x) = omega (arith, inside, length-set xs at x) in
     slice_get-get_or (set xs at x) at x within ∙ ap (λ y. Some y) (get_or-set_same xs at x x inside)
@@ -22,6 +22,16 @@ at-other xs at i x apart =
     let far : length (set xs at x) ≤ i = omega (arith, past, length-set xs at x) in
     slice_get_past (set xs at x) i far ∙ sym (slice_get_past xs i past))
     (cases_lt i (length xs))
+
+-- what is as it was at the place that was written is as it was at each
+pub set-same : {X Y : Type 0} (f : X → Y) (xs : List X) (at : ℕ) (old new : X) → at < length xs → slice_get xs at ≡ Some old → f new ≡ f old → (i : ℕ)
+    → option_map f (slice_get (set xs at new) i) ≡ option_map f (slice_get xs i)
+set-same f xs at old new l read same i =
+    ⊎_elim
+    (λ (here : i ≡ at). subst (λ (k : ℕ). option_map f (slice_get (set xs at new) k) ≡ option_map f (slice_get xs k)) (sym here)
+    (ap (option_map f) (at-same xs at new l) ∙ (ap (λ y. Some y) same ∙ sym (ap (option_map f) read))))
+    (λ (other : i ≢ at). ap (option_map f) (at-other xs at i new other))
+    (cases_eq i at)
 
 -- what is above an earlier place is as it was
 rank_same : (start cur : List Node) (at i : ℕ) (new : Node) → (i ≢ 0 → above_at start i ≢ at) → rank_above start (set cur at new) i ≡ rank_above start cur i

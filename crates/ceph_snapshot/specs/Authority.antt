@@ -11,7 +11,7 @@ use Rattle.std.specs.List.{list_any}
 use Rattle.std.specs.Option.{option_map, option_map_or, unwrap_or}
 use Rattle.ceph_dumps.specs.declared.subtrees.SubtreeRoot.{SubtreeRoot}
 use Rattle.ceph_snapshot.specs.declared.gathering.Hearsay.{Hearsay}
-use Rattle.ceph_snapshot.specs.declared.gathering.Node.{Node}
+use Rattle.ceph_snapshot.specs.declared.tree.Node.{Node}
 use Rattle.ceph_snapshot.specs.declared.names.Names.{Names}
 use Rattle.ceph_snapshot.specs.Names.{path_number}
 use Rattle.ceph_snapshot.specs.Shown.{shown_path}

@@ -8,3 +8,4 @@ pub mod Names
 pub mod Policies
 pub mod Rows
 pub mod Shown
+pub mod Sightings

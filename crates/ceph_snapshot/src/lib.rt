@@ -12,6 +12,7 @@ pub mod policies;
 pub mod rows;
 pub mod snapshot;
 pub mod snapshot_error;
+mod tree;
 
 pub use ceph_dumps::EphemeralPin;
 pub use directory::Directory;

@@ -1,5 +1,5 @@
 //! Numbers for paths: a path gets its number when it is first named, after the paths above it.
-ghost use Rattle.std.specs.Prelude.{◌≡◌, ℕ, List, OnOk, Some, if◌then◌else◌};
+ghost use Rattle.std.specs.Prelude.{◌≡◌, [], ℕ, IfOk, List, None, OnErr, OnOk, Some, if◌then◌else◌};
 ghost use Rattle.std.specs.Str.{bytes_eq};
 ghost use Rattle.ceph_snapshot.specs.Names.{path_number};
 
@@ -14,7 +14,10 @@ pub struct Names {
 
 impl Names {
     /// Only the root.
-    pub fn new(alloc: Global) -> Result<Names, AllocError> {
+    pub fn new(alloc: Global) -> Result<Names, AllocError>
+        ensures { IfOk result (λ names. (path : List ℕ) → path_number names path
+            ≡ (if bytes_eq [] path then Some 0 else None)) }
+    {
         let mut numbers = HashMap::new(alloc);
         numbers.insert(Vec::new(alloc), 0)?;
         Ok(Names { numbers })
@@ -29,8 +32,9 @@ impl Names {
 
     /// Gives a path this number.
     pub fn insert(&mut self, path: Vec<u8>, number: u32) -> Result<(), AllocError>
-        ensures { OnOk result ((other : List ℕ) → path_number self.new other
+        ensures put { OnOk result ((other : List ℕ) → path_number self.new other
             ≡ (if bytes_eq path.items other then Some number else path_number self.old other)) }
+        ensures same { OnErr result ((other : List ℕ) → path_number self.new other ≡ path_number self.old other) }
     {
         self.numbers.insert(path, number)?;
         Ok(())

@@ -1,25 +1,27 @@
 //! The directories, from what was gathered of them.
 
-ghost use Rattle.std.specs.Prelude.{◌≡◌, ◌==◌, ◌||◌, ◌<◌, ◌/◌, ℕ, All, List, true, false};
-ghost use Rattle.std.specs.Prelude.{IfErr, IfOk, IsErrOf, OnOk, length, map, min, nat_lt, string_bytes, if◌then◌else◌};
+ghost use Rattle.std.specs.Prelude.{◌≡◌, ◌==◌, ◌<◌, ℕ, All, List, true, false};
+ghost use Rattle.std.specs.Prelude.{IfErr, IfOk, IsErrOf, OnOk, length, map, nat_lt, slice_get, string_bytes, if◌then◌else◌};
 ghost use Rattle.std.specs.HashMap.{get_by};
 ghost use Rattle.std.specs.Option.{option_map};
 ghost use Rattle.std.specs.Str.{bytes_eq};
 ghost use Rattle.mds_types.specs.RankSet.{has_rank};
-ghost use Rattle.mds_types.specs.declared.limits.TheConstants.{HEAT_LIMIT};
-ghost use Rattle.ceph_snapshot.specs.declared.gathering.Node.{Node};
+ghost use Rattle.ceph_snapshot.specs.declared.tree.Node.{Node};
 ghost use Rattle.ceph_snapshot.specs.Authority.{IsUnclaimed, LieAsClaimed, PathText, is_torn_at, is_true_of};
 ghost use Rattle.ceph_snapshot.specs.Authority.{node_path_at, placed_node, lies_at};
 ghost use Rattle.ceph_snapshot.specs.Gathered.{foreign_pin, idle_pin, listed_rank, our_pin, path_pin};
-ghost use Rattle.ceph_snapshot.specs.Gathered.{path_pin_at, seen_heat, whose_pin, whose_pin_at, with_owner};
+ghost use Rattle.ceph_snapshot.specs.Gathered.{path_pin_at, whose_pin, whose_pin_at, with_owner};
 ghost use Rattle.ceph_snapshot.specs.Holding.{AreParentsFirst};
 ghost use Rattle.ceph_snapshot.specs.Policies.{KeepUnpinnable};
 ghost use Rattle.ceph_snapshot.specs.Shown.{shown_path};
+ghost use Rattle.ceph_snapshot.specs.Sightings.{AreCold, HasSeen, LieAt, mean_told, place_at, place_of, told, told_at};
+ghost use Rattle.ceph_snapshot.specs.Sightings.{told_by, told_with};
 
 use crate::directory::Directory;
-use crate::gathering::{Gathering, Hearsay, Node, Sighting};
+use crate::gathering::{Gathering, Hearsay};
 use crate::policies::keep;
 use crate::snapshot_error::{SnapshotError, told_path};
+use crate::tree::{Node, Sighting};
 use ceph_dumps::{EphemeralPin, OwnPin};
 use mds_types::limits::{HEAT_LIMIT, RANK_LIMIT};
 use mds_types::{Rank, RankSet};
@@ -80,15 +82,12 @@ fn place_all(nodes: &mut Vec<Node>) -> Result<(), SnapshotError>
 /// Adds what a rank has seen at a directory, if it has authority or that is spread. Gives the heat that is spread.
 fn sight(node: &mut Node, seen: Sighting) -> u64
     ensures spread { result ≡ (if node.old.directory.is_spread then seen.heat else 0) }
-    ensures heat { node.new.directory.heat ≡ seen_heat node.old.directory.heat seen.heat
-        (node.old.directory.is_spread || (node.old.directory.now == seen.rank)) }
-    ensures writes { node.new.directory.writes ≡ seen_heat node.old.directory.writes seen.writes
-        (node.old.directory.is_spread || (node.old.directory.now == seen.rank)) }
-    ensures place { node.old.directory.is_spread ≡ false → node.new.directory.now ≡ node.old.directory.now }
-    ensures inode { node.new.directory.inode ≡ node.old.directory.inode }
+    ensures told { told node.new.directory ≡ told_with true seen node.old.directory }
+    ensures place { place_of node.new.directory ≡ place_of node.old.directory }
     ensures pinned { path_pin node.new ≡ path_pin node.old }
 {
     let directory = &mut node.directory;
+    directory.inode = seen.inode.or(directory.inode);
     if directory.is_spread {
         directory.heat = directory.heat.saturating_add(seen.heat);
         directory.writes = directory.writes.saturating_add(seen.writes);
@@ -155,11 +154,10 @@ fn pins_of(pinned: Option<u64>, own: Option<u64>, ranks: RankSet) -> Pins
 /// there. This program pinned it to the rank `own` before.
 fn finished(node: Node, own: Option<u64>, samples: u64, ranks: RankSet) -> Directory
     requires { 0 < samples }
-    ensures heat { result.heat ≡ min (node.directory.heat / samples) HEAT_LIMIT }
-    ensures writes { result.writes ≡ min (node.directory.writes / samples) HEAT_LIMIT }
+    ensures told { told result ≡ mean_told samples (told node.directory) }
     ensures now { result.now ≡ node.directory.now }
+    ensures spread { result.is_spread ≡ node.directory.is_spread }
     ensures path { result.path ≡ node.directory.path }
-    ensures inode { result.inode ≡ node.directory.inode }
     ensures pin { result.pin ≡ foreign_pin node.pinned own ranks }
     ensures idle { result.idle ≡ idle_pin node.pinned own ranks }
     ensures earlier { result.earlier ≡ our_pin node.pinned own }
@@ -218,7 +216,9 @@ fn confirm(alloc: Global, nodes: &[Node], hearsay: &[Hearsay]) -> Result<(), Sna
 
 /// Gives each of these directories a policy that isn't known, if none is known of it, unless all were listed.
 fn hold_tops(nodes: &mut Vec<Node>, tops: &[u32], is_listed: bool)
-    ensures { (i : ℕ) → path_pin_at nodes.new.items i ≡ path_pin_at nodes.old.items i }
+    ensures pinned { (i : ℕ) → path_pin_at nodes.new.items i ≡ path_pin_at nodes.old.items i }
+    ensures told { (i : ℕ) → told_at nodes.new.items i ≡ told_at nodes.old.items i }
+    ensures place { (i : ℕ) → place_at nodes.new.items i ≡ place_at nodes.old.items i }
 {
     if is_listed {
         return;
@@ -251,8 +251,12 @@ fn all_finished(
     ranks: RankSet,
 ) -> Result<Vec<Directory>, AllocError>
     requires { 0 < samples }
-    ensures { IfOk result (λ directories. map whose_pin directories.items
+    ensures owner { IfOk result (λ directories. map whose_pin directories.items
         ≡ map (λ n. with_owner own.now ranks (path_pin n)) nodes.items) }
+    ensures told { IfOk result (λ directories. map told directories.items
+        ≡ map (λ n. mean_told samples (told n.directory)) nodes.items) }
+    ensures place { IfOk result (λ directories. map place_of directories.items
+        ≡ map (λ n. place_of n.directory) nodes.items) }
 {
     let listed = listed_ranks(alloc, own)?;
     let mut directories = Vec::with_capacity(alloc, nodes.len())?;
@@ -275,28 +279,28 @@ impl Gathering {
         ranks: RankSet,
     ) -> Result<Snapshot, SnapshotError>
         requires { 0 < samples }
-        ensures authority { IfOk result (λ _. (placed : List Node) × LieAsClaimed self.nodes.items placed
-            × All (λ said. is_true_of placed said ≡ true) self.hearsay.items) }
+        ensures authority { IfOk result (λ snapshot. (placed : List Node) × LieAsClaimed self.tree.nodes placed
+            × All (λ said. is_true_of placed said ≡ true) self.hearsay.items
+            × LieAt placed snapshot.directories.items) }
+        ensures seen { IfOk result (λ snapshot. All (HasSeen self.tree.seen samples) snapshot.directories.items) }
         ensures unclaimed { (path : PathText) (by said : ℕ) → IsErrOf result (SnapshotError.Unclaimed path by said)
-            → (placed : List Node) × LieAsClaimed self.nodes.items placed
+            → (placed : List Node) × LieAsClaimed self.tree.nodes placed
             × IsUnclaimed placed self.hearsay.items path by said }
         ensures owner { IfOk result (λ snapshot. (i : ℕ) → whose_pin_at snapshot.directories.items i
-            ≡ option_map (with_owner own.now ranks) (path_pin_at self.nodes.items i)) }
+            ≡ option_map (with_owner own.now ranks) (path_pin_at self.tree.nodes i)) }
         ensures spread { IfOk result (λ snapshot. length snapshot.spread.items ≡ 64) }
         ensures kept { IfOk result (λ snapshot. AreParentsFirst snapshot.directories.items
             → KeepUnpinnable snapshot.directories.items) }
     {
         let Gathering {
             alloc,
-            names,
-            mut nodes,
-            sightings,
+            tree,
             hearsay,
             fragments: _,
             tops,
             is_listed,
         } = self;
-        drop(names);
+        let (mut nodes, sightings) = tree.into_parts();
         place_all(&mut nodes)?;
         confirm(alloc, nodes.as_slice(), hearsay.as_slice())?;
         hold_tops(&mut nodes, tops.as_slice(), is_listed);
@@ -312,7 +316,10 @@ impl Gathering {
 
 /// Adds the heat of a sighting. Gives what of it counts as spread.
 fn see(nodes: &mut Vec<Node>, seen: Sighting) -> u64
-    ensures { (i : ℕ) → path_pin_at nodes.new.items i ≡ path_pin_at nodes.old.items i }
+    ensures pinned { (i : ℕ) → path_pin_at nodes.new.items i ≡ path_pin_at nodes.old.items i }
+    ensures told { (i : ℕ) → told_at nodes.new.items i
+        ≡ option_map (λ n. told_with (seen.directory == i) seen n.directory) (slice_get nodes.old.items i) }
+    ensures place { (i : ℕ) → place_at nodes.new.items i ≡ place_at nodes.old.items i }
 {
     match nodes.get_mut(seen.directory as usize) {
         Some(node) => sight(node, seen),
@@ -327,9 +334,13 @@ fn see_all(
     sightings: &[Sighting],
     samples: u64,
 ) -> Result<Vec<u64>, AllocError>
-    requires { 0 < samples }
+    requires samples { 0 < samples }
+    requires cold { AreCold nodes.old.items }
     ensures spread { IfOk result (λ spread. length spread.items ≡ 64) }
     ensures pinned { (i : ℕ) → path_pin_at nodes.new.items i ≡ path_pin_at nodes.old.items i }
+    ensures told { OnOk result ((i : ℕ) → told_at nodes.new.items i
+        ≡ option_map (λ n. told_by i sightings.now n.directory) (slice_get nodes.old.items i)) }
+    ensures place { (i : ℕ) → place_at nodes.new.items i ≡ place_at nodes.old.items i }
 {
     let mut spread = vec![in alloc; 0u64; usize::from(RANK_LIMIT)]?;
     for seen in sightings {

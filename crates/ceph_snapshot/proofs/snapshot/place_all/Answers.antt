@@ -1,7 +1,7 @@
 use Rattle.std.proofs.Common.{◌≡◌, ◌≢◌, ◌∙◌, ◌<◌, ℕ, List, Option, Some, arith, ap, length, length-set, refl, slice_get, sym}
 use Rattle.std.specs.Option.{option_map_or}
 use Rattle.std.proofs.lemmas.Option.{slice_get_read}
-use Rattle.ceph_snapshot.specs.declared.gathering.Node.{Node}
+use Rattle.ceph_snapshot.specs.declared.tree.Node.{Node}
 use Rattle.ceph_snapshot.specs.Authority.{above_at}
 use Rattle.ceph_snapshot.proofs.Placing.{above_more, at-other, placed_more}
 use Rattle.ceph_snapshot.proofs.snapshot.place_all.Goals as goal

@@ -26,6 +26,7 @@ loop-root-preserved c =
           (λ (other : k ≢ at). c.in_ok-add_subtree.ensures.kept fragment c.args.rank (c.loop-root.invariant.claimed k d (omega (arith, other, l)) fragment claim))
           (cases_eq k at);
       kept = λ fragment other before. c.in_ok-add_subtree.ensures.kept fragment other (c.loop-root.invariant.kept fragment other before);
+      seen = c.add_subtree.ensures.seen ∙ c.loop-root.invariant.seen;
     }
 
 pub returns-clause-claimed : goal.returns-clause-claimed

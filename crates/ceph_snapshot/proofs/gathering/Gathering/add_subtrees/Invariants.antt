@@ -8,4 +8,5 @@ abbrev pub invariant-loop-root : goal.invariant-loop-root
 invariant-loop-root l = record {
   claimed : (k : ℕ) (d : SubtreeRoot) → k < l.root-index → (fragment : List ℕ) → IsClaim (get_or l.roots k d) fragment → path_number l.self.fragments fragment ≡ Some l.rank;
   kept : StillClaimed l.fn.self.fragments l.self.fragments;
+  seen : l.self.tree.seen ≡ l.fn.self.tree.seen;
 }

@@ -1,0 +1,247 @@
+//! The directories that dumps name, and the heat that ranks have seen at them.
+ghost use Rattle.std.specs.Prelude.{◌≡◌, ◌++◌, ◌∷◌, [], ℕ, Some, None, is_some, max, IfOk, IfSome, IsErrOf, OnOk};
+ghost use Rattle.std.specs.Prelude.{◌<◌, true, false, All, length, map, if◌then◌else◌};
+ghost use Rattle.ceph_dumps.specs.declared.listing.ListedValue.TheVariants as listed;
+ghost use Rattle.ceph_snapshot.specs.Authority.{PathText, is_user_path};
+ghost use Rattle.ceph_snapshot.specs.Sightings.{AreCold, HaveOwnPaths, IsAt, of_fragment, told, with_path};
+
+use crate::directory::Directory;
+use crate::names::Names;
+use crate::snapshot_error::SnapshotError;
+use ceph_dumps::{FragmentHeat, ListedValue, SubtreeRoot};
+use mds_types::Rank;
+use std::alloc::{AllocError, Global};
+use std::marker::Model;
+
+/// Heat that a rank has seen at a directory, and the inode number that it names.
+#[derive(Clone, Copy)]
+pub(crate) struct Sighting {
+    pub directory: u32,
+    pub rank: Rank,
+    pub heat: u64,
+    pub writes: u64,
+    pub inode: Option<u64>,
+}
+
+/// What is known of a directory while dumps are read.
+#[derive(Drop)]
+pub(crate) struct Node {
+    pub directory: Directory,
+    /// The rank that has the subtree whose root it is.
+    pub root: Option<Rank>,
+    /// Its pin, whoever set it.
+    pub pinned: Option<u64>,
+    /// The greatest heat that a rank has seen at it, where it is spread.
+    pub most: u64,
+}
+
+/// The directories by number, and what ranks have seen. To a contract, that is by path.
+#[derive(Drop)]
+pub(crate) struct Tree {
+    names: Names,
+    nodes: Vec<Node>,
+    sightings: Vec<Sighting>,
+}
+
+impl Model for Tree {
+    ghost use Rattle.std.specs.Prelude.{map};
+    ghost use Rattle.ceph_snapshot.specs.Sightings.{IsNumbered, TreeData, with_path};
+
+    ghost Value = { TreeData };
+
+    ghost view = { λ t. record {
+      nodes = t.nodes.items;
+      seen = map (with_path t.nodes.items) t.sightings.items;
+    } };
+
+    ghost invariant = { λ t. IsNumbered t.names t.nodes.items t.sightings.items };
+}
+
+impl Tree {
+    /// Only the root, at rank 0.
+    pub(crate) fn new(alloc: Global) -> Result<Tree, AllocError>
+        ensures { IfOk result (λ tree. tree.seen ≡ []) }
+    {
+        Ok(Tree {
+            names: Names::new(alloc)?,
+            nodes: vec![in alloc; unknown(Vec::new(alloc), 0)]?,
+            sightings: Vec::new(alloc),
+        })
+    }
+
+    /// The number of a path. One that has none gets one of its own, below a directory with this number.
+    fn number_below(
+        &mut self,
+        alloc: Global,
+        path: &[u8],
+        parent: u32,
+    ) -> Result<u32, SnapshotError>
+        ensures seen { self.new.seen ≡ self.old.seen }
+        ensures path { IfOk result (IsAt self.new.nodes path.now) }
+        ensures twice { (path : PathText) (one two : ℕ) → IsErrOf result (SnapshotError.TwoClaims path one two) → ⊥ }
+    {
+        if let Some(number) = self.names.number(path) {
+            return Ok(number);
+        }
+        let Ok(number) = u32::try_from(self.nodes.len()) else {
+            return Err(SnapshotError::TooMany);
+        };
+        self.nodes.reserve(1)?;
+        let node = unknown(Vec::from_slice(alloc, path)?, parent);
+        self.names.insert(Vec::from_slice(alloc, path)?, number)?;
+        self.nodes.push_reserved(node);
+        Ok(number)
+    }
+
+    /// The nearest directory above a path that has a number: how many bytes its path has, and the number.
+    fn nearest(&self, path: &[u8]) -> (usize, u32) {
+        for end in (1..path.len()).rev() {
+            if path[end] == b'/' {
+                if let Some(number) = self.names.number(&path[..end]) {
+                    return (end, number);
+                }
+            }
+        }
+        (0, 0)
+    }
+
+    /// The number of a path, and none for one that is in no tree of users, as a rank's own directory.
+    pub(crate) fn number(
+        &mut self,
+        alloc: Global,
+        path: &[u8],
+    ) -> Result<Option<u32>, SnapshotError>
+        ensures seen { self.new.seen ≡ self.old.seen }
+        ensures some { IfOk result (λ number. is_some number ≡ is_user_path path.now) }
+        ensures path { IfOk result (λ number. IfSome number (IsAt self.new.nodes path.now)) }
+        ensures twice { (path : PathText) (one two : ℕ) → IsErrOf result (SnapshotError.TwoClaims path one two) → ⊥ }
+    {
+        if !is_user_path(path) {
+            return Ok(None);
+        }
+        if let Some(number) = self.names.number(path) {
+            return Ok(Some(number));
+        }
+        let (above, mut number) = self.nearest(path);
+        for end in above..path.len() {
+            if end > above && path[end] == b'/' {
+                number = self.number_below(alloc, &path[..end], number)?;
+            }
+        }
+        Ok(Some(self.number_below(alloc, path, number)?))
+    }
+
+    /// Adds the heat that a rank has seen in a fragment, and the inode number of its directory.
+    pub(crate) fn see(
+        &mut self,
+        alloc: Global,
+        rank: Rank,
+        fragment: &FragmentHeat,
+    ) -> Result<(), SnapshotError>
+        ensures { OnOk result (self.new.seen ≡ self.old.seen
+            ++ (if is_user_path fragment.now.path.items then of_fragment rank fragment.now ∷ [] else [])) }
+    {
+        if let Some(directory) = self.number(alloc, fragment.path.as_slice())? {
+            self.sightings.push(Sighting {
+                directory,
+                rank,
+                heat: fragment.heat,
+                writes: fragment.writes,
+                inode: fragment.inode,
+            })?;
+        }
+        Ok(())
+    }
+
+    /// Adds what a rank says of the root of a subtree, which is this directory.
+    pub(crate) fn add_root(&mut self, directory: u32, rank: Rank, root: &SubtreeRoot)
+        ensures { self.new.seen ≡ self.old.seen }
+    {
+        if let Some(node) = self.nodes.get_mut(directory as usize) {
+            add_root(node, rank, root);
+        }
+    }
+
+    /// Adds a value that was listed of a directory.
+    pub(crate) fn add_value(&mut self, directory: u32, value: ListedValue)
+        ensures { self.new.seen ≡ self.old.seen }
+    {
+        if let Some(node) = self.nodes.get_mut(directory as usize) {
+            add_value(node, value);
+        }
+    }
+
+    /// The directories and what was seen at them.
+    pub(crate) fn into_parts(self) -> (Vec<Node>, Vec<Sighting>)
+        ensures nodes { result.0.items ≡ self.nodes }
+        ensures seen { map (with_path self.nodes) result.1.items ≡ self.seen }
+        ensures inside { All (λ s. s.directory < length self.nodes) result.1.items }
+        ensures cold { AreCold self.nodes }
+        ensures apart { HaveOwnPaths self.nodes }
+    {
+        (self.nodes, self.sightings)
+    }
+}
+
+/// Whether a path is in the tree of users: the root's, or one that begins with a slash, with no NUL.
+fn is_user_path(path: &[u8]) -> bool
+    ensures { result ≡ is_user_path path.now }
+{
+    path.is_empty() || (path.starts_with(b"/") && !path.contains(&0))
+}
+
+/// A directory of which nothing is known but its path and its parent.
+fn unknown(path: Vec<u8>, parent: u32) -> Node
+    ensures { told result.directory ≡ (path.items, (0, (0, None))) }
+{
+    Node {
+        directory: Directory {
+            path,
+            inode: None,
+            parent,
+            heat: 0,
+            writes: 0,
+            inodes: 1,
+            now: Rank::default(),
+            pin: None,
+            idle: None,
+            earlier: None,
+            policy: None,
+            is_kept: false,
+            is_spread: false,
+        },
+        root: None,
+        pinned: None,
+        most: 0,
+    }
+}
+
+/// Adds what a rank says of a root of a subtree.
+fn add_root(node: &mut Node, rank: Rank, root: &SubtreeRoot)
+    ensures told { told node.new.directory ≡ told node.old.directory }
+    ensures here { root.now.is_here ≡ true → node.new.root ≡ Some rank }
+    ensures elsewhere { root.now.is_here ≡ false → node.new.root ≡ node.old.root }
+{
+    if root.is_here {
+        let is_elsewhere = node.root.is_some_and(|other| other != rank);
+        node.directory.is_spread |= is_elsewhere || root.is_spread;
+        node.root = Some(rank);
+    }
+    if let Some(pin) = root.pin {
+        node.pinned = u64::try_from(pin).ok();
+    }
+}
+
+/// Adds a value that was listed of a directory.
+fn add_value(node: &mut Node, value: ListedValue)
+    ensures told { told node.new.directory ≡ told node.old.directory }
+    ensures entries { (count : ℕ) → value ≡ listed.Entries count → node.new.directory.inodes ≡ max count 1 }
+    ensures pin { (rank : ℕ) → value ≡ listed.Pin (Some rank) → node.new.pinned ≡ Some rank }
+    ensures no_pin { value ≡ listed.Pin None → node.new.pinned ≡ node.old.pinned }
+{
+    match value {
+        ListedValue::Entries(count) => node.directory.inodes = count.max(1),
+        ListedValue::Pin(pin) => node.pinned = pin.or(node.pinned),
+        ListedValue::Policy(policy) => node.directory.policy = policy.or(node.directory.policy),
+    }
+}
