@@ -1,21 +1,29 @@
 -- What one more directory adds.
-use Rattle.std.proofs.Common.{◌≡◌, ◌≢◌, ◌∙◌, ℕ, ◌+◌, ◌-◌, ◌^◌, ◌<◌, ◌≤◌, ◌&&◌, ◌↔◌, ◌⊎◌, ◌++◌, ◌∷◌, [], Bool, true, false, not, cond, eqb, List, Option, Some, None, add_assoc, add-zero, ap, arith, get_or, length, min, refl, set, slice_get, slice_index, subst, sym, ⊎_elim}
-use Rattle.std.proofs.Math.Nat.{le_refl, le_trans, lt_trans}
-use Rattle.std.proofs.lemmas.Bool.{cases_Bool, cases_eq, eq-eqb, ne_eqb}
-use Rattle.std.proofs.lemmas.List.{get_or_default, get_or-set_other, get_or-set_same, length_push}
-use Rattle.std.proofs.lemmas.Option.{none-some, slice_get-get_or}
+use Rattle.std.proofs.Common.{◌≡◌, ◌≢◌, ◌∙◌, ℕ, ◌+◌, ◌-◌, ◌^◌, ◌<◌, ◌≤◌, ◌&&◌, ◌↔◌, ◌⊎◌, ◌++◌, ◌∷◌, [], Bool, true, false, not, cond, List, Option, Some, None, add_assoc, add-zero, ap, arith, get_or, length, min, refl, set, slice_get, slice_index, subst, sym, ⊎_elim}
+use Rattle.std.proofs.lemmas.Bool.{cases_Bool, cases_eq}
+use Rattle.std.proofs.lemmas.List.{get_or_append_left, get_or_default, get_or_push, get_or-set_other, get_or-set_same, length_push}
+use Rattle.std.proofs.lemmas.Option.{none-some}
 use Rattle.std.specs.Option.{option_map_or}
 use Rattle.mds_types.specs.Problem.{no_row}
-use Rattle.mds_types.specs.Sums.{sum_below}
 use Rattle.mds_types.specs.declared.problem.ProblemRow.{ProblemRow}
 use Rattle.mds_types.proofs.SumsLemmas.{sum_below_more}
 use Rattle.ceph_snapshot.specs.declared.directory.Directory.{Directory}
 use Rattle.ceph_snapshot.specs.declared.held.Held.{Held}
 use Rattle.ceph_snapshot.specs.declared.held.Held.TheVariants.{Free, Pinned, Spread}
-use Rattle.ceph_snapshot.specs.Folding.{brought}
-use Rattle.ceph_snapshot.specs.Holding.{AreParentsFirst, heat_at, held_at, held_below, is_at, is_spread_at, most_heat, parent_at}
+use Rattle.ceph_snapshot.specs.Holding.{heat_at, held_at, held_below, is_at, is_spread_at, most_heat}
 use Rattle.ceph_snapshot.specs.Rows.{AreRowsOf, is_free, planned_row}
-use Rattle.ceph_snapshot.proofs.Keys.{values_more}
+
+-- one more value after those of the first n
+pub values_more : {A : Type 0} (none : A) (value : ℕ → A) (xs : List A) (x : A) (n : ℕ) → length xs ≡ n
+    → ((i : ℕ) → i < n → get_or xs i none ≡ value i) → x ≡ value n
+    → (i : ℕ) → i < n + 1 → get_or (xs ++ x ∷ []) i none ≡ value i
+values_more none value xs x n size before here i l =
+    ⊎_elim (λ (same : i ≡ n).
+    subst (λ (k : ℕ). get_or (xs ++ x ∷ []) k none ≡ value k) (sym same) (get_or_push xs x none n size ∙ here))
+    (λ (other : i ≢ n).
+    let inside : i < n = omega (arith, other, l) in
+    get_or_append_left xs (x ∷ []) none i (omega (arith, inside, size)) ∙ before i inside)
+    (cases_eq i n)
 
 pub rows-more : (ds : List Directory) (holds : List Held) (rows : List ProblemRow) (row : ProblemRow) (n : ℕ) → AreRowsOf ds holds n rows
     → row ≡ planned_row ds holds n → AreRowsOf ds holds (n + 1) (rows ++ row ∷ [])
@@ -42,53 +50,6 @@ held-row ds holds at d hold read inside is =
     (λ (spread : (rank : ℕ) × (get_or holds at hold ≡ Spread rank)). ap is_free (sym (get_or_default holds at hold Free inside) ∙ spread.1))
     is in
     rw (read, free) refl
-
--- what a directory has comes to its home
-pub brought-more : (amount home : ℕ → ℕ) (sums : List ℕ) (n at sum : ℕ) → length sums ≡ n → home at < n → sum ≡ slice_index sums (home at) + amount at
-    → ((there : ℕ) → there < n → slice_index sums there ≡ brought amount home at there)
-    → (there : ℕ) → there < n → slice_index (set sums (home at) sum) there ≡ brought amount home (at + 1) there
-brought-more amount home sums n at sum size inside is before there l =
-    let came : ℕ → ℕ = λ i. cond (eqb (home i) there) (amount i) 0 in
-    let more : sum_below (at + 1) came ≡ sum_below at came + came at = sum_below_more at came in
-    ⊎_elim (λ (same : there ≡ home at).
-    let own : eqb (home at) there ≡ true = eq-eqb (home at) there (sym same) in
-    let added : came at ≡ amount at = rw own refl in
-    ap (λ (k : ℕ). slice_index (set sums (home at) sum) k) same
-    ∙ (get_or-set_same sums (home at) sum 0 (subst (λ (m : ℕ). home at < m) (sym size) inside)
-    ∙ (is ∙ (ap (λ (k : ℕ). k + amount at) (ap (slice_index sums) (sym same) ∙ before there l)
-    ∙ (ap (λ (k : ℕ). sum_below at came + k) (sym added) ∙ sym more)))))
-    (λ (other : there ≢ home at).
-    let away : eqb (home at) there ≡ false = ne_eqb (home at) there (λ same. other (sym same)) in
-    let nothing : came at ≡ 0 = rw away refl in
-    get_or-set_other sums (home at) there sum 0 other
-    ∙ (before there l ∙ (sym (add-zero (sum_below at came)) ∙ (ap (λ (k : ℕ). sum_below at came + k) (sym nothing) ∙ sym more))))
-    (cases_eq there (home at))
-
-raised : (heats : List ℕ) (above sum k : ℕ) → above < length heats → slice_index heats above ≤ sum → slice_index heats k ≤ slice_index (set heats above sum) k
-raised heats above sum k inside le =
-    ⊎_elim (λ (same : k ≡ above).
-    let set_is : slice_index (set heats above sum) above ≡ sum = get_or-set_same heats above sum 0 inside in
-    subst (λ (j : ℕ). slice_index heats j ≤ slice_index (set heats above sum) j) (sym same) (subst (λ (s : ℕ). slice_index heats above ≤ s) (sym set_is) le))
-    (λ (other : k ≢ above). subst (λ (s : ℕ). slice_index heats k ≤ s) (sym (get_or-set_other heats above k sum 0 other)) (le_refl (slice_index heats k)))
-    (cases_eq k above)
-
--- a parent has what its child has, and what it had
-pub rise-more : (ds : List Directory) (heats : List ℕ) (at above sum : ℕ) → above < length heats → above ≡ parent_at ds at → above < at
-    → slice_index heats above ≤ sum → slice_index heats at ≤ sum
-    → ((i : ℕ) → 0 < i → at + 1 ≤ i → i < length ds → slice_index heats i ≤ slice_index heats (parent_at ds i))
-    → (i : ℕ) → 0 < i → at ≤ i → i < length ds → slice_index (set heats above sum) i ≤ slice_index (set heats above sum) (parent_at ds i)
-rise-more ds heats at above sum inside is up had child before i some low l =
-    let apart : i ≢ above = λ same. let none : ⊥ = omega (arith, same, up, low) in none in
-    let stays : slice_index (set heats above sum) i ≡ slice_index heats i = get_or-set_other heats above i sum 0 apart in
-    let rose : slice_index heats i ≤ slice_index (set heats above sum) (parent_at ds i) =
-    ⊎_elim (λ (same : i ≡ at).
-    let parent : slice_index (set heats above sum) (parent_at ds i) ≡ sum = ap (slice_index (set heats above sum)) (ap (parent_at ds) same ∙ sym is) ∙ get_or-set_same heats above sum 0 inside in
-    subst (λ (s : ℕ). slice_index heats i ≤ s) (sym parent) (subst (λ (k : ℕ). slice_index heats k ≤ sum) (sym same) child))
-    (λ (other : i ≢ at).
-    let later : at + 1 ≤ i = omega (arith, low, other) in
-    le_trans (before i some later l) (raised heats above sum (parent_at ds i) inside had))
-    (cases_eq i at) in
-    subst (λ (s : ℕ). s ≤ slice_index (set heats above sum) (parent_at ds i)) (sym stays) rose
 
 pub capped-add : (most a b : ℕ) → min most (min most a + b) ≡ min most (a + b)
 capped-add most a b = omega arith
@@ -155,10 +116,3 @@ before-inside i n later inside = (omega arith, omega arith)
 
 pub add-back : (i : ℕ) → 1 < i → (i - 1) + 1 ≡ i
 add-back i later = omega arith
-
--- the parent of the directory there, as it is read
-pub parent-inside : (ds : List Directory) (i : ℕ) (d : Directory) → AreParentsFirst ds → 1 < i → i ≤ length ds → (get_or ds (i - 1) d).parent < length ds
-parent-inside ds i d first later inside =
-    let at = before-inside i (length ds) later inside in
-    let read : slice_get ds (i - 1) ≡ Some (get_or ds (i - 1) d) = slice_get-get_or ds (i - 1) d at.1 in
-    subst (λ (o : Option Directory). option_map_or (λ (one : Directory). one.parent) o 0 < length ds) read (lt_trans (first.above (i - 1) at.0 at.1) at.1)

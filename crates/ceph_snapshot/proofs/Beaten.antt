@@ -7,8 +7,7 @@ use Rattle.std.proofs.lemmas.Option.{slice_get_cases, slice_get_past}
 use Rattle.ceph_dumps.specs.declared.listing.EphemeralPin.{EphemeralPin}
 use Rattle.ceph_dumps.specs.declared.listing.EphemeralPin.TheVariants.{Random}
 use Rattle.ceph_snapshot.specs.declared.directory.Directory.{Directory}
-use Rattle.ceph_snapshot.specs.Folding.{is_marked}
-use Rattle.ceph_snapshot.specs.Holding.{AreParentsFirst, is_kept_at, parent_at, pin_at}
+use Rattle.ceph_snapshot.specs.Holding.{AreParentsFirst, is_kept_at, is_marked, parent_at, pin_at}
 use Rattle.ceph_snapshot.specs.Policies.{KeepUnpinnable, HasBeaten, LeadsToRandom, IsAboveRandom, idle_at, kept_where, policy_at}
 
 slice_get_some : (ds : List Directory) (i : ℕ) → i < length ds → (d : Directory) × (slice_get ds i ≡ Some d)

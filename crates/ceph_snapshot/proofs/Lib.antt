@@ -1,12 +1,8 @@
 pub mod Adding
 pub mod Beaten
-pub mod Folds
-pub mod HeatBelow
 pub mod Holders
-pub mod Keys
 pub mod Lookups
 pub mod Numbers
 pub mod Owners
 pub mod Placing
 pub mod Sighted
-pub mod StillKept

@@ -7,7 +7,7 @@ use Rattle.std.proofs.lemmas.Option.{slice_get-map, slice_get_past}
 use Rattle.ceph_snapshot.specs.declared.directory.Directory.{Directory}
 use Rattle.ceph_snapshot.specs.declared.tree.Node.{Node}
 use Rattle.ceph_snapshot.specs.Authority.{LieAsClaimed, is_torn_above, placed_node, rank_above}
-use Rattle.ceph_snapshot.specs.Folding.{is_marked}
+use Rattle.ceph_snapshot.specs.Holding.{is_marked}
 use Rattle.ceph_snapshot.specs.Gathered.{PathPin, WhosePin, path_pin, path_pin_at, whose_pin, whose_pin_at}
 use Rattle.ceph_snapshot.specs.Policies.{kept_where}
 use Rattle.ceph_snapshot.specs.Sightings.{told, told_at}

@@ -98,3 +98,7 @@ held_below directories holds r n =
 -- the greatest number of 64 bits
 abbrev pub most_heat : ℕ
 most_heat = 2 ^ 64 - 1
+
+-- whether directory i is marked in a list
+abbrev pub is_marked : List Bool → ℕ → Bool
+is_marked marks i = slice_index_or marks i false

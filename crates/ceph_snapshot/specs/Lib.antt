@@ -1,9 +1,6 @@
-pub mod Amounts
 pub mod Authority
-pub mod Folding
 pub mod Gathered
 pub mod Holding
-pub mod Keys
 pub mod Names
 pub mod Policies
 pub mod Rows

@@ -2,8 +2,8 @@
 //! A directory is held by the nearest pin at or above it that this program didn't set.
 //! What is spread, or may not be pinned, is held where it lies, and so is what is below it.
 ghost use Rattle.std.specs.Prelude.{◌≡◌, ◌<◌, ◌+◌, ◌↔◌, ℕ, Some, false, length, min, slice_index, true, IfOk};
-ghost use Rattle.ceph_snapshot.specs.Holding.{AreParentsFirst, IsHeld, held_at, held_below};
-ghost use Rattle.ceph_snapshot.specs.Holding.{hold_below, is_at, most_heat};
+ghost use Rattle.ceph_snapshot.specs.Holding.{AreParentsFirst, IsHeld, held_at};
+ghost use Rattle.ceph_snapshot.specs.Holding.{held_below, hold_below, is_at, most_heat};
 
 use crate::directory::Directory;
 use mds_types::Rank;

@@ -1,10 +1,7 @@
 //! One picture of a live CephFS from its ranks' dumps: directories with heat and inodes, where each is, what pins it.
 #![tactic(auto)]
 
-mod amounts;
-mod coldest;
 pub mod directory;
-pub mod folding;
 pub mod gathering;
 pub mod held;
 mod names;
@@ -16,7 +13,6 @@ mod tree;
 
 pub use ceph_dumps::EphemeralPin;
 pub use directory::Directory;
-pub use folding::fold;
 pub use gathering::Gathering;
 pub use held::{Held, held_heat, holds};
 pub use rows::{free_heats, rows_of};

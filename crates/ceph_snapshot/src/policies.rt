@@ -3,9 +3,8 @@ ghost use Rattle.std.specs.Prelude.{◌≡◌, ◌==◌, ◌<◌, ◌&&◌, ◌|
 ghost use Rattle.std.specs.Prelude.{ℕ, None, Some, length, true, IfOk, OnOk, slice_get};
 ghost use Rattle.std.specs.Option.{option_map};
 ghost use Rattle.ceph_dumps.specs.declared.listing.EphemeralPin.TheVariants.{Random};
-ghost use Rattle.ceph_snapshot.specs.Folding.{is_marked};
+ghost use Rattle.ceph_snapshot.specs.Holding.{AreParentsFirst, is_marked};
 ghost use Rattle.ceph_snapshot.specs.Gathered.{whose_pin_at};
-ghost use Rattle.ceph_snapshot.specs.Holding.{AreParentsFirst};
 ghost use Rattle.ceph_snapshot.specs.Policies.{KeepUnpinnable, HasBeaten, kept_where};
 ghost use Rattle.ceph_snapshot.specs.Sightings.{place_of, told};
 

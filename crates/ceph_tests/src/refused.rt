@@ -3,8 +3,9 @@
 use crate::same::{holds_in, same};
 use ceph_dumps::{DumpError, read_listing, read_loads, read_subtrees};
 use ceph_plan::{OwnPins, PartCount, PlanError, Proposal, Wanted, propose};
+use ceph_folding::fold;
 use ceph_snapshot::{
-    Directory, Gathering, Held, Snapshot, SnapshotError, fold, held_heat, holds, rows_of,
+    Directory, Gathering, Held, Snapshot, SnapshotError, held_heat, holds, rows_of,
 };
 use mds_types::{ProblemRow, Rank, RankSet};
 use std::alloc::{AllocError, AllocFailed, Global};

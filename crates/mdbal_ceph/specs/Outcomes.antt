@@ -7,7 +7,7 @@ use Rattle.ceph_distributed.specs.declared.spread.Advice.{Advice}
 use Rattle.ceph_distributed.specs.Spreads.{IsAdvised}
 use Rattle.ceph_snapshot.specs.declared.directory.Directory.{Directory}
 use Rattle.ceph_snapshot.specs.declared.held.Held.{Held}
-use Rattle.ceph_snapshot.specs.Folding.{IsFolded}
+use Rattle.ceph_folding.specs.Folding.{IsFolded}
 use Rattle.ceph_snapshot.specs.Holding.{AreParentsFirst, IsHeld, held_at, held_below, is_holding, most_heat}
 use Rattle.ceph_snapshot.specs.Policies.{KeepUnpinnable, StillKeepUnpinnable}
 use Rattle.ceph_snapshot.specs.Rows.{AreRowsOf, free_heat}

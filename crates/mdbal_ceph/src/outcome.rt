@@ -1,7 +1,7 @@
 //! Plans what was collected.
 ghost use Rattle.std.specs.Prelude.{◌≡◌, ◌≤◌, ◌+◌, IfOk, IsOkAnd, length, min, string_bytes};
 ghost use Rattle.std.specs.Option.{option_map};
-ghost use Rattle.ceph_snapshot.specs.Folding.{IsFolded};
+ghost use Rattle.ceph_folding.specs.Folding.{IsFolded};
 ghost use Rattle.ceph_snapshot.specs.Policies.{KeepUnpinnable, StillKeepUnpinnable};
 ghost use Rattle.mdbal_ceph.specs.Options.{wanted_by};
 ghost use Rattle.mdbal_ceph.specs.Outcomes.{AreFreeHeats, IsDecision, IsOutcome};
@@ -16,7 +16,8 @@ use ceph_dumps::{FileSystem, FileSystemRanks};
 use ceph_pins::own_pins;
 use ceph_plan::{Proposal, Wanted, heats_bound, propose};
 use ceph_report::{HottestDirectory, Sums, goals_of, hottest_of, sums_of};
-use ceph_snapshot::{Directory, Held, SnapshotError, fold, free_heats, held_heat, holds, rows_of};
+use ceph_folding::fold;
+use ceph_snapshot::{Directory, Held, SnapshotError, free_heats, held_heat, holds, rows_of};
 use mds_types::limits::DIR_LIMIT;
 use mds_types::{Rank, RankSet};
 use std::alloc::{AllocError, Global};

@@ -1,6 +1,6 @@
 use Rattle.std.proofs.Common.{◌≡◌, ◌<◌, ℕ, length, take}
 use Rattle.ceph_pins.specs.Standing.{is_changed}
-use Rattle.ceph_snapshot.specs.Folding.{is_marked}
+use Rattle.ceph_snapshot.specs.Holding.{is_marked}
 use Rattle.ceph_pins.proofs.pins.changed_rows.Given as goal
 
 abbrev pub invariant-loop-change : goal.invariant-loop-change

@@ -4,8 +4,7 @@ use Rattle.std.proofs.lemmas.List.{get_or_read}
 use Rattle.std.proofs.lemmas.Option.{slice_get_read}
 use Rattle.ceph_dumps.specs.declared.listing.EphemeralPin.TheVariants.{Random}
 use Rattle.ceph_snapshot.specs.declared.directory.Directory.{Directory}
-use Rattle.ceph_snapshot.specs.Folding.{is_marked}
-use Rattle.ceph_snapshot.specs.Holding.{parent_at, pin_at}
+use Rattle.ceph_snapshot.specs.Holding.{is_marked, parent_at, pin_at}
 use Rattle.ceph_snapshot.specs.Policies.{HasBeaten, policy_at}
 use Rattle.ceph_snapshot.proofs.Adding.{add-back, before-inside}
 use Rattle.ceph_snapshot.proofs.Beaten.{beaten_more, so_read}

@@ -1,6 +1,5 @@
 use Rattle.std.proofs.Common.{◌≡◌, ◌<◌, ◌↔◌, ℕ, true, length}
-use Rattle.ceph_snapshot.specs.Folding.{is_marked}
-use Rattle.ceph_snapshot.specs.Holding.{AreParentsFirst}
+use Rattle.ceph_snapshot.specs.Holding.{AreParentsFirst, is_marked}
 use Rattle.ceph_snapshot.specs.Policies.{HasBeaten}
 use Rattle.ceph_snapshot.proofs.policies.above_random.Given as goal
 

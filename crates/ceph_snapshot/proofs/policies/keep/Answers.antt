@@ -1,8 +1,7 @@
 use Rattle.std.proofs.Common.{◌≡◌, ◌<◌, ◌↔◌, ℕ, Bool, List, true, length, slice_get, subst}
 use Rattle.std.specs.Option.{option_map}
 use Rattle.ceph_snapshot.specs.declared.directory.Directory.{Directory}
-use Rattle.ceph_snapshot.specs.Folding.{is_marked}
-use Rattle.ceph_snapshot.specs.Holding.{AreParentsFirst}
+use Rattle.ceph_snapshot.specs.Holding.{AreParentsFirst, is_marked}
 use Rattle.ceph_snapshot.specs.Policies.{HasBeaten, kept_where}
 use Rattle.ceph_snapshot.proofs.Beaten.{are_kept}
 use Rattle.ceph_snapshot.proofs.Owners.{owner_kept}

@@ -1,6 +1,6 @@
 use Rattle.std.proofs.Common.{◌≡◌, ◌<◌, ◌≤◌, ℕ, length, slice_get}
 use Rattle.std.specs.Option.{option_map}
-use Rattle.ceph_snapshot.specs.Folding.{is_marked}
+use Rattle.ceph_snapshot.specs.Holding.{is_marked}
 use Rattle.ceph_snapshot.specs.Policies.{kept_where}
 use Rattle.ceph_snapshot.proofs.policies.mark_kept.Given as goal
 

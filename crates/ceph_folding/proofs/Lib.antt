@@ -1,0 +1,4 @@
+pub mod Folds
+pub mod HeatBelow
+pub mod Keys
+pub mod StillKept

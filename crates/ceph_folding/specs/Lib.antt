@@ -1,0 +1,3 @@
+pub mod Amounts
+pub mod Folding
+pub mod Keys
