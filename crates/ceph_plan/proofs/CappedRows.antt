@@ -1,13 +1,13 @@
 -- A division of rows that are capped is one of the rows.
-use Rattle.std.proofs.Common.{◌≡◌, ◌∙◌, ◌<◌, ◌≤◌, ℕ, zero, suc, List, [], ◌∷◌, length, slice_index, ap, refl, sym, subst, inl, inr, ⊎_elim, arith}
+use Rattle.std.proofs.Common.{◌≡◌, ◌∙◌, ◌<◌, ◌≤◌, ℕ, zero, suc, List, [], ◌∷◌, length, ap, refl, sym, subst, inl, inr, ⊎_elim, arith}
 use Rattle.mds_types.specs.declared.problem.ProblemRow.{ProblemRow}
 use Rattle.mds_types.specs.Connected.{IsChain}
 use Rattle.mds_types.specs.Division.{InPart, IsDivision, IsEdge}
 use Rattle.mds_types.specs.Problem.{IsForest, heat_at, parent_at}
 use Rattle.minmax_search.specs.Found.{IsFound}
 use Rattle.minmax_search.specs.declared.found.BestCut.{BestCut}
-use Rattle.std.proofs.Math.Nat.{le_trans}
 use Rattle.std.proofs.lemmas.List.{length-map}
+use Rattle.ceph_plan.specs.Packing.{HaveParts}
 use Rattle.ceph_plan.specs.Plans.{capped_row, capped_rows}
 
 -- the first n rows have the parents of these rows, and there are no more
@@ -60,20 +60,14 @@ pub found-capped : (rows those : List ProblemRow) (cap parts : ℕ) (best : Best
     → IsFound (capped_rows cap rows) parts best
 found-capped rows those cap parts best is found = subst (λ (some : List ProblemRow). IsFound some parts best) is found
 
--- each row has one of these parts
-pub record AreParts (rows : List ProblemRow) (part : List ℕ) (count : ℕ) : Type 0 where
-  pub few : count ≤ 65536
-  pub size : length part ≡ length rows
-  pub below : (i : ℕ) → i < length rows → slice_index part i < count
-
-pub parts-found : (rows those : List ProblemRow) (cap parts : ℕ) (best : BestCut) (part : List ℕ) → part ≡ best.cut.part.items → parts ≤ 65536
-    → those ≡ capped_rows cap rows → IsFound those parts best → AreParts rows part best.cut.count
-parts-found rows those cap parts best part is few capped those_found =
+pub parts-found : (rows those : List ProblemRow) (cap parts : ℕ) (best : BestCut) (part : List ℕ) → part ≡ best.cut.part.items → IsForest rows
+    → those ≡ capped_rows cap rows → IsFound those parts best → HaveParts rows part best.cut.count
+parts-found rows those cap parts best part is forest capped those_found =
     let found : IsFound (capped_rows cap rows) parts best = found-capped rows those cap parts best capped those_found in
     let same : length (capped_rows cap rows) ≡ length rows = length-map rows (capped_row cap) in
-    subst (λ (some : List ℕ). AreParts rows some best.cut.count) (sym is)
+    subst (λ (some : List ℕ). HaveParts rows some best.cut.count) (sym is)
     (record {
-      few = le_trans found.few few;
+      forest = forest;
       size = found.cut.size ∙ same;
       below = λ i lt. found.cut.parts.division.below i (subst (λ (n : ℕ). i < n) (sym same) lt);
     })

@@ -3,11 +3,10 @@ use Rattle.std.proofs.Common.{◌≡◌, ◌≢◌, ℕ, ◌+◌, ◌<◌, ◌�
 use Rattle.std.proofs.lemmas.Bool.{cases_eq, cases_lt, cases_Bool}
 use Rattle.std.proofs.lemmas.List.{get_or_append_left, get_or_push, get_or_read}
 use Rattle.ceph_plan.specs.declared.row.PinRow.{PinRow}
-use Rattle.ceph_plan.specs.declared.row.Pin.{Pin}
 use Rattle.ceph_plan.specs.declared.hold.Hold.{Hold}
 use Rattle.ceph_plan.specs.declared.hold.Hold.TheVariants.{Free}
-use Rattle.ceph_plan.specs.Rule.{AreRows, IsAt, IsChoice, IsNearest, IsOurs, IsOursPinned, IsRealized, IsSettled, climb, foreign_at, no_row, own_pin, parent_at, pin_at, pin_index, row_at, row_index, target_at, without}
-use Rattle.ceph_plan.specs.Holds.{AreHolds, hold_at, hold_of, is_own, pins_below}
+use Rattle.ceph_plan.specs.Rule.{ArePinsFor, AreRows, IsAt, IsOurs, IsOursPinned, no_row, own_pin, parent_at, pin_at, row_at, row_index, target_at, without}
+use Rattle.ceph_plan.specs.Holds.{AreHolds, HoldEach, hold_at, hold_of, is_own, pins_below}
 use Rattle.ceph_plan.proofs.Climbs.{climb-le}
 use Rattle.ceph_plan.proofs.PinList.{each_pin, falling, pin_at-below, pin_at-past, row-below}
 use Rattle.ceph_plan.proofs.Held.{IsHeld, IsOwnBy, own_below, own_by, own_held, own_inside}
@@ -15,22 +14,9 @@ use Rattle.ceph_plan.proofs.Held as held
 use Rattle.ceph_plan.proofs.Least as least_of
 use Rattle.ceph_plan.specs.declared.hold.Hold.TheVariants.{Own}
 
--- the pins that were gathered from the holds that were found
-pub record AreFound (rows : List PinRow) (holds : List Hold) (pins : List Pin) : Type 0 where
-  pub are : AreRows rows
-  pub holds_are : AreHolds rows holds (length rows)
-  pub size : length holds ≡ length rows
-  pub pins_are : pins ≡ pins_below rows holds (length rows)
-
-by_own : (rows : List PinRow) (holds : List Hold) (pins : List Pin) → AreFound rows holds pins → IsOwnBy rows holds (own_pin rows pins)
-by_own rows holds pins f =
-    subst (λ (ps : List Pin). IsOwnBy rows holds (own_pin rows ps)) (sym f.pins_are) (own_by rows holds f.size)
-
-pub realized : (rows : List PinRow) (holds : List Hold) (pins : List Pin) → AreFound rows holds pins → IsRealized rows (own_pin rows pins)
-realized rows holds pins f i ours = held.realized rows holds (own_pin rows pins) f.are f.holds_are (by_own rows holds pins f) i ours
-
-pub kept : (rows : List PinRow) (holds : List Hold) (pins : List Pin) → AreFound rows holds pins → (i r : ℕ) → IsNearest rows (foreign_at rows) i r → IsNearest rows (own_pin rows pins) i r
-kept rows holds pins f i r near = held.kept rows holds (own_pin rows pins) f.are f.holds_are f.size (by_own rows holds pins f) i r near
+-- the rows' own pins once the new ones are set
+abbrev pub new_pin : List PinRow → List Hold → ℕ → Option ℕ
+new_pin rows holds = own_pin rows (pins_below rows holds (length rows))
 
 new_own : (rows : List PinRow) (holds : List Hold) (n i : ℕ) → pin_at (pins_below rows holds n) i ≢ None → is_own (hold_at holds i) ≡ true
 new_own rows holds n i some =
@@ -41,42 +27,40 @@ new_own rows holds n i some =
     (cases_lt i n))
     (cases_Bool (is_own (hold_at holds i)))
 
-own_of : (rows : List PinRow) (holds : List Hold) (pins : List Pin) (i : ℕ) → AreFound rows holds pins → pin_at pins i ≢ None → is_own (hold_at holds i) ≡ true
-own_of rows holds pins i f some =
-    new_own rows holds (length rows) i (subst (λ (ps : List Pin). pin_at ps i ≢ None) f.pins_are some)
+ours_here : (rows : List PinRow) (holds : List Hold) (i : ℕ) → HoldEach rows holds → is_own (hold_at holds i) ≡ true → IsOurs rows i
+ours_here rows holds i are is =
+    let here : IsHeld rows (new_pin rows holds) i Own = own_held rows holds (new_pin rows holds) i are (own_by rows holds are) is in
+    record { inside = own_inside rows holds i are is; free = here.0 }
 
-ours_here : (rows : List PinRow) (holds : List Hold) (pins : List Pin) (i : ℕ) → AreFound rows holds pins → is_own (hold_at holds i) ≡ true → IsOurs rows i
-ours_here rows holds pins i f is =
-    let here : IsHeld rows (own_pin rows pins) i Own = own_held rows holds (own_pin rows pins) i f.are f.holds_are f.size (by_own rows holds pins f) is in
-    record { inside = own_inside rows holds i f.size is; free = here.0 }
+pub needed : (rows : List PinRow) (holds : List Hold) (i : ℕ) → HoldEach rows holds → pin_at (pins_below rows holds (length rows)) i ≢ None
+    → IsAt rows (without i (new_pin rows holds)) i (target_at rows i) → ⊥
+needed rows holds i are some there =
+    let is : is_own (hold_at holds i) ≡ true = new_own rows holds (length rows) i some in
+    let here : IsHeld rows (new_pin rows holds) i Own = own_held rows holds (new_pin rows holds) i are (own_by rows holds are) is in
+    least_of.needed rows (new_pin rows holds) i are.are (own_below rows holds i are is) (own_inside rows holds i are is) here.2 there
 
-pub ours : (rows : List PinRow) (holds : List Hold) (pins : List Pin) → AreFound rows holds pins → (p : ℕ) → p < length pins → IsOursPinned rows (pin_index pins p)
-ours rows holds pins f = subst (λ (ps : List Pin). (p : ℕ) → p < length ps → IsOursPinned rows (pin_index ps p)) (sym f.pins_are)
-    (λ p l. each_pin rows holds (IsOursPinned rows) (length rows) (λ i le is. record {
-      below = own_below rows holds i f.holds_are f.size is;
-      ours = ours_here rows holds pins i f is;
-      target = refl;
-    }) p l)
-
-pub needed : (rows : List PinRow) (holds : List Hold) (pins : List Pin) → AreFound rows holds pins → (i : ℕ) → pin_at pins i ≢ None → IsAt rows (without i (own_pin rows pins)) i (target_at rows i) → ⊥
-needed rows holds pins f i some there =
-    let is : is_own (hold_at holds i) ≡ true = own_of rows holds pins i f some in
-    let here : IsHeld rows (own_pin rows pins) i Own = own_held rows holds (own_pin rows pins) i f.are f.holds_are f.size (by_own rows holds pins f) is in
-    least_of.needed rows (own_pin rows pins) i f.are (own_below rows holds i f.holds_are f.size is) (own_inside rows holds i f.size is) here.2 there
-
-pub least : (rows : List PinRow) (holds : List Hold) (pins : List Pin) → AreFound rows holds pins → IsSettled rows → (other : ℕ → Option ℕ) → IsChoice rows other → IsRealized rows other → (i : ℕ) → pin_at pins i ≢ None → other i ≢ None
-least rows holds pins f settled other choice real i some none =
-    let is : is_own (hold_at holds i) ≡ true = own_of rows holds pins i f some in
-    let here : IsHeld rows (own_pin rows pins) i Own = own_held rows holds (own_pin rows pins) i f.are f.holds_are f.size (by_own rows holds pins f) is in
-    least_of.least rows (own_pin rows pins) other i f.are settled choice real (own_below rows holds i f.holds_are f.size is) (ours_here rows holds pins i f is) here.2 none
-
-pub order : (rows : List PinRow) (holds : List Hold) (pins : List Pin) → AreFound rows holds pins → (p q steps : ℕ) → p < q → q < length pins → climb rows steps (row_index pins q) ≢ row_index pins p
-order rows holds pins f = subst (λ (ps : List Pin). (p q steps : ℕ) → p < q → q < length ps → climb rows steps (row_index ps q) ≢ row_index ps p) (sym f.pins_are)
-    (λ p q steps less l same.
-    let fall = falling rows holds (length rows) p q less l in
-    let inside = row-below rows holds (length rows) q l in
-    let low = climb-le rows steps (row_index (pins_below rows holds (length rows)) q) f.are inside in
-    omega (arith, fall, low, same))
+pub pins_found : (rows : List PinRow) (holds : List Hold) → HoldEach rows holds → ArePinsFor rows (pins_below rows holds (length rows))
+pins_found rows holds are =
+    let by : IsOwnBy rows holds (new_pin rows holds) = own_by rows holds are in
+    record {
+      realized = held.realized rows holds (new_pin rows holds) are by;
+      kept = held.kept rows holds (new_pin rows holds) are by;
+      ours = each_pin rows holds (IsOursPinned rows) (length rows) (λ i le is. record {
+        below = own_below rows holds i are is;
+        ours = ours_here rows holds i are is;
+        target = refl;
+      });
+      needed = λ i some there. needed rows holds i are some there;
+      least = λ settled other choice real i some none.
+          let is : is_own (hold_at holds i) ≡ true = new_own rows holds (length rows) i some in
+          let here : IsHeld rows (new_pin rows holds) i Own = own_held rows holds (new_pin rows holds) i are by is in
+          least_of.least rows (new_pin rows holds) other i are.are settled choice real (own_below rows holds i are is) (ours_here rows holds i are is) here.2 none;
+      order = λ p q steps less l same.
+          let fall = falling rows holds (length rows) p q less l in
+          let inside = row-below rows holds (length rows) q l in
+          let low = climb-le rows steps (row_index (pins_below rows holds (length rows)) q) are.are inside in
+          omega (arith, fall, low, same);
+    }
 
 pub hold_more : (rows : List PinRow) (holds : List Hold) (h : Hold) (i : ℕ) → length holds ≡ i → AreRows rows → AreHolds rows holds i → i < length rows → (i ≡ 0 → h ≡ Free) → (0 < i → h ≡ hold_of (row_at rows i) (row_at rows (parent_at rows i)) (hold_at holds (parent_at rows i))) → AreHolds rows (holds ++ h ∷ []) (i + 1)
 hold_more rows holds h i size are so_far l root below =

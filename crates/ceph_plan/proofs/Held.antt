@@ -7,7 +7,7 @@ use Rattle.ceph_plan.specs.declared.row.PinRow.{PinRow}
 use Rattle.ceph_plan.specs.declared.hold.Hold.{Hold}
 use Rattle.ceph_plan.specs.declared.hold.Hold.TheVariants.{Foreign, Free, Own, Above}
 use Rattle.ceph_plan.specs.Rule.{AreRows, IsAt, IsFree, IsNearest, IsOurs, climb, first_of, foreign_at, own_pin, parent_at, pin_at, rest_at, row_at, target_at}
-use Rattle.ceph_plan.specs.Holds.{AreHolds, hold_at, hold_below, hold_of, is_own, pins_below, rests_at}
+use Rattle.ceph_plan.specs.Holds.{HoldEach, hold_at, hold_below, hold_of, is_own, pins_below, rests_at}
 use Rattle.ceph_plan.proofs.Climbs.{climb-root, climb-add, free_below, nearest_below, nearest_own, some_none}
 use Rattle.ceph_plan.proofs.PinList.{pin_at-below, pin_at-past}
 
@@ -24,13 +24,13 @@ first_none : (a b : Option ℕ) → a ≡ None → first_of a b ≡ b
 first_none None b e = refl
 first_none (Some x) b e = absurd (some_none (Some x) x refl e)
 
-pub own_by : (rows : List PinRow) (holds : List Hold) → length holds ≡ length rows → IsOwnBy rows holds (own_pin rows (pins_below rows holds (length rows)))
-own_by rows holds size = record {
+pub own_by : (rows : List PinRow) (holds : List Hold) → HoldEach rows holds → IsOwnBy rows holds (own_pin rows (pins_below rows holds (length rows)))
+own_by rows holds are = record {
   foreign = λ i r e. first_some (foreign_at rows i) (pin_at (pins_below rows holds (length rows)) i) r e;
   mine = λ i e. first_none (foreign_at rows i) (pin_at (pins_below rows holds (length rows)) i) e
       ∙ ⊎_elim (λ (inside : i < length rows). pin_at-below rows holds (length rows) i inside)
       (λ (past : length rows ≤ i).
-      let none : hold_at holds i ≡ Free = get_or_past holds i Free (omega (arith, size, past)) in
+      let none : hold_at holds i ≡ Free = get_or_past holds i Free (omega (arith, are.size, past)) in
       rw none (pin_at-past rows holds (length rows) i past))
       (cases_lt i (length rows));
 }
@@ -47,7 +47,7 @@ IsHeld rows own i Free = IsFree rows (foreign_at rows) i × IsFree rows own i ×
 IsHeld rows own i Own = IsFree rows (foreign_at rows) i × (own i ≡ Some (target_at rows i)) × IsForced rows own i
 IsHeld rows own i Above = IsFree rows (foreign_at rows) i × IsNearest rows own i (target_at rows i) × (own i ≡ None)
 
-rests_is : (o : Option ℕ) (t : ℕ) → rests_at o t ≡ true → o ≡ Some t
+pub rests_is : (o : Option ℕ) (t : ℕ) → rests_at o t ≡ true → o ≡ Some t
 rests_is None t e = absurd (both_ways false refl e)
 rests_is (Some r) t e = ap (λ (x : ℕ). Some x) (eqb-true r t e)
 
@@ -70,7 +70,7 @@ step rows own i Above rests true free held here r s =
 step rows own i Above rests false free held here r s =
     (free_below rows (foreign_at rows) i free held.0, here, record { reason = inr (held.1, s) })
 
-some_or_none : (o : Option ℕ) → ((r : ℕ) × (o ≡ Some r)) ⊎ (o ≡ None)
+pub some_or_none : (o : Option ℕ) → ((r : ℕ) × (o ≡ Some r)) ⊎ (o ≡ None)
 some_or_none None = inr refl
 some_or_none (Some r) = inl (r, refl)
 
@@ -96,18 +96,18 @@ below_root rows holds own i by is held =
     (by.mine i none ∙ ap (λ (h : Hold). cond (is_own h) (Some (target_at rows i)) None) hold) refl refl))
     (some_or_none (foreign_at rows i))
 
-up_to : (rows : List PinRow) (holds : List Hold) (own : ℕ → Option ℕ) → AreRows rows → AreHolds rows holds (length rows) → IsOwnBy rows holds own → (n i : ℕ) → i < n → i < length rows → IsHeld rows own i (hold_at holds i)
-up_to rows holds own are holds_are by zero i less l = let none : ⊥ = omega (arith, less) in absurd none
-up_to rows holds own are holds_are by (suc n) zero less l =
-    let root : hold_at holds 0 ≡ Free = holds_are.root l in
-    subst (λ (h : Hold). IsHeld rows own 0 h) (sym root) (at_root rows holds own are by root l)
-up_to rows holds own are holds_are by (suc n) (suc i) less l =
-    let up : parent_at rows (suc i) < suc i = are.above (suc i) (omega arith) l in
-    below_root rows holds own (suc i) by (holds_are.below (suc i) (omega arith) l)
-    (up_to rows holds own are holds_are by n (parent_at rows (suc i)) (omega (arith, up, less)) (omega (arith, up, l)))
+up_to : (rows : List PinRow) (holds : List Hold) (own : ℕ → Option ℕ) → HoldEach rows holds → IsOwnBy rows holds own → (n i : ℕ) → i < n → i < length rows → IsHeld rows own i (hold_at holds i)
+up_to rows holds own are by zero i less l = let none : ⊥ = omega (arith, less) in absurd none
+up_to rows holds own are by (suc n) zero less l =
+    let root : hold_at holds 0 ≡ Free = are.each.root l in
+    subst (λ (h : Hold). IsHeld rows own 0 h) (sym root) (at_root rows holds own are.are by root l)
+up_to rows holds own are by (suc n) (suc i) less l =
+    let up : parent_at rows (suc i) < suc i = are.are.above (suc i) (omega arith) l in
+    below_root rows holds own (suc i) by (are.each.below (suc i) (omega arith) l)
+    (up_to rows holds own are by n (parent_at rows (suc i)) (omega (arith, up, less)) (omega (arith, up, l)))
 
-pub held : (rows : List PinRow) (holds : List Hold) (own : ℕ → Option ℕ) → AreRows rows → AreHolds rows holds (length rows) → IsOwnBy rows holds own → (i : ℕ) → i < length rows → IsHeld rows own i (hold_at holds i)
-held rows holds own are holds_are by i l = up_to rows holds own are holds_are by (suc i) i (omega arith) l
+pub held : (rows : List PinRow) (holds : List Hold) (own : ℕ → Option ℕ) → HoldEach rows holds → IsOwnBy rows holds own → (i : ℕ) → i < length rows → IsHeld rows own i (hold_at holds i)
+held rows holds own are by i l = up_to rows holds own are by (suc i) i (omega arith) l
 
 at_target : (rows : List PinRow) (own : ℕ → Option ℕ) (i : ℕ) (h : Hold) → IsOurs rows i → IsHeld rows own i h → IsAt rows own i (target_at rows i)
 at_target rows own i Foreign ours held = absurd (some_none (foreign_at rows (climb rows held.0 i)) held.1.0 held.1.1 (ours.free.none held.0))
@@ -115,9 +115,9 @@ at_target rows own i Free ours held = inr (held.1, held.2)
 at_target rows own i Own ours held = inl (nearest_own rows own i (target_at rows i) held.1)
 at_target rows own i Above ours held = inl held.1
 
-pub realized : (rows : List PinRow) (holds : List Hold) (own : ℕ → Option ℕ) → AreRows rows → AreHolds rows holds (length rows) → IsOwnBy rows holds own → (i : ℕ) → IsOurs rows i → IsAt rows own i (target_at rows i)
-realized rows holds own are holds_are by i ours =
-    at_target rows own i (hold_at holds i) ours (held rows holds own are holds_are by i ours.inside)
+pub realized : (rows : List PinRow) (holds : List Hold) (own : ℕ → Option ℕ) → HoldEach rows holds → IsOwnBy rows holds own → (i : ℕ) → IsOurs rows i → IsAt rows own i (target_at rows i)
+realized rows holds own are by i ours =
+    at_target rows own i (hold_at holds i) ours (held rows holds own are by i ours.inside)
 
 own_hold : (h : Hold) → is_own h ≡ true → h ≡ Own
 own_hold Foreign e = absurd (both_ways false refl e)
@@ -126,41 +126,41 @@ own_hold Own e = refl
 own_hold Above e = absurd (both_ways false refl e)
 
 -- a row with a new pin is within the rows, and why it has one
-pub own_inside : (rows : List PinRow) (holds : List Hold) (i : ℕ) → length holds ≡ length rows → is_own (hold_at holds i) ≡ true → i < length rows
-own_inside rows holds i size is =
+pub own_inside : (rows : List PinRow) (holds : List Hold) (i : ℕ) → HoldEach rows holds → is_own (hold_at holds i) ≡ true → i < length rows
+own_inside rows holds i are is =
     ⊎_elim (λ (inside : i < length rows). inside)
     (λ (past : length rows ≤ i).
-    let none : hold_at holds i ≡ Free = get_or_past holds i Free (omega (arith, size, past)) in
+    let none : hold_at holds i ≡ Free = get_or_past holds i Free (omega (arith, are.size, past)) in
     absurd (both_ways (is_own (hold_at holds i)) (ap is_own none) is))
     (cases_lt i (length rows))
 
-pub own_held : (rows : List PinRow) (holds : List Hold) (own : ℕ → Option ℕ) (i : ℕ) → AreRows rows → AreHolds rows holds (length rows) → length holds ≡ length rows → IsOwnBy rows holds own → is_own (hold_at holds i) ≡ true → IsHeld rows own i Own
-own_held rows holds own i are holds_are size by is =
+pub own_held : (rows : List PinRow) (holds : List Hold) (own : ℕ → Option ℕ) (i : ℕ) → HoldEach rows holds → IsOwnBy rows holds own → is_own (hold_at holds i) ≡ true → IsHeld rows own i Own
+own_held rows holds own i are by is =
     subst (λ (h : Hold). IsHeld rows own i h) (own_hold (hold_at holds i) is)
-    (held rows holds own are holds_are by i (own_inside rows holds i size is))
+    (held rows holds own are by i (own_inside rows holds i are is))
 
 -- the root has no new pin
-pub own_below : (rows : List PinRow) (holds : List Hold) (i : ℕ) → AreHolds rows holds (length rows) → length holds ≡ length rows → is_own (hold_at holds i) ≡ true → 0 < i
-own_below rows holds zero holds_are size is =
-    absurd (both_ways (is_own (hold_at holds 0)) (ap is_own (holds_are.root (own_inside rows holds 0 size is))) is)
-own_below rows holds (suc i) holds_are size is = omega arith
+pub own_below : (rows : List PinRow) (holds : List Hold) (i : ℕ) → HoldEach rows holds → is_own (hold_at holds i) ≡ true → 0 < i
+own_below rows holds zero are is =
+    absurd (both_ways (is_own (hold_at holds 0)) (ap is_own (are.each.root (own_inside rows holds 0 are is))) is)
+own_below rows holds (suc i) are is = omega arith
 
 -- foreign pins hold what they held
-no_own : (rows : List PinRow) (holds : List Hold) (own : ℕ → Option ℕ) (i : ℕ) → AreRows rows → AreHolds rows holds (length rows) → length holds ≡ length rows → IsOwnBy rows holds own → (n r : ℕ) → foreign_at rows (climb rows n i) ≡ Some r → foreign_at rows i ≡ None → own i ≡ None
-no_own rows holds own i are holds_are size by n r above here =
+no_own : (rows : List PinRow) (holds : List Hold) (own : ℕ → Option ℕ) (i : ℕ) → HoldEach rows holds → IsOwnBy rows holds own → (n r : ℕ) → foreign_at rows (climb rows n i) ≡ Some r → foreign_at rows i ≡ None → own i ≡ None
+no_own rows holds own i are by n r above here =
     ⊎_elim (λ (is : is_own (hold_at holds i) ≡ true).
-    let held_by : IsHeld rows own i Own = own_held rows holds own i are holds_are size by is in
+    let held_by : IsHeld rows own i Own = own_held rows holds own i are by is in
     absurd (some_none (foreign_at rows (climb rows n i)) r above (held_by.0.none n)))
     (λ (is : is_own (hold_at holds i) ≡ false). by.mine i here ∙ (rw is refl))
     (cases_Bool (is_own (hold_at holds i)))
 
-pub kept : (rows : List PinRow) (holds : List Hold) (own : ℕ → Option ℕ) → AreRows rows → AreHolds rows holds (length rows) → length holds ≡ length rows → IsOwnBy rows holds own → (i r : ℕ) → IsNearest rows (foreign_at rows) i r → IsNearest rows own i r
-kept rows holds own are holds_are size by i r near = record {
+pub kept : (rows : List PinRow) (holds : List Hold) (own : ℕ → Option ℕ) → HoldEach rows holds → IsOwnBy rows holds own → (i r : ℕ) → IsNearest rows (foreign_at rows) i r → IsNearest rows own i r
+kept rows holds own are by i r near = record {
   steps = near.steps;
   pin = by.foreign (climb rows near.steps i) r near.pin;
   nearer = λ n l.
       let way : n + (near.steps - n) ≡ near.steps = omega (arith, l) in
       let there : foreign_at rows (climb rows (near.steps - n) (climb rows n i)) ≡ Some r =
       ap (λ (k : ℕ). foreign_at rows k) (sym (climb-add rows n (near.steps - n) i) ∙ ap (λ (k : ℕ). climb rows k i) way) ∙ near.pin in
-      no_own rows holds own (climb rows n i) are holds_are size by (near.steps - n) r there (near.nearer n l);
+      no_own rows holds own (climb rows n i) are by (near.steps - n) r there (near.nearer n l);
 }

@@ -1,5 +1,5 @@
 -- The packing with one more part.
-use Rattle.std.proofs.Common.{All, ◌^◌, ◌/◌, ◌≡◌, ◌≢◌, ◌∙◌, ◌+◌, ◌*◌, ◌<◌, ◌≤◌, ◌&&◌, ◌||◌, ◌==◌, ℕ, zero, suc, Bool, true, false, List, length, length-set, get_or, set, slice_index, cond, eqb, nat_lt, inl, inr, ⊎_elim, ap, arith, refl, replicate, subst, sym}
+use Rattle.std.proofs.Common.{◌^◌, ◌/◌, ◌≡◌, ◌≢◌, ◌∙◌, ◌+◌, ◌*◌, ◌<◌, ◌≤◌, ◌&&◌, ◌||◌, ◌==◌, ℕ, zero, suc, Bool, true, false, List, length, length-set, get_or, set, slice_index, cond, eqb, nat_lt, inl, inr, ⊎_elim, ap, arith, refl, replicate, subst, sym}
 use Rattle.std.proofs.Math.Nat.{le-add_right, le_of_eq, le_of_lt, mul-le-mul_left}
 use Rattle.std.proofs.lemmas.Bool.{and_parts, both_ways, cases_Bool, cases_eq, cases_lt, eq-eqb, eqb-true, le-ltb, ltb-true, ne_eqb, or_cases, or_from, or_left, or_right}
 use Rattle.std.proofs.lemmas.List.{get_or-replicate, get_or-set_other, get_or-set_same, get_or_default, length-replicate}
@@ -8,6 +8,7 @@ use Rattle.mds_types.specs.RankSet.{has_rank}
 use Rattle.mds_types.specs.Sums.{sum_below}
 use Rattle.mds_types.proofs.SumsLemmas.{sum_below-add, sum_below-pick, sum_below-same, sum_below-zero}
 use Rattle.ceph_plan.specs.Balance.{HaveRanks, IsEvened, IsKeptPacking, IsKeptWithin, IsLargestFirst, IsNearMean, IsByHeat, IsSent, allowed, goes_before, greatest_by, is_hotter, load_before, load_by, load_of_parts}
+use Rattle.ceph_plan.specs.Packing.{IsPinnedHeat}
 use Rattle.ceph_plan.proofs.Bounds.{rank-small, set_usable}
 use Rattle.ceph_plan.proofs.Means.{IsFairLoad, fair-least, load-small, near-mean}
 
@@ -354,10 +355,10 @@ added-set loads to h v r inside is =
     (cases_eq r to)
 
 pub load-bound : (ranks : ℕ) (pinned heats inodes order : List ℕ) (root limit : ℕ) (rank : List ℕ) (done : List Bool) (loads : List ℕ) (left r : ℕ)
-    → ArePacked ranks pinned heats inodes order root limit rank done loads left → All (λ (n : ℕ). n ≤ 2 ^ 57) pinned → length pinned ≡ 64
+    → ArePacked ranks pinned heats inodes order root limit rank done loads left → IsPinnedHeat pinned
     → sum_below (length heats) (slice_index heats) ≤ 2 ^ 56 → r < 64 → slice_index loads r ≤ 2 ^ 57 + 2 ^ 56
-load-bound ranks pinned heats inodes order root limit rank done loads left r packed small size total inside =
-    let most : slice_index pinned r ≤ 2 ^ 57 = All-get_or (λ (n : ℕ). n ≤ 2 ^ 57) pinned r 0 (omega (arith, size, inside)) small in
+load-bound ranks pinned heats inodes order root limit rank done loads left r packed held total inside =
+    let most : slice_index pinned r ≤ 2 ^ 57 = All-get_or (λ (n : ℕ). n ≤ 2 ^ 57) pinned r 0 (omega (arith, held.size, inside)) held.small in
     omega (arith, packed.loads_are r inside, load-small ranks pinned heats rank (is_done done) r, most, total)
 
 -- whichever packing is taken, each part has a rank

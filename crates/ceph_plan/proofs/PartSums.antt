@@ -4,11 +4,11 @@ use Rattle.std.proofs.lemmas.Bool.{cases_eq, eq-eqb, ne_eqb}
 use Rattle.std.proofs.lemmas.List.{get_or-set_other, get_or-set_same}
 use Rattle.mds_types.specs.declared.problem.ProblemRow.{ProblemRow}
 use Rattle.mds_types.specs.Division.{part_heat}
-use Rattle.mds_types.specs.Problem.{IsForest, heat_at}
+use Rattle.mds_types.specs.Problem.{heat_at}
 use Rattle.mds_types.specs.Sums.{sum_below}
 use Rattle.mds_types.proofs.SumsLemmas.{sum_below-le, sum_below-pick, sum_below-same, sum_below-swap, sum_below-zero, sum_below_more}
 use Rattle.ceph_plan.specs.Balance.{load_of_parts}
-use Rattle.ceph_plan.specs.Packing.{heat_to, load, packed_rank}
+use Rattle.ceph_plan.specs.Packing.{HaveParts, heat_to, load, packed_rank}
 
 limits : (n : ℕ) → sum_below n (λ i. 2 ^ 40) ≡ n * 2 ^ 40
 limits zero = refl
@@ -22,17 +22,16 @@ by-parts count n part h below =
     ∙ sum_below-same n (λ i. sum_below count (λ p. cond (eqb (part i) p) (h i) 0)) h (λ i l. sum_below-pick count (part i) (λ p. h i) (below i l))
 
 -- the parts have no more heat than a forest can have
-pub heats-small : (rows : List ProblemRow) (part heats : List ℕ) (count : ℕ) → IsForest rows → length heats ≡ count
-    → ((i : ℕ) → i < length rows → slice_index part i < count)
+pub heats-small : (rows : List ProblemRow) (part heats : List ℕ) (count : ℕ) → HaveParts rows part count → length heats ≡ count
     → ((p : ℕ) → p < count → slice_index heats p ≡ part_heat rows (slice_index part) p)
     → sum_below (length heats) (slice_index heats) ≤ 2 ^ 56
-heats-small rows part heats count forest size below are =
+heats-small rows part heats count parts size are =
     let n : ℕ = length rows in
     let same : sum_below count (slice_index heats) ≡ sum_below n (heat_at rows) =
-    sum_below-same count (slice_index heats) (part_heat rows (slice_index part)) are ∙ by-parts count n (slice_index part) (heat_at rows) below in
-    let most : sum_below n (heat_at rows) ≤ sum_below n (λ i. 2 ^ 40) = sum_below-le n (heat_at rows) (λ i. 2 ^ 40) forest.cool in
+    sum_below-same count (slice_index heats) (part_heat rows (slice_index part)) are ∙ by-parts count n (slice_index part) (heat_at rows) parts.below in
+    let most : sum_below n (heat_at rows) ≤ sum_below n (λ i. 2 ^ 40) = sum_below-le n (heat_at rows) (λ i. 2 ^ 40) parts.forest.cool in
     let all : sum_below (length heats) (slice_index heats) ≡ sum_below count (slice_index heats) = ap (λ (k : ℕ). sum_below k (slice_index heats)) size in
-    omega (arith, all, same, most, limits n, forest.few)
+    omega (arith, all, same, most, limits n, parts.forest.few)
 
 -- a part's rows go where the part goes
 spread : (b : Bool) (n p : ℕ) (part h : ℕ → ℕ)

@@ -1,36 +1,25 @@
 -- The contract of the changes, and one more row.
-use Rattle.std.proofs.Common.{◌≡◌, ◌≢◌, ℕ, zero, suc, ◌+◌, ◌-◌, ◌<◌, ◌≤◌, List, [], ◌∷◌, ◌++◌, length, take, true, false, cond, eqb, not, ◌&&◌, Option, Some, None, refl, ap, sym, ◌∙◌, arith, ⊎_elim, ◌⊎◌, inl, inr, subst}
+use Rattle.std.proofs.Common.{All, ◌≡◌, ◌≢◌, ℕ, zero, suc, ◌+◌, ◌-◌, ◌<◌, ◌≤◌, List, [], ◌∷◌, ◌++◌, length, take, true, false, cond, eqb, not, ◌&&◌, Option, Some, None, refl, ap, sym, ◌∙◌, arith, ⊎_elim, inl, inr, subst}
 use Rattle.std.specs.Prelude.{is_some, is_none}
-use Rattle.std.proofs.lemmas.Bool.{and_from, and_parts, both_ways, cases_Bool, cases_lt, eq-eqb, eqb-true, not-true, not_from_false, lt-ltb, le-ltb}
+use Rattle.std.proofs.lemmas.Bool.{and_from, and_parts, both_ways, cases_Bool, cases_lt, eq-eqb, not-true, not_from_false, lt-ltb, le-ltb}
 use Rattle.std.proofs.lemmas.List.{append_assoc, get_or_past}
 use Rattle.std.proofs.lemmas.List.Elements.{All-append, All-cons, All-nil}
 use Rattle.ceph_plan.specs.declared.row.PinRow.{PinRow}
-use Rattle.ceph_plan.specs.declared.row.Pin.{Pin}
 use Rattle.ceph_plan.specs.declared.row.PinChange.{PinChange}
 use Rattle.ceph_plan.specs.declared.hold.Hold.{Hold}
 use Rattle.ceph_plan.specs.declared.hold.Hold.TheVariants.{Foreign, Free, Own}
-use Rattle.ceph_plan.specs.Rule.{AreRows, IsAt, IsRealized, first_of, foreign_at, no_row, own_pin, parent_at, row_at, target_at, without}
-use Rattle.ceph_plan.specs.Holds.{AreHolds, hold_at, hold_of, is_own, pins_below, rests_at}
+use Rattle.ceph_plan.specs.Rule.{IsAt, IsRealized, first_of, foreign_at, no_row, parent_at, row_at, target_at, without}
+use Rattle.ceph_plan.specs.Holds.{HoldEach, hold_at, hold_of, is_own, rests_at}
 use Rattle.ceph_plan.specs.Changes.{AreForced, AreNeeded, AreUntouched, MovesOnce, StillHolds, applied, before_pin, drops_from, is_dropped, is_set, sets_below, stands, while_set, while_unset}
-use Rattle.ceph_plan.proofs.Held.{IsHeld, IsOwnBy, own_below, own_by, own_held, own_inside}
+use Rattle.ceph_plan.proofs.Held.{IsHeld, IsOwnBy, own_below, own_by, own_held, own_inside, rests_is, some_or_none}
 use Rattle.ceph_plan.proofs.Held as held
+use Rattle.ceph_plan.proofs.Found.{new_pin}
 use Rattle.ceph_plan.proofs.Found as found
 use Rattle.ceph_plan.proofs.Script.{AreSame, AreStates, ends, once, same_at, same_near}
-
-abbrev pub new_pin : List PinRow → List Hold → ℕ → Option ℕ
-new_pin rows holds = own_pin rows (pins_below rows holds (length rows))
-
-some_or_none : (o : Option ℕ) → ((r : ℕ) × (o ≡ Some r)) ⊎ (o ≡ None)
-some_or_none None = inr refl
-some_or_none (Some r) = inl (r, refl)
 
 is_none_none : (o : Option ℕ) → is_none o ≡ true → o ≡ None
 is_none_none None e = refl
 is_none_none (Some r) e = absurd (both_ways false refl e)
-
-rests_true : (o : Option ℕ) (target : ℕ) → rests_at o target ≡ true → o ≡ Some target
-rests_true None target is = absurd (both_ways false refl is)
-rests_true (Some rank) target is = ap (λ (r : ℕ). Some r) (eqb-true rank target is)
 
 rank_in : Option ℕ → ℕ
 rank_in None = 0
@@ -44,19 +33,19 @@ rests_false (Some rank) target is same = both_ways (rests_at (Some rank) target)
 -- a new pin that isn't set is there already
 standing_is : (row : PinRow) (hold : Hold) → is_own hold ≡ true → is_set row hold ≡ false → first_of row.foreign row.earlier ≡ Some row.target
 standing_is row hold own is =
-    ⊎_elim (λ (yes : stands row ≡ true). rests_true (first_of row.foreign row.earlier) row.target yes)
+    ⊎_elim (λ (yes : stands row ≡ true). rests_is (first_of row.foreign row.earlier) row.target yes)
     (λ (no : stands row ≡ false). absurd (both_ways (is_set row hold) is (and_from (is_own hold) (not (stands row)) own (not_from_false (stands row) no))))
     (cases_Bool (stands row))
 
-pub states : (rows : List PinRow) (holds : List Hold) → AreRows rows → AreHolds rows holds (length rows) → length holds ≡ length rows → AreStates rows holds (before_pin rows) (new_pin rows holds)
-states rows holds are holds_are size =
-    let by : IsOwnBy rows holds (new_pin rows holds) = own_by rows holds size in
+pub states : (rows : List PinRow) (holds : List Hold) → HoldEach rows holds → AreStates rows holds (before_pin rows) (new_pin rows holds)
+states rows holds are =
+    let by : IsOwnBy rows holds (new_pin rows holds) = own_by rows holds are in
     let mine_none : (i : ℕ) → foreign_at rows i ≡ None → is_own (hold_at holds i) ≡ false → new_pin rows holds i ≡ None =
     λ i none is. by.mine i none ∙ (rw is refl) in
     record {
       set = λ i is.
           let own : is_own (hold_at holds i) ≡ true = (and_parts (is_own (hold_at holds i)) (not (stands (row_at rows i))) is).0 in
-          let here : IsHeld rows (new_pin rows holds) i Own = own_held rows holds (new_pin rows holds) i are holds_are size by own in here.1;
+          let here : IsHeld rows (new_pin rows holds) i Own = own_held rows holds (new_pin rows holds) i are by own in here.1;
       not_set = λ i is.
           ⊎_elim (λ (some : (r : ℕ) × (foreign_at rows i ≡ Some r)).
           let after : new_pin rows holds i ≡ Some some.0 = by.foreign i some.0 some.1 in
@@ -120,15 +109,13 @@ finish rows holds old new n is states = record {
 
 -- the whole list
 pub record AreChanges (rows : List PinRow) (holds : List Hold) (changes : List PinChange) : Type 0 where
-  pub are : AreRows rows
-  pub holds_are : AreHolds rows holds (length rows)
-  pub size : length holds ≡ length rows
+  pub held : HoldEach rows holds
   pub changes_are : changes ≡ sets_below rows holds (length rows) ++ drops_from rows holds (length rows) 0
 
 in_the_end : (rows : List PinRow) (holds : List Hold) (changes : List PinChange) → AreChanges rows holds changes → AreSame (applied (before_pin rows) changes) (new_pin rows holds)
 in_the_end rows holds changes f =
-    let is = states rows holds f.are f.holds_are f.size in
-    let begin = start rows holds (before_pin rows) (new_pin rows holds) f.size is in
+    let is = states rows holds f.held in
+    let begin = start rows holds (before_pin rows) (new_pin rows holds) f.held.size is in
     let near = ends rows holds (before_pin rows) (new_pin rows holds) is begin in
     let last = finish rows holds (before_pin rows) (new_pin rows holds) (0 + length rows) (omega arith) is in
     subst (λ (cs : List PinChange). AreSame (applied (before_pin rows) cs) (new_pin rows holds)) (sym f.changes_are)
@@ -140,13 +127,13 @@ back own other s = record { same = λ j. sym (s.same j) }
 pub realized : (rows : List PinRow) (holds : List Hold) (changes : List PinChange) → AreChanges rows holds changes → IsRealized rows (applied (before_pin rows) changes)
 realized rows holds changes f i ours =
     same_at rows (new_pin rows holds) (applied (before_pin rows) changes) i (target_at rows i) (back (applied (before_pin rows) changes) (new_pin rows holds) (in_the_end rows holds changes f))
-    (held.realized rows holds (new_pin rows holds) f.are f.holds_are (own_by rows holds f.size) i ours)
+    (held.realized rows holds (new_pin rows holds) f.held (own_by rows holds f.held) i ours)
 
 pub moves_once : (rows : List PinRow) (holds : List Hold) (changes : List PinChange) → AreChanges rows holds changes → MovesOnce rows changes
 moves_once rows holds changes f k i r l near =
-    let is = states rows holds f.are f.holds_are f.size in
-    let begin = start rows holds (before_pin rows) (new_pin rows holds) f.size is in
-    elim (once rows holds (before_pin rows) (new_pin rows holds) k i r f.are is begin l
+    let is = states rows holds f.held in
+    let begin = start rows holds (before_pin rows) (new_pin rows holds) f.held.size is in
+    elim (once rows holds (before_pin rows) (new_pin rows holds) k i r f.held.are is begin l
     (subst (λ (cs : List PinChange). IsAt rows (applied (before_pin rows) (take k cs)) i r) f.changes_are near)) [
       | inl before ↦ inl before
       | inr after ↦ inr (same_at rows (new_pin rows holds) (applied (before_pin rows) changes) i r (back (applied (before_pin rows) changes) (new_pin rows holds) (in_the_end rows holds changes f)) after)
@@ -181,35 +168,41 @@ pub with_none : (rows : List PinRow) (holds : List Hold) (done all : List PinCha
 with_none rows holds done all n i l is drop =
     ap (λ (cs : List PinChange). done ++ cs) (sym (drops-split rows holds n i i l refl ∙ (rw drop refl))) ∙ is
 
-needed_sets : (rows : List PinRow) (holds : List Hold) (n : ℕ) → AreNeeded rows (sets_below rows holds n)
-needed_sets rows holds zero = All-nil (λ (change : PinChange). before_pin rows change.row ≢ change.pin)
-needed_sets rows holds (suc n) =
+-- what holds of each change that is made holds of all
+all_sets : (P : PinChange → Type 0) (rows : List PinRow) (holds : List Hold) → ((i : ℕ) → is_set (row_at rows i) (hold_at holds i) ≡ true → P (record { row = i; pin = Some (target_at rows i) }))
+    → (n : ℕ) → All P (sets_below rows holds n)
+all_sets P rows holds each zero = All-nil P
+all_sets P rows holds each (suc n) =
     ⊎_elim (λ (is : is_set (row_at rows n) (hold_at holds n) ≡ true).
-    let other : stands (row_at rows n) ≡ false = not-true (stands (row_at rows n)) (and_parts (is_own (hold_at holds n)) (not (stands (row_at rows n))) is).1 in
-    rw is (All-cons (λ (change : PinChange). before_pin rows change.row ≢ change.pin) (record { row = n; pin = Some (target_at rows n) }) (sets_below rows holds n)
-    (rests_false (before_pin rows n) (target_at rows n) other)
-    (needed_sets rows holds n)))
-    (λ (is : is_set (row_at rows n) (hold_at holds n) ≡ false). rw is (needed_sets rows holds n))
+    rw is (All-cons P (record { row = n; pin = Some (target_at rows n) }) (sets_below rows holds n) (each n is) (all_sets P rows holds each n)))
+    (λ (is : is_set (row_at rows n) (hold_at holds n) ≡ false). rw is (all_sets P rows holds each n))
     (cases_Bool (is_set (row_at rows n) (hold_at holds n)))
 
-needed_drops : (rows : List PinRow) (holds : List Hold) (n m : ℕ) → AreNeeded rows (drops_from rows holds n m)
-needed_drops rows holds zero m = All-nil (λ (change : PinChange). before_pin rows change.row ≢ change.pin)
-needed_drops rows holds (suc n) m =
+all_drops : (P : PinChange → Type 0) (rows : List PinRow) (holds : List Hold) → ((i : ℕ) → is_dropped (row_at rows i) (hold_at holds i) ≡ true → P (record { row = i; pin = None }))
+    → (n m : ℕ) → All P (drops_from rows holds n m)
+all_drops P rows holds each zero m = All-nil P
+all_drops P rows holds each (suc n) m =
     ⊎_elim (λ (is : is_dropped (row_at rows m) (hold_at holds m) ≡ true).
-    let parts = and_parts (is_none (foreign_at rows m)) (is_some (row_at rows m).earlier && not (is_own (hold_at holds m))) is in
-    let some = (and_parts (is_some (row_at rows m).earlier) (not (is_own (hold_at holds m))) parts.1).0 in
-    let before : before_pin rows m ≡ (row_at rows m).earlier = ap (λ (o : Option ℕ). first_of o (row_at rows m).earlier) (is_none_none (foreign_at rows m) parts.0) in
-    rw is (All-cons (λ (change : PinChange). before_pin rows change.row ≢ change.pin) (record { row = m; pin = None }) (drops_from rows holds n (suc m))
-    (λ same. both_ways (is_some (row_at rows m).earlier) (ap is_some (sym before ∙ same)) some)
-    (needed_drops rows holds n (suc m))))
-    (λ (is : is_dropped (row_at rows m) (hold_at holds m) ≡ false). rw is (needed_drops rows holds n (suc m)))
+    rw is (All-cons P (record { row = m; pin = None }) (drops_from rows holds n (suc m)) (each m is) (all_drops P rows holds each n (suc m))))
+    (λ (is : is_dropped (row_at rows m) (hold_at holds m) ≡ false). rw is (all_drops P rows holds each n (suc m)))
     (cases_Bool (is_dropped (row_at rows m) (hold_at holds m)))
+
+all_changes : (P : PinChange → Type 0) (rows : List PinRow) (holds : List Hold) (changes : List PinChange) → AreChanges rows holds changes
+    → ((i : ℕ) → is_set (row_at rows i) (hold_at holds i) ≡ true → P (record { row = i; pin = Some (target_at rows i) }))
+    → ((i : ℕ) → is_dropped (row_at rows i) (hold_at holds i) ≡ true → P (record { row = i; pin = None })) → All P changes
+all_changes P rows holds changes f set dropped =
+    subst (All P) (sym f.changes_are)
+    (All-append P (sets_below rows holds (length rows)) (drops_from rows holds (length rows) 0) (all_sets P rows holds set (length rows)) (all_drops P rows holds dropped (length rows) 0))
 
 pub needed : (rows : List PinRow) (holds : List Hold) (changes : List PinChange) → AreChanges rows holds changes → AreNeeded rows changes
 needed rows holds changes f =
-    subst (λ (cs : List PinChange). AreNeeded rows cs) (sym f.changes_are)
-    (All-append (λ (change : PinChange). before_pin rows change.row ≢ change.pin) (sets_below rows holds (length rows)) (drops_from rows holds (length rows) 0)
-    (needed_sets rows holds (length rows)) (needed_drops rows holds (length rows) 0))
+    all_changes (λ change. before_pin rows change.row ≢ change.pin) rows holds changes f
+    (λ i is. rests_false (before_pin rows i) (target_at rows i) (not-true (stands (row_at rows i)) (and_parts (is_own (hold_at holds i)) (not (stands (row_at rows i))) is).1))
+    (λ i is same.
+    let parts = and_parts (is_none (foreign_at rows i)) (is_some (row_at rows i).earlier && not (is_own (hold_at holds i))) is in
+    let some = (and_parts (is_some (row_at rows i).earlier) (not (is_own (hold_at holds i))) parts.1).0 in
+    let before : before_pin rows i ≡ (row_at rows i).earlier = ap (λ (o : Option ℕ). first_of o (row_at rows i).earlier) (is_none_none (foreign_at rows i) parts.0) in
+    both_ways (is_some (row_at rows i).earlier) (ap is_some (sym before ∙ same)) some)
 
 -- no change is of a row whose pin is to stay
 no_foreign : (row parent : PinRow) (above : Hold) → is_own (hold_of row parent above) ≡ true → row.foreign ≡ None
@@ -224,51 +217,29 @@ no_foreign row parent above own =
     none_of None e = refl
     none_of (Some r) e = absurd (both_ways true e refl)
 
-own_unpinned : (rows : List PinRow) (holds : List Hold) (i : ℕ) → AreHolds rows holds (length rows) → length holds ≡ length rows → is_own (hold_at holds i) ≡ true
+own_unpinned : (rows : List PinRow) (holds : List Hold) (i : ℕ) → HoldEach rows holds → is_own (hold_at holds i) ≡ true
     → foreign_at rows i ≡ None
-own_unpinned rows holds i holds_are size own =
+own_unpinned rows holds i are own =
     no_foreign (row_at rows i) (row_at rows (parent_at rows i)) (hold_at holds (parent_at rows i))
-    (sym (ap is_own (holds_are.below i (own_below rows holds i holds_are size own) (own_inside rows holds i size own))) ∙ own)
-
-untouched_sets : (rows : List PinRow) (holds : List Hold) (n : ℕ) → AreHolds rows holds (length rows) → length holds ≡ length rows → AreUntouched rows (sets_below rows holds n)
-untouched_sets rows holds zero are size = All-nil (λ (change : PinChange). foreign_at rows change.row ≡ None)
-untouched_sets rows holds (suc n) are size =
-    ⊎_elim (λ (is : is_set (row_at rows n) (hold_at holds n) ≡ true).
-    rw is (All-cons (λ (change : PinChange). foreign_at rows change.row ≡ None) (record { row = n; pin = Some (target_at rows n) }) (sets_below rows holds n)
-    (own_unpinned rows holds n are size (and_parts (is_own (hold_at holds n)) (not (stands (row_at rows n))) is).0)
-    (untouched_sets rows holds n are size)))
-    (λ (is : is_set (row_at rows n) (hold_at holds n) ≡ false). rw is (untouched_sets rows holds n are size))
-    (cases_Bool (is_set (row_at rows n) (hold_at holds n)))
-
-untouched_drops : (rows : List PinRow) (holds : List Hold) (n m : ℕ) → AreUntouched rows (drops_from rows holds n m)
-untouched_drops rows holds zero m = All-nil (λ (change : PinChange). foreign_at rows change.row ≡ None)
-untouched_drops rows holds (suc n) m =
-    ⊎_elim (λ (is : is_dropped (row_at rows m) (hold_at holds m) ≡ true).
-    let parts = and_parts (is_none (foreign_at rows m)) (is_some (row_at rows m).earlier && not (is_own (hold_at holds m))) is in
-    rw is (All-cons (λ (change : PinChange). foreign_at rows change.row ≡ None) (record { row = m; pin = None }) (drops_from rows holds n (suc m))
-    (is_none_none (foreign_at rows m) parts.0)
-    (untouched_drops rows holds n (suc m))))
-    (λ (is : is_dropped (row_at rows m) (hold_at holds m) ≡ false). rw is (untouched_drops rows holds n (suc m)))
-    (cases_Bool (is_dropped (row_at rows m) (hold_at holds m)))
+    (sym (ap is_own (are.each.below i (own_below rows holds i are own) (own_inside rows holds i are own))) ∙ own)
 
 pub untouched : (rows : List PinRow) (holds : List Hold) (changes : List PinChange) → AreChanges rows holds changes → AreUntouched rows changes
 untouched rows holds changes f =
-    subst (λ (cs : List PinChange). AreUntouched rows cs) (sym f.changes_are)
-    (All-append (λ (change : PinChange). foreign_at rows change.row ≡ None) (sets_below rows holds (length rows)) (drops_from rows holds (length rows) 0)
-    (untouched_sets rows holds (length rows) f.holds_are f.size) (untouched_drops rows holds (length rows) 0))
+    all_changes (λ change. foreign_at rows change.row ≡ None) rows holds changes f
+    (λ i is. own_unpinned rows holds i f.held (and_parts (is_own (hold_at holds i)) (not (stands (row_at rows i))) is).0)
+    (λ i is. is_none_none (foreign_at rows i) (and_parts (is_none (foreign_at rows i)) (is_some (row_at rows i).earlier && not (is_own (hold_at holds i))) is).0)
 
 -- what a pin holds that is to stay, it still holds
 pub kept : (rows : List PinRow) (holds : List Hold) (changes : List PinChange) → AreChanges rows holds changes → StillHolds rows (applied (before_pin rows) changes)
 kept rows holds changes f i r near =
     same_near rows (new_pin rows holds) (applied (before_pin rows) changes) i r (back (applied (before_pin rows) changes) (new_pin rows holds) (in_the_end rows holds changes f))
-    (held.kept rows holds (new_pin rows holds) f.are f.holds_are f.size (own_by rows holds f.size) i r near)
+    (held.kept rows holds (new_pin rows holds) f.held (own_by rows holds f.held) i r near)
 
 -- a pin of ours that is there in the end is needed
 pub forced : (rows : List PinRow) (holds : List Hold) (changes : List PinChange) → AreChanges rows holds changes → AreForced rows (applied (before_pin rows) changes)
 forced rows holds changes f i free some there =
-    let pins : List Pin = pins_below rows holds (length rows) in
     let last = in_the_end rows holds changes f in
-    found.needed rows holds pins (record { are = f.are; holds_are = f.holds_are; size = f.size; pins_are = refl }) i
+    found.needed rows holds i f.held
     (λ none. some (last.same i ∙ rw (free, none) refl))
     (same_at rows (without i (applied (before_pin rows) changes)) (without i (new_pin rows holds)) i (target_at rows i)
     (record { same = λ j. ap (λ (x : Option ℕ). cond (eqb j i) None x) (last.same j) }) there)

@@ -45,9 +45,6 @@ pub divisions-tried : (ranks : ℕ) (pinned : List ℕ) (rows : List ProblemRow)
     → AreDivisions ranks pinned rows divisions
 divisions-tried ranks pinned rows parts divisions tried = (tried-all ranks pinned rows parts divisions tried).0
 
-pub some-tried : (ranks : ℕ) (pinned : List ℕ) (rows : List ProblemRow) (parts : PartCount) (divisions : List PackedDivision) → AreTried ranks pinned rows parts divisions → 0 < length divisions
-some-tried ranks pinned rows parts divisions tried = (tried-all ranks pinned rows parts divisions tried).1
-
 -- the first packing, without any tolerance, is as cool as that by heat only
 first-cool : (each : List Packed) → map (λ (packed : Packed). packed.packing.keep) each ≡ TOLERANCES.now → (packed : Packed) × (slice_get each 0 ≡ Some packed) × (packed.packing.keep ≡ 0)
 first-cool [] is = let none : ⊥ = no-tolerance is in absurd none
@@ -70,13 +67,16 @@ cool-division ranks pinned rows parts cap divided is =
     zero-more : (load : ℕ) → load + load / 100 * 0 ≡ load
     zero-more load = omega arith
 
-pub are-cool : (ranks : ℕ) (pinned : List ℕ) (rows : List ProblemRow) (divisions : List PackedDivision) → AreDivisions ranks pinned rows divisions → AreCool divisions
-are-cool ranks pinned rows divisions all = λ k inside.
-    let some = there divisions k inside in
-    let of = all k some.0 some.1 in
-    subst (λ (o : Option PackedDivision). (v : ℕ) × (v < length (option_map_or (λ (one : PackedDivision). one.packings.each.items) o []))
-    × (greatest_in (option_map_or (λ (one : PackedDivision). one.packings.each.items) o []) v ≤ option_map_or (λ (one : PackedDivision). one.packings.even) o 0)) (sym some.1)
-    (cool-division ranks pinned rows of.0 of.1 some.0 of.2)
+pub are-cool : (ranks : ℕ) (pinned : List ℕ) (rows : List ProblemRow) (parts : PartCount) (divisions : List PackedDivision) → AreTried ranks pinned rows parts divisions → AreCool divisions
+are-cool ranks pinned rows parts divisions tried = let all = tried-all ranks pinned rows parts divisions tried in record {
+  some = all.1;
+  cool = λ k inside.
+      let some = there divisions k inside in
+      let of = all.0 k some.0 some.1 in
+      subst (λ (o : Option PackedDivision). (v : ℕ) × (v < length (option_map_or (λ (one : PackedDivision). one.packings.each.items) o []))
+      × (greatest_in (option_map_or (λ (one : PackedDivision). one.packings.each.items) o []) v ≤ option_map_or (λ (one : PackedDivision). one.packings.even) o 0)) (sym some.1)
+      (cool-division ranks pinned rows of.0 of.1 some.0 of.2);
+}
   where
     there : (divisions : List PackedDivision) (k : ℕ) → k < length divisions → (divided : PackedDivision) × (slice_get divisions k ≡ Some divided)
     there [] k inside = let none : ⊥ = omega (arith, inside) in absurd none
@@ -101,7 +101,7 @@ larger-moves keep more divisions plan other wider taken those =
     subst (λ (load : ℕ). allowed keep (even_at divisions taken.chosen.coolest) ≤ allowed more load) same (allowed-wider keep more (even_at divisions taken.chosen.coolest) wider) in
     let within : greatest_in (packings_at divisions taken.k) taken.v ≤ allowed more (even_at divisions those.chosen.coolest) = omega (arith, taken.chosen.within, limit) in
     let no : ¬ IsFewer moved (part_count_at divisions taken.k) theirs (part_count_at divisions those.k) =
-    those.chosen.fewest taken.k taken.v taken.chosen.inside taken.chosen.there within in
+    those.chosen.fewest taken.k taken.v taken.chosen.place.inside taken.chosen.place.there within in
     let fewer : theirs ≤ moved = ⊎_elim (λ (less : moved < theirs). absurd (no (inl less))) (λ (le : theirs ≤ moved). le) (cases_lt moved theirs) in
     omega (arith, fewer, moved-is keep divisions plan taken, moved-is more divisions other those)
 

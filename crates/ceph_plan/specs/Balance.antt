@@ -1,5 +1,5 @@
 -- How parts are packed by their heat: one after another, the hottest first, each on the least loaded rank.
-use Rattle.std.specs.Prelude.{◌≡◌, ◌≢◌, ◌==◌, ◌<◌, ◌≤◌, ◌+◌, ◌*◌, ◌/◌, ◌^◌, ◌||◌, ◌&&◌, ◌⊎◌, ℕ, All, Bool, true}
+use Rattle.std.specs.Prelude.{◌≡◌, ◌≢◌, ◌==◌, ◌<◌, ◌≤◌, ◌+◌, ◌*◌, ◌/◌, ◌^◌, ◌||◌, ◌&&◌, ◌⊎◌, ℕ, Bool, true}
 use Rattle.std.specs.Prelude.{List, length, nat_lt, slice_index, if◌then◌else◌}
 use Rattle.mds_types.specs.declared.problem.ProblemRow.{ProblemRow}
 use Rattle.mds_types.specs.Division.{part_heat}
@@ -7,7 +7,7 @@ use Rattle.mds_types.specs.Problem.{inodes_at, now_at}
 use Rattle.mds_types.specs.RankSet.{has_rank, rank_count}
 use Rattle.mds_types.specs.Sums.{max_below, sum_below}
 use Rattle.ceph_plan.specs.declared.packing.Packing.{Packing}
-use Rattle.ceph_plan.specs.Packing.{greatest_of, total_of}
+use Rattle.ceph_plan.specs.Packing.{ArePlanRanks, greatest_of, total_of}
 
 -- part q is hotter than part p, or as hot and its number is smaller
 abbrev pub is_hotter : List ℕ → ℕ → ℕ → Bool
@@ -30,10 +30,8 @@ pub record ArePartAmounts (heats order inodes : List ℕ) (root : ℕ) (pinned :
   pub inodes_size : length inodes ≡ length heats * 64
   pub by_heat : IsByHeat heats order
   pub inside : root < length heats
-  pub pinned_size : length pinned ≡ 64
-  pub small : All (λ n. n ≤ 2 ^ 57) pinned
+  pub ranks_are : ArePlanRanks ranks pinned
   pub total : sum_below (length heats) (slice_index heats) ≤ 2 ^ 56
-  pub zero : has_rank ranks 0 ≡ true
 
 -- the root's part goes first, and of two others the hotter one
 abbrev pub goes_before : List ℕ → ℕ → ℕ → ℕ → Bool

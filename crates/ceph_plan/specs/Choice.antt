@@ -34,11 +34,16 @@ greatest_in packings v = option_map_or (λ (one : Packed). one.packing.greatest)
 abbrev pub moved_in : List Packed → ℕ → ℕ
 moved_in packings v = option_map_or (λ (one : Packed). one.moved) (slice_get packings v) 0
 
--- each division has a packing that is as cool as that by heat only
-abbrev pub AreCool : List PackedDivision → Type 0
-AreCool divisions =
-    (k : ℕ) → k < length divisions
-    → (v : ℕ) × (v < length (packings_at divisions k)) × (greatest_in (packings_at divisions k) v ≤ even_at divisions k)
+-- there is a division, and each has a packing that is as cool as that by heat only
+pub record AreCool (divisions : List PackedDivision) : Type 0 where
+  pub some : 0 < length divisions
+  pub cool : (k : ℕ) → k < length divisions → (v : ℕ) × (v < length (packings_at divisions k))
+      × (greatest_in (packings_at divisions k) v ≤ even_at divisions k)
+
+-- packing v is one of division k
+pub record IsPlace (divisions : List PackedDivision) (k v : ℕ) : Type 0 where
+  pub inside : k < length divisions
+  pub there : v < length (packings_at divisions k)
 
 -- fewer inodes move, or as few with fewer parts
 abbrev pub IsFewer : ℕ → ℕ → ℕ → ℕ → Type 0
@@ -47,8 +52,7 @@ IsFewer moved count other others = (moved < other) ⊎ ((moved ≡ other) × (co
 -- packing v of division k is chosen: its greatest load is at most `keep` percent above that of the coolest packing by
 -- heat only, of all divisions, and none that is as cool moves fewer inodes, or as few with fewer parts
 pub record IsChosen (keep : ℕ) (divisions : List PackedDivision) (k v : ℕ) : Type 0 where
-  pub inside : k < length divisions
-  pub there : v < length (packings_at divisions k)
+  pub place : IsPlace divisions k v
   pub coolest : ℕ
   pub has : coolest < length divisions
   pub least : (j : ℕ) → j < length divisions → even_at divisions coolest ≤ even_at divisions j

@@ -1,11 +1,11 @@
 -- What holds a row, from what holds its parent. (How it is found; what it comes to is said in Rule.)
 use Rattle.std.specs.Prelude.{◌≡◌, ◌==◌, ◌<◌, ◌++◌, ℕ, zero, suc, Bool, true, false, List, [], ◌∷◌}
-use Rattle.std.specs.Prelude.{slice_index_or, Option, Some, None, is_some, if◌then◌else◌}
+use Rattle.std.specs.Prelude.{length, slice_index_or, Option, Some, None, is_some, if◌then◌else◌}
 use Rattle.ceph_plan.specs.declared.row.PinRow.{PinRow}
 use Rattle.ceph_plan.specs.declared.row.Pin.{Pin}
 use Rattle.ceph_plan.specs.declared.hold.Hold.{Hold}
 use Rattle.ceph_plan.specs.declared.hold.Hold.TheVariants.{Foreign, Free, Own, Above}
-use Rattle.ceph_plan.specs.Rule.{row_at, parent_at, target_at}
+use Rattle.ceph_plan.specs.Rule.{AreRows, row_at, parent_at, target_at}
 
 abbrev pub rests_at : Option ℕ → ℕ → Bool
 rests_at None target = false
@@ -30,6 +30,12 @@ pub record AreHolds (rows : List PinRow) (holds : List Hold) (n : ℕ) : Type 0 
   pub root : 0 < n → hold_at holds 0 ≡ Free
   pub below : (i : ℕ) → 0 < i → i < n → hold_at holds i
       ≡ hold_of (row_at rows i) (row_at rows (parent_at rows i)) (hold_at holds (parent_at rows i))
+
+-- this is what holds each of these rows
+pub record HoldEach (rows : List PinRow) (holds : List Hold) : Type 0 where
+  pub are : AreRows rows
+  pub size : length holds ≡ length rows
+  pub each : AreHolds rows holds (length rows)
 
 abbrev pub is_own : Hold → Bool
 is_own Own = true

@@ -1,10 +1,27 @@
 -- Loads of ranks, where each row of a problem goes to some rank.
-use Rattle.std.specs.Prelude.{◌≡◌, ◌==◌, ◌<◌, ◌≤◌, ◌+◌, ◌*◌, ℕ, true, List, length, slice_index, if◌then◌else◌}
+use Rattle.std.specs.Prelude.{◌≡◌, ◌==◌, ◌<◌, ◌≤◌, ◌+◌, ◌*◌, ◌^◌, ℕ, All, true}
+use Rattle.std.specs.Prelude.{List, length, slice_index, if◌then◌else◌}
 use Rattle.mds_types.specs.declared.problem.ProblemRow.{ProblemRow}
-use Rattle.mds_types.specs.Problem.{heat_at}
+use Rattle.mds_types.specs.Problem.{IsForest, heat_at}
 use Rattle.mds_types.specs.RankSet.{has_rank, rank_count}
 use Rattle.mds_types.specs.Sums.{max_below, sum_below}
 use Rattle.ceph_plan.specs.declared.packing.Packing.{Packing}
+
+-- this is the heat that is pinned to each of 64 ranks, and not too much of it
+pub record IsPinnedHeat (pinned : List ℕ) : Type 0 where
+  pub size : length pinned ≡ 64
+  pub small : All (λ n. n ≤ 2 ^ 57) pinned
+
+-- rank 0 is among the ranks, and the pinned heat can be counted
+pub record ArePlanRanks (ranks : ℕ) (pinned : List ℕ) : Type 0 where
+  pub zero : has_rank ranks 0 ≡ true
+  pub held : IsPinnedHeat pinned
+
+-- the rows are a forest, and each is in one of so many parts
+pub record HaveParts (rows : List ProblemRow) (part : List ℕ) (count : ℕ) : Type 0 where
+  pub forest : IsForest rows
+  pub size : length part ≡ length rows
+  pub below : (i : ℕ) → i < length rows → slice_index part i < count
 
 -- the heat of the first n rows that go to rank r
 abbrev pub heat_to : List ProblemRow → ℕ → (ℕ → ℕ) → ℕ → ℕ

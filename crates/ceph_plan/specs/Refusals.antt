@@ -1,9 +1,10 @@
 -- Why there is no plan.
-use Rattle.std.specs.Prelude.{◌≡◌, ◌<◌, ◌≤◌, ◌^◌, ◌⊎◌, ⊤, ℕ, All, List, None, length, true, false}
+use Rattle.std.specs.Prelude.{◌≡◌, ◌<◌, ◌⊎◌, ⊤, ℕ, List, None, length, true, false}
 use Rattle.mds_types.specs.declared.problem.ProblemRow.{ProblemRow}
 use Rattle.mds_types.specs.Problem.{IsFirstFault}
 use Rattle.mds_types.specs.RankSet.{has_rank}
 use Rattle.ceph_plan.specs.Asked.{own_at}
+use Rattle.ceph_plan.specs.Packing.{ArePlanRanks, IsPinnedHeat}
 use Rattle.ceph_plan.specs.declared.choice.PartCount.{PartCount}
 use Rattle.ceph_plan.specs.declared.choice.PartCount.TheVariants.{AtMost, Auto}
 use Rattle.ceph_plan.specs.declared.choice.Wanted.{Wanted}
@@ -11,16 +12,10 @@ use Rattle.ceph_plan.specs.declared.plan_error.PlanError.{PlanError}
 use Rattle.ceph_plan.specs.declared.plan_error.PlanError.TheVariants as cause
 use Rattle.ceph_plan.specs.declared.proposal.OwnPins.{OwnPins}
 
--- this is the heat that is pinned to each of 64 ranks, and not too much of it
-pub record IsPinnedHeat (pinned : List ℕ) : Type 0 where
-  pub size : length pinned ≡ 64
-  pub small : All (λ n. n ≤ 2 ^ 57) pinned
-
 -- rank 0 is among the ranks, there is a row, and the pinned heat can be counted
 pub record IsPlannable (ranks : ℕ) (pinned : List ℕ) (rows : List ProblemRow) : Type 0 where
-  pub zero : has_rank ranks 0 ≡ true
+  pub ranks_are : ArePlanRanks ranks pinned
   pub some : 0 < length rows
-  pub held : IsPinnedHeat pinned
 
 -- why there is no plan of this many parts: none are asked for, or out of memory
 abbrev pub IsPartsRefusal : ℕ → PlanError → Type 0

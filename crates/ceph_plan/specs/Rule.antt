@@ -1,5 +1,5 @@
 -- Ceph's rule for export pins, and lists of pins that realize it.
-use Rattle.std.specs.Prelude.{◌≡◌, ◌==◌, ◌<◌, ◌≤◌, ◌⊎◌, ℕ, zero, suc, List, [], ◌∷◌, length}
+use Rattle.std.specs.Prelude.{◌≡◌, ◌≢◌, ◌==◌, ◌<◌, ◌≤◌, ◌⊎◌, ℕ, zero, suc, List, [], ◌∷◌, length}
 use Rattle.std.specs.Prelude.{slice_index_or, Option, Some, None, if◌then◌else◌}
 use Rattle.mds_types.specs.declared.limits.TheConstants.{DIR_LIMIT}
 use Rattle.ceph_plan.specs.declared.row.PinRow.{PinRow}
@@ -103,3 +103,16 @@ pub record IsOursPinned (rows : List PinRow) (pin : Pin) : Type 0 where
   pub below : 0 < pin.row
   pub ours : IsOurs rows pin.row
   pub target : pin.rank ≡ target_at rows pin.row
+
+-- by Ceph's rule the pins put each row of ours at its target, and what foreign pins hold stays where it is. Each is
+-- for a row of ours below the root, at that row's target, and without it the row is elsewhere. Where all rows rest at
+-- one rank, or at none that is known, whatever puts each row at its target pins each of these rows. A row comes before
+-- each row above it, and once
+pub record ArePinsFor (rows : List PinRow) (pins : List Pin) : Type 0 where
+  pub realized : IsRealized rows (own_pin rows pins)
+  pub kept : (i r : ℕ) → IsNearest rows (foreign_at rows) i r → IsNearest rows (own_pin rows pins) i r
+  pub ours : (p : ℕ) → p < length pins → IsOursPinned rows (pin_index pins p)
+  pub needed : (i : ℕ) → pin_at pins i ≢ None → ¬ (IsAt rows (without i (own_pin rows pins)) i (target_at rows i))
+  pub least : IsSettled rows → (other : ℕ → Option ℕ) → IsChoice rows other → IsRealized rows other
+      → (i : ℕ) → pin_at pins i ≢ None → other i ≢ None
+  pub order : (p q steps : ℕ) → p < q → q < length pins → climb rows steps (row_index pins q) ≢ row_index pins p

@@ -1,10 +1,10 @@
 //! What no assignment of whole directories to ranks can get below.
-ghost use Rattle.std.specs.Prelude.{◌≡◌, ◌<◌, ◌≤◌, ◌+◌, ◌*◌, ◌^◌, ℕ, All, true};
+ghost use Rattle.std.specs.Prelude.{◌≡◌, ◌<◌, ◌≤◌, ◌+◌, ◌*◌, ◌^◌, ℕ, true};
 ghost use Rattle.std.specs.Prelude.{length, min, slice_index, if◌then◌else◌};
 ghost use Rattle.mds_types.specs.Problem.{IsForest, heat_at};
 ghost use Rattle.mds_types.specs.RankSet.{has_rank};
 ghost use Rattle.mds_types.specs.Sums.{max_below, sum_below};
-ghost use Rattle.ceph_plan.specs.Packing.{IsAsGreat, IsBoundOf, greatest_of, total_of};
+ghost use Rattle.ceph_plan.specs.Packing.{ArePlanRanks, IsAsGreat, IsBoundOf, IsPinnedHeat, greatest_of, total_of};
 
 use mds_types::{ProblemRow, Rank, RankSet};
 
@@ -35,8 +35,7 @@ pub fn most(numbers: &[u64], ranks: RankSet) -> u64
 
 /// The least of the numbers at the ranks of the set.
 fn least(numbers: &[u64], ranks: RankSet) -> u64
-    requires size { length numbers.now ≡ 64 }
-    requires zero { has_rank ranks 0 ≡ true }
+    requires { ArePlanRanks ranks numbers.now }
     ensures least { (r : ℕ) → has_rank ranks r ≡ true → result ≤ slice_index numbers.now r }
     ensures one { (r : ℕ) × (has_rank ranks r ≡ true) × (slice_index numbers.now r ≡ result) }
 {
@@ -51,8 +50,7 @@ fn least(numbers: &[u64], ranks: RankSet) -> u64
 
 /// The sum of the numbers at the ranks of the set.
 fn total(numbers: &[u64], ranks: RankSet) -> u64
-    requires size { length numbers.now ≡ 64 }
-    requires small { All (λ n. n ≤ 2 ^ 57) numbers.now }
+    requires { IsPinnedHeat numbers.now }
     ensures total { result ≡ total_of ranks (slice_index numbers.now) }
     ensures small { result ≤ 2 ^ 63 }
 {
@@ -83,9 +81,7 @@ pub fn total_heat(rows: &[ProblemRow]) -> u64
 fn bound_of(all: u64, hottest: u64, pinned: &[u64], ranks: RankSet) -> u64
     requires all { all ≤ 2 ^ 62 }
     requires hottest { hottest ≤ 2 ^ 62 }
-    requires size { length pinned.now ≡ 64 }
-    requires small { All (λ n. n ≤ 2 ^ 57) pinned.now }
-    requires zero { has_rank ranks 0 ≡ true }
+    requires ranks { ArePlanRanks ranks pinned.now }
     ensures lower { (n : ℕ) (heat : ℕ → ℕ) → all ≤ sum_below n heat → hottest ≤ max_below n heat
         → IsBoundOf ranks pinned.now n heat result }
     ensures three { (n : ℕ) (heat : ℕ → ℕ) → all ≡ sum_below n heat → hottest ≡ max_below n heat
@@ -125,9 +121,7 @@ fn hottest_of(heats: &[u64]) -> u64
 /// What each assignment of directories of these heats to ranks, connected or not, loads at least on some rank. More
 /// than 2^62 of heat is not counted.
 pub fn heats_bound(heats: &[u64], pinned: &[u64], ranks: RankSet) -> u64
-    requires size { length pinned.now ≡ 64 }
-    requires small { All (λ n. n ≤ 2 ^ 57) pinned.now }
-    requires zero { has_rank ranks 0 ≡ true }
+    requires { ArePlanRanks ranks pinned.now }
     ensures lower { IsBoundOf ranks pinned.now (length heats.now) (slice_index heats.now) result }
     ensures three { sum_below (length heats.now) (slice_index heats.now) ≤ 2 ^ 62
         → IsAsGreat ranks pinned.now (length heats.now) (slice_index heats.now) result }

@@ -1,5 +1,6 @@
 //! The changes from the pins of an earlier plan to those of a new one.
-ghost use Rattle.std.specs.Prelude.{◌≡◌, ◌<◌, ◌≤◌, ◌⊎◌, ◌++◌, ◌^◌, ℕ, length, take, IfOk, OnOk};
+ghost use Rattle.std.specs.Prelude.{◌≡◌, ◌++◌, length, IfOk, OnOk};
+ghost use Rattle.ceph_plan.specs.Holds.{HoldEach};
 ghost use Rattle.ceph_plan.specs.Rule.{AreRows};
 ghost use Rattle.ceph_plan.specs.Changes.{AreChangesFor, drops_from, is_dropped, is_set, sets_below, stands};
 
@@ -27,8 +28,7 @@ fn push_sets(
     rows: &[PinRow],
     holds: &[Hold],
 ) -> Result<(), AllocError>
-    requires size { length holds.now ≡ length rows.now }
-    requires few { length rows.now ≤ 2 ^ 32 }
+    requires { HoldEach rows.now holds.now }
     ensures { OnOk result (changes.new.items ≡ changes.old.items ++ sets_below rows.now holds.now (length rows.now)) }
 {
     let mut i = rows.len();
@@ -57,8 +57,7 @@ fn push_drops(
     rows: &[PinRow],
     holds: &[Hold],
 ) -> Result<(), AllocError>
-    requires size { length holds.now ≡ length rows.now }
-    requires few { length rows.now ≤ 2 ^ 32 }
+    requires { HoldEach rows.now holds.now }
     ensures { OnOk result (changes.new.items ≡ changes.old.items ++ drops_from rows.now holds.now (length rows.now) 0) }
 {
     let mut i = 0;

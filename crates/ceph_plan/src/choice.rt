@@ -1,18 +1,16 @@
 //! How many parts: numbers from that of the ranks up to the most that are allowed are tried. Of the packings of all of
 //! them that are cool enough, one is taken that moves the fewest inodes.
-ghost use Rattle.std.specs.Prelude.{◌≡◌, ◌<◌, ◌≤◌, ◌+◌, ◌/◌, ◌^◌, ◌↔◌, ℕ, All, length, max};
-ghost use Rattle.std.specs.Prelude.{true, IfErr, IfOk, IsTrue};
-ghost use Rattle.mds_types.specs.Problem.{IsForest};
-ghost use Rattle.mds_types.specs.RankSet.{has_rank, rank_count};
+ghost use Rattle.std.specs.Prelude.{◌≡◌, ◌<◌, ◌≤◌, ◌+◌, ◌↔◌, ℕ, IfErr, IfOk, IsTrue, length, max};
+ghost use Rattle.mds_types.specs.RankSet.{rank_count};
 ghost use Rattle.ceph_plan.specs.Balance.{allowed};
-ghost use Rattle.ceph_plan.specs.Choice.{AreCool, AreTried, AreWeighed, IsChosen, IsDividedOnce, IsFewer, IsPlanChoice};
-ghost use Rattle.ceph_plan.specs.Choice.{IsTaken, even_at, gap, greatest_in, moved_in, packings_at, part_count_at};
-ghost use Rattle.ceph_plan.specs.Choice.{size_of};
+ghost use Rattle.ceph_plan.specs.Choice.{AreCool, AreTried, AreWeighed, IsChosen, IsDividedOnce, IsFewer, IsPlace};
+ghost use Rattle.ceph_plan.specs.Choice.{IsPlanChoice, IsTaken, even_at, gap, greatest_in, moved_in, packings_at};
+ghost use Rattle.ceph_plan.specs.Choice.{part_count_at, size_of};
 ghost use Rattle.ceph_plan.specs.Refusals.{IsCountRefusal, IsPartsRefusal, IsPlanRefusal};
 
 use crate::bound::total_heat;
 use crate::packing::{Packed, are_pinned};
-use crate::plan::{PackedDivision, Planned, Size, divide};
+use crate::plan::{PackedDivision, Plannable, Planned, Size, divide};
 use crate::plan_error::PlanError;
 use mds_types::{Problem, ProblemError, ProblemRow, Rank, RankSet};
 use std::alloc::Global;
@@ -106,10 +104,8 @@ fn is_better(
     best: usize,
     place: usize,
 ) -> bool
-    requires at { at < length divisions.now }
-    requires there { there < length (packings_at divisions.now at) }
-    requires best { best < length divisions.now }
-    requires place { place < length (packings_at divisions.now best) }
+    requires at { IsPlace divisions.now at there }
+    requires best { IsPlace divisions.now best place }
     ensures { IsTrue result ↔ IsFewer (moved_in (packings_at divisions.now at) there) (part_count_at divisions.now at)
         (moved_in (packings_at divisions.now best) place) (part_count_at divisions.now best) }
 {
@@ -121,8 +117,7 @@ fn is_better(
 /// Which packing of which division is taken: of those whose greatest load passes by at most `keep` percent that of the
 /// coolest packing by heat only, one that moves the fewest inodes, with the fewest parts of these.
 fn chosen(divisions: &[PackedDivision], keep: u8) -> (usize, usize)
-    requires some { 0 < length divisions.now }
-    requires cool { AreCool divisions.now }
+    requires { AreCool divisions.now }
     ensures { IsChosen keep divisions.now result.0 result.1 }
 {
     let first = coolest(divisions);
@@ -142,8 +137,7 @@ fn chosen(divisions: &[PackedDivision], keep: u8) -> (usize, usize)
 
 /// The plan that is taken of these divisions.
 fn taken(mut divisions: Vec<PackedDivision>, keep: u8) -> Planned
-    requires some { 0 < length divisions.items }
-    requires cool { AreCool divisions.items }
+    requires { AreCool divisions.items }
     ensures { IsTaken keep divisions.items result }
 {
     let (at, place) = chosen(&divisions, keep);
@@ -185,31 +179,20 @@ fn next_count(parts: u32) -> u32
 
 /// A division into each number of parts that is tried, from that of the ranks to the most, as results don't fall
 /// steadily with the number.
-fn weighed(
-    alloc: Global,
-    rows: &[ProblemRow],
-    most: u16,
-    pinned: &[u64],
-    ranks: RankSet,
-) -> Result<Vec<PackedDivision>, PlanError>
-    requires forest { IsForest rows.now }
-    requires some { 0 < length rows.now }
-    requires size { length pinned.now ≡ 64 }
-    requires small { All (λ n. n ≤ 2 ^ 57) pinned.now }
-    requires zero { has_rank ranks 0 ≡ true }
-    ensures weighed { IfOk result (λ divisions. AreWeighed ranks pinned.now rows.now divisions.items
-        (max most (rank_count ranks) + 1)) }
+fn weighed(alloc: Global, of: &Plannable<'_>, most: u16) -> Result<Vec<PackedDivision>, PlanError>
+    ensures weighed { IfOk result (λ divisions. AreWeighed of.now.ranks of.now.pinned.now of.now.rows.now
+        divisions.items (max most (rank_count of.now.ranks) + 1)) }
     ensures some { IfOk result (λ divisions. 0 < length divisions.items) }
     ensures refused { IfErr result (λ error. error ≡ PlanError.Memory) }
 {
-    let (heat, count) = (total_heat(rows), u32::from(ranks.len()));
+    let (heat, count) = (total_heat(of.rows), u32::from(of.ranks.len()));
     let last = u32::from(most).max(count);
     let mut divisions = Vec::new(alloc);
     let mut is_heavy = false;
     let mut parts = count;
     while parts <= last {
         let size = size_for(parts, heat, is_heavy);
-        let divided = divide(alloc, rows, size, pinned, ranks)?;
+        let divided = divide(alloc, of, size)?;
         is_heavy |= divided.is_heavy;
         divisions.push(divided)?;
         parts = next_count(parts);
@@ -220,24 +203,18 @@ fn weighed(
 /// One division into at most this many parts, if any are asked for.
 fn divided_once(
     alloc: Global,
-    rows: &[ProblemRow],
+    of: &Plannable<'_>,
     parts: u16,
-    pinned: &[u64],
-    ranks: RankSet,
 ) -> Result<Vec<PackedDivision>, PlanError>
-    requires forest { IsForest rows.now }
-    requires some { 0 < length rows.now }
-    requires size { length pinned.now ≡ 64 }
-    requires small { All (λ n. n ≤ 2 ^ 57) pinned.now }
-    requires zero { has_rank ranks 0 ≡ true }
-    ensures divided { IfOk result (λ divisions. IsDividedOnce ranks pinned.now rows.now parts divisions.items) }
+    ensures divided { IfOk result (λ divisions. IsDividedOnce of.now.ranks of.now.pinned.now of.now.rows.now parts
+        divisions.items) }
     ensures refused { IfErr result (IsPartsRefusal parts) }
 {
     if parts == 0 {
         return Err(PlanError::Problem(ProblemError::NoRanks));
     }
     let (parts, cap) = (u32::from(parts), u64::MAX);
-    let divided = divide(alloc, rows, Size { parts, cap }, pinned, ranks)?;
+    let divided = divide(alloc, of, Size { parts, cap })?;
     let mut divisions = Vec::new(alloc);
     divisions.push(divided)?;
     Ok(divisions)
@@ -246,22 +223,16 @@ fn divided_once(
 /// The divisions that are tried. They don't depend on how much a load may pass the greatest.
 fn tried(
     alloc: Global,
-    rows: &[ProblemRow],
+    of: &Plannable<'_>,
     parts: PartCount,
-    pinned: &[u64],
-    ranks: RankSet,
 ) -> Result<Vec<PackedDivision>, PlanError>
-    requires forest { IsForest rows.now }
-    requires some { 0 < length rows.now }
-    requires size { length pinned.now ≡ 64 }
-    requires small { All (λ n. n ≤ 2 ^ 57) pinned.now }
-    requires zero { has_rank ranks 0 ≡ true }
-    ensures tried { IfOk result (λ divisions. AreTried ranks pinned.now rows.now parts divisions.items) }
+    ensures tried { IfOk result (λ divisions. AreTried of.now.ranks of.now.pinned.now of.now.rows.now parts
+        divisions.items) }
     ensures refused { IfErr result (IsCountRefusal parts) }
 {
     match parts {
-        PartCount::Auto(most) => weighed(alloc, rows, most, pinned, ranks),
-        PartCount::AtMost(parts) => divided_once(alloc, rows, parts, pinned, ranks),
+        PartCount::Auto(most) => weighed(alloc, of, most),
+        PartCount::AtMost(parts) => divided_once(alloc, of, parts),
     }
 }
 
@@ -293,6 +264,12 @@ pub fn choose_plan(
         Ok(problem) => problem,
         Err((error, _)) => return Err(PlanError::Problem(error)),
     };
-    let divisions = tried(alloc, problem.rows(), wanted.parts, pinned, ranks)?;
+    let rows = problem.rows();
+    let of = Plannable {
+        rows,
+        pinned,
+        ranks,
+    };
+    let divisions = tried(alloc, &of, wanted.parts)?;
     Ok(taken(divisions, wanted.keep))
 }

@@ -1,6 +1,6 @@
 //! The new pins of the rows, deepest first.
-ghost use Rattle.std.specs.Prelude.{◌≡◌, ◌≤◌, ◌^◌, length, IfOk};
-ghost use Rattle.ceph_plan.specs.Holds.{pins_below};
+ghost use Rattle.std.specs.Prelude.{◌≡◌, length, IfOk};
+ghost use Rattle.ceph_plan.specs.Holds.{HoldEach, pins_below};
 
 use crate::hold::Hold;
 use crate::row::{Pin, PinRow};
@@ -8,8 +8,7 @@ use std::alloc::{AllocError, Global};
 
 /// A pin for each row that is held by a new one of its own, by falling rows.
 pub fn gather(alloc: Global, rows: &[PinRow], holds: &[Hold]) -> Result<Vec<Pin>, AllocError>
-    requires size { length holds.now ≡ length rows.now }
-    requires few { length rows.now ≤ 2 ^ 32 }
+    requires { HoldEach rows.now holds.now }
     ensures { IfOk result (λ pins. pins.items ≡ pins_below rows.now holds.now (length rows.now)) }
 {
     let mut pins = Vec::new(alloc);

@@ -1,7 +1,7 @@
 //! For each row, what holds it: found from its parent's, so in one pass.
-ghost use Rattle.std.specs.Prelude.{◌≡◌, ◌<◌, ◌≤◌, ℕ, length, IfOk};
+ghost use Rattle.std.specs.Prelude.{◌≡◌, IfOk};
 ghost use Rattle.ceph_plan.specs.Rule.{AreRows};
-ghost use Rattle.ceph_plan.specs.Holds.{hold_of, AreHolds};
+ghost use Rattle.ceph_plan.specs.Holds.{HoldEach, hold_of};
 
 use crate::row::PinRow;
 use std::alloc::{AllocError, Global};
@@ -51,8 +51,7 @@ fn next_hold(row: PinRow, parent: PinRow, above: Hold) -> Hold
 /// What holds each row.
 pub fn holds_of(alloc: Global, rows: &[PinRow]) -> Result<Vec<Hold>, AllocError>
     requires { AreRows rows.now }
-    ensures size { IfOk result (λ holds. length holds.items ≡ length rows.now) }
-    ensures holds { IfOk result (λ holds. AreHolds rows.now holds.items (length rows.now)) }
+    ensures { IfOk result (λ holds. HoldEach rows.now holds.items) }
 {
     let mut holds = Vec::with_capacity(alloc, rows.len())?;
     for (i, row) in rows.iter().enumerate() {

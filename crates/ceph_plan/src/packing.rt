@@ -1,10 +1,9 @@
 //! A packing, with what it loads on each rank.
-ghost use Rattle.std.specs.Prelude.{◌≡◌, ◌<◌, ◌≤◌, ◌*◌, ◌^◌, ℕ, All, length, slice_index, true, IfOk, IsTrue};
-ghost use Rattle.mds_types.specs.Problem.{IsForest};
-ghost use Rattle.mds_types.specs.RankSet.{has_rank};
-ghost use Rattle.mds_types.specs.Sums.{sum_below};
-ghost use Rattle.ceph_plan.specs.Balance.{IsByHeat, IsEvenPacking, IsPartsPacking, greatest_by};
+ghost use Rattle.std.specs.Prelude.{◌≡◌, ◌<◌, ◌≤◌, ◌↔◌, ℕ, All, length, slice_index, IfOk, IsTrue};
+ghost use Rattle.ceph_plan.specs.Balance.{IsEvenPacking, IsPartsPacking, greatest_by};
+ghost use Rattle.ceph_plan.specs.Packing.{HaveParts, IsPinnedHeat};
 ghost use Rattle.ceph_plan.specs.Plans.{ArePackings, moved_inodes};
+ghost use Rattle.ceph_plan.specs.Refusals.{IsPlannable};
 
 use crate::loads::loads;
 use crate::order::by_heat;
@@ -55,9 +54,7 @@ pub fn are_parts(part: &[u32], count: u32) -> bool
 
 /// Whether this is the heat that is pinned to each of 64 ranks, and not too much of it.
 pub fn are_pinned(pinned: &[u64]) -> bool
-    ensures size { IsTrue result → length pinned.now ≡ 64 }
-    ensures small { IsTrue result → All (λ n. n ≤ 2 ^ 57) pinned.now }
-    ensures only { length pinned.now ≡ 64 → All (λ n. n ≤ 2 ^ 57) pinned.now → IsTrue result }
+    ensures { IsTrue result ↔ IsPinnedHeat pinned.now }
 {
     pinned.len() == 64 && pinned.iter().all(|heat| *heat <= 1 << 57)
 }
@@ -67,9 +64,7 @@ pub const TOLERANCES: &[u8] = &[0, 1, 2, 5, 10, 20, 50, 100];
 
 /// The inodes of the rows whose part goes to another rank than the one that has them.
 fn moved(rows: &[ProblemRow], part: &[u32], rank: &[Rank]) -> u64
-    requires few { length rows.now ≤ 65536 }
-    requires parts { length part.now ≡ length rows.now }
-    requires below { (i : ℕ) → i < length rows.now → slice_index part.now i < length rank.now }
+    requires { HaveParts rows.now part.now (length rank.now) }
     ensures { result ≡ moved_inodes rows.now part.now rank.now (length rows.now) }
 {
     let mut moved = 0;
@@ -121,14 +116,9 @@ pub fn pack(
     pinned: &[u64],
     ranks: RankSet,
 ) -> Result<Packings, AllocError>
-    requires forest { IsForest rows.now }
-    requires some { 0 < length rows.now }
+    requires able { IsPlannable ranks pinned.now rows.now }
     requires few { count ≤ 65536 }
-    requires parts { length part.now ≡ length rows.now }
-    requires below { (i : ℕ) → i < length rows.now → slice_index part.now i < count }
-    requires size { length pinned.now ≡ 64 }
-    requires small { All (λ n. n ≤ 2 ^ 57) pinned.now }
-    requires zero { has_rank ranks 0 ≡ true }
+    requires parts { HaveParts rows.now part.now count }
     ensures { IfOk result (λ found. ArePackings ranks pinned.now rows.now part.now count found.even
         found.each.items) }
 {

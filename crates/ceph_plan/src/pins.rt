@@ -1,8 +1,6 @@
 //! The pins that put each row at its target.
-ghost use Rattle.std.specs.Prelude.{◌≡◌, ◌≢◌, ◌<◌, ◌≤◌, ℕ, length, Option, IfOk, IsTrue, None, Some};
-ghost use Rattle.ceph_plan.specs.Rule.{AreRows, IsChoice, IsOurs, IsOursPinned, IsNearest, IsSettled};
-ghost use Rattle.ceph_plan.specs.Rule.{climb, foreign_at, own_pin, pin_at, pin_index, row_index};
-ghost use Rattle.ceph_plan.specs.Rule.{target_at, without, IsAt, IsRealized};
+ghost use Rattle.std.specs.Prelude.{◌≡◌, IfOk, IsTrue, None, Some};
+ghost use Rattle.ceph_plan.specs.Rule.{ArePinsFor, AreRows};
 
 use crate::gathered::gather;
 use crate::hold::holds_of;
@@ -53,24 +51,7 @@ pub fn are_rows(rows: &[PinRow]) -> bool
 /// A row that a foreign pin holds is left as it is. The root has to rest at its target, since Ceph never moves it.
 pub fn pins_for(alloc: Global, rows: &[PinRow]) -> Result<Vec<Pin>, AllocError>
     requires { AreRows rows.now }
-    // under Ceph's rule each row of ours is at its target
-    ensures realized { IfOk result (λ pins. IsRealized rows.now (own_pin rows.now pins.items)) }
-    // what foreign pins hold stays where it is
-    ensures kept { IfOk result (λ pins. (i r : ℕ) → IsNearest rows.now (foreign_at rows.now) i r
-        → IsNearest rows.now (own_pin rows.now pins.items) i r) }
-    // each pin is for a row of ours below the root, at that row's target
-    ensures ours { IfOk result (λ pins. (p : ℕ) → p < length pins.items
-        → IsOursPinned rows.now (pin_index pins.items p)) }
-    // without any one of the pins its row is elsewhere
-    ensures needed { IfOk result (λ pins. (i : ℕ) → pin_at pins.items i ≢ None
-        → ¬ (IsAt rows.now (without i (own_pin rows.now pins.items)) i (target_at rows.now i))) }
-    // where all rest at one rank, or at none that is known, whatever puts each
-    // row at its target pins each of these rows
-    ensures least { IfOk result (λ pins. IsSettled rows.now → (other : ℕ → Option ℕ) → IsChoice rows.now other
-        → IsRealized rows.now other → (i : ℕ) → pin_at pins.items i ≢ None → other i ≢ None) }
-    // a row comes before each row above it, and once
-    ensures order { IfOk result (λ pins. (p q steps : ℕ) → p < q → q < length pins.items
-        → climb rows.now steps (row_index pins.items q) ≢ row_index pins.items p) }
+    ensures { IfOk result (λ pins. ArePinsFor rows.now pins.items) }
 {
     let holds = holds_of(alloc, rows)?;
     gather(alloc, rows, &holds)

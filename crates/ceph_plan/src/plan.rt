@@ -1,15 +1,27 @@
 //! Plans of one number of parts.
-ghost use Rattle.std.specs.Prelude.{◌≡◌, ◌<◌, ◌≤◌, ◌^◌, ◌↔◌, ℕ, All, IsTrue, length, true};
-ghost use Rattle.std.specs.Prelude.{IfErr, IfOk};
+ghost use Rattle.std.specs.Prelude.{◌≡◌, ◌<◌, ◌≤◌, ◌↔◌, ℕ, IfErr, IfOk, IsTrue, length};
 ghost use Rattle.mds_types.specs.Problem.{IsForest, heat_at};
-ghost use Rattle.mds_types.specs.RankSet.{has_rank};
 ghost use Rattle.ceph_plan.specs.Plans.{IsDivided, capped_rows};
+ghost use Rattle.ceph_plan.specs.Refusals.{IsPlannable};
 
 use crate::packing::{Packing, Packings, pack};
 use crate::plan_error::PlanError;
 use mds_types::{ProblemRow, RankSet};
 use minmax_search::{BestCut, search_rows};
 use std::alloc::{AllocError, Global};
+
+/// What can be planned.
+#[derive(Drop)]
+pub struct Plannable<'a> {
+    /// The directories.
+    pub rows: &'a [ProblemRow],
+    /// `pinned[r]` is the heat that is held at rank r.
+    pub pinned: &'a [u64],
+    /// The ranks that may have a part, with rank 0.
+    pub ranks: RankSet,
+    pub ghost forest: { IsForest rows.now },
+    pub ghost able: { IsPlannable ranks pinned.now rows.now },
+}
 
 /// The directories divided into connected parts, and the parts packed on the ranks.
 #[derive(Drop)]
@@ -79,26 +91,13 @@ fn has_row_of(rows: &[ProblemRow], heat: u64) -> bool
 ///
 /// Where one row is as hot as the hottest part, no division is cooler, and the rest isn't divided any further. A cap
 /// below that row's heat lets the rest be divided as finely as the number of parts allows.
-///
-/// `pinned[r]` is the heat that is held at rank r.
-pub fn divide(
-    alloc: Global,
-    rows: &[ProblemRow],
-    size: Size,
-    pinned: &[u64],
-    ranks: RankSet,
-) -> Result<PackedDivision, PlanError>
-    requires forest { IsForest rows.now }
-    requires some { 0 < length rows.now }
+pub fn divide(alloc: Global, of: &Plannable<'_>, size: Size) -> Result<PackedDivision, PlanError>
     requires parts { 0 < size.parts }
     requires few { size.parts ≤ 65536 }
-    requires size { length pinned.now ≡ 64 }
-    requires small { All (λ n. n ≤ 2 ^ 57) pinned.now }
-    requires zero { has_rank ranks 0 ≡ true }
-    ensures divided { IfOk result (IsDivided ranks pinned.now rows.now size.parts size.cap) }
+    ensures divided { IfOk result (IsDivided of.now.ranks of.now.pinned.now of.now.rows.now size.parts size.cap) }
     ensures refused { IfErr result (λ error. error ≡ PlanError.Memory) }
 {
-    let capped = capped(alloc, rows, size.cap)?;
+    let capped = capped(alloc, of.rows, size.cap)?;
     let BestCut {
         cut,
         greatest,
@@ -106,7 +105,7 @@ pub fn divide(
         passes: _,
     } = search_rows(alloc, &capped, size.parts)?;
     let is_heavy = has_row_of(&capped, greatest);
-    let packings = pack(alloc, rows, &cut.part, cut.count, pinned, ranks)?;
+    let packings = pack(alloc, of.rows, &cut.part, cut.count, of.pinned, of.ranks)?;
     Ok(PackedDivision {
         part: cut.part,
         count: cut.count,

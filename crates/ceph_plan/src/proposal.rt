@@ -1,7 +1,8 @@
 //! The changes of export pins that bring each directory to the rank that a plan gives it.
-ghost use Rattle.std.specs.Prelude.{◌≡◌, ◌==◌, ◌<◌, ℕ, length, slice_index, IfErr, IfOk};
+ghost use Rattle.std.specs.Prelude.{◌≡◌, ◌<◌, length, IfErr, IfOk};
 ghost use Rattle.mds_types.specs.Problem.{IsForest};
 ghost use Rattle.ceph_plan.specs.Asked.{ArePinRows, rest_where};
+ghost use Rattle.ceph_plan.specs.Packing.{HaveParts};
 ghost use Rattle.ceph_plan.specs.Proposals.{IsProposal};
 ghost use Rattle.ceph_plan.specs.Refusals.{IsProposalRefusal};
 
@@ -62,10 +63,8 @@ fn pin_rows(
     own: &[OwnPins],
     rests: bool,
 ) -> Result<Vec<PinRow>, AllocError>
-    requires forest { IsForest rows.now }
-    requires parts { length part.now ≡ length rows.now }
+    requires parts { HaveParts rows.now part.now (length rank.now) }
     requires own { length own.now ≡ length rows.now }
-    requires below { (i : ℕ) → i < length rows.now → slice_index part.now i < length rank.now }
     ensures { IfOk result (λ found. ArePinRows rows.now part.now rank.now own.now (length rows.now) rests
         found.items) }
 {

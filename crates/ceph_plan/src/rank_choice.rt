@@ -2,12 +2,12 @@
 ghost use Rattle.std.specs.Prelude.{◌≡◌, ◌≢◌, ◌<◌, ◌≤◌, ◌+◌, ◌*◌, ◌^◌, ◌&&◌, ◌||◌, ◌==◌, ◌⊎◌};
 ghost use Rattle.std.specs.Prelude.{ℕ, All, length, slice_index, true, IfOk};
 ghost use Rattle.mds_types.specs.Division.{part_heat};
-ghost use Rattle.mds_types.specs.Problem.{IsForest};
 ghost use Rattle.mds_types.specs.RankSet.{has_rank};
 ghost use Rattle.mds_types.specs.Sums.{sum_below};
 ghost use Rattle.ceph_plan.specs.Balance.{ArePartAmounts, HaveRanks, IsByHeat, IsEvenPacking, IsEvened, IsHomeRank};
 ghost use Rattle.ceph_plan.specs.Balance.{IsKeptPacking, IsKeptWithin};
 ghost use Rattle.ceph_plan.specs.Balance.{IsNearMean, IsSent, allowed, greatest_by, inodes_there, part_inodes_at};
+ghost use Rattle.ceph_plan.specs.Packing.{HaveParts};
 
 use crate::bound::{has_number, most};
 use crate::exchange::exchanged;
@@ -22,9 +22,7 @@ pub fn part_heats(
     part: &[u32],
     count: u32,
 ) -> Result<Vec<u64>, AllocError>
-    requires forest { IsForest rows.now }
-    requires size { length part.now ≡ length rows.now }
-    requires below { (i : ℕ) → i < length rows.now → slice_index part.now i < count }
+    requires { HaveParts rows.now part.now count }
     ensures size { IfOk result (λ heats. length heats.items ≡ count) }
     ensures heats { IfOk result (λ heats. (p : ℕ) → p < count
         → slice_index heats.items p ≡ part_heat rows.now (slice_index part.now) p) }
@@ -51,10 +49,8 @@ pub fn part_inodes(
     part: &[u32],
     count: u32,
 ) -> Result<Vec<u64>, AllocError>
-    requires forest { IsForest rows.now }
     requires few { count ≤ 65536 }
-    requires size { length part.now ≡ length rows.now }
-    requires below { (i : ℕ) → i < length rows.now → slice_index part.now i < count }
+    requires parts { HaveParts rows.now part.now count }
     ensures size { IfOk result (λ inodes. length inodes.items ≡ count * 64) }
     ensures inodes { IfOk result (λ inodes. (p r : ℕ) → p < count → r < 64
         → inodes_there inodes.items p r ≡ part_inodes_at rows.now part.now p r) }

@@ -12,9 +12,7 @@ returns c =
     let holds : List Hold = c.in_ok-holds.holds.items in
     let changes : List PinChange = c.push_drops.new.changes.items in
     let are : AreChanges rows holds changes = record {
-      are = c.requires;
-      holds_are = c.in_ok-holds.ensures.holds;
-      size = c.in_ok-holds.ensures.size;
+      held = c.in_ok-holds.ensures;
       changes_are = c.in_ok-push_drops.ensures
           ∙ (ap (λ (cs : List PinChange). cs ++ drops_from rows c.deref-2.result.now (length rows) 0) (c.in_ok-push_sets.ensures ∙ ap (λ (cs : List PinChange). cs ++ sets_below rows c.deref.result.now (length rows)) c.new-changes.ensures.items)
           ∙ (rw (c.deref.ensures.value, c.deref-2.ensures.value) refl));

@@ -23,8 +23,7 @@ loop-at-init c =
     c.packings_of.ensures c.fewest_within-place.ensures.fewest in
     let there : place < length packings = (fewest cool.0 cool.1 low).0 in
     record {
-      inside = c.coolest-first.ensures.inside;
-      there = there;
+      place = record { inside = c.coolest-first.ensures.inside; there = there };
       within = within there;
       fewest = λ j w l. let none : ⊥ = omega (arith, l) in absurd none;
     }

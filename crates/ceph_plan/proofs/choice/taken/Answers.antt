@@ -7,8 +7,8 @@ use Rattle.ceph_plan.specs.Choice.{AreCool, IsChosen}
 use Rattle.ceph_plan.proofs.Taken.{inside-packings}
 use Rattle.ceph_plan.proofs.choice.taken.Goals as goal
 
-pub chosen-at-requires-clause-cool : goal.chosen-at-requires-clause-cool
-chosen-at-requires-clause-cool c = subst AreCool (sym c.deref.ensures.value) c.requires.cool
+pub chosen-at-requires : goal.chosen-at-requires
+chosen-at-requires c = subst AreCool (sym c.deref.ensures.value) c.requires
 
 pub swap_remove-packed-requires : goal.swap_remove-packed-requires
 swap_remove-packed-requires c =
@@ -17,8 +17,8 @@ swap_remove-packed-requires c =
     let k : ℕ = c.chosen-at.result.0 in
     let v : ℕ = c.chosen-at.result.1 in
     let chosen : IsChosen c.args.keep divisions k v = subst (λ (those : List PackedDivision). IsChosen c.args.keep those k v) c.deref.ensures.value c.chosen-at.ensures in
-    let at : slice_get divisions k ≡ Some divided = slice_get_read divisions (length divisions) k divided refl chosen.inside c.swap_remove-divided.ensures.value in
-    subst (λ (n : ℕ). v < n) (sym divided.packings.each.ok.0) (inside-packings divisions k v divided at chosen.there)
+    let at : slice_get divisions k ≡ Some divided = slice_get_read divisions (length divisions) k divided refl chosen.place.inside c.swap_remove-divided.ensures.value in
+    subst (λ (n : ℕ). v < n) (sym divided.packings.each.ok.0) (inside-packings divisions k v divided at chosen.place.there)
 
 pub returns : goal.returns
 returns c =
@@ -28,7 +28,7 @@ returns c =
     let k : ℕ = c.chosen-at.result.0 in
     let v : ℕ = c.chosen-at.result.1 in
     let chosen : IsChosen c.args.keep divisions k v = subst (λ (those : List PackedDivision). IsChosen c.args.keep those k v) c.deref.ensures.value c.chosen-at.ensures in
-    let at : slice_get divisions k ≡ Some divided = slice_get_read divisions (length divisions) k divided refl chosen.inside c.swap_remove-divided.ensures.value in
+    let at : slice_get divisions k ≡ Some divided = slice_get_read divisions (length divisions) k divided refl chosen.place.inside c.swap_remove-divided.ensures.value in
     let packings : List Packed = divided.packings.each.items in
     record {
       k = k;
@@ -37,6 +37,6 @@ returns c =
       divided = divided;
       packed = packed;
       at = at;
-      there = slice_get_read packings (length packings) v packed refl (inside-packings divisions k v divided at chosen.there) c.swap_remove-packed.ensures.value;
+      there = slice_get_read packings (length packings) v packed refl (inside-packings divisions k v divided at chosen.place.there) c.swap_remove-packed.ensures.value;
       is = refl;
     }

@@ -19,7 +19,7 @@ overflow_add-index_mut c =
     let small : to < 64 = omega (arith, c.from.ensures, c.number.ensures.small) in
     let read : c.index_mut.result.now ≡ get_or loads to 0 =
     read-value loads loads to c.index_mut.result.now refl (omega (arith, c.loop-part.invariant.size, small)) c.index_mut.ensures.value in
-    let most : get_or pinned to 0 ≤ 2 ^ 57 = c.args.parts.now.are.small to 0 (omega (arith, c.args.parts.now.are.pinned_size, small)) in
+    let most : get_or pinned to 0 ≤ 2 ^ 57 = c.args.parts.now.are.ranks_are.held.small to 0 (omega (arith, c.args.parts.now.are.ranks_are.held.size, small)) in
     let before : sum_below n (λ q. cond (slice_index rank q == to) (slice_index heats q) 0) ≤ sum_below n (slice_index heats) =
     sum_below-le n (λ q. cond (slice_index rank q == to) (slice_index heats q) 0) (slice_index heats) (λ q l. fewer (slice_index rank q == to) (slice_index heats q)) in
     let all : sum_below (n + 1) (slice_index heats) ≤ sum_below (length heats) (slice_index heats) =

@@ -1,10 +1,11 @@
-use Rattle.std.proofs.Common.{◌≡◌, ◌<◌, ◌≤◌, ◌+◌, ◌*◌, ◌++◌, ◌∷◌, ◌^◌, ◌∙◌, [], ℕ, suc, List, ap, arith, length, refl, slice_index, subst, sym, take}
+use Rattle.std.proofs.Common.{◌≡◌, ◌≤◌, ◌+◌, ◌*◌, ◌++◌, ◌∷◌, ◌^◌, ◌∙◌, [], ℕ, suc, List, ap, arith, length, refl, slice_index, subst, sym, take}
 use Rattle.std.proofs.Math.Seq.{take-length, take-suc}
 use Rattle.mds_types.specs.Sums.{sum_below}
 use Rattle.ceph_plan.specs.declared.packing.Packed.{Packed}
 use Rattle.ceph_plan.specs.declared.packing.Packing.{Packing}
 use Rattle.ceph_plan.specs.declared.packing.TheConstants.{TOLERANCES}
 use Rattle.ceph_plan.specs.Balance.{IsByHeat, IsEvenPacking, IsPartsPacking}
+use Rattle.ceph_plan.specs.Packing.{HaveParts}
 use Rattle.ceph_plan.specs.Plans.{moved_inodes}
 use Rattle.ceph_plan.proofs.PackedRows.{AreOfParts, AreSoFar, packed-evenly, packed-rows, packings-more, parts-same}
 use Rattle.ceph_plan.proofs.PartSums.{heats-small}
@@ -21,24 +22,22 @@ invariant_of-parts c =
             inodes_size = ap length c.deref-4.ensures.value ∙ (c.in_ok-inodes.ensures.size ∙ ap (λ (n : ℕ). n * 64) (sym size));
             by_heat = subst (λ (xs : List ℕ). IsByHeat xs c.deref-3.result.now) (c.deref.ensures.value ∙ sym c.deref-2.ensures.value)
                 (subst (λ (order : List ℕ). IsByHeat c.deref.result.now order) (sym c.deref-3.ensures.value) c.in_ok-order.ensures);
-            inside = omega (arith, c.requires.below 0 c.requires.some, size);
-            pinned_size = c.requires.size;
-            small = c.requires.small;
+            inside = omega (arith, c.requires.parts.below 0 c.requires.able.some, size);
+            ranks_are = c.requires.able.ranks_are;
             total =
                 subst (λ (heats : List ℕ). sum_below (length heats) (slice_index heats) ≤ 2 ^ 56) (sym c.deref-2.ensures.value)
-                (heats-small c.args.rows.now c.args.part.now heats c.args.count c.requires.forest c.in_ok-heats.ensures.size c.requires.below c.in_ok-heats.ensures.heats);
-            zero = c.requires.zero;
+                (heats-small c.args.rows.now c.args.part.now heats c.args.count c.requires.parts c.in_ok-heats.ensures.size c.in_ok-heats.ensures.heats);
           };
     }
 
-pub moved-moved-requires-clause-below : goal.moved-moved-requires-clause-below
-moved-moved-requires-clause-below c = λ i lt.
+pub moved-moved-requires : goal.moved-moved-requires
+moved-moved-requires c =
     let is : IsPartsPacking c.args.ranks c.args.pinned.now c.in_ok-heats.heats.items c.in_ok-inodes.inodes.items (slice_index c.args.part.now 0) c.in_ok-even.even.rank.items c.in_ok-packing.packing =
     parts-same c.args.ranks c.args.pinned.now c.in_ok-heats.heats.items c.in_ok-inodes.inodes.items c.deref-2.result.now c.deref-4.result.now (slice_index c.args.part.now 0)
     c.in_ok-even.even.rank.items c.in_ok-packing.packing c.deref-2.ensures.value c.deref-4.ensures.value c.in_ok-packing.ensures.parts in
-    subst (λ (n : ℕ). slice_index c.args.part.now i < n)
+    subst (HaveParts c.args.rows.now c.args.part.now)
     (sym (ap length c.deref-in-loop-keep.ensures.value ∙ (is.ranks_are.size ∙ c.in_ok-heats.ensures.size)))
-    (c.requires.below i lt)
+    c.requires.parts
 
 pub loop-keep-preserved : goal.loop-keep-preserved
 loop-keep-preserved c =
@@ -52,7 +51,7 @@ loop-keep-preserved c =
     let at : ℕ = c.loop-keep.keep-index in
     let tolerances : List ℕ = TOLERANCES.now in
     let of : AreOfParts rows part c.args.count heats inodes =
-    record { below = c.requires.below; size = c.in_ok-heats.ensures.size; heat = c.in_ok-heats.ensures.heats; there = c.in_ok-inodes.ensures.inodes } in
+    record { below = c.requires.parts.below; size = c.in_ok-heats.ensures.size; heat = c.in_ok-heats.ensures.heats; there = c.in_ok-inodes.ensures.inodes } in
     let by_heat : IsEvenPacking c.args.ranks c.args.pinned.now heats (slice_index part 0) even =
     subst (λ (those : List ℕ). IsEvenPacking c.args.ranks c.args.pinned.now those (slice_index part 0) even) c.deref-2.ensures.value c.in_ok-even.ensures.even in
     let is : IsPartsPacking c.args.ranks c.args.pinned.now heats inodes (slice_index part 0) even packing =

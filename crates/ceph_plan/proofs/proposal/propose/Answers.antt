@@ -1,20 +1,23 @@
-use Rattle.std.proofs.Common.{◌≡◌, ◌<◌, ◌∙◌, ℕ, List, None, ap, inl, length, refl, slice_index, subst, sym}
+use Rattle.std.proofs.Common.{◌≡◌, ◌∙◌, ℕ, List, None, ap, inl, length, refl, subst, sym}
 use Rattle.std.proofs.lemmas.Bool.{both_ways}
 use Rattle.mds_types.specs.declared.problem.ProblemRow.{ProblemRow}
 use Rattle.ceph_plan.specs.declared.plan.Planned.{Planned}
 use Rattle.ceph_plan.specs.declared.proposal.OwnPins.{OwnPins}
 use Rattle.ceph_plan.specs.declared.row.PinChange.{PinChange}
 use Rattle.ceph_plan.specs.declared.row.PinRow.{PinRow}
+use Rattle.ceph_plan.specs.Packing.{HaveParts}
 use Rattle.ceph_plan.specs.Rule.{AreRows}
 use Rattle.ceph_plan.specs.Changes.{AreChangesFor}
 use Rattle.ceph_plan.specs.Asked.{ArePinRows, own_at}
 use Rattle.ceph_plan.proofs.AskedRows.{asked-rows, same-asked}
 use Rattle.ceph_plan.proofs.proposal.propose.Goals as goal
 
-pub pin_rows-requires-clause-below : goal.pin_rows-requires-clause-below
-pin_rows-requires-clause-below c = λ i l.
-    subst (λ (n : ℕ). slice_index c.deref.result.now i < n) (sym (ap length c.deref-2.ensures.value ∙ c.in_ok-plan.ensures.chosen.plan.packing.size))
-    (subst (λ (part : List ℕ). slice_index part i < c.in_ok-plan.plan.count) (sym c.deref.ensures.value) (c.in_ok-plan.ensures.chosen.plan.division.below i l))
+pub pin_rows-requires-clause-parts : goal.pin_rows-requires-clause-parts
+pin_rows-requires-clause-parts c =
+    let plan = c.in_ok-plan.ensures.chosen.plan in
+    subst (HaveParts c.args.rows.now c.deref.result.now) (sym (ap length c.deref-2.ensures.value ∙ plan.packing.size))
+    (subst (λ (part : List ℕ). HaveParts c.args.rows.now part c.in_ok-plan.plan.count) (sym c.deref.ensures.value)
+    (record { forest = plan.forest; size = plan.size; below = plan.division.below }))
 
 pub changes_for-requires : goal.changes_for-requires
 changes_for-requires c = subst AreRows (c.deref-3.ensures.value ∙ sym c.deref-4.ensures.value) (c.if-not-are_rows.ensures.rows refl)

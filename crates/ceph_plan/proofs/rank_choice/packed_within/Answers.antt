@@ -12,8 +12,8 @@ overflow_add-index_mut c =
     let pinned : List ℕ = c.args.parts.now.pinned.now in
     let heats : List ℕ = c.args.parts.now.heats.now in
     let first : c.index_mut.result.now ≡ get_or pinned 0 0 =
-    read-value c.in_ok-loads.loads.items pinned 0 c.index_mut.result.now (c.in_ok-loads.ensures.items_if_clones_equal (λ x y same. same)) (omega (arith, c.args.parts.now.are.pinned_size)) c.index_mut.ensures.value in
-    let most : get_or pinned 0 0 ≤ 2 ^ 57 = c.args.parts.now.are.small 0 0 (omega (arith, c.args.parts.now.are.pinned_size)) in
+    read-value c.in_ok-loads.loads.items pinned 0 c.index_mut.result.now (c.in_ok-loads.ensures.items_if_clones_equal (λ x y same. same)) (omega (arith, c.args.parts.now.are.ranks_are.held.size)) c.index_mut.ensures.value in
+    let most : get_or pinned 0 0 ≤ 2 ^ 57 = c.args.parts.now.are.ranks_are.held.small 0 0 (omega (arith, c.args.parts.now.are.ranks_are.held.size)) in
     omega (arith, first, most, sum_below-term (length heats) c.args.parts.now.root (slice_index heats) c.args.parts.now.are.inside, c.args.parts.now.are.total)
 
 pub loop-left-init : goal.loop-left-init
@@ -25,13 +25,13 @@ loop-left-init c =
     let loads : List ℕ = c.in_ok-loads.loads.items in
     let more : ℕ = c.index_mut.result.now + get_or heats root 0 in
     let same : loads ≡ pinned = c.in_ok-loads.ensures.items_if_clones_equal (λ x y is. is) in
-    let size : length loads ≡ 64 = ap length same ∙ c.args.parts.now.are.pinned_size in
+    let size : length loads ≡ 64 = ap length same ∙ c.args.parts.now.are.ranks_are.held.size in
     let first : c.index_mut.result.now ≡ get_or loads 0 0 =
     read-value loads loads 0 c.index_mut.result.now refl (omega (arith, size)) c.index_mut.ensures.value in
     let zero : c.default.result ≡ 0 = sym c.default.ensures.1 ∙ c.default.ensures.2 in
     let rank_is : c.in_ok-rank.rank.items ≡ replicate n 0 = c.in_ok-rank.ensures.items_if_clones_equal (λ y is. is) ∙ ap (λ (x : ℕ). replicate n x) zero in
     packed-first c.args.parts.now.ranks pinned heats c.args.parts.now.inodes.now c.args.parts.now.order.now root c.args.limit c.in_ok-rank.rank.items c.in_ok-done.done.items (set loads 0 more) n c.args.parts.now.are.by_heat refl
-    c.args.parts.now.are.inside c.args.parts.now.are.zero rank_is (c.in_ok-done.ensures.items_if_clones_equal (λ y is. is)) (length-set loads 0 more ∙ size)
+    c.args.parts.now.are.inside c.args.parts.now.are.ranks_are.zero rank_is (c.in_ok-done.ensures.items_if_clones_equal (λ y is. is)) (length-set loads 0 more ∙ size)
     (λ r small. added-set loads 0 (get_or heats root 0) more r (omega (arith, size)) (ap (λ (x : ℕ). x + get_or heats root 0) first)
     ∙ ap (λ (xs : List ℕ). get_or xs r 0 + cond (eqb 0 r) (get_or heats root 0) 0) same)
 
@@ -49,7 +49,7 @@ rank_for-to-requires-clause-room c = λ r small.
     let inside : part < length heats = c.args.parts.now.are.by_heat.inside (c.loop-left.left - 1) (omega (arith, c.loop-left.invariant.within, c.loop-left-test.true)) in
     let bound : slice_index loads r ≤ 2 ^ 57 + 2 ^ 56 =
     load-bound c.args.parts.now.ranks c.args.parts.now.pinned.now heats c.args.parts.now.inodes.now c.args.parts.now.order.now c.args.parts.now.root c.args.limit c.loop-left.rank.items c.loop-left.done.items loads
-    c.loop-left.left r c.loop-left.invariant c.args.parts.now.are.small c.args.parts.now.are.pinned_size c.args.parts.now.are.total small in
+    c.loop-left.left r c.loop-left.invariant c.args.parts.now.are.ranks_are.held c.args.parts.now.are.total small in
     let read : slice_index c.deref.result.now r ≡ slice_index loads r = ap (λ (xs : List ℕ). slice_index xs r) c.deref.ensures.value in
     omega (arith, read, bound, sum_below-term (length heats) part (slice_index heats) inside, c.args.parts.now.are.total)
 
@@ -63,7 +63,7 @@ overflow_add-index_mut-then-not-index c =
     let small : to < 64 = omega (arith, c.from.ensures, c.number.ensures.small) in
     let bound : slice_index loads to ≤ 2 ^ 57 + 2 ^ 56 =
     load-bound c.args.parts.now.ranks c.args.parts.now.pinned.now heats c.args.parts.now.inodes.now c.args.parts.now.order.now c.args.parts.now.root c.args.limit c.loop-left.rank.items c.loop-left.done.items loads
-    c.loop-left.left to c.loop-left.invariant c.args.parts.now.are.small c.args.parts.now.are.pinned_size c.args.parts.now.are.total small in
+    c.loop-left.left to c.loop-left.invariant c.args.parts.now.are.ranks_are.held c.args.parts.now.are.total small in
     let read : c.index_mut-then-not-index.result.now ≡ get_or loads to 0 =
     read-value loads loads to c.index_mut-then-not-index.result.now refl (omega (arith, c.loop-left.invariant.loads_size, small)) c.index_mut-then-not-index.ensures.value in
     omega (arith, read, bound, sum_below-term (length heats) part (slice_index heats) inside, c.args.parts.now.are.total)

@@ -11,11 +11,11 @@ pub overflow_add-index_mut : goal.overflow_add-index_mut
 overflow_add-index_mut c =
     let inodes : List ℕ = c.loop-i.inodes.items in
     let k : ℕ = get_or c.args.part.now c.loop-i.i 0 * 64 + c.from.result in
-    let part : get_or c.args.part.now c.loop-i.i 0 < c.args.count = c.requires.below c.loop-i.i c.loop-i-test.true in
+    let part : get_or c.args.part.now c.loop-i.i 0 < c.args.count = c.requires.parts.below c.loop-i.i c.loop-i-test.true in
     let inside : k < c.args.count * 64 = omega (arith, part, c.from.ensures, c.number.ensures.small) in
     let read : c.index_mut.result.now ≡ get_or inodes k 0 =
     read-value inodes inodes k c.index_mut.result.now refl (omega (arith, inside, c.loop-i.invariant.size)) c.index_mut.ensures.value in
-    omega (arith, read, c.loop-i.invariant.small k inside, c.inodes_of.ensures.small, c.loop-i-test.true, c.requires.forest.few)
+    omega (arith, read, c.loop-i.invariant.small k inside, c.inodes_of.ensures.small, c.loop-i-test.true, c.requires.parts.forest.few)
 
 pub loop-i-preserved : goal.loop-i-preserved
 loop-i-preserved c =
@@ -25,7 +25,7 @@ loop-i-preserved c =
     let here : ℕ = get_or c.args.part.now i 0 in
     let k : ℕ = here * 64 + c.from.result in
     let v : ℕ = c.index_mut.result.now + c.inodes_of.result in
-    let part : here < c.args.count = c.requires.below i c.loop-i-test.true in
+    let part : here < c.args.count = c.requires.parts.below i c.loop-i-test.true in
     let inside : k < c.args.count * 64 = omega (arith, part, c.from.ensures, c.number.ensures.small) in
     let there : k < length inodes = omega (arith, inside, c.loop-i.invariant.size) in
     let read : c.index_mut.result.now ≡ get_or inodes k 0 = read-value inodes inodes k c.index_mut.result.now refl there c.index_mut.ensures.value in
