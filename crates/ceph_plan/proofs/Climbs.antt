@@ -24,9 +24,6 @@ climb-add rows (suc m) n i =
     let same : suc m + n ≡ suc (m + n) = omega arith in
     ap (λ (k : ℕ). climb rows k i) same ∙ climb-add rows m n (parent_at rows i)
 
-apart : {X : Type 0} (o : Option ℕ) (r : ℕ) → o ≡ Some r → o ≡ None → X
-apart o r some none = cc
-
 pub some_none : (o : Option ℕ) (r : ℕ) → o ≡ Some r → o ≡ None → ⊥
 some_none o r some none = cc
 

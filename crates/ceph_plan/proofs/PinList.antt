@@ -69,17 +69,21 @@ falling rows holds (suc n) p q less l =
 pub before-inside : (i n : ℕ) → 0 < i → i ≤ n → i - 1 < n
 before-inside i n some inside = omega arith
 
-pins-split : (rows : List PinRow) (holds : List Hold) (i : ℕ) → 0 < i → pins_below rows holds i ≡ cond (is_own (hold_at holds (i - 1))) (record { row = i - 1; rank = target_at rows (i - 1) } ∷ []) [] ++ pins_below rows holds (i - 1)
-pins-split rows holds i l =
-    let more : i ≡ suc (i - 1) = omega (arith, l) in
-    subst (λ (n : ℕ). pins_below rows holds n ≡ cond (is_own (hold_at holds (i - 1))) (record { row = i - 1; rank = target_at rows (i - 1) } ∷ []) [] ++ pins_below rows holds (i - 1)) (sym more) refl
+-- one more row is done, which has one more of them or none
+pub with_one : {X : Type 0} (done rest all : List X) (x : X) (b : Bool) → done ++ (cond b (x ∷ []) [] ++ rest) ≡ all → b ≡ true → (done ++ x ∷ []) ++ rest ≡ all
+with_one done rest all x b is set = append_assoc done (x ∷ []) rest ∙ (sym (ap (λ (some : Bool). done ++ (cond some (x ∷ []) [] ++ rest)) set) ∙ is)
+
+pub with_none : {X : Type 0} (done rest all : List X) (x : X) (b : Bool) → done ++ (cond b (x ∷ []) [] ++ rest) ≡ all → b ≡ false → done ++ rest ≡ all
+with_none done rest all x b is unset = sym (ap (λ (some : Bool). done ++ (cond some (x ∷ []) [] ++ rest)) unset) ∙ is
+
+pub more-before : (i : ℕ) → 0 < i → i ≡ suc (i - 1)
+more-before i l = omega (arith, l)
 
 -- a row that has a pin, and one that has none
 pub with_pin : (rows : List PinRow) (holds : List Hold) (done all : List Pin) (i : ℕ) → 0 < i → done ++ pins_below rows holds i ≡ all → is_own (hold_at holds (i - 1)) ≡ true → (done ++ record { row = i - 1; rank = target_at rows (i - 1) } ∷ []) ++ pins_below rows holds (i - 1) ≡ all
-with_pin rows holds done all i l is own =
-    append_assoc done (record { row = i - 1; rank = target_at rows (i - 1) } ∷ []) (pins_below rows holds (i - 1))
-    ∙ (ap (λ (ps : List Pin). done ++ ps) (sym (pins-split rows holds i l ∙ (rw own refl))) ∙ is)
+with_pin rows holds done all i l is own = with_one done (pins_below rows holds (i - 1)) all (record { row = i - 1; rank = target_at rows (i - 1) }) (is_own (hold_at holds (i - 1)))
+    (subst (λ (n : ℕ). done ++ pins_below rows holds n ≡ all) (more-before i l) is) own
 
 pub with_no_pin : (rows : List PinRow) (holds : List Hold) (done all : List Pin) (i : ℕ) → 0 < i → done ++ pins_below rows holds i ≡ all → is_own (hold_at holds (i - 1)) ≡ false → done ++ pins_below rows holds (i - 1) ≡ all
-with_no_pin rows holds done all i l is own =
-    ap (λ (ps : List Pin). done ++ ps) (sym (pins-split rows holds i l ∙ (rw own refl))) ∙ is
+with_no_pin rows holds done all i l is own = with_none done (pins_below rows holds (i - 1)) all (record { row = i - 1; rank = target_at rows (i - 1) }) (is_own (hold_at holds (i - 1)))
+    (subst (λ (n : ℕ). done ++ pins_below rows holds n ≡ all) (more-before i l) is) own

@@ -50,44 +50,44 @@ here_above a b j n e = rw (le-ltb j n (omega (arith, e))) refl
 here_below : (a b : Option ℕ) (j n : ℕ) → n ≡ j → cond (nat_lt j (suc n)) a b ≡ a
 here_below a b j n e = rw (lt-ltb j (suc n) (omega (arith, e))) refl
 
--- one row further
-set_step : (old new own : ℕ → Option ℕ) (n : ℕ) (c : PinChange) → c.row ≡ n → c.pin ≡ first_of (new n) (old n) → AreSame own (while_set old new (suc n)) → AreSame (changed own c) (while_set old new n)
-set_step old new own n c at pin s = record {
+-- one row further, where the other rows stay as they are
+step_to : (own before after : ℕ → Option ℕ) (n : ℕ) (c : PinChange) → c.row ≡ n → c.pin ≡ after n → ((j : ℕ) → n ≢ j → before j ≡ after j) → AreSame own before → AreSame (changed own c) after
+step_to own before after n c at pin others s = record {
   same = λ j.
-      ⊎_elim (λ (here : n ≡ j).
-      at_same own c j (at ∙ here) ∙ (pin ∙ (ap (λ (k : ℕ). first_of (new k) (old k)) here ∙ sym (here_above (old j) (first_of (new j) (old j)) j n here))))
-      (λ (other : n ≢ j).
-      at_other own c j (λ e. other (sym at ∙ e)) ∙ (s.same j ∙ same_side (old j) (first_of (new j) (old j)) j n other))
+      ⊎_elim (λ (here : n ≡ j). at_same own c j (at ∙ here) ∙ (pin ∙ ap after here))
+      (λ (other : n ≢ j). at_other own c j (λ e. other (sym at ∙ e)) ∙ (s.same j ∙ others j other))
       (cases_eq n j);
 }
+
+pass_to : (own before after : ℕ → Option ℕ) (n : ℕ) → before n ≡ after n → ((j : ℕ) → n ≢ j → before j ≡ after j) → AreSame own before → AreSame own after
+pass_to own before after n is others s = record {
+  same = λ j.
+      ⊎_elim (λ (here : n ≡ j). s.same j ∙ subst (λ (k : ℕ). before k ≡ after k) here is)
+      (λ (other : n ≢ j). s.same j ∙ others j other)
+      (cases_eq n j);
+}
+
+set_step : (old new own : ℕ → Option ℕ) (n : ℕ) (c : PinChange) → c.row ≡ n → c.pin ≡ first_of (new n) (old n) → AreSame own (while_set old new (suc n)) → AreSame (changed own c) (while_set old new n)
+set_step old new own n c at pin s =
+    step_to own (while_set old new (suc n)) (while_set old new n) n c at (pin ∙ sym (here_above (old n) (first_of (new n) (old n)) n n refl))
+    (λ j other. same_side (old j) (first_of (new j) (old j)) j n other) s
 
 set_pass : (old new own : ℕ → Option ℕ) (n : ℕ) → first_of (new n) (old n) ≡ old n → AreSame own (while_set old new (suc n)) → AreSame own (while_set old new n)
-set_pass old new own n is s = record {
-  same = λ j.
-      ⊎_elim (λ (here : n ≡ j).
-      s.same j ∙ (here_below (old j) (first_of (new j) (old j)) j n here ∙ (sym (subst (λ (k : ℕ). first_of (new k) (old k) ≡ old k) here is) ∙ sym (here_above (old j) (first_of (new j) (old j)) j n here))))
-      (λ (other : n ≢ j). s.same j ∙ same_side (old j) (first_of (new j) (old j)) j n other)
-      (cases_eq n j);
-}
+set_pass old new own n is s =
+    pass_to own (while_set old new (suc n)) (while_set old new n) n
+    (here_below (old n) (first_of (new n) (old n)) n n refl ∙ (sym is ∙ sym (here_above (old n) (first_of (new n) (old n)) n n refl)))
+    (λ j other. same_side (old j) (first_of (new j) (old j)) j n other) s
 
 drop_step : (old new own : ℕ → Option ℕ) (n : ℕ) (c : PinChange) → c.row ≡ n → c.pin ≡ new n → AreSame own (while_unset old new n) → AreSame (changed own c) (while_unset old new (suc n))
-drop_step old new own n c at pin s = record {
-  same = λ j.
-      ⊎_elim (λ (here : n ≡ j).
-      at_same own c j (at ∙ here) ∙ (pin ∙ (ap new here ∙ sym (here_below (new j) (first_of (new j) (old j)) j n here))))
-      (λ (other : n ≢ j).
-      at_other own c j (λ e. other (sym at ∙ e)) ∙ (s.same j ∙ sym (same_side (new j) (first_of (new j) (old j)) j n other)))
-      (cases_eq n j);
-}
+drop_step old new own n c at pin s =
+    step_to own (while_unset old new n) (while_unset old new (suc n)) n c at (pin ∙ sym (here_below (new n) (first_of (new n) (old n)) n n refl))
+    (λ j other. sym (same_side (new j) (first_of (new j) (old j)) j n other)) s
 
 drop_pass : (old new own : ℕ → Option ℕ) (n : ℕ) → first_of (new n) (old n) ≡ new n → AreSame own (while_unset old new n) → AreSame own (while_unset old new (suc n))
-drop_pass old new own n is s = record {
-  same = λ j.
-      ⊎_elim (λ (here : n ≡ j).
-      s.same j ∙ (here_above (new j) (first_of (new j) (old j)) j n here ∙ (subst (λ (k : ℕ). first_of (new k) (old k) ≡ new k) here is ∙ sym (here_below (new j) (first_of (new j) (old j)) j n here))))
-      (λ (other : n ≢ j). s.same j ∙ sym (same_side (new j) (first_of (new j) (old j)) j n other))
-      (cases_eq n j);
-}
+drop_pass old new own n is s =
+    pass_to own (while_unset old new n) (while_unset old new (suc n)) n
+    (here_above (new n) (first_of (new n) (old n)) n n refl ∙ (is ∙ sym (here_below (new n) (first_of (new n) (old n)) n n refl)))
+    (λ j other. sym (same_side (new j) (first_of (new j) (old j)) j n other)) s
 
 -- at each moment the pins are set from some row on; in the end from row 0 on
 pub sets_so_far : (rows : List PinRow) (holds : List Hold) (old new own : ℕ → Option ℕ) (n k : ℕ) → AreStates rows holds old new → AreSame own (while_set old new n) → (at : ℕ) × AreSame (applied own (take k (sets_below rows holds n))) (while_set old new at)

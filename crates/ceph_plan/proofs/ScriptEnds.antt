@@ -2,7 +2,7 @@
 use Rattle.std.proofs.Common.{All, ◌≡◌, ◌≢◌, ℕ, zero, suc, ◌+◌, ◌-◌, ◌<◌, ◌≤◌, List, [], ◌∷◌, ◌++◌, length, take, true, false, cond, eqb, not, ◌&&◌, Option, Some, None, refl, ap, sym, ◌∙◌, arith, ⊎_elim, inl, inr, subst}
 use Rattle.std.specs.Prelude.{is_some, is_none}
 use Rattle.std.proofs.lemmas.Bool.{and_from, and_parts, both_ways, cases_Bool, cases_lt, eq-eqb, not-true, not_from_false, lt-ltb, le-ltb}
-use Rattle.std.proofs.lemmas.List.{append_assoc, get_or_past}
+use Rattle.std.proofs.lemmas.List.{get_or_past}
 use Rattle.std.proofs.lemmas.List.Elements.{All-append, All-cons, All-nil}
 use Rattle.ceph_plan.specs.declared.row.PinRow.{PinRow}
 use Rattle.ceph_plan.specs.declared.row.PinChange.{PinChange}
@@ -15,6 +15,7 @@ use Rattle.ceph_plan.proofs.Held.{IsHeld, IsOwnBy, own_below, own_by, own_held, 
 use Rattle.ceph_plan.proofs.Held as held
 use Rattle.ceph_plan.proofs.Found.{new_pin}
 use Rattle.ceph_plan.proofs.Found as found
+use Rattle.ceph_plan.proofs.PinList.{more-before, with_none, with_one}
 use Rattle.ceph_plan.proofs.Script.{AreSame, AreStates, ends, once, same_at, same_near}
 
 is_none_none : (o : Option ℕ) → is_none o ≡ true → o ≡ None
@@ -139,34 +140,27 @@ moves_once rows holds changes f k i r l near =
       | inr after ↦ inr (same_at rows (new_pin rows holds) (applied (before_pin rows) changes) i r (back (applied (before_pin rows) changes) (new_pin rows holds) (in_the_end rows holds changes f)) after)
     ]
 
-sets-split : (rows : List PinRow) (holds : List Hold) (i : ℕ) → 0 < i → sets_below rows holds i ≡ cond (is_set (row_at rows (i - 1)) (hold_at holds (i - 1))) (record { row = i - 1; pin = Some (target_at rows (i - 1)) } ∷ []) [] ++ sets_below rows holds (i - 1)
-sets-split rows holds i l =
-    let more : i ≡ suc (i - 1) = omega (arith, l) in
-    subst (λ (n : ℕ). sets_below rows holds n ≡ cond (is_set (row_at rows (i - 1)) (hold_at holds (i - 1))) (record { row = i - 1; pin = Some (target_at rows (i - 1)) } ∷ []) [] ++ sets_below rows holds (i - 1)) (sym more) refl
-
 pub with_no_set : (rows : List PinRow) (holds : List Hold) (done all : List PinChange) (i : ℕ) → 0 < i → done ++ sets_below rows holds i ≡ all → is_set (row_at rows (i - 1)) (hold_at holds (i - 1)) ≡ false → done ++ sets_below rows holds (i - 1) ≡ all
-with_no_set rows holds done all i l is set =
-    ap (λ (cs : List PinChange). done ++ cs) (sym (sets-split rows holds i l ∙ (rw set refl))) ∙ is
+with_no_set rows holds done all i l is set = with_none done (sets_below rows holds (i - 1)) all (record { row = i - 1; pin = Some (target_at rows (i - 1)) }) (is_set (row_at rows (i - 1)) (hold_at holds (i - 1)))
+    (subst (λ (n : ℕ). done ++ sets_below rows holds n ≡ all) (more-before i l) is) set
 
 pub with_set : (rows : List PinRow) (holds : List Hold) (done all : List PinChange) (i : ℕ) → 0 < i → done ++ sets_below rows holds i ≡ all → is_set (row_at rows (i - 1)) (hold_at holds (i - 1)) ≡ true → (done ++ record { row = i - 1; pin = Some (target_at rows (i - 1)) } ∷ []) ++ sets_below rows holds (i - 1) ≡ all
-with_set rows holds done all i l is set =
-    append_assoc done (record { row = i - 1; pin = Some (target_at rows (i - 1)) } ∷ []) (sets_below rows holds (i - 1))
-    ∙ (ap (λ (cs : List PinChange). done ++ cs) (sym (sets-split rows holds i l ∙ (rw set refl))) ∙ is)
+with_set rows holds done all i l is set = with_one done (sets_below rows holds (i - 1)) all (record { row = i - 1; pin = Some (target_at rows (i - 1)) }) (is_set (row_at rows (i - 1)) (hold_at holds (i - 1)))
+    (subst (λ (n : ℕ). done ++ sets_below rows holds n ≡ all) (more-before i l) is) set
 
-drops-split : (rows : List PinRow) (holds : List Hold) (n m i : ℕ) → i < n → m ≡ i → drops_from rows holds (n - i) m ≡ cond (is_dropped (row_at rows m) (hold_at holds m)) (record { row = m; pin = None } ∷ []) [] ++ drops_from rows holds (n - (i + 1)) (m + 1)
-drops-split rows holds n m i l e =
+drops-split : (rows : List PinRow) (holds : List Hold) (n i : ℕ) → i < n → drops_from rows holds (n - i) i ≡ cond (is_dropped (row_at rows i) (hold_at holds i)) (record { row = i; pin = None } ∷ []) [] ++ drops_from rows holds (n - (i + 1)) (i + 1)
+drops-split rows holds n i l =
     let more : n - i ≡ suc (n - (i + 1)) = omega (arith, l) in
-    let next : m + 1 ≡ suc m = omega arith in
+    let next : i + 1 ≡ suc i = omega arith in
     rw (more, next) refl
 
 pub with_drop : (rows : List PinRow) (holds : List Hold) (done all : List PinChange) (n i : ℕ) → i < n → done ++ drops_from rows holds (n - i) i ≡ all → is_dropped (row_at rows i) (hold_at holds i) ≡ true → (done ++ record { row = i; pin = None } ∷ []) ++ drops_from rows holds (n - (i + 1)) (i + 1) ≡ all
-with_drop rows holds done all n i l is drop =
-    append_assoc done (record { row = i; pin = None } ∷ []) (drops_from rows holds (n - (i + 1)) (i + 1))
-    ∙ (ap (λ (cs : List PinChange). done ++ cs) (sym (drops-split rows holds n i i l refl ∙ (rw drop refl))) ∙ is)
+with_drop rows holds done all n i l is drop = with_one done (drops_from rows holds (n - (i + 1)) (i + 1)) all (record { row = i; pin = None }) (is_dropped (row_at rows i) (hold_at holds i))
+    (subst (λ (cs : List PinChange). done ++ cs ≡ all) (drops-split rows holds n i l) is) drop
 
-pub with_none : (rows : List PinRow) (holds : List Hold) (done all : List PinChange) (n i : ℕ) → i < n → done ++ drops_from rows holds (n - i) i ≡ all → is_dropped (row_at rows i) (hold_at holds i) ≡ false → done ++ drops_from rows holds (n - (i + 1)) (i + 1) ≡ all
-with_none rows holds done all n i l is drop =
-    ap (λ (cs : List PinChange). done ++ cs) (sym (drops-split rows holds n i i l refl ∙ (rw drop refl))) ∙ is
+pub with_no_drop : (rows : List PinRow) (holds : List Hold) (done all : List PinChange) (n i : ℕ) → i < n → done ++ drops_from rows holds (n - i) i ≡ all → is_dropped (row_at rows i) (hold_at holds i) ≡ false → done ++ drops_from rows holds (n - (i + 1)) (i + 1) ≡ all
+with_no_drop rows holds done all n i l is drop = with_none done (drops_from rows holds (n - (i + 1)) (i + 1)) all (record { row = i; pin = None }) (is_dropped (row_at rows i) (hold_at holds i))
+    (subst (λ (cs : List PinChange). done ++ cs ≡ all) (drops-split rows holds n i l) is) drop
 
 -- what holds of each change that is made holds of all
 all_sets : (P : PinChange → Type 0) (rows : List PinRow) (holds : List Hold) → ((i : ℕ) → is_set (row_at rows i) (hold_at holds i) ≡ true → P (record { row = i; pin = Some (target_at rows i) }))

@@ -6,7 +6,7 @@ use Rattle.ceph_plan.specs.declared.hold.Hold.TheVariants.{Foreign, Free}
 use Rattle.ceph_plan.specs.Rule.{no_row, row_at}
 use Rattle.ceph_plan.specs.Holds.{hold_at}
 use Rattle.ceph_plan.specs.Changes.{is_dropped}
-use Rattle.ceph_plan.proofs.ScriptEnds.{with_drop, with_none}
+use Rattle.ceph_plan.proofs.ScriptEnds.{with_drop, with_no_drop}
 use Rattle.ceph_plan.proofs.changes.push_drops.Goals as goal
 use Rattle.ceph_plan.proofs.changes.push_drops.Goals.{then-drops+in_ok-push, else-drops}
 
@@ -27,6 +27,6 @@ loop-i-preserved c =
             (with_drop rows holds c.loop-i.changes.items _ (length rows) i inside c.loop-i.invariant.changes (sym test ∙ w.if-drops.true))
         | else-drops w ↦
             rw w.changes-is
-            (with_none rows holds c.loop-i.changes.items _ (length rows) i inside c.loop-i.invariant.changes (sym test ∙ w.if-drops.false))
+            (with_no_drop rows holds c.loop-i.changes.items _ (length rows) i inside c.loop-i.invariant.changes (sym test ∙ w.if-drops.false))
       ];
     }

@@ -115,12 +115,14 @@ loop-left-preserved c =
     (sym (get_or_default c.loop-left.done.items part c.index.result.now false marked) ∙ (sym c.index.ensures ∙ c.if-not-index.false))
     (omega (arith, c.loop-left-test.true))
 
+all_packed : (c : goal.After-drop-done-2) → ArePacked c.args.parts.now.ranks c.args.parts.now.pinned.now c.args.parts.now.heats.now c.args.parts.now.inodes.now c.args.parts.now.order.now c.args.parts.now.root c.args.limit c.loop-left.rank.items
+    c.loop-left.done.items c.loop-left.loads.items 0
+all_packed c = subst (λ (n : ℕ). ArePacked c.args.parts.now.ranks c.args.parts.now.pinned.now c.args.parts.now.heats.now c.args.parts.now.inodes.now c.args.parts.now.order.now c.args.parts.now.root c.args.limit c.loop-left.rank.items
+    c.loop-left.done.items c.loop-left.loads.items n)
+    (omega (arith, c.loop-left-test.false)) c.loop-left.invariant
+
 pub returns-clause-kept : goal.returns-clause-kept
-returns-clause-kept c =
-    packed-all c.args.parts.now.ranks c.args.parts.now.pinned.now c.args.parts.now.heats.now c.args.parts.now.inodes.now c.args.parts.now.order.now c.args.parts.now.root c.args.limit c.loop-left.rank.items
-    c.loop-left.done.items c.loop-left.loads.items
-    (subst (λ (n : ℕ). ArePacked c.args.parts.now.ranks c.args.parts.now.pinned.now c.args.parts.now.heats.now c.args.parts.now.inodes.now c.args.parts.now.order.now c.args.parts.now.root c.args.limit
-    c.loop-left.rank.items c.loop-left.done.items c.loop-left.loads.items n) (omega (arith, c.loop-left-test.false)) c.loop-left.invariant)
+returns-clause-kept c = packed-all _ _ _ _ _ _ _ _ _ _ (all_packed c)
 
 greatest_is : (c : goal.After-drop-done-2) → c.most-greatest.result
     ≡ greatest_by c.args.parts.now.ranks c.args.parts.now.pinned.now c.args.parts.now.heats.now c.loop-left.rank.items
@@ -128,20 +130,13 @@ greatest_is c =
     c.most-greatest.ensures
     ∙ (ap (λ (xs : List ℕ). greatest_of c.args.parts.now.ranks (slice_index xs)) c.deref-2.ensures.value
     ∙ greatest-same c.args.parts.now.ranks (slice_index c.loop-left.loads.items) (load_of_parts c.args.parts.now.pinned.now c.args.parts.now.heats.now c.loop-left.rank.items)
-    (λ r small. loads-all c.args.parts.now.ranks c.args.parts.now.pinned.now c.args.parts.now.heats.now c.args.parts.now.inodes.now c.args.parts.now.order.now c.args.parts.now.root c.args.limit c.loop-left.rank.items
-    c.loop-left.done.items c.loop-left.loads.items
-    (subst (λ (n : ℕ). ArePacked c.args.parts.now.ranks c.args.parts.now.pinned.now c.args.parts.now.heats.now c.args.parts.now.inodes.now c.args.parts.now.order.now c.args.parts.now.root c.args.limit
-    c.loop-left.rank.items c.loop-left.done.items c.loop-left.loads.items n) (omega (arith, c.loop-left-test.false)) c.loop-left.invariant) r small))
+    (λ r small. loads-all _ _ _ _ _ _ _ _ _ _ (all_packed c) r small))
 
 pub returns-clause-near_mean : goal.returns-clause-near_mean
 returns-clause-near_mean c = λ plain.
     subst (λ (x : ℕ). IsNearMean c.args.parts.now.ranks c.args.parts.now.pinned.now c.args.parts.now.heats.now c.args.parts.now.root x) (sym (greatest_is c))
-    (fair-all c.args.parts.now.ranks c.args.parts.now.pinned.now c.args.parts.now.heats.now c.args.parts.now.inodes.now c.args.parts.now.order.now c.args.parts.now.root c.loop-left.rank.items
-    c.loop-left.done.items c.loop-left.loads.items
-    (subst (λ (limit : ℕ). ArePacked c.args.parts.now.ranks c.args.parts.now.pinned.now c.args.parts.now.heats.now c.args.parts.now.inodes.now c.args.parts.now.order.now c.args.parts.now.root limit
-    c.loop-left.rank.items c.loop-left.done.items c.loop-left.loads.items 0) plain
-    (subst (λ (n : ℕ). ArePacked c.args.parts.now.ranks c.args.parts.now.pinned.now c.args.parts.now.heats.now c.args.parts.now.inodes.now c.args.parts.now.order.now c.args.parts.now.root c.args.limit
-    c.loop-left.rank.items c.loop-left.done.items c.loop-left.loads.items n) (omega (arith, c.loop-left-test.false)) c.loop-left.invariant)))
+    (fair-all _ _ _ _ _ _ _ _ _ (subst (λ (limit : ℕ). ArePacked c.args.parts.now.ranks c.args.parts.now.pinned.now c.args.parts.now.heats.now c.args.parts.now.inodes.now c.args.parts.now.order.now c.args.parts.now.root limit c.loop-left.rank.items
+    c.loop-left.done.items c.loop-left.loads.items 0) plain (all_packed c)))
 
 pub returns-clause-greatest : goal.returns-clause-greatest
 returns-clause-greatest c = greatest_is c
