@@ -1,7 +1,6 @@
 //! Parts moved, or exchanged for colder ones, while the greatest load falls.
-ghost use Rattle.std.specs.Prelude.{◌≡◌, ◌<◌, ◌≤◌, ◌^◌, ℕ, List, All, length, slice_index, IfOk, OnOk};
-ghost use Rattle.mds_types.specs.Sums.{sum_below};
-ghost use Rattle.ceph_plan.specs.Balance.{HaveRanks, IsByHeat};
+ghost use Rattle.std.specs.Prelude.{◌≡◌, ◌<◌, ℕ, List, length, IfOk};
+ghost use Rattle.ceph_plan.specs.Balance.{HaveRanks};
 
 use crate::bound::has_number;
 use crate::loads::loads;

@@ -1,6 +1,5 @@
 //! The load of each rank, added up from the parts.
-ghost use Rattle.std.specs.Prelude.{◌≡◌, ◌<◌, ◌≤◌, ◌^◌, ℕ, All, length, slice_index, IfOk};
-ghost use Rattle.mds_types.specs.Sums.{sum_below};
+ghost use Rattle.std.specs.Prelude.{◌≡◌, ◌<◌, ℕ, length, slice_index, IfOk};
 ghost use Rattle.ceph_plan.specs.Balance.{load_of_parts};
 
 use crate::rank_choice::PartAmounts;

@@ -1,5 +1,5 @@
 //! The parts by their heat.
-ghost use Rattle.std.specs.Prelude.{◌≡◌, ◌<◌, ◌≤◌, ◌^◌, ℕ, length, map, slice_index, slice_index_or, IfOk};
+ghost use Rattle.std.specs.Prelude.{◌≡◌, ◌<◌, ◌≤◌, ℕ, length, map, slice_index, slice_index_or, IfOk};
 ghost use Rattle.ceph_plan.specs.Balance.{IsByHeat};
 ghost use Rattle.ceph_plan.specs.declared.order.PartHeat.{PartHeat};
 

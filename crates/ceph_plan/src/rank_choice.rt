@@ -1,12 +1,10 @@
 //! Which rank each part goes to: the hottest part first, where most of it is or on the least loaded rank.
-ghost use Rattle.std.specs.Prelude.{◌≡◌, ◌≢◌, ◌<◌, ◌≤◌, ◌+◌, ◌*◌, ◌^◌, ◌&&◌, ◌||◌, ◌==◌, ◌⊎◌};
-ghost use Rattle.std.specs.Prelude.{ℕ, All, length, slice_index, true, IfOk};
+ghost use Rattle.std.specs.Prelude.{◌≡◌, ◌<◌, ◌≤◌, ◌+◌, ◌*◌, ◌^◌, ℕ, length, slice_index, true, IfOk};
 ghost use Rattle.mds_types.specs.Division.{part_heat};
 ghost use Rattle.mds_types.specs.RankSet.{has_rank};
-ghost use Rattle.mds_types.specs.Sums.{sum_below};
-ghost use Rattle.ceph_plan.specs.Balance.{ArePartAmounts, HaveRanks, IsByHeat, IsEvenPacking, IsEvened, IsHomeRank};
-ghost use Rattle.ceph_plan.specs.Balance.{IsKeptPacking, IsKeptWithin};
-ghost use Rattle.ceph_plan.specs.Balance.{IsNearMean, IsSent, allowed, greatest_by, inodes_there, part_inodes_at};
+ghost use Rattle.ceph_plan.specs.Balance.{ArePartAmounts, HaveRanks, IsEvenPacking, IsEvened, IsHomeRank};
+ghost use Rattle.ceph_plan.specs.Balance.{IsKeptPacking, IsKeptWithin, IsNearMean, IsSent, allowed, greatest_by};
+ghost use Rattle.ceph_plan.specs.Balance.{inodes_there, part_inodes_at};
 ghost use Rattle.ceph_plan.specs.Packing.{HaveParts};
 
 use crate::bound::{has_number, most};
