@@ -1,21 +1,15 @@
-use Rattle.std.proofs.Common.{◌≡◌, ◌∙◌, ◌≤◌, ◌^◌, All, ℕ, List, ap, length, slice_index, subst, sym}
+use Rattle.std.proofs.Common.{◌≡◌, ◌≤◌, ◌^◌, ℕ, List, length, slice_index, subst, sym}
 use Rattle.mds_types.specs.Sums.{sum_below}
 use Rattle.ceph_snapshot.specs.declared.directory.Directory.{Directory}
 use Rattle.ceph_plan.specs.declared.choice.Wanted.{Wanted}
-use Rattle.ceph_plan.specs.Packing.{IsAsGreat, IsBoundOf}
+use Rattle.ceph_plan.specs.Packing.{ArePlanRanks, IsAsGreat, IsBoundOf}
 use Rattle.mdbal_ceph.specs.Outcomes.{AreFreeHeats, IsBoundOfAll, IsDecision}
 use Rattle.mdbal_ceph.specs.declared.outcome.Decision.{Decision}
 use Rattle.mdbal_ceph.proofs.outcome.planned.Goals as goal
 
-pub heats_bound-bound-requires-clause-size : goal.heats_bound-bound-requires-clause-size
-heats_bound-bound-requires-clause-size c = ap length c.deref-9.ensures.value ∙ c.in_ok-decision.ensures.pinned.size
-
-pub heats_bound-bound-requires-clause-small : goal.heats_bound-bound-requires-clause-small
-heats_bound-bound-requires-clause-small c =
-    subst (All (λ n. n ≤ 2 ^ 57)) (sym c.deref-9.ensures.value) c.in_ok-decision.ensures.planned.proposed.chosen.plannable.held.small
-
-pub heats_bound-bound-requires-clause-zero : goal.heats_bound-bound-requires-clause-zero
-heats_bound-bound-requires-clause-zero c = c.in_ok-decision.ensures.planned.proposed.chosen.plannable.zero
+pub heats_bound-bound-requires : goal.heats_bound-bound-requires
+heats_bound-bound-requires c =
+    subst (ArePlanRanks c.in_ok-ranks.ranks) (sym c.deref-9.ensures.value) c.in_ok-decision.ensures.planned.proposed.chosen.plannable.ranks_are
 
 -- the bound of what was collected
 bound_of_all : (collected : List Directory) (heats those pinned held : List ℕ) (ranks bound : ℕ) → AreFreeHeats collected heats → those ≡ heats → held ≡ pinned
