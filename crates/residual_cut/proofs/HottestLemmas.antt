@@ -12,7 +12,7 @@ use Rattle.mds_types.specs.CutTable.{is_child}
 use Rattle.residual_cut.specs.declared.child.Child.{Child}
 use Rattle.residual_cut.specs.declared.hottest.Hottest.{Hottest}
 use Rattle.residual_cut.specs.Heap.{row_count}
-use Rattle.residual_cut.specs.Hottest.{AreHottest, IsMet}
+use Rattle.residual_cut.specs.Hottest.{AreHottest, CanMeet, IsMet}
 use Rattle.residual_cut.specs.Links.{IsNextChild}
 use Rattle.mds_types.specs.Problem.{IsForest}
 use Rattle.residual_cut.proofs.WalkLemmas.{child_above}
@@ -122,7 +122,7 @@ hottest_more rows rest test test2 i k most old new x l child above row_is rest_i
           (cases_eq j k);
       rests = All-left (λ (y : Child). y.rest ≡ rest y.row.0) new.children.items met.forgotten rests;
       after = All-left (λ (y : Child). (i < y.row.0) × (y.row.0 < length rows)) new.children.items met.forgotten after;
-      above = met.above;
+      above = met.kept.above;
       left_out = λ j lj is passes none.
           ⊎_elim
           (λ (lost : 0 < row_count j met.forgotten).
@@ -356,38 +356,39 @@ hottest_empty rows rest cut i most floor (x ∷ children) are none some j l chil
 
 -- a child that is no hotter than those that are enough
 pub met_cool : (old : Hottest) (x : Child) (most : ℕ) → most ≤ length old.children.items → x.rest ≤ old.floor
-    → All (λ (y : Child). old.floor ≤ y.rest) old.children.items → IsMet old old x most
-met_cool old x most enough cool above = record {
+    → CanMeet old most → IsMet old old x most
+met_cool old x most enough cool kept = record {
   forgotten = x ∷ [];
   same = IsPermutation-refl (old.children.items ++ x ∷ []);
   cooler = All-cons (λ (y : Child). y.rest ≤ old.floor) x [] cool (All-nil (λ (y : Child). y.rest ≤ old.floor));
   enough = λ _. enough;
   up = omega arith;
-  above = above;
-  full = λ _. enough;
+  kept = kept;
 }
 
 -- a child that is kept with the others
 pub met_kept : (old new : Hottest) (x : Child) (most : ℕ) → new.children.items ≡ old.children.items ++ x ∷ []
-    → new.floor ≡ old.floor → old.floor ≤ x.rest → (0 < old.floor → most ≤ length old.children.items)
-    → All (λ (y : Child). old.floor ≤ y.rest) old.children.items → IsMet old new x most
-met_kept old new x most items floor hot full above = record {
+    → new.floor ≡ old.floor → old.floor ≤ x.rest → CanMeet old most → IsMet old new x most
+met_kept old new x most items floor hot kept = record {
   forgotten = [];
   same = rw (items, append-nil (old.children.items ++ x ∷ [])) (IsPermutation-refl (old.children.items ++ x ∷ []));
   cooler = All-nil (λ (y : Child). y.rest ≤ new.floor);
   enough = λ some. absurd (omega arith);
   up = omega (arith, floor);
-  above = rw (items, floor) (All-push (λ (y : Child). old.floor ≤ y.rest) old.children.items x above hot);
-  full = λ some. (let size : length (old.children.items ++ x ∷ []) ≡ length old.children.items + 1 = simp length-append refl in
-      omega (arith, full (omega (arith, floor)), ap length items, size));
+  kept = record {
+    some = kept.some;
+    above = rw (items, floor) (All-push (λ (y : Child). old.floor ≤ y.rest) old.children.items x kept.above hot);
+    full = λ some. (let size : length (old.children.items ++ x ∷ []) ≡ length old.children.items + 1 = simp length-append refl in
+        omega (arith, kept.full (omega (arith, floor)), ap length items, size));
+  };
 }
 
 -- of more than enough the hottest are kept
 pub met_short : (old new : Hottest) (x : Child) (most : ℕ) (moved : List Child)
     → IsPermutation (old.children.items ++ x ∷ []) moved → new.children.items ≡ take most moved → most ≤ length moved
     → All (λ (y : Child). new.floor ≤ y.rest) (take most moved) → All (λ (y : Child). y.rest ≤ new.floor) (drop most moved)
-    → old.floor ≤ new.floor → IsMet old new x most
-met_short old new x most moved same items long hottest others up =
+    → old.floor ≤ new.floor → 0 < most → IsMet old new x most
+met_short old new x most moved same items long hottest others up some =
     let size : length (take most moved) ≡ most = length-take-le most moved long in
     record {
       forgotten = drop most moved;
@@ -395,8 +396,7 @@ met_short old new x most moved same items long hottest others up =
       cooler = others;
       enough = λ _. omega (arith, ap length items, size);
       up = up;
-      above = rw items hottest;
-      full = λ _. omega (arith, ap length items, size);
+      kept = record { some = some; above = rw items hottest; full = λ _. omega (arith, ap length items, size) };
     }
 
 -- in a list in order rests don't fall

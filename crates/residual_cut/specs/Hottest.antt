@@ -18,6 +18,13 @@ pub record AreHottest (rows : List ProblemRow) (rest : ℕ → ℕ) (test : ℕ 
   pub left_out : (j : ℕ) → j < length rows → is_child rows i j ≡ true → test j ≡ true → row_count j children ≡ 0
       → (rest j ≤ floor) × (most ≤ length children)
 
+-- what it takes to meet one more child: some are wanted, none of those here has less than the floor, and there is a floor
+-- only where they are enough
+pub record CanMeet (hottest : Hottest) (most : ℕ) : Type 0 where
+  pub some : 0 < most
+  pub above : All (λ child. hottest.floor ≤ child.rest) hottest.children.items
+  pub full : 0 < hottest.floor → most ≤ length hottest.children.items
+
 -- one more child was met, and some were forgotten
 pub record IsMet (old new : Hottest) (child : Child) (most : ℕ) : Type 0 where
   pub forgotten : List Child
@@ -25,5 +32,4 @@ pub record IsMet (old new : Hottest) (child : Child) (most : ℕ) : Type 0 where
   pub cooler : All (λ other. other.rest ≤ new.floor) forgotten
   pub enough : 0 < length forgotten → most ≤ length new.children.items
   pub up : old.floor ≤ new.floor
-  pub above : All (λ other. new.floor ≤ other.rest) new.children.items
-  pub full : 0 < new.floor → most ≤ length new.children.items
+  pub kept : CanMeet new most

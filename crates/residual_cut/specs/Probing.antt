@@ -1,11 +1,12 @@
 -- A walk that keeps only what is left of each subtree.
 use Rattle.std.specs.Prelude.{◌≡◌, ◌<◌, ◌≤◌, ◌+◌, ◌-◌, ◌^◌, ◌&&◌, ℕ, Bool, true}
-use Rattle.std.specs.Prelude.{nat_lt, min, max, List, length, if◌then◌else◌}
+use Rattle.std.specs.Prelude.{nat_lt, min, max, List, length, slice_index, if◌then◌else◌}
 use Rattle.mds_types.specs.declared.problem.ProblemRow.{ProblemRow}
 use Rattle.mds_types.specs.declared.cut_proof.Row.{Row}
 use Rattle.mds_types.specs.CutTable.{is_child, rest_at, price_at, is_cut_at}
 use Rattle.mds_types.specs.Sums.{sum_below, count_below}
 use Rattle.residual_cut.specs.declared.probe.Seen.{Seen}
+use Rattle.residual_cut.specs.declared.subtrees.Weighed.{Weighed}
 use Rattle.residual_cut.specs.Walk.{IsWalked}
 
 -- row j is a child of row v, and is among the rows before row m, which are not handled yet
@@ -32,6 +33,14 @@ pub record IsProbed (rows : List ProblemRow) (heat rest : ℕ → ℕ) (bound m 
   pub idle : seen.cuts ≡ 0 → seen.above ≡ 2 ^ 64 - 1
   pub tops : (j : ℕ) → j < length rows → is_cut_at table j ≡ true → rest_at table j ≤ seen.hottest
   pub within : seen.hottest ≤ bound
+
+-- a probe at the bound comes to row i with ranks left
+pub record IsProbing (of : Weighed) (rest : List ℕ) (bound i : ℕ) (seen : Seen) : Type 0 where
+  pub inside : i < length of.rows.now
+  pub size : length rest ≡ length of.rows.now
+  pub low : of.trees.now.low ≤ bound
+  pub few : seen.cuts < of.ranks
+  pub probed : IsProbed of.rows.now (slice_index of.trees.now.heat.items) (slice_index rest) bound (i + 1) (i + 1) seen
 
 -- a piece was cut from a sum
 pub record IsSeenWith (old : Seen) (sum piece : ℕ) (new : Seen) : Type 0 where

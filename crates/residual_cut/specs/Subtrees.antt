@@ -2,7 +2,7 @@
 use Rattle.std.specs.Prelude.{◌≡◌, ◌==◌, ◌<◌, ◌≤◌, ◌+◌, ◌-◌, if◌then◌else◌, ℕ, List, length, slice_index}
 use Rattle.mds_types.specs.declared.problem.ProblemRow.{ProblemRow}
 use Rattle.mds_types.specs.CutTable.{sum_of_children}
-use Rattle.mds_types.specs.Problem.{heat_at}
+use Rattle.mds_types.specs.Problem.{IsForest, heat_at}
 use Rattle.residual_cut.specs.Links.{IsLinked}
 use Rattle.residual_cut.specs.declared.subtrees.Subtrees.{Subtrees}
 
@@ -33,3 +33,17 @@ pub record AreSubtrees (rows : List ProblemRow) (trees : Subtrees) : Type 0 wher
   pub size : length trees.heat.items ≡ length rows
   pub sums : AreSums rows (slice_index trees.heat.items)
   pub hot : AreHot (length rows) (slice_index trees.heat.items) trees.low 1 trees.hot.items
+
+-- what a search's probes need: there are rows and ranks, the subtrees are those of the rows, and no row is hotter than
+-- the lower end
+pub record CanProbe (rows : List ProblemRow) (trees : Subtrees) (ranks : ℕ) : Type 0 where
+  pub forest : IsForest rows
+  pub some : 0 < length rows
+  pub trees_are : AreSubtrees rows trees
+  pub cool : (i : ℕ) → i < length rows → heat_at rows i ≤ trees.low
+  pub ranked : 0 < ranks
+
+-- the room of the walks: a number for each row, and all the heat of the light subtrees
+pub record AreRests (rows : List ProblemRow) (trees : Subtrees) (rest : List ℕ) : Type 0 where
+  pub size : length rest ≡ length rows
+  pub light : AreLightWhole (length rows) trees.low (slice_index trees.heat.items) (slice_index rest)

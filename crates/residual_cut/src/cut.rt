@@ -6,11 +6,10 @@ ghost use Rattle.mds_types.specs.CutTable.{IsCutTable, cuts_at, is_cut_at};
 ghost use Rattle.mds_types.specs.Division.{HasFew};
 ghost use Rattle.mds_types.specs.Problem.{IsForest, heat_at};
 ghost use Rattle.mds_types.specs.Sums.{count_below};
-ghost use Rattle.residual_cut.specs.Links.{IsLinked};
 ghost use Rattle.residual_cut.specs.Cut.{IsCut, IsFirstHot};
 ghost use Rattle.residual_cut.specs.CutError.{IfHeavy, is_memory};
 
-use crate::links::{Links, link};
+use crate::links::{Walk, link};
 use crate::numbering::parts;
 use crate::walk::{cut_table, first_table};
 use mds_types::{CutTable, Problem, ProblemRow, Refusal, Row};
@@ -92,71 +91,40 @@ fn first_hot(rows: &[ProblemRow], bound: u64) -> Option<u32>
     None
 }
 
-/// The table against the bound of rows that are linked and none of which is hotter than the bound.
-fn make_table(
-    alloc: Global,
-    rows: &[ProblemRow],
-    links: &Links,
-    bound: u64,
-) -> Result<Vec<Row>, AllocError>
-    requires forest { IsForest rows.now }
-    requires some { 0 < length rows.now }
-    requires linked { IsLinked rows.now links.now.first.items links.now.next.items 1 }
-    requires cool { (i : ℕ) → i < length rows.now → heat_at rows.now i ≤ bound }
-    ensures table { IfOk result (λ table. IsCutTable rows.now table.items bound) }
+/// The table against the bound.
+fn make_table(alloc: Global, of: Walk<'_>) -> Result<Vec<Row>, AllocError>
+    ensures table { IfOk result (λ table. IsCutTable of.entry.rows.now table.items of.entry.bound) }
     ensures counted { IfOk result (λ table. cuts_at table.items 0
-        ≡ count_below (length rows.now) (is_cut_at table.items)) }
-    ensures few { IfOk result (λ table. HasFew rows.now (cuts_at table.items 0 + 1) bound) }
+        ≡ count_below (length of.entry.rows.now) (is_cut_at table.items)) }
+    ensures few { IfOk result (λ table. HasFew of.entry.rows.now (cuts_at table.items 0 + 1) of.entry.bound) }
 {
-    let mut table = first_table(alloc, rows)?;
-    cut_table(alloc, rows, links, &mut table, bound)?;
+    let mut table = first_table(alloc, of.rows)?;
+    cut_table(alloc, of, &mut table)?;
     Ok(table)
 }
 
-/// The table against the bound of rows that are linked and none of which is hotter than the bound. The
-/// walk is counted in `passes`.
-pub fn table_linked(
-    alloc: Global,
-    rows: &[ProblemRow],
-    links: &Links,
-    bound: u64,
-    passes: &mut u32,
-) -> Result<CutTable, AllocError>
-    requires count { passes.old < 2 ^ 32 - 1 }
-    requires forest { IsForest rows.now }
-    requires some { 0 < length rows.now }
-    requires linked { IsLinked rows.now links.now.first.items links.now.next.items 1 }
-    requires cool { (i : ℕ) → i < length rows.now → heat_at rows.now i ≤ bound }
-    ensures table { IfOk result (λ table. IsCutTable rows.now table bound) }
-    ensures few { IfOk result (λ table. HasFew rows.now (cuts_at table 0 + 1) bound) }
+/// The table against the bound. The walk is counted in `passes`.
+pub fn table_linked(alloc: Global, of: Walk<'_>, passes: &mut u32) -> Result<CutTable, AllocError>
+    requires { passes.old < 2 ^ 32 - 1 }
+    ensures table { IfOk result (λ table. IsCutTable of.entry.rows.now table of.entry.bound) }
+    ensures few { IfOk result (λ table. HasFew of.entry.rows.now (cuts_at table 0 + 1) of.entry.bound) }
     ensures passes { OnOk result (passes.new ≡ passes.old + 1) }
     ensures uncounted { OnErr result (passes.new ≡ passes.old) }
 {
-    let table = make_table(alloc, rows, links, bound)?;
+    let table = make_table(alloc, of)?;
     *passes += 1;
     Ok(CutTable::new(table))
 }
 
-/// Cuts rows that are linked and none of which is hotter than the bound. The walk is counted in
-/// `passes`.
-pub fn cut_linked(
-    alloc: Global,
-    rows: &[ProblemRow],
-    links: &Links,
-    bound: u64,
-    passes: &mut u32,
-) -> Result<Cut, AllocError>
-    requires count { passes.old < 2 ^ 32 - 1 }
-    requires forest { IsForest rows.now }
-    requires some { 0 < length rows.now }
-    requires linked { IsLinked rows.now links.now.first.items links.now.next.items 1 }
-    requires cool { (i : ℕ) → i < length rows.now → heat_at rows.now i ≤ bound }
-    ensures cut { IfOk result (IsCut rows.now bound) }
+/// Cuts rows whose children are linked. The walk is counted in `passes`.
+pub fn cut_linked(alloc: Global, of: Walk<'_>, passes: &mut u32) -> Result<Cut, AllocError>
+    requires { passes.old < 2 ^ 32 - 1 }
+    ensures cut { IfOk result (IsCut of.entry.rows.now of.entry.bound) }
     ensures passes { OnOk result (passes.new ≡ passes.old + 1) }
     ensures uncounted { OnErr result (passes.new ≡ passes.old) }
 {
-    let table = make_table(alloc, rows, links, bound)?;
-    let (part, count) = parts(alloc, rows, &table)?;
+    let table = make_table(alloc, of)?;
+    let (part, count) = parts(alloc, of.rows, &table)?;
     *passes += 1;
     Ok(Cut {
         part,
@@ -188,7 +156,12 @@ pub fn cut_cool(
         });
     }
     let links = link(alloc, rows)?;
-    cut_linked(alloc, rows, &links, bound, passes)
+    let of = Walk {
+        rows,
+        links: &links,
+        bound,
+    };
+    cut_linked(alloc, of, passes)
 }
 
 /// Divides the rows into the fewest connected parts whose heat is at most the bound. Parts are

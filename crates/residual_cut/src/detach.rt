@@ -3,19 +3,17 @@
 //! The children come out of a heap of the hottest, so that only as many are put in order as are cut.
 
 ghost use Rattle.std.specs.Prelude.{◌≡◌, ◌<◌, ◌≤◌, ◌+◌, ◌-◌, ◌^◌, ◌≢◌, ℕ, true, false};
-ghost use Rattle.std.specs.Prelude.{All, length, slice_index_or, IfOk, OnOk};
+ghost use Rattle.std.specs.Prelude.{length, slice_index_or, IfOk, OnOk};
 ghost use Rattle.mds_types.specs.CutTable.{cuts_at, rest_at, is_cut_at, no_cut};
-ghost use Rattle.mds_types.specs.Problem.{IsForest, heat_at};
 ghost use Rattle.mds_types.specs.Sums.{count_below};
 ghost use Rattle.residual_cut.specs.Heap.{is_free};
-ghost use Rattle.residual_cut.specs.Hottest.{AreHottest, IsMet};
-ghost use Rattle.residual_cut.specs.Links.{IsLinked};
+ghost use Rattle.residual_cut.specs.Hottest.{AreHottest, CanMeet, IsMet};
 ghost use Rattle.residual_cut.specs.Walk.{IsWalked};
 
 use crate::child::Child;
 use crate::hottest::{Hottest, meet};
-use crate::links::Links;
-use mds_types::{ProblemRow, Row};
+use crate::links::Walk;
+use mds_types::Row;
 use std::alloc::{AllocError, Global};
 use std::cmp::Reverse;
 use std::collections::BinaryHeap;
@@ -24,25 +22,11 @@ use std::collections::BinaryHeap;
 /// have more to cut.
 const FIRST: u32 = 128;
 
-/// What is the same for each row of a walk.
-#[derive(Clone, Copy)]
-pub struct Walk<'a> {
-    /// The rows.
-    pub rows: &'a [ProblemRow],
-    /// Their children.
-    pub links: &'a Links,
-    /// No piece is to be hotter, in accesses.
-    pub bound: u64,
-}
-
 /// Meets the child of this row, if it is not cut.
 #[inline(always)]
-fn meet_free(hottest: &mut Hottest, table: &[Row], row: u32, most: usize) -> Result<(), AllocError>
+fn meet_free(hottest: &mut Hottest, table: &[Row], row: u32, most: u32) -> Result<(), AllocError>
     requires inside { row < length table.now }
-    requires some { 0 < most }
-    requires few { most < 2 ^ 32 }
-    requires above { All (λ child. hottest.old.floor ≤ child.rest) hottest.old.children.items }
-    requires full { 0 < hottest.old.floor → most ≤ length hottest.old.children.items }
+    requires kept { CanMeet hottest.old most }
     ensures free { OnOk result (is_cut_at table.now row ≡ false
         → IsMet hottest.old hottest.new (record { rest = rest_at table.now row; row = record { 0 = row } }) most) }
     ensures cut { OnOk result (is_cut_at table.now row ≡ true → hottest.new ≡ hottest.old) }
@@ -64,14 +48,11 @@ fn hottest_left(
     of: Walk<'_>,
     table: &[Row],
     i: usize,
-    most: usize,
+    most: u32,
 ) -> Result<Hottest, AllocError>
-    requires forest { IsForest of.rows.now }
     requires inside { i < length of.rows.now }
     requires size { length table.now ≡ length of.rows.now }
-    requires linked { IsLinked of.rows.now of.links.now.first.items of.links.now.next.items 1 }
     requires some { 0 < most }
-    requires few { most < 2 ^ 32 }
     ensures { IfOk result (λ hottest.
         AreHottest of.entry.rows.now (rest_at table.now) (is_free table.now) i most hottest.floor
         hottest.children.items) }
@@ -122,10 +103,7 @@ fn cut_some(
     i: usize,
     most: u32,
 ) -> Result<u32, AllocError>
-    requires forest { IsForest of.rows.now }
     requires inside { i < length of.rows.now }
-    requires linked { IsLinked of.rows.now of.links.now.first.items of.links.now.next.items 1 }
-    requires cool { (v : ℕ) → v < length of.rows.now → heat_at of.rows.now v ≤ of.bound }
     requires some { 0 < most }
     requires walked { IsWalked of.rows.now table.old of.bound (i + 1) i }
     ensures walked { IfOk result (λ _. IsWalked of.entry.rows.now table.new of.entry.bound (i + 1) i) }
@@ -133,7 +111,7 @@ fn cut_some(
     ensures counted { IfOk result (λ count. count_below (length of.entry.rows.now) (is_cut_at table.new)
         ≡ count_below (length of.entry.rows.now) (is_cut_at table.old) + count) }
 {
-    let hottest = hottest_left(alloc, of, table, i, most as usize)?;
+    let hottest = hottest_left(alloc, of, table, i, most)?;
     let mut heap = BinaryHeap::from(hottest.children);
     for cut in 0..most {
         if table[i].rest <= of.bound {
@@ -151,10 +129,7 @@ fn cut_some(
 /// left there is within the bound.
 #[inline(never)]
 fn cut_hottest(alloc: Global, of: Walk<'_>, table: &mut [Row], i: usize) -> Result<(), AllocError>
-    requires forest { IsForest of.rows.now }
     requires inside { i < length of.rows.now }
-    requires linked { IsLinked of.rows.now of.links.now.first.items of.links.now.next.items 1 }
-    requires cool { (v : ℕ) → v < length of.rows.now → heat_at of.rows.now v ≤ of.bound }
     requires walked { IsWalked of.rows.now table.old of.bound (i + 1) (i + 1) }
     ensures walked { OnOk result (IsWalked of.entry.rows.now table.new of.entry.bound (i + 1) i) }
     ensures done { OnOk result (rest_at table.new i ≤ of.entry.bound) }
@@ -176,10 +151,7 @@ pub fn cut_children(
     table: &mut [Row],
     i: usize,
 ) -> Result<(), AllocError>
-    requires forest { IsForest of.rows.now }
     requires inside { i < length of.rows.now }
-    requires linked { IsLinked of.rows.now of.links.now.first.items of.links.now.next.items 1 }
-    requires cool { (v : ℕ) → v < length of.rows.now → heat_at of.rows.now v ≤ of.bound }
     requires walked { IsWalked of.rows.now table.old of.bound (i + 1) (i + 1) }
     ensures walked { OnOk result (IsWalked of.entry.rows.now table.new of.entry.bound (i + 1) i) }
     ensures done { OnOk result (rest_at table.new i ≤ of.entry.bound) }

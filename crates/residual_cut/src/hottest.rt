@@ -1,15 +1,12 @@
 //! The hottest children of a row, as many as can be cut at most, without putting the others in
 //! order.
 
-ghost use Rattle.std.specs.Prelude.{◌≡◌, ◌<◌, ◌≤◌, ◌^◌, ℕ, true, false, All, IsPermutation};
+ghost use Rattle.std.specs.Prelude.{◌≡◌, ◌<◌, ◌≤◌, ℕ, true, false, All, IsPermutation};
 ghost use Rattle.std.specs.Prelude.{length, take, drop, slice_index, IfOk, OnOk};
-ghost use Rattle.mds_types.specs.Problem.{IsForest};
-ghost use Rattle.residual_cut.specs.Hottest.{AreHottest, IsMet};
-ghost use Rattle.residual_cut.specs.Links.{IsLinked};
+ghost use Rattle.residual_cut.specs.Hottest.{AreHottest, CanMeet, IsMet};
 
 use crate::child::Child;
-use crate::links::Links;
-use mds_types::ProblemRow;
+use crate::subtrees::Weighed;
 use std::alloc::{AllocError, Global};
 use std::cmp::Reverse;
 
@@ -49,13 +46,11 @@ fn is_cool(hottest: &Hottest, child: Child, most: usize) -> bool
 }
 
 /// Meets one more child. The coolest are forgotten once there are twice as many as can be cut.
-pub fn meet(hottest: &mut Hottest, child: Child, most: usize) -> Result<(), AllocError>
-    requires some { 0 < most }
-    requires few { most < 2 ^ 32 }
-    requires above { All (λ child. hottest.old.floor ≤ child.rest) hottest.old.children.items }
-    requires full { 0 < hottest.old.floor → most ≤ length hottest.old.children.items }
+pub fn meet(hottest: &mut Hottest, child: Child, most: u32) -> Result<(), AllocError>
+    requires { CanMeet hottest.old most }
     ensures { OnOk result (IsMet hottest.old hottest.new child most) }
 {
+    let most = most as usize;
     if is_cool(hottest, child, most) {
         return Ok(());
     }
@@ -70,25 +65,22 @@ pub fn meet(hottest: &mut Hottest, child: Child, most: usize) -> Result<(), Allo
 /// The hottest children of row `i`: at least `most`, or all.
 pub fn hottest_children(
     alloc: Global,
-    rows: &[ProblemRow],
-    links: &Links,
+    of: Weighed<'_>,
     rest: &[u64],
     i: usize,
-    most: usize,
+    most: u32,
 ) -> Result<Hottest, AllocError>
-    requires forest { IsForest rows.now }
-    requires inside { i < length rows.now }
-    requires size { length rest.now ≡ length rows.now }
-    requires linked { IsLinked rows.now links.now.first.items links.now.next.items 1 }
+    requires inside { i < length of.rows.now }
+    requires size { length rest.now ≡ length of.rows.now }
     requires some { 0 < most }
-    requires few { most < 2 ^ 32 }
     ensures { IfOk result (λ hottest.
-        AreHottest rows.now (slice_index rest.now) (λ _. true) i most hottest.floor hottest.children.items) }
+        AreHottest of.entry.rows.now (slice_index rest.now) (λ _. true) i most hottest.floor hottest.children.items) }
 {
     let mut hottest = Hottest {
         children: Vec::new(alloc),
         floor: 0,
     };
+    let links = &of.trees.links;
     let mut row = links.first[i];
     while row != 0 {
         let child = Child {

@@ -18,6 +18,6 @@ pub mod subtrees;
 mod walk;
 
 pub use cut::{Cut, CutError, cut_at, cut_cool, cut_linked, table_linked};
-pub use links::{Links, link};
+pub use links::{Links, Walk, link};
 pub use probe::{Probe, try_bound};
 pub use subtrees::{Subtrees, Weighed, weigh};

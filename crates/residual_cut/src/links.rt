@@ -2,7 +2,7 @@
 
 ghost use Rattle.std.specs.Prelude.{IfOk};
 ghost use Rattle.mds_types.specs.Problem.{IsForest};
-ghost use Rattle.residual_cut.specs.Links.{IsLinked};
+ghost use Rattle.residual_cut.specs.Links.{CanCut, IsLinked};
 
 use mds_types::ProblemRow;
 use std::alloc::{AllocError, Global};
@@ -14,6 +14,18 @@ pub struct Links {
     pub first: Vec<u32>,
     /// The next child of the same parent.
     pub next: Vec<u32>,
+}
+
+/// Rows that can be cut at a bound.
+#[derive(Clone, Copy)]
+pub struct Walk<'a> {
+    /// The rows.
+    pub rows: &'a [ProblemRow],
+    /// Their children.
+    pub links: &'a Links,
+    /// No piece is to be hotter, in accesses.
+    pub bound: u64,
+    pub ghost can_cut: { CanCut rows.now links.now bound },
 }
 
 /// Links the children of each row in rising order.

@@ -7,10 +7,10 @@
 ghost use Rattle.std.specs.Prelude.{◌≡◌, ◌<◌, ◌≤◌, ◌+◌, ◌-◌, ◌^◌, ◌≢◌, ℕ, min, max};
 ghost use Rattle.std.specs.Prelude.{length, slice_index, IfOk, OnOk, OnErr};
 ghost use Rattle.mds_types.specs.Division.{HasFew, NeedsMore};
-ghost use Rattle.mds_types.specs.Problem.{IsForest, heat_at, parent_at};
+ghost use Rattle.mds_types.specs.Problem.{parent_at};
 ghost use Rattle.residual_cut.specs.Probe.{IfFits, IfTooMany};
-ghost use Rattle.residual_cut.specs.Probing.{IsProbed, IsSeenWith};
-ghost use Rattle.residual_cut.specs.Subtrees.{AreLightWhole, AreSubtrees};
+ghost use Rattle.residual_cut.specs.Probing.{IsProbed, IsProbing, IsSeenWith};
+ghost use Rattle.residual_cut.specs.Subtrees.{AreRests};
 
 use crate::hottest::hottest_children;
 use crate::subtrees::{Weighed, hot_row, restore};
@@ -62,22 +62,15 @@ fn cut_hot_row(
     bound: u64,
     seen: &mut Seen,
 ) -> Result<(), AllocError>
-    requires forest { IsForest of.rows.now }
-    requires inside { i < length of.rows.now }
-    requires trees { AreSubtrees of.rows.now of.trees.now }
-    requires room { length rest.old ≡ length of.rows.now }
-    requires cool { (v : ℕ) → v < length of.rows.now → heat_at of.rows.now v ≤ bound }
-    requires few { seen.old.cuts < of.ranks }
-    requires probed { IsProbed of.rows.now (slice_index of.trees.now.heat.items) (slice_index rest.old) bound (i + 1)
-        (i + 1) seen.old }
+    requires { IsProbing of rest.old bound i seen.old }
     ensures room { length rest.new ≡ length of.entry.rows.now }
     ensures probed { OnOk result (IsProbed of.entry.rows.now (slice_index of.entry.trees.now.heat.items)
         (slice_index rest.new) bound (i + 1) i seen.new) }
     ensures done { OnOk result (seen.new.cuts < of.entry.ranks → slice_index rest.new i ≤ bound) }
     ensures same { OnErr result (rest.new ≡ rest.old) }
 {
-    let left = (of.ranks - seen.cuts) as usize;
-    let hottest = hottest_children(alloc, of.rows, &of.trees.links, rest, i, left)?;
+    let left = of.ranks - seen.cuts;
+    let hottest = hottest_children(alloc, of, rest, i, left)?;
     let mut heap = BinaryHeap::from(hottest.children);
     for _ in 0..left {
         if rest[i] <= bound {
@@ -110,15 +103,8 @@ fn cut_row(
     bound: u64,
     seen: &mut Seen,
 ) -> Result<u64, AllocError>
-    requires forest { IsForest of.rows.now }
-    requires inside { here.row < length of.rows.now }
-    requires trees { AreSubtrees of.rows.now of.trees.now }
-    requires room { length rest.old ≡ length of.rows.now }
     requires here { here.rest ≡ slice_index rest.old here.row }
-    requires cool { (v : ℕ) → v < length of.rows.now → heat_at of.rows.now v ≤ bound }
-    requires few { seen.old.cuts < of.ranks }
-    requires probed { IsProbed of.rows.now (slice_index of.trees.now.heat.items) (slice_index rest.old) bound
-        (here.row + 1) (here.row + 1) seen.old }
+    requires probing { IsProbing of rest.old bound here.row seen.old }
     ensures room { length rest.new ≡ length of.entry.rows.now }
     ensures probed { OnOk result (IsProbed of.entry.rows.now (slice_index of.entry.trees.now.heat.items)
         (slice_index rest.new) bound (here.row + 1) here.row seen.new) }
@@ -146,10 +132,8 @@ fn rest_of(rest: &[u64], known: Left, i: usize) -> u64
 /// What was cut off below row `i`, where `left` is left, is taken from its parent too.
 #[inline(always)]
 fn take_from_parent(of: Weighed<'_>, rest: &mut [u64], i: usize, left: u64) -> Left
-    requires forest { IsForest of.rows.now }
     requires inside { i < length of.rows.now }
     requires deep { 0 < i }
-    requires trees { AreSubtrees of.rows.now of.trees.now }
     requires room { length rest.old ≡ length of.rows.now }
     requires left { left ≡ slice_index rest.old i }
     requires less { slice_index rest.old i ≤ slice_index of.trees.now.heat.items i }
@@ -179,11 +163,6 @@ fn probe_rows(
     rest: &mut [u64],
     bound: u64,
 ) -> Result<Seen, AllocError>
-    requires forest { IsForest of.rows.now }
-    requires some { 0 < length of.rows.now }
-    requires trees { AreSubtrees of.rows.now of.trees.now }
-    requires cool { (v : ℕ) → v < length of.rows.now → heat_at of.rows.now v ≤ bound }
-    requires ranks { 0 < of.ranks }
     requires low { of.trees.now.low ≤ bound }
     requires room { length rest.old ≡ length of.rows.now }
     requires whole { (v : ℕ) → v < length of.rows.now
@@ -192,9 +171,7 @@ fn probe_rows(
         → HasFew of.entry.rows.now of.entry.ranks (max seen.hottest (slice_index rest.new 0))) }
     ensures within { IfOk result (λ seen. seen.cuts < of.entry.ranks
         → max seen.hottest (slice_index rest.new 0) ≤ bound) }
-    ensures room { length rest.new ≡ length of.entry.rows.now }
-    ensures light { AreLightWhole (length of.entry.rows.now) of.entry.trees.now.low
-        (slice_index of.entry.trees.now.heat.items) (slice_index rest.new) }
+    ensures rests { AreRests of.entry.rows.now of.entry.trees.now rest.new }
     ensures above { IfOk result (λ seen. of.entry.ranks ≤ seen.cuts → bound < seen.above) }
     ensures more { IfOk result (λ seen. of.entry.ranks ≤ seen.cuts
         → NeedsMore of.entry.rows.now of.entry.ranks (seen.above - 1)) }
@@ -209,7 +186,7 @@ fn probe_rows(
         rest: rest[0],
     };
     for k in 0..of.trees.hot.len() {
-        let i = hot_row(of.rows, of.trees, k);
+        let i = hot_row(of, k);
         let here = Left {
             row: i,
             rest: rest_of(rest, known, i),
@@ -241,25 +218,16 @@ pub fn try_bound(
     passes: &mut u32,
 ) -> Result<Probe, AllocError>
     requires count { passes.old < 2 ^ 32 - 1 }
-    requires forest { IsForest of.rows.now }
-    requires some { 0 < length of.rows.now }
-    requires trees { AreSubtrees of.rows.now of.trees.now }
-    requires cool { (v : ℕ) → v < length of.rows.now → heat_at of.rows.now v ≤ bound }
-    requires ranks { 0 < of.ranks }
     requires low { of.trees.now.low ≤ bound }
-    requires room { length rest.old ≡ length of.rows.now }
-    requires light { AreLightWhole (length of.rows.now) of.trees.now.low (slice_index of.trees.now.heat.items)
-        (slice_index rest.old) }
-    ensures room { length rest.new ≡ length of.entry.rows.now }
-    ensures light { AreLightWhole (length of.entry.rows.now) of.entry.trees.now.low
-        (slice_index of.entry.trees.now.heat.items) (slice_index rest.new) }
+    requires rests { AreRests of.rows.now of.trees.now rest.old }
+    ensures rests { AreRests of.entry.rows.now of.entry.trees.now rest.new }
     ensures fits { IfOk result (IfFits (λ heat. HasFew of.entry.rows.now of.entry.ranks heat × (heat ≤ bound))) }
     ensures too_many { IfOk result (IfTooMany (λ above.
         (bound < above) × NeedsMore of.entry.rows.now of.entry.ranks (above - 1))) }
     ensures passes { OnOk result (passes.new ≡ passes.old + 1) }
     ensures uncounted { OnErr result (passes.new ≡ passes.old) }
 {
-    restore(of.rows, of.trees, rest);
+    restore(of, rest);
     let seen = probe_rows(alloc, of, rest, bound)?;
     *passes += 1;
     if seen.cuts < of.ranks {

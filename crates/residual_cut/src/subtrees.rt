@@ -2,7 +2,7 @@
 
 ghost use Rattle.std.specs.Prelude.{◌≡◌, ◌<◌, ◌≤◌, ◌^◌, ℕ, length, slice_index, IfOk};
 ghost use Rattle.mds_types.specs.Problem.{IsForest, heat_at};
-ghost use Rattle.residual_cut.specs.Subtrees.{AreHot, AreLightWhole, AreSubtrees, AreSums};
+ghost use Rattle.residual_cut.specs.Subtrees.{AreHot, AreRests, AreSubtrees, AreSums, CanProbe};
 
 use crate::links::{Links, link};
 use mds_types::ProblemRow;
@@ -31,6 +31,7 @@ pub struct Weighed<'a> {
     pub trees: &'a Subtrees,
     /// There are to be no more parts.
     pub ranks: u32,
+    pub ghost can_probe: { CanProbe rows.now trees.now ranks },
 }
 
 /// Each row, from the last one up, gives its heat to its parent.
@@ -82,33 +83,29 @@ pub fn weigh(alloc: Global, rows: &[ProblemRow], low: u64) -> Result<Subtrees, A
 
 /// The k-th of the rows with a hot subtree.
 #[inline(always)]
-pub fn hot_row(rows: &[ProblemRow], trees: &Subtrees, k: usize) -> usize
-    requires trees { AreSubtrees rows.now trees.now }
-    requires listed { k < length trees.now.hot.items }
-    ensures row { result ≡ slice_index trees.now.hot.items k }
-    ensures inside { result < length rows.now }
+pub fn hot_row(of: Weighed<'_>, k: usize) -> usize
+    requires { k < length of.trees.now.hot.items }
+    ensures row { result ≡ slice_index of.entry.trees.now.hot.items k }
+    ensures inside { result < length of.entry.rows.now }
     ensures deep { 0 < result }
 {
-    trees.hot[k] as usize
+    of.trees.hot[k] as usize
 }
 
 /// Each row has the heat of its whole subtree again, where only rows with hot ones may have another.
-pub fn restore(rows: &[ProblemRow], trees: &Subtrees, rest: &mut [u64])
-    requires some { 0 < length rows.now }
-    requires trees { AreSubtrees rows.now trees.now }
-    requires room { length rest.old ≡ length rows.now }
-    requires light { AreLightWhole (length rows.now) trees.now.low (slice_index trees.now.heat.items)
-        (slice_index rest.old) }
-    ensures room { length rest.new ≡ length rows.now }
-    ensures whole { (v : ℕ) → v < length rows.now → slice_index rest.new v ≡ slice_index trees.now.heat.items v }
+pub fn restore(of: Weighed<'_>, rest: &mut [u64])
+    requires { AreRests of.rows.now of.trees.now rest.old }
+    ensures room { length rest.new ≡ length of.entry.rows.now }
+    ensures whole { (v : ℕ) → v < length of.entry.rows.now
+        → slice_index rest.new v ≡ slice_index of.entry.trees.now.heat.items v }
 {
-    if trees.hot.len() > rows.len() / 8 {
-        rest.copy_from_slice(&trees.heat);
+    if of.trees.hot.len() > of.rows.len() / 8 {
+        rest.copy_from_slice(&of.trees.heat);
         return;
     }
-    for k in 0..trees.hot.len() {
-        let i = hot_row(rows, trees, k);
-        rest[i] = trees.heat[i];
+    for k in 0..of.trees.hot.len() {
+        let i = hot_row(of, k);
+        rest[i] = of.trees.heat[i];
     }
-    rest[0] = trees.heat[0];
+    rest[0] = of.trees.heat[0];
 }

@@ -4,16 +4,14 @@
 //! it; the row is cut down to the bound, and gives the rest to its parent. Parents are before
 //! their children, so no row is met before all of its children.
 
-ghost use Rattle.std.specs.Prelude.{◌≡◌, ◌<◌, ◌≤◌, ◌+◌, ◌^◌, ℕ, length, map, IfOk, OnOk};
+ghost use Rattle.std.specs.Prelude.{◌≡◌, ◌<◌, ◌+◌, ◌^◌, length, map, IfOk, OnOk};
 ghost use Rattle.mds_types.specs.CutTable.{cuts_at, rest_at, is_cut_at, IsCutTable};
-ghost use Rattle.mds_types.specs.Problem.{IsForest, heat_at};
 ghost use Rattle.mds_types.specs.Sums.{count_below};
 ghost use Rattle.mds_types.specs.declared.problem.ProblemRow.{ProblemRow as ProblemRowData};
-ghost use Rattle.residual_cut.specs.Links.{IsLinked};
 ghost use Rattle.residual_cut.specs.Walk.{IsGivenRow, IsWalked, first_row};
 
-use crate::detach::{Walk, cut_children};
-use crate::links::Links;
+use crate::detach::cut_children;
+use crate::links::Walk;
 use mds_types::{ProblemRow, Row};
 use std::alloc::{AllocError, Global};
 
@@ -48,25 +46,15 @@ fn give_to_parent(table: &mut [Row], parent: usize, i: usize)
 }
 
 /// Cuts rows from the last one up until each piece is within the bound.
-pub fn cut_table(
-    alloc: Global,
-    rows: &[ProblemRow],
-    links: &Links,
-    table: &mut [Row],
-    bound: u64,
-) -> Result<(), AllocError>
-    requires forest { IsForest rows.now }
-    requires some { 0 < length rows.now }
-    requires linked { IsLinked rows.now links.now.first.items links.now.next.items 1 }
-    requires cool { (v : ℕ) → v < length rows.now → heat_at rows.now v ≤ bound }
-    requires walked { IsWalked rows.now table.old bound (length rows.now) (length rows.now) }
-    ensures table { OnOk result (IsCutTable rows.now table.new bound) }
-    ensures counted { OnOk result (cuts_at table.new 0 ≡ count_below (length rows.now) (is_cut_at table.new)) }
+pub fn cut_table(alloc: Global, of: Walk<'_>, table: &mut [Row]) -> Result<(), AllocError>
+    requires { IsWalked of.rows.now table.old of.bound (length of.rows.now) (length of.rows.now) }
+    ensures table { OnOk result (IsCutTable of.entry.rows.now table.new of.entry.bound) }
+    ensures counted { OnOk result (cuts_at table.new 0
+        ≡ count_below (length of.entry.rows.now) (is_cut_at table.new)) }
 {
-    let of = Walk { rows, links, bound };
-    for i in (1..rows.len()).rev() {
+    for i in (1..of.rows.len()).rev() {
         cut_children(alloc, of, table, i)?;
-        give_to_parent(table, rows[i].parent as usize, i);
+        give_to_parent(table, of.rows[i].parent as usize, i);
     }
     cut_children(alloc, of, table, 0)?;
     Ok(())

@@ -29,8 +29,8 @@ returns-in_default-clause-done c =
     let are = c.loop-cut.invariant.are in
     λ more. omega (
       arith,
-      c.requires.cool c.args.i c.requires.inside,
-      own_heat c.args.of.rows.now c.requires.forest c.loop-cut.table c.args.of.bound c.args.i c.requires.inside c.loop-cut.invariant.walked
+      c.args.of.can_cut.cool c.args.i c.requires.inside,
+      own_heat c.args.of.rows.now c.args.of.can_cut.forest c.loop-cut.table c.args.of.bound c.args.i c.requires.inside c.loop-cut.invariant.walked
           (hottest_empty c.args.of.rows.now (rest_at c.loop-cut.table) (is_cut_at c.loop-cut.table) c.args.i (c.args.most - c.loop-cut.cut)
           are.0 (heap_items c.loop-cut.heap) are.1 (size ∙ c.in_default.ensures.none) (omega arith)),
     )
@@ -54,7 +54,7 @@ cut_child-requires-clause-rest c =
     omega (
       arith,
       pop.rest_is,
-      rest_within_row c.args.of.rows.now c.requires.forest c.loop-cut.table c.args.of.bound c.args.i c.requires.inside
+      rest_within_row c.args.of.rows.now c.args.of.can_cut.forest c.loop-cut.table c.args.of.bound c.args.i c.requires.inside
           c.loop-cut.invariant.walked c.in-Some.child.row.0 pop.inside pop.child pop.free,
     )
 
@@ -64,7 +64,7 @@ cut_child-requires-clause-cuts c =
       arith,
       few_cuts c.args.of.rows.now c.loop-cut.table c.args.of.bound (c.args.i + 1) c.args.i c.args.i (omega arith)
           c.loop-cut.invariant.walked,
-      c.requires.forest.few,
+      c.args.of.can_cut.forest.few,
     )
 
 pub loop-cut-preserved : goal.loop-cut-preserved
@@ -75,12 +75,12 @@ loop-cut-preserved c =
     (heap_items c.loop-cut.heap) (heap_items c.pop.new.self) c.in-Some.child are.1 c.in-Some.ensures.permutation
     (c.in-Some.ensures.heap_order c.loop-cut.invariant.order).1 in
     let hot : c.args.of.bound < rest_at c.loop-cut.table c.args.i = search rules in
-    let changed = change c.args.of.rows.now c.requires.forest c.loop-cut.table c.args.of.bound c.args.i c.requires.inside
+    let changed = change c.args.of.rows.now c.args.of.can_cut.forest c.loop-cut.table c.args.of.bound c.args.i c.requires.inside
     c.loop-cut.invariant.walked c.in-Some.child pop hot c.cut_child.new.table (search rules) c.cut_child.ensures.here
     c.cut_child.ensures.child c.cut_child.ensures.other in
     let size = length_permutation (heap_items c.loop-cut.heap) (c.in-Some.child ∷ heap_items c.pop.new.self) c.in-Some.ensures.permutation in
     record {
-      walked = walked_on c.args.of.rows.now c.requires.forest c.loop-cut.table c.args.of.bound c.args.i c.requires.inside
+      walked = walked_on c.args.of.rows.now c.args.of.can_cut.forest c.loop-cut.table c.args.of.bound c.args.i c.requires.inside
           c.loop-cut.invariant.walked c.in-Some.child pop hot c.cut_child.new.table (search rules) c.cut_child.ensures.here
           c.cut_child.ensures.child c.cut_child.ensures.other;
       order = (c.in-Some.ensures.heap_order c.loop-cut.invariant.order).0;
@@ -90,12 +90,12 @@ loop-cut-preserved c =
             (is_cut_at c.cut_child.new.table) c.args.i (c.args.most - c.loop-cut.cut) (c.args.most - (c.loop-cut.cut + 1)) are.0
             (heap_items c.loop-cut.heap) (heap_items c.pop.new.self) c.in-Some.child changed.rest_other changed.cut_here
             changed.cut_other pop (omega arith) (omega (arith, size)) are.1 c.in-Some.ensures.permutation
-            (λ j l child same. (let up = child_above c.args.of.rows.now c.requires.forest c.args.i j l child in omega arith)),
+            (λ j l child same. (let up = child_above c.args.of.rows.now c.args.of.can_cut.forest c.args.i j l child in omega arith)),
       );
       counted = omega (
         arith,
         c.loop-cut.invariant.counted,
-        counted_on c.args.of.rows.now c.requires.forest c.loop-cut.table c.args.of.bound c.args.i c.requires.inside
+        counted_on c.args.of.rows.now c.args.of.can_cut.forest c.loop-cut.table c.args.of.bound c.args.i c.requires.inside
             c.loop-cut.invariant.walked c.in-Some.child pop hot c.cut_child.new.table (search rules) c.cut_child.ensures.here
             c.cut_child.ensures.child c.cut_child.ensures.other,
       );

@@ -6,12 +6,12 @@ use Rattle.residual_cut.proofs.hottest.hottest_children.Given as goal
 
 abbrev pub invariant-loop-row : goal.invariant-loop-row
 invariant-loop-row l = record {
-  are : AreHottest l.rows (slice_index l.rest) (is_before l.row) l.i l.most l.hottest.floor l.hottest.children.items;
+  are : AreHottest l.of.rows.now (slice_index l.rest) (is_before l.row) l.i l.most l.hottest.floor l.hottest.children.items;
   full : 0 < l.hottest.floor → l.most ≤ length l.hottest.children.items;
-  inside : l.row < length l.rows;
-  child : 0 < l.row → is_child l.rows l.i l.row ≡ true;
+  inside : l.row < length l.of.rows.now;
+  child : 0 < l.row → is_child l.of.rows.now l.i l.row ≡ true;
 }
 
 -- the rows after this one, or none at the end
 abbrev pub decreases-loop-row : goal.decreases-loop-row
-decreases-loop-row l = cond (eqb l.row 0) 0 (length l.rows - l.row)
+decreases-loop-row l = cond (eqb l.row 0) 0 (length l.of.rows.now - l.row)

@@ -10,7 +10,7 @@ use Rattle.residual_cut.proofs.hottest.meet.Goals as goal
 pub returns-then-is_cool : goal.returns-then-is_cool
 returns-then-is_cool c =
     let cool = c.is_cool.ensures.cool c.if-is_cool.true in
-    met_cool c.args.hottest.now c.args.child c.args.most cool.0 cool.1 c.requires.above
+    met_cool c.args.hottest.now c.args.child c.args.most cool.0 cool.1 c.requires
 
 pub returns-else-len-most : goal.returns-else-len-most
 returns-else-len-most c =
@@ -24,7 +24,7 @@ returns-else-len-most c =
     omega (arith, c.is_cool.ensures.wanted c.if-is_cool.false long))
     (cases_lt (length c.args.hottest.now.children.items) c.args.most) in
     met_kept c.args.hottest.now (record { children = c.push.new.self; floor = c.args.hottest.now.floor }) c.args.child c.args.most
-    c.in_ok-push.ensures.items refl hot c.requires.full c.requires.above
+    c.in_ok-push.ensures.items refl hot c.requires
 
 pub returns-then-len-most : goal.returns-then-len-most
 returns-then-len-most c =
@@ -49,4 +49,4 @@ returns-then-len-most c =
     (c.truncate.ensures.items ∙ ap (take c.args.most) back)
     (omega (arith, c.put_hottest_first-hottest.ensures.size, c.deref_mut.ensures.len, c.if-len-most.true, c.requires.some))
     c.put_hottest_first-hottest.ensures.hottest c.put_hottest_first-hottest.ensures.others
-    (c.put_hottest_first-hottest.ensures.among old.floor above)
+    (c.put_hottest_first-hottest.ensures.among old.floor above) c.requires.some

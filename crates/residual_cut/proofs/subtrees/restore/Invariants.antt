@@ -4,8 +4,8 @@ use Rattle.residual_cut.proofs.subtrees.restore.Given as goal
 
 abbrev pub invariant-loop-k : goal.invariant-loop-k
 invariant-loop-k l = record {
-  room : length l.rest ≡ length l.rows;
-  light : AreLightWhole (length l.rows) l.trees.low (slice_index l.trees.heat.items) (slice_index l.rest);
-  done : (v : ℕ) → 0 < v → v < length l.rows → limit_of (length l.rows) l.trees.hot.items l.k ≤ v
-      → slice_index l.rest v ≡ slice_index l.trees.heat.items v;
+  room : length l.rest ≡ length l.of.rows.now;
+  light : AreLightWhole (length l.of.rows.now) l.of.trees.now.low (slice_index l.of.trees.now.heat.items) (slice_index l.rest);
+  done : (v : ℕ) → 0 < v → v < length l.of.rows.now → limit_of (length l.of.rows.now) l.of.trees.now.hot.items l.k ≤ v
+      → slice_index l.rest v ≡ slice_index l.of.trees.now.heat.items v;
 }
