@@ -9,7 +9,7 @@ use crate::choice_of_proof::prove_least;
 use crate::found::BestCut;
 use crate::narrow::{narrow, start};
 use mds_types::{CutProof, Problem, ProblemRow};
-use residual_cut::{Weighed, cut_cool, cut_linked, weigh};
+use residual_cut::{Walk, Weighed, cut_cool, cut_linked, weigh};
 use std::alloc::{AllocError, Global};
 
 /// A cut into at most `ranks` parts with the least greatest heat. They may be more than a set of ranks holds.
@@ -29,8 +29,13 @@ pub fn search_rows(alloc: Global, rows: &[ProblemRow], ranks: u32) -> Result<Bes
         ranks,
     };
     let greatest = narrow(alloc, of, &mut rest, from, &mut passes)?;
-    let cut = cut_linked(alloc, rows, &trees.links, greatest, &mut passes)?;
-    let proof = prove_least(alloc, rows, &trees.links, ranks, greatest, &mut passes)?;
+    let of = Walk {
+        rows,
+        links: &trees.links,
+        bound: greatest,
+    };
+    let cut = cut_linked(alloc, of, &mut passes)?;
+    let proof = prove_least(alloc, of, ranks, &mut passes)?;
     Ok(BestCut {
         cut,
         greatest,

@@ -1,14 +1,13 @@
 //! The proof that goes with a least greatest heat.
 
-ghost use Rattle.std.specs.Prelude.{◌≡◌, ◌≢◌, ◌<◌, ◌≤◌, ◌+◌, ◌-◌, ◌^◌, ℕ, length, IfOk, IfSome, IfNone};
+ghost use Rattle.std.specs.Prelude.{◌≡◌, ◌≢◌, ◌<◌, ◌+◌, ◌-◌, ◌^◌, ℕ, length, IfOk, IfSome, IfNone};
 ghost use Rattle.mds_types.specs.Certificate.{IsCutProof};
 ghost use Rattle.mds_types.specs.Division.{IsLowerBound};
 ghost use Rattle.mds_types.specs.Problem.{IsForest, heat_at};
 ghost use Rattle.minmax_search.specs.Found.{IsChosen, IsRowOf, proof_passes};
-ghost use Rattle.residual_cut.specs.Links.{IsLinked};
 
 use mds_types::{CutProof, ProblemRow};
-use residual_cut::{Links, table_linked};
+use residual_cut::{Walk, table_linked};
 use std::alloc::{AllocError, Global};
 
 /// The least row of this heat.
@@ -25,31 +24,29 @@ fn row_of(rows: &[ProblemRow], heat: u64) -> Option<u32>
     None
 }
 
-/// Why no division has a smaller greatest heat. The walk for a table is counted in `passes`.
+/// Why no division has a smaller greatest heat than the bound. The walk for a table is counted in `passes`.
 pub fn prove_least(
     alloc: Global,
-    rows: &[ProblemRow],
-    links: &Links,
+    of: Walk<'_>,
     ranks: u32,
-    greatest: u64,
     passes: &mut u32,
 ) -> Result<CutProof, AllocError>
     requires count { passes.old < 2 ^ 32 - 1 }
-    requires forest { IsForest rows.now }
-    requires some { 0 < length rows.now }
-    requires linked { IsLinked rows.now links.now.first.items links.now.next.items 1 }
-    requires cool { (v : ℕ) → v < length rows.now → heat_at rows.now v ≤ greatest }
-    requires lower { IsLowerBound rows.now ranks greatest }
-    ensures proven { IfOk result (IsCutProof rows.now ranks greatest) }
-    ensures chosen { IfOk result (IsChosen rows.now greatest) }
+    requires lower { IsLowerBound of.rows.now ranks of.bound }
+    ensures proven { IfOk result (IsCutProof of.entry.rows.now ranks of.entry.bound) }
+    ensures chosen { IfOk result (IsChosen of.entry.rows.now of.entry.bound) }
     ensures passes { IfOk result (λ proof. passes.new ≡ passes.old + proof_passes proof) }
 {
-    if greatest == 0 {
+    if of.bound == 0 {
         return Ok(CutProof::Zero);
     }
-    if let Some(row) = row_of(rows, greatest) {
+    if let Some(row) = row_of(of.rows, of.bound) {
         return Ok(CutProof::Heavy(row));
     }
-    let below = table_linked(alloc, rows, links, greatest - 1, passes)?;
-    Ok(CutProof::Table(below))
+    let below = Walk {
+        rows: of.rows,
+        links: of.links,
+        bound: of.bound - 1,
+    };
+    Ok(CutProof::Table(table_linked(alloc, below, passes)?))
 }

@@ -18,8 +18,8 @@ pub record AreHottest (rows : List ProblemRow) (rest : ℕ → ℕ) (test : ℕ 
   pub left_out : (j : ℕ) → j < length rows → is_child rows i j ≡ true → test j ≡ true → row_count j children ≡ 0
       → (rest j ≤ floor) × (most ≤ length children)
 
--- what it takes to meet one more child: some are wanted, none of those here has less than the floor, and there is a floor
--- only where they are enough
+-- what it takes to meet one more child: some are wanted, none of those here has less than the floor, and there is a
+-- floor only where they are enough
 pub record CanMeet (hottest : Hottest) (most : ℕ) : Type 0 where
   pub some : 0 < most
   pub above : All (λ child. hottest.floor ≤ child.rest) hottest.children.items

@@ -10,12 +10,15 @@ returns-in-Fits-clause-width c =
     c.requires.width (omega (arith, fits.1, c.next_bound-bound.ensures.below))
     (λ long. omega (arith, fits.1, c.next_bound-bound.ensures.half long))
 
-pub returns-in-TooMany-clause-lower : goal.returns-in-TooMany-clause-lower
-returns-in-TooMany-clause-lower c =
+pub returns-in-TooMany-clause-gap : goal.returns-in-TooMany-clause-gap
+returns-in-TooMany-clause-gap c =
     let more = rw c.in-TooMany.is at c.in_ok-hottest.ensures.too_many in
     let same : c.in-TooMany.above - 1 + 1 ≡ c.in-TooMany.above = omega (arith, more.0) in
     let P : ℕ → Type 0 = λ bound. IsLowerBound c.args.of.rows.now c.args.of.ranks bound in
-    subst P same (lower_from_more c.args.of.rows.now c.args.of.ranks (c.in-TooMany.above - 1) more.1)
+    record {
+      lower = subst P same (lower_from_more c.args.of.rows.now c.args.of.ranks (c.in-TooMany.above - 1) more.1);
+      few = c.requires.gap.few;
+    }
 
 pub returns-in-TooMany-clause-width : goal.returns-in-TooMany-clause-width
 returns-in-TooMany-clause-width c =
