@@ -1,10 +1,9 @@
 -- Sums of chunks that follow one another.
-use Rattle.std.proofs.Common.{◌≡◌, zero, suc, [], ◌∷◌, refl, ap, get_or, ◌+◌, ◌*◌, ◌^◌, ◌<◌, ◌≤◌, ℕ, List, length, slice_index, replicate, arith}
-use Rattle.std.proofs.lemmas.List.{get_or-replicate, length-replicate}
+use Rattle.std.proofs.Common.{◌≡◌, zero, suc, [], ◌∷◌, refl, ap, get_or, ◌+◌, ◌*◌, ◌^◌, ◌<◌, ◌≤◌, ℕ, List, length, slice_index, arith}
 use Rattle.std.proofs.lemmas.Nat.{mul-le}
 use Rattle.std.specs.List.{AllZip, range_with_len}
 use Rattle.mds_types.specs.declared.problem.ProblemRow.{ProblemRow}
-use Rattle.cost_table.proofs.BetweenLemmas.{no_rows, no_sums, rows_joined, sums_joined}
+use Rattle.cost_table.proofs.BetweenLemmas.{rows_joined, sums_joined}
 use Rattle.rank_assign.specs.Chunks.{edge, AreSummed}
 
 pub edge_rises : (rows first chunk k : ℕ) → edge rows first chunk k ≤ edge rows first chunk (k + 1)

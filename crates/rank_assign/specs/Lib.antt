@@ -1,4 +1,5 @@
 pub mod Assigned
 pub mod Chunks
 pub mod Matching
+pub mod Sizes
 pub mod Ways

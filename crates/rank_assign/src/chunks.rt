@@ -17,6 +17,7 @@ pub struct Labelled<'a> {
     pub rows: &'a [ProblemRow],
     pub part: &'a [u32],
     pub count: u32,
+    pub ghost labelled: { AreLabelled rows.now part.now count },
 }
 
 /// Chunks that are added up together: `chunks` of `chunk` rows each, from row `first` on. The last one may be
@@ -35,7 +36,6 @@ fn chunk_sums(
     batch: Batch,
     k: usize,
 ) -> Result<Vec<u64>, AllocError>
-    requires { AreLabelled of.rows.now of.part.now of.count }
     ensures { IfOk result (λ sums. AreSummed of.entry.rows.now of.entry.part.now of.entry.count
         (edge (length of.entry.rows.now) batch.first batch.chunk k)
         (edge (length of.entry.rows.now) batch.first batch.chunk (k + 1)) sums.items) }
@@ -56,7 +56,6 @@ fn side_by_side<R: Threads + Sync>(
     of: Labelled<'_>,
     batch: Batch,
 ) -> Result<Vec<Result<Vec<u64>, AllocError>>, AllocError>
-    requires { AreLabelled of.rows.now of.part.now of.count }
     ensures size { IfOk result (λ tables. length tables.items ≡ batch.chunks) }
     ensures sums { IfOk result (λ tables. (k : ℕ) (d : _) → k < batch.chunks
         → IfOk (slice_index_or tables.items k d) (λ sums. AreSummed of.entry.rows.now of.entry.part.now of.entry.count
@@ -68,7 +67,6 @@ fn side_by_side<R: Threads + Sync>(
         .with_min_len(1)
         .map(
             |k: usize| -> Result<Vec<u64>, AllocError>
-                requires { AreLabelled of.rows.now of.part.now of.count }
                 ensures { IfOk result (λ sums. AreSummed of.entry.rows.now of.entry.part.now of.entry.count
                     (edge (length of.entry.rows.now) batch.first batch.chunk k)
                     (edge (length of.entry.rows.now) batch.first batch.chunk (k + 1)) sums.items) }
@@ -85,7 +83,6 @@ fn add_chunks<R: Threads + Sync>(
     of: Labelled<'_>,
     batch: Batch,
 ) -> Result<(), AllocError>
-    requires labelled { AreLabelled of.rows.now of.part.now of.count }
     requires inside { batch.first ≤ length of.rows.now }
     requires before { AreSummed of.rows.now of.part.now of.count 0 batch.first total.old }
     ensures size { length total.new ≡ length total.old }
@@ -110,7 +107,6 @@ fn add_rows<R: Threads + Sync>(
     of: Labelled<'_>,
     chunk: usize,
 ) -> Result<(), AllocError>
-    requires labelled { AreLabelled of.rows.now of.part.now of.count }
     requires chunk { 0 < chunk }
     requires none { AreSummed of.rows.now of.part.now of.count 0 0 total.old }
     ensures { OnOk result (AreSummed of.entry.rows.now of.entry.part.now of.entry.count 0 (length of.entry.rows.now)
@@ -138,8 +134,7 @@ pub fn sums_by<R: Threads + Sync>(
     of: Labelled<'_>,
     chunk: usize,
 ) -> Result<Vec<u64>, AllocError>
-    requires labelled { AreLabelled of.rows.now of.part.now of.count }
-    requires chunk { 0 < chunk }
+    requires { 0 < chunk }
     ensures { IfOk result (λ sums. AreSummed of.entry.rows.now of.entry.part.now of.entry.count 0
         (length of.entry.rows.now) sums.items) }
 {

@@ -5,9 +5,10 @@
 //! Parts are placed one after the other. At each time prices of parts and ranks show that the parts
 //! placed so far are where they cost least. Ranks' prices are never above 0, so they are kept as
 //! debts: how far they are below 0. All numbers are whole.
-ghost use Rattle.std.specs.Prelude.{◌≡◌, ◌≢◌, ◌<◌, ◌≤◌, ◌+◌, ◌-◌, ◌*◌, ◌^◌, ℕ, length, slice_index};
+ghost use Rattle.std.specs.Prelude.{◌≡◌, ◌≢◌, ◌<◌, ◌≤◌, ◌+◌, ◌-◌, ◌^◌, ℕ, length, slice_index};
 ghost use Rattle.cost_table.specs.Costs.{cell_at_place};
 ghost use Rattle.rank_assign.specs.Matching.{ArePlaced, IsMatching};
+ghost use Rattle.rank_assign.specs.Sizes.{CanMatch};
 ghost use Rattle.rank_assign.specs.Ways.{near_at, turn_at, via_at, ArePaths, IsHandedTo};
 
 use crate::ways::{Way, reach};
@@ -78,15 +79,8 @@ fn place_part(
     cells: &[u64],
     part: usize,
 )
-    requires sizes { length owners.old ≡ length debts.old }
-    requires ways { length ways.old ≡ length debts.old }
-    requires cells { length cells.now ≡ length prices.old * length debts.old }
-    requires few { length cells.now ≤ 4096 }
+    requires sizes { CanMatch cells.now prices.old debts.old owners.old ways.old }
     requires part { part < length prices.old }
-    requires enough { length prices.old ≤ length debts.old }
-    requires ranks { length debts.old ≤ 64 }
-    requires small { (p j : ℕ) → p < length prices.old → j < length debts.old →
-        cell_at_place cells.now (length debts.old) p j ≤ 2 ^ 48 }
     requires matching { IsMatching (length prices.old) (length debts.old) (cell_at_place cells.now (length debts.old))
         (slice_index prices.old) (slice_index debts.old) (slice_index owners.old) part }
     ensures { IsMatching (length prices.old) (length debts.old) (cell_at_place cells.now (length debts.old))
@@ -108,14 +102,7 @@ pub fn place_parts(
     ways: &mut [Way],
     cells: &[u64],
 )
-    requires sizes { length owners.old ≡ length debts.old }
-    requires ways { length ways.old ≡ length debts.old }
-    requires cells { length cells.now ≡ length prices.old * length debts.old }
-    requires few { length cells.now ≤ 4096 }
-    requires enough { length prices.old ≤ length debts.old }
-    requires ranks { length debts.old ≤ 64 }
-    requires small { (p j : ℕ) → p < length prices.old → j < length debts.old →
-        cell_at_place cells.now (length debts.old) p j ≤ 2 ^ 48 }
+    requires sizes { CanMatch cells.now prices.old debts.old owners.old ways.old }
     requires owners { (j : ℕ) → j < length debts.old → slice_index owners.old j ≡ 0 }
     requires prices { (p : ℕ) → p < length prices.old → slice_index prices.old p ≡ 0 }
     requires debts { (j : ℕ) → j < length debts.old → slice_index debts.old j ≡ 0 }

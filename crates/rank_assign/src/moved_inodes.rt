@@ -1,7 +1,7 @@
 //! What each part of a problem moves at each of its ranks.
-ghost use Rattle.std.specs.Prelude.{◌≡◌, ◌<◌, ◌≤◌, ℕ, length, slice_index, IfOk};
+ghost use Rattle.std.specs.Prelude.{◌≡◌, ◌≤◌, length, slice_index, IfOk};
 ghost use Rattle.cost_table.specs.Costs.{AreCosts, AreSums};
-ghost use Rattle.mds_types.specs.RankSet.{rank_count};
+ghost use Rattle.rank_assign.specs.Assigned.{CanPlace};
 
 use crate::chunks::{Labelled, sums_by};
 use crate::table::Costs;
@@ -23,9 +23,7 @@ pub fn sums(
     from: u32,
     to: u32,
 ) -> Result<Vec<u64>, AllocError>
-    requires size { length part.now ≡ length problem.now.rows }
-    requires below { (i : ℕ) → i < length problem.now.rows → slice_index part.now i < count }
-    requires few { count ≤ rank_count problem.now.ranks }
+    requires parts { CanPlace problem.now part.now count }
     requires order { from ≤ to }
     requires inside { to ≤ length problem.now.rows }
     ensures { IfOk result (λ sums. AreSums problem.now.rows (slice_index part.now) count from to sums.items) }
@@ -50,9 +48,7 @@ pub fn costs_by<R: Threads + Sync>(
     count: u32,
     chunk: usize,
 ) -> Result<Costs, AllocError>
-    requires size { length part.now ≡ length problem.now.rows }
-    requires below { (i : ℕ) → i < length problem.now.rows → slice_index part.now i < count }
-    requires few { count ≤ rank_count problem.now.ranks }
+    requires parts { CanPlace problem.now part.now count }
     requires chunk { 1 ≤ chunk }
     ensures count { IfOk result (λ costs. costs.count ≡ count) }
     ensures ranks { IfOk result (λ costs. costs.ranks ≡ problem.now.ranks) }
@@ -74,9 +70,7 @@ pub fn costs<R: Threads + Sync>(
     part: &[u32],
     count: u32,
 ) -> Result<Costs, AllocError>
-    requires size { length part.now ≡ length problem.now.rows }
-    requires below { (i : ℕ) → i < length problem.now.rows → slice_index part.now i < count }
-    requires few { count ≤ rank_count problem.now.ranks }
+    requires { CanPlace problem.now part.now count }
     ensures count { IfOk result (λ costs. costs.count ≡ count) }
     ensures ranks { IfOk result (λ costs. costs.ranks ≡ problem.now.ranks) }
     ensures cells { IfOk result (λ costs.

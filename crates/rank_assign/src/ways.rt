@@ -7,6 +7,7 @@ ghost use Rattle.std.specs.Prelude.{◌≡◌, ◌≢◌, ◌<◌, ◌≤◌, �
 ghost use Rattle.std.specs.Prelude.{false, length, slice_index, slice_index_or};
 ghost use Rattle.cost_table.specs.Costs.{cell_at_place};
 ghost use Rattle.rank_assign.specs.Matching.{IsMatching};
+ghost use Rattle.rank_assign.specs.Sizes.{CanMatch, CanStep};
 ghost use Rattle.rank_assign.specs.Ways.{near_at, via_at, turn_at, no_way, IsFirstWay};
 ghost use Rattle.rank_assign.specs.Ways.{IsImproved, IsReached, IsReaching};
 
@@ -25,11 +26,7 @@ pub struct Way {
 
 /// The ways of one step.
 fn start(ways: &mut [Way], cells: &[u64], debts: &[u64], part: usize)
-    requires inside { part * length debts.now + length debts.now ≤ length cells.now }
-    requires few { length cells.now ≤ 4096 }
-    requires size { length ways.old ≡ length debts.now }
-    requires cells { (j : ℕ) → j < length debts.now → cell_at_place cells.now (length debts.now) part j ≤ 2 ^ 48 }
-    requires debts { (j : ℕ) → j < length debts.now → slice_index debts.now j ≤ 2 ^ 56 }
+    requires { CanStep cells.now debts.now ways.old part }
     ensures { (j : ℕ) → j < length debts.now → IsFirstWay (slice_index_or ways.new j no_way)
         (cell_at_place cells.now (length debts.now) part j + slice_index debts.now j) }
 {
@@ -87,12 +84,8 @@ fn improve(way: &mut Way, near: u64, via: u32)
 
 /// Tries the ways over the rank at place `via`, whose part moves on.
 fn relax(ways: &mut [Way], cells: &[u64], debts: &[u64], part: usize, price: u64, via: usize)
+    requires step { CanStep cells.now debts.now ways.old part }
     requires via { via < length debts.now }
-    requires inside { part * length debts.now + length debts.now ≤ length cells.now }
-    requires few { length cells.now ≤ 4096 }
-    requires size { length ways.old ≡ length debts.now }
-    requires cells { (j : ℕ) → j < length debts.now → cell_at_place cells.now (length debts.now) part j ≤ 2 ^ 48 }
-    requires debts { (j : ℕ) → j < length debts.now → slice_index debts.now j ≤ 2 ^ 56 }
     requires near { near_at ways.old via ≤ 2 ^ 57 }
     requires reached { (j : ℕ) → j < length debts.now → 0 < turn_at ways.old j
         → near_at ways.old j ≤ near_at ways.old via }
@@ -118,17 +111,10 @@ pub fn reach(
     owners: &[u32],
     part: usize,
 ) -> usize
-    requires sizes { length owners.now ≡ length debts.now }
-    requires ways { length ways.old ≡ length debts.now }
-    requires cells { length cells.now ≡ length prices.now * length debts.now }
-    requires few { length cells.now ≤ 4096 }
+    requires sizes { CanMatch cells.now prices.now debts.now owners.now ways.old }
     requires part { part < length prices.now }
-    requires enough { length prices.now ≤ length debts.now }
-    requires ranks { length debts.now ≤ 64 }
     requires matching { IsMatching (length prices.now) (length debts.now) (cell_at_place cells.now (length debts.now))
         (slice_index prices.now) (slice_index debts.now) (slice_index owners.now) part }
-    requires small { (p j : ℕ) → p < length prices.now → j < length debts.now →
-        cell_at_place cells.now (length debts.now) p j ≤ 2 ^ 48 }
     ensures { IsReached (length debts.now) (cell_at_place cells.now (length debts.now)) (slice_index prices.now)
         (slice_index debts.now) (slice_index owners.now) part (near_at ways.new) (via_at ways.new)
         (turn_at ways.new) result }

@@ -5,14 +5,22 @@ use Rattle.cost_table.proofs.WrittenLemmas.{all_written}
 use Rattle.rank_assign.proofs.AssignedLemmas.{cell_small}
 use Rattle.rank_assign.proofs.assigned.placed_parts.Goals as goal
 
-pub place_parts-requires-clause-small : goal.place_parts-requires-clause-small
-place_parts-requires-clause-small c =
+pub place_parts-requires-clause-sizes : goal.place_parts-requires-clause-sizes
+place_parts-requires-clause-sizes c =
     let parts : length c.deref_mut-2.result.now ≡ c.args.costs.now.count = search rules in
     let width : length c.deref_mut-3.result.now ≡ rank_count c.args.costs.now.ranks = search rules in
     let size : length c.cells.result.now ≡ length c.deref_mut-2.result.now * length c.deref_mut-3.result.now = search rules in
-    λ p j lp lj.
-    cell_small c.cells.result.now (length c.deref_mut-2.result.now) (length c.deref_mut-3.result.now) p j lp lj size
-    (rw c.cells.ensures.value c.cells.ensures.sound.small)
+    record {
+      owners_size = search rules;
+      ways_size = search rules;
+      cells_size = size;
+      few = search rules;
+      enough = search rules;
+      ranks = search rules;
+      small = λ p j lp lj.
+          cell_small c.cells.result.now (length c.deref_mut-2.result.now) (length c.deref_mut-3.result.now) p j lp lj size
+          (rw c.cells.ensures.value c.cells.ensures.sound.small);
+    }
 
 pub returns-clause-small : goal.returns-clause-small
 returns-clause-small c =

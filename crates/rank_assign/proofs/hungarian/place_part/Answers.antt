@@ -9,7 +9,7 @@ raise_prices-requires-clause-prices c = λ p l.
     omega (
       arith,
       c.requires.matching.below p 0 l (omega arith),
-      c.requires.small p 0 l (omega arith),
+      c.requires.sizes.small p 0 l (omega arith),
       c.requires.matching.small 0 (omega arith),
     )
 
@@ -48,6 +48,6 @@ returns c =
     (near_at c.reach-end.new.ways) (via_at c.reach-end.new.ways) (turn_at c.reach-end.new.ways) c.reach-end.result
     (slice_index (slice_set c.raise_prices.new.prices c.args.part (near_at c.reach-end.new.ways c.reach-end.result)))
     (slice_index c.raise_debts.new.debts) c.requires.matching c.reach-end.ensures raised c.requires.part
-    (slice_index c.hand_over.new.owners) c.requires.small (rw c.requires.sizes at c.hand_over.ensures.placed)
+    (slice_index c.hand_over.new.owners) c.requires.sizes.small (rw c.requires.sizes.owners_size at c.hand_over.ensures.placed)
     (λ p j l has. c.hand_over.ensures.handed p j (omega arith) has)
     (λ j l none. c.hand_over.ensures.free j (omega arith) none)

@@ -3,17 +3,19 @@ use Rattle.cost_table.proofs.BetweenLemmas.{costs_from_sums, part_total_few}
 use Rattle.cost_table.proofs.PlaceLemmas.{rank_count-le}
 use Rattle.rank_assign.proofs.moved_inodes.costs_by.Goals as goal
 
-pub sums_by-requires-clause-labelled : goal.sums_by-requires-clause-labelled
-sums_by-requires-clause-labelled g c κs within =
+pub invariant_of-sums_by : goal.invariant_of-sums_by
+invariant_of-sums_by g c =
     rw c.rows-rows.ensures.value (record {
-      few = rw c.rows-rows.ensures.value at c.rows-rows.ensures.forest.few;
-      parts = omega (arith, rank_count-le c.args.problem.now.ranks, c.requires.few);
-      size = c.requires.size;
-      below = c.requires.below;
+      labelled = record {
+        few = rw c.rows-rows.ensures.value at c.rows-rows.ensures.forest.few;
+        parts = omega (arith, rank_count-le c.args.problem.now.ranks, c.requires.parts.few);
+        size = c.requires.parts.size;
+        below = c.requires.parts.below;
+      };
     })
 
 pub cells_of_sums-requires-clause-parts : goal.cells_of_sums-requires-clause-parts
-cells_of_sums-requires-clause-parts g c = omega (arith, rank_count-le c.args.problem.now.ranks, c.requires.few)
+cells_of_sums-requires-clause-parts g c = omega (arith, rank_count-le c.args.problem.now.ranks, c.requires.parts.few)
 
 pub cells_of_sums-requires-clause-few : goal.cells_of_sums-requires-clause-few
 cells_of_sums-requires-clause-few g c =

@@ -3,4 +3,4 @@ use Rattle.cost_table.proofs.PlaceLemmas.{rank_count-le}
 use Rattle.rank_assign.proofs.moved_inodes.sums.Goals as goal
 
 pub sums-requires-clause-parts : goal.sums-requires-clause-parts
-sums-requires-clause-parts c = omega (arith, rank_count-le c.args.problem.now.ranks, c.requires.few)
+sums-requires-clause-parts c = omega (arith, rank_count-le c.args.problem.now.ranks, c.requires.parts.few)

@@ -1,4 +1,4 @@
-use Rattle.std.proofs.Common.{◌≡◌, ◌∙◌, ◌+◌, sym, arith, length, slice_index, refl, subst, ℕ}
+use Rattle.std.proofs.Common.{◌≡◌, ◌∙◌, ◌+◌, sym, arith, rules, length, slice_index, refl, subst, ℕ}
 use Rattle.mds_types.specs.Problem.{parent_at}
 use Rattle.residual_cut.specs.Probing.{IsProbed}
 use Rattle.residual_cut.specs.Subtrees.{limit_of}
@@ -20,16 +20,11 @@ loop-k-init c =
     }
 
 pub cut_row-requires-clause-probing : goal.cut_row-requires-clause-probing
-cut_row-requires-clause-probing c = record {
-  inside = c.hot_row-i.ensures.inside;
-  size = c.loop-k.invariant.room;
-  low = c.requires.low;
-  few = c.loop-k.invariant.few;
-  probed = rw c.hot_row-i.ensures.row
-      (probed_to c.args.of.rows.now (slice_index c.args.of.trees.now.heat.items) (slice_index c.loop-k.rest) c.args.bound c.args.of.trees.now.low
-      c.loop-k.k c.args.of.trees.now.hot.items c.loop-k.seen c.args.of.can_probe.forest c.args.of.can_probe.trees_are.sums
-      c.args.of.can_probe.trees_are.hot c.requires.low (omega arith) c.loop-k.invariant.probed);
-}
+cut_row-requires-clause-probing c =
+    let probed = probed_to c.args.of.rows.now (slice_index c.args.of.trees.now.heat.items) (slice_index c.loop-k.rest) c.args.bound
+    c.args.of.trees.now.low c.loop-k.k c.args.of.trees.now.hot.items c.loop-k.seen c.args.of.can_probe.forest
+    c.args.of.can_probe.trees_are.sums c.args.of.can_probe.trees_are.hot c.requires.low (omega arith) c.loop-k.invariant.probed in
+    let inside = c.hot_row-i.ensures.inside in rw c.hot_row-i.ensures.row (search (rules, probed, inside))
 
 pub returns-then-seen-of-clause-more : goal.returns-then-seen-of-clause-more
 returns-then-seen-of-clause-more c =
@@ -67,15 +62,10 @@ cut_row-requires-2-clause-probing c =
     let last : c.loop-k.k ≡ length c.args.of.trees.now.hot.items = omega arith in
     let P : ℕ → Type 0 = λ k. IsProbed c.args.of.rows.now (slice_index c.args.of.trees.now.heat.items) (slice_index c.loop-k.rest) c.args.bound
     (limit_of (length c.args.of.rows.now) c.args.of.trees.now.hot.items k) (limit_of (length c.args.of.rows.now) c.args.of.trees.now.hot.items k) c.loop-k.seen in
-    record {
-      inside = c.args.of.can_probe.some;
-      size = c.loop-k.invariant.room;
-      low = c.requires.low;
-      few = c.loop-k.invariant.few;
-      probed = probed_to_root c.args.of.rows.now (slice_index c.args.of.trees.now.heat.items) (slice_index c.loop-k.rest) c.args.bound
-          c.args.of.trees.now.low c.args.of.trees.now.hot.items c.loop-k.seen c.args.of.can_probe.forest c.args.of.can_probe.trees_are.sums
-          c.args.of.can_probe.trees_are.hot c.requires.low c.args.of.can_probe.some (subst P last c.loop-k.invariant.probed);
-    }
+    let probed = probed_to_root c.args.of.rows.now (slice_index c.args.of.trees.now.heat.items) (slice_index c.loop-k.rest) c.args.bound
+    c.args.of.trees.now.low c.args.of.trees.now.hot.items c.loop-k.seen c.args.of.can_probe.forest c.args.of.can_probe.trees_are.sums
+    c.args.of.can_probe.trees_are.hot c.requires.low c.args.of.can_probe.some (subst P last c.loop-k.invariant.probed) in
+    search (rules, probed)
 
 pub returns-clause-few : goal.returns-clause-few
 returns-clause-few c =
