@@ -22,10 +22,10 @@ cell_is ranks cells p x = refl
 
 -- a cell of the table
 pub cell_small :
-    (cells : List ℕ) (k r p j : ℕ) → p < k → j < r → length cells ≡ k * r → All (λ cell. cell ≤ 2 ^ 48) cells
-    → cell_at_place cells r p j ≤ 2 ^ 48
+    (cells : List ℕ) (k r : ℕ) → length cells ≡ k * r → All (λ cell. cell ≤ 2 ^ 48) cells
+    → (p j : ℕ) → p < k → j < r → cell_at_place cells r p j ≤ 2 ^ 48
 unfolding cell_at_place
-cell_small cells k r p j lp lj size small =
+cell_small cells k r size small p j lp lj =
     small (p * r + j) 0 (omega (arith, size, mul-add-lt p r j k lp lj, mul_comm k r))
 
 -- each place is a rank's

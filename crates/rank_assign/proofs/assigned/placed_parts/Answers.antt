@@ -7,20 +7,10 @@ use Rattle.rank_assign.proofs.assigned.placed_parts.Goals as goal
 
 pub place_parts-requires-clause-sizes : goal.place_parts-requires-clause-sizes
 place_parts-requires-clause-sizes c =
-    let parts : length c.deref_mut-2.result.now ≡ c.args.costs.now.count = search rules in
-    let width : length c.deref_mut-3.result.now ≡ rank_count c.args.costs.now.ranks = search rules in
     let size : length c.cells.result.now ≡ length c.deref_mut-2.result.now * length c.deref_mut-3.result.now = search rules in
-    record {
-      owners_size = search rules;
-      ways_size = search rules;
-      cells_size = size;
-      few = search rules;
-      enough = search rules;
-      ranks = search rules;
-      small = λ p j lp lj.
-          cell_small c.cells.result.now (length c.deref_mut-2.result.now) (length c.deref_mut-3.result.now) p j lp lj size
-          (rw c.cells.ensures.value c.cells.ensures.sound.small);
-    }
+    let small = cell_small c.cells.result.now (length c.deref_mut-2.result.now) (length c.deref_mut-3.result.now) size
+    (rw c.cells.ensures.value c.cells.ensures.sound.small) in
+    search (rules, small)
 
 pub returns-clause-small : goal.returns-clause-small
 returns-clause-small c =
@@ -42,6 +32,6 @@ returns-clause-small c =
       rank_count-le c.args.costs.now.ranks,
       m.below p 0 (omega (arith, parts)) (omega (arith, few, width)),
       m.small 0 (omega (arith, few, width)),
-      cell_small c.cells.result.now (length c.deref_mut-2.result.now) (length c.deref_mut-3.result.now) p 0 (omega (arith, parts))
-          (omega (arith, few, width)) size (rw c.cells.ensures.value c.cells.ensures.sound.small),
+      cell_small c.cells.result.now (length c.deref_mut-2.result.now) (length c.deref_mut-3.result.now) size
+          (rw c.cells.ensures.value c.cells.ensures.sound.small) p 0 (omega (arith, parts)) (omega (arith, few, width)),
     ))

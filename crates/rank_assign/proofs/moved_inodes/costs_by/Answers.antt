@@ -1,18 +1,13 @@
-use Rattle.std.proofs.Common.{slice_index, arith}
+use Rattle.std.proofs.Common.{slice_index, arith, rules}
 use Rattle.cost_table.proofs.BetweenLemmas.{costs_from_sums, part_total_few}
 use Rattle.cost_table.proofs.PlaceLemmas.{rank_count-le}
 use Rattle.rank_assign.proofs.moved_inodes.costs_by.Goals as goal
 
 pub invariant_of-sums_by : goal.invariant_of-sums_by
 invariant_of-sums_by g c =
-    rw c.rows-rows.ensures.value (record {
-      labelled = record {
-        few = rw c.rows-rows.ensures.value at c.rows-rows.ensures.forest.few;
-        parts = omega (arith, rank_count-le c.args.problem.now.ranks, c.requires.parts.few);
-        size = c.requires.parts.size;
-        below = c.requires.parts.below;
-      };
-    })
+    let few = rw c.rows-rows.ensures.value at c.rows-rows.ensures.forest.few in
+    let most = rank_count-le c.args.problem.now.ranks in
+    rw c.rows-rows.ensures.value (search (rules, few, most))
 
 pub cells_of_sums-requires-clause-parts : goal.cells_of_sums-requires-clause-parts
 cells_of_sums-requires-clause-parts g c = omega (arith, rank_count-le c.args.problem.now.ranks, c.requires.parts.few)
