@@ -2,7 +2,6 @@ pub mod RowLemmas
 pub mod Padding
 pub mod Pairs
 pub mod Placing
-pub mod CountsLemmas
 pub mod Marks
 pub mod Joins
 pub mod Listed

@@ -143,12 +143,12 @@ tracked_room counts touched d t inside none =
 pub tracked_zero : (counts : List ℕ) → IsZero counts → IsTracked counts []
 tracked_zero counts none = record { once = λ d. ap mark (sym (none d)) }
 
--- a count rises that was there
-pub tracked_raised : (counts touched : List ℕ) (d y : ℕ) → IsTracked counts touched → d < length counts → 1 ≤ at counts d → 1 ≤ y → IsTracked (set counts d y) touched
-tracked_raised counts touched d y t inside was now = record { once = λ e. each e (ℕ_discrete e d) }
+-- a count changes that stays 0, or that was there and still is
+pub tracked_raised : (counts touched : List ℕ) (d y : ℕ) → IsTracked counts touched → d < length counts → mark (at counts d) ≡ mark y → IsTracked (set counts d y) touched
+tracked_raised counts touched d y t inside same = record { once = λ e. each e (ℕ_discrete e d) }
   where
     each : (e : ℕ) → Dec (e ≡ d) → times touched e ≡ mark (at (set counts d y) e)
-    each e (yes s) = t.once e ∙ ap (λ (k : ℕ). mark (at counts k)) s ∙ mark_some (at counts d) was ∙ sym (mark_some y now) ∙ ap mark (sym (at_set_same counts d y inside)) ∙ ap (λ (k : ℕ). mark (at (set counts d y) k)) (sym s)
+    each e (yes s) = t.once e ∙ ap (λ (k : ℕ). mark (at counts k)) s ∙ same ∙ ap mark (sym (at_set_same counts d y inside)) ∙ ap (λ (k : ℕ). mark (at (set counts d y) k)) (sym s)
     each e (no n) = t.once e ∙ ap mark (sym (at_set_other counts d y e n))
 
 -- the first count of a directory

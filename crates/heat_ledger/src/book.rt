@@ -162,7 +162,7 @@ impl<J: Naming> Book<J> {
         reissue::<Brand, Dir>(&self.tokens.shared, &mut self.token, &mut share.token, &dir);
         let entry = entry_of(dir, Kind::Read);
         self.begun[entry] += 1;
-        share.counts.raise_begun(entry, 1);
+        share.counts.add_begun(entry);
     }
 
     /// The totals of a book and all its shares, at any time until the book is closed. Nothing

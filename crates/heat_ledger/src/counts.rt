@@ -2,14 +2,13 @@
 //!
 //! An entry gets a place at its first count, one for all three counts. What is done with all counts takes time for
 //! the entries that were counted, and not for all that there could be.
-ghost use Rattle.std.specs.Prelude.{◌≡◌, ℕ, ◌+◌, ◌^◌, ◌<◌, ◌≤◌, IfOk, List, length, map, slice_set};
-ghost use Rattle.std.specs.Prelude.{vec_capacity, vec_len};
-ghost use Rattle.heat_ledger.specs.Rows.{at, padded, dir_row, IsZero};
-ghost use Rattle.heat_ledger.specs.Placed.{IsPlaced, counts_at};
+ghost use Rattle.std.specs.Prelude.{◌≡◌, ℕ, ◌+◌, ◌^◌, ◌<◌, ◌≤◌, IfOk, List, length, map, vec_capacity, vec_len};
+ghost use Rattle.heat_ledger.specs.Rows.{at, raised_by, dir_row, IsZero};
+ghost use Rattle.heat_ledger.specs.Placed.{AreKept, data_of};
 ghost use Rattle.heat_ledger.specs.Touched.{IsTracked, pair_sums};
 
 use crate::dir_hits::{DirHits, entry_of};
-use crate::places::{Columns, count_at, place_of, take_count};
+use crate::places::{EntryCounts, KeptCounts};
 use mds_types::{Dir, Kind};
 use std::alloc::{AllocError, Global};
 use std::marker::Model;
@@ -17,56 +16,38 @@ use std::marker::Model;
 /// The hits, the pending hits and the begun requests of each entry below a limit.
 #[derive(Drop)]
 pub(crate) struct Counts {
-    limit: u32,
-    // The place of each entry's counts, up to the last entry that was counted, or not as far. 0 is none.
-    places: Vec<u32>,
-    columns: Columns,
+    kept: KeptCounts,
     // The entries that have pending hits, in the order of their first ones.
     unsettled: Vec<u32>,
 }
 
 impl Model for Counts {
-    ghost use Rattle.std.specs.Prelude.{ℕ, ◌<◌, ◌≤◌, length, vec_capacity};
-    ghost use Rattle.heat_ledger.specs.Rows.{padded};
+    ghost use Rattle.std.specs.Prelude.{◌≤◌, vec_capacity};
     ghost use Rattle.heat_ledger.specs.Counts.{CountsData};
-    ghost use Rattle.heat_ledger.specs.Placed.{AreColumns, HasRoom, counts_at};
+    ghost use Rattle.heat_ledger.specs.Placed.{AreKept, data_of};
     ghost use Rattle.heat_ledger.specs.Touched.{IsTracked};
 
     ghost Value = { CountsData };
 
-    ghost view = { λ counts. record {
-      hits = padded counts.limit (counts_at counts.columns.hits.items counts.places.items);
-      pending = padded counts.limit (counts_at counts.columns.pending.items counts.places.items);
-      begun = padded counts.limit (counts_at counts.columns.begun.items counts.places.items);
-    } };
+    ghost view = { λ counts. data_of counts.kept };
 
-    ghost invariant = { λ counts. AreColumns counts.columns counts.places.items
-        × (length counts.places.items ≤ counts.limit)
-        × (counts.limit ≤ vec_capacity counts.places)
-        × HasRoom counts.limit counts.columns
-        × IsTracked (padded counts.limit (counts_at counts.columns.pending.items counts.places.items))
-        counts.unsettled.items
-        × (counts.limit ≤ vec_capacity counts.unsettled) };
+    ghost invariant = { λ counts. AreKept counts.kept
+        × IsTracked (data_of counts.kept).pending counts.unsettled.items
+        × (counts.kept.limit ≤ vec_capacity counts.unsettled) };
 }
 
 impl Counts {
     ghost use Rattle.std.specs.Prelude.{◌≡◌, ℕ, ◌+◌, ◌^◌, ◌<◌, ◌↔◌, IsTrue, IfOk, length, replicate};
     ghost use Rattle.heat_ledger.specs.Rows.{at, sums, raised_by, counted_rows, IsZero};
-    ghost use Rattle.heat_ledger.specs.Counts.{no_counts};
+    ghost use Rattle.heat_ledger.specs.Counts.{AreAsLong, DoFit, counts_of, no_counts, with_more};
 
     /// Nothing is counted.
     pub(crate) fn new(alloc: Global, limit: u32) -> Result<Counts, AllocError>
         ensures { IfOk result (λ counts. counts ≡ no_counts limit) }
     {
-        let places = Vec::with_capacity(alloc, limit as usize)?;
-        let columns = Columns::new(alloc, limit)?;
+        let kept = KeptCounts::new(alloc, limit)?;
         let unsettled = Vec::with_capacity(alloc, limit as usize)?;
-        Ok(Counts {
-            limit,
-            places,
-            columns,
-            unsettled,
-        })
+        Ok(Counts { kept, unsettled })
     }
 
     /// How many entries there are room for.
@@ -75,78 +56,59 @@ impl Counts {
         ensures pending { result ≡ length self.now.pending }
         ensures begun { result ≡ length self.now.begun }
     {
-        self.limit as usize
+        self.kept.limit as usize
     }
 
-    /// The hits of an entry.
-    pub(crate) fn hits(&self, entry: usize) -> u64
-        ensures { result ≡ at self.now.hits entry }
+    /// What is counted of an entry.
+    pub(crate) fn of(&self, entry: usize) -> EntryCounts
+        ensures { result ≡ counts_of self.now entry }
     {
-        count_at(&self.places, &self.columns.hits, entry)
+        self.kept.of(entry)
     }
 
-    /// The pending hits of an entry.
-    pub(crate) fn pending(&self, entry: usize) -> u64
-        ensures { result ≡ at self.now.pending entry }
-    {
-        count_at(&self.places, &self.columns.pending, entry)
-    }
-
-    /// The begun requests of an entry.
-    pub(crate) fn begun(&self, entry: usize) -> u64
-        ensures { result ≡ at self.now.begun entry }
-    {
-        count_at(&self.places, &self.columns.begun, entry)
-    }
-
-    /// Adds `more` hits of an entry.
-    pub(crate) fn raise_hits(&mut self, entry: usize, more: u64)
+    /// Adds these counts of an entry.
+    fn add(&mut self, entry: usize, more: EntryCounts)
         requires inside { entry < length self.old.hits }
-        requires fits { at self.old.hits entry + more < 2 ^ 64 }
-        ensures { self.new ≡ record self.old { hits = raised_by self.old.hits entry more } }
+        requires fits { DoFit (counts_of self.old entry) more }
+        ensures { self.new ≡ with_more self.old entry more }
     {
-        let place = place_of(
-            &mut self.places,
-            &mut self.columns,
-            self.limit,
-            entry as u32,
-        );
-        self.columns.hits[place] += more;
+        let had = self.kept.add(entry as u32, more);
+        note(&mut self.unsettled, entry as u32, had.pending, more.pending);
     }
 
-    /// Adds `more` pending hits of an entry, which may be none.
-    pub(crate) fn raise_pending(&mut self, entry: usize, more: u64)
-        requires inside { entry < length self.old.pending }
-        requires fits { at self.old.pending entry + more < 2 ^ 64 }
-        ensures { self.new ≡ record self.old { pending = raised_by self.old.pending entry more } }
+    /// Adds `more` hits of an entry, which are pending.
+    pub(crate) fn add_hits(&mut self, entry: usize, more: u64)
+        requires inside { entry < length self.old.hits }
+        requires fits { (at self.old.hits entry + more < 2 ^ 64) × (at self.old.pending entry + more < 2 ^ 64) }
+        ensures { self.new ≡ record self.old {
+          hits = raised_by self.old.hits entry more;
+          pending = raised_by self.old.pending entry more;
+        } }
     {
-        if more == 0 {
-            return;
-        }
-        let place = place_of(
-            &mut self.places,
-            &mut self.columns,
-            self.limit,
-            entry as u32,
+        self.add(
+            entry,
+            EntryCounts {
+                hits: more,
+                pending: more,
+                begun: 0,
+            },
         );
-        let count = self.columns.pending[place];
-        note(&mut self.unsettled, entry as u32, count);
-        self.columns.pending[place] = count + more;
     }
 
-    /// Adds `more` begun requests of an entry.
-    pub(crate) fn raise_begun(&mut self, entry: usize, more: u64)
-        requires inside { entry < length self.old.begun }
-        requires fits { at self.old.begun entry + more < 2 ^ 64 }
-        ensures { self.new ≡ record self.old { begun = raised_by self.old.begun entry more } }
+    /// Adds a begun request of an entry.
+    pub(crate) fn add_begun(&mut self, entry: usize)
+        requires inside { entry < length self.old.hits }
+        requires fits { at self.old.begun entry + 1 < 2 ^ 64 }
+        ensures { self.new ≡ record self.old { begun = raised_by self.old.begun entry 1 } }
     {
-        let place = place_of(
-            &mut self.places,
-            &mut self.columns,
-            self.limit,
-            entry as u32,
+        self.add(
+            entry,
+            EntryCounts {
+                hits: 0,
+                pending: 0,
+                begun: 1,
+            },
         );
-        self.columns.begun[place] += more;
     }
 
     /// Whether no entry has pending hits.
@@ -173,69 +135,56 @@ impl Counts {
         ensures into { into.new.items ≡ sums into.old.items self.old.pending }
         ensures zero { self.new ≡ record self.old { pending = replicate (length self.old.pending) 0 } }
     {
-        let (places, pending) = (&self.places, &mut self.columns.pending);
-        move_all(into, places, pending, self.limit, &self.unsettled);
+        move_all(into, &mut self.kept, &self.unsettled);
         self.unsettled.clear();
     }
 
     /// Adds the counts of another share to this one's.
     pub(crate) fn join(&mut self, other: Counts)
-        requires lengths { (length other.hits ≡ length self.old.hits)
-            × (length other.pending ≡ length self.old.pending) × (length other.begun ≡ length self.old.begun) }
-        requires hits { (dir : ℕ) → at self.old.hits dir + at other.hits dir < 2 ^ 64 }
-        requires pending { (dir : ℕ) → at self.old.pending dir + at other.pending dir < 2 ^ 64 }
-        requires begun { (dir : ℕ) → at self.old.begun dir + at other.begun dir < 2 ^ 64 }
+        requires lengths { AreAsLong self.old other }
+        requires fits { (e : ℕ) → DoFit (counts_of self.old e) (counts_of other e) }
         ensures { self.new ≡ record {
           hits = sums self.old.hits other.hits;
           pending = sums self.old.pending other.pending;
           begun = sums self.old.begun other.begun;
         } }
     {
-        for j in 0..other.columns.dirs.len() {
-            let entry = other.columns.dirs[j] as usize;
-            self.raise_hits(entry, other.hits(entry));
-            self.raise_pending(entry, other.pending(entry));
-            self.raise_begun(entry, other.begun(entry));
+        for j in 0..other.kept.entries.len() {
+            let entry = other.kept.entries[j] as usize;
+            self.add(entry, other.of(entry));
         }
     }
 }
 
-// Notes an entry that has no count yet and gets one.
-fn note(noted: &mut Vec<u32>, dir: u32, count: u64)
+// Notes an entry whose count is 0 and rises.
+fn note(noted: &mut Vec<u32>, entry: u32, count: u64, more: u64)
     requires room { count ≡ 0 → vec_len noted.old < vec_capacity noted.old }
-    ensures tracked { (counts : List ℕ) (now : ℕ) → IsTracked counts noted.old.items → dir < length counts
-        → at counts dir ≡ count → 1 ≤ now → IsTracked (slice_set counts dir now) noted.new.items }
+    ensures tracked { (counts : List ℕ) → IsTracked counts noted.old.items → entry < length counts
+        → at counts entry ≡ count → IsTracked (raised_by counts entry more) noted.new.items }
     ensures capacity { vec_capacity noted.new ≡ vec_capacity noted.old }
 {
-    if count == 0 {
-        noted.push_reserved(dir);
+    if count == 0 && more > 0 {
+        noted.push_reserved(entry);
     }
 }
 
-// Moves the counts of the entries that have one.
-fn move_all(
-    into: &mut Vec<u64>,
-    places: &Vec<u32>,
-    kept: &mut Vec<u64>,
-    limit: u32,
-    touched: &Vec<u32>,
-)
-    requires placed { IsPlaced kept.old.items places.now.items }
-    requires few { length places.now.items ≤ limit }
-    requires lengths { limit ≤ length into.old.items }
-    requires fits { (dir : ℕ)
-        → at into.old.items dir + at (padded limit (counts_at kept.old.items places.now.items)) dir < 2 ^ 64 }
-    requires tracked { IsTracked (padded limit (counts_at kept.old.items places.now.items)) touched.now.items }
-    ensures sums { (dir : ℕ) → at into.new.items dir
-        ≡ at into.old.items dir + at (padded limit (counts_at kept.old.items places.now.items)) dir }
-    ensures zero { IsZero (padded limit (counts_at kept.new.items places.now.items)) }
-    ensures placed { IsPlaced kept.new.items places.now.items }
+// Moves the pending hits of the entries that have some.
+fn move_all(into: &mut Vec<u64>, kept: &mut KeptCounts, touched: &Vec<u32>)
+    requires kept { AreKept kept.old }
+    requires length { kept.old.limit ≤ length into.old.items }
+    requires fits { (e : ℕ) → at into.old.items e + at (data_of kept.old).pending e < 2 ^ 64 }
+    requires tracked { IsTracked (data_of kept.old).pending touched.now.items }
+    ensures kept { AreKept kept.new }
+    ensures limit { kept.new.limit ≡ kept.old.limit }
+    ensures sums { (e : ℕ) → at into.new.items e ≡ at into.old.items e + at (data_of kept.old).pending e }
+    ensures zero { IsZero (data_of kept.new).pending }
+    ensures others { ((data_of kept.new).hits ≡ (data_of kept.old).hits)
+        × ((data_of kept.new).begun ≡ (data_of kept.old).begun) }
     ensures length { length into.new.items ≡ length into.old.items }
-    ensures capacity { vec_capacity kept.new ≡ vec_capacity kept.old }
 {
     for j in 0..touched.len() {
-        let dir = touched[j];
-        into[dir as usize] += take_count(places, kept, limit, dir);
+        let entry = touched[j];
+        into[entry as usize] += kept.take_pending(entry);
     }
 }
 
@@ -248,7 +197,7 @@ fn dirs_of(alloc: Global, entries: &[u32], counts: &Counts) -> Result<Vec<u32>, 
     let mut dirs = Vec::with_capacity(alloc, entries.len())?;
     for entry in entries {
         let is_write = entry % 2 == 1;
-        if !is_write || counts.pending(*entry as usize - 1) == 0 {
+        if !is_write || counts.of(*entry as usize - 1).pending == 0 {
             dirs.push(entry / 2)?;
         }
     }
@@ -264,8 +213,8 @@ fn with_pending(alloc: Global, dirs: &[u32], counts: &Counts) -> Result<Vec<DirH
         let dir = Dir::new(*dir);
         rows.push(DirHits {
             dir,
-            reads: counts.pending(entry_of(dir, Kind::Read)),
-            writes: counts.pending(entry_of(dir, Kind::Write)),
+            reads: counts.of(entry_of(dir, Kind::Read)).pending,
+            writes: counts.of(entry_of(dir, Kind::Write)).pending,
         })?;
     }
     Ok(rows)

@@ -60,14 +60,14 @@ impl<J: Naming> Share<J> {
     pub fn hits(&self, dir: Dir, kind: Kind) -> u64
         ensures { result ≡ at self.now.hits (entry dir kind) }
     {
-        self.counts.hits(entry_of(dir, kind))
+        self.counts.of(entry_of(dir, kind)).hits
     }
 
     /// The hits of a kind on a directory that aren't deposited.
     pub fn pending(&self, dir: Dir, kind: Kind) -> u64
         ensures { result ≡ at self.now.pending (entry dir kind) }
     {
-        self.counts.pending(entry_of(dir, kind))
+        self.counts.of(entry_of(dir, kind)).pending
     }
 
     /// The directories with hits that aren't deposited, rising, each with their reads and writes. To
@@ -85,7 +85,7 @@ impl<J: Naming> Share<J> {
     pub fn begun(&self, dir: Dir) -> u64
         ensures { result ≡ at self.now.begun dir }
     {
-        self.counts.begun(entry_of(dir, Kind::Read))
+        self.counts.of(entry_of(dir, Kind::Read)).begun
     }
 
     /// How many opened shares this one represents.
@@ -127,11 +127,10 @@ impl<J: Naming> Share<J> {
         if entry >= self.counts.len() {
             return Err(HitError::NoDir);
         }
-        if self.counts.hits(entry) >= HIT_LIMIT {
+        if self.counts.of(entry).hits >= HIT_LIMIT {
             return Err(HitError::ShareFull);
         }
-        self.counts.raise_hits(entry, 1);
-        self.counts.raise_pending(entry, 1);
+        self.counts.add_hits(entry, 1);
         Ok(())
     }
 
@@ -146,10 +145,9 @@ impl<J: Naming> Share<J> {
         } }
     {
         let entry = entry_of(dir, kind);
-        let room = HIT_LIMIT.saturating_sub(self.counts.hits(entry));
+        let room = HIT_LIMIT.saturating_sub(self.counts.of(entry).hits);
         let counted = u64::from(hits).min(room);
-        self.counts.raise_hits(entry, counted);
-        self.counts.raise_pending(entry, counted);
+        self.counts.add_hits(entry, counted);
         counted as u32
     }
 

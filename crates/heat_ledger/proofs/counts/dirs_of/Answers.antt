@@ -1,11 +1,12 @@
 use Rattle.std.proofs.Common.{◌≡◌, ◌∙◌, ◌+◌, ◌-◌, ◌/◌, ◌<◌, ◌≤◌, ℕ, List, [], ◌∷◌, ◌++◌, suc, take, length, sym, ap, subst, rules, arith}
 use Rattle.std.proofs.Math.Seq.{take-suc}
 use Rattle.std.proofs.lemmas.List.{take_all}
+use Rattle.heat_ledger.specs.declared.places.EntryCounts.{EntryCounts}
 use Rattle.heat_ledger.specs.Rows.{at}
 use Rattle.heat_ledger.specs.Touched.{times}
 use Rattle.heat_ledger.proofs.Pairs.{named, named_read, named_write, named_again, named_tracked}
 use Rattle.heat_ledger.proofs.counts.dirs_of.Goals as goal
-use Rattle.heat_ledger.proofs.counts.dirs_of.Goals.{then-not-is_write+in_ok-push, then-not-is_write-via-then-not-is_write, then-not-is_write-via-else-not-is_write+then-pending-eq0, else-not-is_write+else-pending-eq0}
+use Rattle.heat_ledger.proofs.counts.dirs_of.Goals.{then-not-is_write+in_ok-push, then-not-is_write-via-then-not-is_write, then-not-is_write-via-else-not-is_write+then-of-eq0, else-not-is_write+else-of-eq0}
 
 pub loop-entry-preserved : goal.loop-entry-preserved
 loop-entry-preserved c d =
@@ -21,13 +22,13 @@ loop-entry-preserved c d =
     rw more (elim c.if-not-is_write.branch [
       | then-not-is_write+in_ok-push w ↦ rw (w.dirs-is, w.in_ok-push.ensures.items) (elim w.then-not-is_write.branch [
         | then-not-is_write-via-then-not-is_write w' ↦ named_read counts (take i all) dirs h e (omega (arith, w'.if-not-is_write.true)) was d
-        | then-not-is_write-via-else-not-is_write+then-pending-eq0 w' ↦
+        | then-not-is_write-via-else-not-is_write+then-of-eq0 w' ↦
             let before : e - 1 ≡ h + h = omega (arith, w'.if-not-is_write.false) in
-            named_write counts (take i all) dirs h e (omega (arith, w'.if-not-is_write.false)) (ap (at counts) (sym before) ∙ sym w'.pending.ensures ∙ w'.if-pending-eq0.true) was d
+            named_write counts (take i all) dirs h e (omega (arith, w'.if-not-is_write.false)) (ap (at counts) (sym before) ∙ sym (ap (λ (x : EntryCounts). x.pending) w'.of.ensures) ∙ w'.if-of-eq0.true) was d
       ])
-      | else-not-is_write+else-pending-eq0 w ↦
+      | else-not-is_write+else-of-eq0 w ↦
           let before : e - 1 ≡ h + h = omega (arith, w.if-not-is_write.false) in
-          let some : 1 ≤ at counts (h + h) = omega (arith, w.pending.ensures, ap (at counts) before, w.if-pending-eq0.false) in
+          let some : 1 ≤ at counts (h + h) = omega (arith, ap (λ (x : EntryCounts). x.pending) w.of.ensures, ap (at counts) before, w.if-of-eq0.false) in
           rw w.dirs-is (named_again counts (take i all) dirs h e (omega (arith, w.if-not-is_write.false)) some was d)
     ])
 

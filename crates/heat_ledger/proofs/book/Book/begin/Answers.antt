@@ -20,8 +20,8 @@ reissue-requires-clause-backed g c k under was =
     begin_backed (g.J.Naming.limit + g.J.Naming.limit) c.share.inside.token.me.0 b.token.me.0 c.share.inside.weight b.shares c.share.inside.counts.hits c.share.inside.counts.pending c.share.inside.counts.begun b.counted.items b.begun.items (entry c.args.dir Read)
     c.share.invariant.2 c.self.invariant.2 room k under was
 
-pub raise_begun-requires-clause-fits : goal.raise_begun-requires-clause-fits
-raise_begun-requires-clause-fits g c =
+pub add_begun-requires-clause-fits : goal.add_begun-requires-clause-fits
+add_begun-requires-clause-fits g c =
     rw c.entry_of-entry.ensures (begin_fits (g.J.Naming.limit + g.J.Naming.limit) c.share.inside.token.me.0 c.share.inside.weight c.share.inside.counts.hits c.share.inside.counts.pending c.share.inside.counts.begun (entry c.args.dir Read) c.share.invariant.2
     (c.reissue.ensures.backed (begun_slot (entry c.args.dir Read))))
 
@@ -48,7 +48,7 @@ invariant_of-share g c =
     let d = entry c.args.dir Read in
     let n = g.J.Naming.limit + g.J.Naming.limit in
     let below : d < n = omega (arith, c.requires.inside) in
-    let raises = subst (λ (e : ℕ). c.raise_begun.new.self ≡ record s.counts { begun = raised_by s.counts.begun e 1 }) c.entry_of-entry.ensures c.raise_begun.ensures in
+    let raises = subst (λ (e : ℕ). c.add_begun.new.self ≡ record s.counts { begun = raised_by s.counts.begun e 1 }) c.entry_of-entry.ensures c.add_begun.ensures in
     let met : share_state s.token.me.0.parts (sums s.token.me.0.amounts (unit (begun_slot d))) ≡ c.reissue.new.token.me.0 = search rules in (
       search rules,
       search rules,
@@ -72,5 +72,5 @@ returns-clause-book g c =
 pub returns-clause-share : goal.returns-clause-share
 returns-clause-share g c =
     let counts = c.share.inside.counts in
-    let raises = subst (λ (e : ℕ). c.raise_begun.new.self ≡ record counts { begun = raised_by counts.begun e 1 }) c.entry_of-entry.ensures c.raise_begun.ensures in
-    begin_shown c.share.inside.weight c.args.dir counts c.raise_begun.new.self c.args.share.now raises c.share.view_is
+    let raises = subst (λ (e : ℕ). c.add_begun.new.self ≡ record counts { begun = raised_by counts.begun e 1 }) c.entry_of-entry.ensures c.add_begun.ensures in
+    begin_shown c.share.inside.weight c.args.dir counts c.add_begun.new.self c.args.share.now raises c.share.view_is

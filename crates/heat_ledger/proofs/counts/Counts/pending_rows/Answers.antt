@@ -2,19 +2,18 @@ use Rattle.std.proofs.Common.{◌≡◌, ℕ, List, map, rules, subst, IfOk}
 use Rattle.std.proofs.lemmas.List.Sorted.{IsNonDecreasingBy-from_sort}
 use Rattle.std.specs.List.Sorted.{IsNonDecreasing}
 use Rattle.heat_ledger.specs.declared.dir_hits.DirHits.{DirHits}
-use Rattle.heat_ledger.specs.Rows.{padded, dir_row, counted_rows}
-use Rattle.heat_ledger.specs.Placed.{counts_at}
+use Rattle.heat_ledger.specs.Rows.{dir_row, counted_rows}
+use Rattle.heat_ledger.specs.Placed.{data_of}
 use Rattle.heat_ledger.specs.Touched.{pair_sums, IsTracked}
 use Rattle.heat_ledger.proofs.Listed.{sorted_rows}
 use Rattle.heat_ledger.proofs.counts.Counts.pending_rows.Goals as goal
 
 pub returns : goal.returns
 returns c =
-    let i = c.self.inside in
     let pending = c.args.self.now.pending in
     let dirs = c.sort_unstable.new.self.items in
     let noted : c.self.inside.unsettled.items ≡ c.as_slice.result.now = search rules in
-    let touched : IsTracked pending c.as_slice.result.now = rw (← c.self.view_is) (subst (IsTracked (padded i.limit (counts_at i.columns.pending.items i.places.items))) noted c.self.invariant.4) in
+    let touched : IsTracked pending c.as_slice.result.now = rw (← c.self.view_is) (subst (IsTracked (data_of c.self.inside.kept).pending) noted c.self.invariant.1) in
     let tracked : IsTracked (pair_sums pending) c.in_ok-dirs.dirs.items = c.in_ok-dirs.ensures touched in
     let up : IsNonDecreasing dirs = IsNonDecreasingBy-from_sort (λ (d : ℕ). d) dirs c.sort_unstable.ensures.sorted in
     let rows : map (dir_row pending) dirs ≡ counted_rows pending = sorted_rows pending c.in_ok-dirs.dirs.items dirs tracked c.sort_unstable.ensures.permutation up in

@@ -6,14 +6,14 @@ use Rattle.heat_ledger.specs.Ledger.{IsShare}
 use Rattle.heat_ledger.proofs.Shares.{join_kept, join_fits, join_shown}
 use Rattle.heat_ledger.proofs.share.Share.join.Goals as goal
 
-pub join-requires-clause-begun : goal.join-requires-clause-begun
-join-requires-clause-begun g c dir =
+pub join-requires-clause-fits : goal.join-requires-clause-fits
+join-requires-clause-fits g c e =
     let s = c.self.inside in
     let t = c.other.inside in
     let met : c.merge.new.token.me.0 ≡ both_of s.token.me.0 t.token.me.0 = search rules in
     let l = subst IsLearned met c.learn.ensures.learned in
-    let fit = ((join_fits (g.J.Naming.limit + g.J.Naming.limit) s.token.me.0 t.token.me.0 s.weight t.weight s.counts.hits t.counts.hits s.counts.pending t.counts.pending s.counts.begun t.counts.begun c.self.invariant.2 c.other.invariant.2 l).1 dir).2 in
-    omega (arith, fit)
+    let fit = (join_fits (g.J.Naming.limit + g.J.Naming.limit) s.token.me.0 t.token.me.0 s.weight t.weight s.counts.hits t.counts.hits s.counts.pending t.counts.pending s.counts.begun t.counts.begun c.self.invariant.2 c.other.invariant.2 l).1 e in
+    record { hits = λ some. omega (arith, fit.0); pending = λ some. omega (arith, fit.1); begun = λ some. omega (arith, fit.2) }
 
 pub invariant_of-self : goal.invariant_of-self
 invariant_of-self g c =
