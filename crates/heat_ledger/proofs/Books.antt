@@ -2,6 +2,7 @@
 use Rattle.std.proofs.Common.{◌≡◌, ℕ, ◌+◌, ◌*◌, ◌<◌, ◌≤◌, List, [], set, length, refl, sym, ap, ◌∙◌, true, ⊎_elim, arith}
 use native.Mathlib.Decide.{ℕ_discrete}
 use Rattle.heat_ledger.specs.declared.tally.TokenState.{TokenState}
+use Rattle.heat_ledger.specs.Counts.{CountsData}
 use Rattle.heat_ledger.specs.Rows.{at, sums, raised}
 use Rattle.heat_ledger.specs.Tally.{most}
 use Rattle.heat_ledger.specs.Ledger.{hit_slot, begun_slot, spread, unit, IsShare, IsBook}
@@ -10,20 +11,20 @@ use Rattle.heat_ledger.proofs.Slots.{at_spread_hits, at_spread_begun, at_unit_sa
 use Rattle.heat_ledger.proofs.Shares.{apart, not_hit}
 
 -- a share's amounts rest on its weight after a deposit
-pub deposit_backed : (limit : ℕ) (v : TokenState) (weight : ℕ) (hits pending begun : List ℕ) → IsShare limit v weight hits pending begun → (k : ℕ) → at v.amounts k ≤ v.parts * most → at (sums v.amounts (spread pending)) k ≤ v.parts * most
-deposit_backed limit v weight hits pending begun s k was = ⊎_elim
+pub deposit_backed : (limit : ℕ) (v : TokenState) (weight : ℕ) (counts : CountsData) → IsShare limit v weight counts → (k : ℕ) → at v.amounts k ≤ v.parts * most → at (sums v.amounts (spread counts.pending)) k ≤ v.parts * most
+deposit_backed limit v weight counts s k was = ⊎_elim
     (λ (h : (d : ℕ) × (k ≡ hit_slot d)).
     let d = h.0 in
-    let a = at_sums v.amounts (spread pending) k in
-    let b = at_spread_hits pending d k h.1 in
+    let a = at_sums v.amounts (spread counts.pending) k in
+    let b = at_spread_hits counts.pending d k h.1 in
     let e : at v.amounts k ≡ at v.amounts (hit_slot d) = ap (at v.amounts) h.1 in
     let f = s.known d in
     let r = s.room d in
     let m : v.parts * most ≡ weight * most = ap (λ (n : ℕ). n * most) s.weighs in
     omega arith)
     (λ (h : (d : ℕ) × (k ≡ begun_slot d)).
-    let a = at_sums v.amounts (spread pending) k in
-    let b = at_spread_begun pending h.0 k h.1 in
+    let a = at_sums v.amounts (spread counts.pending) k in
+    let b = at_spread_begun counts.pending h.0 k h.1 in
     omega arith)
     (entry_is k)
 
@@ -41,9 +42,9 @@ deposit_book limit v w shares counted begun pending b l has_totals out parts tot
 }
 
 -- a share's amounts rest on its weight after a request
-pub begin_backed : (limit : ℕ) (v w : TokenState) (weight shares : ℕ) (hits pending begun counted booked : List ℕ) (dir : ℕ) → IsShare limit v weight hits pending begun → IsBook limit w shares counted booked → at booked dir < most
+pub begin_backed : (limit : ℕ) (v w : TokenState) (weight shares : ℕ) (counts : CountsData) (counted booked : List ℕ) (dir : ℕ) → IsShare limit v weight counts → IsBook limit w shares counted booked → at booked dir < most
     → (k : ℕ) → at v.amounts k ≤ at w.totals k → at v.amounts k ≤ v.parts * most → at (sums v.amounts (unit (begun_slot dir))) k ≤ v.parts * most
-begin_backed limit v w weight shares hits pending begun counted booked dir s b room k under was = by-cases (ℕ_discrete k (begun_slot dir))
+begin_backed limit v w weight shares counts counted booked dir s b room k under was = by-cases (ℕ_discrete k (begun_slot dir))
   where
     by-cases : Dec (k ≡ begun_slot dir) → at (sums v.amounts (unit (begun_slot dir))) k ≤ v.parts * most
     by-cases (yes e) =
@@ -60,9 +61,9 @@ begin_backed limit v w weight shares hits pending begun counted booked dir s b r
         omega arith
 
 -- a share's requests fit after one more
-pub begin_fits : (limit : ℕ) (v : TokenState) (weight : ℕ) (hits pending begun : List ℕ) (dir : ℕ) → IsShare limit v weight hits pending begun → at (sums v.amounts (unit (begun_slot dir))) (begun_slot dir) ≤ v.parts * most
-    → at begun dir + 1 < 18446744073709551616
-begin_fits limit v weight hits pending begun dir s back =
+pub begin_fits : (limit : ℕ) (v : TokenState) (weight : ℕ) (counts : CountsData) (dir : ℕ) → IsShare limit v weight counts → at (sums v.amounts (unit (begun_slot dir))) (begun_slot dir) ≤ v.parts * most
+    → at counts.begun dir + 1 < 18446744073709551616
+begin_fits limit v weight counts dir s back =
     let a = at_sums v.amounts (unit (begun_slot dir)) (begun_slot dir) in
     let o = at_unit_same (begun_slot dir) in
     let k = s.begins dir in

@@ -5,7 +5,7 @@ use native.Mathlib.Decide.{ℕ_discrete}
 use Rattle.heat_ledger.specs.declared.places.EntryCounts.{EntryCounts}
 use Rattle.heat_ledger.specs.declared.places.KeptCounts.{KeptCounts}
 use Rattle.heat_ledger.specs.Rows.{at, sums}
-use Rattle.heat_ledger.specs.Counts.{CountsData, AreAsLong, counts_of, with_more, both_counts}
+use Rattle.heat_ledger.specs.Counts.{CountsData, AreAsLong, counts_of, with_more, both_counts, sum_counts}
 use Rattle.heat_ledger.specs.Placed.{AreKept, no_count, kept_at, column, data_of}
 use Rattle.heat_ledger.specs.Touched.{IsTracked}
 use Rattle.heat_ledger.proofs.RowLemmas.{sum_row}
@@ -56,7 +56,7 @@ added_next places counts old others noted now j d x t h is inside amount to was 
 
 -- where the counts of all entries with a place were added, all counts were
 pub all_added : (kept : KeptCounts) (new old others : CountsData) → AreKept kept → data_of kept ≡ others → AreAsLong old others → IsAdded new old others kept.entries.items (length kept.entries.items)
-    → new ≡ record { hits = sums old.hits others.hits; pending = sums old.pending others.pending; begun = sums old.begun others.begun }
+    → new ≡ sum_counts old others
 all_added kept new old others a view long added =
     same_data _ _ (row (λ v. v.hits) (λ c. c.hits) (λ v e. refl) added.long.hits long.hits (λ x y. refl) refl)
     (row (λ v. v.pending) (λ c. c.pending) (λ v e. refl) added.long.pending long.pending (λ x y. refl) refl)

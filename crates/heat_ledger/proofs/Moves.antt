@@ -1,12 +1,12 @@
 -- Each move keeps the rule.
-use Rattle.std.proofs.Common.{◌≡◌, ◌≢◌, ℕ, zero, suc, ◌+◌, ◌-◌, ◌*◌, ◌≤◌, List, [], ◌∷◌, ◌++◌, set, true, false, true≢false, refl, sym, ap, ◌∙◌, subst, ⊎_elim, arith}
+use Rattle.std.proofs.Common.{◌≡◌, ◌≢◌, ℕ, zero, suc, ◌+◌, ◌*◌, ◌≤◌, List, [], ◌∷◌, ◌++◌, set, true, false, true≢false, refl, sym, ap, ◌∙◌, subst, ⊎_elim, arith}
 use mathlib.Core.Option.{some, some-ne-none, some-injective}
 use lib.ListN.{get_elem?}
 use Rattle.atomic_table.specs.Table.{Step, Me, Act, Allows, Splits, Joins}
 use Rattle.atomic_table.proofs.Lists.{at_set, at_snoc, set_again}
 use Rattle.heat_ledger.specs.declared.tally.TokenState.{TokenState}
 use Rattle.heat_ledger.specs.Rows.{at}
-use Rattle.heat_ledger.specs.Tally.{sum_over, share_state, authority_state, all_parts, most, IsBalanced, IsBalancedTable, both_of, after_issue, IsLearned, Learns}
+use Rattle.heat_ledger.specs.Tally.{sum_over, share_state, authority_state, all_parts, most, IsBalanced, IsBalancedTable, both_of, after_issue, CanIssue, IsLearned, Learns}
 use Rattle.heat_ledger.proofs.RowLemmas.{at_sums}
 use Rattle.heat_ledger.proofs.Totals.{total_set, total_snoc, total_get, total_scaled}
 
@@ -30,15 +30,11 @@ begins = record {
     two (suc by) v e k = absurd (some-ne-none v (sym e))
 
 -- a new token with these amounts, of which the authority's totals know
-pub issues : (id : ℕ) (v : TokenState) (parts : ℕ) (amounts rest extra : List ℕ) → v.has_totals ≡ true → parts ≤ v.parts
-    → ((k : ℕ) → at amounts k + at rest k ≡ at v.amounts k + at extra k)
-    → ((k : ℕ) → at amounts k ≤ parts * most)
-    → ((k : ℕ) → at rest k ≤ (v.parts - parts) * most)
-    → (views : List TokenState) → IsBalanced views → get_elem? views id ≡ some v → IsBalanced (set views id (after_issue parts rest extra v) ++ share_state parts amounts ∷ [])
-issues id v parts amounts rest extra has_totals fits same backed left views b here =
+pub issues : (id : ℕ) (v : TokenState) (parts : ℕ) (amounts rest extra : List ℕ) → CanIssue parts amounts rest extra v → (views : List TokenState) → IsBalanced views → get_elem? views id ≡ some v → IsBalanced (set views id (after_issue parts rest extra v) ++ share_state parts amounts ∷ [])
+issues id v parts amounts rest extra can views b here =
     let w = after_issue parts rest extra v in
     let n = share_state parts amounts in
-    let mine = b.sums id v here has_totals in
+    let mine = b.sums id v here can.has_totals in
     let sum : (f : TokenState → ℕ) → sum_over f (set views id w ++ n ∷ []) + f v ≡ sum_over f views + f w + f n = λ f. (let s = total_set f views id v w here in let t = total_snoc f (set views id w) n in omega arith) in
     record {
       token = b.token;
@@ -48,7 +44,7 @@ issues id v parts amounts rest extra has_totals fits same backed left views b he
           (λ (x : (by ≡ id) × (w ≡ u)). (
             x.0 ∙ mine.0,
             λ k. subst (λ (z : TokenState). sum_over (λ q. at q.amounts k) (set views id w ++ n ∷ []) ≡ at z.totals k) x.1
-                (let s = sum (λ q. at q.amounts k) in let t = mine.1 k in let a = at_sums v.totals extra k in let d = same k in omega arith),
+                (let s = sum (λ q. at q.amounts k) in let t = mine.1 k in let a = at_sums v.totals extra k in let d = can.same k in omega arith),
           ))
           (λ (x : (by ≢ id) × (get_elem? views by ≡ some u)). absurd (x.0 ((b.sums by u x.1 y).0 ∙ sym mine.0)))
           (at_set views id by w u old))
@@ -56,19 +52,15 @@ issues id v parts amounts rest extra has_totals fits same backed left views b he
           (at_snoc (set views id w) n u by e);
       backed = λ by u e k. ⊎_elim
           (λ old. ⊎_elim
-          (λ (x : (by ≡ id) × (w ≡ u)). subst (λ (z : TokenState). at z.amounts k ≤ z.parts * most) x.1 (left k))
+          (λ (x : (by ≡ id) × (w ≡ u)). subst (λ (z : TokenState). at z.amounts k ≤ z.parts * most) x.1 (can.left k))
           (λ (x : (by ≢ id) × (get_elem? views by ≡ some u)). b.backed by u x.1 k)
           (at_set views id by w u old))
-          (λ (new : n ≡ u). subst (λ (z : TokenState). at z.amounts k ≤ z.parts * most) new (backed k))
+          (λ (new : n ≡ u). subst (λ (z : TokenState). at z.amounts k ≤ z.parts * most) new (can.backed k))
           (at_snoc (set views id w) n u by e);
     }
 
-pub splits : (id : ℕ) (v : TokenState) (parts : ℕ) (amounts rest extra : List ℕ) → v.has_totals ≡ true → parts ≤ v.parts
-    → ((k : ℕ) → at amounts k + at rest k ≡ at v.amounts k + at extra k)
-    → ((k : ℕ) → at amounts k ≤ parts * most)
-    → ((k : ℕ) → at rest k ≤ (v.parts - parts) * most)
-    → Splits IsBalancedTable id v (after_issue parts rest extra v) (share_state parts amounts)
-splits id v parts amounts rest extra has_totals fits same backed left s h here = issues id v parts amounts rest extra has_totals fits same backed left s.views h here
+pub splits : (id : ℕ) (v : TokenState) (parts : ℕ) (amounts rest extra : List ℕ) → CanIssue parts amounts rest extra v → Splits IsBalancedTable id v (after_issue parts rest extra v) (share_state parts amounts)
+splits id v parts amounts rest extra can s h here = issues id v parts amounts rest extra can s.views h here
 
 -- a token takes in a holder's token
 pub joins : (id : ℕ) (v : TokenState) (other : ℕ) (w : TokenState) → w.has_totals ≡ false → Joins IsBalancedTable id v other w (both_of v w) (share_state 0 [])

@@ -2,7 +2,7 @@
 use Rattle.std.proofs.Common.{◌≡◌, ◌≢◌, ℕ, ◌+◌, ◌*◌, ◌<◌, ◌≤◌, List, length, replicate, refl, sym, ap, ◌∙◌, arith}
 use native.Mathlib.Decide.{ℕ_discrete}
 use Rattle.heat_ledger.specs.declared.tally.TokenState.{TokenState}
-use Rattle.heat_ledger.specs.Counts.{CountsData, no_counts}
+use Rattle.heat_ledger.specs.Counts.{CountsData, no_counts, sum_counts}
 use Rattle.heat_ledger.specs.Rows.{at, sums, raised, evens}
 use Rattle.heat_ledger.specs.Tally.{most, both_of, share_state, IsLearned}
 use Rattle.heat_ledger.specs.Ledger.{ShareData, hit_slot, begun_slot, spread, unit, IsShare}
@@ -24,7 +24,7 @@ begin_shown weight dir counts now share is view = ap (shown weight) is ∙ ap (w
 abbrev pub joined : ShareData → ShareData → ShareData
 joined s t = record { weight = s.weight + t.weight; hits = sums s.hits t.hits; pending = sums s.pending t.pending; begun = sums s.begun t.begun }
 
-pub join_shown : (n m : ℕ) (counts others now : CountsData) (s t : ShareData) → now ≡ record { hits = sums counts.hits others.hits; pending = sums counts.pending others.pending; begun = sums counts.begun others.begun } → length others.begun ≡ length counts.begun
+pub join_shown : (n m : ℕ) (counts others now : CountsData) (s t : ShareData) → now ≡ sum_counts counts others → length others.begun ≡ length counts.begun
     → shown n counts ≡ s → shown m others ≡ t → shown (n + m) now ≡ joined s t
 join_shown n m counts others now s t is long mine theirs =
     ap (shown (n + m)) is ∙ ap (with_begun (joined (shown n counts) (shown m others))) (evens_sums counts.begun others.begun long) ∙ ap (λ (s : ShareData). joined s (shown m others)) mine ∙ ap (joined s) theirs
@@ -34,33 +34,33 @@ pub fresh_shown : (limit : ℕ) (counts : CountsData) → counts ≡ no_counts (
 fresh_shown limit counts none = ap (shown 1) none ∙ ap (with_begun (fresh_share limit)) (evens_zeros limit)
 
 -- what a directory's counts are at most
-pub hits_fit : (limit : ℕ) (state : TokenState) (weight : ℕ) (hits pending begun : List ℕ) → IsShare limit state weight hits pending begun → (d : ℕ) → (at hits d ≤ 65 * most) × (at pending d ≤ 65 * most)
-hits_fit limit state weight hits pending begun s d = let r = s.room d in let l = s.light in let k = s.known d in (omega arith, omega arith)
+pub hits_fit : (limit : ℕ) (state : TokenState) (weight : ℕ) (counts : CountsData) → IsShare limit state weight counts → (d : ℕ) → (at counts.hits d ≤ 65 * most) × (at counts.pending d ≤ 65 * most)
+hits_fit limit state weight counts s d = let r = s.room d in let l = s.light in let k = s.known d in (omega arith, omega arith)
 
-pub join_kept : (limit : ℕ) (v w : TokenState) (n m : ℕ) (hits hits' pending pending' begun begun' : List ℕ) → IsShare limit v n hits pending begun → IsShare limit w m hits' pending' begun' → IsLearned (both_of v w)
-    → IsShare limit (both_of v w) (n + m) (sums hits hits') (sums pending pending') (sums begun begun')
-join_kept limit v w n m hits hits' pending pending' begun begun' s t l = record {
+pub join_kept : (limit : ℕ) (v w : TokenState) (n m : ℕ) (counts others : CountsData) → IsShare limit v n counts → IsShare limit w m others → IsLearned (both_of v w)
+    → IsShare limit (both_of v w) (n + m) (sum_counts counts others)
+join_kept limit v w n m counts others s t l = record {
   holds = s.holds;
   weighs = (let x = s.weighs in let y = t.weighs in omega arith);
   some = (let x = s.some in omega arith);
   light = (let x = s.weighs in let y = t.weighs in let z = l.parts in omega arith);
-  known = λ d. (let x = s.known d in let y = t.known d in let a = at_sums v.amounts w.amounts (hit_slot d) in let e = at_sums hits hits' d in let f = at_sums pending pending' d in omega arith);
-  begins = λ d. (let x = s.begins d in let y = t.begins d in let a = at_sums v.amounts w.amounts (begun_slot d) in let e = at_sums begun begun' d in omega arith);
-  room = λ d. (let x = s.room d in let y = t.room d in let e = at_sums hits hits' d in omega arith);
-  as_hits = length-sums hits hits' (t.as_hits ∙ sym s.as_hits) ∙ s.as_hits;
-  as_pending = length-sums pending pending' (t.as_pending ∙ sym s.as_pending) ∙ s.as_pending;
-  as_begun = length-sums begun begun' (t.as_begun ∙ sym s.as_begun) ∙ s.as_begun;
+  known = λ d. (let x = s.known d in let y = t.known d in let a = at_sums v.amounts w.amounts (hit_slot d) in let e = at_sums counts.hits others.hits d in let f = at_sums counts.pending others.pending d in omega arith);
+  begins = λ d. (let x = s.begins d in let y = t.begins d in let a = at_sums v.amounts w.amounts (begun_slot d) in let e = at_sums counts.begun others.begun d in omega arith);
+  room = λ d. (let x = s.room d in let y = t.room d in let e = at_sums counts.hits others.hits d in omega arith);
+  as_hits = length-sums counts.hits others.hits (t.as_hits ∙ sym s.as_hits) ∙ s.as_hits;
+  as_pending = length-sums counts.pending others.pending (t.as_pending ∙ sym s.as_pending) ∙ s.as_pending;
+  as_begun = length-sums counts.begun others.begun (t.as_begun ∙ sym s.as_begun) ∙ s.as_begun;
 }
 
 -- what two shares have together fits
-pub join_fits : (limit : ℕ) (v w : TokenState) (n m : ℕ) (hits hits' pending pending' begun begun' : List ℕ) → IsShare limit v n hits pending begun → IsShare limit w m hits' pending' begun' → IsLearned (both_of v w)
-    → (n + m ≤ 65) × ((d : ℕ) → (at hits d + at hits' d ≤ 65 * most) × (at pending d + at pending' d ≤ 65 * most) × (at begun d + at begun' d ≤ 65 * most))
-join_fits limit v w n m hits hits' pending pending' begun begun' s t l =
-    let both = join_kept limit v w n m hits hits' pending pending' begun begun' s t l in (
+pub join_fits : (limit : ℕ) (v w : TokenState) (n m : ℕ) (counts others : CountsData) → IsShare limit v n counts → IsShare limit w m others → IsLearned (both_of v w)
+    → (n + m ≤ 65) × ((d : ℕ) → (at counts.hits d + at others.hits d ≤ 65 * most) × (at counts.pending d + at others.pending d ≤ 65 * most) × (at counts.begun d + at others.begun d ≤ 65 * most))
+join_fits limit v w n m counts others s t l =
+    let both = join_kept limit v w n m counts others s t l in (
       both.light,
       λ d.
-          let fit = hits_fit limit (both_of v w) (n + m) (sums hits hits') (sums pending pending') (sums begun begun') both d in
-          let a = at_sums hits hits' d in let b = at_sums pending pending' d in
+          let fit = hits_fit limit (both_of v w) (n + m) (sum_counts counts others) both d in
+          let a = at_sums counts.hits others.hits d in let b = at_sums counts.pending others.pending d in
           let x = s.begins d in let y = t.begins d in
           let e = at_sums v.amounts w.amounts (begun_slot d) in
           let back = l.backed (begun_slot d) in
@@ -68,15 +68,15 @@ join_fits limit v w n m hits hits' pending pending' begun begun' s t l =
           (omega (arith, fit.0), omega (arith, fit.1), omega arith),
     )
 
-pub deposit_share : (limit : ℕ) (v : TokenState) (weight : ℕ) (hits pending begun : List ℕ) → IsShare limit v weight hits pending begun
-    → IsShare limit (share_state v.parts (sums v.amounts (spread pending))) weight hits (replicate limit 0) begun
-deposit_share limit v weight hits pending begun s = record {
+pub deposit_share : (limit : ℕ) (v : TokenState) (weight : ℕ) (counts : CountsData) → IsShare limit v weight counts
+    → IsShare limit (share_state v.parts (sums v.amounts (spread counts.pending))) weight (record counts { pending = replicate limit 0 })
+deposit_share limit v weight counts s = record {
   holds = refl;
   weighs = s.weighs;
   some = s.some;
   light = s.light;
-  known = λ d. (let a = at_sums v.amounts (spread pending) (hit_slot d) in let b = at_spread_hits pending d (hit_slot d) refl in let f = s.known d in let n = at_replicate limit d in omega arith);
-  begins = λ d. (let a = at_sums v.amounts (spread pending) (begun_slot d) in let b = at_spread_begun pending d (begun_slot d) refl in let f = s.begins d in omega arith);
+  known = λ d. (let a = at_sums v.amounts (spread counts.pending) (hit_slot d) in let b = at_spread_hits counts.pending d (hit_slot d) refl in let f = s.known d in let n = at_replicate limit d in omega arith);
+  begins = λ d. (let a = at_sums v.amounts (spread counts.pending) (begun_slot d) in let b = at_spread_begun counts.pending d (begun_slot d) refl in let f = s.begins d in omega arith);
   room = s.room;
   as_hits = s.as_hits;
   as_pending = length-replicate limit 0;
@@ -91,9 +91,9 @@ apart d dir n e = n (omega arith)
 pub not_hit : (d dir : ℕ) → hit_slot d ≢ begun_slot dir
 not_hit d dir e = absurd (omega arith)
 
-pub begin_share : (limit : ℕ) (v : TokenState) (weight dir : ℕ) (hits pending begun : List ℕ) → IsShare limit v weight hits pending begun → dir < limit
-    → IsShare limit (share_state v.parts (sums v.amounts (unit (begun_slot dir)))) weight hits pending (raised begun dir)
-begin_share limit v weight dir hits pending begun s inside = record {
+pub begin_share : (limit : ℕ) (v : TokenState) (weight dir : ℕ) (counts : CountsData) → IsShare limit v weight counts → dir < limit
+    → IsShare limit (share_state v.parts (sums v.amounts (unit (begun_slot dir)))) weight (record counts { begun = raised counts.begun dir })
+begin_share limit v weight dir counts s inside = record {
   holds = refl;
   weighs = s.weighs;
   some = s.some;
@@ -103,21 +103,21 @@ begin_share limit v weight dir hits pending begun s inside = record {
   room = s.room;
   as_hits = s.as_hits;
   as_pending = s.as_pending;
-  as_begun = length-raised begun dir ∙ s.as_begun;
+  as_begun = length-raised counts.begun dir ∙ s.as_begun;
 }
   where
-    begins : (d : ℕ) → Dec (d ≡ dir) → at (sums v.amounts (unit (begun_slot dir))) (begun_slot d) ≡ at (raised begun dir) d
+    begins : (d : ℕ) → Dec (d ≡ dir) → at (sums v.amounts (unit (begun_slot dir))) (begun_slot d) ≡ at (raised counts.begun dir) d
     begins d (yes e) =
         let x = at_sums v.amounts (unit (begun_slot dir)) (begun_slot d) in
         let o : at (unit (begun_slot dir)) (begun_slot d) ≡ 1 = ap (λ (k : ℕ). at (unit (begun_slot dir)) (begun_slot k)) e ∙ at_unit_same (begun_slot dir) in
         let f = s.begins d in
-        let g : at begun d ≡ at begun dir = ap (at begun) e in
+        let g : at counts.begun d ≡ at counts.begun dir = ap (at counts.begun) e in
         let l = s.as_begun in
-        let q : at (raised begun dir) d ≡ at begun dir + 1 = ap (at (raised begun dir)) e ∙ at_raised_same begun dir (omega arith) in
+        let q : at (raised counts.begun dir) d ≡ at counts.begun dir + 1 = ap (at (raised counts.begun dir)) e ∙ at_raised_same counts.begun dir (omega arith) in
         omega arith
     begins d (no n) =
         let x = at_sums v.amounts (unit (begun_slot dir)) (begun_slot d) in
         let o = at_unit_other (begun_slot dir) (begun_slot d) (apart d dir n) in
         let f = s.begins d in
-        let q = at_raised_other begun dir d n in
+        let q = at_raised_other counts.begun dir d n in
         omega arith

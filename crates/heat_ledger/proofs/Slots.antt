@@ -1,5 +1,6 @@
 -- The entries of the totals, which are of directories.
 use Rattle.std.proofs.Common.{◌≡◌, ◌≢◌, ◌⊎◌, ℕ, zero, suc, ◌+◌, ◌-◌, List, [], ◌∷◌, refl, ap, inl, inr, arith}
+use Rattle.heat_ledger.specs.Counts.{CountsData}
 use Rattle.heat_ledger.specs.Rows.{at, differences}
 use Rattle.heat_ledger.specs.Ledger.{spread, laid_out, unit, hit_slot, begun_slot}
 use Rattle.heat_ledger.proofs.RowLemmas.{at_sums, at_differences}
@@ -28,19 +29,19 @@ at_beside_begun : (xs : List ℕ) (d k : ℕ) → k ≡ d + d + 1 → at (0 ∷ 
 at_beside_begun xs d zero e = absurd (omega arith)
 at_beside_begun xs d (suc k) e = at_spread_hits xs d k (omega arith)
 
-pub at_laid_out_hits : (hits pending begun : List ℕ) (d k : ℕ) → k ≡ hit_slot d → at (laid_out hits pending begun) k ≡ at hits d - at pending d
-at_laid_out_hits hits pending begun d k e =
-    let a = at_sums (spread (differences hits pending)) (0 ∷ spread begun) k in
-    let b = at_spread_hits (differences hits pending) d k e in
-    let c = at_beside_hits begun d k e in
-    let f = at_differences hits pending d in
+pub at_laid_out_hits : (counts : CountsData) (d k : ℕ) → k ≡ hit_slot d → at (laid_out counts) k ≡ at counts.hits d - at counts.pending d
+at_laid_out_hits counts d k e =
+    let a = at_sums (spread (differences counts.hits counts.pending)) (0 ∷ spread counts.begun) k in
+    let b = at_spread_hits (differences counts.hits counts.pending) d k e in
+    let c = at_beside_hits counts.begun d k e in
+    let f = at_differences counts.hits counts.pending d in
     omega arith
 
-pub at_laid_out_begun : (hits pending begun : List ℕ) (d k : ℕ) → k ≡ begun_slot d → at (laid_out hits pending begun) k ≡ at begun d
-at_laid_out_begun hits pending begun d k e =
-    let a = at_sums (spread (differences hits pending)) (0 ∷ spread begun) k in
-    let b = at_spread_begun (differences hits pending) d k e in
-    let c = at_beside_begun begun d k e in
+pub at_laid_out_begun : (counts : CountsData) (d k : ℕ) → k ≡ begun_slot d → at (laid_out counts) k ≡ at counts.begun d
+at_laid_out_begun counts d k e =
+    let a = at_sums (spread (differences counts.hits counts.pending)) (0 ∷ spread counts.begun) k in
+    let b = at_spread_begun (differences counts.hits counts.pending) d k e in
+    let c = at_beside_begun counts.begun d k e in
     omega arith
 
 pub at_unit_same : (k : ℕ) → at (unit k) k ≡ 1

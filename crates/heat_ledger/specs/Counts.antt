@@ -1,6 +1,6 @@
 -- What a share counts by entry.
 use Rattle.std.specs.Prelude.{◌≡◌, ◌<◌, ◌≤◌, ◌^◌, ℕ, ◌+◌, List, length, replicate}
-use Rattle.heat_ledger.specs.Rows.{at, raised_by}
+use Rattle.heat_ledger.specs.Rows.{at, sums, raised_by}
 use Rattle.heat_ledger.specs.declared.places.EntryCounts.{EntryCounts}
 
 -- for each entry below a limit: the hits, those of them that the book doesn't know yet, and the begun requests
@@ -24,6 +24,10 @@ with_more counts e more = record {
   pending = raised_by counts.pending e more.pending;
   begun = raised_by counts.begun e more.begun;
 }
+
+-- two lists of counts, added entry by entry
+abbrev pub sum_counts : CountsData → CountsData → CountsData
+sum_counts v w = record { hits = sums v.hits w.hits; pending = sums v.pending w.pending; begun = sums v.begun w.begun }
 
 -- two counts of an entry together
 abbrev pub both_counts : EntryCounts → EntryCounts → EntryCounts

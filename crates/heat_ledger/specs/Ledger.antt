@@ -1,9 +1,8 @@
 -- What a share and the book of all shares count, and what their tokens know of it.
 use Rattle.std.specs.Prelude.{◌≡◌, ℕ, zero, suc, ◌+◌, ◌*◌, ◌≤◌, Bool, true, false, List, [], ◌∷◌, length, sum_by}
-use Rattle.atomic_table.specs.Seated.{TableId}
-use Rattle.atomic_table.specs.declared.shared.Seat.{Seat}
 use Rattle.heat_ledger.specs.declared.tally.TokenState.{TokenState}
 use Rattle.mds_types.specs.declared.kind.Kind.TheVariants.{Read}
+use Rattle.heat_ledger.specs.Counts.{CountsData}
 use Rattle.heat_ledger.specs.Rows.{at, entry, sums, differences, IsZero}
 use Rattle.heat_ledger.specs.Tally.{most, all_parts}
 
@@ -55,32 +54,26 @@ spread [] = []
 spread (x ∷ xs) = x ∷ 0 ∷ spread xs
 
 -- deposited hits and begun requests, each at its place
-abbrev pub laid_out : List ℕ → List ℕ → List ℕ → List ℕ
-laid_out hits pending begun = sums (spread (differences hits pending)) (0 ∷ spread begun)
+abbrev pub laid_out : CountsData → List ℕ
+laid_out counts = sums (spread (differences counts.hits counts.pending)) (0 ∷ spread counts.begun)
 
 -- 1 only at this place
 abbrev pub unit : ℕ → List ℕ
 unit zero = 1 ∷ []
 unit (suc k) = 0 ∷ unit k
 
--- it is a token of this table, and nothing else is out
-pub record IsTokenOf (tokens : TableId) (token : Seat ℕ TokenState) : Type 0 where
-  pub words : tokens.words ≡ 1
-  pub table : token.table_id ≡ tokens
-  pub none_out : token.me.1 ≡ []
-
 -- What was deposited, and what is pending, are the hits. A share's hits rest on its weight. All counts are by entry.
-pub record IsShare (limit : ℕ) (state : TokenState) (weight : ℕ) (hits pending begun : List ℕ) : Type 0 where
+pub record IsShare (limit : ℕ) (state : TokenState) (weight : ℕ) (counts : CountsData) : Type 0 where
   pub holds : state.has_totals ≡ false
   pub weighs : state.parts ≡ weight
   pub some : 1 ≤ weight
   pub light : weight ≤ all_parts
-  pub known : (e : ℕ) → at state.amounts (hit_slot e) + at pending e ≡ at hits e
-  pub begins : (e : ℕ) → at state.amounts (begun_slot e) ≡ at begun e
-  pub room : (e : ℕ) → at hits e ≤ weight * most
-  pub as_hits : length hits ≡ limit
-  pub as_pending : length pending ≡ limit
-  pub as_begun : length begun ≡ limit
+  pub known : (e : ℕ) → at state.amounts (hit_slot e) + at counts.pending e ≡ at counts.hits e
+  pub begins : (e : ℕ) → at state.amounts (begun_slot e) ≡ at counts.begun e
+  pub room : (e : ℕ) → at counts.hits e ≤ weight * most
+  pub as_hits : length counts.hits ≡ limit
+  pub as_pending : length counts.pending ≡ limit
+  pub as_begun : length counts.begun ≡ limit
 
 -- a token of a share has what the share deposited, and what it began
 pub record IsShareToken (state : TokenState) (share : ShareData) : Type 0 where

@@ -1,5 +1,6 @@
 -- Counts that are kept at places, for the entries that have one.
-use Rattle.std.specs.Prelude.{◌≡◌, ◌≢◌, ℕ, zero, suc, ◌+◌, ◌^◌, ◌<◌, ◌≤◌, List, [], ◌∷◌, length, map, slice_index_or, vec_capacity}
+use Rattle.std.specs.Prelude.{◌≡◌, ◌≢◌, ℕ, zero, suc, ◌+◌, ◌^◌, ◌<◌, ◌≤◌, List, [], ◌∷◌, length, map}
+use Rattle.std.specs.Prelude.{slice_index_or, vec_capacity}
 use Rattle.heat_ledger.specs.Rows.{at, padded}
 use Rattle.heat_ledger.specs.Counts.{CountsData}
 use Rattle.heat_ledger.specs.Touched.{IsTracked}
@@ -54,4 +55,5 @@ pub record AreKept (kept : KeptCounts) : Type 0 where
 
 -- each entry has the same counts at its new place as at its old one
 abbrev pub AreSameCounts : KeptCounts → KeptCounts → Type 0
-AreSameCounts old new = (e : ℕ) → kept_at new.counts.items (at new.places.items e) ≡ kept_at old.counts.items (at old.places.items e)
+AreSameCounts old new = (e : ℕ)
+    → kept_at new.counts.items (at new.places.items e) ≡ kept_at old.counts.items (at old.places.items e)

@@ -2,6 +2,8 @@
 use Rattle.std.specs.Prelude.{◌≡◌, ℕ, ◌+◌, ◌-◌, ◌*◌, ◌≤◌, true, false, List, [], ◌∷◌}
 use mathlib.Core.Option.{some}
 use lib.ListN.{get_elem?}
+use Rattle.atomic_table.specs.Seated.{TableId}
+use Rattle.atomic_table.specs.declared.shared.Seat.{Seat}
 use Rattle.atomic_table.specs.Table.{State, Step, Me}
 use Rattle.heat_ledger.specs.declared.tally.TokenState.{TokenState}
 use Rattle.heat_ledger.specs.Rows.{at, sums}
@@ -55,6 +57,20 @@ after_issue parts rest extra v = record {
   amounts = rest;
   totals = sums v.totals extra;
 }
+
+-- it is a token of this table, and nothing else is out
+pub record IsTokenOf (tokens : TableId) (token : Seat ℕ TokenState) : Type 0 where
+  pub words : tokens.words ≡ 1
+  pub table : token.table_id ≡ tokens
+  pub none_out : token.me.1 ≡ []
+
+-- the authority can let these parts and amounts go, keep the rest, and add the extra to its totals
+pub record CanIssue (parts : ℕ) (amounts rest extra : List ℕ) (v : TokenState) : Type 0 where
+  pub has_totals : v.has_totals ≡ true
+  pub few : parts ≤ v.parts
+  pub same : (k : ℕ) → at amounts k + at rest k ≡ at v.amounts k + at extra k
+  pub backed : (k : ℕ) → at amounts k ≤ parts * most
+  pub left : (k : ℕ) → at rest k ≤ (v.parts - parts) * most
 
 -- what the rule says of one token
 pub record IsLearned (v : TokenState) : Type 0 where

@@ -38,7 +38,8 @@ impl<J: Naming> Model for Book<J> {
     ghost use Rattle.std.specs.Prelude.{◌≡◌, ◌+◌};
     ghost use Rattle.std.specs.Arc.{arc_value};
     ghost use Rattle.heat_ledger.specs.Rows.{evens};
-    ghost use Rattle.heat_ledger.specs.Ledger.{BookData, IsTokenOf, IsBook, IsClosedPart};
+    ghost use Rattle.heat_ledger.specs.Ledger.{BookData, IsBook, IsClosedPart};
+    ghost use Rattle.heat_ledger.specs.Tally.{IsTokenOf};
 
     ghost Value = { BookData };
 

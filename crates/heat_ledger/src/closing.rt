@@ -1,7 +1,7 @@
 //! What the book learns when shares come back to it.
 ghost use Rattle.std.specs.Prelude.{◌≡◌, [], ◌+◌, ◌-◌, true, false, All};
-ghost use Rattle.heat_ledger.specs.Tally.{all_parts};
-ghost use Rattle.heat_ledger.specs.Ledger.{IsTokenOf, IsClean, weight_of};
+ghost use Rattle.heat_ledger.specs.Tally.{all_parts, IsTokenOf};
+ghost use Rattle.heat_ledger.specs.Ledger.{IsClean, weight_of};
 ghost use Rattle.heat_ledger.specs.Gathering.{IsGathered};
 
 use crate::share::Share;

@@ -39,7 +39,7 @@ impl Model for Counts {
 impl Counts {
     ghost use Rattle.std.specs.Prelude.{◌≡◌, ℕ, ◌+◌, ◌^◌, ◌<◌, ◌↔◌, IsTrue, IfOk, length, replicate};
     ghost use Rattle.heat_ledger.specs.Rows.{at, sums, raised_by, counted_rows, IsZero};
-    ghost use Rattle.heat_ledger.specs.Counts.{AreAsLong, DoFit, counts_of, no_counts, with_more};
+    ghost use Rattle.heat_ledger.specs.Counts.{AreAsLong, DoFit, counts_of, no_counts, sum_counts, with_more};
 
     /// Nothing is counted.
     pub(crate) fn new(alloc: Global, limit: u32) -> Result<Counts, AllocError>
@@ -143,11 +143,7 @@ impl Counts {
     pub(crate) fn join(&mut self, other: Counts)
         requires lengths { AreAsLong self.old other }
         requires fits { (e : ℕ) → DoFit (counts_of self.old e) (counts_of other e) }
-        ensures { self.new ≡ record {
-          hits = sums self.old.hits other.hits;
-          pending = sums self.old.pending other.pending;
-          begun = sums self.old.begun other.begun;
-        } }
+        ensures { self.new ≡ sum_counts self.old other }
     {
         for j in 0..other.kept.entries.len() {
             let entry = other.kept.entries[j] as usize;

@@ -19,8 +19,7 @@ impl Model for NewBook {
     ghost use Rattle.std.specs.Prelude.{◌≡◌, []};
     ghost use Rattle.std.specs.Arc.{arc_value};
     ghost use Rattle.atomic_table.specs.Seated.{TableId, table_id_coded};
-    ghost use Rattle.heat_ledger.specs.Tally.{authority_state, all_parts};
-    ghost use Rattle.heat_ledger.specs.Ledger.{IsTokenOf};
+    ghost use Rattle.heat_ledger.specs.Tally.{authority_state, all_parts, IsTokenOf};
 
     ghost Value = { TableId };
 

@@ -1,8 +1,7 @@
 //! Memory for a book and its shares, and their first tokens.
 ghost use Rattle.std.specs.Arc.{arc_value};
 ghost use Rattle.std.specs.Prelude.{◌≡◌, [], ℕ, ◌+◌, ◌-◌, ◌≤◌, All, IfOk, vec_len, vec_capacity, replicate};
-ghost use Rattle.heat_ledger.specs.Tally.{all_parts, authority_state};
-ghost use Rattle.heat_ledger.specs.Ledger.{IsTokenOf};
+ghost use Rattle.heat_ledger.specs.Tally.{all_parts, authority_state, IsTokenOf};
 ghost use Rattle.heat_ledger.specs.Opening.{IsUnopened, fresh_share};
 
 use crate::counts::Counts;

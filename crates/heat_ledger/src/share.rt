@@ -33,7 +33,8 @@ impl<J: Naming> Model for Share<J> {
     ghost use Rattle.std.specs.Prelude.{◌≡◌, ◌+◌};
     ghost use Rattle.std.specs.Arc.{arc_value};
     ghost use Rattle.heat_ledger.specs.Rows.{evens};
-    ghost use Rattle.heat_ledger.specs.Ledger.{ShareData, IsTokenOf, IsShare};
+    ghost use Rattle.heat_ledger.specs.Ledger.{ShareData, IsShare};
+    ghost use Rattle.heat_ledger.specs.Tally.{IsTokenOf};
 
     ghost Value = { ShareData };
 
@@ -46,15 +47,15 @@ impl<J: Naming> Model for Share<J> {
 
     ghost invariant = { λ share. IsTokenOf (arc_value share.tokens).shared.table_id share.token
         × ((arc_value share.tokens).shared.table_id ≡ J.ledger)
-        × IsShare (J.limit + J.limit) share.token.me.0 share.weight share.counts.hits share.counts.pending
-        share.counts.begun };
+        × IsShare (J.limit + J.limit) share.token.me.0 share.weight share.counts };
 }
 
 impl<J: Naming> Share<J> {
     ghost use Rattle.std.specs.Prelude.{◌≡◌, ℕ, List, ◌+◌, ◌-◌, ◌^◌, ◌<◌, ◌≤◌, ◌↔◌, IsTrue};
     ghost use Rattle.std.specs.Prelude.{IsErrOf, IfOk, OnOk, OnErr, length, min, fold};
     ghost use Rattle.heat_ledger.specs.Rows.{at, entry, sums, raised, raised_by, counted_rows, with_row};
-    ghost use Rattle.heat_ledger.specs.Ledger.{IsClean, IsShareToken, IsTokenOf};
+    ghost use Rattle.heat_ledger.specs.Ledger.{IsClean, IsShareToken};
+    ghost use Rattle.heat_ledger.specs.Tally.{IsTokenOf};
 
     /// The hits of a kind on a directory that this share has counted, deposited or not.
     pub fn hits(&self, dir: Dir, kind: Kind) -> u64

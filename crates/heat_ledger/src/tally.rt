@@ -6,7 +6,7 @@
 ghost use Rattle.std.specs.Prelude.{◌≡◌, ℕ, ◌+◌, ◌-◌, ◌*◌, ◌≤◌, List, [], ◌∷◌, true, false, IfOk};
 ghost use Rattle.heat_ledger.specs.Rows.{at};
 ghost use Rattle.heat_ledger.specs.Tally.{most, both_of, after_issue, share_state};
-ghost use Rattle.heat_ledger.specs.Tally.{authority_state, all_parts, IsLearned};
+ghost use Rattle.heat_ledger.specs.Tally.{authority_state, all_parts, CanIssue, IsLearned, IsTokenOf};
 
 use atomic_table::{Join, Play, Seat, Shared, Split, Table, TableRule};
 use std::alloc::{AllocError, Global};
@@ -95,43 +95,49 @@ impl Play<u64, TokenState> for Learned {
 
 /// A new table of tokens, and its authority.
 pub(crate) fn open(alloc: Global) -> Result<(TokenTable, Token), AllocError>
-    ensures table { IfOk result (λ r. (r.0.shared.table_id.words ≡ 1) × (r.1.table_id ≡ r.0.shared.table_id)) }
-    ensures token { IfOk result (λ r. r.1.me ≡ (authority_state all_parts [], [])) }
+    ensures of_table { IfOk result (λ r. IsTokenOf r.0.shared.table_id r.1) }
+    ensures token { IfOk result (λ r. r.1.me.0 ≡ authority_state all_parts []) }
 {
     TokenTable::of_words(alloc, &[0], &())
 }
 
 /// Gives a new token what `K` says.
 pub(crate) fn issue<K: Amount>(tokens: &SharedTable, authority: &mut Token) -> Token
-    requires table { (tokens.now.table_id.words ≡ 1) × (authority.old.table_id ≡ tokens.now.table_id) }
-    requires authority { authority.old.me.0.has_totals ≡ true }
-    requires parts { K.parts ≤ authority.old.me.0.parts }
-    requires amounts { (k : ℕ) → at K.amounts k + at K.rest k ≡ at authority.old.me.0.amounts k + at K.extra k }
-    requires backed { (k : ℕ) → at K.amounts k ≤ K.parts * most }
-    requires rest { (k : ℕ) → at K.rest k ≤ (authority.old.me.0.parts - K.parts) * most }
-    ensures table { (authority.new.table_id ≡ authority.old.table_id) × (result.table_id ≡ authority.old.table_id) }
-    ensures authority { authority.new.me ≡ (after_issue K.parts K.rest K.extra authority.old.me.0, authority.old.me.1) }
-    ensures token { result.me ≡ (share_state K.parts K.amounts, []) }
+    requires of_table { IsTokenOf tokens.now.table_id authority.old }
+    requires issues { CanIssue K.parts K.amounts K.rest K.extra authority.old.me.0 }
+    ensures of_table { IsTokenOf tokens.now.table_id authority.new × IsTokenOf tokens.now.table_id result }
+    ensures authority { authority.new.me.0 ≡ after_issue K.parts K.rest K.extra authority.old.me.0 }
+    ensures token { result.me.0 ≡ share_state K.parts K.amounts }
 {
     tokens.split_seat::<Issued<K>>(authority)
 }
 
+/// Gives a token what `K` says. The caller picks `K` by the last argument.
+pub(crate) fn grant<K: Amount, T>(tokens: &SharedTable, authority: &mut Token, _told: &T) -> Token
+    requires of_table { IsTokenOf tokens.now.table_id authority.old }
+    requires issues { CanIssue K.parts K.amounts K.rest K.extra authority.old.me.0 }
+    ensures of_table { IsTokenOf tokens.now.table_id authority.new × IsTokenOf tokens.now.table_id result }
+    ensures authority { authority.new.me.0 ≡ after_issue K.parts K.rest K.extra authority.old.me.0 }
+    ensures token { result.me.0 ≡ share_state K.parts K.amounts }
+{
+    issue::<K>(tokens, authority)
+}
+
 /// A token takes in a holder's token.
 pub(crate) fn merge(tokens: &SharedTable, token: &mut Token, other: Token)
-    requires table { (tokens.now.table_id.words ≡ 1) × (token.old.table_id ≡ tokens.now.table_id)
-        × (other.table_id ≡ tokens.now.table_id) }
-    requires other { (other.me.0.has_totals ≡ false) × (other.me.1 ≡ []) }
-    ensures table { token.new.table_id ≡ token.old.table_id }
-    ensures token { token.new.me ≡ (both_of token.old.me.0 other.me.0, token.old.me.1) }
+    requires of_table { IsTokenOf tokens.now.table_id token.old × IsTokenOf tokens.now.table_id other }
+    requires other { other.me.0.has_totals ≡ false }
+    ensures of_table { IsTokenOf tokens.now.table_id token.new }
+    ensures token { token.new.me.0 ≡ both_of token.old.me.0 other.me.0 }
 {
     tokens.join_seat::<Merged>(token, other);
 }
 
 /// What the rule says of a token.
 pub(crate) fn learn(tokens: &SharedTable, token: &mut Token)
-    requires table { (tokens.now.table_id.words ≡ 1) × (token.old.table_id ≡ tokens.now.table_id) }
-    ensures table { token.new.table_id ≡ token.old.table_id }
-    ensures same { token.new.me ≡ token.old.me }
+    requires { IsTokenOf tokens.now.table_id token.old }
+    ensures of_table { IsTokenOf tokens.now.table_id token.new }
+    ensures same { token.new.me.0 ≡ token.old.me.0 }
     ensures learned { IsLearned token.old.me.0 }
 {
     tokens.load::<Learned>(token, 0);
@@ -144,22 +150,20 @@ pub(crate) fn reissue<K: Amount, T>(
     token: &mut Token,
     _told: &T,
 )
-    requires table { (tokens.now.table_id.words ≡ 1) × (authority.old.table_id ≡ tokens.now.table_id)
-        × (token.old.table_id ≡ tokens.now.table_id) }
-    requires authority { (authority.old.me.0.has_totals ≡ true) × (authority.old.me.0.amounts ≡ [])
-        × (authority.old.me.1 ≡ []) }
-    requires token { (token.old.me.0.has_totals ≡ false) × (token.old.me.1 ≡ []) }
+    requires of_table { IsTokenOf tokens.now.table_id authority.old × IsTokenOf tokens.now.table_id token.old }
+    requires authority { (authority.old.me.0.has_totals ≡ true) × (authority.old.me.0.amounts ≡ []) }
+    requires token { token.old.me.0.has_totals ≡ false }
     requires parts { K.parts ≡ token.old.me.0.parts }
     requires amounts { (k : ℕ) → at K.amounts k ≡ at token.old.me.0.amounts k + at K.extra k }
     requires backed { (k : ℕ) → at token.old.me.0.amounts k ≤ at authority.old.me.0.totals k
         → at token.old.me.0.amounts k ≤ token.old.me.0.parts * most → at K.amounts k ≤ K.parts * most }
     requires rest { K.rest ≡ [] }
-    ensures table { (authority.new.table_id ≡ authority.old.table_id) × (token.new.table_id ≡ token.old.table_id) }
+    ensures of_table { IsTokenOf tokens.now.table_id authority.new × IsTokenOf tokens.now.table_id token.new }
     ensures authority { (authority.new.me.0.has_totals ≡ true) × (authority.new.me.0.amounts ≡ [])
-        × (authority.new.me.1 ≡ []) × (authority.new.me.0.parts ≡ authority.old.me.0.parts) }
+        × (authority.new.me.0.parts ≡ authority.old.me.0.parts) }
     ensures totals { (k : ℕ) → at authority.new.me.0.totals k ≡ at authority.old.me.0.totals k + at K.extra k }
     ensures fits { (k : ℕ) → at authority.new.me.0.totals k ≤ all_parts * most }
-    ensures token { token.new.me ≡ (share_state K.parts K.amounts, []) }
+    ensures token { token.new.me.0 ≡ share_state K.parts K.amounts }
     ensures backed { (k : ℕ) → at K.amounts k ≤ K.parts * most }
 {
     learn(tokens, token);
@@ -171,28 +175,12 @@ pub(crate) fn reissue<K: Amount, T>(
     learn(tokens, authority);
 }
 
-/// Gives a token what `K` says. The caller picks `K` by the last argument.
-pub(crate) fn grant<K: Amount, T>(tokens: &SharedTable, authority: &mut Token, _told: &T) -> Token
-    requires table { (tokens.now.table_id.words ≡ 1) × (authority.old.table_id ≡ tokens.now.table_id) }
-    requires authority { authority.old.me.0.has_totals ≡ true }
-    requires parts { K.parts ≤ authority.old.me.0.parts }
-    requires amounts { (k : ℕ) → at K.amounts k + at K.rest k ≡ at authority.old.me.0.amounts k + at K.extra k }
-    requires backed { (k : ℕ) → at K.amounts k ≤ K.parts * most }
-    requires rest { (k : ℕ) → at K.rest k ≤ (authority.old.me.0.parts - K.parts) * most }
-    ensures table { (authority.new.table_id ≡ authority.old.table_id) × (result.table_id ≡ authority.old.table_id) }
-    ensures authority { authority.new.me ≡ (after_issue K.parts K.rest K.extra authority.old.me.0, authority.old.me.1) }
-    ensures token { result.me ≡ (share_state K.parts K.amounts, []) }
-{
-    issue::<K>(tokens, authority)
-}
-
 /// The authority takes in a holder's token, and learns of it.
 pub(crate) fn take_back(tokens: &SharedTable, authority: &mut Token, mut token: Token)
-    requires table { (tokens.now.table_id.words ≡ 1) × (authority.old.table_id ≡ tokens.now.table_id)
-        × (token.table_id ≡ tokens.now.table_id) }
-    requires token { (token.me.0.has_totals ≡ false) × (token.me.1 ≡ []) }
-    ensures table { authority.new.table_id ≡ authority.old.table_id }
-    ensures authority { authority.new.me ≡ (both_of authority.old.me.0 token.me.0, authority.old.me.1) }
+    requires of_table { IsTokenOf tokens.now.table_id authority.old × IsTokenOf tokens.now.table_id token }
+    requires token { token.me.0.has_totals ≡ false }
+    ensures of_table { IsTokenOf tokens.now.table_id authority.new }
+    ensures authority { authority.new.me.0 ≡ both_of authority.old.me.0 token.me.0 }
     ensures backed { (k : ℕ) → at token.me.0.amounts k ≤ token.me.0.parts * most }
 {
     learn(tokens, &mut token);

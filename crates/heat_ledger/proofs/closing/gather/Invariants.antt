@@ -1,5 +1,6 @@
 use Rattle.std.proofs.Common.{◌≡◌, true, All, vec_len}
-use Rattle.heat_ledger.specs.Ledger.{IsTokenOf, IsClean}
+use Rattle.heat_ledger.specs.Ledger.{IsClean}
+use Rattle.heat_ledger.specs.Tally.{IsTokenOf}
 use Rattle.heat_ledger.specs.Gathering.{IsGathered}
 use Rattle.heat_ledger.proofs.closing.gather.Given as goal
 

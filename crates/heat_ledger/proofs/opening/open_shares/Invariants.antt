@@ -1,6 +1,5 @@
 use Rattle.std.proofs.Common.{◌≡◌, ◌-◌, ◌+◌, ◌≤◌, [], All, replicate, vec_len, vec_capacity}
-use Rattle.heat_ledger.specs.Tally.{authority_state, all_parts}
-use Rattle.heat_ledger.specs.Ledger.{IsTokenOf}
+use Rattle.heat_ledger.specs.Tally.{authority_state, all_parts, IsTokenOf}
 use Rattle.heat_ledger.specs.Opening.{IsUnopened, fresh_share}
 use Rattle.heat_ledger.proofs.opening.open_shares.Given as goal
 

@@ -1,19 +1,24 @@
-use Rattle.std.proofs.Common.{◌≡◌, [], rules, arith, ap, subst, ◌∙◌}
+use Rattle.std.proofs.Common.{◌≡◌, ℕ, List, [], rules, arith, ap, subst, ◌∙◌}
 use Rattle.heat_ledger.specs.declared.tally.TokenState.{TokenState}
 use Rattle.heat_ledger.specs.Rows.{at, sums}
 use Rattle.heat_ledger.specs.Tally.{both_of, after_issue, IsLearned}
 use Rattle.heat_ledger.proofs.RowLemmas.{at_sums}
 use Rattle.heat_ledger.proofs.tally.reissue.Goals as goal
 
-pub issue-requires-clause-backed : goal.issue-requires-clause-backed
-issue-requires-clause-backed g c k =
+pub issue-requires-clause-issues : goal.issue-requires-clause-issues
+issue-requires-clause-issues g c =
     let kp = c.args.authority.now.me.0 in
     let st = c.args.token.now.me.0 in
     let met : c.merge.new.token.me.0 ≡ both_of (after_issue 0 [] [] kp) st = search rules in
+    let now : c.learn-2.new.token.me.0 ≡ both_of (after_issue 0 [] [] kp) st = search rules in
     let l = subst IsLearned met c.learn-2.ensures.learned in
-    let within = (l.within c.requires.authority.0 k).0 in
-    let same = at_sums kp.totals [] k in
-    c.requires.backed k (omega (arith, within, same)) (c.learn.ensures.learned.backed k)
+    record {
+      has_totals = search rules;
+      few = search rules;
+      same = λ k. omega (arith, c.requires.amounts k, ap (λ (v : TokenState). at v.amounts k) now, ap (λ (xs : List ℕ). at xs k) c.requires.rest);
+      backed = λ k. c.requires.backed k (omega (arith, (l.within c.requires.authority.0 k).0, at_sums kp.totals [] k)) (c.learn.ensures.learned.backed k);
+      left = λ k. omega (arith, ap (λ (xs : List ℕ). at xs k) c.requires.rest);
+    }
 
 pub returns-clause-backed : goal.returns-clause-backed
 returns-clause-backed g c k =

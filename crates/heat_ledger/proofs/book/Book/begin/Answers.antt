@@ -17,12 +17,12 @@ pub reissue-requires-clause-backed : goal.reissue-requires-clause-backed
 reissue-requires-clause-backed g c k under was =
     let b = c.self.inside in
     let room : at b.begun.items (entry c.args.dir Read) < most = omega (arith, at_evens b.begun.items c.args.dir, subst (λ (b : BookData). at b.begun c.args.dir < most) (sym c.self.view_is) c.requires.room) in
-    begin_backed (g.J.Naming.limit + g.J.Naming.limit) c.share.inside.token.me.0 b.token.me.0 c.share.inside.weight b.shares c.share.inside.counts.hits c.share.inside.counts.pending c.share.inside.counts.begun b.counted.items b.begun.items (entry c.args.dir Read)
+    begin_backed (g.J.Naming.limit + g.J.Naming.limit) c.share.inside.token.me.0 b.token.me.0 c.share.inside.weight b.shares c.share.inside.counts b.counted.items b.begun.items (entry c.args.dir Read)
     c.share.invariant.2 c.self.invariant.2 room k under was
 
 pub add_begun-requires-clause-fits : goal.add_begun-requires-clause-fits
 add_begun-requires-clause-fits g c =
-    rw c.entry_of-entry.ensures (begin_fits (g.J.Naming.limit + g.J.Naming.limit) c.share.inside.token.me.0 c.share.inside.weight c.share.inside.counts.hits c.share.inside.counts.pending c.share.inside.counts.begun (entry c.args.dir Read) c.share.invariant.2
+    rw c.entry_of-entry.ensures (begin_fits (g.J.Naming.limit + g.J.Naming.limit) c.share.inside.token.me.0 c.share.inside.weight c.share.inside.counts (entry c.args.dir Read) c.share.invariant.2
     (c.reissue.ensures.backed (begun_slot (entry c.args.dir Read))))
 
 pub invariant_of-self : goal.invariant_of-self
@@ -36,7 +36,7 @@ invariant_of-self g c =
     let found : c.index_mut.result.now ≡ at b.begun.items row = c.index_mut.ensures.value ∙ at_within b.begun.items row c.index_mut.result.now inside in (
       search rules,
       search rules,
-      begin_book_at (g.J.Naming.limit + g.J.Naming.limit) b.token.me.0 c.reissue.new.authority.me.0 b.shares d row c.index_mut.result.now b.counted.items b.begun.items c.self.invariant.2 e.authority.0 e.authority.1 e.authority.3 e.totals below c.entry_of-entry.ensures
+      begin_book_at (g.J.Naming.limit + g.J.Naming.limit) b.token.me.0 c.reissue.new.authority.me.0 b.shares d row c.index_mut.result.now b.counted.items b.begun.items c.self.invariant.2 e.authority.0 e.authority.1 e.authority.2 e.totals below c.entry_of-entry.ensures
           (found ∙ ap (at b.begun.items) c.entry_of-entry.ensures),
       search rules,
       search rules,
@@ -52,8 +52,8 @@ invariant_of-share g c =
     let met : share_state s.token.me.0.parts (sums s.token.me.0.amounts (unit (begun_slot d))) ≡ c.reissue.new.token.me.0 = search rules in (
       search rules,
       search rules,
-      subst (λ (v : CountsData). IsShare n c.reissue.new.token.me.0 s.weight v.hits v.pending v.begun) (sym raises)
-          (subst (λ (v : TokenState). IsShare n v s.weight s.counts.hits s.counts.pending (raised s.counts.begun d)) met (begin_share n s.token.me.0 s.weight d s.counts.hits s.counts.pending s.counts.begun c.share.invariant.2 below)),
+      subst (λ (v : CountsData). IsShare n c.reissue.new.token.me.0 s.weight v) (sym raises)
+          (subst (λ (v : TokenState). IsShare n v s.weight (record s.counts { begun = raised s.counts.begun d })) met (begin_share n s.token.me.0 s.weight d s.counts c.share.invariant.2 below)),
     )
 
 abbrev with_begun : BookData → List ℕ → BookData

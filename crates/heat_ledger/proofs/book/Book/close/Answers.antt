@@ -7,16 +7,20 @@ use Rattle.heat_ledger.proofs.RowLemmas.{at_evens}
 use Rattle.heat_ledger.proofs.Closings.{closed, retired}
 use Rattle.heat_ledger.proofs.book.Book.close.Goals as goal
 
-pub grant-requires-clause-backed : goal.grant-requires-clause-backed
-grant-requires-clause-backed g c k =
+pub grant-requires-clause-issues : goal.grant-requires-clause-issues
+grant-requires-clause-issues g c =
     let b = c.self.inside in
     let w = c.gather.new.authority.me.0 in
     let left : b.shares - weight_of c.args.shares.items ≡ 0 = search rules in
     let same : c.learn.new.token.me.0 ≡ w = search rules in
     let z = closed (g.J.Naming.limit + g.J.Naming.limit) b.token.me.0 w b.shares b.counted.items b.begun.items c.args.shares.items c.self.invariant.2 c.gather.ensures.gathered c.gather.ensures.authority.0 c.gather.ensures.authority.1 c.learn.ensures.learned left in
-    let r = z.backed k in
-    let e = ap (λ (h : TokenState). at h.amounts k) same in
-    omega (arith, r, e)
+    record {
+      has_totals = ap (λ (h : TokenState). h.has_totals) same ∙ c.gather.ensures.authority.0;
+      few = omega (arith, ap (λ (h : TokenState). h.parts) same, z.parts, c.self.invariant.2.parts);
+      same = λ k. omega arith;
+      backed = λ k. omega (arith, z.backed k, ap (λ (h : TokenState). at h.amounts k) same);
+      left = λ k. omega arith;
+    }
 
 pub invariant_of-self-2 : goal.invariant_of-self-2
 invariant_of-self-2 g c =
