@@ -1,9 +1,11 @@
 -- The runs' cells follow the operations.
-use Rattle.std.proofs.Common.{◌≡◌, ℕ, zero, suc, ◌+◌, ◌-◌, ◌<◌, ◌≤◌, ◌≢◌, Bool, true, false, ◌==◌, ◌||◌, if◌then◌else◌, List, [], ◌∷◌, ◌++◌, length, get_or, refl, sym, ap, ◌∙◌, arith, Option, Some, None, All}
+use Rattle.std.proofs.Common.{◌≡◌, ℕ, zero, suc, ◌+◌, ◌-◌, ◌*◌, ◌/◌, ◌<◌, ◌≤◌, ◌≢◌, Bool, true, false, ◌==◌, ◌||◌, if◌then◌else◌, List, [], ◌∷◌, ◌++◌, length, get_or, replicate, refl, sym, ap, ◌∙◌, arith, Option, Some, None, All}
+use Rattle.std.proofs.lemmas.List.{length-replicate, get_or-replicate}
 use Rattle.std.proofs.lemmas.List.Sums.{fold-append}
 use Rattle.std.proofs.lemmas.Bool.Decides.{nat_tests}
 use Rattle.authority_map.specs.Operations.{Operation, SetTo, Clear, names, entry_after, rank_after}
-use Rattle.authority_map.specs.Runs.{AreRuns, HasCells}
+use Rattle.authority_map.specs.Runs.{AreRuns, IsIn, IsIndex, Hold}
+use Rattle.authority_map.specs.declared.runs.Runs.{Runs}
 use Rattle.authority_map.specs.Cells.{AreCells, cell_of}
 use Rattle.authority_map.proofs.RunLemmas.{same_cells}
 
@@ -49,13 +51,12 @@ no_cell None e = refl
 no_cell (Some rank) e = absurd (omega arith)
 
 -- the cells after an operation that writes those of the listed directories
-pub cells_written : (limit : ℕ) (starts cells dirs : List ℕ) (cell : ℕ) (ops after : List Operation) → AreRuns limit starts cells → All (λ d. d < limit) dirs
-    → HasCells limit starts cells (λ d. if names dirs d then cell else cell_of (rank_after ops d)) 0 0
+pub cells_written : (limit : ℕ) (runs : Runs) (dirs : List ℕ) (cell : ℕ) (ops after : List Operation) → All (λ d. d < limit) dirs
+    → Hold limit runs (λ d. if names dirs d then cell else cell_of (rank_after ops d)) 0 0
     → ((d : ℕ) → cell_of (rank_after after d) ≡ (if names dirs d then cell else cell_of (rank_after ops d)))
-    → ((d : ℕ) → limit ≤ d → rank_after ops d ≡ None) → AreCells limit starts cells after
-cells_written limit starts cells dirs cell ops after runs below new step past = record {
-  shape = runs;
-  held = same_cells limit starts cells (λ d. if names dirs d then cell else cell_of (rank_after ops d)) (λ d. cell_of (rank_after after d)) 0 0 new (λ d. sym (step d));
+    → ((d : ℕ) → limit ≤ d → rank_after ops d ≡ None) → AreCells limit runs after
+cells_written limit runs dirs cell ops after below new step past = record {
+  held = same_cells limit runs.starts.items runs.cells.items (λ d. if names dirs d then cell else cell_of (rank_after ops d)) (λ d. cell_of (rank_after after d)) 0 0 new (λ d. sym (step d));
   past = λ d h. no_cell (rank_after after d)
       (step d ∙ ap (λ (b : Bool). (if b then cell else cell_of (rank_after ops d))) (not_named dirs d (λ k inside e. absurd (omega (arith, below k 0 inside, e, h)))) ∙ ap cell_of (past d h));
 }
@@ -65,10 +66,18 @@ lone x zero = refl
 lone x (suc k) = refl
 
 -- one run without a rank
-pub cells_none : (limit : ℕ) → 1 ≤ limit → AreCells limit (0 ∷ []) (0 ∷ []) []
-cells_none limit some = record {
-  shape = record { order = record { some = omega arith; first = refl; rising = λ run h. absurd (omega arith) }; sized = refl; below = λ run h. omega (arith, lone 0 run); small = λ run. omega (arith, lone 0 run) };
-  held = record { each = λ run d h i. lone 0 run ∙ sym (ap cell_of (rank_after-none d)); apart = λ run h a b. absurd (omega arith) };
+pub runs_none : (limit : ℕ) → 1 ≤ limit → AreRuns limit (0 ∷ []) (0 ∷ [])
+runs_none limit some = record { order = record { some = omega arith; first = refl; rising = λ run h. absurd (omega arith) }; sized = refl; below = λ run h. omega (arith, lone 0 run); small = λ run. omega (arith, lone 0 run) }
+
+pub index_none : (limit : ℕ) → IsIndex limit (0 ∷ []) (replicate (limit / 256 + 2) 0)
+index_none limit = record { sized = length-replicate (limit / 256 + 2) 0; each = λ block h. first _ (256 * block) (get_or-replicate (limit / 256 + 2) block 0 0 (omega (arith, h, length-replicate {A = ℕ} (limit / 256 + 2) 0))) }
+  where
+    first : (run dir : ℕ) → run ≡ 0 → IsIn (0 ∷ []) run dir
+    first run dir none = rw none (record { there = omega arith; from = omega arith; until = λ h. absurd (omega arith) })
+
+pub cells_none : (limit : ℕ) (runs : Runs) → runs.starts.items ≡ 0 ∷ [] → runs.cells.items ≡ 0 ∷ [] → AreCells limit runs []
+cells_none limit runs starts cells = record {
+  held = rw (starts, cells) (record { each = λ run d h i. lone 0 run ∙ sym (ap cell_of (rank_after-none d)); apart = λ run h a b. absurd (omega arith) });
   past = λ d h. rank_after-none d;
 }
 

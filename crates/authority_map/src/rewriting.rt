@@ -3,10 +3,11 @@
 //! To write one directory may move all runs after its own. For a long list that rises the runs are made
 //! anew: those between two listed directories are copied, and each listed one joins the run before or begins one.
 ghost use Rattle.std.specs.Prelude.{◌≡◌, ℕ, ◌+◌, ◌-◌, ◌/◌, ◌<◌, ◌≤◌, All, IsTrue, length};
-ghost use Rattle.std.specs.Prelude.{if◌then◌else◌, slice_index, vec_capacity};
+ghost use Rattle.std.specs.Prelude.{if◌then◌else◌, slice_index};
 ghost use Rattle.std.specs.List.Sorted.{IsStrictlyIncreasing};
 ghost use Rattle.authority_map.specs.Operations.{names};
-ghost use Rattle.authority_map.specs.Runs.{IsIndex, AreStarts, AreRuns, AreBefore, ComeBefore, HasCells, HasFirst};
+ghost use Rattle.authority_map.specs.Runs.{IsIndex, IsRunTable, AreFirstRuns, AreStarts, ComeBefore};
+ghost use Rattle.authority_map.specs.Runs.{HasRunRoom, Hold, HoldFirst};
 
 use crate::runs::{BLOCK, Runs, indexed_run_of, run_end, run_of, write};
 use mds_types::Dir;
@@ -24,18 +25,13 @@ fn is_rising(dirs: &[Dir]) -> bool
 
 // The runs go on with directories that have this cell.
 fn extend(made: &mut Runs, limit: u32, first: u32, end: u32, cell: u8)
-    requires runs { AreRuns limit made.old.starts.items made.old.cells.items }
-    requires room { (limit ≤ vec_capacity made.old.starts) × (limit ≤ vec_capacity made.old.cells) }
-    requires before { AreBefore first made.old.starts.items }
+    requires made { AreFirstRuns limit first made.old }
     requires some { (first < end) × (end ≤ limit) }
     requires small { cell ≤ 64 }
-    ensures runs { AreRuns limit made.new.starts.items made.new.cells.items }
-    ensures room { (limit ≤ vec_capacity made.new.starts) × (limit ≤ vec_capacity made.new.cells) }
-    ensures before { AreBefore end made.new.starts.items }
+    ensures made { AreFirstRuns limit end made.new }
     ensures last { slice_index made.new.cells.items (length made.new.cells.items - 1) ≡ cell }
-    ensures cells { (want : ℕ → ℕ) → HasFirst first made.old.starts.items made.old.cells.items want
-        → ((d : ℕ) → first ≤ d → d < end → want d ≡ cell)
-        → HasFirst end made.new.starts.items made.new.cells.items want }
+    ensures cells { (want : ℕ → ℕ) → HoldFirst first made.old want → ((d : ℕ) → first ≤ d → d < end → want d ≡ cell)
+        → HoldFirst end made.new want }
 {
     if made.cells[made.cells.len() - 1] != cell {
         made.starts.push_reserved(first);
@@ -45,19 +41,12 @@ fn extend(made: &mut Runs, limit: u32, first: u32, end: u32, cell: u8)
 
 // The runs go on with directories that have the cells that they had.
 fn keep(made: &mut Runs, runs: &Runs, index: &[u32], limit: u32, first: u32, end: u32)
-    requires index { IsIndex limit runs.now.starts.items index.now }
-    requires old { AreRuns limit runs.now.starts.items runs.now.cells.items }
-    requires runs { AreRuns limit made.old.starts.items made.old.cells.items }
-    requires room { (limit ≤ vec_capacity made.old.starts) × (limit ≤ vec_capacity made.old.cells) }
-    requires before { AreBefore first made.old.starts.items }
+    requires table { IsRunTable limit runs.now index.now }
+    requires made { AreFirstRuns limit first made.old }
     requires order { (first ≤ end) × (end ≤ limit) }
-    ensures runs { AreRuns limit made.new.starts.items made.new.cells.items }
-    ensures room { (limit ≤ vec_capacity made.new.starts) × (limit ≤ vec_capacity made.new.cells) }
-    ensures before { AreBefore end made.new.starts.items }
-    ensures cells { (old want : ℕ → ℕ) → HasCells limit runs.now.starts.items runs.now.cells.items old 0 0
-        → HasFirst first made.old.starts.items made.old.cells.items want
-        → ((d : ℕ) → first ≤ d → d < end → want d ≡ old d)
-        → HasFirst end made.new.starts.items made.new.cells.items want }
+    ensures made { AreFirstRuns limit end made.new }
+    ensures cells { (old want : ℕ → ℕ) → Hold limit runs.now old 0 0 → HoldFirst first made.old want
+        → ((d : ℕ) → first ≤ d → d < end → want d ≡ old d) → HoldFirst end made.new want }
 {
     if first == end {
         return;
@@ -80,15 +69,13 @@ fn keep(made: &mut Runs, runs: &Runs, index: &[u32], limit: u32, first: u32, end
 // returns how many listed directories are in them.
 fn begin(made: &mut Runs, limit: u32, dirs: &[Dir], listed: u8, unlisted: u8) -> usize
     requires limit { 1 ≤ limit }
-    requires room { (limit ≤ vec_capacity made.old.starts) × (limit ≤ vec_capacity made.old.cells) }
+    requires room { HasRunRoom limit made.old }
     requires rising { IsStrictlyIncreasing dirs.now }
     requires small { (listed ≤ 64) × (unlisted ≤ 64) }
-    ensures runs { AreRuns limit made.new.starts.items made.new.cells.items }
-    ensures room { (limit ≤ vec_capacity made.new.starts) × (limit ≤ vec_capacity made.new.cells) }
-    ensures before { AreBefore 1 made.new.starts.items }
+    ensures made { AreFirstRuns limit 1 made.new }
     ensures listed { ComeBefore dirs.now result 1 }
     ensures cells { (want : ℕ → ℕ) → want 0 ≡ (if names dirs.now 0 then listed else unlisted)
-        → HasFirst 1 made.new.starts.items made.new.cells.items want }
+        → HoldFirst 1 made.new want }
 {
     made.starts.clear();
     made.cells.clear();
@@ -107,16 +94,13 @@ fn begin(made: &mut Runs, limit: u32, dirs: &[Dir], listed: u8, unlisted: u8) ->
 
 // Makes the runs of all directories: those on the list have this cell, the others that of their run.
 fn make_anew(made: &mut Runs, runs: &Runs, index: &[u32], limit: u32, dirs: &[Dir], cell: u8)
-    requires index { IsIndex limit runs.now.starts.items index.now }
-    requires runs { AreRuns limit runs.now.starts.items runs.now.cells.items }
-    requires room { (limit ≤ vec_capacity made.old.starts) × (limit ≤ vec_capacity made.old.cells) }
+    requires table { IsRunTable limit runs.now index.now }
+    requires room { HasRunRoom limit made.old }
     requires inside { All (λ dir. dir < limit) dirs.now }
     requires rising { IsStrictlyIncreasing dirs.now }
     requires small { cell ≤ 64 }
-    ensures runs { AreRuns limit made.new.starts.items made.new.cells.items }
-    ensures room { (limit ≤ vec_capacity made.new.starts) × (limit ≤ vec_capacity made.new.cells) }
-    ensures cells { (old : ℕ → ℕ) → HasCells limit runs.now.starts.items runs.now.cells.items old 0 0
-        → HasCells limit made.new.starts.items made.new.cells.items
+    ensures made { AreFirstRuns limit limit made.new }
+    ensures cells { (old : ℕ → ℕ) → Hold limit runs.now old 0 0 → Hold limit made.new
         (λ d. if names dirs.now d then cell else old d) 0 0 }
 {
     let next = begin(made, limit, dirs, cell, runs.cells[0]);
@@ -153,18 +137,13 @@ pub(crate) fn write_all(
     dirs: &[Dir],
     cell: u8,
 )
-    requires runs { AreRuns limit runs.old.starts.items runs.old.cells.items }
-    requires index { IsIndex limit runs.old.starts.items index.old.items }
-    requires room { (limit ≤ vec_capacity runs.old.starts) × (limit ≤ vec_capacity runs.old.cells) }
-    requires spare { (limit ≤ vec_capacity spare.old.starts) × (limit ≤ vec_capacity spare.old.cells) }
+    requires table { IsRunTable limit runs.old index.old.items }
+    requires spare { HasRunRoom limit spare.old }
     requires inside { All (λ dir. dir < limit) dirs.now }
     requires small { cell ≤ 64 }
-    ensures runs { AreRuns limit runs.new.starts.items runs.new.cells.items }
-    ensures index { IsIndex limit runs.new.starts.items index.new.items }
-    ensures room { (limit ≤ vec_capacity runs.new.starts) × (limit ≤ vec_capacity runs.new.cells) }
-    ensures spare { (limit ≤ vec_capacity spare.new.starts) × (limit ≤ vec_capacity spare.new.cells) }
-    ensures cells { (old : ℕ → ℕ) → HasCells limit runs.old.starts.items runs.old.cells.items old 0 0
-        → HasCells limit runs.new.starts.items runs.new.cells.items
+    ensures table { IsRunTable limit runs.new index.new.items }
+    ensures spare { HasRunRoom limit spare.new }
+    ensures cells { (old : ℕ → ℕ) → Hold limit runs.old old 0 0 → Hold limit runs.new
         (λ d. if names dirs.now d then cell else old d) 0 0 }
 {
     let count = runs.starts.len();

@@ -4,8 +4,9 @@
 //! halving between the first runs of its block and of the next one, by an index. To write a cell, the run is split and
 //! joined with neighbours that have the same cell; at a border of two runs, the border moves by one instead.
 ghost use Rattle.std.specs.Prelude.{◌≡◌, ◌≢◌, ◌↔◌, [], IfOk, ℕ, ◌+◌, ◌-◌, ◌^◌, ◌==◌, ◌<◌, ◌≤◌, All, List, length};
-ghost use Rattle.std.specs.Prelude.{slice_index, if◌then◌else◌, vec_capacity};
-ghost use Rattle.authority_map.specs.Runs.{IsIn, IsAmong, IsIndex, IsOneMore, AreStarts, AreRuns, StartsAt, HasCells};
+ghost use Rattle.std.specs.Prelude.{slice_index, if◌then◌else◌};
+ghost use Rattle.authority_map.specs.Runs.{IsIn, IsAmong, IsIndex, IsMove, IsOneMore, IsRunTable};
+ghost use Rattle.authority_map.specs.Runs.{AreStarts, HasRunRoom, Hold, StartsAt};
 
 use mds_types::Dir;
 use std::alloc::{AllocError, Global};
@@ -22,7 +23,7 @@ pub struct Runs {
 impl Runs {
     /// Room for a run for each directory.
     pub(crate) fn new(alloc: Global, limit: u32) -> Result<Runs, AllocError>
-        ensures room { IfOk result (λ runs. (limit ≤ vec_capacity runs.starts) × (limit ≤ vec_capacity runs.cells)) }
+        ensures room { IfOk result (λ runs. HasRunRoom limit runs) }
         ensures none { IfOk result (λ runs. (runs.starts.items ≡ []) × (runs.cells.items ≡ [])) }
     {
         let starts = Vec::with_capacity(alloc, limit as usize)?;
@@ -104,19 +105,15 @@ fn index_one_fewer(index: &mut Vec<u32>, first: usize)
 
 // A run more, which starts inside this one and has its cell.
 fn cut(runs: &mut Runs, index: &mut Vec<u32>, limit: u32, run: usize, dir: u32)
-    requires runs { AreRuns limit runs.old.starts.items runs.old.cells.items }
-    requires index { IsIndex limit runs.old.starts.items index.old.items }
-    requires room { (limit ≤ vec_capacity runs.old.starts) × (limit ≤ vec_capacity runs.old.cells) }
+    requires table { IsRunTable limit runs.old index.old.items }
     requires inside { IsIn runs.old.starts.items run dir }
     requires later { slice_index runs.old.starts.items run < dir }
     requires below { dir < limit }
-    ensures runs { AreRuns limit runs.new.starts.items runs.new.cells.items }
-    ensures index { IsIndex limit runs.new.starts.items index.new.items }
-    ensures room { (limit ≤ vec_capacity runs.new.starts) × (limit ≤ vec_capacity runs.new.cells) }
+    ensures table { IsRunTable limit runs.new index.new.items }
     ensures starts { StartsAt runs.new.starts.items dir }
     ensures others { (other : ℕ) → StartsAt runs.old.starts.items other → StartsAt runs.new.starts.items other }
-    ensures cells { (cell : ℕ → ℕ) (this : ℕ) → HasCells limit runs.old.starts.items runs.old.cells.items cell this this
-        → HasCells limit runs.new.starts.items runs.new.cells.items cell this dir }
+    ensures cells { (cell : ℕ → ℕ) (this : ℕ) → Hold limit runs.old cell this this
+        → Hold limit runs.new cell this dir }
 {
     let cell = runs.cells[run];
     let Ok(()) = runs.starts.insert(run + 1, dir) else {
@@ -130,16 +127,12 @@ fn cut(runs: &mut Runs, index: &mut Vec<u32>, limit: u32, run: usize, dir: u32)
 
 // Sees to it that a run starts at this directory.
 fn split(runs: &mut Runs, index: &mut Vec<u32>, limit: u32, dir: u32)
-    requires runs { AreRuns limit runs.old.starts.items runs.old.cells.items }
-    requires index { IsIndex limit runs.old.starts.items index.old.items }
-    requires room { (limit ≤ vec_capacity runs.old.starts) × (limit ≤ vec_capacity runs.old.cells) }
-    ensures runs { AreRuns limit runs.new.starts.items runs.new.cells.items }
-    ensures index { IsIndex limit runs.new.starts.items index.new.items }
-    ensures room { (limit ≤ vec_capacity runs.new.starts) × (limit ≤ vec_capacity runs.new.cells) }
+    requires table { IsRunTable limit runs.old index.old.items }
+    ensures table { IsRunTable limit runs.new index.new.items }
     ensures starts { dir < limit → StartsAt runs.new.starts.items dir }
     ensures others { (other : ℕ) → StartsAt runs.old.starts.items other → StartsAt runs.new.starts.items other }
-    ensures cells { (cell : ℕ → ℕ) (this : ℕ) → HasCells limit runs.old.starts.items runs.old.cells.items cell this this
-        → HasCells limit runs.new.starts.items runs.new.cells.items cell this dir }
+    ensures cells { (cell : ℕ → ℕ) (this : ℕ) → Hold limit runs.old cell this this
+        → Hold limit runs.new cell this dir }
 {
     if dir >= limit {
         return;
@@ -152,18 +145,13 @@ fn split(runs: &mut Runs, index: &mut Vec<u32>, limit: u32, dir: u32)
 
 // Puts a run to the one before it, which has the same cell.
 fn unite(runs: &mut Runs, index: &mut Vec<u32>, limit: u32, run: usize)
-    requires runs { AreRuns limit runs.old.starts.items runs.old.cells.items }
-    requires index { IsIndex limit runs.old.starts.items index.old.items }
+    requires table { IsRunTable limit runs.old index.old.items }
     requires some { 1 ≤ run }
     requires there { run < length runs.old.starts.items }
     requires alike { slice_index runs.old.cells.items (run - 1) ≡ slice_index runs.old.cells.items run }
-    ensures runs { AreRuns limit runs.new.starts.items runs.new.cells.items }
-    ensures index { IsIndex limit runs.new.starts.items index.new.items }
-    ensures room { (vec_capacity runs.new.starts ≡ vec_capacity runs.old.starts)
-        × (vec_capacity runs.new.cells ≡ vec_capacity runs.old.cells) }
-    ensures cells { (cell : ℕ → ℕ) (this : ℕ)
-        → HasCells limit runs.old.starts.items runs.old.cells.items cell this (slice_index runs.old.starts.items run)
-        → HasCells limit runs.new.starts.items runs.new.cells.items cell this this }
+    ensures table { IsRunTable limit runs.new index.new.items }
+    ensures cells { (cell : ℕ → ℕ) (this : ℕ) → Hold limit runs.old cell this (slice_index runs.old.starts.items run)
+        → Hold limit runs.new cell this this }
 {
     let start = runs.starts.remove(run);
     let _cell = runs.cells.remove(run);
@@ -172,14 +160,10 @@ fn unite(runs: &mut Runs, index: &mut Vec<u32>, limit: u32, run: usize)
 
 // Puts the run that starts at this directory to the one before it, if that has the same cell.
 fn join(runs: &mut Runs, index: &mut Vec<u32>, limit: u32, dir: u32)
-    requires runs { AreRuns limit runs.old.starts.items runs.old.cells.items }
-    requires index { IsIndex limit runs.old.starts.items index.old.items }
-    requires room { (limit ≤ vec_capacity runs.old.starts) × (limit ≤ vec_capacity runs.old.cells) }
-    ensures runs { AreRuns limit runs.new.starts.items runs.new.cells.items }
-    ensures index { IsIndex limit runs.new.starts.items index.new.items }
-    ensures room { (limit ≤ vec_capacity runs.new.starts) × (limit ≤ vec_capacity runs.new.cells) }
-    ensures cells { (cell : ℕ → ℕ) (this : ℕ) → HasCells limit runs.old.starts.items runs.old.cells.items cell this dir
-        → HasCells limit runs.new.starts.items runs.new.cells.items cell this this }
+    requires table { IsRunTable limit runs.old index.old.items }
+    ensures table { IsRunTable limit runs.new index.new.items }
+    ensures cells { (cell : ℕ → ℕ) (this : ℕ) → Hold limit runs.old cell this dir
+        → Hold limit runs.new cell this this }
 {
     let run = run_of(&runs.starts, dir);
     if runs.starts[run] == dir && run > 0 && runs.cells[run - 1] == runs.cells[run] {
@@ -199,58 +183,28 @@ pub(crate) fn run_end(starts: &[u32], limit: u32, run: usize) -> u32
     starts.get(run + 1).map_or(limit, |start| *start)
 }
 
-// The first directory of a run, which has another, goes to the run before.
-fn shift(starts: &mut Vec<u32>, index: &mut Vec<u32>, limit: u32, run: usize, dir: u32)
-    requires order { AreStarts starts.old.items }
-    requires index { IsIndex limit starts.old.items index.old.items }
-    requires some { 1 ≤ run }
-    requires first { slice_index starts.old.items run ≡ dir }
-    requires next { IsIn starts.old.items run (dir + 1) }
-    requires below { dir + 1 < limit }
-    ensures runs { (cells : List ℕ) → AreRuns limit starts.old.items cells → AreRuns limit starts.new.items cells }
-    ensures index { IsIndex limit starts.new.items index.new.items }
-    ensures room { vec_capacity starts.new ≡ vec_capacity starts.old }
-    ensures cells { (cells : List ℕ) (old : ℕ → ℕ) → HasCells limit starts.old.items cells old 0 0
-        → HasCells limit starts.new.items cells (λ d. if d == dir then slice_index cells (run - 1) else old d) 0 0 }
+// The border of two neighbouring runs moves by one directory, which has the cell of its new run then.
+fn move_border(runs: &mut Runs, index: &mut Vec<u32>, limit: u32, run: usize, start: u32, dir: u32)
+    requires table { IsRunTable limit runs.old index.old.items }
+    requires moves { IsMove limit runs.old.starts.items run start dir }
+    ensures table { IsRunTable limit runs.new index.new.items }
+    ensures cells { (old : ℕ → ℕ) → Hold limit runs.old old 0 0 → Hold limit runs.new
+        (λ d. if d == dir then slice_index runs.old.cells.items (run - (start - dir)) else old d) 0 0 }
 {
-    starts[run] = dir + 1;
+    runs.starts[run] = start;
     if dir as usize % BLOCK == 0 {
-        index[dir as usize / BLOCK] -= 1;
-    }
-}
-
-// The last directory of a run, which has another, goes to the run after.
-fn shift_back(starts: &mut Vec<u32>, index: &mut Vec<u32>, limit: u32, run: usize, dir: u32)
-    requires order { AreStarts starts.old.items }
-    requires index { IsIndex limit starts.old.items index.old.items }
-    requires there { run + 1 < length starts.old.items }
-    requires later { slice_index starts.old.items run < dir }
-    requires last { slice_index starts.old.items (run + 1) ≡ dir + 1 }
-    requires below { dir < limit }
-    ensures runs { (cells : List ℕ) → AreRuns limit starts.old.items cells → AreRuns limit starts.new.items cells }
-    ensures index { IsIndex limit starts.new.items index.new.items }
-    ensures room { vec_capacity starts.new ≡ vec_capacity starts.old }
-    ensures cells { (cells : List ℕ) (old : ℕ → ℕ) → HasCells limit starts.old.items cells old 0 0
-        → HasCells limit starts.new.items cells (λ d. if d == dir then slice_index cells (run + 1) else old d) 0 0 }
-{
-    starts[run + 1] = dir;
-    if dir as usize % BLOCK == 0 {
-        index[dir as usize / BLOCK] += 1;
+        index[dir as usize / BLOCK] = run as u32 - (start - dir);
     }
 }
 
 // Writes a directory's cell by way of a run that has only this directory.
 fn write_alone(runs: &mut Runs, index: &mut Vec<u32>, limit: u32, dir: u32, cell: u8)
-    requires runs { AreRuns limit runs.old.starts.items runs.old.cells.items }
-    requires index { IsIndex limit runs.old.starts.items index.old.items }
-    requires room { (limit ≤ vec_capacity runs.old.starts) × (limit ≤ vec_capacity runs.old.cells) }
+    requires table { IsRunTable limit runs.old index.old.items }
     requires inside { dir < limit }
     requires small { cell ≤ 64 }
-    ensures runs { AreRuns limit runs.new.starts.items runs.new.cells.items }
-    ensures index { IsIndex limit runs.new.starts.items index.new.items }
-    ensures room { (limit ≤ vec_capacity runs.new.starts) × (limit ≤ vec_capacity runs.new.cells) }
-    ensures cells { (old : ℕ → ℕ) → HasCells limit runs.old.starts.items runs.old.cells.items old 0 0
-        → HasCells limit runs.new.starts.items runs.new.cells.items (λ d. if d == dir then cell else old d) 0 0 }
+    ensures table { IsRunTable limit runs.new index.new.items }
+    ensures cells { (old : ℕ → ℕ) → Hold limit runs.old old 0 0
+        → Hold limit runs.new (λ d. if d == dir then cell else old d) 0 0 }
 {
     split(runs, index, limit, dir);
     split(runs, index, limit, dir + 1);
@@ -262,16 +216,12 @@ fn write_alone(runs: &mut Runs, index: &mut Vec<u32>, limit: u32, dir: u32, cell
 
 /// Writes a directory's cell.
 pub(crate) fn write(runs: &mut Runs, index: &mut Vec<u32>, limit: u32, dir: u32, cell: u8)
-    requires runs { AreRuns limit runs.old.starts.items runs.old.cells.items }
-    requires index { IsIndex limit runs.old.starts.items index.old.items }
-    requires room { (limit ≤ vec_capacity runs.old.starts) × (limit ≤ vec_capacity runs.old.cells) }
+    requires table { IsRunTable limit runs.old index.old.items }
     requires inside { dir < limit }
     requires small { cell ≤ 64 }
-    ensures runs { AreRuns limit runs.new.starts.items runs.new.cells.items }
-    ensures index { IsIndex limit runs.new.starts.items index.new.items }
-    ensures room { (limit ≤ vec_capacity runs.new.starts) × (limit ≤ vec_capacity runs.new.cells) }
-    ensures cells { (old : ℕ → ℕ) → HasCells limit runs.old.starts.items runs.old.cells.items old 0 0
-        → HasCells limit runs.new.starts.items runs.new.cells.items (λ d. if d == dir then cell else old d) 0 0 }
+    ensures table { IsRunTable limit runs.new index.new.items }
+    ensures cells { (old : ℕ → ℕ) → Hold limit runs.old old 0 0
+        → Hold limit runs.new (λ d. if d == dir then cell else old d) 0 0 }
 {
     let Runs { starts, cells } = runs;
     let run = indexed_run_of(starts, index, limit, dir);
@@ -283,13 +233,13 @@ pub(crate) fn write(runs: &mut Runs, index: &mut Vec<u32>, limit: u32, dir: u32,
         && cells[run - 1] == cell
         && dir + 1 < run_end(starts, limit, run)
     {
-        shift(starts, index, limit, run, dir);
+        move_border(runs, index, limit, run, dir + 1, dir);
     } else if starts[run] < dir
         && run + 1 < starts.len()
         && starts[run + 1] == dir + 1
         && cells[run + 1] == cell
     {
-        shift_back(starts, index, limit, run, dir);
+        move_border(runs, index, limit, run + 1, dir, dir);
     } else {
         write_alone(runs, index, limit, dir, cell);
     }

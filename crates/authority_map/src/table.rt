@@ -1,8 +1,8 @@
 //! One copy of the map: runs of neighbouring directories with the same rank, or with none.
-ghost use Rattle.std.specs.Prelude.{◌≡◌, ◌<◌, ◌≤◌, [], ◌∷◌, ◌++◌, All, IsTrue, ◌↔◌, IfOk, vec_capacity};
+ghost use Rattle.std.specs.Prelude.{◌≡◌, ◌<◌, ◌≤◌, [], ◌∷◌, ◌++◌, All, IsTrue, ◌↔◌, IfOk};
 ghost use Rattle.authority_map.specs.Operations.{rank_after};
 ghost use Rattle.authority_map.specs.Cells.{AreCells};
-ghost use Rattle.authority_map.specs.Runs.{IsIndex};
+ghost use Rattle.authority_map.specs.Runs.{IsRunTable, HasRunRoom};
 
 use crate::history::LogPrefix;
 use crate::operation::MapOperation;
@@ -23,10 +23,9 @@ pub struct Table<J: Naming> {
     // The run of each block's first directory.
     index: Vec<u32>,
     pub prefix: LogPrefix<J>,
-    ghost kept: { AreCells limit runs.starts.items runs.cells.items prefix },
-    ghost indexed: { IsIndex limit runs.starts.items index.items },
-    ghost room: { (limit ≤ vec_capacity runs.starts) × (limit ≤ vec_capacity runs.cells) },
-    ghost spared: { (limit ≤ vec_capacity spare.starts) × (limit ≤ vec_capacity spare.cells) },
+    ghost table: { IsRunTable limit runs index.items },
+    ghost kept: { AreCells limit runs prefix },
+    ghost spared: { HasRunRoom limit spare },
     ghost sized: { limit ≡ J.limit },
 }
 

@@ -14,15 +14,13 @@ in_first starts order = record { there = omega (arith, order.some); from = omega
 pub loop-place-init : goal.loop-place-init
 loop-place-init c =
     let dirs = c.args.dirs.now in
-    let runs = c.requires.runs in
+    let runs = c.requires.table.shape in
     let some : 0 < c.args.limit = omega (arith, runs.below 0 runs.order.some) in
     record {
       some = omega arith;
       within = some;
       listed = c.begin-next.ensures.listed;
-      runs = c.begin-next.ensures.runs;
-      room = c.begin-next.ensures.room;
-      before = c.begin-next.ensures.before;
+      made = c.begin-next.ensures.made;
       cells = λ old has. c.begin-next.ensures.cells (λ d. if names dirs d then c.args.cell else old d)
           (ap (λ (n : ℕ). (if names dirs 0 then c.args.cell else n)) (sym (get_or_read c.args.runs.now.cells.items 0 c.index.result.now (omega (arith, runs.sized, runs.order.some)) c.index.ensures 0 ∙ has.each 0 0 some (in_first c.args.runs.now.starts.items runs.order))));
     }
@@ -48,9 +46,7 @@ loop-place-preserved c =
       some = omega arith;
       within = omega (arith, here, below);
       listed = come_past dirs c.requires.rising l.place dir come c.loop-place-test.true (sym here);
-      runs = c.extend.ensures.runs;
-      room = c.extend.ensures.room;
-      before = c.extend.ensures.before;
+      made = c.extend.ensures.made;
       cells = λ old has. c.extend.ensures.cells (λ d. if names dirs d then c.args.cell else old d)
           (c.keep.ensures.cells old (λ d. if names dirs d then c.args.cell else old d) has (l.invariant.cells old has) (unlisted_cell dirs c.args.cell old l.place l.done dir l.invariant.listed come))
           (listed_cell dirs c.args.cell old l.place dir c.loop-place-test.true (sym here));
