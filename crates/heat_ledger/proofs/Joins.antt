@@ -6,7 +6,7 @@ use Rattle.heat_ledger.specs.declared.places.EntryCounts.{EntryCounts}
 use Rattle.heat_ledger.specs.declared.places.KeptCounts.{KeptCounts}
 use Rattle.heat_ledger.specs.Rows.{at, sums}
 use Rattle.heat_ledger.specs.Counts.{CountsData, AreAsLong, counts_of, with_more, both_counts, sum_counts}
-use Rattle.heat_ledger.specs.Placed.{AreKept, no_count, kept_at, column, data_of}
+use Rattle.heat_ledger.specs.Placed.{AreKeptCounts, no_count, kept_at, column, data_of}
 use Rattle.heat_ledger.specs.Touched.{IsTracked}
 use Rattle.heat_ledger.proofs.RowLemmas.{sum_row}
 use Rattle.heat_ledger.proofs.Marks.{tracked_apart, tracked_inside, tracked_others}
@@ -55,7 +55,7 @@ added_next places counts old others noted now j d x t h is inside amount to was 
     }
 
 -- where the counts of all entries with a place were added, all counts were
-pub all_added : (kept : KeptCounts) (new old others : CountsData) → AreKept kept → data_of kept ≡ others → AreAsLong old others → IsAdded new old others kept.entries.items (length kept.entries.items)
+pub all_added : (kept : KeptCounts) (new old others : CountsData) → AreKeptCounts kept → data_of kept ≡ others → AreAsLong old others → IsAdded new old others kept.entries.items (length kept.entries.items)
     → new ≡ sum_counts old others
 all_added kept new old others a view long added =
     same_data _ _ (row (λ v. v.hits) (λ c. c.hits) (λ v e. refl) added.long.hits long.hits (λ x y. refl) refl)
@@ -80,7 +80,7 @@ all_added kept new old others a view long added =
         sum_row (g new) (g old) (g others) (grown ∙ sym long) (sym long) (λ e. omega (arith, is new e, is old e, is others e, each f adds zero e (ℕ_discrete (f (counts_of new e)) (f (counts_of old e) + f (counts_of others e)))))
 
 -- an entry that has a place is below the limit
-pub placed_below : (kept : KeptCounts) (others : CountsData) (j d : ℕ) → AreKept kept → data_of kept ≡ others → j < length kept.entries.items → d ≡ at kept.entries.items j → (d < length others.hits) × (d < length others.pending) × (d < length others.begun)
+pub placed_below : (kept : KeptCounts) (others : CountsData) (j d : ℕ) → AreKeptCounts kept → data_of kept ≡ others → j < length kept.entries.items → d ≡ at kept.entries.items j → (d < length others.hits) × (d < length others.pending) × (d < length others.begun)
 placed_below kept others j d a view h is = subst (λ (v : CountsData). (d < length v.hits) × (d < length v.pending) × (d < length v.begun)) view (below (λ c. c.hits), below (λ c. c.pending), below (λ c. c.begun))
   where
     below : (f : EntryCounts → ℕ) → d < length (column f kept.limit kept.counts.items kept.places.items)

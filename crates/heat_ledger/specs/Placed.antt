@@ -44,7 +44,7 @@ pub record IsPlaced (kept : List EntryCounts) (places : List ℕ) : Type 0 where
   pub apart : (d e : ℕ) → d ≢ e → at places d ≡ at places e → at places d ≡ 0
 
 -- the counts are at places, those that have one are listed, and there is room for a place for each entry
-pub record AreKept (kept : KeptCounts) : Type 0 where
+pub record AreKeptCounts (kept : KeptCounts) : Type 0 where
   pub counts : IsPlaced kept.counts.items kept.places.items
   pub entries : IsTracked kept.places.items kept.entries.items
   pub small : kept.limit < 2 ^ 32

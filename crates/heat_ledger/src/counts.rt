@@ -4,7 +4,7 @@
 //! the entries that were counted, and not for all that there could be.
 ghost use Rattle.std.specs.Prelude.{◌≡◌, ℕ, ◌+◌, ◌^◌, ◌<◌, ◌≤◌, IfOk, List, length, map, vec_capacity, vec_len};
 ghost use Rattle.heat_ledger.specs.Rows.{at, raised_by, dir_row, IsZero};
-ghost use Rattle.heat_ledger.specs.Placed.{AreKept, data_of};
+ghost use Rattle.heat_ledger.specs.Placed.{AreKeptCounts, data_of};
 ghost use Rattle.heat_ledger.specs.Touched.{IsTracked, pair_sums};
 
 use crate::dir_hits::{DirHits, entry_of};
@@ -24,14 +24,14 @@ pub(crate) struct Counts {
 impl Model for Counts {
     ghost use Rattle.std.specs.Prelude.{◌≤◌, vec_capacity};
     ghost use Rattle.heat_ledger.specs.Counts.{CountsData};
-    ghost use Rattle.heat_ledger.specs.Placed.{AreKept, data_of};
+    ghost use Rattle.heat_ledger.specs.Placed.{AreKeptCounts, data_of};
     ghost use Rattle.heat_ledger.specs.Touched.{IsTracked};
 
     ghost Value = { CountsData };
 
     ghost view = { λ counts. data_of counts.kept };
 
-    ghost invariant = { λ counts. AreKept counts.kept
+    ghost invariant = { λ counts. AreKeptCounts counts.kept
         × IsTracked (data_of counts.kept).pending counts.unsettled.items
         × (counts.kept.limit ≤ vec_capacity counts.unsettled) };
 }
@@ -166,11 +166,11 @@ fn note(noted: &mut Vec<u32>, entry: u32, count: u64, more: u64)
 
 // Moves the pending hits of the entries that have some.
 fn move_all(into: &mut Vec<u64>, kept: &mut KeptCounts, touched: &Vec<u32>)
-    requires kept { AreKept kept.old }
+    requires kept { AreKeptCounts kept.old }
     requires length { kept.old.limit ≤ length into.old.items }
     requires fits { (e : ℕ) → at into.old.items e + at (data_of kept.old).pending e < 2 ^ 64 }
     requires tracked { IsTracked (data_of kept.old).pending touched.now.items }
-    ensures kept { AreKept kept.new }
+    ensures kept { AreKeptCounts kept.new }
     ensures limit { kept.new.limit ≡ kept.old.limit }
     ensures sums { (e : ℕ) → at into.new.items e ≡ at into.old.items e + at (data_of kept.old).pending e }
     ensures zero { IsZero (data_of kept.new).pending }

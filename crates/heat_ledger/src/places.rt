@@ -62,11 +62,11 @@ impl KeptCounts {
     ghost use Rattle.std.specs.Prelude.{◌≡◌, ℕ, ◌≤◌, ◌<◌, IfOk, length, slice_set};
     ghost use Rattle.heat_ledger.specs.Rows.{at};
     ghost use Rattle.heat_ledger.specs.Counts.{DoFit, counts_of, no_counts, with_more};
-    ghost use Rattle.heat_ledger.specs.Placed.{AreKept, AreSameCounts, data_of};
+    ghost use Rattle.heat_ledger.specs.Placed.{AreKeptCounts, AreSameCounts, data_of};
 
     /// Nothing is counted, and there is room for the counts of `limit` entries.
     pub(crate) fn new(alloc: Global, limit: u32) -> Result<KeptCounts, AllocError>
-        ensures kept { IfOk result (λ kept. AreKept kept) }
+        ensures kept { IfOk result (λ kept. AreKeptCounts kept) }
         ensures limit { IfOk result (λ kept. kept.limit ≡ limit) }
         ensures none { IfOk result (λ kept. data_of kept ≡ no_counts limit) }
     {
@@ -88,7 +88,7 @@ impl KeptCounts {
 
     /// What is counted of an entry.
     pub(crate) fn of(&self, entry: usize) -> EntryCounts
-        requires { AreKept self.now }
+        requires { AreKeptCounts self.now }
         ensures { result ≡ counts_of (data_of self.now) entry }
     {
         let place = self.places.get(entry).copied().unwrap_or(0);
@@ -97,8 +97,8 @@ impl KeptCounts {
 
     /// Takes the pending hits of an entry, which has none then.
     pub(crate) fn take_pending(&mut self, entry: u32) -> u64
-        requires { AreKept self.old }
-        ensures kept { AreKept self.new }
+        requires { AreKeptCounts self.old }
+        ensures kept { AreKeptCounts self.new }
         ensures limit { self.new.limit ≡ self.old.limit }
         ensures count { result ≡ at (data_of self.old).pending entry }
         ensures taken { data_of self.new
@@ -114,9 +114,9 @@ impl KeptCounts {
 
     // Gives an entry a place, where it has none.
     fn give_place(&mut self, entry: u32)
-        requires kept { AreKept self.old }
+        requires kept { AreKeptCounts self.old }
         requires inside { entry < length self.old.places.items }
-        ensures kept { AreKept self.new }
+        ensures kept { AreKeptCounts self.new }
         ensures limit { self.new.limit ≡ self.old.limit }
         ensures some { 1 ≤ at self.new.places.items entry }
         ensures length { length self.new.places.items ≡ length self.old.places.items }
@@ -135,9 +135,9 @@ impl KeptCounts {
 
     // An entry's place, which it gets if it has none.
     fn place_of(&mut self, entry: u32) -> usize
-        requires kept { AreKept self.old }
+        requires kept { AreKeptCounts self.old }
         requires inside { entry < self.old.limit }
-        ensures kept { AreKept self.new }
+        ensures kept { AreKeptCounts self.new }
         ensures limit { self.new.limit ≡ self.old.limit }
         ensures place { (1 ≤ result) × (result ≡ at self.new.places.items entry) }
         ensures same { AreSameCounts self.old self.new }
@@ -149,10 +149,10 @@ impl KeptCounts {
 
     /// Adds these counts of an entry, and returns those that it had.
     pub(crate) fn add(&mut self, entry: u32, more: EntryCounts) -> EntryCounts
-        requires kept { AreKept self.old }
+        requires kept { AreKeptCounts self.old }
         requires inside { entry < self.old.limit }
         requires fits { DoFit (counts_of (data_of self.old) entry) more }
-        ensures kept { AreKept self.new }
+        ensures kept { AreKeptCounts self.new }
         ensures limit { self.new.limit ≡ self.old.limit }
         ensures had { result ≡ counts_of (data_of self.old) entry }
         ensures added { data_of self.new ≡ with_more (data_of self.old) entry more }

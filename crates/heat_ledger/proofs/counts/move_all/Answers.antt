@@ -4,7 +4,7 @@ use Rattle.heat_ledger.specs.Rows.{at}
 use Rattle.heat_ledger.specs.Counts.{CountsData}
 use Rattle.heat_ledger.specs.declared.places.KeptCounts.{KeptCounts}
 use Rattle.heat_ledger.specs.declared.places.EntryCounts.{EntryCounts}
-use Rattle.heat_ledger.specs.Placed.{AreKept, data_of}
+use Rattle.heat_ledger.specs.Placed.{AreKeptCounts, data_of}
 use Rattle.heat_ledger.specs.Touched.{IsTracked}
 use Rattle.heat_ledger.proofs.RowLemmas.{at_within, moved_entry, emptied_entry, emptied_next}
 use Rattle.heat_ledger.proofs.Marks.{tracked_inside, settled}
@@ -12,7 +12,7 @@ use Rattle.heat_ledger.proofs.Placing.{length_column}
 use Rattle.heat_ledger.proofs.counts.move_all.Goals as goal
 
 -- a noted entry is below the limit
-below : (kept : KeptCounts) (noted : List ℕ) (j d : ℕ) → AreKept kept → IsTracked (data_of kept).pending noted → j < length noted → d ≡ at noted j → d < kept.limit
+below : (kept : KeptCounts) (noted : List ℕ) (j d : ℕ) → AreKeptCounts kept → IsTracked (data_of kept).pending noted → j < length noted → d ≡ at noted j → d < kept.limit
 below kept noted j d a t inside found = omega (arith, found, tracked_inside (data_of kept).pending noted j t inside, length_column (λ (x : EntryCounts). x.pending) kept.limit kept.counts.items kept.places.items a.few)
 
 pub index_mut-requires : goal.index_mut-requires
