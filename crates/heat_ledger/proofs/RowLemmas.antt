@@ -1,19 +1,14 @@
 -- Entries of rows.
 use Rattle.std.proofs.Common.{◌≡◌, ◌≢◌, ℕ, zero, suc, ◌+◌, ◌-◌, ◌<◌, ◌≤◌, List, [], ◌∷◌, set, length, replicate, refl, sym, ap, ◌∙◌, arith, length-set, get_or}
+use Rattle.std.proofs.lemmas.List.{get_or-set_same, get_or-set_other, get_or_past, set-get_or, length-replicate}
 use native.Mathlib.Decide.{ℕ_discrete}
 use Rattle.heat_ledger.specs.Rows.{at, sums, differences, raised, raised_by, evens, IsZero}
 
 pub at_set_same : (xs : List ℕ) (d y : ℕ) → d < length xs → at (set xs d y) d ≡ y
-at_set_same [] d y h = absurd (omega arith)
-at_set_same (x ∷ xs) zero y h = refl
-at_set_same (x ∷ xs) (suc d) y h = at_set_same xs d y (omega arith)
+at_set_same xs d y h = get_or-set_same xs d y 0 h
 
 pub at_set_other : (xs : List ℕ) (d y k : ℕ) → k ≢ d → at (set xs d y) k ≡ at xs k
-at_set_other [] d y k n = refl
-at_set_other (x ∷ xs) zero y zero n = absurd (n refl)
-at_set_other (x ∷ xs) zero y (suc k) n = refl
-at_set_other (x ∷ xs) (suc d) y zero n = refl
-at_set_other (x ∷ xs) (suc d) y (suc k) n = at_set_other xs d y k (λ e. n (ap suc e))
+at_set_other xs d y k n = get_or-set_other xs d k y 0 n
 
 pub at_raised_same : (xs : List ℕ) (d : ℕ) → d < length xs → at (raised xs d) d ≡ at xs d + 1
 at_raised_same xs d h = at_set_same xs d (at xs d + 1) h
@@ -24,19 +19,12 @@ at_raised_other xs d k n = at_set_other xs d (at xs d + 1) k n
 pub length-raised : (xs : List ℕ) (d : ℕ) → length (raised xs d) ≡ length xs
 length-raised xs d = length-set xs d (at xs d + 1)
 
-pub length-raised_by : (xs : List ℕ) (d n : ℕ) → length (raised_by xs d n) ≡ length xs
-length-raised_by xs d n = length-set xs d (at xs d + n)
-
 -- none more changes nothing
 pub raised_by_none : (xs : List ℕ) (d : ℕ) → raised_by xs d 0 ≡ xs
-raised_by_none [] d = refl
-raised_by_none (x ∷ xs) zero = let e : x + 0 ≡ x = omega arith in cc
-raised_by_none (x ∷ xs) (suc d) = ap (λ (ys : List ℕ). x ∷ ys) (raised_by_none xs d)
+raised_by_none xs d = let e : at xs d + 0 ≡ at xs d = omega arith in ap (set xs d) e ∙ set-get_or xs d 0
 
 pub at_past : (xs : List ℕ) (k : ℕ) → length xs ≤ k → at xs k ≡ 0
-at_past [] k h = refl
-at_past (x ∷ xs) zero h = absurd (omega arith)
-at_past (x ∷ xs) (suc k) h = at_past xs k (omega arith)
+at_past xs k h = get_or_past xs k 0 h
 
 -- another default reads the same entry
 pub at_within : (xs : List ℕ) (k d : ℕ) → k < length xs → get_or xs k d ≡ at xs k
@@ -75,10 +63,6 @@ pub at_replicate : (n k : ℕ) → at (replicate n 0) k ≡ 0
 at_replicate zero k = refl
 at_replicate (suc n) zero = refl
 at_replicate (suc n) (suc k) = at_replicate n k
-
-pub length-replicate : (n x : ℕ) → length (replicate n x) ≡ n
-length-replicate zero x = refl
-length-replicate (suc n) x = ap suc (length-replicate n x)
 
 pub zero_row : (xs : List ℕ) (n : ℕ) → length xs ≡ n → IsZero xs → xs ≡ replicate n 0
 zero_row xs n e zeros = same_rows xs (replicate n 0) (e ∙ sym (length-replicate n 0)) (λ k. zeros k ∙ sym (at_replicate n k))

@@ -7,7 +7,8 @@ use Rattle.heat_ledger.specs.Rows.{at, sums, raised, evens}
 use Rattle.heat_ledger.specs.Tally.{most, both_of, share_state, IsLearned}
 use Rattle.heat_ledger.specs.Ledger.{ShareData, hit_slot, begun_slot, spread, unit, IsShare}
 use Rattle.heat_ledger.specs.Opening.{fresh_share}
-use Rattle.heat_ledger.proofs.RowLemmas.{at_sums, at_raised_same, at_raised_other, at_replicate, length-raised, length-sums, length-replicate, evens_raised, evens_sums, evens_zeros}
+use Rattle.heat_ledger.proofs.RowLemmas.{at_sums, at_raised_same, at_raised_other, at_replicate, length-raised, length-sums, evens_raised, evens_sums, evens_zeros}
+use Rattle.std.proofs.lemmas.List.{length-replicate}
 use Rattle.heat_ledger.proofs.Slots.{at_spread_hits, at_spread_begun, at_unit_same, at_unit_other}
 
 -- what a share shows of its counts, which has those of begun requests by directory
