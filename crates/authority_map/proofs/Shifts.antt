@@ -138,16 +138,3 @@ move_on limit starts run dir order some first next below = record {
   least = omega arith;
   most = omega arith;
 }
-
--- the last directory of a run, which has another, goes to the next run
-pub move_back : (limit : ℕ) (starts : List ℕ) (run dir : ℕ) → AreStarts starts → run + 1 < length starts → get_or starts run 0 < dir → get_or starts (run + 1) 0 ≡ dir + 1 → dir < limit → IsMove limit starts (run + 1) dir dir
-move_back limit starts run dir order there later last below = record {
-  some = omega arith;
-  there = there;
-  after = (let e : run + 1 - 1 ≡ run = omega arith in omega (arith, later, ap (λ (k : ℕ). get_or starts k 0) e));
-  before = λ h. omega (arith, order.rising (run + 1) h, last);
-  below = below;
-  both = omega (arith, last);
-  least = omega arith;
-  most = omega arith;
-}
