@@ -89,107 +89,85 @@ drop_pass old new own n is s =
     (here_above (new n) (first_of (new n) (old n)) n n refl ∙ (is ∙ sym (here_below (new n) (first_of (new n) (old n)) n n refl)))
     (λ j other. sym (same_side (new j) (first_of (new j) (old j)) j n other)) s
 
--- at each moment the pins are set from some row on; in the end from row 0 on
-pub sets_so_far : (rows : List PinRow) (holds : List Hold) (old new own : ℕ → Option ℕ) (n k : ℕ) → AreStates rows holds old new → AreSame own (while_set old new n) → (at : ℕ) × AreSame (applied own (take k (sets_below rows holds n))) (while_set old new at)
-sets_so_far rows holds old new own zero k states s = sets_none k
+-- the pins at some moment, while new ones are set or old ones are taken away
+abbrev IsMoment : (ℕ → Option ℕ) → (ℕ → Option ℕ) → (ℕ → Option ℕ) → Type 0
+IsMoment old new own = (at : ℕ) × (AreSame own (while_set old new at) ⊎ AreSame own (while_unset old new at))
+
+-- the changes lead to these pins in the end, by way of such moments
+record IsWay (old new own : ℕ → Option ℕ) (changes : List PinChange) (last : ℕ → Option ℕ) : Type 0 where
+  moments : (k : ℕ) → IsMoment old new (applied own (take k changes))
+  ends : AreSame (applied own changes) last
+
+way_none : (old new own last : ℕ → Option ℕ) → IsMoment old new own → AreSame own last → IsWay old new own [] last
+way_none old new own last now s = record { moments = stay; ends = s }
   where
-    sets_none : (k : ℕ) → (at : ℕ) × AreSame (applied own (take k [])) (while_set old new at)
-    sets_none zero = (0, s)
-    sets_none (suc k) = (0, s)
-sets_so_far rows holds old new own (suc n) k states s =
+    stay : (k : ℕ) → IsMoment old new (applied own (take k []))
+    stay zero = now
+    stay (suc k) = now
+
+way_more : (old new own last : ℕ → Option ℕ) (c : PinChange) (changes : List PinChange) → IsMoment old new own → IsWay old new (changed own c) changes last → IsWay old new own (c ∷ changes) last
+way_more old new own last c changes now way = record { moments = stay; ends = way.ends }
+  where
+    stay : (k : ℕ) → IsMoment old new (applied own (take k (c ∷ changes)))
+    stay zero = now
+    stay (suc k) = way.moments k
+
+way_on : (old new own mid last : ℕ → Option ℕ) (xs ys : List PinChange) → IsWay old new own xs mid → ((after : ℕ → Option ℕ) → AreSame after mid → IsWay old new after ys last)
+    → IsWay old new own (xs ++ ys) last
+way_on old new own mid last [] ys way rest = rest own way.ends
+way_on old new own mid last (x ∷ xs) ys way rest =
+    way_more old new own last x (xs ++ ys) (way.moments 0)
+    (way_on old new (changed own x) mid last xs ys (record { moments = λ k. way.moments (suc k); ends = way.ends }) rest)
+
+-- the pins are set from some row on, in the end from row 0 on
+sets_way : (rows : List PinRow) (holds : List Hold) (old new own : ℕ → Option ℕ) (n : ℕ) → AreStates rows holds old new → AreSame own (while_set old new n)
+    → IsWay old new own (sets_below rows holds n) (while_set old new 0)
+sets_way rows holds old new own zero states s = way_none old new own (while_set old new 0) (0, inl s) s
+sets_way rows holds old new own (suc n) states s =
     ⊎_elim (λ (is : is_set (row_at rows n) (hold_at holds n) ≡ true).
     let c : PinChange = record { row = n; pin = Some (target_at rows n) } in
     let next : AreSame (changed own c) (while_set old new n) = set_step old new own n c refl (sym (ap (λ (o : Option ℕ). first_of o (old n)) (states.set n is))) s in
-    rw is (taken k c next (λ m. sets_so_far rows holds old new (changed own c) n m states next)))
+    rw is (way_more old new own (while_set old new 0) c (sets_below rows holds n) (suc n, inl s) (sets_way rows holds old new (changed own c) n states next)))
     (λ (is : is_set (row_at rows n) (hold_at holds n) ≡ false).
-    rw is (sets_so_far rows holds old new own n k states (set_pass old new own n (states.not_set n is) s)))
-    (cases_Bool (is_set (row_at rows n) (hold_at holds n)))
-  where
-    taken : (k : ℕ) (c : PinChange) → AreSame (changed own c) (while_set old new n) → ((m : ℕ) → (at : ℕ) × AreSame (applied (changed own c) (take m (sets_below rows holds n))) (while_set old new at)) → (at : ℕ) × AreSame (applied own (take k (c ∷ sets_below rows holds n))) (while_set old new at)
-    taken zero c next rest = (suc n, s)
-    taken (suc k) c next rest = rest k
-
-pub sets_all : (rows : List PinRow) (holds : List Hold) (old new own : ℕ → Option ℕ) (n : ℕ) → AreStates rows holds old new → AreSame own (while_set old new n) → AreSame (applied own (sets_below rows holds n)) (while_set old new 0)
-sets_all rows holds old new own zero states s = s
-sets_all rows holds old new own (suc n) states s =
-    ⊎_elim (λ (is : is_set (row_at rows n) (hold_at holds n) ≡ true).
-    let c : PinChange = record { row = n; pin = Some (target_at rows n) } in
-    let next : AreSame (changed own c) (while_set old new n) = set_step old new own n c refl (sym (ap (λ (o : Option ℕ). first_of o (old n)) (states.set n is))) s in
-    rw is (sets_all rows holds old new (changed own c) n states next))
-    (λ (is : is_set (row_at rows n) (hold_at holds n) ≡ false).
-    rw is (sets_all rows holds old new own n states (set_pass old new own n (states.not_set n is) s)))
+    rw is (sets_way rows holds old new own n states (set_pass old new own n (states.not_set n is) s)))
     (cases_Bool (is_set (row_at rows n) (hold_at holds n)))
 
-pub drops_so_far : (rows : List PinRow) (holds : List Hold) (old new own : ℕ → Option ℕ) (n m k : ℕ) → AreStates rows holds old new → AreSame own (while_unset old new m) → (at : ℕ) × AreSame (applied own (take k (drops_from rows holds n m))) (while_unset old new at)
-drops_so_far rows holds old new own zero m k states s = drops_none k
-  where
-    drops_none : (k : ℕ) → (at : ℕ) × AreSame (applied own (take k [])) (while_unset old new at)
-    drops_none zero = (m, s)
-    drops_none (suc k) = (m, s)
-drops_so_far rows holds old new own (suc n) m k states s =
-    ⊎_elim (λ (is : is_dropped (row_at rows m) (hold_at holds m) ≡ true).
-    let c : PinChange = record { row = m; pin = None } in
-    let next : AreSame (changed own c) (while_unset old new (suc m)) = drop_step old new own m c refl (sym (states.dropped m is)) s in
-    rw is (taken k c next (λ j. drops_so_far rows holds old new (changed own c) n (suc m) j states next)))
-    (λ (is : is_dropped (row_at rows m) (hold_at holds m) ≡ false).
-    rw is (drops_so_far rows holds old new own n (suc m) k states (drop_pass old new own m (states.not_dropped m is) s)))
-    (cases_Bool (is_dropped (row_at rows m) (hold_at holds m)))
-  where
-    taken : (k : ℕ) (c : PinChange) → AreSame (changed own c) (while_unset old new (suc m)) → ((j : ℕ) → (at : ℕ) × AreSame (applied (changed own c) (take j (drops_from rows holds n (suc m)))) (while_unset old new at)) → (at : ℕ) × AreSame (applied own (take k (c ∷ drops_from rows holds n (suc m)))) (while_unset old new at)
-    taken zero c next rest = (m, s)
-    taken (suc k) c next rest = rest k
-
-pub drops_all : (rows : List PinRow) (holds : List Hold) (old new own : ℕ → Option ℕ) (n m : ℕ) → AreStates rows holds old new → AreSame own (while_unset old new m) → AreSame (applied own (drops_from rows holds n m)) (while_unset old new (m + n))
-drops_all rows holds old new own zero m states s = subst (λ (k : ℕ). AreSame own (while_unset old new k)) (let same : m ≡ m + 0 = omega arith in same) s
-drops_all rows holds old new own (suc n) m states s =
+-- they are taken away up to some row, in the end at all
+drops_way : (rows : List PinRow) (holds : List Hold) (old new own : ℕ → Option ℕ) (n m : ℕ) → AreStates rows holds old new → AreSame own (while_unset old new m)
+    → IsWay old new own (drops_from rows holds n m) (while_unset old new (m + n))
+drops_way rows holds old new own zero m states s =
+    way_none old new own (while_unset old new (m + 0)) (m, inr s) (subst (λ (k : ℕ). AreSame own (while_unset old new k)) (let same : m ≡ m + 0 = omega arith in same) s)
+drops_way rows holds old new own (suc n) m states s =
     let far : suc m + n ≡ m + suc n = omega arith in
-    subst (λ (k : ℕ). AreSame (applied own (drops_from rows holds (suc n) m)) (while_unset old new k)) far
+    subst (λ (k : ℕ). IsWay old new own (drops_from rows holds (suc n) m) (while_unset old new k)) far
     (⊎_elim (λ (is : is_dropped (row_at rows m) (hold_at holds m) ≡ true).
     let c : PinChange = record { row = m; pin = None } in
     let next : AreSame (changed own c) (while_unset old new (suc m)) = drop_step old new own m c refl (sym (states.dropped m is)) s in
-    rw is (drops_all rows holds old new (changed own c) n (suc m) states next))
+    rw is (way_more old new own (while_unset old new (suc m + n)) c (drops_from rows holds n (suc m)) (m, inr s) (drops_way rows holds old new (changed own c) n (suc m) states next)))
     (λ (is : is_dropped (row_at rows m) (hold_at holds m) ≡ false).
-    rw is (drops_all rows holds old new own n (suc m) states (drop_pass old new own m (states.not_dropped m is) s)))
+    rw is (drops_way rows holds old new own n (suc m) states (drop_pass old new own m (states.not_dropped m is) s)))
     (cases_Bool (is_dropped (row_at rows m) (hold_at holds m))))
-
-applied-append : (own : ℕ → Option ℕ) (xs ys : List PinChange) → applied own (xs ++ ys) ≡ applied (applied own xs) ys
-applied-append own [] ys = refl
-applied-append own (x ∷ xs) ys = applied-append (changed own x) xs ys
-
--- a front of two lists is one of the first, or the first and a front of the second
-take_two : (k : ℕ) (xs ys : List PinChange) → (take k (xs ++ ys) ≡ take k xs) ⊎ ((m : ℕ) × (take k (xs ++ ys) ≡ xs ++ take m ys))
-take_two zero xs ys = inl refl
-take_two (suc k) [] ys = inr (suc k, refl)
-take_two (suc k) (x ∷ xs) ys = elim (take_two k xs ys) [
-  | inl is ↦ inl (ap (λ (zs : List PinChange). x ∷ zs) is)
-  | inr is ↦ inr (is.0, ap (λ (zs : List PinChange). x ∷ zs) is.1)
-]
 
 zero_side : (a b c : Option ℕ) (j : ℕ) → cond (nat_lt j 0) a c ≡ cond (nat_lt j 0) b c
 zero_side a b c j = rw (le-ltb j 0 (omega arith)) refl
 
 -- the theorem on the whole list
+whole : (rows : List PinRow) (holds : List Hold) (old new : ℕ → Option ℕ) → AreStates rows holds old new → AreSame old (while_set old new (length rows))
+    → IsWay old new old (sets_below rows holds (length rows) ++ drops_from rows holds (length rows) 0) (while_unset old new (0 + length rows))
+whole rows holds old new states start =
+    way_on old new old (while_set old new 0) (while_unset old new (0 + length rows)) (sets_below rows holds (length rows)) (drops_from rows holds (length rows) 0)
+    (sets_way rows holds old new old (length rows) states start)
+    (λ after s. drops_way rows holds old new after (length rows) 0 states (record { same = λ j. s.same j ∙ zero_side (old j) (new j) (first_of (new j) (old j)) j }))
+
 pub once : (rows : List PinRow) (holds : List Hold) (old new : ℕ → Option ℕ) (k i r : ℕ) → AreRows rows → AreStates rows holds old new → AreSame old (while_set old new (length rows)) → i < length rows
     → IsAt rows (applied old (take k (sets_below rows holds (length rows) ++ drops_from rows holds (length rows) 0))) i r
     → IsAt rows old i r ⊎ IsAt rows new i r
 once rows holds old new k i r are states start l near =
-    elim (take_two k (sets_below rows holds (length rows)) (drops_from rows holds (length rows) 0)) [
-      | inl is ↦
-          let far = sets_so_far rows holds old new old (length rows) k states start in
-          set_at rows old new far.0 i r are l
-          (same_at rows (applied old (take k (sets_below rows holds (length rows)))) (while_set old new far.0) i r far.1
-          (subst (λ (cs : List PinChange). IsAt rows (applied old cs) i r) is near))
-      | inr is ↦
-          let all : AreSame (applied old (sets_below rows holds (length rows))) (while_unset old new 0) = record { same = λ j. (sets_all rows holds old new old (length rows) states start).same j ∙ zero_side (old j) (new j) (first_of (new j) (old j)) j } in
-          let far = drops_so_far rows holds old new (applied old (sets_below rows holds (length rows))) (length rows) 0 is.0 states all in
-          unset_at rows old new far.0 i r are l
-          (same_at rows (applied (applied old (sets_below rows holds (length rows))) (take is.0 (drops_from rows holds (length rows) 0))) (while_unset old new far.0) i r far.1
-          (subst (λ (own : ℕ → Option ℕ). IsAt rows own i r) (applied-append old (sets_below rows holds (length rows)) (take is.0 (drops_from rows holds (length rows) 0)))
-          (subst (λ (cs : List PinChange). IsAt rows (applied old cs) i r) is.1 near)))
+    let moment : IsMoment old new (applied old (take k (sets_below rows holds (length rows) ++ drops_from rows holds (length rows) 0))) = (whole rows holds old new states start).moments k in
+    elim moment.1 [
+      | inl set ↦ set_at rows old new moment.0 i r are l (same_at rows _ (while_set old new moment.0) i r set near)
+      | inr unset ↦ unset_at rows old new moment.0 i r are l (same_at rows _ (while_unset old new moment.0) i r unset near)
     ]
 
 pub ends : (rows : List PinRow) (holds : List Hold) (old new : ℕ → Option ℕ) → AreStates rows holds old new → AreSame old (while_set old new (length rows)) → AreSame (applied old (sets_below rows holds (length rows) ++ drops_from rows holds (length rows) 0)) (while_unset old new (0 + length rows))
-ends rows holds old new states start =
-    let all : AreSame (applied old (sets_below rows holds (length rows))) (while_unset old new 0) = record { same = λ j. (sets_all rows holds old new old (length rows) states start).same j ∙ zero_side (old j) (new j) (first_of (new j) (old j)) j } in
-    subst (λ (own : ℕ → Option ℕ). AreSame own (while_unset old new (0 + length rows))) (sym (applied-append old (sets_below rows holds (length rows)) (drops_from rows holds (length rows) 0)))
-    (drops_all rows holds old new (applied old (sets_below rows holds (length rows))) (length rows) 0 states all)
+ends rows holds old new states start = (whole rows holds old new states start).ends
