@@ -2,8 +2,8 @@
 
 use crate::same::{holds_in, same};
 use ceph_dumps::{DumpError, read_listing, read_loads, read_subtrees};
-use ceph_plan::{OwnPins, PartCount, PlanError, Proposal, Wanted, propose};
 use ceph_folding::fold;
+use ceph_plan::{OwnPins, PartCount, PlanError, Proposal, Wanted, propose};
 use ceph_snapshot::{
     Directory, Gathering, Held, Snapshot, SnapshotError, held_heat, holds, rows_of,
 };
