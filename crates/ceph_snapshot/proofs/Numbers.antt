@@ -14,7 +14,7 @@ use Rattle.ceph_snapshot.specs.declared.tree.Node.{Node}
 use Rattle.ceph_snapshot.specs.declared.tree.Sighting.{Sighting}
 use Rattle.ceph_snapshot.specs.Authority.{is_user_path, node_path_at}
 use Rattle.ceph_snapshot.specs.Names.{path_number}
-use Rattle.ceph_snapshot.specs.Sightings.{AreCold, HaveOwnPaths, IsAt, IsNumbered, PathHeat, Told, of_fragment, seen_in, told, told_at, with_path}
+use Rattle.ceph_snapshot.specs.Sightings.{AreCold, HaveOwnPaths, IsNumberOf, IsNumbered, PathHeat, Account, of_fragment, seen_in, account_of, account_at, with_path}
 use Rattle.ceph_snapshot.proofs.Placing.{set-same}
 
 get_more : {X : Type 0} (xs : List X) (x : X) (i : ℕ) → i < length xs → slice_get (xs ++ x ∷ []) i ≡ slice_get xs i
@@ -26,30 +26,30 @@ get_end : {X : Type 0} (xs : List X) (x : X) → slice_get (xs ++ x ∷ []) (len
 get_end [] x = refl
 get_end (y ∷ ys) x = get_end ys x
 
-inside_of : (nodes : List Node) (i : ℕ) (t : Told) → told_at nodes i ≡ Some t → i < length nodes
+inside_of : (nodes : List Node) (i : ℕ) (t : Account) → account_at nodes i ≡ Some t → i < length nodes
 inside_of nodes i t is =
     ⊎_elim (λ (l : i < length nodes). l)
-    (λ (past : length nodes ≤ i). absurd (none-some t (sym (ap (option_map (λ (n : Node). told n.directory)) (slice_get_past nodes i past)) ∙ is)))
+    (λ (past : length nodes ≤ i). absurd (none-some t (sym (ap (option_map (λ (n : Node). account_of n.directory)) (slice_get_past nodes i past)) ∙ is)))
     (cases_lt i (length nodes))
 
 -- the path of a directory by what is told of it
-path_of : (o : Option Node) → option_map_or (λ (n : Node). n.directory.path.items) o [] ≡ option_map_or (λ (t : Told). t.0) (option_map (λ (n : Node). told n.directory) o) []
+path_of : (o : Option Node) → option_map_or (λ (n : Node). n.directory.path.items) o [] ≡ option_map_or (λ (t : Account). t.0) (option_map (λ (n : Node). account_of n.directory) o) []
 path_of None = refl
 path_of (Some n) = refl
 
-pub path_told : (nodes : List Node) (i : ℕ) (t : Told) → told_at nodes i ≡ Some t → node_path_at nodes i ≡ t.0
-path_told nodes i t is = path_of (slice_get nodes i) ∙ ap (λ (o : Option Told). option_map_or (λ (one : Told). one.0) o []) is
+pub path_account : (nodes : List Node) (i : ℕ) (t : Account) → account_at nodes i ≡ Some t → node_path_at nodes i ≡ t.0
+path_account nodes i t is = path_of (slice_get nodes i) ∙ ap (λ (o : Option Account). option_map_or (λ (one : Account). one.0) o []) is
 
-pub seen_same : (old new : List Node) (ss : List Sighting) → ((i : ℕ) → i < length old → told_at new i ≡ told_at old i) → All (λ (s : Sighting). s.directory < length old) ss
+pub seen_same : (old new : List Node) (ss : List Sighting) → ((i : ℕ) → i < length old → account_at new i ≡ account_at old i) → All (λ (s : Sighting). s.directory < length old) ss
     → map (with_path new) ss ≡ map (with_path old) ss
 seen_same old new [] same inside = refl
 seen_same old new (s ∷ ss) same inside =
     let path : node_path_at new s.directory ≡ node_path_at old s.directory =
-    path_of (slice_get new s.directory) ∙ (ap (λ (o : Option Told). option_map_or (λ (t : Told). t.0) o []) (same s.directory (inside 0 s (omega arith))) ∙ sym (path_of (slice_get old s.directory))) in
+    path_of (slice_get new s.directory) ∙ (ap (λ (o : Option Account). option_map_or (λ (t : Account). t.0) o []) (same s.directory (inside 0 s (omega arith))) ∙ sym (path_of (slice_get old s.directory))) in
     ap (λ (p : List ℕ). record { path = p; rank = s.rank; heat = s.heat; writes = s.writes; inode = s.inode } ∷ map (with_path new) ss) path
     ∙ ap (λ (hs : List PathHeat). with_path old s ∷ hs) (seen_same old new ss same (λ k d l. inside (suc k) d (omega (arith, l))))
 
-numbered_same : (names : Names) (old new : List Node) (ss : List Sighting) → length new ≡ length old → ((i : ℕ) → told_at new i ≡ told_at old i)
+numbered_same : (names : Names) (old new : List Node) (ss : List Sighting) → length new ≡ length old → ((i : ℕ) → account_at new i ≡ account_at old i)
     → IsNumbered names old ss → IsNumbered names new ss
 numbered_same names old new ss size same was = record {
   named = λ path i is. same i ∙ was.named path i is;
@@ -57,30 +57,30 @@ numbered_same names old new ss size same was = record {
   inside = subst (λ (n : ℕ). All (λ (s : Sighting). s.directory < n) ss) (sym size) was.inside;
 }
 
-pub told_more : (nodes : List Node) (n : Node) (i : ℕ) → i < length nodes → told_at (nodes ++ n ∷ []) i ≡ told_at nodes i
-told_more nodes n i l = ap (option_map (λ (one : Node). told one.directory)) (get_more nodes n i l)
+pub account_more : (nodes : List Node) (n : Node) (i : ℕ) → i < length nodes → account_at (nodes ++ n ∷ []) i ≡ account_at nodes i
+account_more nodes n i l = ap (option_map (λ (one : Node). account_of one.directory)) (get_more nodes n i l)
 
 -- a directory with a path that had no number
 pub numbered_more : (names new : Names) (nodes : List Node) (n : Node) (path : List ℕ) (number : ℕ) (ss : List Sighting) → path_number names path ≡ None
-    → ((p : List ℕ) → path_number new p ≡ cond (bytes_eq path p) (Some number) (path_number names p)) → number ≡ length nodes → told n.directory ≡ (path, (0, (0, None)))
+    → ((p : List ℕ) → path_number new p ≡ cond (bytes_eq path p) (Some number) (path_number names p)) → number ≡ length nodes → account_of n.directory ≡ (path, (0, (0, None)))
     → IsNumbered names nodes ss → IsNumbered new (nodes ++ n ∷ []) ss
 numbered_more names new nodes n path number ss fresh put is cold was = record {
   named = λ p i h.
       ⊎_elim
       (λ (same : bytes_eq path p ≡ true).
       let here : number ≡ i = ap (λ (o : Option ℕ). unwrap_or o 0) (sym (put p ∙ cond-true (bytes_eq path p) (Some number) (path_number names p) same) ∙ h) in
-      subst (λ (k : ℕ). told_at (nodes ++ n ∷ []) k ≡ Some (p, (0, (0, None)))) (sym is ∙ here)
+      subst (λ (k : ℕ). account_at (nodes ++ n ∷ []) k ≡ Some (p, (0, (0, None)))) (sym is ∙ here)
       (told_end ∙ ap (λ (q : List ℕ). Some (q, (0, (0, None)))) ((bytes_eq-Decides path p).0 same)))
       (λ (other : bytes_eq path p ≡ false).
-      let there : told_at nodes i ≡ Some (p, (0, (0, None))) = was.named p i (sym (put p ∙ cond-false (bytes_eq path p) (Some number) (path_number names p) other) ∙ h) in
-      told_more nodes n i (inside_of nodes i (p, (0, (0, None))) there) ∙ there)
+      let there : account_at nodes i ≡ Some (p, (0, (0, None))) = was.named p i (sym (put p ∙ cond-false (bytes_eq path p) (Some number) (path_number names p) other) ∙ h) in
+      account_more nodes n i (inside_of nodes i (p, (0, (0, None))) there) ∙ there)
       (cases_Bool (bytes_eq path p));
   numbered = λ i t h.
       ⊎_elim
-      (λ (l : i < length nodes). before i t (was.numbered i t (sym (told_more nodes n i l) ∙ h)))
+      (λ (l : i < length nodes). before i t (was.numbered i t (sym (account_more nodes n i l) ∙ h)))
       (λ (from : length nodes ≤ i).
       let end : i ≡ length nodes = omega (arith, from, inside_of (nodes ++ n ∷ []) i t h, long) in
-      let same : path ≡ t.0 = ap (λ (o : Option Told). option_map_or (λ (one : Told). one.0) o []) (sym told_end ∙ (ap (told_at (nodes ++ n ∷ [])) (sym end) ∙ h)) in
+      let same : path ≡ t.0 = ap (λ (o : Option Account). option_map_or (λ (one : Account). one.0) o []) (sym told_end ∙ (ap (account_at (nodes ++ n ∷ [])) (sym end) ∙ h)) in
       put t.0 ∙ (cond-true (bytes_eq path t.0) (Some number) (path_number names t.0) ((bytes_eq-Decides path t.0).1 same) ∙ ap (λ (k : ℕ). Some k) (is ∙ sym end)))
       (cases_lt i (length nodes));
   inside = λ k d l. omega (arith, was.inside k d l, long);
@@ -88,10 +88,10 @@ numbered_more names new nodes n path number ss fresh put is cold was = record {
   long : length (nodes ++ n ∷ []) ≡ length nodes + 1
   long = length-append nodes (n ∷ [])
 
-  told_end : told_at (nodes ++ n ∷ []) (length nodes) ≡ Some (path, (0, (0, None)))
-  told_end = ap (option_map (λ (one : Node). told one.directory)) (get_end nodes n) ∙ ap (λ (t : Told). Some t) cold
+  told_end : account_at (nodes ++ n ∷ []) (length nodes) ≡ Some (path, (0, (0, None)))
+  told_end = ap (option_map (λ (one : Node). account_of one.directory)) (get_end nodes n) ∙ ap (λ (t : Account). Some t) cold
 
-  before : (i : ℕ) (t : Told) → path_number names t.0 ≡ Some i → path_number new t.0 ≡ Some i
+  before : (i : ℕ) (t : Account) → path_number names t.0 ≡ Some i → path_number new t.0 ≡ Some i
   before i t had =
       ⊎_elim
       (λ (same : bytes_eq path t.0 ≡ true). absurd (none-some i (sym fresh ∙ (ap (path_number names) ((bytes_eq-Decides path t.0).0 same) ∙ had))))
@@ -99,42 +99,42 @@ numbered_more names new nodes n path number ss fresh put is cold was = record {
       (cases_Bool (bytes_eq path t.0))
 
 -- only the root
-pub numbered_root : (names : Names) (n : Node) → ((p : List ℕ) → path_number names p ≡ cond (bytes_eq [] p) (Some 0) None) → told n.directory ≡ ([], (0, (0, None)))
+pub numbered_root : (names : Names) (n : Node) → ((p : List ℕ) → path_number names p ≡ cond (bytes_eq [] p) (Some 0) None) → account_of n.directory ≡ ([], (0, (0, None)))
     → IsNumbered names (n ∷ []) []
 numbered_root names n put cold = record {
   named = λ p i h.
       ⊎_elim
       (λ (same : bytes_eq [] p ≡ true).
       let here : 0 ≡ i = ap (λ (o : Option ℕ). unwrap_or o 0) (sym (put p ∙ cond-true (bytes_eq [] p) (Some 0) None same) ∙ h) in
-      subst (λ (k : ℕ). told_at (n ∷ []) k ≡ Some (p, (0, (0, None)))) here
-      (ap (λ (t : Told). Some t) cold ∙ ap (λ (q : List ℕ). Some (q, (0, (0, None)))) ((bytes_eq-Decides [] p).0 same)))
+      subst (λ (k : ℕ). account_at (n ∷ []) k ≡ Some (p, (0, (0, None)))) here
+      (ap (λ (t : Account). Some t) cold ∙ ap (λ (q : List ℕ). Some (q, (0, (0, None)))) ((bytes_eq-Decides [] p).0 same)))
       (λ (other : bytes_eq [] p ≡ false). absurd (none-some i (sym (put p ∙ cond-false (bytes_eq [] p) (Some 0) None other) ∙ h)))
       (cases_Bool (bytes_eq [] p));
   numbered = λ i t h.
       let end : i ≡ 0 = omega (arith, inside_of (n ∷ []) i t h) in
-      let same : [] ≡ t.0 = ap (λ (o : Option Told). option_map_or (λ (one : Told). one.0) o []) (sym (ap (λ (t : Told). Some t) cold) ∙ (ap (told_at (n ∷ [])) (sym end) ∙ h)) in
+      let same : [] ≡ t.0 = ap (λ (o : Option Account). option_map_or (λ (one : Account). one.0) o []) (sym (ap (λ (t : Account). Some t) cold) ∙ (ap (account_at (n ∷ [])) (sym end) ∙ h)) in
       put t.0 ∙ (cond-true (bytes_eq [] t.0) (Some 0) None ((bytes_eq-Decides [] t.0).1 same) ∙ ap (λ (k : ℕ). Some k) (sym end));
   inside = λ k d l. absurd (omega (arith, l));
 }
 
-pub at_number : (names : Names) (nodes : List Node) (ss : List Sighting) (path : List ℕ) (i : ℕ) → IsNumbered names nodes ss → path_number names path ≡ Some i → IsAt nodes path i
+pub at_number : (names : Names) (nodes : List Node) (ss : List Sighting) (path : List ℕ) (i : ℕ) → IsNumbered names nodes ss → path_number names path ≡ Some i → IsNumberOf nodes path i
 at_number names nodes ss path i was h =
-    let there : told_at nodes i ≡ Some (path, (0, (0, None))) = was.named path i h in
+    let there : account_at nodes i ≡ Some (path, (0, (0, None))) = was.named path i h in
     record {
       inside = inside_of nodes i (path, (0, (0, None))) there;
-      there = path_told nodes i (path, (0, (0, None))) there;
+      there = path_account nodes i (path, (0, (0, None))) there;
     }
 
 pub cold_all : (names : Names) (nodes : List Node) (ss : List Sighting) → IsNumbered names nodes ss → AreCold nodes
 cold_all names nodes ss was = λ i t h.
-    ap (λ (o : Option Told). unwrap_or o t) (sym h ∙ was.named t.0 i (was.numbered i t h))
+    ap (λ (o : Option Account). unwrap_or o t) (sym h ∙ was.named t.0 i (was.numbered i t h))
 
 -- more is known of a directory
-pub numbered_set : (names : Names) (nodes : List Node) (at : ℕ) (old new : Node) (ss : List Sighting) → at < length nodes → slice_get nodes at ≡ Some old → told new.directory ≡ told old.directory
+pub numbered_set : (names : Names) (nodes : List Node) (at : ℕ) (old new : Node) (ss : List Sighting) → at < length nodes → slice_get nodes at ≡ Some old → account_of new.directory ≡ account_of old.directory
     → IsNumbered names nodes ss → IsNumbered names (set nodes at new) ss × (map (with_path (set nodes at new)) ss ≡ map (with_path nodes) ss)
 numbered_set names nodes at old new ss l read same was =
-    let told_same : (i : ℕ) → told_at (set nodes at new) i ≡ told_at nodes i = set-same (λ (n : Node). told n.directory) nodes at old new l read same in
-    (numbered_same names nodes (set nodes at new) ss (length-set nodes at new) told_same was, seen_same nodes (set nodes at new) ss (λ i _. told_same i) was.inside)
+    let account_same : (i : ℕ) → account_at (set nodes at new) i ≡ account_at nodes i = set-same (λ (n : Node). account_of n.directory) nodes at old new l read same in
+    (numbered_same names nodes (set nodes at new) ss (length-set nodes at new) account_same was, seen_same nodes (set nodes at new) ss (λ i _. account_same i) was.inside)
 
 -- one more fragment of a sample
 pub seen_more : (rank : ℕ) (fs : List FragmentHeat) (at : ℕ) (f : FragmentHeat) → at < length fs → get_or fs at f ≡ f

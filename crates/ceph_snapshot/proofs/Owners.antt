@@ -10,7 +10,7 @@ use Rattle.ceph_snapshot.specs.Authority.{LieAsClaimed, is_torn_above, placed_no
 use Rattle.ceph_snapshot.specs.Holding.{is_marked}
 use Rattle.ceph_snapshot.specs.Gathered.{PathPin, WhosePin, path_pin, path_pin_at, whose_pin, whose_pin_at}
 use Rattle.ceph_snapshot.specs.Policies.{kept_where}
-use Rattle.ceph_snapshot.specs.Sightings.{told, told_at}
+use Rattle.ceph_snapshot.specs.Sightings.{account_of, account_at}
 
 -- what a change leaves of each
 still : {X Y : Type 0} (f : X → Y) (change : ℕ → X → X) → ((i : ℕ) (x : X) → f (change i x) ≡ f x) → (xs ys : List X) → length ys ≡ length xs
@@ -34,9 +34,9 @@ pub pin_placed : (nodes placed : List Node) → LieAsClaimed nodes placed → (i
 pin_placed nodes placed are i =
     still path_pin (λ k. placed_node (rank_above nodes placed k) (is_torn_above nodes placed k)) (λ k n. refl) nodes placed are.size are.at i
 
-pub told_placed : (nodes placed : List Node) → LieAsClaimed nodes placed → (i : ℕ) → told_at placed i ≡ told_at nodes i
-told_placed nodes placed are i =
-    still (λ (n : Node). told n.directory) (λ k. placed_node (rank_above nodes placed k) (is_torn_above nodes placed k)) (λ k n. refl) nodes placed are.size are.at i
+pub account_placed : (nodes placed : List Node) → LieAsClaimed nodes placed → (i : ℕ) → account_at placed i ≡ account_at nodes i
+account_placed nodes placed are i =
+    still (λ (n : Node). account_of n.directory) (λ k. placed_node (rank_above nodes placed k) (is_torn_above nodes placed k)) (λ k n. refl) nodes placed are.size are.at i
 
 -- what is made of each node
 pub owner_from_map : (ds : List Directory) (ns : List Node) (f : PathPin → WhosePin) → map whose_pin ds ≡ map (λ (n : Node). f (path_pin n)) ns → (i : ℕ)

@@ -51,56 +51,58 @@ pub record TreeData : Type 0 where
   pub nodes : List Node
   pub seen : List PathHeat
 
--- what a directory's path, heat, writes and inode number are
-abbrev pub Told : Type 0
-Told = List ℕ × (ℕ × (ℕ × Option ℕ))
+-- the account of a directory: its path, heat, writes and inode number
+abbrev pub Account : Type 0
+Account = List ℕ × (ℕ × (ℕ × Option ℕ))
 
-abbrev pub told : Directory → Told
-told d = (d.path.items, (d.heat, (d.writes, d.inode)))
+abbrev pub account_of : Directory → Account
+account_of d = (d.path.items, (d.heat, (d.writes, d.inode)))
 
-abbrev pub told_at : List Node → ℕ → Option Told
-told_at nodes i = option_map (λ (n : Node). told n.directory) (slice_get nodes i)
+abbrev pub account_at : List Node → ℕ → Option Account
+account_at nodes i = option_map (λ (n : Node). account_of n.directory) (slice_get nodes i)
 
 -- each path has the number of its directory, whose heat is not yet counted
 pub record IsNumbered (names : Names) (nodes : List Node) (sightings : List Sighting) : Type 0 where
-  pub named : (path : List ℕ) (i : ℕ) → path_number names path ≡ Some i → told_at nodes i ≡ Some (path, (0, (0, None)))
-  pub numbered : (i : ℕ) (t : Told) → told_at nodes i ≡ Some t → path_number names t.0 ≡ Some i
+  pub named : (path : List ℕ) (i : ℕ) → path_number names path ≡ Some i
+      → account_at nodes i ≡ Some (path, (0, (0, None)))
+  pub numbered : (i : ℕ) (t : Account) → account_at nodes i ≡ Some t → path_number names t.0 ≡ Some i
   pub inside : All (λ (s : Sighting). s.directory < length nodes) sightings
 
 -- no two directories have one path
 abbrev pub HaveOwnPaths : List Node → Type 0
-HaveOwnPaths nodes = (i j : ℕ) (t u : Told) → told_at nodes i ≡ Some t → told_at nodes j ≡ Some u → t.0 ≡ u.0 → i ≡ j
+HaveOwnPaths nodes =
+    (i j : ℕ) (t u : Account) → account_at nodes i ≡ Some t → account_at nodes j ≡ Some u → t.0 ≡ u.0 → i ≡ j
 
 -- no heat is counted yet, and no inode number
 abbrev pub AreCold : List Node → Type 0
-AreCold nodes = (i : ℕ) (t : Told) → told_at nodes i ≡ Some t → t ≡ (t.0, (0, (0, None)))
+AreCold nodes = (i : ℕ) (t : Account) → account_at nodes i ≡ Some t → t ≡ (t.0, (0, (0, None)))
 
 -- this is the number of a path
-pub record IsAt (nodes : List Node) (path : List ℕ) (i : ℕ) : Type 0 where
+pub record IsNumberOf (nodes : List Node) (path : List ℕ) (i : ℕ) : Type 0 where
   pub inside : i < length nodes
   pub there : node_path_at nodes i ≡ path
 
 -- whether a directory is spread, and its rank if it isn't
-abbrev pub Place : Type 0
-Place = Bool × ℕ
+abbrev pub Position : Type 0
+Position = Bool × ℕ
 
-abbrev pub place_of : Directory → Place
-place_of d = (d.is_spread, if d.is_spread then 0 else d.now)
+abbrev pub position_of : Directory → Position
+position_of d = (d.is_spread, if d.is_spread then 0 else d.now)
 
-abbrev pub place_at : List Node → ℕ → Option Place
-place_at nodes i = option_map (λ (n : Node). place_of n.directory) (slice_get nodes i)
+abbrev pub position_at : List Node → ℕ → Option Position
+position_at nodes i = option_map (λ (n : Node). position_of n.directory) (slice_get nodes i)
 
 -- the directories lie where those nodes do
 abbrev pub LieAt : List Node → List Directory → Type 0
-LieAt nodes directories = (i : ℕ) → option_map place_of (slice_get directories i) ≡ place_at nodes i
+LieAt nodes directories = (i : ℕ) → option_map position_of (slice_get directories i) ≡ position_at nodes i
 
 -- what a rank sees at a directory counts where it has that, and each rank's where it is spread
 abbrev pub is_seen_by : Directory → ℕ → Bool
 is_seen_by d rank = d.is_spread || (d.now == rank)
 
--- what is told of a directory with one more sighting, of this directory or of another
-abbrev pub told_with : Bool → Sighting → Directory → Told
-told_with here s d = (
+-- the account of a directory with one more sighting, of this directory or of another
+abbrev pub account_with : Bool → Sighting → Directory → Account
+account_with here s d = (
   d.path.items,
   (
     seen_heat d.heat s.heat (here && is_seen_by d s.rank),
@@ -115,9 +117,9 @@ told_with here s d = (
 abbrev pub sum_at : ℕ → Directory → (Sighting → ℕ) → List Sighting → ℕ
 sum_at i d part = sum_by (λ s. if (s.directory == i) && is_seen_by d s.rank then part s else 0)
 
--- what is told of directory i, of which nothing was counted, with all sightings
-abbrev pub told_by : ℕ → List Sighting → Directory → Told
-told_by i sightings d = (
+-- the account of directory i, of which nothing was counted, with all sightings
+abbrev pub account_by : ℕ → List Sighting → Directory → Account
+account_by i sightings d = (
   d.path.items,
   (
     min most_heat (sum_at i d (λ s. s.heat) sightings),
@@ -128,14 +130,15 @@ told_by i sightings d = (
   ),
 )
 
--- the same as the mean of `samples` samples
-abbrev pub mean_told : ℕ → Told → Told
-mean_told samples t = (t.0, (min (t.1.0 / samples) HEAT_LIMIT, (min (t.1.1.0 / samples) HEAT_LIMIT, t.1.1.1)))
+-- with heat and writes as the mean of `samples` samples
+abbrev pub mean_account : ℕ → Account → Account
+mean_account samples t = (t.0, (min (t.1.0 / samples) HEAT_LIMIT, (min (t.1.1.0 / samples) HEAT_LIMIT, t.1.1.1)))
 
+-- what was seen at a directory's path by a rank that counts
 abbrev pub counts : Directory → PathHeat → Bool
 counts d s = bytes_eq s.path d.path.items && is_seen_by d s.rank
 
--- of `samples` samples
+-- the mean of `samples` samples, as far as a heat may go
 abbrev pub mean_of : ℕ → ℕ → ℕ
 mean_of samples sum = min (min most_heat sum / samples) HEAT_LIMIT
 

@@ -6,7 +6,7 @@ ghost use Rattle.ceph_dumps.specs.declared.listing.EphemeralPin.TheVariants.{Ran
 ghost use Rattle.ceph_snapshot.specs.Holding.{AreParentsFirst, is_marked};
 ghost use Rattle.ceph_snapshot.specs.Gathered.{whose_pin_at};
 ghost use Rattle.ceph_snapshot.specs.Policies.{KeepUnpinnable, HasBeaten, kept_where};
-ghost use Rattle.ceph_snapshot.specs.Sightings.{place_of, told};
+ghost use Rattle.ceph_snapshot.specs.Sightings.{position_of, account_of};
 
 use crate::directory::Directory;
 use ceph_dumps::EphemeralPin;
@@ -64,10 +64,10 @@ pub(crate) fn keep(alloc: Global, directories: &mut Vec<Directory>) -> Result<()
     ensures size { OnOk result (length directories.new.items ≡ length directories.old.items) }
     ensures owner { OnOk result ((i : ℕ) → whose_pin_at directories.new.items i
         ≡ whose_pin_at directories.old.items i) }
-    ensures told { OnOk result ((i : ℕ) → option_map told (slice_get directories.new.items i)
-        ≡ option_map told (slice_get directories.old.items i)) }
-    ensures place { OnOk result ((i : ℕ) → option_map place_of (slice_get directories.new.items i)
-        ≡ option_map place_of (slice_get directories.old.items i)) }
+    ensures account { OnOk result ((i : ℕ) → option_map account_of (slice_get directories.new.items i)
+        ≡ option_map account_of (slice_get directories.old.items i)) }
+    ensures place { OnOk result ((i : ℕ) → option_map position_of (slice_get directories.new.items i)
+        ≡ option_map position_of (slice_get directories.old.items i)) }
     ensures kept { OnOk result (AreParentsFirst directories.new.items → KeepUnpinnable directories.new.items) }
 {
     let above = above_random(alloc, directories.as_slice())?;

@@ -1,7 +1,8 @@
 //! The directories, from what was gathered of them.
 
 ghost use Rattle.std.specs.Prelude.{◌≡◌, ◌==◌, ◌<◌, ℕ, All, List, true, false};
-ghost use Rattle.std.specs.Prelude.{IfErr, IfOk, IsErrOf, OnOk, length, map, nat_lt, slice_get, string_bytes, if◌then◌else◌};
+ghost use Rattle.std.specs.Prelude.{IfErr, IfOk, IsErrOf, OnOk, length, map, nat_lt, slice_get, string_bytes};
+ghost use Rattle.std.specs.Prelude.{if◌then◌else◌};
 ghost use Rattle.std.specs.HashMap.{get_by};
 ghost use Rattle.std.specs.Option.{option_map};
 ghost use Rattle.std.specs.Str.{bytes_eq};
@@ -14,8 +15,8 @@ ghost use Rattle.ceph_snapshot.specs.Gathered.{path_pin_at, whose_pin, whose_pin
 ghost use Rattle.ceph_snapshot.specs.Holding.{AreParentsFirst};
 ghost use Rattle.ceph_snapshot.specs.Policies.{KeepUnpinnable};
 ghost use Rattle.ceph_snapshot.specs.Shown.{shown_path};
-ghost use Rattle.ceph_snapshot.specs.Sightings.{AreCold, HasSeen, LieAt, mean_told, place_at, place_of, told, told_at};
-ghost use Rattle.ceph_snapshot.specs.Sightings.{told_by, told_with};
+ghost use Rattle.ceph_snapshot.specs.Sightings.{AreCold, HasSeen, LieAt, account_at, account_by, account_of};
+ghost use Rattle.ceph_snapshot.specs.Sightings.{account_with, mean_account, position_at, position_of};
 
 use crate::directory::Directory;
 use crate::gathering::{Gathering, Hearsay};
@@ -82,8 +83,8 @@ fn place_all(nodes: &mut Vec<Node>) -> Result<(), SnapshotError>
 /// Adds what a rank has seen at a directory, if it has authority or that is spread. Gives the heat that is spread.
 fn sight(node: &mut Node, seen: Sighting) -> u64
     ensures spread { result ≡ (if node.old.directory.is_spread then seen.heat else 0) }
-    ensures told { told node.new.directory ≡ told_with true seen node.old.directory }
-    ensures place { place_of node.new.directory ≡ place_of node.old.directory }
+    ensures account { account_of node.new.directory ≡ account_with true seen node.old.directory }
+    ensures place { position_of node.new.directory ≡ position_of node.old.directory }
     ensures pinned { path_pin node.new ≡ path_pin node.old }
 {
     let directory = &mut node.directory;
@@ -154,7 +155,7 @@ fn pins_of(pinned: Option<u64>, own: Option<u64>, ranks: RankSet) -> Pins
 /// there. This program pinned it to the rank `own` before.
 fn finished(node: Node, own: Option<u64>, samples: u64, ranks: RankSet) -> Directory
     requires { 0 < samples }
-    ensures told { told result ≡ mean_told samples (told node.directory) }
+    ensures account { account_of result ≡ mean_account samples (account_of node.directory) }
     ensures now { result.now ≡ node.directory.now }
     ensures spread { result.is_spread ≡ node.directory.is_spread }
     ensures path { result.path ≡ node.directory.path }
@@ -217,8 +218,8 @@ fn confirm(alloc: Global, nodes: &[Node], hearsay: &[Hearsay]) -> Result<(), Sna
 /// Gives each of these directories a policy that isn't known, if none is known of it, unless all were listed.
 fn hold_tops(nodes: &mut Vec<Node>, tops: &[u32], is_listed: bool)
     ensures pinned { (i : ℕ) → path_pin_at nodes.new.items i ≡ path_pin_at nodes.old.items i }
-    ensures told { (i : ℕ) → told_at nodes.new.items i ≡ told_at nodes.old.items i }
-    ensures place { (i : ℕ) → place_at nodes.new.items i ≡ place_at nodes.old.items i }
+    ensures account { (i : ℕ) → account_at nodes.new.items i ≡ account_at nodes.old.items i }
+    ensures place { (i : ℕ) → position_at nodes.new.items i ≡ position_at nodes.old.items i }
 {
     if is_listed {
         return;
@@ -253,10 +254,10 @@ fn all_finished(
     requires { 0 < samples }
     ensures owner { IfOk result (λ directories. map whose_pin directories.items
         ≡ map (λ n. with_owner own.now ranks (path_pin n)) nodes.items) }
-    ensures told { IfOk result (λ directories. map told directories.items
-        ≡ map (λ n. mean_told samples (told n.directory)) nodes.items) }
-    ensures place { IfOk result (λ directories. map place_of directories.items
-        ≡ map (λ n. place_of n.directory) nodes.items) }
+    ensures account { IfOk result (λ directories. map account_of directories.items
+        ≡ map (λ n. mean_account samples (account_of n.directory)) nodes.items) }
+    ensures place { IfOk result (λ directories. map position_of directories.items
+        ≡ map (λ n. position_of n.directory) nodes.items) }
 {
     let listed = listed_ranks(alloc, own)?;
     let mut directories = Vec::with_capacity(alloc, nodes.len())?;
@@ -317,9 +318,9 @@ impl Gathering {
 /// Adds the heat of a sighting. Gives what of it counts as spread.
 fn see(nodes: &mut Vec<Node>, seen: Sighting) -> u64
     ensures pinned { (i : ℕ) → path_pin_at nodes.new.items i ≡ path_pin_at nodes.old.items i }
-    ensures told { (i : ℕ) → told_at nodes.new.items i
-        ≡ option_map (λ n. told_with (seen.directory == i) seen n.directory) (slice_get nodes.old.items i) }
-    ensures place { (i : ℕ) → place_at nodes.new.items i ≡ place_at nodes.old.items i }
+    ensures account { (i : ℕ) → account_at nodes.new.items i
+        ≡ option_map (λ n. account_with (seen.directory == i) seen n.directory) (slice_get nodes.old.items i) }
+    ensures place { (i : ℕ) → position_at nodes.new.items i ≡ position_at nodes.old.items i }
 {
     match nodes.get_mut(seen.directory as usize) {
         Some(node) => sight(node, seen),
@@ -338,9 +339,9 @@ fn see_all(
     requires cold { AreCold nodes.old.items }
     ensures spread { IfOk result (λ spread. length spread.items ≡ 64) }
     ensures pinned { (i : ℕ) → path_pin_at nodes.new.items i ≡ path_pin_at nodes.old.items i }
-    ensures told { OnOk result ((i : ℕ) → told_at nodes.new.items i
-        ≡ option_map (λ n. told_by i sightings.now n.directory) (slice_get nodes.old.items i)) }
-    ensures place { (i : ℕ) → place_at nodes.new.items i ≡ place_at nodes.old.items i }
+    ensures account { OnOk result ((i : ℕ) → account_at nodes.new.items i
+        ≡ option_map (λ n. account_by i sightings.now n.directory) (slice_get nodes.old.items i)) }
+    ensures place { (i : ℕ) → position_at nodes.new.items i ≡ position_at nodes.old.items i }
 {
     let mut spread = vec![in alloc; 0u64; usize::from(RANK_LIMIT)]?;
     for seen in sightings {

@@ -3,7 +3,7 @@ ghost use Rattle.std.specs.Prelude.{◌≡◌, ◌++◌, ◌∷◌, [], ℕ, Som
 ghost use Rattle.std.specs.Prelude.{◌<◌, true, false, All, length, map, if◌then◌else◌};
 ghost use Rattle.ceph_dumps.specs.declared.listing.ListedValue.TheVariants as listed;
 ghost use Rattle.ceph_snapshot.specs.Authority.{PathText, is_user_path};
-ghost use Rattle.ceph_snapshot.specs.Sightings.{AreCold, HaveOwnPaths, IsAt, of_fragment, told, with_path};
+ghost use Rattle.ceph_snapshot.specs.Sightings.{AreCold, HaveOwnPaths, IsNumberOf, of_fragment, account_of, with_path};
 
 use crate::directory::Directory;
 use crate::names::Names;
@@ -77,7 +77,7 @@ impl Tree {
         parent: u32,
     ) -> Result<u32, SnapshotError>
         ensures seen { self.new.seen ≡ self.old.seen }
-        ensures path { IfOk result (IsAt self.new.nodes path.now) }
+        ensures path { IfOk result (IsNumberOf self.new.nodes path.now) }
         ensures twice { (path : PathText) (one two : ℕ) → IsErrOf result (SnapshotError.TwoClaims path one two) → ⊥ }
     {
         if let Some(number) = self.names.number(path) {
@@ -113,7 +113,7 @@ impl Tree {
     ) -> Result<Option<u32>, SnapshotError>
         ensures seen { self.new.seen ≡ self.old.seen }
         ensures some { IfOk result (λ number. is_some number ≡ is_user_path path.now) }
-        ensures path { IfOk result (λ number. IfSome number (IsAt self.new.nodes path.now)) }
+        ensures path { IfOk result (λ number. IfSome number (IsNumberOf self.new.nodes path.now)) }
         ensures twice { (path : PathText) (one two : ℕ) → IsErrOf result (SnapshotError.TwoClaims path one two) → ⊥ }
     {
         if !is_user_path(path) {
@@ -192,7 +192,7 @@ fn is_user_path(path: &[u8]) -> bool
 
 /// A directory of which nothing is known but its path and its parent.
 fn unknown(path: Vec<u8>, parent: u32) -> Node
-    ensures { told result.directory ≡ (path.items, (0, (0, None))) }
+    ensures { account_of result.directory ≡ (path.items, (0, (0, None))) }
 {
     Node {
         directory: Directory {
@@ -218,7 +218,7 @@ fn unknown(path: Vec<u8>, parent: u32) -> Node
 
 /// Adds what a rank says of a root of a subtree.
 fn add_root(node: &mut Node, rank: Rank, root: &SubtreeRoot)
-    ensures told { told node.new.directory ≡ told node.old.directory }
+    ensures account { account_of node.new.directory ≡ account_of node.old.directory }
     ensures here { root.now.is_here ≡ true → node.new.root ≡ Some rank }
     ensures elsewhere { root.now.is_here ≡ false → node.new.root ≡ node.old.root }
 {
@@ -234,7 +234,7 @@ fn add_root(node: &mut Node, rank: Rank, root: &SubtreeRoot)
 
 /// Adds a value that was listed of a directory.
 fn add_value(node: &mut Node, value: ListedValue)
-    ensures told { told node.new.directory ≡ told node.old.directory }
+    ensures account { account_of node.new.directory ≡ account_of node.old.directory }
     ensures entries { (count : ℕ) → value ≡ listed.Entries count → node.new.directory.inodes ≡ max count 1 }
     ensures pin { (rank : ℕ) → value ≡ listed.Pin (Some rank) → node.new.pinned ≡ Some rank }
     ensures no_pin { value ≡ listed.Pin None → node.new.pinned ≡ node.old.pinned }

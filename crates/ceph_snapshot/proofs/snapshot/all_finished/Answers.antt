@@ -4,7 +4,7 @@ use Rattle.std.specs.Str.{bytes_eq}
 use Rattle.ceph_snapshot.specs.declared.directory.Directory.{Directory}
 use Rattle.ceph_snapshot.specs.declared.tree.Node.{Node}
 use Rattle.ceph_snapshot.specs.Gathered.{WhosePin, listed_rank, path_pin, whose_pin, with_owner}
-use Rattle.ceph_snapshot.specs.Sightings.{Place, Told, mean_told, place_of, told}
+use Rattle.ceph_snapshot.specs.Sightings.{Position, Account, mean_account, position_of, account_of}
 use Rattle.ceph_snapshot.proofs.Owners.{mapped_more}
 use Rattle.ceph_snapshot.proofs.snapshot.all_finished.Goals as goal
 
@@ -17,12 +17,12 @@ loop-node-preserved c =
     ∙ (ap (λ (p : List ℕ). get_by (λ key. bytes_eq p key.items) c.in_ok-listed.listed) c.as_slice.ensures.value ∙ c.in_ok-listed.ensures path) in
     let whose : whose_pin c.finished.result ≡ with_owner c.args.own.now c.args.ranks (path_pin node) =
     rw (c.finished.ensures.path, c.finished.ensures.pin, c.finished.ensures.idle, c.finished.ensures.earlier, rank) refl in
-    let places : place_of c.finished.result ≡ place_of node.directory = rw (c.finished.ensures.now, c.finished.ensures.spread) refl in
+    let places : position_of c.finished.result ≡ position_of node.directory = rw (c.finished.ensures.now, c.finished.ensures.spread) refl in
     let more : (C : Type 0) (f : Directory → C) (g : Node → C) → map f c.loop-node.directories.items ≡ map g c.loop-node.yielded → f c.finished.result ≡ g node
     → map f c.push.new.self.items ≡ map g (c.loop-node.yielded ++ node ∷ []) =
     λ C f g before one. mapped_more f g c.loop-node.directories.items c.push.new.self.items c.loop-node.yielded c.finished.result node c.in_ok-push.ensures.items before one in
     record {
       owner = more WhosePin whose_pin (λ (n : Node). with_owner c.args.own.now c.args.ranks (path_pin n)) c.loop-node.invariant.owner whose;
-      told = more Told told (λ (n : Node). mean_told c.args.samples (told n.directory)) c.loop-node.invariant.told c.finished.ensures.told;
-      place = more Place place_of (λ (n : Node). place_of n.directory) c.loop-node.invariant.place places;
+      account = more Account account_of (λ (n : Node). mean_account c.args.samples (account_of n.directory)) c.loop-node.invariant.account c.finished.ensures.account;
+      place = more Position position_of (λ (n : Node). position_of n.directory) c.loop-node.invariant.place places;
     }

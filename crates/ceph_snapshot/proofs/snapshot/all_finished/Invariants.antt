@@ -1,11 +1,11 @@
 use Rattle.std.proofs.Common.{◌≡◌, map}
 use Rattle.ceph_snapshot.specs.Gathered.{path_pin, whose_pin, with_owner}
-use Rattle.ceph_snapshot.specs.Sightings.{mean_told, place_of, told}
+use Rattle.ceph_snapshot.specs.Sightings.{mean_account, position_of, account_of}
 use Rattle.ceph_snapshot.proofs.snapshot.all_finished.Given as goal
 
 abbrev pub invariant-loop-node : goal.invariant-loop-node
 invariant-loop-node l = record {
   owner : map whose_pin l.directories.items ≡ map (λ n. with_owner l.own l.ranks (path_pin n)) l.yielded;
-  told : map told l.directories.items ≡ map (λ n. mean_told l.samples (told n.directory)) l.yielded;
-  place : map place_of l.directories.items ≡ map (λ n. place_of n.directory) l.yielded;
+  account : map account_of l.directories.items ≡ map (λ n. mean_account l.samples (account_of n.directory)) l.yielded;
+  place : map position_of l.directories.items ≡ map (λ n. position_of n.directory) l.yielded;
 }

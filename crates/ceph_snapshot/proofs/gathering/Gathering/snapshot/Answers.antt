@@ -6,8 +6,8 @@ use Rattle.ceph_snapshot.specs.declared.tree.Node.{Node}
 use Rattle.ceph_snapshot.specs.declared.tree.Sighting.{Sighting}
 use Rattle.ceph_snapshot.specs.Authority.{LieAsClaimed, is_true_of}
 use Rattle.ceph_snapshot.specs.Gathered.{with_owner}
-use Rattle.ceph_snapshot.specs.Sightings.{LieAt, mean_told, place_of, told, told_at, told_by}
-use Rattle.ceph_snapshot.proofs.Owners.{owner_from_map, pin_placed, told_placed}
+use Rattle.ceph_snapshot.specs.Sightings.{LieAt, mean_account, position_of, account_of, account_at, account_by}
+use Rattle.ceph_snapshot.proofs.Owners.{owner_from_map, pin_placed, account_placed}
 use Rattle.ceph_snapshot.proofs.Sighted.{at_map, seen_at}
 use Rattle.ceph_snapshot.proofs.gathering.Gathering.snapshot.Goals as goal
 
@@ -15,7 +15,7 @@ pub see_all-requires-clause-cold : goal.see_all-requires-clause-cold
 see_all-requires-clause-cold c = λ i t h.
     let nodes : List Node = c.args.self.tree.nodes in
     let claimed : LieAsClaimed nodes c.place_all.new.nodes.items = subst (λ (ns : List Node). LieAsClaimed ns c.place_all.new.nodes.items) c.into_parts-nodes.ensures.nodes c.in_ok-place_all.ensures.placed in
-    c.into_parts-nodes.ensures.cold i t (sym (c.hold_tops.ensures.told i ∙ told_placed nodes c.place_all.new.nodes.items claimed i) ∙ h)
+    c.into_parts-nodes.ensures.cold i t (sym (c.hold_tops.ensures.account i ∙ account_placed nodes c.place_all.new.nodes.items claimed i) ∙ h)
 
 pub returns-clause-authority : goal.returns-clause-authority
 returns-clause-authority c =
@@ -25,7 +25,7 @@ returns-clause-authority c =
     let confirmed : All (λ said. is_true_of placed said ≡ true) c.args.self.hearsay.items = search rules in
     let lie : LieAt placed c.keep.new.directories.items = λ i.
     c.in_ok-keep.ensures.place i
-    ∙ (at_map place_of (λ (n : Node). place_of n.directory) c.in_ok-directories.directories.items c.see_all.new.nodes.items c.in_ok-directories.ensures.place i
+    ∙ (at_map position_of (λ (n : Node). position_of n.directory) c.in_ok-directories.directories.items c.see_all.new.nodes.items c.in_ok-directories.ensures.place i
     ∙ (c.see_all.ensures.place i ∙ c.hold_tops.ensures.place i)) in
     (placed, claimed, confirmed, lie)
 
@@ -39,14 +39,14 @@ returns-clause-seen c = λ i d l.
     let ds : List Directory = c.keep.new.directories.items in
     let claimed : LieAsClaimed nodes placed = subst (λ (ns : List Node). LieAsClaimed ns placed) c.into_parts-nodes.ensures.nodes c.in_ok-place_all.ensures.placed in
     let here : slice_get ds i ≡ Some (get_or ds i d) = slice_get-get_or ds i d l in
-    let all : told_at counted i ≡ option_map (λ (n : Node). told_by i ss n.directory) (slice_get held i) =
-    subst (λ (those : List Sighting). told_at counted i ≡ option_map (λ (n : Node). told_by i those n.directory) (slice_get held i)) c.as_slice-4.ensures.value (c.in_ok-spread.ensures.told i) in
+    let all : account_at counted i ≡ option_map (λ (n : Node). account_by i ss n.directory) (slice_get held i) =
+    subst (λ (those : List Sighting). account_at counted i ≡ option_map (λ (n : Node). account_by i those n.directory) (slice_get held i)) c.as_slice-4.ensures.value (c.in_ok-spread.ensures.account i) in
     seen_at nodes (slice_get held i) (slice_get counted i) i c.args.samples (get_or ds i d) ss c.args.self.tree.seen c.into_parts-nodes.ensures.seen c.into_parts-nodes.ensures.apart c.into_parts-nodes.ensures.inside
-    (c.hold_tops.ensures.told i ∙ told_placed nodes placed claimed i)
-    (sym (ap (option_map told) here) ∙ (c.in_ok-keep.ensures.told i ∙ at_map told (λ (n : Node). mean_told c.args.samples (told n.directory)) c.in_ok-directories.directories.items counted c.in_ok-directories.ensures.told i))
+    (c.hold_tops.ensures.account i ∙ account_placed nodes placed claimed i)
+    (sym (ap (option_map account_of) here) ∙ (c.in_ok-keep.ensures.account i ∙ at_map account_of (λ (n : Node). mean_account c.args.samples (account_of n.directory)) c.in_ok-directories.directories.items counted c.in_ok-directories.ensures.account i))
     all
-    (sym (ap (option_map place_of) here)
-    ∙ (c.in_ok-keep.ensures.place i ∙ (at_map place_of (λ (n : Node). place_of n.directory) c.in_ok-directories.directories.items counted c.in_ok-directories.ensures.place i ∙ c.see_all.ensures.place i)))
+    (sym (ap (option_map position_of) here)
+    ∙ (c.in_ok-keep.ensures.place i ∙ (at_map position_of (λ (n : Node). position_of n.directory) c.in_ok-directories.directories.items counted c.in_ok-directories.ensures.place i ∙ c.see_all.ensures.place i)))
 
 pub returns-clause-owner : goal.returns-clause-owner
 returns-clause-owner c = λ i.

@@ -4,14 +4,14 @@ use Rattle.std.proofs.lemmas.Bool.{cond-true}
 use Rattle.std.proofs.lemmas.Slice.Eq.{bytes_eq-Decides}
 use Rattle.ceph_snapshot.specs.declared.tree.Node.{Node}
 use Rattle.ceph_snapshot.specs.Names.{path_number}
-use Rattle.ceph_snapshot.specs.Sightings.{IsAt, IsNumbered, TreeData, told, with_path}
-use Rattle.ceph_snapshot.proofs.Numbers.{at_number, numbered_more, seen_same, told_more}
+use Rattle.ceph_snapshot.specs.Sightings.{IsNumberOf, IsNumbered, TreeData, account_of, with_path}
+use Rattle.ceph_snapshot.proofs.Numbers.{at_number, numbered_more, seen_same, account_more}
 use Rattle.ceph_snapshot.proofs.tree.Tree.number_below.Goals as goal
 
 pub returns-in-Some-clause-path : goal.returns-in-Some-clause-path
 returns-in-Some-clause-path c =
     let t = c.self.inside in
-    subst (λ (v : TreeData). IsAt v.nodes c.args.path.now c.in-Some.number) c.self.view_is
+    subst (λ (v : TreeData). IsNumberOf v.nodes c.args.path.now c.in-Some.number) c.self.view_is
     (at_number t.names t.nodes.items t.sightings.items c.args.path.now c.in-Some.number c.self.invariant (sym c.number.ensures ∙ c.in-Some.is))
 
 pub invariant_of-self-2 : goal.invariant_of-self-2
@@ -24,7 +24,7 @@ invariant_of-self-2 c =
     let put : (p : List ℕ) → path_number c.insert.new.self p ≡ cond (bytes_eq path p) (Some c.in-Ok.number) (path_number t.names p) =
     subst (λ (q : List ℕ). (p : List ℕ) → path_number c.insert.new.self p ≡ cond (bytes_eq q p) (Some c.in-Ok.number) (path_number t.names p)) c.in_ok-from_slice-2.ensures.items c.in_ok-insert.ensures.put in
     let is : c.in-Ok.number ≡ length t.nodes.items = search rules in
-    let cold : told node.directory ≡ (path, (0, (0, None))) = c.unknown-node.ensures ∙ ap (λ (p : List ℕ). (p, (0, (0, None)))) c.in_ok-from_slice.ensures.items in
+    let cold : account_of node.directory ≡ (path, (0, (0, None))) = c.unknown-node.ensures ∙ ap (λ (p : List ℕ). (p, (0, (0, None)))) c.in_ok-from_slice.ensures.items in
     subst (λ (ns : List Node). IsNumbered c.insert.new.self ns t.sightings.items) (sym items)
     (numbered_more t.names c.insert.new.self t.nodes.items node path c.in-Ok.number t.sightings.items fresh put is cold c.self.invariant)
 
@@ -34,7 +34,7 @@ returns-clause-seen c =
     let node : Node = c.unknown-node.result in
     let items : c.push_reserved.new.self.items ≡ t.nodes.items ++ node ∷ [] = c.push_reserved.ensures.items ∙ ap (λ (ns : List Node). ns ++ node ∷ []) c.reserve.ensures.items in
     ap (λ (ns : List Node). map (with_path ns) t.sightings.items) items
-    ∙ (seen_same t.nodes.items (t.nodes.items ++ node ∷ []) t.sightings.items (told_more t.nodes.items node) c.self.invariant.inside
+    ∙ (seen_same t.nodes.items (t.nodes.items ++ node ∷ []) t.sightings.items (account_more t.nodes.items node) c.self.invariant.inside
     ∙ ap (λ (v : TreeData). v.seen) c.self.view_is)
 
 pub returns-clause-path : goal.returns-clause-path
