@@ -22,7 +22,7 @@ use Rattle.export_protocol.specs.declared.event.Event.TheVariants.{Begin, End, S
 use Rattle.export_protocol.specs.View.{IsReached, IsAnswer}
 use Rattle.export_machine.specs.Room.{IsRefusal, IsAsRoomy, KeepsRoom}
 use Rattle.export_machine.specs.Columns.{has_spare}
-use Rattle.export_machine.specs.Kept.{world_of, indexes_of, IsKept, IsIndexed, has_room, has_entry_places, has_list_places, places_of, has_dir_places, has_export_places, is_spare, entered_at, is_ready, is_ready_entry, is_ready_list, state_of}
+use Rattle.export_machine.specs.Kept.{State, world_of, indexes_of, IsKept, IsIndexed, has_room, has_entry_places, has_list_places, places_of, has_dir_places, has_export_places, is_spare, entered_at, is_ready, is_ready_entry, is_ready_list, state_of}
 use Rattle.export_protocol.proofs.Views.{push_same, push_other, length_push, map_at_length}
 use Rattle.export_protocol.proofs.Frame.{Framed, delivered_frame, happens_fixed}
 use Rattle.export_protocol.proofs.Reached.{reached_step}
@@ -261,6 +261,17 @@ kept_same old new w i k = record {
   where
     bound : (f g : World → ℕ) → f (world_of old) ≤ g (world_of old) → f (world_of new) ≤ g (world_of new)
     bound f g h = (let a : f (world_of new) ≡ f (world_of old) = ap f w in let b : g (world_of new) ≡ g (world_of old) = ap g w in omega arith)
+
+-- what is kept, of the world that a contract sees
+pub reached_as : (r : Records) (s : State) → IsKept r → state_of r ≡ s → IsReached s.world
+reached_as r s k v = subst (λ (t : State). IsReached t.world) v k.reached
+
+pub accepted_as : (r : Records) {s : State} {e f : Event} → state_of r ≡ s → e ≡ f → refusal s.world e ≡ None → refusal (world_of r) f ≡ None
+accepted_as r v i h = rw (← v, i) at h
+
+-- the owner that is found is the authority
+pub owned : (r : Records) (d : ℕ) {o q : Option ℕ} → IsKept r → o ≡ get_or r.dirs.owners d None → o ≡ q → authority (world_of r) d ≡ q
+owned r d k e f = sym (k.indexed.owners d) ∙ (sym e ∙ f)
 
 pub room_parts : (r : Records) (e : Event) → has_room r e ≡ true → (has_entry_places r (entered_at (world_of r) e) ≡ true) × (has_list_places r e ≡ true)
 unfolding has_room

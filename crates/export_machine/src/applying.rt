@@ -1,15 +1,15 @@
 //! One event: its refusal, its memory, its effect, in this order.
 
-ghost use Rattle.std.specs.Prelude.{◌≡◌, ◌<◌, ℕ, length, map, Some, None, true, Ok, OnOk, OnErr, IsOk, IfSome, IfErr};
-ghost use Rattle.export_protocol.specs.Step.{refusal, step};
-ghost use Rattle.export_protocol.specs.View.{IsAnswer};
-ghost use Rattle.export_machine.specs.Room.{IsAsRoomy, IsRefusal};
-ghost use Rattle.export_machine.specs.Kept.{world_of, indexes_of, has_room, has_place, has_entry_places};
+ghost use Rattle.std.specs.Prelude.{◌≡◌, ◌<◌, ℕ, length, map, None, true, OnOk, IsOk, IfSome};
+ghost use Rattle.export_protocol.specs.Step.{refusal};
+ghost use Rattle.export_machine.specs.Room.{IsAsRoomy, KeepsRoom};
+ghost use Rattle.export_machine.specs.Kept.{world_of, indexes_of, has_place, has_entry_places};
 ghost use Rattle.export_machine.specs.Kept.{has_list_places, has_ticket_places, has_dir_places, has_export_places};
-ghost use Rattle.export_machine.specs.Kept.{entered_at, CanHappen, HasHappened, IsKept};
+ghost use Rattle.export_machine.specs.Kept.{entered_at, is_ready, CanHappen, HasHappened};
 
+use crate::cluster::Cluster;
 use crate::records::Records;
-use export_protocol::{Event, Reply, StepError};
+use export_protocol::{Event, Reply};
 use mds_types::Rank;
 use std::alloc::AllocError;
 
@@ -68,43 +68,6 @@ impl Records {
         grow_list(&mut self.tickets_at, rank.number() as usize)
     }
 
-    /// The effect of an accepted event for which there is room.
-    fn happen(&mut self, event: Event) -> Reply
-        requires { CanHappen self.old (event) }
-        ensures { HasHappened self.old (event) result self.new }
-    {
-        match event {
-            Event::Made(parent) => self.make(parent),
-            Event::Gone(dir) => self.remove(dir),
-            Event::Begin(rank, dir) => self.begin(rank, dir),
-            Event::End(ticket) => self.end(ticket),
-            Event::Start(from, to, dirs) => self.start(from, to, dirs),
-            Event::Deliver(message) => self.deliver(message),
-            Event::Froze(export) => self.froze(export),
-            Event::Notify(export) => self.notify(export),
-            Event::Abort(export) => self.abort(export),
-            Event::Stop(rank) => self.stop(rank),
-            Event::Restart(rank) => self.restart(rank),
-            Event::Ask(export) => self.ask(export),
-        }
-    }
-
-    /// The journal in which this accepted event is entered, if it is.
-    fn journal_rank(&self, event: &Event) -> Option<Rank>
-        requires kept { IsKept self.now }
-        requires accepted { refusal (world_of self.now) (event.now) ≡ None }
-        ensures rank { result ≡ entered_at (world_of self.now) (event.now) }
-        ensures near { IfSome result (λ rank. rank < length self.now.journals.items) }
-    {
-        match event {
-            Event::Made(parent) => self.authority(*parent),
-            Event::Gone(dir) => self.authority(*dir),
-            Event::Deliver(message) => Some(self.receiver(self.sent[*message as usize])),
-            Event::Notify(export) => Some(self.from(*export)),
-            _ => None,
-        }
-    }
-
     /// Takes room for one more entry, where an entry is written.
     fn grow_entry(&mut self, rank: Option<Rank>) -> Result<(), AllocError>
         requires near { IfSome rank (λ r. r < length self.old.journals.items) }
@@ -149,62 +112,56 @@ impl Records {
         }
     }
 
-    /// Takes the memory that an accepted event needs. Where there is room already it takes none.
-    pub(crate) fn grow(&mut self, event: &Event) -> Result<(), AllocError>
-        requires kept { IsKept self.old }
-        requires accepted { refusal (world_of self.old) (event.now) ≡ None }
-        ensures world { world_of self.new ≡ world_of self.old }
-        ensures indexes { indexes_of self.new ≡ indexes_of self.old }
-        ensures room { OnOk result (has_room self.new (event.now) ≡ true) }
-        ensures ready { has_room self.old (event.now) ≡ true → IsOk result }
-        ensures spare { IsAsRoomy self.old self.new }
+    /// The effect of an accepted event for which there is room.
+    pub(crate) fn happen(&mut self, event: Event) -> Reply
+        requires { CanHappen self.old (event) }
+        ensures { HasHappened self.old (event) result self.new }
     {
-        let rank = self.journal_rank(event);
-        self.grow_entry(rank)?;
-        self.grow_lists(event)
+        match event {
+            Event::Made(parent) => self.make(parent),
+            Event::Gone(dir) => self.remove(dir),
+            Event::Begin(rank, dir) => self.begin(rank, dir),
+            Event::End(ticket) => self.end(ticket),
+            Event::Start(from, to, dirs) => self.start(from, to, dirs),
+            Event::Deliver(message) => self.deliver(message),
+            Event::Froze(export) => self.froze(export),
+            Event::Notify(export) => self.notify(export),
+            Event::Abort(export) => self.abort(export),
+            Event::Stop(rank) => self.stop(rank),
+            Event::Restart(rank) => self.restart(rank),
+            Event::Ask(export) => self.ask(export),
+        }
     }
+}
 
-    /// Refuses an event, or takes the memory that it needs.
-    pub(crate) fn prepare(&mut self, event: &Event) -> Result<(), StepError>
-        requires kept { IsKept self.old }
-        ensures accepted { OnOk result (refusal (world_of self.old) (event.now) ≡ None) }
-        ensures room { OnOk result (has_room self.new (event.now) ≡ true) }
-        ensures err { IfErr result (IsRefusal (world_of self.old) (event.now)) }
-        ensures ready { refusal (world_of self.old) (event.now) ≡ None → has_room self.old (event.now) ≡ true
-            → IsOk result }
-        ensures world { world_of self.new ≡ world_of self.old }
-        ensures kept { IsKept self.new }
-        ensures spare { IsAsRoomy self.old self.new }
+impl Cluster {
+    /// The journal in which this accepted event is entered, if it is.
+    fn journal_rank(&self, event: &Event) -> Option<Rank>
+        requires { refusal self.now.world (event.now) ≡ None }
+        ensures rank { result ≡ entered_at self.now.world (event.now) }
+        ensures near { IfSome result (λ rank. rank < length self.now.world.journals) }
     {
-        self.check_by_marks(event)?;
-        match self.grow(event) {
-            Ok(()) => Ok(()),
-            Err(_) => Err(StepError::Memory),
+        match event {
+            Event::Made(parent) => self.authority(*parent),
+            Event::Gone(dir) => self.authority(*dir),
+            Event::Deliver(message) => {
+                Some(self.records.receiver(self.records.sent[*message as usize]))
+            }
+            Event::Notify(export) => Some(self.records.from(*export)),
+            _ => None,
         }
     }
 
-    /// An event that is prepared happens, and is counted.
-    pub(crate) fn perform(&mut self, event: Event) -> Reply
-        requires kept { IsKept self.old }
-        requires accepted { refusal (world_of self.old) (event) ≡ None }
-        requires room { has_room self.old (event) ≡ true }
-        ensures step { step (world_of self.old) (event) ≡ (Ok result, world_of self.new) }
-        ensures kept { IsKept self.new }
+    /// Takes the memory that an accepted event needs. Where there is room already it takes none.
+    pub(crate) fn grow(&mut self, event: &Event) -> Result<(), AllocError>
+        requires { refusal self.old.world (event.now) ≡ None }
+        ensures world { self.new.world ≡ self.old.world }
+        ensures room { OnOk result (is_ready self.new (event.now) ≡ true) }
+        ensures ready { is_ready self.old (event.now) ≡ true → IsOk result }
+        ensures spare { KeepsRoom self.old self.new }
     {
-        let reply = self.happen(event);
-        self.events += 1;
-        reply
-    }
-
-    /// Applies an event.
-    pub(crate) fn apply(&mut self, event: Event) -> Result<Reply, StepError>
-        requires kept { IsKept self.old }
-        ensures answer { IsAnswer (world_of self.old) (event) result (world_of self.new) }
-        ensures kept { IsKept self.new }
-        ensures ready { refusal (world_of self.old) (event) ≡ None → has_room self.old (event) ≡ true → IsOk result }
-        ensures spare { OnErr result (IsAsRoomy self.old self.new) }
-    {
-        self.prepare(&event)?;
-        Ok(self.perform(event))
+        let rank = self.journal_rank(event);
+        self.records.grow_entry(rank)?;
+        self.records.grow_lists(event)
     }
 }

@@ -8,12 +8,12 @@ ghost use Rattle.export_protocol.specs.Step.{no_dir, no_rank, no_export, rank_st
 ghost use Rattle.export_protocol.specs.Step.{authority_stopped, not_served, busy, not_yet, running_on, when};
 ghost use Rattle.export_protocol.specs.Step.{history_limit, export_limit, is_root, is_child, any_at, cannot_leave};
 ghost use Rattle.export_protocol.specs.Step.{least_fault};
-ghost use Rattle.export_machine.specs.Kept.{world_of, cause_of, lesser, IsKept};
+ghost use Rattle.export_machine.specs.Kept.{cause_of, lesser};
 ghost use Rattle.export_protocol.specs.declared.step_error.StepError.TheVariants.{HistoryFull, NoDir, NotEmpty};
 ghost use Rattle.export_protocol.specs.declared.step_error.StepError.TheVariants.{IsRoot, TreeFull, SameRank};
 ghost use Rattle.export_protocol.specs.declared.step_error.StepError.TheVariants.{ExportsFull};
 
-use crate::records::Records;
+use crate::cluster::Cluster;
 use export_protocol::StepError;
 use mds_types::{Dir, Rank};
 
@@ -30,70 +30,74 @@ fn refuse_if(test: bool, error: StepError) -> Result<(), StepError>
     if test { Err(error) } else { Ok(()) }
 }
 
-impl Records {
+impl Cluster {
     pub(crate) fn check_history(&self) -> Result<(), StepError>
-        ensures { cause_of result ≡ when (nat_le history_limit self.now.events) HistoryFull }
+        ensures { cause_of result ≡ when (nat_le history_limit self.now.world.events) HistoryFull }
     {
-        refuse_if(self.events >= EVENT_LIMIT, StepError::HistoryFull)
+        refuse_if(self.records.events >= EVENT_LIMIT, StepError::HistoryFull)
     }
 
     pub(crate) fn check_dir(&self, dir: Dir) -> Result<(), StepError>
-        ensures { cause_of result ≡ no_dir (world_of self.now) dir }
+        ensures { cause_of result ≡ no_dir self.now.world dir }
     {
-        refuse_if(!self.is_present(dir), StepError::NoDir)
+        refuse_if(!self.records.is_present(dir), StepError::NoDir)
     }
 
     pub(crate) fn check_rank(&self, rank: Rank) -> Result<(), StepError>
-        ensures { cause_of result ≡ no_rank (world_of self.now) rank }
+        ensures { cause_of result ≡ no_rank self.now.world rank }
     {
-        refuse_if(rank.number() >= self.ranks, StepError::NoRank)
+        refuse_if(rank.number() >= self.records.ranks, StepError::NoRank)
     }
 
     pub(crate) fn check_runs(&self, rank: Rank) -> Result<(), StepError>
-        ensures { cause_of result ≡ rank_stopped (world_of self.now) rank }
+        ensures { cause_of result ≡ rank_stopped self.now.world rank }
     {
-        refuse_if(self.is_stopped(rank), StepError::Stopped(rank))
+        refuse_if(self.records.is_stopped(rank), StepError::Stopped(rank))
     }
 
     pub(crate) fn check_export(&self, export: u32) -> Result<(), StepError>
-        ensures cause { cause_of result ≡ no_export (world_of self.now) export }
-        ensures near { OnOk result (export < length self.now.exports.orders) }
+        ensures cause { cause_of result ≡ no_export self.now.world export }
+        ensures near { OnOk result (export < length self.now.world.orders) }
     {
-        refuse_if(export as usize >= self.exports.len(), StepError::NoExport)
+        refuse_if(
+            export as usize >= self.records.exports.len(),
+            StepError::NoExport,
+        )
     }
 
     pub(crate) fn check_room(&self) -> Result<(), StepError>
-        ensures { cause_of result ≡ when (nat_le self.now.limit (length self.now.dirs.parents)) TreeFull }
+        ensures { cause_of result ≡ when (nat_le self.now.world.limit (length self.now.world.parents)) TreeFull }
     {
-        refuse_if(self.dirs.len() >= self.limit as usize, StepError::TreeFull)
+        refuse_if(
+            self.records.dirs.len() >= self.records.limit as usize,
+            StepError::TreeFull,
+        )
     }
 
     pub(crate) fn check_exports(&self) -> Result<(), StepError>
-        ensures { cause_of result ≡ when (nat_le export_limit (length self.now.exports.orders)) ExportsFull }
+        ensures { cause_of result ≡ when (nat_le export_limit (length self.now.world.orders)) ExportsFull }
     {
         refuse_if(
-            self.exports.len() >= EXPORT_LIMIT as usize,
+            self.records.exports.len() >= EXPORT_LIMIT as usize,
             StepError::ExportsFull,
         )
     }
 
     pub(crate) fn check_dirs(&self, dirs: &[Dir]) -> Result<(), StepError>
-        ensures cause { cause_of result ≡ when (not (list_all (is_present (world_of self.now)) dirs.now)) NoDir }
-        ensures present { OnOk result (list_all (is_present (world_of self.now)) dirs.now ≡ true) }
+        ensures cause { cause_of result ≡ when (not (list_all (is_present self.now.world) dirs.now)) NoDir }
+        ensures present { OnOk result (list_all (is_present self.now.world) dirs.now ≡ true) }
     {
-        refuse_if(!self.are_present(dirs), StepError::NoDir)
+        refuse_if(!self.records.are_present(dirs), StepError::NoDir)
     }
 
     pub(crate) fn check_empty(&self, dir: Dir) -> Result<(), StepError>
-        requires kept { IsKept self.now }
-        ensures { cause_of result ≡ when (any_at (is_child dir) self.now.dirs.parents) NotEmpty }
+        ensures { cause_of result ≡ when (any_at (is_child dir) self.now.world.parents) NotEmpty }
     {
         refuse_if(self.children(dir) != 0, StepError::NotEmpty)
     }
 
     fn check_can_leave(&self, from: Rank, dir: Dir) -> Result<(), StepError>
-        requires kept { IsKept self.now }
-        ensures { cause_of result ≡ cannot_leave (world_of self.now) from dir }
+        ensures { cause_of result ≡ cannot_leave self.now.world from dir }
     {
         self.check_not_busy(dir)?;
         match self.authority(dir) {
@@ -105,9 +109,8 @@ impl Records {
 
     /// Of the directories that can't leave the least is the answer.
     pub(crate) fn check_leaving(&self, from: Rank, dirs: &[Dir]) -> Result<(), StepError>
-        requires kept { IsKept self.now }
-        requires present { list_all (is_present (world_of self.now)) dirs.now ≡ true }
-        ensures { cause_of result ≡ least_fault (world_of self.now) from dirs.now (length self.now.dirs.parents) }
+        requires { list_all (is_present self.now.world) dirs.now ≡ true }
+        ensures { cause_of result ≡ least_fault self.now.world from dirs.now (length self.now.world.parents) }
     {
         let mut least: Option<Dir> = None;
         for dir in dirs {
@@ -121,9 +124,8 @@ impl Records {
 
     /// The lesser of a faulty directory and the next one, where that is faulty.
     fn least_faulty(&self, from: Rank, least: Option<Dir>, dir: Dir) -> Option<Dir>
-        requires kept { IsKept self.now }
-        ensures free { cannot_leave (world_of self.now) from dir ≡ None → result ≡ least }
-        ensures faulty { cannot_leave (world_of self.now) from dir ≢ None → result ≡ Some (lesser least dir) }
+        ensures free { cannot_leave self.now.world from dir ≡ None → result ≡ least }
+        ensures faulty { cannot_leave self.now.world from dir ≢ None → result ≡ Some (lesser least dir) }
     {
         if self.check_can_leave(from, dir).is_ok() {
             return least;
@@ -136,9 +138,8 @@ impl Records {
 
     /// The answer is to be used only for a directory that has an authority.
     fn check_not_frozen(&self, dir: Dir) -> Result<(), StepError>
-        requires kept { IsKept self.now }
-        ensures { (rank : ℕ) → authority (world_of self.now) dir ≡ Some rank
-            → cause_of result ≡ held (frozen_by (world_of self.now) rank dir) }
+        ensures { (rank : ℕ) → authority self.now.world dir ≡ Some rank
+            → cause_of result ≡ held (frozen_by self.now.world rank dir) }
     {
         match self.frozen_by(dir) {
             Some(export) => Err(StepError::Frozen(export)),
@@ -147,8 +148,7 @@ impl Records {
     }
 
     pub(crate) fn check_held(&self, dir: Dir) -> Result<(), StepError>
-        requires kept { IsKept self.now }
-        ensures { cause_of result ≡ held_at (world_of self.now) dir (authority (world_of self.now) dir) }
+        ensures { cause_of result ≡ held_at self.now.world dir (authority self.now.world dir) }
     {
         match self.authority(dir) {
             Some(_) => self.check_not_frozen(dir),
@@ -157,8 +157,7 @@ impl Records {
     }
 
     pub(crate) fn check_authority_runs(&self, dir: Dir) -> Result<(), StepError>
-        requires kept { IsKept self.now }
-        ensures { cause_of result ≡ authority_stopped (world_of self.now) (authority (world_of self.now) dir) }
+        ensures { cause_of result ≡ authority_stopped self.now.world (authority self.now.world dir) }
     {
         match self.authority(dir) {
             Some(rank) => self.check_runs(rank),
@@ -167,8 +166,7 @@ impl Records {
     }
 
     pub(crate) fn check_not_busy(&self, dir: Dir) -> Result<(), StepError>
-        requires kept { IsKept self.now }
-        ensures { cause_of result ≡ busy (open_export (world_of self.now) dir) }
+        ensures { cause_of result ≡ busy (open_export self.now.world dir) }
     {
         match self.open_export(dir) {
             Some(export) => Err(StepError::Busy(export)),
@@ -177,8 +175,7 @@ impl Records {
     }
 
     pub(crate) fn check_idle(&self, dir: Dir) -> Result<(), StepError>
-        requires kept { IsKept self.now }
-        ensures { cause_of result ≡ not_yet (running_on (world_of self.now) (dir ∷ [])) }
+        ensures { cause_of result ≡ not_yet (running_on self.now.world (dir ∷ [])) }
     {
         match self.running_on(dir) {
             0 => Ok(()),
@@ -187,8 +184,7 @@ impl Records {
     }
 
     pub(crate) fn check_served(&self, rank: Rank, dir: Dir) -> Result<(), StepError>
-        requires kept { IsKept self.now }
-        ensures { cause_of result ≡ not_served (world_of self.now) rank dir (authority (world_of self.now) dir) }
+        ensures { cause_of result ≡ not_served self.now.world rank dir (authority self.now.world dir) }
     {
         match self.authority(dir) {
             None => Err(StepError::NoDir),

@@ -1,6 +1,6 @@
 //! A cluster of metadata ranks that move directories by exports.
 
-ghost use Rattle.std.specs.Prelude.{◌≡◌, ◌<◌, ◌≤◌, ◌↔◌, ℕ, length, map, None, true, Some, IsSome, IfSome};
+ghost use Rattle.std.specs.Prelude.{◌≡◌, ◌<◌, ◌≤◌, ◌↔◌, length, map, None, true, Some, IsSome, IfSome};
 ghost use Rattle.std.specs.Prelude.{IfOk, IfErr, IsOk, Ok, Err, OnOk, OnErr, All, slice_get};
 ghost use Rattle.export_protocol.specs.Authority.{authority, serves, named_of, journal_of, order_in};
 ghost use Rattle.export_protocol.specs.Step.{refusal, start, step, happens, counted, answers as answers_to};
@@ -24,7 +24,7 @@ use std::marker::Model;
 /// one to which some list of events leads from the start.
 #[derive(Drop)]
 pub struct Cluster {
-    records: Records,
+    pub(crate) records: Records,
 }
 
 impl Model for Cluster {
@@ -62,7 +62,9 @@ impl Cluster {
         // The event changed the authority of no directory on which a request runs.
         ensures kept { KeepsAuthority self.old.world (event) }
     {
-        self.records.apply(event)
+        self.reached();
+        self.prepare(&event)?;
+        Ok(self.happen(event))
     }
 
     /// Refuses an event, or takes the memory that it needs as the next change: then it can `happen`. A list of
@@ -75,7 +77,11 @@ impl Cluster {
         ensures world { self.new.world ≡ self.old.world }
         ensures spare { KeepsRoom self.old self.new }
     {
-        self.records.prepare(event)
+        self.check_by_marks(event)?;
+        match self.grow(event) {
+            Ok(()) => Ok(()),
+            Err(_) => Err(StepError::Memory),
+        }
     }
 
     /// An event that is prepared happens.
@@ -87,7 +93,9 @@ impl Cluster {
         ensures world { self.new.world ≡ counted (happens self.old.world (event)).world }
         ensures promised { Promised self.new.world }
     {
-        self.records.perform(event)
+        let reply = self.records.happen(event);
+        self.records.events += 1;
+        reply
     }
 
     /// Applies the events one after the other. Memory for the answers is asked for before the first event.
@@ -155,17 +163,25 @@ impl Cluster {
     }
 
     /// Why `apply` would refuse this event, apart from a lack of memory. It takes no memory.
+    #[tactic(auto, unfolding(export_protocol::specs::Step::refusal))]
     pub fn can_apply(&self, event: &Event) -> Result<(), StepError>
         ensures { cause_of result ≡ refusal self.now.world (event.now) }
     {
-        self.records.check(event)
+        self.check_history()?;
+        self.check_causes(event)
     }
 
     /// Whether this event, if it comes next, is the log entry of an export: from then on the export can only go on.
     pub fn logs_export(&self, event: &Event) -> bool
         ensures { result ≡ logs_export self.now.world (event.now) }
     {
-        self.records.logs_export(event)
+        match event {
+            Event::Deliver(message) => {
+                self.can_apply(event).is_ok()
+                    && self.records.logs(self.records.sent[*message as usize])
+            }
+            _ => false,
+        }
     }
 
     /// Takes the memory that an event needs as the next change, which no cause refuses: then it can
@@ -176,14 +192,14 @@ impl Cluster {
         ensures room { OnOk result (is_ready self.new (event.now) ≡ true) }
         ensures spare { KeepsRoom self.old self.new }
     {
-        self.records.grow(event)
+        self.grow(event)
     }
 
     /// The rank that has authority over a directory.
     pub fn authority(&self, dir: Dir) -> Option<Rank>
         ensures { result ≡ authority self.now.world dir }
     {
-        self.records.authority(dir)
+        self.records.dirs.owner(dir)
     }
 
     /// The roots of subtrees, by rising numbers, each with its authority: directory 0, and each directory whose
@@ -191,14 +207,25 @@ impl Cluster {
     pub fn roots(&self, alloc: Global) -> Result<Vec<(Dir, Rank)>, AllocError>
         ensures { IfOk result (λ found. found.items ≡ roots self.now.world) }
     {
-        self.records.roots(alloc)
+        let mut found = Vec::new(alloc);
+        for number in 0..self.records.dirs.len() {
+            let dir = Dir::new(number as u32);
+            if let Some(rank) = self.root_rank(dir) {
+                found.push((dir, rank))?;
+            }
+        }
+        Ok(found)
     }
 
     /// Whether a rank serves a directory.
     pub fn serves(&self, rank: Rank, dir: Dir) -> bool
         ensures { result ≡ serves self.now.world rank dir }
     {
-        self.records.serves(rank, dir)
+        self.reached();
+        match self.authority(dir) {
+            Some(authority) => authority == rank && self.frozen_by(dir).is_none(),
+            None => false,
+        }
     }
 
     /// The rank that the map names for a directory.
@@ -226,7 +253,10 @@ impl Cluster {
     pub fn to(&self, message: u32) -> Option<(u32, Rank)>
         ensures { result ≡ addressed self.now.world (slice_get self.now.world.sent message) }
     {
-        self.records.addressed(message)
+        match self.records.sent.get(message as usize) {
+            Some(message) => Some((message.export(), self.records.receiver(*message))),
+            None => None,
+        }
     }
 
     /// What an export moves.

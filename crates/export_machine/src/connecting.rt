@@ -5,11 +5,12 @@ ghost use Rattle.std.specs.Prelude.{count_by, slice_index_or, vec_capacity};
 ghost use Rattle.std.specs.List.{list_all};
 ghost use Rattle.export_protocol.specs.Authority.{is_among, is_present};
 ghost use Rattle.export_protocol.specs.Step.{repeats, is_connected};
-ghost use Rattle.export_machine.specs.Kept.{world_of, is_listed, parent_marked, IsKept};
+ghost use Rattle.export_machine.specs.Kept.{is_listed, parent_marked};
 
 use crate::changes::put;
+use crate::cluster::Cluster;
 use crate::dir_table::DirTable;
-use crate::records::{Records, value_at};
+use crate::records::value_at;
 use mds_types::Dir;
 
 fn is_listed(table: &DirTable, dir: Dir) -> bool
@@ -71,20 +72,17 @@ fn tops(table: &DirTable, marks: &[bool], dirs: &[Dir]) -> usize
         .count()
 }
 
-impl Records {
+impl Cluster {
     /// Whether the directories are some, none twice, and connected: only one of them has no parent among them. The
     /// answer is to be used only where all of them are there.
     pub(crate) fn connects(&mut self, dirs: &[Dir]) -> bool
-        requires kept { IsKept self.old }
-        ensures others { self.new ≡ record self.old { marks = self.new.marks } }
-        ensures marks { self.new.marks.items ≡ self.old.marks.items }
-        ensures capacity { vec_capacity self.new.marks ≡ vec_capacity self.old.marks }
-        ensures connected { list_all (is_present (world_of self.old)) dirs.now ≡ true
-            → result ≡ is_connected (world_of self.old) dirs.now }
+        ensures same { self.new ≡ self.old }
+        ensures connected { list_all (is_present self.old.world) dirs.now ≡ true
+            → result ≡ is_connected self.old.world dirs.now }
     {
-        let connected = mark_once(&mut self.marks, &self.dirs, dirs)
-            && tops(&self.dirs, &self.marks, dirs) == 1;
-        unmark(&mut self.marks, dirs);
+        let connected = mark_once(&mut self.records.marks, &self.records.dirs, dirs)
+            && tops(&self.records.dirs, &self.records.marks, dirs) == 1;
+        unmark(&mut self.records.marks, dirs);
         connected
     }
 }

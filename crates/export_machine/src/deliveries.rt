@@ -2,20 +2,20 @@
 //!
 //! A message may come late, twice or not at all. It acts in only one state, and is ignored in every other.
 
-ghost use Rattle.std.specs.Prelude.{◌≡◌, ◌<◌, ℕ, length, map, Some, None, true, slice_get, vec_len, vec_capacity};
+ghost use Rattle.std.specs.Prelude.{◌≡◌, ◌<◌, ℕ, length, map, Some, None, true, vec_len, vec_capacity};
 ghost use Rattle.export_protocol.specs.Authority.{order_in, is_inside, exporter_of, importer_of};
 ghost use Rattle.export_protocol.specs.Step.{receiver, about, move};
 ghost use Rattle.export_protocol.specs.Step.{exporter_moves, importer_moves, notes, replies};
 ghost use Rattle.export_protocol.specs.declared.event.Event.{Event as StepEvent};
-ghost use Rattle.export_protocol.specs.Entries.{logs_export, is_log, delivered_entry};
-ghost use Rattle.export_machine.specs.Kept.{CanHappen, HasHappened, world_of, indexes_of, has_place, addressed};
-ghost use Rattle.export_machine.specs.Kept.{IsKept, IsIndexed, CanReceive, IsReceived};
+ghost use Rattle.export_protocol.specs.Entries.{is_log, delivered_entry};
+ghost use Rattle.export_machine.specs.Kept.{CanHappen, HasHappened, world_of, indexes_of, has_place};
+ghost use Rattle.export_machine.specs.Kept.{IsIndexed, CanReceive, IsReceived};
 ghost use Rattle.export_machine.specs.Moving.{heard, indexes_noted};
 
 use crate::changes::{enter, send};
 use crate::records::Records;
 use export_protocol::moves::{Transition, move_of};
-use export_protocol::{Event, ExporterState, ImporterState, JournalEntry, Message, Reply};
+use export_protocol::{ExporterState, ImporterState, JournalEntry, Message, Reply};
 use mds_types::Rank;
 
 impl Records {
@@ -193,7 +193,7 @@ impl Records {
     }
 
     /// Whether a message makes the rank that it is for log the export.
-    fn logs(&self, message: Message) -> bool
+    pub(crate) fn logs(&self, message: Message) -> bool
         requires { about message < length self.now.exports.orders }
         ensures { result ≡ is_log (delivered_entry (world_of self.now) (Some message)) }
     {
@@ -203,29 +203,6 @@ impl Records {
                     && matches!(self.exporter(export), ExporterState::Exporting)
             }
             _ => false,
-        }
-    }
-
-    /// Whether an event, if it comes next, logs an export.
-    pub(crate) fn logs_export(&self, event: &Event) -> bool
-        requires kept { IsKept self.now }
-        ensures { result ≡ logs_export (world_of self.now) (event.now) }
-    {
-        match event {
-            Event::Deliver(message) => {
-                self.check(event).is_ok() && self.logs(self.sent[*message as usize])
-            }
-            _ => false,
-        }
-    }
-
-    pub(crate) fn addressed(&self, message: u32) -> Option<(u32, Rank)>
-        requires kept { IsKept self.now }
-        ensures { result ≡ addressed (world_of self.now) (slice_get self.now.sent.items message) }
-    {
-        match self.sent.get(message as usize) {
-            Some(message) => Some((message.export(), self.receiver(*message))),
-            None => None,
         }
     }
 }

@@ -66,7 +66,7 @@ impl Records {
         ensures { HasHappened self.old (StepEvent.Made parent) result self.new }
     {
         let dir = Dir::new(self.dirs.len() as u32);
-        let Some(rank) = self.authority(parent) else {
+        let Some(rank) = self.dirs.owner(parent) else {
             return Reply::Ignored;
         };
         enter(&mut self.journals, rank, JournalEntry::Made(dir));
@@ -81,7 +81,7 @@ impl Records {
         requires { CanHappen self.old (StepEvent.Gone dir) }
         ensures { HasHappened self.old (StepEvent.Gone dir) result self.new }
     {
-        let Some(rank) = self.authority(dir) else {
+        let Some(rank) = self.dirs.owner(dir) else {
             return Reply::Ignored;
         };
         let Some(parent) = self.parent(dir) else {

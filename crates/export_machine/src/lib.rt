@@ -10,9 +10,9 @@ mod deliveries;
 mod dir_table;
 mod effects;
 mod export_table;
+mod reads;
 mod records;
 mod refusals;
-mod roots;
 mod searching;
 mod stopping;
 

@@ -7,15 +7,14 @@
 //! list of directories. By rank there are the tickets of its requests and the exports that are open there, so that a
 //! stop needn't look through all requests and exports since the start.
 
-ghost use Rattle.std.specs.Prelude.{◌≡◌, ℕ, ◌<◌, ◌≤◌, IfOk, map, replicate, slice_set};
+ghost use Rattle.std.specs.Prelude.{◌≡◌, ◌<◌, ◌≤◌, IfOk, map, replicate, slice_set};
 ghost use Rattle.std.specs.Prelude.{false, ◌∷◌, [], length, Some, slice_index_or};
-ghost use Rattle.export_protocol.specs.Authority.{is_present, authority, open_export, is_stopped, exporter_of};
-ghost use Rattle.export_protocol.specs.Authority.{importer_of, from_of, to_of, order_in, frozen_by};
-ghost use Rattle.export_protocol.specs.Authority.{serves, named_of, journal_of};
-ghost use Rattle.export_protocol.specs.Step.{running_on, start};
+ghost use Rattle.export_protocol.specs.Authority.{is_present, is_stopped, exporter_of, importer_of};
+ghost use Rattle.export_protocol.specs.Authority.{from_of, to_of, order_in, named_of, journal_of};
+ghost use Rattle.export_protocol.specs.Step.{start};
 ghost use Rattle.std.specs.List.{list_all};
-ghost use Rattle.export_protocol.specs.Roots.{parent_of, root_rank};
-ghost use Rattle.export_machine.specs.Kept.{world_of, indexes_of, first_indexes, children_of, IsKept};
+ghost use Rattle.export_protocol.specs.Roots.{parent_of};
+ghost use Rattle.export_machine.specs.Kept.{world_of, indexes_of, first_indexes};
 
 use crate::dir_table::DirTable;
 use crate::export_table::ExportTable;
@@ -129,51 +128,10 @@ impl Records {
         dirs.iter().all(|dir| self.is_present(*dir))
     }
 
-    pub(crate) fn authority(&self, dir: Dir) -> Option<Rank>
-        requires { IsKept self.now }
-        ensures { result ≡ authority (world_of self.now) dir }
-    {
-        self.dirs.owner(dir)
-    }
-
     pub(crate) fn parent(&self, dir: Dir) -> Option<Dir>
         ensures { result ≡ parent_of (world_of self.now) dir }
     {
         self.dirs.parent(dir)
-    }
-
-    /// The authority of a directory that is the root of a subtree.
-    pub(crate) fn root_rank(&self, dir: Dir) -> Option<Rank>
-        requires { IsKept self.now }
-        ensures { result ≡ root_rank (world_of self.now) dir }
-    {
-        match self.parent(dir) {
-            Some(parent) if dir.number() == 0 || self.authority(dir) != self.authority(parent) => {
-                self.authority(dir)
-            }
-            _ => None,
-        }
-    }
-
-    pub(crate) fn open_export(&self, dir: Dir) -> Option<u32>
-        requires { IsKept self.now }
-        ensures { result ≡ open_export (world_of self.now) dir }
-    {
-        self.dirs.opened(dir)
-    }
-
-    pub(crate) fn running_on(&self, dir: Dir) -> u32
-        requires { IsKept self.now }
-        ensures { result ≡ running_on (world_of self.now) (dir ∷ []) }
-    {
-        self.dirs.running(dir)
-    }
-
-    pub(crate) fn children(&self, dir: Dir) -> u32
-        requires { IsKept self.now }
-        ensures { result ≡ children_of (world_of self.now) dir }
-    {
-        self.dirs.children(dir)
     }
 
     pub(crate) fn named(&self, dir: Dir) -> Option<Rank>
@@ -228,44 +186,5 @@ impl Records {
         ensures { result.now ≡ (order_in (world_of self.now).orders export).dirs }
     {
         self.exports.order(export).dirs.as_slice()
-    }
-
-    /// The export because of which the authority of a directory doesn't serve it.
-    pub(crate) fn frozen_by(&self, dir: Dir) -> Option<u32>
-        requires { IsKept self.now }
-        ensures { (rank : ℕ) → authority (world_of self.now) dir ≡ Some rank
-            → result ≡ frozen_by (world_of self.now) rank dir }
-    {
-        match self.open_export(dir) {
-            Some(export) => match self.exporter(export) {
-                ExporterState::Discovering => None,
-                _ => Some(export),
-            },
-            None => None,
-        }
-    }
-
-    pub(crate) fn serves(&self, rank: Rank, dir: Dir) -> bool
-        requires { IsKept self.now }
-        ensures { result ≡ serves (world_of self.now) rank dir }
-    {
-        match self.authority(dir) {
-            Some(authority) => authority == rank && self.frozen_by(dir).is_none(),
-            None => false,
-        }
-    }
-
-    /// How many requests run on the directories of an export.
-    pub(crate) fn running_in(&self, export: u32) -> u32
-        requires kept { IsKept self.now }
-        requires near { export < length self.now.exports.orders }
-        ensures { result ≡ running_on (world_of self.now) (order_in (world_of self.now).orders export).dirs }
-    {
-        let dirs = self.dirs(export);
-        let mut requests = 0;
-        for dir in dirs {
-            requests += self.running_on(*dir);
-        }
-        requests
     }
 }

@@ -6,18 +6,16 @@ ghost use Rattle.std.specs.List.{list_all};
 ghost use Rattle.export_protocol.specs.Authority.{is_present};
 ghost use Rattle.export_protocol.specs.Step.{refusal, first, causes, is_connected};
 ghost use Rattle.export_protocol.specs.declared.event.Event.{Event as StepEvent};
-ghost use Rattle.export_machine.specs.Room.{IsAsRoomy};
-ghost use Rattle.export_machine.specs.Kept.{world_of, indexes_of, has_room, cause_of, IsKept};
+ghost use Rattle.export_machine.specs.Kept.{cause_of};
 
 use crate::checks::{check_different, check_not_root};
-use crate::records::Records;
+use crate::cluster::Cluster;
 use export_protocol::{Event, ExporterState, ImporterState, StepError};
 use mds_types::{Dir, Rank};
 
-impl Records {
+impl Cluster {
     fn check_made(&self, parent: Dir) -> Result<(), StepError>
-        requires kept { IsKept self.now }
-        ensures { cause_of result ≡ first (causes (world_of self.now) (StepEvent.Made parent)) }
+        ensures { cause_of result ≡ first (causes self.now.world (StepEvent.Made parent)) }
     {
         self.check_dir(parent)?;
         self.check_room()?;
@@ -26,8 +24,7 @@ impl Records {
     }
 
     fn check_begin(&self, rank: Rank, dir: Dir) -> Result<(), StepError>
-        requires kept { IsKept self.now }
-        ensures { cause_of result ≡ first (causes (world_of self.now) (StepEvent.Begin rank dir)) }
+        ensures { cause_of result ≡ first (causes self.now.world (StepEvent.Begin rank dir)) }
     {
         self.check_rank(rank)?;
         self.check_runs(rank)?;
@@ -36,20 +33,18 @@ impl Records {
     }
 
     fn check_notify(&self, export: u32) -> Result<(), StepError>
-        requires kept { IsKept self.now }
-        ensures { cause_of result ≡ first (causes (world_of self.now) (StepEvent.Notify export)) }
+        ensures { cause_of result ≡ first (causes self.now.world (StepEvent.Notify export)) }
     {
         self.check_export(export)?;
-        self.check_runs(self.from(export))?;
-        match self.exporter(export) {
+        self.check_runs(self.records.from(export))?;
+        match self.records.exporter(export) {
             ExporterState::Logged => Ok(()),
             state => Err(StepError::Late(state)),
         }
     }
 
     fn check_gone(&self, dir: Dir) -> Result<(), StepError>
-        requires kept { IsKept self.now }
-        ensures { cause_of result ≡ first (causes (world_of self.now) (StepEvent.Gone dir)) }
+        ensures { cause_of result ≡ first (causes self.now.world (StepEvent.Gone dir)) }
     {
         check_not_root(dir)?;
         self.check_dir(dir)?;
@@ -60,30 +55,29 @@ impl Records {
     }
 
     fn check_end(&self, ticket: u32) -> Result<(), StepError>
-        ensures { cause_of result ≡ first (causes (world_of self.now) (StepEvent.End ticket)) }
+        ensures { cause_of result ≡ first (causes self.now.world (StepEvent.End ticket)) }
     {
-        match self.tickets.get(ticket as usize) {
+        match self.records.tickets.get(ticket as usize) {
             Some(Some(_)) => Ok(()),
             _ => Err(StepError::NoTicket),
         }
     }
 
     fn check_deliver(&self, message: u32) -> Result<(), StepError>
-        ensures { cause_of result ≡ first (causes (world_of self.now) (StepEvent.Deliver message)) }
+        ensures { cause_of result ≡ first (causes self.now.world (StepEvent.Deliver message)) }
     {
-        if message as usize >= self.sent.len() {
+        if message as usize >= self.records.sent.len() {
             return Err(StepError::NoMessage);
         }
         Ok(())
     }
 
     fn check_froze(&self, export: u32) -> Result<(), StepError>
-        requires kept { IsKept self.now }
-        ensures { cause_of result ≡ first (causes (world_of self.now) (StepEvent.Froze export)) }
+        ensures { cause_of result ≡ first (causes self.now.world (StepEvent.Froze export)) }
     {
         self.check_export(export)?;
-        self.check_runs(self.from(export))?;
-        match self.exporter(export) {
+        self.check_runs(self.records.from(export))?;
+        match self.records.exporter(export) {
             ExporterState::Freezing => {}
             state => return Err(StepError::Late(state)),
         }
@@ -94,12 +88,11 @@ impl Records {
     }
 
     fn check_abort(&self, export: u32) -> Result<(), StepError>
-        requires kept { IsKept self.now }
-        ensures { cause_of result ≡ first (causes (world_of self.now) (StepEvent.Abort export)) }
+        ensures { cause_of result ≡ first (causes self.now.world (StepEvent.Abort export)) }
     {
         self.check_export(export)?;
-        self.check_runs(self.from(export))?;
-        match self.exporter(export) {
+        self.check_runs(self.records.from(export))?;
+        match self.records.exporter(export) {
             ExporterState::Discovering
             | ExporterState::Freezing
             | ExporterState::Preparing
@@ -109,26 +102,26 @@ impl Records {
     }
 
     fn check_stop(&self, rank: Rank) -> Result<(), StepError>
-        ensures { cause_of result ≡ first (causes (world_of self.now) (StepEvent.Stop rank)) }
+        ensures { cause_of result ≡ first (causes self.now.world (StepEvent.Stop rank)) }
     {
         self.check_rank(rank)?;
         self.check_runs(rank)
     }
 
     fn check_restart(&self, rank: Rank) -> Result<(), StepError>
-        ensures { cause_of result ≡ first (causes (world_of self.now) (StepEvent.Restart rank)) }
+        ensures { cause_of result ≡ first (causes self.now.world (StepEvent.Restart rank)) }
     {
         self.check_rank(rank)
     }
 
     fn check_ask(&self, export: u32) -> Result<(), StepError>
-        ensures { cause_of result ≡ first (causes (world_of self.now) (StepEvent.Ask export)) }
+        ensures { cause_of result ≡ first (causes self.now.world (StepEvent.Ask export)) }
     {
         self.check_export(export)?;
-        self.check_runs(self.to(export))?;
-        match self.importer(export) {
+        self.check_runs(self.records.to(export))?;
+        match self.records.importer(export) {
             ImporterState::Started => Ok(()),
-            _ => Err(StepError::Late(self.exporter(export))),
+            _ => Err(StepError::Late(self.records.exporter(export))),
         }
     }
 
@@ -139,10 +132,9 @@ impl Records {
         dirs: &[Dir],
         connected: bool,
     ) -> Result<(), StepError>
-        requires kept { IsKept self.now }
-        requires connected { list_all (is_present (world_of self.now)) dirs.now ≡ true
-            → connected ≡ is_connected (world_of self.now) dirs.now }
-        ensures { cause_of result ≡ first (causes (world_of self.now) (StepEvent.Start from to dirs.now)) }
+        requires { list_all (is_present self.now.world) dirs.now ≡ true
+            → connected ≡ is_connected self.now.world dirs.now }
+        ensures { cause_of result ≡ first (causes self.now.world (StepEvent.Start from to dirs.now)) }
     {
         self.check_rank(from)?;
         self.check_rank(to)?;
@@ -158,9 +150,8 @@ impl Records {
 
     #[tactic(auto)]
     #[inline(always)]
-    fn check_causes(&self, event: &Event) -> Result<(), StepError>
-        requires kept { IsKept self.now }
-        ensures { cause_of result ≡ first (causes (world_of self.now) (event.now)) }
+    pub(crate) fn check_causes(&self, event: &Event) -> Result<(), StepError>
+        ensures { cause_of result ≡ first (causes self.now.world (event.now)) }
     {
         match event {
             Event::Made(parent) => self.check_made(*parent),
@@ -171,7 +162,7 @@ impl Records {
                 *from,
                 *to,
                 dirs.as_slice(),
-                self.is_connected(dirs.as_slice()),
+                self.records.is_connected(dirs.as_slice()),
             ),
             Event::Deliver(message) => self.check_deliver(*message),
             Event::Froze(export) => self.check_froze(*export),
@@ -183,25 +174,11 @@ impl Records {
         }
     }
 
-    /// Why an event is refused. It asks for no memory.
-    #[tactic(auto, unfolding(export_protocol::specs::Step::refusal))]
-    pub(crate) fn check(&self, event: &Event) -> Result<(), StepError>
-        requires kept { IsKept self.now }
-        ensures { cause_of result ≡ refusal (world_of self.now) (event.now) }
-    {
-        self.check_history()?;
-        self.check_causes(event)
-    }
-
     /// Why an event is refused, by the marks: a list of directories takes time that grows only with its length.
     #[tactic(auto, unfolding(export_protocol::specs::Step::refusal))]
     pub(crate) fn check_by_marks(&mut self, event: &Event) -> Result<(), StepError>
-        requires kept { IsKept self.old }
-        ensures cause { cause_of result ≡ refusal (world_of self.old) (event.now) }
-        ensures world { world_of self.new ≡ world_of self.old }
-        ensures indexes { indexes_of self.new ≡ indexes_of self.old }
-        ensures room { has_room self.old (event.now) ≡ true → has_room self.new (event.now) ≡ true }
-        ensures spare { IsAsRoomy self.old self.new }
+        ensures cause { cause_of result ≡ refusal self.old.world (event.now) }
+        ensures same { self.new ≡ self.old }
     {
         self.check_history()?;
         match event {

@@ -6,6 +6,7 @@ use Rattle.export_protocol.specs.Authority.{authority}
 use Rattle.export_protocol.specs.Step.{happens}
 use Rattle.export_machine.specs.Kept.{world_of, indexes_of, has_room, entered_at, has_entry_places}
 use Rattle.export_protocol.proofs.Events.{there_near}
+use Rattle.export_machine.proofs.Bounds.{owned}
 use Rattle.export_machine.proofs.Growing.{gone_indexed, parent_below, some_child}
 use Rattle.export_protocol.proofs.Accepted.{as_rank, gone_dir, gone_there, gone_closed, gone_idle, gone_has}
 use Rattle.export_machine.proofs.records.Records.remove.Goals as goal
@@ -16,7 +17,7 @@ differ r e = cc
 pub returns-in_default : goal.returns-in_default
 returns-in_default c =
     let has = gone_has (world_of c.args.self.now) c.args.dir c.requires.accepted in
-    absurd (differ has.0 (sym (sym has.1 ∙ (sym c.authority.ensures ∙ c.in_default.is))))
+    absurd (differ has.0 (sym (sym has.1 ∙ (owned c.args.self.now c.args.dir c.requires.kept c.owner.ensures c.in_default.is))))
 
 pub returns-in_default-parent : goal.returns-in_default-parent
 returns-in_default-parent c = absurd (gone (sym c.parent.ensures ∙ c.in_default-parent.is) (gone_there (world_of c.args.self.now) c.args.dir c.requires.accepted))
@@ -26,13 +27,13 @@ returns-in_default-parent c = absurd (gone (sym c.parent.ensures ∙ c.in_defaul
 
 pub enter-requires-clause-near : goal.enter-requires-clause-near
 enter-requires-clause-near c =
-    let k : c.in-Some.rank < length (world_of c.args.self.now).journals = as_rank (world_of c.args.self.now) c.requires.kept.reached c.args.dir c.in-Some.rank (sym c.authority.ensures ∙ c.in-Some.is) in
+    let k : c.in-Some.rank < length (world_of c.args.self.now).journals = as_rank (world_of c.args.self.now) c.requires.kept.reached c.args.dir c.in-Some.rank (owned c.args.self.now c.args.dir c.requires.kept c.owner.ensures c.in-Some.is) in
     omega (arith, length-map c.args.self.now.journals.items (λ j. j.items))
 
 pub enter-requires-clause-room : goal.enter-requires-clause-room
 unfolding has_room entered_at
 enter-requires-clause-room c =
-    let a : authority (world_of c.args.self.now) c.args.dir ≡ Some c.in-Some.rank = sym c.authority.ensures ∙ c.in-Some.is in
+    let a : authority (world_of c.args.self.now) c.args.dir ≡ Some c.in-Some.rank = owned c.args.self.now c.args.dir c.requires.kept c.owner.ensures c.in-Some.is in
     (and_parts _ _ (ap (has_entry_places c.args.self.now) (sym a) ∙ (and_parts _ _ c.requires.room).0)).0
 
 pub remove-requires : goal.remove-requires
@@ -50,7 +51,7 @@ take_child-requires-clause-some c =
     let near : c.args.dir < length c.args.self.now.dirs.parents = there_near (world_of c.args.self.now) c.args.dir (gone_there (world_of c.args.self.now) c.args.dir c.requires.accepted) in
     let e : get_or c.args.self.now.dirs.parents c.args.dir None ≡ Some c.in-Some-parent.parent = sym c.parent.ensures ∙ c.in-Some-parent.is in
     let less : c.in-Some-parent.parent < c.args.dir = parent_below (world_of c.args.self.now) c.requires.kept.reached c.args.dir c.in-Some-parent.parent e (gone_dir (world_of c.args.self.now) c.args.dir c.requires.accepted) in
-    let a : authority (world_of c.args.self.now) c.args.dir ≡ Some c.in-Some.rank = sym c.authority.ensures ∙ c.in-Some.is in
+    let a : authority (world_of c.args.self.now) c.args.dir ≡ Some c.in-Some.rank = owned c.args.self.now c.args.dir c.requires.kept c.owner.ensures c.in-Some.is in
     let ranked = as_rank (world_of c.args.self.now) c.requires.kept.reached c.args.dir c.in-Some.rank a in
     rw (c.remove.ensures, c.requires.kept.indexed.children c.in-Some-parent.parent) (some_child (world_of c.args.self.now) c.in-Some.rank c.args.dir c.in-Some-parent.parent ranked near e less)
 
@@ -59,13 +60,13 @@ unfolding happens
 returns c =
     record {
       effect =
-          (let a : authority (world_of c.args.self.now) c.args.dir ≡ Some c.in-Some.rank = sym c.authority.ensures ∙ c.in-Some.is in
+          (let a : authority (world_of c.args.self.now) c.args.dir ≡ Some c.in-Some.rank = owned c.args.self.now c.args.dir c.requires.kept c.owner.ensures c.in-Some.is in
           rw (a, c.enter.ensures.entered, c.take_child.ensures, c.remove.ensures) refl);
       indexed =
           (let near : c.args.dir < length c.args.self.now.dirs.parents = there_near (world_of c.args.self.now) c.args.dir (gone_there (world_of c.args.self.now) c.args.dir c.requires.accepted) in
           let e : get_or c.args.self.now.dirs.parents c.args.dir None ≡ Some c.in-Some-parent.parent = sym c.parent.ensures ∙ c.in-Some-parent.is in
           let less : c.in-Some-parent.parent < c.args.dir = parent_below (world_of c.args.self.now) c.requires.kept.reached c.args.dir c.in-Some-parent.parent e (gone_dir (world_of c.args.self.now) c.args.dir c.requires.accepted) in
-          let a : authority (world_of c.args.self.now) c.args.dir ≡ Some c.in-Some.rank = sym c.authority.ensures ∙ c.in-Some.is in
+          let a : authority (world_of c.args.self.now) c.args.dir ≡ Some c.in-Some.rank = owned c.args.self.now c.args.dir c.requires.kept c.owner.ensures c.in-Some.is in
           let ranked = as_rank (world_of c.args.self.now) c.requires.kept.reached c.args.dir c.in-Some.rank a in
           rw (c.enter.ensures.entered, c.take_child.ensures, c.remove.ensures)
           (gone_indexed (world_of c.args.self.now) c.in-Some.rank c.args.dir c.in-Some-parent.parent ranked near e less

@@ -1,8 +1,0 @@
-use Rattle.std.proofs.Common.{take}
-use Rattle.export_machine.specs.Kept.{world_of}
-use Rattle.export_machine.proofs.Counts.{IsLeast}
-use Rattle.export_machine.proofs.records.Records.check_leaving.Given as goal
-
--- of the directories so far the faulty one that is least
-abbrev pub invariant-loop-dir : goal.invariant-loop-dir
-invariant-loop-dir l = IsLeast (world_of l.fn.self) l.from (take l.dir-index l.dirs) l.least

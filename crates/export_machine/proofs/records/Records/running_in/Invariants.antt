@@ -1,8 +1,0 @@
-use Rattle.std.proofs.Common.{◌≡◌, take}
-use Rattle.export_protocol.specs.Step.{running_on}
-use Rattle.export_machine.specs.Kept.{world_of}
-use Rattle.export_machine.proofs.records.Records.running_in.Given as goal
-
--- the requests on the directories so far
-abbrev pub invariant-loop-dir : goal.invariant-loop-dir
-invariant-loop-dir l = l.requests ≡ running_on (world_of l.fn.self) (take l.dir-index l.dirs)
