@@ -2,7 +2,7 @@
 use Rattle.std.proofs.Common.{◌≡◌, ℕ, zero, suc, ◌+◌, ◌<◌, ◌≤◌, Bool, true, false, ◌&&◌, cond, Vec, List, [], ◌∷◌, ◌++◌, length, get_or, set, map, Option, Some, None, Ok, Err, Result, refl, sym, ap, ◌∙◌, subst, inl, inr, arith}
 use Rattle.std.proofs.lemmas.Bool.{and_parts, cases_eq}
 use Rattle.std.specs.List.{slice_get}
-use Rattle.std.specs.Result.{OnOk, OnErr}
+use Rattle.std.specs.Result.{OnOk}
 use Rattle.std.proofs.lemmas.List.{length-set}
 use Rattle.export_protocol.specs.declared.exporter.ExporterState.{ExporterState}
 use Rattle.export_protocol.specs.declared.importer.ImporterState.{ImporterState}
@@ -173,22 +173,6 @@ answer_refused w e r h = rw h refl
 pub answer_refusal : (w v : World) (e : Event) (error : StepError) → IsRefusal w e error → v ≡ w → IsAnswer w e (Err error) v
 answer_refusal w v e error (inl r) same = (inl (answer_refused w e error r), same)
 answer_refusal w v e error (inr m) same = (inr (m.1, m.0), same)
-
--- the parts of one step that is given twice
-pub step_reply : {p : Result Reply StepError × World} (r q : Reply) (v u : World) → p ≡ (Ok r, v) → p ≡ (Ok q, u) → (r ≡ q) × (v ≡ u)
-step_reply {p = p} r q v u h k = (same p.0 (ap (λ (x : Result Reply StepError × World). x.0) h) (ap (λ (x : Result Reply StepError × World). x.0) k), sym (ap (λ (x : Result Reply StepError × World). x.1) h) ∙ ap (λ (x : Result Reply StepError × World). x.1) k)
-  where
-    same : (x : Result Reply StepError) → x ≡ Ok r → x ≡ Ok q → r ≡ q
-    same x e f = cc
-
--- a refusal leaves the world as it was
-pub answered_same : (w v : World) (e : Event) (r : Result Reply StepError) → IsAnswer w e r v → OnErr r (v ≡ w)
-answered_same w v e (Ok a) h = tt
-answered_same w v e (Err f) h = h.1
-
-pub on_err : {A E : Type 0} {P Q R : Type 0} (r : Result A E) → (P → Q → R) → OnErr r P → OnErr r Q → OnErr r R
-on_err (Ok a) f h k = tt
-on_err (Err e) f h k = f h k
 
 -- after an accepted event
 module _ (old new : Records) (e : Event) (reply : Reply) (kept : IsKept old) (accepted : refusal (world_of old) e ≡ None)

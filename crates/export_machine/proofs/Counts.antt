@@ -1,5 +1,5 @@
 -- Lists of directories: repetitions, counts and the least faulty one.
-use Rattle.std.proofs.Common.{◌≡◌, ◌≢◌, ℕ, zero, suc, ◌+◌, ◌<◌, ◌≤◌, Bool, true, false, ◌&&◌, ◌||◌, not, eqb, ltb, cond, List, [], ◌∷◌, ◌++◌, length, get_or, set, take, drop, Option, Some, None, refl, sym, ap, ◌∙◌, inl, inr, ◌⊎◌, arith}
+use Rattle.std.proofs.Common.{◌≡◌, ◌≢◌, ℕ, zero, suc, ◌+◌, ◌<◌, ◌≤◌, Bool, true, false, ◌&&◌, ◌||◌, not, eqb, ltb, cond, List, [], ◌∷◌, ◌++◌, length, get_or, set, take, Option, Some, None, refl, sym, ap, ◌∙◌, inl, inr, ◌⊎◌, arith}
 use Rattle.std.specs.List.{list_all}
 use Rattle.std.specs.Prelude.{count_by}
 use Rattle.std.proofs.lemmas.Bool.{cases_lt, and_parts, eqb-true, or_cases, or_from, or_left, or_parts, or_right}
@@ -27,12 +27,6 @@ not_before (x ∷ xs) (suc i) d h r =
     other : (b : Bool) → eqb x (get_or xs i d) ≡ b → is_among xs x ≡ false → b ≡ false
     other false e k = refl
     other true e k = absurd (cc (k, rw (← eqb-true x (get_or xs i d) e) at (among_at xs i d (omega arith))))
-
--- the repetitions of a list are those of what is left, where the members before have none
-pub repeats_drop : (xs : List ℕ) (i d : ℕ) → i < length xs → repeats (drop i xs) ≡ (is_among (drop (suc i) xs) (get_or xs i d) || repeats (drop (suc i) xs))
-repeats_drop [] i d h = absurd (omega arith)
-repeats_drop (x ∷ xs) zero d h = refl
-repeats_drop (x ∷ xs) (suc i) d h = repeats_drop xs i d (omega arith)
 
 -- requests
 

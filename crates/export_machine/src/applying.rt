@@ -1,4 +1,4 @@
-//! One event: its refusal, its memory, its effect, in this order.
+//! The memory that an event takes, and its effect.
 
 ghost use Rattle.std.specs.Prelude.{◌≡◌, ◌<◌, ℕ, length, map, None, true, OnOk, IsOk, IfSome};
 ghost use Rattle.export_protocol.specs.Step.{refusal};
@@ -136,6 +136,7 @@ impl Records {
 
 impl Cluster {
     /// The journal in which this accepted event is entered, if it is.
+    #[tactic(auto, unfolding(crate::specs::Kept::entered_at))]
     fn journal_rank(&self, event: &Event) -> Option<Rank>
         requires { refusal self.now.world (event.now) ≡ None }
         ensures rank { result ≡ entered_at self.now.world (event.now) }

@@ -1,4 +1,4 @@
-//! What is read by directory and export of the tables that a cluster keeps.
+//! Reads that go by what always holds of the tables.
 
 ghost use Rattle.std.specs.Prelude.{◌≡◌, ℕ, ◌<◌, ◌∷◌, [], length, Some};
 ghost use Rattle.export_protocol.specs.Authority.{authority, open_export, frozen_by, order_in};

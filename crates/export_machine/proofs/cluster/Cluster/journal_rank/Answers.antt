@@ -1,7 +1,6 @@
 use Rattle.std.proofs.Common.{◌≡◌, ◌<◌, ℕ, length, Option, Some, None, refl, sym, arith}
 use Rattle.std.specs.Option.{IfSome}
 use Rattle.export_protocol.specs.Cluster.{World}
-use Rattle.export_protocol.specs.declared.event.Event.{Event}
 use Rattle.export_protocol.specs.View.{IsReached}
 use Rattle.export_protocol.specs.Authority.{authority}
 use Rattle.export_machine.specs.Kept.{world_of, entered_at}
@@ -29,16 +28,8 @@ receiver-requires c =
 pub from-requires : goal.from-requires
 from-requires c = notify_order (world_of c.self.inside.records) c.in-Notify.export (accepted_as c.self.inside.records c.self.view_is c.in-Notify.is c.requires)
 
-pub returns-in-Made-clause-rank : goal.returns-in-Made-clause-rank
-unfolding entered_at
-returns-in-Made-clause-rank c = rw c.in-Made.is c.authority.ensures
-
 pub returns-in-Made-clause-near : goal.returns-in-Made-clause-near
 returns-in-Made-clause-near c = owner_near c.args.self.now.world (reached_as _ _ c.self.invariant c.self.view_is) c.in-Made.parent c.authority.result c.authority.ensures
-
-pub returns-in-Gone-clause-rank : goal.returns-in-Gone-clause-rank
-unfolding entered_at
-returns-in-Gone-clause-rank c = rw c.in-Gone.is c.authority-in-Gone.ensures
 
 pub returns-in-Gone-clause-near : goal.returns-in-Gone-clause-near
 returns-in-Gone-clause-near c = owner_near c.args.self.now.world (reached_as _ _ c.self.invariant c.self.view_is) c.in-Gone.dir c.authority-in-Gone.result c.authority-in-Gone.ensures
@@ -57,28 +48,8 @@ returns-in-Deliver-clause-near c =
     (sent_at (world_of r) c.in-Deliver.message c.index.result.now (accepted_as r c.self.view_is c.in-Deliver.is c.requires) c.index.ensures) in
     rw (← c.self.view_is, c.receiver.ensures) (receiver_rank (world_of r) c.self.invariant.reached c.index.result.now known)
 
-pub returns-in-Notify-clause-rank : goal.returns-in-Notify-clause-rank
-unfolding entered_at
-returns-in-Notify-clause-rank c = rw (← c.self.view_is, c.in-Notify.is, c.from.ensures) refl
-
 pub returns-in-Notify-clause-near : goal.returns-in-Notify-clause-near
 returns-in-Notify-clause-near c =
     let r = c.self.inside.records in
     rw (← c.self.view_is, c.from.ensures) (exporter_rank (world_of r) c.self.invariant.reached c.in-Notify.export
     (notify_order (world_of r) c.in-Notify.export (accepted_as r c.self.view_is c.in-Notify.is c.requires)))
-
-entered_else : (w : World) (a : Event) → ((p : ℕ) → a ≡ Event.Made p → ⊥) → ((d : ℕ) → a ≡ Event.Gone d → ⊥) → ((m : ℕ) → a ≡ Event.Deliver m → ⊥) → ((x : ℕ) → a ≡ Event.Notify x → ⊥) →
-    None ≡ entered_at w (a)
-unfolding entered_at
-entered_else w (Event.Made p) a b c d = absurd (a p refl)
-entered_else w (Event.Gone x) a b c d = absurd (b x refl)
-entered_else w (Event.Deliver m) a b c d = absurd (c m refl)
-entered_else w (Event.Notify x) a b c d = absurd (d x refl)
-entered_else w _ a b c d = refl
-
-pub returns-in_default : goal.returns-in_default
-returns-in_default c =
-    record {
-      rank = entered_else c.args.self.now.world c.args.event.now (λ p e. c.in_default.not-Made p e) (λ d e. c.in_default.not-Gone d e) (λ m e. c.in_default.not-Deliver m e) (λ x e. c.in_default.not-Notify x e);
-      near = tt;
-    }
